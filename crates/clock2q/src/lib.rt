@@ -1,0 +1,2 @@
+//! A fixed-capacity key-value cache with Clock2Q+ replacement, and what it stands on.
+#![tactic(auto)]
