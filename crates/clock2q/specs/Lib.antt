@@ -1,0 +1,6 @@
+pub mod Shares
+pub mod Entries
+pub mod Machine
+pub mod Calls
+pub mod Steps
+pub mod Commands
