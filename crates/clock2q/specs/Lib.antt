@@ -4,3 +4,4 @@ pub mod Machine
 pub mod Calls
 pub mod Steps
 pub mod Commands
+pub mod Entry
