@@ -1,3 +1,4 @@
 //! The cache.
 
 mod entries;
+mod queues;
