@@ -2,3 +2,4 @@
 
 mod entries;
 mod queues;
+mod shares;

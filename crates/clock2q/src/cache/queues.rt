@@ -1,5 +1,5 @@
 //! What the cache does to each of its queues: Small and the history newest first, Main from the hand.
-ghost use Rattle.std.specs.Prelude.{◌≡◌, ◌≢◌, ◌+◌, ◌-◌, ◌<◌, ◌≤◌, not, [], ◌∷◌, ◌++◌, length, map, take, false, filter, find, vec_len, vec_capacity};
+ghost use Rattle.std.specs.Prelude.{◌≡◌, ◌≢◌, ◌+◌, ◌-◌, ◌<◌, ◌≤◌, not, [], ◌∷◌, ◌++◌, length, map, take, drop, false, filter, find, vec_len, vec_capacity};
 ghost use Rattle.std.specs.List.{list_any};
 ghost use Rattle.std.specs.Option.{option_map};
 ghost use Rattle.clock2q.specs.Entries.{small_hit, main_hit, small_admitted, from_victim, passed, with_bit};
@@ -88,7 +88,8 @@ pub(crate) fn admit<K: Drop, A: Allocator>(
 
 /// How many entries the hand passes on its way to the victim.
 fn passed_count<K>(main: &[MainEntry<K>]) -> usize
-    ensures { result ≡ passed main.now }
+    ensures count { result ≡ passed main.now }
+    ensures within { result ≤ length main.now }
 {
     main.iter().take_while(|entry| entry.bit()).count()
 }
@@ -102,14 +103,21 @@ fn clear_bits<K>(entries: &mut [MainEntry<K>])
     }
 }
 
-/// Takes the victim out of Main: the hand passes each entry whose bit was set, and clears it.
+/// Brings the victim to the front: the entries that the hand passes go behind the rest, with clear bits.
+fn sweep<K>(main: &mut [MainEntry<K>])
+    ensures { main.new ≡ from_victim main.old }
+{
+    let passed = passed_count(main);
+    clear_bits(&mut main[..passed]);
+    main.rotate_left(passed);
+}
+
+/// Takes the victim out of Main.
 pub(crate) fn take_victim<K: Drop, A: Allocator>(main: &mut Vec<MainEntry<K>, A>) -> MainEntry<K>
     requires { 0 < vec_len main.old }
     ensures choice { result ∷ main.new.items ≡ from_victim main.old.items }
     ensures capacity { vec_capacity main.new ≡ vec_capacity main.old }
 {
-    let passed = passed_count(main);
-    clear_bits(&mut main[..passed]);
-    main.rotate_left(passed);
+    sweep(main);
     main.remove(0)
 }
