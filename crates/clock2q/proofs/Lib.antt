@@ -1,1 +1,2 @@
+mod Residents
 mod WorkedRuns

@@ -5,3 +5,5 @@ pub mod Calls
 pub mod Steps
 pub mod Commands
 pub mod Entry
+pub mod Cache
+pub mod CacheFields

@@ -1,0 +1,61 @@
+-- Where a resident key is found, and that its slot has been made.
+use Rattle.std.proofs.Common.{◌≡◌, ℕ, ◌<◌, Bool, true, false, cond, List, [], ◌∷◌, ◌++◌, map, length, refl, ap}
+use Rattle.std.specs.Prelude.{Option, Some, None, IfSome}
+use Rattle.std.specs.List.{find, AllByRecursion}
+use Rattle.std.specs.Option.{option_map, option_or}
+use Rattle.clock2q.specs.Entries.{SmallEntry, MainEntry}
+use Rattle.clock2q.specs.Machine.{Machine, slot_of}
+use Rattle.clock2q.specs.Cache.{resident_slots}
+
+module _ {K : Type 0} (is : K → Bool) where
+  -- the slot of the key's entry in Small, and in Main
+  abbrev pub slot_in_small : List (SmallEntry K) → Option ℕ
+  slot_in_small small = option_map (λ e. e.slot) (find (λ e. is e.key) small)
+
+  abbrev pub slot_in_main : List (MainEntry K) → Option ℕ
+  slot_in_main main = option_map (λ e. e.slot) (find (λ e. is e.key) main)
+
+  abbrev in_main : List (MainEntry K) → List (K × ℕ)
+  in_main main = map (λ e. (e.key, e.slot)) main
+
+  slot_among_main : (main : List (MainEntry K)) → option_map (λ r. r.1) (find (λ r. is r.0) (in_main main)) ≡ slot_in_main main
+  slot_among_main [] = refl
+  slot_among_main (e ∷ main) =
+    elim (is e.key) as (λ b. option_map (λ r. r.1) (cond b (Some (e.key, e.slot)) (find (λ r. is r.0) (in_main main))) ≡ option_map (λ x. x.slot) (cond b (Some e) (find (λ x. is x.key) main)))
+      [ true ↦ refl | false ↦ slot_among_main main ]
+
+  -- Small is searched first, and then Main
+  pub slot_among : (small : List (SmallEntry K)) (main : List (MainEntry K))
+    → option_map (λ r. r.1) (find (λ r. is r.0) (map (λ e. (e.key, e.slot)) small ++ in_main main)) ≡ option_or (slot_in_small small) (slot_in_main main)
+  slot_among [] main = slot_among_main main
+  slot_among (e ∷ small) main =
+    elim (is e.key) as (λ b. option_map (λ r. r.1) (cond b (Some (e.key, e.slot)) (find (λ r. is r.0) (map (λ x. (x.key, x.slot)) small ++ in_main main))) ≡ option_or (option_map (λ x. x.slot) (cond b (Some e) (find (λ x. is x.key) small))) (slot_in_main main))
+      [ true ↦ refl | false ↦ slot_among small main ]
+
+  -- a slot that is found is among the slots, of which this holds
+  pub found_in_main : (P : ℕ → Type 0) (main : List (MainEntry K)) → AllByRecursion P (map (λ e. e.slot) main) → IfSome (slot_in_main main) P
+  found_in_main P [] all = tt
+  found_in_main P (e ∷ main) all =
+    elim (is e.key) as (λ b. IfSome (option_map (λ x. x.slot) (cond b (Some e) (find (λ x. is x.key) main))) P)
+      [ true ↦ all.0 | false ↦ found_in_main P main all.1 ]
+
+  pub found : (P : ℕ → Type 0) (small : List (SmallEntry K)) (main : List (MainEntry K)) → AllByRecursion P (map (λ e. e.slot) small ++ map (λ e. e.slot) main)
+    → IfSome (option_or (slot_in_small small) (slot_in_main main)) P
+  found P [] main all = found_in_main P main all
+  found P (e ∷ small) main all =
+    elim (is e.key) as (λ b. IfSome (option_or (option_map (λ x. x.slot) (cond b (Some e) (find (λ x. is x.key) small))) (slot_in_main main)) P)
+      [ true ↦ all.0 | false ↦ found P small main all.1 ]
+
+  -- the same as a search of a cache's two queues finds it
+  module _ (small : List (SmallEntry K)) (main : List (MainEntry K)) where
+    abbrev pub slot_in_both : Option ℕ
+    slot_in_both = option_map (λ r. r.1) (find (λ r. is r.0) (map (λ e. (e.key, e.slot)) small ++ in_main main))
+
+    pub in_small_first : (slot : ℕ) → Some slot ≡ slot_in_small small → Some slot ≡ slot_in_both
+    in_small_first slot e = rw slot_among (rw (← e))
+
+    pub then_in_main : (slot : Option ℕ) → None ≡ slot_in_small small → slot ≡ slot_in_main main → slot ≡ slot_in_both
+    then_in_main slot none e = rw slot_among (rw (← none) e)
+
+    pub found_slot : (P : ℕ → Type 0) (slot : Option ℕ) → AllByRecursion P (map (λ e. e.slot) small ++ map (λ e. e.slot) main) → slot ≡ slot_in_both → IfSome slot P
+    found_slot P slot all e = rw (e, slot_among) (found P small main all)
