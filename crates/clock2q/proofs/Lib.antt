@@ -1,2 +1,3 @@
 mod Residents
 mod WorkedRuns
+mod Kept

@@ -7,3 +7,4 @@ pub mod Commands
 pub mod Entry
 pub mod Cache
 pub mod CacheFields
+pub mod CacheLends

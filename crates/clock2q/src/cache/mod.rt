@@ -39,7 +39,7 @@ impl<K: Hash + Eq, V, S: BuildHasher, A: Allocator> Cache<K, V, S, A> {
     ghost use Rattle.std.specs.Prelude.{◌≡◌, IsTrue, ◌↔◌, IsSome, IfSome, ◌<◌, length};
     ghost use Rattle.std.specs.Option.{option_copied};
     ghost use Rattle.clock2q.specs.Cache.{IsWhole};
-    ghost use Rattle.clock2q.specs.Machine.{resident_count, slot_of, value_of};
+    ghost use Rattle.clock2q.specs.Machine.{resident_count, slot_of, value_of, hit};
 
     /// How many keys the cache can hold.
     pub fn capacity(&self) -> usize
@@ -76,6 +76,14 @@ impl<K: Hash + Eq, V, S: BuildHasher, A: Allocator> Cache<K, V, S, A> {
     {
         let slot = self.find_slot(key)?;
         Some(&self.values[slot])
+    }
+
+    /// Records a hit on the key, if it is resident.
+    fn record_hit(&mut self, key: &K)
+        ensures { self.new.machine ≡ hit (K.eq key.now) self.old.machine }
+    {
+        queues::hit_in_small(&mut self.small, key);
+        queues::hit_in_main(&mut self.main, key);
     }
 
     /// The slot of a resident key.

@@ -27,8 +27,9 @@ pub(crate) fn main_slot<K: Eq>(main: &[MainEntry<K>], key: &K) -> Option<usize>
 }
 
 /// Records a hit on the key in Small.
-pub(crate) fn hit_in_small<K: Eq>(small: &mut [SmallEntry<K>], key: &K)
-    ensures { small.new ≡ small_hit (K.eq key.now) small.old }
+pub(crate) fn hit_in_small<K: Eq, A: Allocator>(small: &mut Vec<SmallEntry<K>, A>, key: &K)
+    ensures items { small.new.items ≡ small_hit (K.eq key.now) small.old.items }
+    ensures capacity { vec_capacity small.new ≡ vec_capacity small.old }
 {
     for entry in small.iter_mut() {
         entry.record_hit(key);
@@ -36,8 +37,9 @@ pub(crate) fn hit_in_small<K: Eq>(small: &mut [SmallEntry<K>], key: &K)
 }
 
 /// Records a hit on the key in Main.
-pub(crate) fn hit_in_main<K: Eq>(main: &mut [MainEntry<K>], key: &K)
-    ensures { main.new ≡ main_hit (K.eq key.now) main.old }
+pub(crate) fn hit_in_main<K: Eq, A: Allocator>(main: &mut Vec<MainEntry<K>, A>, key: &K)
+    ensures items { main.new.items ≡ main_hit (K.eq key.now) main.old.items }
+    ensures capacity { vec_capacity main.new ≡ vec_capacity main.old }
 {
     for entry in main.iter_mut() {
         entry.record_hit(key);

@@ -4,4 +4,4 @@ use Rattle.clock2q.specs.Entries.{main_hit}
 use Rattle.clock2q.proofs.cache.queues.hit_in_main.Given as goal
 
 abbrev pub invariant-loop-entry : goal.invariant-loop-entry
-invariant-loop-entry g l = l.main ≡ main_hit (g.K.PartialEq.eq l.key) (take l.entry-index l.fn.main) ++ drop l.entry-index l.fn.main
+invariant-loop-entry g l = l.entry-items ≡ main_hit (g.K.PartialEq.eq l.key) (take l.entry-index l.fn.main.items) ++ drop l.entry-index l.fn.main.items
