@@ -1,10 +1,10 @@
 -- Where a resident key is found, and that its slot has been made.
-use Rattle.std.proofs.Common.{◌≡◌, ℕ, ◌<◌, Bool, true, false, cond, List, [], ◌∷◌, ◌++◌, map, length, refl, ap}
-use Rattle.std.specs.Prelude.{Option, Some, None, IfSome}
+use Rattle.std.proofs.Common.{◌≡◌, ℕ, ◌<◌, Bool, true, false, cond, List, [], ◌∷◌, ◌++◌, map, length, refl, sym, ◌∙◌, ap}
+use Rattle.std.specs.Prelude.{Option, Some, None, IfSome, if◌then◌else◌}
 use Rattle.std.specs.List.{find, AllByRecursion}
 use Rattle.std.specs.Option.{option_map, option_or}
-use Rattle.clock2q.specs.Entries.{SmallEntry, MainEntry}
-use Rattle.clock2q.specs.Machine.{Machine, slot_of}
+use Rattle.clock2q.specs.Entries.{SmallEntry, MainEntry, small_hit, main_hit, with_age, with_bit, touched}
+use Rattle.clock2q.specs.Machine.{Machine, slot_of, hit}
 use Rattle.clock2q.specs.Cache.{resident_slots}
 
 module _ {K : Type 0} (is : K → Bool) where
@@ -59,3 +59,27 @@ module _ {K : Type 0} (is : K → Bool) where
 
     pub found_slot : (P : ℕ → Type 0) (slot : Option ℕ) → AllByRecursion P (map (λ e. e.slot) small ++ map (λ e. e.slot) main) → slot ≡ slot_in_both → IfSome slot P
     found_slot P slot all e = rw (e, slot_among) (found P small main all)
+
+  -- a hit on a key that is not resident changes nothing
+  absent_in_main : (main : List (MainEntry K)) → slot_in_main main ≡ None → main_hit is main ≡ main
+  absent_in_main [] absent = refl
+  absent_in_main (e ∷ main) absent =
+    (elim (is e.key) as (λ b. option_map (λ x. x.slot) (cond b (Some e) (find (λ x. is x.key) main)) ≡ None → (if b then with_bit e true else e) ∷ main_hit is main ≡ e ∷ main)
+      [ true ↦ λ some. cc | false ↦ λ none. ap (λ xs. e ∷ xs) (absent_in_main main none) ]) absent
+
+  absent_in_small : (small : List (SmallEntry K)) → slot_in_small small ≡ None → small_hit is small ≡ small
+  absent_in_small [] absent = refl
+  absent_in_small (e ∷ small) absent =
+    (elim (is e.key) as (λ b. option_map (λ x. x.slot) (cond b (Some e) (find (λ x. is x.key) small)) ≡ None → (if b then with_age e (touched e.age) else e) ∷ small_hit is small ≡ e ∷ small)
+      [ true ↦ λ some. cc | false ↦ λ none. ap (λ xs. e ∷ xs) (absent_in_small small none) ]) absent
+
+neither : (o p : Option ℕ) → option_or o p ≡ None → (o ≡ None) × (p ≡ None)
+neither None p e = (refl, e)
+neither (Some x) p e = cc
+
+pub hit-absent : {K V : Type 0} (is : K → Bool) (m : Machine K V) → slot_of is m ≡ None → hit is m ≡ m
+hit-absent is m absent =
+  let none = neither (slot_in_small is m.small) (slot_in_main is m.main) (sym (slot_among is m.small m.main) ∙ absent) in
+  let small = absent_in_small is m.small none.0 in
+  let main = absent_in_main is m.main none.1 in
+  rw (small, main)

@@ -13,7 +13,7 @@ use Rattle.clock2q.specs.contracts.cache.Cache.{the_row}
 module _ (K V S A H : RattleType) (key : HashMembers K.Denot) (build : builder.Ghosts S.Denot H.Denot) (hash : hasher.Ghosts H.Denot) (heap : alloc.Ghosts A.Denot) where
   -- the cache's type, as the logic holds it
   abbrev pub cache_row : RattleType
-  cache_row = the_row K V S A H ?
+  cache_row = the_row K V S A H (record { hash_input = key.hash_input }) (record { eq = key.eq }) build hash heap
 
   -- the machine is this one once the reference into the cache has ended
   abbrev pub LeavesMachine : MutBor (CacheState K.Denot V.Denot) → Machine K.Denot V.Denot → Fml

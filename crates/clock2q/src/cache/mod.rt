@@ -36,9 +36,11 @@ impl<K: Hash + Eq, V, S: BuildHasher, A: Allocator> Model for Cache<K, V, S, A> 
 }
 
 impl<K: Hash + Eq, V, S: BuildHasher, A: Allocator> Cache<K, V, S, A> {
-    ghost use Rattle.std.specs.Prelude.{◌≡◌, IsTrue, ◌↔◌, IsSome, IfSome, ◌<◌, length};
+    ghost use Rattle.std.specs.Prelude.{◌≡◌, IsTrue, ◌↔◌, IsSome, IfSome, ◌<◌, length, slice_get};
     ghost use Rattle.std.specs.Option.{option_copied};
+    ghost use Rattle.std.specs.Borrow.{sem};
     ghost use Rattle.clock2q.specs.Cache.{IsWhole};
+    ghost use Rattle.clock2q.specs.CacheLends.{LeavesMachine};
     ghost use Rattle.clock2q.specs.Machine.{resident_count, slot_of, value_of, hit};
 
     /// How many keys the cache can hold.
@@ -75,7 +77,17 @@ impl<K: Hash + Eq, V, S: BuildHasher, A: Allocator> Cache<K, V, S, A> {
         ensures { option_copied result ≡ value_of (K.eq key.now) self.now.machine }
     {
         let slot = self.find_slot(key)?;
-        Some(&self.values[slot])
+        Some(self.value(slot))
+    }
+
+    /// The value of a resident key, and records the hit: it may save the key from a later eviction.
+    pub fn get(&mut self, key: &K) -> Option<&V>
+        ensures* machine { sem 𝓛 (LeavesMachine K.row V.row S.row A.row S.Hasher.row K.Hash S.BuildHasher S.Hasher.Hasher A.Allocator self.entry (hit (K.eq key.now) self.old.machine)) }
+        ensures value { option_copied result ≡ value_of (K.eq key.now) self.old.machine }
+    {
+        let slot = self.find_slot(key)?;
+        self.record_hit(key);
+        Some(self.value(slot))
     }
 
     /// Records a hit on the key, if it is resident.
@@ -84,6 +96,14 @@ impl<K: Hash + Eq, V, S: BuildHasher, A: Allocator> Cache<K, V, S, A> {
     {
         queues::hit_in_small(&mut self.small, key);
         queues::hit_in_main(&mut self.main, key);
+    }
+
+    /// The value of a slot.
+    fn value(&self, slot: usize) -> &V
+        requires { slot < length self.now.machine.values }
+        ensures { slice_get self.now.machine.values slot ≡ Some result.now }
+    {
+        &self.values[slot]
     }
 
     /// The slot of a resident key.
