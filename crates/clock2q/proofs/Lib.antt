@@ -1,3 +1,4 @@
 mod Residents
 mod WorkedRuns
 mod Kept
+mod Placed

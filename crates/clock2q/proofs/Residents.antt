@@ -5,7 +5,6 @@ use Rattle.std.specs.List.{find, AllByRecursion}
 use Rattle.std.specs.Option.{option_map, option_or}
 use Rattle.clock2q.specs.Entries.{SmallEntry, MainEntry, small_hit, main_hit, with_age, with_bit, touched}
 use Rattle.clock2q.specs.Machine.{Machine, slot_of, hit}
-use Rattle.clock2q.specs.Cache.{resident_slots}
 
 module _ {K : Type 0} (is : K → Bool) where
   -- the slot of the key's entry in Small, and in Main
@@ -32,19 +31,19 @@ module _ {K : Type 0} (is : K → Bool) where
     elim (is e.key) as (λ b. option_map (λ r. r.1) (cond b (Some (e.key, e.slot)) (find (λ r. is r.0) (map (λ x. (x.key, x.slot)) small ++ in_main main))) ≡ option_or (option_map (λ x. x.slot) (cond b (Some e) (find (λ x. is x.key) small))) (slot_in_main main))
       [ true ↦ refl | false ↦ slot_among small main ]
 
-  -- a slot that is found is among the slots, of which this holds
-  pub found_in_main : (P : ℕ → Type 0) (main : List (MainEntry K)) → AllByRecursion P (map (λ e. e.slot) main) → IfSome (slot_in_main main) P
+  -- a slot that is found is an entry's, of which this holds
+  found_in_main : (P : ℕ → Type 0) (main : List (MainEntry K)) → AllByRecursion (λ e. P e.slot) main → IfSome (slot_in_main main) P
   found_in_main P [] all = tt
   found_in_main P (e ∷ main) all =
     elim (is e.key) as (λ b. IfSome (option_map (λ x. x.slot) (cond b (Some e) (find (λ x. is x.key) main))) P)
       [ true ↦ all.0 | false ↦ found_in_main P main all.1 ]
 
-  pub found : (P : ℕ → Type 0) (small : List (SmallEntry K)) (main : List (MainEntry K)) → AllByRecursion P (map (λ e. e.slot) small ++ map (λ e. e.slot) main)
+  found_in_both : (P : ℕ → Type 0) (small : List (SmallEntry K)) (main : List (MainEntry K)) → AllByRecursion (λ e. P e.slot) small → AllByRecursion (λ e. P e.slot) main
     → IfSome (option_or (slot_in_small small) (slot_in_main main)) P
-  found P [] main all = found_in_main P main all
-  found P (e ∷ small) main all =
+  found_in_both P [] main in_small in_main = found_in_main P main in_main
+  found_in_both P (e ∷ small) main in_small in_main =
     elim (is e.key) as (λ b. IfSome (option_or (option_map (λ x. x.slot) (cond b (Some e) (find (λ x. is x.key) small))) (slot_in_main main)) P)
-      [ true ↦ all.0 | false ↦ found P small main all.1 ]
+      [ true ↦ in_small.0 | false ↦ found_in_both P small main in_small.1 in_main ]
 
   -- the same as a search of a cache's two queues finds it
   module _ (small : List (SmallEntry K)) (main : List (MainEntry K)) where
@@ -57,8 +56,8 @@ module _ {K : Type 0} (is : K → Bool) where
     pub then_in_main : (slot : Option ℕ) → None ≡ slot_in_small small → slot ≡ slot_in_main main → slot ≡ slot_in_both
     then_in_main slot none e = rw slot_among (rw (← none) e)
 
-    pub found_slot : (P : ℕ → Type 0) (slot : Option ℕ) → AllByRecursion P (map (λ e. e.slot) small ++ map (λ e. e.slot) main) → slot ≡ slot_in_both → IfSome slot P
-    found_slot P slot all e = rw (e, slot_among) (found P small main all)
+    pub found_slot : (P : ℕ → Type 0) (slot : Option ℕ) → AllByRecursion (λ e. P e.slot) small → AllByRecursion (λ e. P e.slot) main → slot ≡ slot_in_both → IfSome slot P
+    found_slot P slot in_small in_main e = rw (e, slot_among) (found_in_both P small main in_small in_main)
 
   -- a hit on a key that is not resident changes nothing
   absent_in_main : (main : List (MainEntry K)) → slot_in_main main ≡ None → main_hit is main ≡ main

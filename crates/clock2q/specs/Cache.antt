@@ -1,9 +1,8 @@
 -- What contracts see of a cache, and what holds of every one.
-use Rattle.std.specs.Prelude.{◌≡◌, ℕ, ◌+◌, ◌<◌, ◌≤◌, List, [], ◌++◌, map, length, refl}
+use Rattle.std.specs.Prelude.{◌≡◌, ℕ, ◌+◌, ◌<◌, ◌≤◌, length, refl}
 use Rattle.std.specs.List.{AllByRecursion}
 use Rattle.std.specs.Coded.{Coded, code_by}
-use Rattle.clock2q.specs.Shares.{Shares, main_share, ghost_share}
-use Rattle.clock2q.specs.Entries.{SmallEntry, MainEntry}
+use Rattle.clock2q.specs.Shares.{main_share, ghost_share}
 use Rattle.clock2q.specs.Machine.{Machine, machine_code}
 
 -- the machine that the cache is
@@ -14,10 +13,6 @@ module _ {K V : Type 0} where
   abbrev pub cache_code : Coded K → Coded V → Coded (CacheState K V)
   cache_code key value = code_by (Machine K V) (machine_code key value) (λ c. c.machine) (λ m. record { machine = m }) (λ _. refl)
 
-  -- the slots of the residents
-  abbrev pub resident_slots : Machine K V → List ℕ
-  resident_slots m = map (λ e. e.slot) m.small ++ map (λ e. e.slot) m.main
-
   -- no list is longer than its share, each made slot is a resident's or free, and each resident's slot has been made
   pub record IsWhole (m : Machine K V) : Type 0 where
     pub small_within : length m.small ≤ m.shares.small
@@ -25,4 +20,5 @@ module _ {K V : Type 0} where
     pub history_within : length m.history ≤ ghost_share m.shares
     pub slots_counted : length m.small + length m.main + length m.free ≡ length m.values
     pub made_within : length m.values ≤ m.shares.capacity
-    pub slots_made : AllByRecursion (λ slot. slot < length m.values) (resident_slots m)
+    pub small_made : AllByRecursion (λ e. e.slot < length m.values) m.small
+    pub main_made : AllByRecursion (λ e. e.slot < length m.values) m.main

@@ -1,6 +1,7 @@
 //! A fixed-capacity key-value cache with Clock2Q+ replacement.
 
 mod entries;
+mod insertion;
 mod queues;
 mod shares;
 

@@ -118,6 +118,7 @@ fn sweep<K>(main: &mut [MainEntry<K>])
 pub(crate) fn take_victim<K: Drop, A: Allocator>(main: &mut Vec<MainEntry<K>, A>) -> MainEntry<K>
     requires { 0 < vec_len main.old }
     ensures choice { result ∷ main.new.items ≡ from_victim main.old.items }
+    ensures len { vec_len main.new + 1 ≡ vec_len main.old }
     ensures capacity { vec_capacity main.new ≡ vec_capacity main.old }
 {
     sweep(main);
