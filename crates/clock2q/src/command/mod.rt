@@ -1,0 +1,4 @@
+//! Commands of a cache, and the program over them.
+
+pub mod ports;
+mod trace;
