@@ -1,1 +1,7 @@
+pub mod Shares
+pub mod Entries
+pub mod Machine
+pub mod Calls
+pub mod Steps
+pub mod Commands
 pub mod Ports
