@@ -1,1 +1,2 @@
 mod WorkedRuns
+mod WorkedTexts

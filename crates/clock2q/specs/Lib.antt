@@ -5,3 +5,4 @@ pub mod Calls
 pub mod Steps
 pub mod Commands
 pub mod Ports
+pub mod Text
