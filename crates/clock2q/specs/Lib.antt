@@ -4,5 +4,6 @@ pub mod Machine
 pub mod Calls
 pub mod Steps
 pub mod Commands
+pub mod Entry
 pub mod Ports
 pub mod Text

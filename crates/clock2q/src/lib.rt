@@ -1,4 +1,5 @@
 //! A fixed-capacity key-value cache with Clock2Q+ replacement, and what it stands on.
 #![tactic(auto)]
 
+pub mod cache;
 pub mod command;

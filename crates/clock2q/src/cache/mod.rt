@@ -1,0 +1,3 @@
+//! The cache.
+
+mod entries;
