@@ -7,3 +7,7 @@ pub mod Commands
 pub mod Entry
 pub mod Ports
 pub mod Text
+pub mod Cut
+pub mod ServeError
+pub mod Parsing
+pub mod Transfer

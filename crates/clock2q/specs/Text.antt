@@ -67,23 +67,23 @@ tried_of word = if bytes_eq word (codes "fail") then Some None else option_map S
 -- the call that a command's name and its arguments spell
 abbrev pub call_named : List ℕ → List (List ℕ) → Option (Call ℕ ℕ)
 call_named name arguments =
-  if bytes_eq name (codes "put") then with_two number_of Put arguments
-  else if bytes_eq name (codes "get") then with_one number_of Get arguments
-  else if bytes_eq name (codes "peek") then with_one number_of Peek arguments
-  else if bytes_eq name (codes "contains") then with_one number_of Contains arguments
-  else if bytes_eq name (codes "get_at") then with_two number_of GetAt arguments
-  else if bytes_eq name (codes "set") then with_two number_of Set arguments
-  else if bytes_eq name (codes "with") then with_two number_of With arguments
-  else if bytes_eq name (codes "try") then with_two tried_of Try arguments
-  else if bytes_eq name (codes "slot") then with_two number_of SlotFor arguments
-  else if bytes_eq name (codes "remove") then with_one number_of Remove arguments
-  else if bytes_eq name (codes "retain") then with_one (some_read bit_of) Retain arguments
-  else if bytes_eq name (codes "clear") then without Clear arguments
-  else if bytes_eq name (codes "prefill") then option_map Prefill (some_read number_of arguments)
-  else if bytes_eq name (codes "len") then without Len arguments
-  else if bytes_eq name (codes "is_empty") then without IsEmpty arguments
-  else if bytes_eq name (codes "capacity") then without Capacity arguments
-  else None
+    if bytes_eq name (codes "put") then with_two number_of Put arguments
+    else if bytes_eq name (codes "get") then with_one number_of Get arguments
+    else if bytes_eq name (codes "peek") then with_one number_of Peek arguments
+    else if bytes_eq name (codes "contains") then with_one number_of Contains arguments
+    else if bytes_eq name (codes "get_at") then with_two number_of GetAt arguments
+    else if bytes_eq name (codes "set") then with_two number_of Set arguments
+    else if bytes_eq name (codes "with") then with_two number_of With arguments
+    else if bytes_eq name (codes "try") then with_two tried_of Try arguments
+    else if bytes_eq name (codes "slot") then with_two number_of SlotFor arguments
+    else if bytes_eq name (codes "remove") then with_one number_of Remove arguments
+    else if bytes_eq name (codes "retain") then with_one (some_read bit_of) Retain arguments
+    else if bytes_eq name (codes "clear") then without Clear arguments
+    else if bytes_eq name (codes "prefill") then option_map Prefill (some_read number_of arguments)
+    else if bytes_eq name (codes "len") then without Len arguments
+    else if bytes_eq name (codes "is_empty") then without IsEmpty arguments
+    else if bytes_eq name (codes "capacity") then without Capacity arguments
+    else None
 
 -- the names of the commands that the program has
 abbrev pub names_there : List (List ℕ)

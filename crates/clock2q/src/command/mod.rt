@@ -1,7 +1,13 @@
 //! Commands to a cache as data, and their replies.
 
 pub mod ports;
+mod replies;
+mod serve_error;
+mod text;
 mod trace;
+mod transfer;
+
+pub use serve_error::ServeError;
 
 /// A call of a [`Cache`](crate::cache::Cache) as a value.
 #[derive(Clone, Debug, Drop, PartialEq)]
