@@ -1,4 +1,7 @@
+mod Residents
 mod WorkedRuns
+mod Kept
+mod Placed
 mod WorkedTexts
 mod Cutting
 mod Numbers

@@ -5,6 +5,9 @@ pub mod Calls
 pub mod Steps
 pub mod Commands
 pub mod Entry
+pub mod Cache
+pub mod CacheFields
+pub mod CacheLends
 pub mod Ports
 pub mod Text
 pub mod Cut

@@ -1,5 +1,5 @@
 //! The entries of the two resident queues.
-ghost use Rattle.std.specs.Prelude.{◌≡◌, true, false};
+ghost use Rattle.std.specs.Prelude.{◌≡◌, true, false, if◌then◌else◌};
 ghost use Rattle.clock2q.specs.Entries.{Young as young, touched, grown, is_promoted, with_age, with_bit};
 
 use std::marker::Model;
@@ -56,15 +56,6 @@ impl<K> SmallEntry<K> {
         self.slot
     }
 
-    /// Records a hit, which counts on an old entry alone.
-    pub(crate) fn touch(&mut self)
-        ensures { self.new ≡ with_age self.old (touched self.old.age) }
-    {
-        if let Age::Old(_) = self.age {
-            self.age = Age::Old(true);
-        }
-    }
-
     /// Ages the entry by one admission.
     pub(crate) fn grow(&mut self, window: usize)
         ensures { self.new ≡ with_age self.old (grown window self.old.age) }
@@ -101,6 +92,17 @@ impl<K> SmallEntry<K> {
             age: _,
         } = self;
         key
+    }
+}
+
+impl<K: Eq> SmallEntry<K> {
+    /// Records a hit, if the entry is the key's. It counts on an old entry alone.
+    pub(crate) fn record_hit(&mut self, key: &K)
+        ensures { self.new ≡ (if K.eq key.now self.old.key then with_age self.old (touched self.old.age) else self.old) }
+    {
+        if *key == self.key && matches!(self.age, Age::Old(_)) {
+            self.age = Age::Old(true);
+        }
     }
 }
 
@@ -146,20 +148,28 @@ impl<K> MainEntry<K> {
         self.slot
     }
 
-    /// Records a hit.
-    pub(crate) fn touch(&mut self)
-        ensures { self.new ≡ with_bit self.old true }
+    /// Whether the entry was hit since the hand last passed it.
+    pub(crate) fn bit(&self) -> bool
+        ensures { result ≡ self.now.bit }
     {
-        self.bit = true;
+        self.bit
     }
 
-    /// Takes the second chance that a hit gave, and says whether there was one.
-    pub(crate) fn take_bit(&mut self) -> bool
-        ensures was { result ≡ self.old.bit }
-        ensures cleared { self.new ≡ with_bit self.old false }
+    /// Takes back the second chance that a hit gave.
+    pub(crate) fn clear_bit(&mut self)
+        ensures { self.new ≡ with_bit self.old false }
     {
-        let bit = self.bit;
         self.bit = false;
-        bit
+    }
+}
+
+impl<K: Eq> MainEntry<K> {
+    /// Records a hit, if the entry is the key's.
+    pub(crate) fn record_hit(&mut self, key: &K)
+        ensures { self.new ≡ (if K.eq key.now self.old.key then with_bit self.old true else self.old) }
+    {
+        if *key == self.key {
+            self.bit = true;
+        }
     }
 }
