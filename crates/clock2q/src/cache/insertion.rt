@@ -17,13 +17,20 @@ impl<K: Hash + Eq + Drop, V: Drop, S: BuildHasher, A: Allocator> Cache<K, V, S, 
         ensures { self.new.machine ≡ inserted (K.eq key) key value self.old.machine }
     {
         let known = self.forget(&key);
-        let small = self.shares.small();
-        let vacant = self.values.len() < self.shares.capacity();
-        if known || small == 0 || (vacant && self.small.len() >= small) {
+        if self.admits_to_main(known) {
             self.insert_into_main(key, value);
         } else {
             self.insert_into_small(key, value);
         }
+    }
+
+    /// Whether a key that had history, or had none, enters Main.
+    fn admits_to_main(&self, known: bool) -> bool
+        ensures { result ≡ goes_to_main known self.now.machine }
+    {
+        let share = self.shares.small();
+        let vacant = self.values.len() < self.shares.capacity();
+        known || share == 0 || (vacant && share <= self.small.len())
     }
 
     /// Erases the key's history, and says whether it had any.
@@ -96,7 +103,7 @@ impl<K: Hash + Eq + Drop, V: Drop, S: BuildHasher, A: Allocator> Cache<K, V, S, 
         requires { 0 < length self.now.machine.small }
         ensures { IfSome (last_or None self.now.machine.small) (λ tail. result ≡ is_promoted tail.age) }
     {
-        self.small[self.small.len() - 1].is_promoted()
+        queues::tail_is_promoted(&self.small)
     }
 
     /// Inserts a key into Small in the slot of its tail, which goes out into the history.
@@ -106,7 +113,7 @@ impl<K: Hash + Eq + Drop, V: Drop, S: BuildHasher, A: Allocator> Cache<K, V, S, 
         requires out { IfSome (last_or None self.old.machine.small) (λ tail. is_promoted tail.age ≡ false) }
         ensures { self.new.machine ≡ (let p = into_small key self.old.machine in stored p.slot value p.machine) }
     {
-        let tail = self.small.pop().unwrap();
+        let tail = queues::take_tail(&mut self.small);
         let slot = tail.slot();
         let share = self.shares.history();
         queues::remember(&mut self.history, share, tail.into_key());
@@ -121,7 +128,7 @@ impl<K: Hash + Eq + Drop, V: Drop, S: BuildHasher, A: Allocator> Cache<K, V, S, 
         requires on { IfSome (last_or None self.old.machine.small) (λ tail. is_promoted tail.age ≡ true) }
         ensures { self.new.machine ≡ (let p = into_small key self.old.machine in stored p.slot value p.machine) }
     {
-        let tail = self.small.pop().unwrap();
+        let tail = queues::take_tail(&mut self.small);
         let victim = queues::take_victim(&mut self.main);
         let slot = victim.slot();
         self.main.push_reserved(tail.into_main());

@@ -1,8 +1,8 @@
 //! What the cache does to each of its queues: Small and the history newest first, Main from the hand.
-ghost use Rattle.std.specs.Prelude.{◌≡◌, ◌≢◌, ◌+◌, ◌-◌, ◌<◌, ◌≤◌, not, [], ◌∷◌, ◌++◌, length, map, take, drop, false, filter, find, vec_len, vec_capacity};
-ghost use Rattle.std.specs.List.{list_any};
+ghost use Rattle.std.specs.Prelude.{◌≡◌, ◌≢◌, ◌+◌, ◌-◌, ◌<◌, ◌≤◌, not, [], ◌∷◌, ◌++◌, length, map, take, drop, false, filter, find, vec_len, vec_capacity, None, IfSome};
+ghost use Rattle.std.specs.List.{list_any, last_or};
 ghost use Rattle.std.specs.Option.{option_map};
-ghost use Rattle.clock2q.specs.Entries.{small_hit, main_hit, small_admitted, from_victim, passed, with_bit};
+ghost use Rattle.clock2q.specs.Entries.{small_hit, main_hit, small_admitted, from_victim, passed, with_bit, is_promoted};
 
 use crate::cache::entries::{MainEntry, SmallEntry};
 use std::alloc::Allocator;
@@ -86,6 +86,25 @@ pub(crate) fn admit<K: Drop, A: Allocator>(
         entry.grow(window);
     }
     small.insert(0, SmallEntry::new(key, slot)).unwrap();
+}
+
+/// Whether Small's tail has earned its way into Main.
+pub(crate) fn tail_is_promoted<K>(small: &[SmallEntry<K>]) -> bool
+    requires { 0 < length small.now }
+    ensures { IfSome (last_or None small.now) (λ tail. result ≡ is_promoted tail.age) }
+{
+    small[small.len() - 1].is_promoted()
+}
+
+/// Takes the tail out of Small.
+pub(crate) fn take_tail<K: Drop, A: Allocator>(small: &mut Vec<SmallEntry<K>, A>) -> SmallEntry<K>
+    requires { 0 < vec_len small.old }
+    ensures parts { small.old.items ≡ small.new.items ++ result ∷ [] }
+    ensures front { small.new.items ≡ take (length small.old.items - 1) small.old.items }
+    ensures len { vec_len small.new + 1 ≡ vec_len small.old }
+    ensures capacity { vec_capacity small.new ≡ vec_capacity small.old }
+{
+    small.pop().unwrap()
 }
 
 /// How many entries the hand passes on its way to the victim.
