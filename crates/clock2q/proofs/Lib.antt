@@ -9,3 +9,4 @@ mod Calling
 mod Spelling
 mod Answering
 mod Transferring
+mod Serving

@@ -14,3 +14,4 @@ pub mod Cut
 pub mod ServeError
 pub mod Parsing
 pub mod Transfer
+pub mod Serve

@@ -1,6 +1,8 @@
 //! What `serve` refuses.
 ghost use Rattle.std.specs.Prelude.{◌≡◌};
 
+use crate::cache::CacheError;
+use std::alloc::AllocError;
 use thiserror::Error;
 
 /// Why [`serve`](crate::command::serve::serve) gave no reply, or not all of them.
@@ -36,5 +38,28 @@ impl ServeError {
             ServeError::Memory | ServeError::Capacity => 3,
             ServeError::Read | ServeError::Write => 4,
         }
+    }
+}
+
+impl From<CacheError> for ServeError {
+    ghost use Rattle.clock2q.specs.ServeError.{refusal_of};
+
+    ghost from_gives = { λ error refusal. refusal ≡ refusal_of error };
+
+    fn from(error: CacheError) -> ServeError {
+        match error {
+            CacheError::Memory => ServeError::Memory,
+            CacheError::Capacity => ServeError::Capacity,
+        }
+    }
+}
+
+impl From<AllocError> for ServeError {
+    ghost use Rattle.clock2q.specs.declared.command.serve_error.ServeError.TheVariants.{Memory};
+
+    ghost from_gives = { λ _ refusal. refusal ≡ Memory };
+
+    fn from(_error: AllocError) -> ServeError {
+        ServeError::Memory
     }
 }
