@@ -2,3 +2,11 @@ mod Residents
 mod WorkedRuns
 mod Kept
 mod Placed
+mod WorkedTexts
+mod Cutting
+mod Numbers
+mod Calling
+mod Spelling
+mod Answering
+mod Transferring
+mod Serving

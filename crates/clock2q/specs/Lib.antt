@@ -8,3 +8,10 @@ pub mod Entry
 pub mod Cache
 pub mod CacheFields
 pub mod CacheLends
+pub mod Ports
+pub mod Text
+pub mod Cut
+pub mod ServeError
+pub mod Parsing
+pub mod Transfer
+pub mod Serve
