@@ -24,47 +24,49 @@ fn lines(alloc: Global, row: &str) -> Result<String, AllocError> {
     Ok(text)
 }
 
+// Commands, and what they are answered. `;` stands for a line end.
+const ANSWERED: [(&str, &str); 9] = [
+    (
+        "new 2; put 1 10; put 1 11; get 1; len",
+        "ok; none; some 10; some 11; 1",
+    ),
+    (
+        "new 1; put 1 10; get 1; put 2 20; contains 1; get 2; len",
+        "ok; none; some 10; none; false; some 20; 1",
+    ),
+    (
+        "new 1; put 1 10; get 1; put 2 20; peek 1; get 2; len",
+        "ok; none; some 10; none; none; some 20; 1",
+    ),
+    (
+        "new 4; put 1 1; put 2 2; put 3 3; put 4 4; get 4; get 3; put 5 5; put 1 1; put 6 6; put 5 5; \
+         peek 1; peek 2; peek 3; peek 4; len",
+        "ok; none; none; none; none; some 4; some 3; none; none; none; none; \
+         none; none; some 3; some 4; 4",
+    ),
+    (
+        "new 20; put 1 1; put 2 2; put 3 3; put 4 4; put 5 5; put 6 6; put 7 7; put 8 8; put 9 9; put 10 10; \
+         put 11 11; put 12 12; put 13 13; put 14 14; put 15 15; put 16 16; put 17 17; put 18 18; put 19 19; \
+         put 20 20; get 1; put 21 21; peek 21; peek 1; peek 3",
+        "ok; none; none; none; none; none; none; none; none; none; none; \
+         none; none; none; none; none; none; none; none; none; \
+         none; some 1; none; some 21; some 1; none",
+    ),
+    (
+        "new 2; is_empty; capacity; put 7 70; is_empty; contains 7; peek 7; len",
+        "ok; true; 2; none; false; true; some 70; 1",
+    ),
+    ("new 2; put 01 0010; get 1", "ok; none; some 10"),
+    (
+        "new 1; put 18446744073709551615 18446744073709551615; get 18446744073709551615",
+        "ok; none; some 18446744073709551615",
+    ),
+    ("new 00000000000000000002", "ok"),
+];
+
 #[test]
 fn answered(rt: HostRuntime) -> Result<(), Fail> {
-    let rows = [
-        (
-            "new 2; put 1 10; put 1 11; get 1; len",
-            "ok; none; some 10; some 11; 1",
-        ),
-        (
-            "new 1; put 1 10; get 1; put 2 20; contains 1; get 2; len",
-            "ok; none; some 10; none; false; some 20; 1",
-        ),
-        (
-            "new 1; put 1 10; get 1; put 2 20; peek 1; get 2; len",
-            "ok; none; some 10; none; none; some 20; 1",
-        ),
-        (
-            "new 4; put 1 1; put 2 2; put 3 3; put 4 4; get 4; get 3; put 5 5; put 1 1; put 6 6; put 5 5; \
-             peek 1; peek 2; peek 3; peek 4; len",
-            "ok; none; none; none; none; some 4; some 3; none; none; none; none; \
-             none; none; some 3; some 4; 4",
-        ),
-        (
-            "new 20; put 1 1; put 2 2; put 3 3; put 4 4; put 5 5; put 6 6; put 7 7; put 8 8; put 9 9; put 10 10; \
-             put 11 11; put 12 12; put 13 13; put 14 14; put 15 15; put 16 16; put 17 17; put 18 18; put 19 19; \
-             put 20 20; get 1; put 21 21; peek 21; peek 1; peek 3",
-            "ok; none; none; none; none; none; none; none; none; none; none; \
-             none; none; none; none; none; none; none; none; none; \
-             none; some 1; none; some 21; some 1; none",
-        ),
-        (
-            "new 2; is_empty; capacity; put 7 70; is_empty; contains 7; peek 7; len",
-            "ok; true; 2; none; false; true; some 70; 1",
-        ),
-        ("new 2; put 01 0010; get 1", "ok; none; some 10"),
-        (
-            "new 1; put 18446744073709551615 18446744073709551615; get 18446744073709551615",
-            "ok; none; some 18446744073709551615",
-        ),
-        ("new 00000000000000000002", "ok"),
-    ];
-    for (commands, replies) in rows {
+    for (commands, replies) in ANSWERED {
         let text = lines(rt.alloc(), commands)?;
         let want = lines(rt.alloc(), replies)?;
         let (outcome, written) = served(rt.alloc(), text.as_bytes());
@@ -77,49 +79,54 @@ fn answered(rt: HostRuntime) -> Result<(), Fail> {
     Ok(())
 }
 
+// Texts, and the number of the first line that isn't a command in its place.
+const BAD_LINES: [(&[u8], usize); 41] = [
+    (b"", 1),
+    (b"\n", 1),
+    (b"new 0", 1),
+    (b"new", 1),
+    (b"new 2 1", 1),
+    (b"new two", 1),
+    (b"len", 1),
+    (b" new 2", 1),
+    (b"new  2", 1),
+    (b"new 2 ", 1),
+    (b"new 2\r", 1),
+    (b"new 2\r\nlen\r\n", 1),
+    (b"new 18446744073709551616", 1),
+    (b"new 2\nput 1", 2),
+    (b"new 2\nput 1 2 3", 2),
+    (b"new 2\nnew 2", 2),
+    (b"new 2\n\n", 2),
+    (b"new 2\n\nlen\n", 2),
+    (b"new 2\nLEN", 2),
+    (b"new 2\nlen 1", 2),
+    (b"new 2\nget", 2),
+    (b"new 2\nget ", 2),
+    (b"new 2\nget +1", 2),
+    (b"new 2\nget -1", 2),
+    (b"new 2\nget 1x", 2),
+    (b"new 2\nget 0x1", 2),
+    (b"new 2\nget \xFF", 2),
+    (b"new 2\n\xFF", 2),
+    (b"new 2\n\0", 2),
+    (b"new 2\nget\t1", 2),
+    (b"new 2\nget_at 0", 2),
+    (b"new 2\nretain", 2),
+    (b"new 2\nretain 012", 2),
+    (b"new 2\nprefill", 2),
+    (b"new 2\nprefill 1  2", 2),
+    (b"new 2\ntry 1 FAIL", 2),
+    (b"new 2\nlen\nget 18446744073709551616", 3),
+    (b"new 16777216\nbogus", 2),
+    (b"new 2\nclear", 2),
+    (b"new 2\nremove 1", 2),
+    (b"new 2\nget_at 0 1", 2),
+];
+
 #[test]
 fn bad_lines(rt: HostRuntime) -> Result<(), Fail> {
-    let rows: [(&[u8], usize); 38] = [
-        (b"", 1),
-        (b"\n", 1),
-        (b"new 0", 1),
-        (b"new", 1),
-        (b"new 2 1", 1),
-        (b"new two", 1),
-        (b"len", 1),
-        (b" new 2", 1),
-        (b"new  2", 1),
-        (b"new 2 ", 1),
-        (b"new 2\r", 1),
-        (b"new 2\r\nlen\r\n", 1),
-        (b"new 18446744073709551616", 1),
-        (b"new 2\nput 1", 2),
-        (b"new 2\nput 1 2 3", 2),
-        (b"new 2\nnew 2", 2),
-        (b"new 2\n\n", 2),
-        (b"new 2\n\nlen\n", 2),
-        (b"new 2\nLEN", 2),
-        (b"new 2\nlen 1", 2),
-        (b"new 2\nget", 2),
-        (b"new 2\nget ", 2),
-        (b"new 2\nget +1", 2),
-        (b"new 2\nget -1", 2),
-        (b"new 2\nget 1x", 2),
-        (b"new 2\nget 0x1", 2),
-        (b"new 2\nget \xFF", 2),
-        (b"new 2\n\xFF", 2),
-        (b"new 2\n\0", 2),
-        (b"new 2\nget\t1", 2),
-        (b"new 2\nget_at 0", 2),
-        (b"new 2\nretain", 2),
-        (b"new 2\nretain 012", 2),
-        (b"new 2\nprefill", 2),
-        (b"new 2\nprefill 1  2", 2),
-        (b"new 2\ntry 1 FAIL", 2),
-        (b"new 2\nlen\nget 18446744073709551616", 3),
-        (b"new 16777216\nbogus", 2),
-    ];
-    for (text, line) in rows {
+    for (text, line) in BAD_LINES {
         let (outcome, written) = served(rt.alloc(), text);
         assert_eq!(rt; outcome, Err(ServeError::BadLine(line)), "{text:?}");
         assert_eq!(rt; written.len(), 0, "{text:?}");
