@@ -28,7 +28,16 @@ fn each_call(rt: HostRuntime) -> Result<(), Fail> {
 fn runs(rt: HostRuntime) -> Result<(), Fail> {
     let capacity = NonZeroUsize::new(1).ok_or("not zero")?;
     let mut cache = Cache::new(rt.alloc(), capacity)?;
-    let commands = vec![in rt.alloc(); Command::Put(1u64, 10u64), Command::Get(1), Command::Put(2, 20), Command::Contains(1), Command::Get(2), Command::Len, Command::IsEmpty, Command::Capacity]?;
+    let commands = vec![in rt.alloc();
+        Command::Put(1u64, 10u64),
+        Command::Get(1),
+        Command::Put(2, 20),
+        Command::Contains(1),
+        Command::Get(2),
+        Command::Len,
+        Command::IsEmpty,
+        Command::Capacity,
+    ]?;
     let replies = run(rt.alloc(), &mut cache, commands)?;
     let want = [
         Reply::Value(None),
