@@ -1,2 +1,4 @@
 //! A fixed-capacity key-value cache with Clock2Q+ replacement, and what it stands on.
 #![tactic(auto)]
+
+mod count;
