@@ -1,2 +1,4 @@
+pub mod Entries
 pub mod Links
+pub mod MainRing
 pub mod Rings

@@ -1,5 +1,6 @@
 -- What the links hold, and what becomes of it.
-use Rattle.std.specs.Prelude.{◌≡◌, ℕ, ◌+◌, ◌<◌, ◌==◌, Bool, true, false, List, length, Option, None, slice_index_or, slice_set, replicate, if◌then◌else◌}
+use Rattle.std.specs.Prelude.{◌≡◌, ℕ, ◌+◌, ◌^◌, ◌<◌, ◌==◌, Bool, true, false, List, [], length, Option, Some, None, slice_get, slice_index_or, slice_set, replicate, if◌then◌else◌}
+use Rattle.clock2q.specs.Rings.{has, AllApart, AllBelow, IsRing, around}
 use Rattle.clock2q.specs.declared.links.Record.{Record}
 use Rattle.clock2q.specs.declared.links.Standing.{Standing}
 use Rattle.clock2q.specs.declared.links.Standing.TheVariants.{Free}
@@ -62,6 +63,29 @@ with_place place occupant l = record l { places = slice_set l.places place occup
 -- nothing was done yet: no slot stands anywhere, no bit is set, and no place is taken
 abbrev pub fresh : ℕ → ℕ → LinkState
 fresh slots window = record { slots = replicate slots (vacant, false); places = replicate window None; accesses = 0; inspections = 0 }
+
+-- these slots stand in a ring, each once
+pub record IsLinked (l : LinkState) (slots : List ℕ) : Type 0 where
+  pub ring : IsRing (next_at l) (previous_at l) slots
+  pub apart : AllApart slots
+  pub below : AllBelow (length l.slots) slots
+
+-- a queue that begins at the first slot, if there is one, and has so many: these
+pub record IsQueue (l : LinkState) (first : Option ℕ) (count : ℕ) (slots : List ℕ) : Type 0 where
+  pub linked : IsLinked l slots
+  pub starts : first ≡ slice_get slots 0
+  pub counted : count ≡ length slots
+  pub countable : length l.slots < 2 ^ 64
+
+-- the slots of such a queue, in its order
+abbrev pub slots_from : LinkState → Option ℕ → ℕ → List ℕ
+slots_from l None count = []
+slots_from l (Some first) count = around (next_at l) first count
+
+-- all but these slots are as they were
+pub record IsSameBut (slots : List ℕ) (old new : LinkState) : Type 0 where
+  pub others : (t : ℕ) → has t slots ≡ false → slot_at new t ≡ slot_at old t
+  pub as_many : length new.slots ≡ length old.slots
 
 -- there are as many slots as before, and the places and the hand's looks are as they were
 pub record IsSameElsewhere (old new : LinkState) : Type 0 where

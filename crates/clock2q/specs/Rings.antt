@@ -1,10 +1,15 @@
 -- Slots that stand in a ring: each has a next one, and from that one the way leads back.
-use Rattle.std.specs.Prelude.{◌≡◌, ℕ, zero, suc, ◌<◌, Bool, false, ◌||◌, nat_eq, List, [], ◌∷◌}
+use Rattle.std.specs.Prelude.{◌≡◌, ℕ, zero, suc, ◌<◌, Bool, false, not, ◌||◌, ◌==◌, nat_eq, List, [], ◌∷◌}
+use Rattle.std.specs.List.{filter}
 
 -- whether a slot is among these
 abbrev pub has : ℕ → List ℕ → Bool
 has slot [] = false
 has slot (s ∷ slots) = nat_eq slot s || has slot slots
+
+-- the slots without this one
+abbrev pub without : ℕ → List ℕ → List ℕ
+without slot slots = filter (λ s. not (s == slot)) slots
 
 -- no slot stands twice
 abbrev pub AllApart : List ℕ → Type 0

@@ -3,3 +3,4 @@
 
 mod count;
 mod links;
+mod main_ring;

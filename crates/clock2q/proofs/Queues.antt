@@ -1,0 +1,201 @@
+-- What putting a slot into the links, and taking one out, makes of the queue that it joins or leaves, and of the rest.
+use Rattle.std.proofs.Common.{◌≡◌, ℕ, zero, suc, ◌+◌, ◌^◌, ◌<◌, ◌≤◌, Bool, true, false, not, cond, ◌||◌, eqb, Option, Some, None, slice_get, List, [], ◌∷◌, ◌++◌, length, map, inl, inr, refl, sym, ap, ◌∙◌, subst, arith, rules}
+use Rattle.std.specs.List.{filter, list_any, AllByRecursion, IsDistinct, last_or}
+use Rattle.std.proofs.lemmas.Bool.{eqb-true, eqb-false, eq-eqb, both_ways, cases_Bool, or_cases}
+use Rattle.std.proofs.lemmas.List.{append-nil, append_assoc, length-append, length-set, map-append}
+use Rattle.std.proofs.lemmas.Map.Steps.{length-le_from_distinct_below}
+use Rattle.clock2q.specs.declared.links.Record.{Record}
+use Rattle.clock2q.specs.declared.links.Standing.{Standing}
+use Rattle.clock2q.specs.Rings.{has, without, AllApart, AllBelow, Joins, IsRing, around}
+use Rattle.clock2q.specs.Links.{LinkState, IsLinked, IsQueue, IsSameBut, IsSameElsewhere, Attaches, Detaches, slots_from, slot_at, record_at, next_at, previous_at, standing_at, bit_at, accessed, with_record, with_bit, vacant}
+use Rattle.clock2q.proofs.Rings.{eqb_self, eqb_swap, or_left, or_right, or_parts, or_neither, has-append, has_first, has_later, differs, AllApart-append, AllApart-left, AllApart-right, apart_from, AllApart-turned, AllBelow-append, AllBelow-left, AllBelow-right, below_of, parted, IsRing-kept, IsRing-put, IsRing-taken, IsRing-turned, before_end, around-ring, without-parted}
+use Rattle.clock2q.proofs.Slots.{changed, kept}
+
+-- Slots
+
+-- a slot is its three links and its bit
+pub same_slot : (x y : Record × Bool) → x.0.previous ≡ y.0.previous → x.0.next ≡ y.0.next → x.0.standing ≡ y.0.standing → x.1 ≡ y.1 → x ≡ y
+same_slot x y p n s b =
+    ap (λ z. (record { previous = z; next = x.0.next; standing = x.0.standing }, x.1)) p
+    ∙ ap (λ z. (record { previous = y.0.previous; next = z; standing = x.0.standing }, x.1)) n
+    ∙ ap (λ z. (record { previous = y.0.previous; next = y.0.next; standing = z }, x.1)) s
+    ∙ ap (λ z. (y.0, z)) b
+
+pub map-agree : {X : Type 0} (f g : ℕ → X) (ss : List ℕ) → ((t : ℕ) → has t ss ≡ true → f t ≡ g t) → map f ss ≡ map g ss
+map-agree f g [] h = refl
+map-agree f g (s ∷ ss) h = ap (λ z. z ∷ map f ss) (h s (has_first s ss)) ∙ ap (λ zs. g s ∷ zs) (map-agree f g ss (λ t k. h t (has_later t s ss k)))
+
+has-any : (t : ℕ) (ss : List ℕ) → list_any (eqb t) ss ≡ has t ss
+has-any t [] = refl
+has-any t (s ∷ ss) = ap (λ z. eqb t s || z) (has-any t ss)
+
+none_equal : (s : ℕ) (ss : List ℕ) → has s ss ≡ false → AllByRecursion (λ y. eqb s y ≡ false) ss
+none_equal s [] h = tt
+none_equal s (x ∷ ss) h = let p = or_parts (eqb s x) (has s ss) h in (p.0, none_equal s ss p.1)
+
+distinct : (ss : List ℕ) → AllApart ss → IsDistinct eqb ss
+unfolding IsDistinct
+distinct [] a = tt
+distinct (s ∷ ss) a = (none_equal s ss a.0, distinct ss a.1)
+
+-- there are no more slots apart than numbers below their bound
+pub length-le_bound : (n : ℕ) (ss : List ℕ) → AllApart ss → AllBelow n ss → length ss ≤ n
+length-le_bound n ss a b = length-le_from_distinct_below ss n (distinct ss a) (λ q e. below_of n ss b q (sym (has-any q ss) ∙ e))
+
+-- one more slot finds room
+pub room : (l : LinkState) (ss : List ℕ) (slot : ℕ) → IsLinked l ss → has slot ss ≡ false → slot < length l.slots → length ss < length l.slots
+room l ss slot k h b = length-le_bound (length l.slots) (slot ∷ ss) (h, k.apart) (b, k.below)
+
+-- Queues
+
+pub IsLinked-kept : (old new : LinkState) (ss : List ℕ) → IsLinked old ss → length new.slots ≡ length old.slots
+  → ((t : ℕ) → has t ss ≡ true → record_at new t ≡ record_at old t) → IsLinked new ss
+IsLinked-kept old new ss k n h = record {
+  ring = IsRing-kept (next_at old) (previous_at old) (next_at new) (previous_at new) ss k.ring (λ t g. ap (λ r. r.next) (h t g)) (λ t g. ap (λ r. r.previous) (h t g));
+  apart = k.apart;
+  below = subst (λ z. AllBelow z ss) (sym n) k.below;
+}
+
+pub IsLinked-turned : (l : LinkState) (xs ys : List ℕ) → IsLinked l (xs ++ ys) → IsLinked l (ys ++ xs)
+IsLinked-turned l xs ys k = record {
+  ring = IsRing-turned (next_at l) (previous_at l) xs ys k.ring;
+  apart = AllApart-turned xs ys k.apart;
+  below = AllBelow-append (length l.slots) ys xs (AllBelow-right (length l.slots) xs ys k.below) (AllBelow-left (length l.slots) xs ys k.below);
+}
+
+-- a queue's slots are those met from its first one
+pub slots_from-is : (l : LinkState) (first : Option ℕ) (count : ℕ) (ss : List ℕ) → IsQueue l first count ss → slots_from l first count ≡ ss
+slots_from-is l None count [] q = refl
+slots_from-is l None count (s ∷ ss) q = cc
+slots_from-is l (Some f) count [] q = cc
+slots_from-is l (Some f) count (s ∷ ss) q =
+    let e : f ≡ s = cc in
+    rw (q.counted, e) (around-ring (next_at l) (previous_at l) s ss q.linked.ring)
+
+has-turned : (t : ℕ) (xs ys : List ℕ) → has t (ys ++ xs) ≡ true → has t (xs ++ ys) ≡ true
+has-turned t xs ys h = elim (or_cases (has t ys) (has t xs) (sym (has-append t ys xs) ∙ h)) [
+    inl g ↦ has-append t xs ys ∙ or_right (has t xs) (has t ys) g
+  | inr g ↦ has-append t xs ys ∙ or_left (has t xs) (has t ys) g ]
+
+next_in_ring : (next previous : ℕ → ℕ) (s : ℕ) (ss : List ℕ) → IsRing next previous (s ∷ ss) → has (next s) (s ∷ ss) ≡ true
+next_in_ring next previous s [] r = or_left _ _ (eq-eqb _ _ r.0)
+next_in_ring next previous s (x ∷ ss) r = has_later (next s) s (x ∷ ss) (or_left (eqb (next s) x) (has (next s) ss) (eq-eqb _ _ r.0))
+
+-- the neighbours of a slot in a queue are in it
+pub previous_in : (l : LinkState) (ss : List ℕ) (s : ℕ) → IsLinked l ss → has s ss ≡ true → has (previous_at l s) ss ≡ true
+previous_in l ss s k h =
+    let p = parted s ss h in
+    let r = IsLinked-turned l p.0 (s ∷ p.1.0) (subst (λ z. IsLinked l z) p.1.1 k) in
+    let e = before_end (next_at l) (previous_at l) s (p.1.0 ++ p.0) s r.ring in
+    subst (λ z. has (previous_at l s) z ≡ true) (sym p.1.1) (has-turned (previous_at l s) p.0 (s ∷ p.1.0) e)
+
+pub next_in : (l : LinkState) (ss : List ℕ) (s : ℕ) → IsLinked l ss → has s ss ≡ true → has (next_at l s) ss ≡ true
+next_in l ss s k h =
+    let p = parted s ss h in
+    let r = IsLinked-turned l p.0 (s ∷ p.1.0) (subst (λ z. IsLinked l z) p.1.1 k) in
+    let e = next_in_ring (next_at l) (previous_at l) s (p.1.0 ++ p.0) r.ring in
+    subst (λ z. has (next_at l s) z ≡ true) (sym p.1.1) (has-turned (next_at l s) p.0 (s ∷ p.1.0) e)
+
+pub in_bounds : (l : LinkState) (ss : List ℕ) (s : ℕ) → IsLinked l ss → has s ss ≡ true → s < length l.slots
+in_bounds l ss s k h = below_of (length l.slots) ss k.below s h
+
+-- Putting a slot in
+
+-- a slot was put last into a queue
+pub record Inserts (slot : ℕ) (standing : Standing) (ss : List ℕ) (old new : LinkState) : Type 0 where
+  pub linked : IsLinked new (ss ++ slot ∷ [])
+  pub standings : (t : ℕ) → standing_at new t ≡ cond (eqb t slot) standing (standing_at old t)
+  pub bits : (t : ℕ) → bit_at new t ≡ bit_at old t
+  pub same : IsSameBut (slot ∷ ss) old new
+  pub rest : IsSameElsewhere old new
+  pub accesses : new.accesses ≤ old.accesses + 6
+
+-- into a queue with slots, just before its first one
+pub Inserts-attached : (old new : LinkState) (first : ℕ) (ss : List ℕ) (slot : ℕ) (standing : Standing)
+  → IsLinked old (first ∷ ss) → has slot (first ∷ ss) ≡ false → slot < length old.slots → Attaches slot first standing old new
+  → Inserts slot standing (first ∷ ss) old new
+Inserts-attached old new first ss slot standing k absent b a =
+    let last_in = before_end (next_at old) (previous_at old) first ss first k.ring in
+    record {
+      linked = record {
+        ring = IsRing-put (next_at old) (previous_at old) (next_at new) (previous_at new) first ss slot k.ring k.apart absent a.nexts a.previouses;
+        apart = AllApart-append (first ∷ ss) (slot ∷ []) k.apart (refl, tt) (λ t h. or_neither (eqb t slot) false (differs t slot (first ∷ ss) h absent) refl);
+        below = subst (λ z. AllBelow z (first ∷ ss ++ slot ∷ [])) (sym a.rest.as_many) (AllBelow-append (length old.slots) (first ∷ ss) (slot ∷ []) k.below (b, tt));
+      };
+      standings = a.standings;
+      bits = a.bits;
+      same = record {
+        others = λ t h.
+          let p : eqb t slot ≡ false = (or_parts (eqb t slot) (has t (first ∷ ss)) h).0 in
+          let q : has t (first ∷ ss) ≡ false = (or_parts (eqb t slot) (has t (first ∷ ss)) h).1 in
+          let f : eqb t first ≡ false = (or_parts (eqb t first) (has t ss) q).0 in
+          let l : eqb t (previous_at old first) ≡ false = eqb_swap (previous_at old first) t (differs (previous_at old first) t (first ∷ ss) last_in q) in
+          same_slot (slot_at new t) (slot_at old t)
+            (a.previouses t ∙ rw (f, p) refl) (a.nexts t ∙ rw (l, p) refl) (a.standings t ∙ rw p refl) (a.bits t);
+        as_many = a.rest.as_many;
+      };
+      rest = a.rest;
+      accesses = omega (arith, a.accesses);
+    }
+
+-- into an empty queue
+pub Inserts-alone : (old : LinkState) (slot : ℕ) (standing : Standing) → slot < length old.slots
+  → Inserts slot standing [] old (accessed (with_record slot (record { previous = slot; next = slot; standing = standing }) old))
+Inserts-alone old slot standing b =
+    let r : Record × Bool = (record { previous = slot; next = slot; standing = standing }, bit_at old slot) in
+    let n = length-set old.slots slot r in
+    record {
+      linked = record {
+        ring = (changed (λ p. p.0.next) old.slots slot r (vacant, false) slot b ∙ rw (eqb_self slot) refl, changed (λ p. p.0.previous) old.slots slot r (vacant, false) slot b ∙ rw (eqb_self slot) refl);
+        apart = (refl, tt);
+        below = (omega arith, tt);
+      };
+      standings = λ t. changed (λ p. p.0.standing) old.slots slot r (vacant, false) t b;
+      bits = λ t. kept (λ p. p.1) old.slots slot r (vacant, false) t refl;
+      same = record {
+        others = λ t h. changed (λ p. p) old.slots slot r (vacant, false) t b ∙ rw ((or_parts (eqb t slot) false h).0) refl;
+        as_many = n;
+      };
+      rest = record { as_many = n; places = refl; inspections = refl };
+      accesses = omega arith;
+    }
+
+-- Taking a slot out
+
+-- a slot was taken out of a queue
+pub record Removes (slot : ℕ) (ss : List ℕ) (old new : LinkState) : Type 0 where
+  pub linked : IsLinked new (without slot ss)
+  pub standings : (t : ℕ) → eqb t slot ≡ false → standing_at new t ≡ standing_at old t
+  pub bits : (t : ℕ) → bit_at new t ≡ bit_at old t
+  pub same : IsSameBut ss old new
+  pub rest : IsSameElsewhere old new
+  pub accesses : new.accesses ≤ old.accesses + 6
+
+pub Removes-detached : (old new : LinkState) (ss : List ℕ) (slot : ℕ)
+  → IsLinked old ss → has slot ss ≡ true → Detaches slot old new → Removes slot ss old new
+Removes-detached old new ss slot k h d =
+    let p = parted slot ss h in
+    let xs = p.0 in
+    let ys = p.1.0 in
+    let k' : IsLinked old (xs ++ slot ∷ ys) = subst (λ z. IsLinked old z) p.1.1 k in
+    let e : without slot ss ≡ xs ++ ys = ap (λ z. without slot z) p.1.1 ∙ without-parted xs slot ys k'.apart in
+    record {
+      linked = subst (λ z. IsLinked new z) (sym e) (record {
+        ring = IsRing-taken (next_at old) (previous_at old) (next_at new) (previous_at new) xs slot ys k'.ring k'.apart d.nexts d.previouses;
+        apart = AllApart-append xs ys (AllApart-left xs (slot ∷ ys) k'.apart) (AllApart-right xs (slot ∷ ys) k'.apart).1 (λ t g. (or_parts (eqb t slot) (has t ys) (apart_from xs (slot ∷ ys) k'.apart t g)).1);
+        below = subst (λ z. AllBelow z (xs ++ ys)) (sym d.rest.as_many) (AllBelow-append (length old.slots) xs ys (AllBelow-left (length old.slots) xs (slot ∷ ys) k'.below) (AllBelow-right (length old.slots) xs (slot ∷ ys) k'.below).1);
+      });
+      standings = d.standings;
+      bits = d.bits;
+      same = record {
+        others = λ t g.
+          let q : eqb t slot ≡ false = eqb_swap slot t (differs slot t ss h g) in
+          let l : eqb t (previous_at old slot) ≡ false = eqb_swap (previous_at old slot) t (differs (previous_at old slot) t ss (previous_in old ss slot k h) g) in
+          let r : eqb t (next_at old slot) ≡ false = eqb_swap (next_at old slot) t (differs (next_at old slot) t ss (next_in old ss slot k h) g) in
+          same_slot (slot_at new t) (slot_at old t)
+            (d.previouses t q ∙ rw r refl) (d.nexts t q ∙ rw l refl) (d.standings t q) (d.bits t);
+        as_many = d.rest.as_many;
+      };
+      rest = d.rest;
+      accesses = omega (arith, d.accesses);
+    }

@@ -1,0 +1,55 @@
+//! Main: a ring of slots with a hand, which looks for the slot to be given up.
+ghost use Rattle.std.specs.Prelude.{◌≡◌, ◌+◌, ◌<◌, ◌≤◌, false, List, [], ◌∷◌, ◌++◌, length, Some, slice_get};
+ghost use Rattle.clock2q.specs.Rings.{has};
+ghost use Rattle.clock2q.specs.Links.{LinkState, IsSameBut};
+
+use crate::links::{Links, Record, Standing};
+use std::alloc::Allocator;
+
+/// A ring of slots. The hand stands at the next one that it will look at, and a new one stands
+/// just before the hand.
+#[derive(Drop)]
+pub struct MainRing {
+    hand: Option<usize>,
+    len: usize,
+}
+
+impl MainRing {
+    ghost use Rattle.clock2q.specs.MainRing.{IsMainRing, main_slots, main_entries, inspections, from_victim};
+
+    /// A ring with no slot.
+    pub fn new() -> Self
+        ensures { (l : LinkState) → IsMainRing l result × (main_entries l result ≡ []) }
+    {
+        MainRing { hand: None, len: 0 }
+    }
+
+    /// How many slots there are.
+    pub fn len(&self) -> usize {
+        self.len
+    }
+
+    /// Puts a slot just before the hand, with a clear bit. In an empty ring it is the hand.
+    pub fn push<A: Allocator>(&mut self, links: &mut Links<A>, slot: usize)
+        requires whole { IsMainRing links.old self.old }
+        requires slot_in { slot < length links.old.slots }
+        requires absent { has slot (main_slots links.old self.old) ≡ false }
+        ensures whole { IsMainRing links.new self.new }
+        ensures entries { main_entries links.new self.new ≡ main_entries links.old self.old ++ (slot, false) ∷ [] }
+        ensures others { IsSameBut (slot ∷ main_slots links.old self.old) links.old links.new }
+        ensures places { links.new.places ≡ links.old.places }
+        ensures looks { links.new.inspections ≡ links.old.inspections }
+        ensures accesses { links.new.accesses ≤ links.old.accesses + 12 }
+    {
+        links.set_bit(slot, false);
+        match self.hand {
+            None => {
+                let alone = Record { previous: slot, next: slot, standing: Standing::Main };
+                links.write(slot, alone);
+                self.hand = Some(slot);
+            }
+            Some(hand) => links.attach(slot, hand, Standing::Main),
+        }
+        self.len += 1;
+    }
+}
