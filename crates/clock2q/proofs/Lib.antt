@@ -1,3 +1,4 @@
+pub mod Main
 pub mod Queues
 pub mod Rings
 pub mod Slots

@@ -199,3 +199,51 @@ Removes-detached old new ss slot k h d =
       rest = d.rest;
       accesses = omega (arith, d.accesses);
     }
+
+-- the first slot of a queue, as its owner holds it, decides how a slot is put in
+pub Inserts-before : (old new : LinkState) (ss : List ℕ) (slot : ℕ) (standing : Standing) (first : ℕ)
+  → IsLinked old ss → Some first ≡ slice_get ss 0 → has slot ss ≡ false → slot < length old.slots → Attaches slot first standing old new
+  → Inserts slot standing ss old new
+Inserts-before old new [] slot standing first k e absent b a = absurd (cc)
+Inserts-before old new (s ∷ ss) slot standing first k e absent b a =
+    let q : first ≡ s = cc in
+    Inserts-attached old new s ss slot standing k absent b (subst (λ z. Attaches slot z standing old new) q a)
+
+pub Inserts-first : (old new : LinkState) (ss : List ℕ) (slot : ℕ) (standing : Standing)
+  → None ≡ slice_get ss 0 → slot < length old.slots → new ≡ accessed (with_record slot (record { previous = slot; next = slot; standing = standing }) old)
+  → Inserts slot standing ss old new
+Inserts-first old new [] slot standing e b n = subst (λ z. Inserts slot standing [] old z) (sym n) (Inserts-alone old slot standing b)
+Inserts-first old new (s ∷ ss) slot standing e b n = absurd (cc)
+
+-- Bits
+
+pub record_at-with_bit : (l : LinkState) (slot : ℕ) (b : Bool) (t : ℕ) → record_at (with_bit slot b l) t ≡ record_at l t
+record_at-with_bit l slot b t = kept (λ p. p.0) l.slots slot (record_at l slot, b) (vacant, false) t refl
+
+pub bit_at-with_bit : (l : LinkState) (slot : ℕ) (b : Bool) (t : ℕ) → slot < length l.slots → bit_at (with_bit slot b l) t ≡ cond (eqb t slot) b (bit_at l t)
+bit_at-with_bit l slot b t h = changed (λ p. p.1) l.slots slot (record_at l slot, b) (vacant, false) t h
+
+pub slot_at-with_bit : (l : LinkState) (slot : ℕ) (b : Bool) (t : ℕ) → slot < length l.slots → eqb t slot ≡ false → slot_at (with_bit slot b l) t ≡ slot_at l t
+slot_at-with_bit l slot b t h e = changed (λ p. p) l.slots slot (record_at l slot, b) (vacant, false) t h ∙ rw e refl
+
+pub length-with_bit : (l : LinkState) (slot : ℕ) (b : Bool) → length (with_bit slot b l).slots ≡ length l.slots
+length-with_bit l slot b = length-set l.slots slot (record_at l slot, b)
+
+pub IsLinked-with_bit : (l : LinkState) (slot : ℕ) (b : Bool) (ss : List ℕ) → IsLinked l ss → IsLinked (with_bit slot b l) ss
+IsLinked-with_bit l slot b ss k = IsLinked-kept l (with_bit slot b l) ss k (length-with_bit l slot b) (λ t h. record_at-with_bit l slot b t)
+
+-- Entries
+
+pub filter-entries : {X : Type 0} (slot : ℕ) (f : ℕ → X) (ss : List ℕ) → filter (λ (e : ℕ × X). not (eqb e.0 slot)) (map (λ s. (s, f s)) ss) ≡ map (λ s. (s, f s)) (without slot ss)
+filter-entries slot f [] = refl
+filter-entries slot f (s ∷ ss) = elim (cases_Bool (eqb s slot)) [
+    inl e ↦ rw e (filter-entries slot f ss)
+  | inr e ↦ rw e (ap (λ zs. (s, f s) ∷ zs) (filter-entries slot f ss)) ]
+
+pub has-without : (t slot : ℕ) (ss : List ℕ) → has t (without slot ss) ≡ true → (has t ss ≡ true) × (eqb t slot ≡ false)
+has-without t slot [] h = absurd (both_ways false refl h)
+has-without t slot (s ∷ ss) h = elim (cases_Bool (eqb s slot)) [
+    inl e ↦ let g = has-without t slot ss (rw e at h) in (has_later t s ss g.0, g.1)
+  | inr e ↦ elim (or_cases (eqb t s) (has t (without slot ss)) (rw e at h)) [
+      inl q ↦ (or_left (eqb t s) (has t ss) q, subst (λ z. eqb z slot ≡ false) (sym (eqb-true t s q)) e)
+    | inr q ↦ let g = has-without t slot ss q in (has_later t s ss g.0, g.1) ] ]

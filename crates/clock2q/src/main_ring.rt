@@ -1,5 +1,5 @@
 //! Main: a ring of slots with a hand, which looks for the slot to be given up.
-ghost use Rattle.std.specs.Prelude.{◌≡◌, ◌+◌, ◌<◌, ◌≤◌, false, List, [], ◌∷◌, ◌++◌, length, Some, slice_get};
+ghost use Rattle.std.specs.Prelude.{◌≡◌, ◌+◌, ◌^◌, ◌<◌, ◌≤◌, false, List, [], ◌∷◌, ◌++◌, length, Some, slice_get};
 ghost use Rattle.clock2q.specs.Rings.{has};
 ghost use Rattle.clock2q.specs.Links.{LinkState, IsSameBut};
 
@@ -19,7 +19,8 @@ impl MainRing {
 
     /// A ring with no slot.
     pub fn new() -> Self
-        ensures { (l : LinkState) → IsMainRing l result × (main_entries l result ≡ []) }
+        ensures empty { (l : LinkState) → main_entries l result ≡ [] }
+        ensures whole { (l : LinkState) → length l.slots < 2 ^ 64 → IsMainRing l result }
     {
         MainRing { hand: None, len: 0 }
     }
