@@ -4,12 +4,12 @@ use Rattle.std.specs.List.{filter, prefix_len}
 use Rattle.std.proofs.lemmas.Bool.{eqb-true, eqb-false, eq-eqb, both_ways, cases_Bool, or_cases}
 use Rattle.std.proofs.lemmas.List.{append-nil, append_assoc, length-append, map-append, length_push}
 use Rattle.clock2q.specs.declared.main_ring.MainRing.{MainRing}
-use Rattle.clock2q.specs.declared.links.Standing.TheVariants.{Main}
+use Rattle.clock2q.specs.declared.links.Standing.TheVariants.{Free, Main}
 use Rattle.clock2q.specs.Rings.{has, without, AllApart}
-use Rattle.clock2q.specs.Links.{LinkState, IsLinked, IsQueue, IsSameBut, Attaches, with_record, slots_from, slot_at, record_at, next_at, previous_at, standing_at, bit_at, accessed, inspected, with_bit}
+use Rattle.clock2q.specs.Links.{LinkState, IsLinked, IsQueue, IsSameBut, Attaches, Detaches, with_record, slots_from, slot_at, record_at, next_at, previous_at, standing_at, bit_at, accessed, inspected, with_bit}
 use Rattle.clock2q.specs.MainRing.{IsMain, IsMainRing, main_slots, main_entries, passed, inspections, from_victim}
 use Rattle.clock2q.proofs.Rings.{eqb_self, eqb_swap, or_left, or_right, or_parts, or_neither, has-append, has_first, has_later, differs}
-use Rattle.clock2q.proofs.Queues.{Inserts, Inserts-before, Inserts-first, previous_in, in_bounds, Removes, map-agree, slots_from-is, IsLinked-with_bit, IsLinked-turned, record_at-with_bit, bit_at-with_bit, slot_at-with_bit, length-with_bit, room, filter-entries, has-without}
+use Rattle.clock2q.proofs.Queues.{Inserts, Inserts-before, Inserts-first, previous_in, next_in, in_bounds, Removes-detached, length-without, map-agree, slots_from-is, IsLinked-with_bit, IsLinked-turned, record_at-with_bit, bit_at-with_bit, slot_at-with_bit, length-with_bit, room, filter-entries, has-without}
 
 has_slice_get-first : (ss : List ℕ) (first : ℕ) → Some first ≡ slice_get ss 0 → has first ss ≡ true
 has_slice_get-first [] first e = absurd (cc)
@@ -115,3 +115,40 @@ PushesMain-alone slot old main mid new main' m b absent e h a h' n =
     PushesMain-from slot old main mid new main' m b absent e
       (Inserts-first mid new (main_slots old main) slot Main (sym h ∙ m.queue.starts) b' a)
       (h' ∙ hand_new old main slot m h) n
+
+-- a slot was taken out of Main
+pub record UnlinksMain (slot : ℕ) (old : LinkState) (main : MainRing) (new : LinkState) (main' : MainRing) : Type 0 where
+  pub whole : IsMainRing new main'
+  pub entries : main_entries new main' ≡ filter (λ e. not (eqb e.0 slot)) (main_entries old main)
+  pub freed : standing_at new slot ≡ Free
+  pub others : IsSameBut (main_slots old main) old new
+
+pub UnlinksMain-from : (slot : ℕ) (old : LinkState) (main : MainRing) (new : LinkState) (main' : MainRing)
+  → IsMainRing old main → has slot (main_slots old main) ≡ true → Detaches slot old new
+  → main'.hand ≡ slice_get (without slot (main_slots old main)) 0 → main'.len ≡ main.len - 1
+  → UnlinksMain slot old main new main'
+UnlinksMain-from slot old main new main' m h d s n =
+    let ss = main_slots old main in
+    let r = Removes-detached old new ss slot m.queue.linked h d in
+    let as_many : length new.slots ≡ length old.slots = r.rest.as_many in
+    let is : IsMain new main' (without slot ss) = record {
+        queue = record { linked = r.linked; starts = s; counted = let e = length-without slot ss m.queue.linked.apart h in let f = m.queue.counted in omega arith; countable = rw as_many m.queue.countable };
+        standing = λ t g. let w = has-without t slot ss g in r.standings t w.1 ∙ m.standing t w.0;
+      } in
+    record {
+      whole = IsMainRing-from new main' (without slot ss) is;
+      entries =
+        ap (λ z. map (λ s. (s, bit_at new s)) z) (main_slots-is new main' (without slot ss) is)
+        ∙ map-agree (λ s. (s, bit_at new s)) (λ s. (s, bit_at old s)) (without slot ss) (λ t g. ap (λ z. (t, z)) (r.bits t))
+        ∙ sym (filter-entries slot (λ s. bit_at old s) ss);
+      freed = ap (λ r. r.standing) r.freed;
+      others = r.same;
+    }
+
+-- the neighbours of a slot of Main are there
+pub neighbours_fit : (l : LinkState) (main : MainRing) (slot : ℕ) → IsMainRing l main → has slot (main_slots l main) ≡ true
+  → (slot < length l.slots) × (next_at l slot < length l.slots) × (previous_at l slot < length l.slots)
+neighbours_fit l main slot m h =
+    let ss = main_slots l main in
+    let k = m.queue.linked in
+    (in_bounds l ss slot k h, in_bounds l ss (next_at l slot) k (next_in l ss slot k h), in_bounds l ss (previous_at l slot) k (previous_in l ss slot k h))

@@ -1,7 +1,9 @@
 -- What putting a slot into the links, and taking one out, makes of the queue that it joins or leaves, and of the rest.
-use Rattle.std.proofs.Common.{◌≡◌, ℕ, zero, suc, ◌+◌, ◌^◌, ◌<◌, ◌≤◌, Bool, true, false, not, cond, ◌||◌, eqb, Option, Some, None, slice_get, List, [], ◌∷◌, ◌++◌, length, map, inl, inr, refl, sym, ap, ◌∙◌, subst, arith, rules}
+use Rattle.std.proofs.Common.{◌≡◌, ℕ, zero, suc, ◌+◌, ◌-◌, ◌^◌, ◌<◌, ◌≤◌, ◌≢◌, ltb, Bool, true, false, not, cond, ◌||◌, eqb, Option, Some, None, slice_get, List, [], ◌∷◌, ◌++◌, length, map, inl, inr, refl, sym, ap, ◌∙◌, subst, arith, rules}
+use Rattle.std.specs.Bool.{then_some}
+use Rattle.std.specs.Option.{option_eq}
 use Rattle.std.specs.List.{filter, list_any, AllByRecursion, IsDistinct, last_or}
-use Rattle.std.proofs.lemmas.Bool.{eqb-true, eqb-false, eq-eqb, both_ways, cases_Bool, or_cases}
+use Rattle.std.proofs.lemmas.Bool.{eqb-true, eq-eqb, lt-ltb, both_ways, cases_Bool, or_cases}
 use Rattle.std.proofs.lemmas.List.{append-nil, append_assoc, length-append, length-set, map-append}
 use Rattle.std.proofs.lemmas.Map.Steps.{length-le_from_distinct_below}
 use Rattle.clock2q.specs.declared.links.Record.{Record}
@@ -169,6 +171,7 @@ pub record Removes (slot : ℕ) (ss : List ℕ) (old new : LinkState) : Type 0 w
   pub bits : (t : ℕ) → bit_at new t ≡ bit_at old t
   pub same : IsSameBut ss old new
   pub rest : IsSameElsewhere old new
+  pub freed : record_at new slot ≡ vacant
   pub accesses : new.accesses ≤ old.accesses + 6
 
 pub Removes-detached : (old new : LinkState) (ss : List ℕ) (slot : ℕ)
@@ -197,6 +200,7 @@ Removes-detached old new ss slot k h d =
         as_many = d.rest.as_many;
       };
       rest = d.rest;
+      freed = d.freed;
       accesses = omega (arith, d.accesses);
     }
 
@@ -247,3 +251,48 @@ has-without t slot (s ∷ ss) h = elim (cases_Bool (eqb s slot)) [
   | inr e ↦ elim (or_cases (eqb t s) (has t (without slot ss)) (rw e at h)) [
       inl q ↦ (or_left (eqb t s) (has t ss) q, subst (λ z. eqb z slot ≡ false) (sym (eqb-true t s q)) e)
     | inr q ↦ let g = has-without t slot ss q in (has_later t s ss g.0, g.1) ] ]
+
+-- Counts and ends after a slot was taken out
+
+pub length-without : (slot : ℕ) (ss : List ℕ) → AllApart ss → has slot ss ≡ true → length (without slot ss) + 1 ≡ length ss
+length-without slot ss a h =
+    let p = parted slot ss h in
+    let a' : AllApart (p.0 ++ slot ∷ p.1.0) = subst (λ z. AllApart z) p.1.1 a in
+    let e : without slot ss ≡ p.0 ++ p.1.0 = ap (λ z. without slot z) p.1.1 ∙ without-parted p.0 slot p.1.0 a' in
+    let m = ap (λ (z : List ℕ). length z) e in
+    let n = ap (λ (z : List ℕ). length z) p.1.1 in
+    omega (arith, length-append p.0 p.1.0, length-append p.0 (slot ∷ p.1.0))
+
+-- where the first slot went, the next one is first, if there is one
+pub first_after : (l : LinkState) (count : ℕ) (ss : List ℕ) (slot : ℕ) → IsQueue l (Some slot) count ss
+  → then_some (ltb 0 (count - 1)) (next_at l slot) ≡ slice_get (without slot ss) 0
+first_after l count [] slot q = absurd (let e = q.starts in cc)
+first_after l count (s ∷ []) slot q =
+    let e : slot ≡ s = let h = q.starts in cc in
+    rw (q.counted, e, eqb_self s) refl
+first_after l count (s ∷ t ∷ ss) slot q =
+    let e : slot ≡ s = let h = q.starts in cc in
+    let a = q.linked.apart in
+    let d : eqb t s ≡ false = eqb_swap s t (or_parts (eqb s t) (has s ss) a.0).0 in
+    let n : ltb 0 (count - 1) ≡ true = lt-ltb 0 (count - 1) (let m = q.counted in omega arith) in
+    rw (n, e, eqb_self s, d) (ap (λ z. Some z) q.linked.ring.0)
+
+-- where another one went, it stays the first
+pub first_stays : (l : LinkState) (first : Option ℕ) (count : ℕ) (ss : List ℕ) (slot : ℕ) → IsQueue l first count ss → first ≢ Some slot
+  → first ≡ slice_get (without slot ss) 0
+first_stays l first count [] slot q d = q.starts
+first_stays l first count (s ∷ ss) slot q d =
+    let e : eqb s slot ≡ false = elim (cases_Bool (eqb s slot)) [ inl h ↦ absurd (d (q.starts ∙ ap (λ z. Some z) (eqb-true s slot h))) | inr h ↦ h ] in
+    rw e q.starts
+
+pub is_first : (o : Option ℕ) (slot : ℕ) → true ≡ option_eq eqb o (Some slot) → o ≡ Some slot
+is_first None slot e = absurd (both_ways true e refl)
+is_first (Some s) slot e = ap (λ z. Some z) (eqb-true s slot (sym e))
+
+pub not_first : (o : Option ℕ) (slot : ℕ) → false ≡ option_eq eqb o (Some slot) → o ≢ Some slot
+not_first None slot e h = cc
+not_first (Some s) slot e h = let q : s ≡ slot = cc in both_ways (eqb s slot) (sym e) (eq-eqb s slot q)
+
+pub first_gone : (l : LinkState) (first : Option ℕ) (count : ℕ) (ss : List ℕ) (slot : ℕ) → IsQueue l first count ss → first ≡ Some slot
+  → then_some (ltb 0 (count - 1)) (next_at l slot) ≡ slice_get (without slot ss) 0
+first_gone l first count ss slot q e = first_after l count ss slot (subst (λ z. IsQueue l z count ss) e q)

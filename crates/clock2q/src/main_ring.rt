@@ -1,7 +1,8 @@
 //! Main: a ring of slots with a hand, which looks for the slot to be given up.
-ghost use Rattle.std.specs.Prelude.{◌≡◌, ◌+◌, ◌^◌, ◌<◌, ◌≤◌, false, List, [], ◌∷◌, ◌++◌, length, Some, slice_get};
+ghost use Rattle.std.specs.Prelude.{◌≡◌, ◌+◌, ◌^◌, ◌<◌, ◌≤◌, ◌==◌, false, true, not, List, [], ◌∷◌, ◌++◌, length, Some, slice_get};
 ghost use Rattle.clock2q.specs.Rings.{has};
-ghost use Rattle.clock2q.specs.Links.{LinkState, IsSameBut};
+ghost use Rattle.std.specs.List.{filter};
+ghost use Rattle.clock2q.specs.Links.{LinkState, IsSameBut, standing_at};
 
 use crate::links::{Links, Record, Standing};
 use std::alloc::Allocator;
@@ -52,5 +53,25 @@ impl MainRing {
             Some(hand) => links.attach(slot, hand, Standing::Main),
         }
         self.len += 1;
+    }
+
+    /// Takes a slot out. If the hand stood there, it moves on.
+    pub fn unlink<A: Allocator>(&mut self, links: &mut Links<A>, slot: usize)
+        requires whole { IsMainRing links.old self.old }
+        requires present { has slot (main_slots links.old self.old) ≡ true }
+        ensures whole { IsMainRing links.new self.new }
+        ensures entries { main_entries links.new self.new
+            ≡ filter (λ e. not (e.0 == slot)) (main_entries links.old self.old) }
+        ensures freed { standing_at links.new slot ≡ Standing.Free }
+        ensures others { IsSameBut (main_slots links.old self.old) links.old links.new }
+        ensures places { links.new.places ≡ links.old.places }
+        ensures looks { links.new.inspections ≡ links.old.inspections }
+        ensures accesses { links.new.accesses ≤ links.old.accesses + 12 }
+    {
+        let was = links.detach(slot);
+        self.len -= 1;
+        if self.hand == Some(slot) {
+            self.hand = (self.len > 0).then_some(was.next);
+        }
     }
 }
