@@ -1,3 +1,4 @@
+pub mod Hand
 pub mod Main
 pub mod Queues
 pub mod Rings

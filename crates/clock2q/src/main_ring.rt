@@ -74,4 +74,33 @@ impl MainRing {
             self.hand = (self.len > 0).then_some(was.next);
         }
     }
+
+    /// Moves the hand on to the slot to be given up: it passes each entry whose bit is set, and
+    /// clears the bit.
+    pub fn select<A: Allocator>(&mut self, links: &mut Links<A>) -> usize
+        requires whole { IsMainRing links.old self.old }
+        requires occupied { 0 < length (main_slots links.old self.old) }
+        ensures whole { IsMainRing links.new self.new }
+        ensures entries { main_entries links.new self.new ≡ from_victim (main_entries links.old self.old) }
+        ensures victim { slice_get (main_entries links.new self.new) 0 ≡ Some (result, false) }
+        ensures others { IsSameBut (main_slots links.old self.old) links.old links.new }
+        ensures places { links.new.places ≡ links.old.places }
+        ensures looks { links.new.inspections ≡ links.old.inspections + inspections (main_entries links.old self.old) }
+        ensures accesses { links.new.accesses + 1 ≡ links.old.accesses + inspections (main_entries links.old self.old) }
+    {
+        let mut hand = self.hand.unwrap();
+        while links.inspect(hand) {
+            hand = links.read(hand).next;
+        }
+        self.hand = Some(hand);
+        hand
+    }
+
+    /// Leaves no slot in the ring. The records are reset by the links.
+    pub fn clear(&mut self)
+        ensures empty { (l : LinkState) → main_entries l self.new ≡ [] }
+        ensures whole { (l : LinkState) → length l.slots < 2 ^ 64 → IsMainRing l self.new }
+    {
+        *self = MainRing::new();
+    }
 }
