@@ -3,3 +3,4 @@ pub mod Main
 pub mod Queues
 pub mod Rings
 pub mod Slots
+pub mod Window

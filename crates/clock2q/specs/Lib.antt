@@ -2,3 +2,4 @@ pub mod Entries
 pub mod Links
 pub mod MainRing
 pub mod Rings
+pub mod Small

@@ -54,6 +54,9 @@ with_next slot next l = with_record slot (record (record_at l slot) { next = nex
 abbrev pub with_previous : ℕ → ℕ → LinkState → LinkState
 with_previous slot previous l = with_record slot (record (record_at l slot) { previous = previous }) l
 
+abbrev pub with_standing : ℕ → Standing → LinkState → LinkState
+with_standing slot standing l = with_record slot (record (record_at l slot) { standing = standing }) l
+
 abbrev pub with_bit : ℕ → Bool → LinkState → LinkState
 with_bit slot bit l = record l { slots = slice_set l.slots slot (record_at l slot, bit) }
 

@@ -4,3 +4,4 @@
 mod count;
 mod links;
 mod main_ring;
+mod small;

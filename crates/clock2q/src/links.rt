@@ -1,7 +1,7 @@
 //! What Small and Main share: the link records and the hit bits by slot number, and the places of
 //! Small's window.
 ghost use Rattle.std.specs.Prelude.{◌≡◌, ℕ, ◌+◌, ◌<◌, length, slice_index_or, slice_set, IfOk, replicate, Option, Some, None, false, true};
-ghost use Rattle.clock2q.specs.Links.{LinkState, Attaches, Detaches, fresh, record_at, next_at, previous_at, bit_at, place_at, accessed, inspected, with_record, with_next, with_previous, with_bit, with_place};
+ghost use Rattle.clock2q.specs.Links.{LinkState, Attaches, Detaches, fresh, record_at, next_at, previous_at, bit_at, place_at, accessed, inspected, with_record, with_next, with_previous, with_standing, with_bit, with_place};
 
 use crate::count::Count;
 use std::alloc::{AllocError, Allocator, Global};
@@ -166,6 +166,15 @@ impl<A: Allocator> Links<A> {
     {
         let was = self.read(slot);
         self.write(slot, Record { previous, ..was });
+    }
+
+    /// Writes where a slot stands.
+    pub fn set_standing(&mut self, slot: usize, standing: Standing)
+        requires { slot < length self.old.slots }
+        ensures { self.new ≡ accessed (accessed (with_standing slot standing self.old)) }
+    {
+        let was = self.read(slot);
+        self.write(slot, Record { standing, ..was });
     }
 
     /// Puts a slot just before another.
