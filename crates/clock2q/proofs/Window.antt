@@ -10,17 +10,13 @@ use Rattle.clock2q.specs.declared.links.Standing.{Standing}
 use Rattle.clock2q.specs.declared.links.Standing.TheVariants.{Free, Young, Old, Main}
 use Rattle.clock2q.specs.declared.small.Small.{Small}
 use Rattle.clock2q.specs.Rings.{has, without, AllApart, AllBelow}
-use Rattle.clock2q.specs.Links.{LinkState, IsLinked, IsQueue, IsSameBut, IsSameElsewhere, Attaches, Detaches, slots_from, slot_at, record_at, next_at, previous_at, standing_at, bit_at, place_at, accessed, with_record, with_place}
-use Rattle.clock2q.specs.Small.{IsSmall, IsSmallQueue, IsInSmall, GrowsOld, small_slots, small_entries, admissions_since, age_of, age_at, admitted, is_there}
+use Rattle.clock2q.specs.Links.{LinkState, IsBlank, IsLinked, IsQueue, IsSameBut, IsSameElsewhere, Attaches, Detaches, slots_from, slot_at, record_at, next_at, previous_at, standing_at, bit_at, place_at, accessed, with_record, with_place}
+use Rattle.clock2q.specs.Small.{IsSmall, IsSmallQueue, IsInSmall, GrowsOld, small_slots, small_entries, admissions_since, moved_on, age_of, age_at, admitted, is_there}
 use Rattle.clock2q.proofs.Slots.{changed}
 use Rattle.clock2q.proofs.Rings.{IsRing-kept, eqb_self, eqb_swap, or_left, or_right, or_parts, or_neither, has-append, has_first, has_later, differs}
 use Rattle.clock2q.proofs.Queues.{Inserts, Inserts-before, Inserts-first, Removes, Removes-detached, map-agree, slots_from-is, IsLinked-kept, IsLinked-turned, room, in_bounds, previous_in, next_in, filter-entries, has-without, length-without, same_slot}
 
 -- Ages
-
--- where the cursor goes next
-abbrev pub moved_on : ℕ → ℕ → ℕ
-moved_on window cursor = cond (ltb (cursor + 1) window) (cursor + 1) 0
 
 -- the slot that is admitted has age 0
 pub admissions_since-own : (window cursor : ℕ) → cursor < window → admissions_since window (moved_on window cursor) cursor ≡ 0
@@ -237,3 +233,71 @@ module _ (slot : ℕ) (old : LinkState) (small : Small) (mid aged new : LinkStat
       as_many = slots_new;
     };
   }
+
+-- a queue with no slot, where no place is taken
+pub IsSmallQueue-empty : (l : LinkState) → IsBlank l → IsSmallQueue l (record { newest = None; oldest = None; len = 0; cursor = 0 })
+IsSmallQueue-empty l b = record {
+  queue = record { linked = record { ring = tt; apart = tt; below = tt }; starts = refl; counted = refl; countable = b.countable };
+  ends = refl;
+  standing = λ t h. absurd (both_ways false refl h);
+  placed = λ t place h y. absurd (both_ways false refl h);
+  occupied = λ place t h. let f = b.free place in absurd (cc);
+  cursor_in = λ h. h;
+  countable_places = b.countable_places;
+}
+
+last_behind : (ss : List ℕ) (slot first : ℕ) → Some first ≡ slice_get ss 0 → last_or None ss ≡ last_or None (slot ∷ ss)
+last_behind [] slot first e = absurd (cc)
+last_behind (s ∷ ss) slot first e = refl
+
+last_alone : (ss : List ℕ) (slot : ℕ) → None ≡ slice_get ss 0 → Some slot ≡ last_or None (slot ∷ ss)
+last_alone [] slot e = refl
+last_alone (s ∷ ss) slot e = absurd (cc)
+
+first_in : (ss : List ℕ) (first : ℕ) → Some first ≡ slice_get ss 0 → has first ss ≡ true
+first_in [] first e = absurd (cc)
+first_in (s ∷ ss) first e = let q : first ≡ s = cc in or_left (eqb first s) (has first ss) (eq-eqb first s q)
+
+module _ (slot : ℕ) (old : LinkState) (small : Small) (mid aged : LinkState) (m : IsSmallQueue old small)
+  (o : GrowsOld small.cursor old mid) (e : aged ≡ accessed (with_place small.cursor (Some slot) mid)) where
+  slots_aged : length aged.slots ≡ length old.slots
+  slots_aged = ap (λ (l : LinkState). length l.slots) e ∙ o.rest.as_many
+
+  pub window_aged : length aged.places ≡ length old.places
+  window_aged = ap (λ (l : LinkState). length l.places) e ∙ length-set mid.places small.cursor (Some slot) ∙ ap (λ (z : List (Option ℕ)). length z) o.rest.places
+
+  -- the slots before which a new one is put are there
+  pub first_fits : (newest : ℕ) → small.newest ≡ Some newest → (newest < length aged.slots) × (previous_at aged newest < length aged.slots)
+  first_fits newest h =
+      let k = linked_still old mid aged (small_slots old small) small.cursor slot m.queue.linked o e in
+      let f = first_in (small_slots old small) newest (sym h ∙ m.queue.starts) in
+      (in_bounds aged (small_slots old small) newest k f, in_bounds aged (small_slots old small) (previous_at aged newest) k (previous_in aged (small_slots old small) newest k f))
+
+  pub Admits-attached : (new : LinkState) (small' : Small) (newest : ℕ) → slot < length old.slots → has slot (small_slots old small) ≡ false → 0 < length old.places
+    → small.newest ≡ Some newest → Attaches slot newest (Young small.cursor) aged new
+    → small'.newest ≡ Some slot → small'.oldest ≡ small.oldest → small'.len ≡ small.len + 1 → small'.cursor ≡ moved_on (length old.places) small.cursor
+    → Admits slot old small new small'
+  Admits-attached new small' newest b absent w h a n d c r =
+      let k = linked_still old mid aged (small_slots old small) small.cursor slot m.queue.linked o e in
+      let s = sym h ∙ m.queue.starts in
+      Admits-from slot old small mid aged new small' m b absent w o e
+        (Inserts-before aged new (small_slots old small) slot (Young small.cursor) newest k s absent (rw slots_aged b) a)
+        n (d ∙ m.ends ∙ last_behind (small_slots old small) slot newest s) c r
+
+  pub Admits-alone : (new : LinkState) (small' : Small) → slot < length old.slots → has slot (small_slots old small) ≡ false → 0 < length old.places
+    → small.newest ≡ None → new ≡ accessed (with_record slot (record { previous = slot; next = slot; standing = Young small.cursor }) aged)
+    → small'.newest ≡ Some slot → small'.oldest ≡ Some slot → small'.len ≡ small.len + 1 → small'.cursor ≡ moved_on (length old.places) small.cursor
+    → Admits slot old small new small'
+  Admits-alone new small' b absent w h a n d c r =
+      let s = sym h ∙ m.queue.starts in
+      Admits-from slot old small mid aged new small' m b absent w o e
+        (Inserts-first aged new (small_slots old small) slot (Young small.cursor) s (rw slots_aged b) a)
+        n (d ∙ last_alone (small_slots old small) slot s) c r
+
+-- the next count of slots fits
+pub count_fits : (l : LinkState) (small : Small) (slot : ℕ) → IsSmallQueue l small → has slot (small_slots l small) ≡ false → slot < length l.slots → small.len + 1 < 2 ^ 64
+count_fits l small slot m absent b =
+    let r = room l (small_slots l small) slot m.queue.linked absent b in
+    let n = m.queue.counted in
+    let k = m.queue.countable in
+    omega arith

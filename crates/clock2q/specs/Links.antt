@@ -90,6 +90,12 @@ pub record IsSameBut (slots : List ℕ) (old new : LinkState) : Type 0 where
   pub others : (t : ℕ) → has t slots ≡ false → slot_at new t ≡ slot_at old t
   pub as_many : length new.slots ≡ length old.slots
 
+-- no place is taken, and there are no more slots and places than their numbers can tell
+pub record IsBlank (l : LinkState) : Type 0 where
+  pub free : (place : ℕ) → place_at l place ≡ None
+  pub countable : length l.slots < 2 ^ 64
+  pub countable_places : length l.places < 2 ^ 32
+
 -- there are as many slots as before, and the places and the hand's looks are as they were
 pub record IsSameElsewhere (old new : LinkState) : Type 0 where
   pub as_many : length new.slots ≡ length old.slots

@@ -9,6 +9,10 @@ use Rattle.clock2q.specs.declared.links.Standing.{Standing}
 use Rattle.clock2q.specs.declared.links.Standing.TheVariants.{Free, Young, Old, Main}
 use Rattle.clock2q.specs.declared.small.Small.{Small}
 
+-- where the cursor goes from a place: to the next one, and from the last to the first
+abbrev pub moved_on : ℕ → ℕ → ℕ
+moved_on window cursor = if nat_lt (cursor + 1) window then cursor + 1 else 0
+
 -- how many admissions the cursor made since it stood on a place: each moved it on by one
 abbrev pub admissions_since : ℕ → ℕ → ℕ → ℕ
 admissions_since window cursor place = if nat_lt place cursor then cursor - 1 - place else cursor + window - 1 - place

@@ -2,7 +2,7 @@
 ghost use Rattle.std.specs.Prelude.{◌≡◌, ◌+◌, ◌^◌, ◌<◌, ◌≤◌, ◌==◌, false, true, not, [], ◌∷◌, length, None};
 ghost use Rattle.std.specs.List.{filter, last_or};
 ghost use Rattle.clock2q.specs.Rings.{has};
-ghost use Rattle.clock2q.specs.Links.{LinkState, IsSameBut, standing_at, place_at};
+ghost use Rattle.clock2q.specs.Links.{LinkState, IsBlank, IsSameBut, standing_at};
 
 use crate::links::{Links, Record, Standing};
 use std::alloc::Allocator;
@@ -18,11 +18,12 @@ pub struct Small {
 }
 
 impl Small {
-    ghost use Rattle.clock2q.specs.Small.{IsSmallQueue, GrowsOld, small_slots, small_entries, admitted};
+    ghost use Rattle.clock2q.specs.Small.{IsSmallQueue, GrowsOld, small_slots, small_entries, moved_on, admitted};
 
     /// A queue with no slot.
     pub fn new() -> Self
         ensures empty { (l : LinkState) → small_entries l result ≡ [] }
+        ensures whole { (l : LinkState) → IsBlank l → IsSmallQueue l result }
     {
         Small {
             newest: None,
@@ -57,5 +58,43 @@ impl Small {
             links.set_standing(slot, Standing::Old);
             links.set_bit(slot, false);
         }
+    }
+
+    // The place after the cursor's.
+    fn next_place(&self, window: usize) -> usize
+        requires { self.now.cursor < window }
+        ensures { result ≡ moved_on window self.now.cursor }
+    {
+        if self.cursor + 1 < window { self.cursor + 1 } else { 0 }
+    }
+
+    /// Admits a slot: it stands in front, young, and all other young ones grow older.
+    pub fn push<A: Allocator>(&mut self, links: &mut Links<A>, slot: usize)
+        requires whole { IsSmallQueue links.old self.old }
+        requires slot_in { slot < length links.old.slots }
+        requires absent { has slot (small_slots links.old self.old) ≡ false }
+        requires window { 0 < length links.old.places }
+        ensures whole { IsSmallQueue links.new self.new }
+        ensures entries { small_entries links.new self.new
+            ≡ admitted (length links.old.places) slot (small_entries links.old self.old) }
+        ensures others { IsSameBut (slot ∷ small_slots links.old self.old) links.old links.new }
+        ensures window { length links.new.places ≡ length links.old.places }
+        ensures looks { links.new.inspections ≡ links.old.inspections }
+        ensures accesses { links.new.accesses ≤ links.old.accesses + 12 }
+    {
+        self.free_place(links);
+        links.set_place(self.cursor, Some(slot));
+        let standing = Standing::Young(self.cursor as u32);
+        match self.newest {
+            None => {
+                let alone = Record { previous: slot, next: slot, standing };
+                links.write(slot, alone);
+                self.oldest = Some(slot);
+            }
+            Some(newest) => links.attach(slot, newest, standing),
+        }
+        self.newest = Some(slot);
+        self.cursor = self.next_place(links.window());
+        self.len += 1;
     }
 }
