@@ -1,4 +1,5 @@
 pub mod Hand
+pub mod Leaving
 pub mod Main
 pub mod Queues
 pub mod Rings

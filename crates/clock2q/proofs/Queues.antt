@@ -5,12 +5,13 @@ use Rattle.std.specs.Option.{option_eq}
 use Rattle.std.specs.List.{filter, list_any, AllByRecursion, IsDistinct, last_or}
 use Rattle.std.proofs.lemmas.Bool.{eqb-true, eq-eqb, lt-ltb, both_ways, cases_Bool, or_cases}
 use Rattle.std.proofs.lemmas.List.{append-nil, append_assoc, length-append, length-set, map-append}
+use Rattle.std.proofs.lemmas.List.Elements.{filter-append}
 use Rattle.std.proofs.lemmas.Map.Steps.{length-le_from_distinct_below}
 use Rattle.clock2q.specs.declared.links.Record.{Record}
 use Rattle.clock2q.specs.declared.links.Standing.{Standing}
 use Rattle.clock2q.specs.Rings.{has, without, AllApart, AllBelow, Joins, IsRing, around}
 use Rattle.clock2q.specs.Links.{LinkState, IsLinked, IsQueue, IsSameBut, IsSameElsewhere, Attaches, Detaches, slots_from, slot_at, record_at, next_at, previous_at, standing_at, bit_at, accessed, with_record, with_bit, vacant}
-use Rattle.clock2q.proofs.Rings.{eqb_self, eqb_swap, or_left, or_right, or_parts, or_neither, has-append, has_first, has_later, differs, AllApart-append, AllApart-left, AllApart-right, apart_from, AllApart-turned, AllBelow-append, AllBelow-left, AllBelow-right, below_of, parted, IsRing-kept, IsRing-put, IsRing-taken, IsRing-turned, before_end, around-ring, without-parted}
+use Rattle.clock2q.proofs.Rings.{eqb_self, eqb_swap, or_left, or_right, or_parts, or_neither, has-append, has_first, has_later, differs, AllApart-append, AllApart-left, AllApart-right, apart_from, AllApart-turned, AllBelow-append, AllBelow-left, AllBelow-right, below_of, parted, IsRing-kept, IsRing-put, IsRing-taken, IsRing-turned, before_end, Joins_parts, around-ring, without-parted}
 use Rattle.clock2q.proofs.Slots.{changed, kept}
 
 -- Slots
@@ -296,3 +297,63 @@ not_first (Some s) slot e h = let q : s ≡ slot = cc in both_ways (eqb s slot) 
 pub first_gone : (l : LinkState) (first : Option ℕ) (count : ℕ) (ss : List ℕ) (slot : ℕ) → IsQueue l first count ss → first ≡ Some slot
   → then_some (ltb 0 (count - 1)) (next_at l slot) ≡ slice_get (without slot ss) 0
 first_gone l first count ss slot q e = first_after l count ss slot (subst (λ z. IsQueue l z count ss) e q)
+
+-- The last slot
+
+split_last : (ss : List ℕ) (s x : ℕ) → last_or None (s ∷ ss) ≡ Some x → (xs : List ℕ) × (s ∷ ss ≡ xs ++ x ∷ [])
+split_last [] s x e = let q : s ≡ x = cc in ([], ap (λ z. z ∷ []) q)
+split_last (t ∷ ss) s x e = let p = split_last ss t x e in (s ∷ p.0, ap (λ zs. s ∷ zs) p.1)
+
+last_before : (next previous : ℕ → ℕ) (from : ℕ) (ss : List ℕ) (to : ℕ) → Joins next previous from ss to → last_or None (from ∷ ss) ≡ Some (previous to)
+last_before next previous from [] to j = ap (λ z. Some z) (sym j.1)
+last_before next previous from (s ∷ ss) to j = last_before next previous s ss to j.2
+
+last_or-push : (o : Option ℕ) (xs : List ℕ) (x : ℕ) → last_or o (xs ++ x ∷ []) ≡ Some x
+last_or-push o [] x = refl
+last_or-push o (y ∷ xs) x = last_or-push (Some y) xs x
+
+last_of_front : (l : LinkState) (xs : List ℕ) (slot : ℕ) → IsRing (next_at l) (previous_at l) (xs ++ slot ∷ [])
+  → then_some (ltb 0 (length xs + 1 - 1)) (previous_at l slot) ≡ last_or None xs
+last_of_front l [] slot r = refl
+last_of_front l (x ∷ xs) slot r =
+    let b : ltb 0 (length (x ∷ xs) + 1 - 1) ≡ true = lt-ltb 0 (length (x ∷ xs) + 1 - 1) (omega arith) in
+    rw b (sym (last_before (next_at l) (previous_at l) x xs slot (Joins_parts (next_at l) (previous_at l) x xs slot [] x r).0))
+
+-- the last one of a queue went: the one before it is last, if there is one
+pub last_gone : (l : LinkState) (count : ℕ) (ss : List ℕ) (slot : ℕ) → IsLinked l ss → count ≡ length ss → last_or None ss ≡ Some slot
+  → then_some (ltb 0 (count - 1)) (previous_at l slot) ≡ last_or None (without slot ss)
+last_gone l count [] slot k n e = absurd (cc)
+last_gone l count (s ∷ ss) slot k n e =
+    let p = split_last ss s slot e in
+    let xs = p.0 in
+    let k' : IsLinked l (xs ++ slot ∷ []) = subst (λ z. IsLinked l z) p.1 k in
+    let w : without slot (s ∷ ss) ≡ xs = ap (λ z. without slot z) p.1 ∙ without-parted xs slot [] k'.apart ∙ append-nil xs in
+    let m : count ≡ length xs + 1 = n ∙ ap (λ (z : List ℕ). length z) p.1 ∙ length-append xs (slot ∷ []) in
+    ap (λ z. then_some (ltb 0 (z - 1)) (previous_at l slot)) m ∙ last_of_front l xs slot k'.ring ∙ ap (λ z. last_or None z) (sym w)
+
+last_some : (ss : List ℕ) (s : ℕ) → (x : ℕ) × (last_or None (s ∷ ss) ≡ Some x)
+last_some [] s = (s, refl)
+last_some (t ∷ ss) s = last_some ss t
+
+-- another one went: the last one stays
+pub last_stays : (ss : List ℕ) (slot : ℕ) → last_or None ss ≢ Some slot → last_or None ss ≡ last_or None (without slot ss)
+last_stays [] slot d = refl
+last_stays (s ∷ ss) slot d =
+    let x = last_some ss s in
+    let p = split_last ss s x.0 x.1 in
+    let e : eqb x.0 slot ≡ false = elim (cases_Bool (eqb x.0 slot)) [ inl h ↦ absurd (d (x.1 ∙ ap (λ z. Some z) (eqb-true x.0 slot h))) | inr h ↦ h ] in
+    let w : without slot (x.0 ∷ []) ≡ x.0 ∷ [] = rw e refl in
+    x.1 ∙ sym (ap (λ z. last_or None (without slot z)) p.1
+      ∙ ap (λ z. last_or None z) (filter-append (λ t. not (eqb t slot)) p.0 (x.0 ∷ []))
+      ∙ ap (λ z. last_or None (without slot p.0 ++ z)) w ∙ last_or-push None (without slot p.0) x.0)
+
+pub has-without-back : (t slot : ℕ) (ss : List ℕ) → has t ss ≡ true → eqb t slot ≡ false → has t (without slot ss) ≡ true
+has-without-back t slot [] h d = h
+has-without-back t slot (s ∷ ss) h d = elim (or_cases (eqb t s) (has t ss) h) [
+    inl e ↦
+      let q : t ≡ s = eqb-true t s e in
+      let n : eqb s slot ≡ false = subst (λ z. eqb z slot ≡ false) q d in
+      rw n (or_left (eqb t s) (has t (without slot ss)) e)
+  | inr g ↦ elim (cases_Bool (eqb s slot)) [
+      inl e ↦ rw e (has-without-back t slot ss g d)
+    | inr e ↦ rw e (or_right (eqb t s) (has t (without slot ss)) (has-without-back t slot ss g d)) ] ]

@@ -1,3 +1,4 @@
+pub mod Ends
 pub mod Entries
 pub mod Links
 pub mod MainRing

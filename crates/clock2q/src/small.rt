@@ -1,7 +1,8 @@
 //! Small: the queue of the newest residents, of which the last admitted ones are young.
-ghost use Rattle.std.specs.Prelude.{◌≡◌, ◌+◌, ◌^◌, ◌<◌, ◌≤◌, ◌==◌, false, true, not, [], ◌∷◌, length, None};
+ghost use Rattle.std.specs.Prelude.{◌≡◌, ℕ, ◌+◌, ◌^◌, ◌<◌, ◌≤◌, ◌==◌, false, true, not, [], ◌∷◌, length, None};
 ghost use Rattle.std.specs.List.{filter, last_or};
 ghost use Rattle.clock2q.specs.Rings.{has};
+ghost use Rattle.clock2q.specs.Ends.{end_after, place_freed};
 ghost use Rattle.clock2q.specs.Links.{LinkState, IsBlank, IsSameBut, standing_at};
 
 use crate::links::{Links, Record, Standing};
@@ -97,4 +98,50 @@ impl Small {
         self.cursor = self.next_place(links.window());
         self.len += 1;
     }
+
+    /// Takes a slot out. If it was young, its place is free.
+    pub fn unlink<A: Allocator>(&mut self, links: &mut Links<A>, slot: usize)
+        requires whole { IsSmallQueue links.old self.old }
+        requires present { has slot (small_slots links.old self.old) ≡ true }
+        ensures whole { IsSmallQueue links.new self.new }
+        ensures entries { small_entries links.new self.new
+            ≡ filter (λ e. not (e.0 == slot)) (small_entries links.old self.old) }
+        ensures freed { standing_at links.new slot ≡ Standing.Free }
+        ensures others { IsSameBut (small_slots links.old self.old) links.old links.new }
+        ensures window { length links.new.places ≡ length links.old.places }
+        ensures looks { links.new.inspections ≡ links.old.inspections }
+        ensures accesses { links.new.accesses ≤ links.old.accesses + 12 }
+    {
+        let was = links.detach(slot);
+        leave_place(links, was.standing);
+        self.len -= 1;
+        self.newest = end_after(self.newest, slot, self.len, was.next);
+        self.oldest = end_after(self.oldest, slot, self.len, was.previous);
+    }
+
+    /// Leaves no slot in the queue. The records and the places are reset by the links.
+    pub fn clear(&mut self)
+        ensures empty { (l : LinkState) → small_entries l self.new ≡ [] }
+        ensures whole { (l : LinkState) → IsBlank l → IsSmallQueue l self.new }
+    {
+        *self = Small::new();
+    }
+}
+
+// Empties the place of a slot that was young.
+fn leave_place<A: Allocator>(links: &mut Links<A>, standing: Standing)
+    requires { (place : ℕ) → standing ≡ Standing.Young place → place < length links.old.places }
+    ensures { links.new ≡ place_freed standing links.old }
+{
+    if let Standing::Young(place) = standing {
+        links.set_place(place as usize, None);
+    }
+}
+
+// An end of the queue after a slot left it: where the slot stood there, its neighbour, if there
+// is another slot.
+fn end_after(end: Option<usize>, slot: usize, others: usize, neighbour: usize) -> Option<usize>
+    ensures { result ≡ end_after end slot others neighbour }
+{
+    if end == Some(slot) { (others > 0).then_some(neighbour) } else { end }
 }
