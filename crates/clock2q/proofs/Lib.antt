@@ -2,6 +2,7 @@ pub mod Hand
 pub mod Leaving
 pub mod Main
 pub mod Queues
+pub mod Resetting
 pub mod Rings
 pub mod Slots
 pub mod Window

@@ -1,7 +1,7 @@
 //! What Small and Main share: the link records and the hit bits by slot number, and the places of
 //! Small's window.
 ghost use Rattle.std.specs.Prelude.{◌≡◌, ℕ, ◌+◌, ◌<◌, length, slice_index_or, slice_set, IfOk, replicate, Option, Some, None, false, true};
-ghost use Rattle.clock2q.specs.Links.{LinkState, Attaches, Detaches, fresh, record_at, next_at, previous_at, bit_at, place_at, accessed, inspected, with_record, with_next, with_previous, with_standing, with_bit, with_place};
+ghost use Rattle.clock2q.specs.Links.{LinkState, vacant, Attaches, Detaches, fresh, record_at, next_at, previous_at, bit_at, place_at, accessed, inspected, with_record, with_next, with_previous, with_standing, with_bit, with_place};
 
 use crate::count::Count;
 use std::alloc::{AllocError, Allocator, Global};
@@ -77,6 +77,13 @@ impl<A: Allocator> Links<A> {
             accesses: Count::new(),
             inspections: Count::new(),
         })
+    }
+
+    /// How many slots there are.
+    pub fn len(&self) -> usize
+        ensures { result ≡ length self.now.slots }
+    {
+        self.records.len()
     }
 
     /// How many places the window has.
@@ -203,5 +210,40 @@ impl<A: Allocator> Links<A> {
         self.set_previous(was.next, was.previous);
         self.write(slot, VACANT);
         was
+    }
+
+    /// Sets every record, bit and place back to what a constructor makes.
+    pub fn reset(&mut self)
+        ensures slots { self.new.slots ≡ replicate (length self.old.slots) (vacant, false) }
+        ensures places { self.new.places ≡ replicate (length self.old.places) None }
+        ensures looks { self.new.inspections ≡ self.old.inspections }
+        ensures accesses { self.new.accesses
+            ≡ self.old.accesses + length self.old.slots + length self.old.places }
+    {
+        self.reset_slots();
+        self.reset_places();
+    }
+
+    fn reset_slots(&mut self)
+        ensures slots { self.new.slots ≡ replicate (length self.old.slots) (vacant, false) }
+        ensures places { self.new.places ≡ self.old.places }
+        ensures looks { self.new.inspections ≡ self.old.inspections }
+        ensures accesses { self.new.accesses ≡ self.old.accesses + length self.old.slots }
+    {
+        for slot in 0..self.len() {
+            self.write(slot, VACANT);
+            self.set_bit(slot, false);
+        }
+    }
+
+    fn reset_places(&mut self)
+        ensures slots { self.new.slots ≡ self.old.slots }
+        ensures places { self.new.places ≡ replicate (length self.old.places) None }
+        ensures looks { self.new.inspections ≡ self.old.inspections }
+        ensures accesses { self.new.accesses ≡ self.old.accesses + length self.old.places }
+    {
+        for place in 0..self.window() {
+            self.set_place(place, None);
+        }
     }
 }
