@@ -1,3 +1,7 @@
+mod Residents
+mod WorkedRuns
+mod Kept
+mod Placed
 pub mod Hand
 pub mod Leaving
 pub mod Main

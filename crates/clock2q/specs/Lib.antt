@@ -1,5 +1,14 @@
-pub mod Ends
+pub mod Shares
 pub mod Entries
+pub mod Machine
+pub mod Calls
+pub mod Steps
+pub mod Commands
+pub mod Entry
+pub mod Cache
+pub mod CacheFields
+pub mod CacheLends
+pub mod Ends
 pub mod Links
 pub mod MainRing
 pub mod Rings

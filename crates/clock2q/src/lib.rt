@@ -1,6 +1,8 @@
 //! A fixed-capacity key-value cache with Clock2Q+ replacement, and what it stands on.
 #![tactic(auto)]
 
+pub mod cache;
+pub mod command;
 mod count;
 mod links;
 mod main_ring;
