@@ -11,7 +11,7 @@ use Rattle.clock2q.specs.Rings.{has, IsRing}
 use Rattle.clock2q.specs.Links.{LinkState, IsLinked, IsQueue, IsSameBut, slot_at, record_at, next_at, previous_at, standing_at, bit_at, accessed, inspected, with_bit}
 use Rattle.clock2q.specs.MainRing.{IsMain, IsMainRing, main_slots, main_entries, passed, inspections, from_victim}
 use Rattle.clock2q.proofs.Rings.{eqb_self, eqb_swap, or_left, or_right, or_parts, or_neither, has-append, has_first, has_later, differs}
-use Rattle.clock2q.proofs.Queues.{map-agree, in_bounds, IsLinked-with_bit, IsLinked-kept, IsLinked-turned, record_at-with_bit, bit_at-with_bit, slot_at-with_bit, length-with_bit}
+use Rattle.clock2q.proofs.Joining.{map-agree, in_bounds, IsLinked-with_bit, IsLinked-kept, IsLinked-turned, record_at-with_bit, bit_at-with_bit, slot_at-with_bit, length-with_bit}
 use Rattle.clock2q.proofs.Main.{main_slots-is, IsMainRing-from}
 
 -- one entry more, whose bit is clear, ends no front that ended before

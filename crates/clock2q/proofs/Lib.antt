@@ -5,8 +5,9 @@ mod Placed
 pub mod Hand
 pub mod Leaving
 pub mod Main
-pub mod Queues
+pub mod Joining
 pub mod Resetting
 pub mod Rings
 pub mod Slots
 pub mod Window
+pub mod Sharing

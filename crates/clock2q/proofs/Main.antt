@@ -9,7 +9,7 @@ use Rattle.clock2q.specs.Rings.{has, without, AllApart}
 use Rattle.clock2q.specs.Links.{LinkState, IsLinked, IsQueue, IsSameBut, Attaches, Detaches, with_record, slots_from, slot_at, record_at, next_at, previous_at, standing_at, bit_at, accessed, inspected, with_bit}
 use Rattle.clock2q.specs.MainRing.{IsMain, IsMainRing, main_slots, main_entries, passed, inspections, from_victim}
 use Rattle.clock2q.proofs.Rings.{eqb_self, eqb_swap, or_left, or_right, or_parts, or_neither, has-append, has_first, has_later, differs}
-use Rattle.clock2q.proofs.Queues.{Inserts, Inserts-before, Inserts-first, previous_in, next_in, in_bounds, Removes-detached, length-without, map-agree, slots_from-is, IsLinked-with_bit, IsLinked-turned, record_at-with_bit, bit_at-with_bit, slot_at-with_bit, length-with_bit, room, filter-entries, has-without}
+use Rattle.clock2q.proofs.Joining.{Inserts, Inserts-before, Inserts-first, previous_in, next_in, in_bounds, Removes-detached, length-without, map-agree, slots_from-is, IsLinked-with_bit, IsLinked-turned, record_at-with_bit, bit_at-with_bit, slot_at-with_bit, length-with_bit, room, filter-entries, has-without}
 
 has_slice_get-first : (ss : List ℕ) (first : ℕ) → Some first ≡ slice_get ss 0 → has first ss ≡ true
 has_slice_get-first [] first e = absurd (cc)

@@ -13,3 +13,4 @@ pub mod Links
 pub mod MainRing
 pub mod Rings
 pub mod Small
+pub mod Queues

@@ -6,4 +6,5 @@ pub mod command;
 mod count;
 mod links;
 mod main_ring;
+mod queues;
 mod small;

@@ -27,7 +27,9 @@ impl MainRing {
     }
 
     /// How many slots there are.
-    pub fn len(&self) -> usize {
+    pub fn len(&self) -> usize
+        ensures { (l : LinkState) → IsMainRing l self.now → result ≡ length (main_slots l self.now) }
+    {
         self.len
     }
 

@@ -1,5 +1,5 @@
 use Rattle.std.proofs.Common.{◌≡◌, Some, sym, ◌∙◌, rules}
-use Rattle.clock2q.proofs.Queues.{in_bounds}
+use Rattle.clock2q.proofs.Joining.{in_bounds}
 use Rattle.clock2q.specs.Links.{place_at}
 use Rattle.clock2q.specs.Small.{small_slots}
 use Rattle.clock2q.proofs.small.Small.free_place.Goals as goal
