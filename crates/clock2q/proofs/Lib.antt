@@ -11,3 +11,4 @@ pub mod Rings
 pub mod Slots
 pub mod Window
 pub mod Sharing
+pub mod Hits

@@ -1,5 +1,5 @@
 -- Main as a list from the hand, and what the hand's choice makes of it.
-use Rattle.std.specs.Prelude.{◌≡◌, ℕ, ◌+◌, Bool, true, false, List, [], ◌∷◌, ◌++◌, map, take, drop}
+use Rattle.std.specs.Prelude.{◌≡◌, ℕ, ◌+◌, Bool, true, false, List, [], ◌∷◌, ◌++◌, map, take, drop, ◌==◌, if◌then◌else◌}
 use Rattle.std.specs.List.{prefix_len}
 use Rattle.clock2q.specs.Rings.{has}
 use Rattle.clock2q.specs.Links.{LinkState, IsQueue, slots_from, standing_at, bit_at}
@@ -34,3 +34,7 @@ inspections main = passed main + 1
 -- what the hand passed goes behind the rest, with clear bits: the victim is then the first entry, and what follows it is what Main becomes
 abbrev pub from_victim : List (ℕ × Bool) → List (ℕ × Bool)
 from_victim main = drop (passed main) main ++ map (λ e. (e.0, false)) (take (passed main) main)
+
+-- after a hit on a slot
+abbrev pub main_hit_at : ℕ → List (ℕ × Bool) → List (ℕ × Bool)
+main_hit_at slot main = map (λ e. if e.0 == slot then (e.0, true) else e) main

@@ -1,7 +1,7 @@
 -- Small and Main over one set of links, as the two lists that they are.
 use Rattle.std.specs.Prelude.{◌≡◌, ℕ, ◌<◌, Bool, true, false, not, ◌&&◌, ◌==◌, if◌then◌else◌, List, [], ◌∷◌, map, length}
 use Rattle.std.specs.List.{filter, list_any}
-use Rattle.clock2q.specs.Entries.{Age, touched}
+use Rattle.clock2q.specs.Entries.{Age}
 use Rattle.clock2q.specs.Rings.{has}
 use Rattle.clock2q.specs.Links.{LinkState, standing_at}
 use Rattle.clock2q.specs.Small.{IsSmallQueue, small_slots, small_entries}
@@ -43,14 +43,6 @@ slots_of entries = map (λ e. e.0) entries
 -- a queue without a slot
 abbrev pub without_slot : {X : Type 0} → ℕ → List (ℕ × X) → List (ℕ × X)
 without_slot slot entries = filter (λ e. not (e.0 == slot)) entries
-
--- Small after a hit on a slot
-abbrev pub small_hit_at : ℕ → List (ℕ × Age) → List (ℕ × Age)
-small_hit_at slot small = map (λ e. if e.0 == slot then (e.0, touched e.1) else e) small
-
--- Main after a hit on a slot
-abbrev pub main_hit_at : ℕ → List (ℕ × Bool) → List (ℕ × Bool)
-main_hit_at slot main = map (λ e. if e.0 == slot then (e.0, true) else e) main
 
 -- whether a hit on a slot sets a bit of Main that was clear
 abbrev pub sets_bit : ℕ → List (ℕ × Bool) → Bool

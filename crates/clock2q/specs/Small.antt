@@ -2,7 +2,7 @@
 use Rattle.std.specs.Prelude.{◌≡◌, ℕ, ◌+◌, ◌-◌, ◌^◌, ◌<◌, Bool, true, false, nat_lt, ◌==◌, if◌then◌else◌, List, [], ◌∷◌, map, length, Option, Some, None}
 use Rattle.std.specs.List.{last_or}
 use Rattle.clock2q.specs.Entries as machine
-use Rattle.clock2q.specs.Entries.{Age, grown}
+use Rattle.clock2q.specs.Entries.{Age, grown, touched}
 use Rattle.clock2q.specs.Rings.{has}
 use Rattle.clock2q.specs.Links.{LinkState, IsQueue, IsSameElsewhere, slots_from, next_at, previous_at, standing_at, bit_at, place_at}
 use Rattle.clock2q.specs.declared.links.Standing.{Standing}
@@ -59,6 +59,10 @@ IsSmallQueue l small = IsSmall l small (small_slots l small)
 -- a new slot stands in front, and all young ones grow older
 abbrev pub admitted : ℕ → ℕ → List (ℕ × Age) → List (ℕ × Age)
 admitted window slot small = (slot, machine.Young 0) ∷ map (λ e. (e.0, grown window e.1)) small
+
+-- after a hit on a slot
+abbrev pub small_hit_at : ℕ → List (ℕ × Age) → List (ℕ × Age)
+small_hit_at slot small = map (λ e. if e.0 == slot then (e.0, touched e.1) else e) small
 
 -- whether it is this slot that is there
 abbrev pub is_there : Option ℕ → ℕ → Bool

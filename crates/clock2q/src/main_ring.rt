@@ -1,8 +1,8 @@
 //! Main: a ring of slots with a hand, which looks for the slot to be given up.
-ghost use Rattle.std.specs.Prelude.{◌≡◌, ◌+◌, ◌^◌, ◌<◌, ◌≤◌, ◌==◌, false, true, not, List, [], ◌∷◌, ◌++◌, length, Some, slice_get};
+ghost use Rattle.std.specs.Prelude.{◌≡◌, ℕ, ◌+◌, ◌^◌, ◌<◌, ◌≤◌, ◌==◌, false, true, not, List, [], ◌∷◌, ◌++◌, length, Some, slice_get};
 ghost use Rattle.clock2q.specs.Rings.{has};
 ghost use Rattle.std.specs.List.{filter};
-ghost use Rattle.clock2q.specs.Links.{LinkState, IsSameBut, standing_at};
+ghost use Rattle.clock2q.specs.Links.{LinkState, IsSameBut, standing_at, bit_at};
 
 use crate::links::{Links, Record, Standing};
 use std::alloc::Allocator;
@@ -16,7 +16,7 @@ pub struct MainRing {
 }
 
 impl MainRing {
-    ghost use Rattle.clock2q.specs.MainRing.{IsMainRing, main_slots, main_entries, inspections, from_victim};
+    ghost use Rattle.clock2q.specs.MainRing.{IsMainRing, main_slots, main_entries, inspections, from_victim, main_hit_at};
 
     /// A ring with no slot.
     pub fn new() -> Self
@@ -75,6 +75,24 @@ impl MainRing {
         if self.hand == Some(slot) {
             self.hand = (self.len > 0).then_some(was.next);
         }
+    }
+
+    /// Records a hit: sets the slot's bit, and tells whether it was clear.
+    pub fn hit<A: Allocator>(&self, links: &mut Links<A>, slot: usize) -> bool
+        requires whole { IsMainRing links.old self.now }
+        requires present { has slot (main_slots links.old self.now) ≡ true }
+        ensures value { result ≡ not (bit_at links.old slot) }
+        ensures whole { IsMainRing links.new self.now }
+        ensures entries { main_entries links.new self.now ≡ main_hit_at slot (main_entries links.old self.now) }
+        ensures others { IsSameBut (slot ∷ []) links.old links.new }
+        ensures standings { (t : ℕ) → standing_at links.new t ≡ standing_at links.old t }
+        ensures places { links.new.places ≡ links.old.places }
+        ensures looks { links.new.inspections ≡ links.old.inspections }
+        ensures accesses { links.new.accesses ≡ links.old.accesses }
+    {
+        let was_set = links.bit(slot);
+        links.set_bit(slot, true);
+        !was_set
     }
 
     /// Moves the hand on to the slot to be given up: it passes each entry whose bit is set, and

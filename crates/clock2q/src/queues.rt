@@ -2,9 +2,9 @@
 ghost use Rattle.std.specs.Prelude.{◌≡◌, ℕ, ◌+◌, ◌<◌, ◌≤◌, false, true, not, [], ◌∷◌, ◌++◌, length, slice_get, None, Some, IfOk};
 ghost use Rattle.std.specs.List.{last_or};
 ghost use Rattle.clock2q.specs.Rings.{has};
-ghost use Rattle.clock2q.specs.Small.{admitted};
-ghost use Rattle.clock2q.specs.MainRing.{inspections, from_victim};
-ghost use Rattle.clock2q.specs.Queues.{slots_of, without_slot, IsStanding, small_hit_at, main_hit_at, sets_bit};
+ghost use Rattle.clock2q.specs.Small.{admitted, small_hit_at};
+ghost use Rattle.clock2q.specs.MainRing.{inspections, from_victim, main_hit_at};
+ghost use Rattle.clock2q.specs.Queues.{slots_of, without_slot, IsStanding, sets_bit};
 
 use crate::links::{Links, Standing};
 use crate::main_ring::MainRing;

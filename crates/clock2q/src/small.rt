@@ -19,7 +19,7 @@ pub struct Small {
 }
 
 impl Small {
-    ghost use Rattle.clock2q.specs.Small.{IsSmallQueue, GrowsOld, small_slots, small_entries, moved_on, admitted};
+    ghost use Rattle.clock2q.specs.Small.{IsSmallQueue, GrowsOld, small_slots, small_entries, small_hit_at, moved_on, admitted};
 
     /// A queue with no slot.
     pub fn new() -> Self
@@ -117,6 +117,23 @@ impl Small {
         self.len -= 1;
         self.newest = end_after(self.newest, slot, self.len, was.next);
         self.oldest = end_after(self.oldest, slot, self.len, was.previous);
+    }
+
+    /// Records a hit: sets the slot's bit, if it is old.
+    pub fn hit<A: Allocator>(&self, links: &mut Links<A>, slot: usize)
+        requires whole { IsSmallQueue links.old self.now }
+        requires present { has slot (small_slots links.old self.now) ≡ true }
+        ensures whole { IsSmallQueue links.new self.now }
+        ensures entries { small_entries links.new self.now ≡ small_hit_at slot (small_entries links.old self.now) }
+        ensures others { IsSameBut (slot ∷ []) links.old links.new }
+        ensures standings { (t : ℕ) → standing_at links.new t ≡ standing_at links.old t }
+        ensures places { links.new.places ≡ links.old.places }
+        ensures looks { links.new.inspections ≡ links.old.inspections }
+        ensures accesses { links.new.accesses ≡ links.old.accesses + 1 }
+    {
+        if let Standing::Old = links.read(slot).standing {
+            links.set_bit(slot, true);
+        }
     }
 
     /// Leaves no slot in the queue. The records and the places are reset by the links.
