@@ -1,9 +1,9 @@
 -- Small and Main share the links: what changes one of them leaves the other.
 use Rattle.std.proofs.Common.{◌≡◌, ℕ, zero, suc, ◌+◌, ◌^◌, ◌<◌, ◌≤◌, ◌≢◌, ◌⊎◌, Bool, true, false, not, cond, ◌||◌, eqb, Option, Some, None, List, [], ◌∷◌, ◌++◌, length, map, take, drop, get_or, replicate, inl, inr, refl, sym, ap, ◌∙◌, subst, arith}
 use Rattle.std.specs.List.{filter}
-use Rattle.std.proofs.lemmas.Bool.{eqb-true, both_ways, cases_Bool}
+use Rattle.std.proofs.lemmas.Bool.{eqb-true, both_ways, cases_Bool, or_cases}
 use Rattle.std.proofs.lemmas.List.{map-append, length-replicate, take-append-drop}
-use Rattle.clock2q.specs.Entries.{Age, grown}
+use Rattle.clock2q.specs.Entries.{Age, grown, touched}
 use Rattle.clock2q.specs.declared.links.Record.{Record}
 use Rattle.clock2q.specs.declared.links.Standing.{Standing}
 use Rattle.clock2q.specs.declared.links.Standing.TheVariants.{Free, Young, Old, Main}
@@ -11,9 +11,9 @@ use Rattle.clock2q.specs.declared.main_ring.MainRing.{MainRing}
 use Rattle.clock2q.specs.declared.small.Small.{Small}
 use Rattle.clock2q.specs.Rings.{has, without}
 use Rattle.clock2q.specs.Links.{LinkState, IsBlank, vacant, IsLinked, IsQueue, IsSameBut, slot_at, record_at, standing_at, bit_at, place_at, accessed}
-use Rattle.clock2q.specs.MainRing.{IsMain, IsMainRing, main_slots, main_entries, passed, from_victim}
-use Rattle.clock2q.specs.Small.{IsSmall, IsSmallQueue, IsInSmall, small_slots, small_entries, age_of, age_at, admitted}
-use Rattle.clock2q.specs.Queues.{AreQueues, QueueState, IsStanding, slots_of, without_slot, queues_shown}
+use Rattle.clock2q.specs.MainRing.{IsMain, IsMainRing, main_slots, main_entries, passed, from_victim, main_hit_at}
+use Rattle.clock2q.specs.Small.{IsSmall, IsSmallQueue, IsInSmall, small_slots, small_entries, age_of, age_at, admitted, small_hit_at}
+use Rattle.clock2q.specs.Queues.{AreQueues, QueueState, IsStanding, slots_of, without_slot, sets_bit, queues_shown}
 use Rattle.clock2q.proofs.Rings.{eqb_swap, or_parts, or_neither, has-append, differs}
 use Rattle.clock2q.proofs.Joining.{IsLinked-kept, map-agree, has-without-back}
 use Rattle.clock2q.proofs.Main.{main_slots-is, IsMainRing-from}
@@ -323,3 +323,63 @@ without_slot-absent slot (e ∷ es) h =
 pub main_absent : (standing : Standing) (slot : ℕ) (q : QueueState) → IsStanding standing slot q → ((place : ℕ) × (standing ≡ Young place)) ⊎ (standing ≡ Old) → has slot (slots_of q.main) ≡ false
 main_absent standing slot q i (inl y) = (subst (λ z. IsStanding z slot q) y.1 i).1
 main_absent standing slot q i (inr o) = (subst (λ z. IsStanding z slot q) o i).1
+
+-- Hits
+
+-- a slot that isn't in a queue is not hit there
+pub small_hit_at-absent : (slot : ℕ) (es : List (ℕ × Age)) → has slot (slots_of es) ≡ false → es ≡ small_hit_at slot es
+small_hit_at-absent slot [] h = refl
+small_hit_at-absent slot (e ∷ es) h =
+    let d : eqb e.0 slot ≡ false = eqb_swap slot e.0 (or_parts (eqb slot e.0) (has slot (slots_of es)) h).0 in
+    rw d (ap (λ zs. e ∷ zs) (small_hit_at-absent slot es (or_parts (eqb slot e.0) (has slot (slots_of es)) h).1))
+
+pub main_hit_at-absent : (slot : ℕ) (es : List (ℕ × Bool)) → has slot (slots_of es) ≡ false → es ≡ main_hit_at slot es
+main_hit_at-absent slot [] h = refl
+main_hit_at-absent slot (e ∷ es) h =
+    let d : eqb e.0 slot ≡ false = eqb_swap slot e.0 (or_parts (eqb slot e.0) (has slot (slots_of es)) h).0 in
+    rw d (ap (λ zs. e ∷ zs) (main_hit_at-absent slot es (or_parts (eqb slot e.0) (has slot (slots_of es)) h).1))
+
+pub sets_bit-absent : (slot : ℕ) (es : List (ℕ × Bool)) → has slot (slots_of es) ≡ false → false ≡ sets_bit slot es
+sets_bit-absent slot [] h = refl
+sets_bit-absent slot (e ∷ es) h =
+    let d : eqb e.0 slot ≡ false = eqb_swap slot e.0 (or_parts (eqb slot e.0) (has slot (slots_of es)) h).0 in
+    rw d (sets_bit-absent slot es (or_parts (eqb slot e.0) (has slot (slots_of es)) h).1)
+
+sets_no_bit : (slot : ℕ) (f : ℕ → Bool) (ss : List ℕ) → f slot ≡ true → sets_bit slot (map (λ s. (s, f s)) ss) ≡ false
+sets_no_bit slot f [] h = refl
+sets_no_bit slot f (s ∷ ss) h = elim (cases_Bool (eqb s slot)) [
+    inl e ↦ let b : f s ≡ true = ap f (eqb-true s slot e) ∙ h in rw (e, b) (sets_no_bit slot f ss h)
+  | inr e ↦ rw e (sets_no_bit slot f ss h) ]
+
+sets_its_bit : (slot : ℕ) (f : ℕ → Bool) (ss : List ℕ) → f slot ≡ false → has slot ss ≡ true → sets_bit slot (map (λ s. (s, f s)) ss) ≡ true
+sets_its_bit slot f [] h p = absurd (both_ways false refl p)
+sets_its_bit slot f (s ∷ ss) h p = elim (cases_Bool (eqb s slot)) [
+    inl e ↦ let b : f s ≡ false = ap f (eqb-true s slot e) ∙ h in rw (e, b) refl
+  | inr e ↦ rw e (sets_its_bit slot f ss h (elim (or_cases (eqb slot s) (has slot ss) p) [ inl z ↦ absurd (both_ways (eqb slot s) (eqb_swap s slot e) z) | inr z ↦ z ])) ]
+
+pub sets_bit-entries : (l : LinkState) (main : MainRing) (slot : ℕ) → has slot (main_slots l main) ≡ true → sets_bit slot (main_entries l main) ≡ not (bit_at l slot)
+sets_bit-entries l main slot h = elim (cases_Bool (bit_at l slot)) [
+    inl e ↦ sets_no_bit slot (λ s. bit_at l s) (main_slots l main) e ∙ rw e refl
+  | inr e ↦ sets_its_bit slot (λ s. bit_at l s) (main_slots l main) e h ∙ rw e refl ]
+
+slots_of-hit : {X : Type 0} (h : X → X) (slot : ℕ) (es : List (ℕ × X)) → slots_of (map {B = ℕ × X} (λ (e : ℕ × X). cond (eqb e.0 slot) (e.0, h e.1) e) es) ≡ slots_of es
+slots_of-hit h slot [] = refl
+slots_of-hit h slot (e ∷ es) = elim (cases_Bool (eqb e.0 slot)) [
+    inl q ↦ rw q (ap (λ zs. e.0 ∷ zs) (slots_of-hit h slot es))
+  | inr q ↦ rw q (ap (λ zs. e.0 ∷ zs) (slots_of-hit h slot es)) ]
+
+pub after_small_hit : (l new : LinkState) (small : Small) (main : MainRing) (slot : ℕ) → AreQueues l small main → has slot (small_slots l small) ≡ true → IsSmallQueue new small
+  → small_entries new small ≡ small_hit_at slot (small_entries l small) → IsSameBut (slot ∷ []) l new → ((t : ℕ) → standing_at new t ≡ standing_at l t)
+  → AreQueues new small main × (main_entries new main ≡ main_entries l main)
+after_small_hit l new small main slot q h w e s f =
+    let k = KeepsMain-from l main new (slot ∷ []) q.main s (λ t g. or_neither (eqb t slot) false (differs t slot (main_slots l main) g (small_apart l small main q.small q.main slot h)) refl) in
+    let slots : small_slots new small ≡ small_slots l small = sym (small_slots-of new small) ∙ ap (λ (z : List (ℕ × Age)). slots_of z) e ∙ slots_of-hit touched slot (small_entries l small) ∙ small_slots-of l small in
+    (record { small = w; main = k.whole; elsewhere = λ t a b. f t ∙ q.elsewhere t (subst (λ z. has t z ≡ false) slots a) (subst (λ z. has t z ≡ false) k.slots b) }, k.entries)
+
+pub after_main_hit : (l new : LinkState) (small : Small) (main : MainRing) (slot : ℕ) → AreQueues l small main → has slot (main_slots l main) ≡ true → IsMainRing new main
+  → main_entries new main ≡ main_hit_at slot (main_entries l main) → IsSameBut (slot ∷ []) l new → ((t : ℕ) → standing_at new t ≡ standing_at l t) → new.places ≡ l.places
+  → AreQueues new small main × (small_entries new small ≡ small_entries l small)
+after_main_hit l new small main slot q h w e s f p =
+    let k = KeepsSmall-from l small new (slot ∷ []) q.small s p (λ t g. or_neither (eqb t slot) false (differs t slot (small_slots l small) g (main_apart l small main q.small q.main slot h)) refl) in
+    let slots : main_slots new main ≡ main_slots l main = sym (main_slots-of new main) ∙ ap (λ (z : List (ℕ × Bool)). slots_of z) e ∙ slots_of-hit (λ b. true) slot (main_entries l main) ∙ main_slots-of l main in
+    (record { small = k.whole; main = w; elsewhere = λ t a b. f t ∙ q.elsewhere t (subst (λ z. has t z ≡ false) k.slots a) (subst (λ z. has t z ≡ false) slots b) }, k.entries)

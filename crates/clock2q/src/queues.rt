@@ -172,6 +172,54 @@ impl<A: Allocator> Queues<A> {
         }
     }
 
+    // Records a hit on a slot of Small.
+    fn hit_small(&mut self, slot: usize)
+        requires { has slot (slots_of self.old.small) ≡ true }
+        ensures small { self.new.small ≡ small_hit_at slot self.old.small }
+        ensures main { self.new.main ≡ self.old.main }
+        ensures slots { self.new.slots ≡ self.old.slots }
+        ensures window { self.new.window ≡ self.old.window }
+        ensures looks { self.new.inspections ≡ self.old.inspections }
+        ensures accesses { self.new.accesses ≡ self.old.accesses + 1 }
+    {
+        self.small.hit(&mut self.links, slot);
+    }
+
+    // Records a hit on a slot of Main, and tells whether its bit was clear.
+    fn hit_main(&mut self, slot: usize) -> bool
+        requires { has slot (slots_of self.old.main) ≡ true }
+        ensures value { result ≡ sets_bit slot self.old.main }
+        ensures small { self.new.small ≡ self.old.small }
+        ensures main { self.new.main ≡ main_hit_at slot self.old.main }
+        ensures slots { self.new.slots ≡ self.old.slots }
+        ensures window { self.new.window ≡ self.old.window }
+        ensures looks { self.new.inspections ≡ self.old.inspections }
+        ensures accesses { self.new.accesses ≡ self.old.accesses }
+    {
+        self.main.hit(&mut self.links, slot)
+    }
+
+    /// Records a hit on a slot, and tells whether it set a bit of Main.
+    pub fn hit(&mut self, slot: usize) -> bool
+        requires { slot < self.old.slots }
+        ensures value { result ≡ sets_bit slot self.old.main }
+        ensures small { self.new.small ≡ small_hit_at slot self.old.small }
+        ensures main { self.new.main ≡ main_hit_at slot self.old.main }
+        ensures slots { self.new.slots ≡ self.old.slots }
+        ensures window { self.new.window ≡ self.old.window }
+        ensures looks { self.new.inspections ≡ self.old.inspections }
+        ensures accesses { self.new.accesses ≤ self.old.accesses + 2 }
+    {
+        match self.standing(slot) {
+            Standing::Free => false,
+            Standing::Young(_) | Standing::Old => {
+                self.hit_small(slot);
+                false
+            }
+            Standing::Main => self.hit_main(slot),
+        }
+    }
+
     /// Leaves no slot in either queue.
     pub fn clear(&mut self)
         ensures small { self.new.small ≡ [] }
