@@ -141,31 +141,6 @@ module _ {K V : Type 0} where
       reserved = kept.reserved;
       small_below = kept.small_below }
 
-  -- while a queue has room there is a slot to make
-  pub main_has_vacancy : (shares : Shares) (small : List (SmallEntry K)) (main : List (MainEntry K)) (history : List K) (values : List V) (a b c d : ℕ)
-    → length main < main_share shares → IsKept (machine_of shares small main history values) a b c d → length values < shares.capacity
-  main_has_vacancy shares small main history values a b c d room kept = omega (arith, kept.whole.small_within, kept.whole.slots_counted, kept.small_below)
-
-  -- a new key stands in Main with a new slot
-  pub kept_joined_main : (shares : Shares) (small : List (SmallEntry K)) (main : List (MainEntry K)) (history : List K) (values : List V) (key : K) (value : V) (a b c d : ℕ)
-    → length main < main_share shares → IsKept (machine_of shares small main history values) a b c d
-    → IsKept (machine_of shares small (behind_hand key (length values) main) history (values ++ value ∷ [])) a b c d
-  kept_joined_main shares small main history values key value a b c d room kept =
-    let vacant = main_has_vacancy shares small main history values a b c d room kept in
-    let longer : length (behind_hand key (length values) main) ≡ length main + 1 = length-append main _ in
-    let more : length (values ++ value ∷ []) ≡ length values + 1 = length-append values _ in
-    record {
-      whole = record {
-        small_within = kept.whole.small_within;
-        main_within = rw longer (omega (arith, room));
-        history_within = kept.whole.history_within;
-        slots_counted = rw (longer, more) (omega (arith, kept.whole.slots_counted));
-        made_within = rw more (omega (arith, vacant));
-        small_made = rw more (all_below_more _ small kept.whole.small_made);
-        main_made = rw more (all-append _ main _ (all_below_more_main _ main kept.whole.main_made) (omega arith, tt)) };
-      reserved = kept.reserved;
-      small_below = kept.small_below }
-
   -- a new key stands in Small with a new slot
   pub kept_joined_small : (shares : Shares) (small : List (SmallEntry K)) (main : List (MainEntry K)) (history : List K) (values : List V) (key : K) (slot : ℕ) (value : V) (a b c d : ℕ)
     → slot ≡ length values → length small < shares.small → length values < shares.capacity → IsKept (machine_of shares small main history values) a b c d

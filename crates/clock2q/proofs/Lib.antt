@@ -2,6 +2,14 @@ mod Residents
 mod WorkedRuns
 mod Kept
 mod Placed
+mod WorkedTexts
+mod Cutting
+mod Numbers
+mod Calling
+mod Spelling
+mod Answering
+mod Transferring
+mod Serving
 pub mod Hand
 pub mod Leaving
 pub mod Main

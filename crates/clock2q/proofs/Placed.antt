@@ -34,27 +34,6 @@ module _ {K V : Type 0} where
     let was_made = lt-ltb victim.slot (length values) made in
     rw (is_full, ← choice, was_made)
 
-  -- a key that enters a Main with room has a new slot
-  pub placed_in_main : (shares : Shares) (small : List (SmallEntry K)) (main : List (MainEntry K)) (history : List K) (values : List V) (key : K) (value : V)
-    → length main < main_share shares → length values < shares.capacity
-    → machine_of shares small (behind_hand key (length values) main) history (values ++ value ∷ [])
-      ≡ (let p = into_main key (machine_of shares small main history values) in stored p.slot value p.machine)
-  placed_in_main shares small main history values key value room vacant =
-    let not_full = ne_eqb (length main) (main_share shares) (λ e. omega arith) in
-    let is_vacant = lt-ltb (length values) shares.capacity vacant in
-    let is_new = le-ltb (length values) (length values) (omega arith) in
-    rw (not_full, is_vacant, is_new)
-
-  -- a key that enters Small at a vacancy has a new slot
-  pub placed_in_small : (shares : Shares) (small : List (SmallEntry K)) (main : List (MainEntry K)) (history : List K) (values : List V) (key : K) (value : V)
-    → length values < shares.capacity
-    → machine_of shares (small_admitted shares.window key (length values) small) main history (values ++ value ∷ [])
-      ≡ (let p = into_small key (machine_of shares small main history values) in stored p.slot value p.machine)
-  placed_in_small shares small main history values key value vacant =
-    let is_vacant = lt-ltb (length values) shares.capacity vacant in
-    let is_new = le-ltb (length values) (length values) (omega arith) in
-    rw (is_vacant, is_new)
-
   -- a key that enters a full Small has the slot of its tail, which goes out
   pub placed_for_tail : (shares : Shares) (small front : List (SmallEntry K)) (main : List (MainEntry K)) (history : List K) (values : List V) (tail : SmallEntry K) (key : K) (value : V)
     → small ≡ front ++ tail ∷ [] → front ≡ take (length small - 1) small → is_promoted tail.age ≡ false → shares.capacity ≤ length values → tail.slot < length values
@@ -77,19 +56,6 @@ module _ {K V : Type 0} where
     let not_vacant = le-ltb (length values) shares.capacity full in
     let was_made = lt-ltb victim.slot (length values) made in
     rw (not_vacant, last, on, ← choice, was_made, ← is_front)
-
-  -- what enters Small finds a share of it, and room where there is a vacancy
-  pub small_has_share : (shares : Shares) (small : List (SmallEntry K)) (main : List (MainEntry K)) (history : List K) (values : List V)
-    → goes_to_main false (machine_of shares small main history values) ≡ false → (0 < shares.small) × (length values < shares.capacity → length small < shares.small)
-  small_has_share shares small main history values enters =
-    let m = machine_of shares small main history values in
-    let parts = or_parts (false || (eqb shares.small 0)) (is_some (vacancy m) && leb shares.small (length small)) enters in
-    let shared = or_parts false (eqb shares.small 0) parts.0 in
-    let some = eqb-false shares.small 0 shared.1 in
-    (omega (arith, some), λ vacant.
-      let is_vacant = lt-ltb (length values) shares.capacity vacant in
-      let below : leb shares.small (length small) ≡ false = rw is_vacant at parts.1 in
-      leb-false shares.small (length small) below)
 
 module _ {K : Type 0} where
   -- what is known of the last entry is known of the tail

@@ -8,6 +8,13 @@ pub mod Entry
 pub mod Cache
 pub mod CacheFields
 pub mod CacheLends
+pub mod Ports
+pub mod Text
+pub mod Cut
+pub mod ServeError
+pub mod Parsing
+pub mod Transfer
+pub mod Serve
 pub mod Ends
 pub mod Links
 pub mod MainRing

@@ -12,6 +12,9 @@ use crate::small::Small;
 use std::alloc::{AllocError, Allocator, Global};
 use std::marker::Model;
 
+#[cfg(test)]
+mod tests;
+
 /// The two queues of residents, by slot number. A slot stands in at most one of them.
 #[derive(Drop)]
 pub struct Queues<A: Allocator = Global> {

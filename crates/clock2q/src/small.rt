@@ -41,6 +41,11 @@ impl Small {
         self.len
     }
 
+    #[cfg(test)]
+    pub(crate) fn cursor(&self) -> usize {
+        self.cursor
+    }
+
     /// The oldest slot.
     pub fn tail(&self) -> Option<usize>
         ensures { (l : LinkState) → IsSmallQueue l self.now → result ≡ last_or None (small_slots l self.now) }

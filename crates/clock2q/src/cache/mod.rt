@@ -134,8 +134,8 @@ impl<K: Hash + Eq, V, S: BuildHasher, A: Allocator> Cache<K, V, S, A> {
     pub fn peek(&self, key: &K) -> Option<&V>
         ensures { option_copied result ≡ value_of (K.eq key.now) self.now.machine }
     {
-        let slot = self.find_slot(key)?;
-        Some(self.value(slot))
+        let resident = self.find_slot(key)?;
+        Some(self.value(resident))
     }
 
     /// The value of a resident key, and records the hit: it may save the key from a later eviction.

@@ -3,7 +3,16 @@ ghost use Rattle.std.specs.Prelude.{◌≡◌, IfOk, IfErr, OnOk, OnErr, map};
 ghost use Rattle.clock2q.specs.Commands.{call_of, answer_of};
 ghost use Rattle.clock2q.specs.Steps.{answer, after, answers, after_all};
 
+pub mod ports;
+mod replies;
+pub mod serve;
+mod serve_error;
+mod text;
+mod trace;
+mod transfer;
+
 use crate::cache::{Cache, CacheError};
+pub use serve_error::ServeError;
 use std::alloc::Allocator;
 use std::hash::{BuildHasher, Hash};
 

@@ -1,0 +1,65 @@
+//! What `serve` refuses.
+ghost use Rattle.std.specs.Prelude.{◌≡◌};
+
+use crate::cache::CacheError;
+use std::alloc::AllocError;
+use thiserror::Error;
+
+/// Why [`serve`](crate::command::serve::serve) gave no reply, or not all of them.
+#[derive(Debug, Clone, Copy, PartialEq, Eq, Error)]
+pub enum ServeError {
+    /// The line of this number, counted from 1, is the first that isn't a command in its place.
+    /// In an input without lines it is line 1.
+    #[error("line {0}: bad command")]
+    BadLine(usize),
+    /// A growth was refused.
+    #[error("no memory")]
+    Memory,
+    /// The capacity is above what a cache may have.
+    #[error("capacity refused")]
+    Capacity,
+    /// The source failed.
+    #[error("read failed")]
+    Read,
+    /// The sink failed. A beginning of the replies may have been written.
+    #[error("write failed")]
+    Write,
+}
+
+impl ServeError {
+    ghost use Rattle.clock2q.specs.ServeError.{status_of};
+
+    /// The status with which the program ends.
+    pub fn status(&self) -> u8
+        ensures { result ≡ status_of self.now }
+    {
+        match self {
+            ServeError::BadLine(_) => 2,
+            ServeError::Memory | ServeError::Capacity => 3,
+            ServeError::Read | ServeError::Write => 4,
+        }
+    }
+}
+
+impl From<CacheError> for ServeError {
+    ghost use Rattle.clock2q.specs.ServeError.{refusal_of};
+
+    ghost from_gives = { λ error refusal. refusal ≡ refusal_of error };
+
+    fn from(error: CacheError) -> ServeError {
+        match error {
+            CacheError::Memory => ServeError::Memory,
+            CacheError::Capacity => ServeError::Capacity,
+        }
+    }
+}
+
+impl From<AllocError> for ServeError {
+    ghost use Rattle.clock2q.specs.declared.command.serve_error.ServeError.TheVariants.{Memory};
+
+    ghost from_gives = { λ _ refusal. refusal ≡ Memory };
+
+    fn from(_error: AllocError) -> ServeError {
+        ServeError::Memory
+    }
+}

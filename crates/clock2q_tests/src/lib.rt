@@ -1,0 +1,7 @@
+//! Tests of `clock2q` over its public calls. Each table has its expected values from worked examples.
+#![tactic(auto)]
+
+#[cfg(test)]
+mod devices;
+#[cfg(test)]
+mod texts;

@@ -1,0 +1,167 @@
+//! Command texts, and what they are answered.
+
+use clock2q::command::ServeError;
+use clock2q::command::ports::Device;
+use clock2q::command::serve::serve;
+use std::alloc::{AllocError, Global};
+use std::test::Fail;
+
+// What `serve` answers to a text, and what it writes.
+fn served(alloc: Global, text: &[u8]) -> (Result<(), ServeError>, Vec<u8>) {
+    let mut reader = Device::new(text);
+    let mut writer = Device::new(Vec::new(alloc));
+    let outcome = serve(alloc, &mut reader, &mut writer);
+    (outcome, writer.into_inner())
+}
+
+// A text from a row in which `;` stands for a line end.
+fn lines(alloc: Global, row: &str) -> Result<String, AllocError> {
+    let mut text = String::new(alloc);
+    for line in row.split(';') {
+        text.push_str(line.trim())?;
+        text.push_str("\n")?;
+    }
+    Ok(text)
+}
+
+// Commands, and what they are answered. `;` stands for a line end.
+const ANSWERED: [(&str, &str); 9] = [
+    (
+        "new 2; put 1 10; put 1 11; get 1; len",
+        "ok; none; some 10; some 11; 1",
+    ),
+    (
+        "new 1; put 1 10; get 1; put 2 20; contains 1; get 2; len",
+        "ok; none; some 10; none; false; some 20; 1",
+    ),
+    (
+        "new 1; put 1 10; get 1; put 2 20; peek 1; get 2; len",
+        "ok; none; some 10; none; none; some 20; 1",
+    ),
+    (
+        "new 4; put 1 1; put 2 2; put 3 3; put 4 4; get 4; get 3; put 5 5; put 1 1; put 6 6; put 5 5; \
+         peek 1; peek 2; peek 3; peek 4; len",
+        "ok; none; none; none; none; some 4; some 3; none; none; none; none; \
+         none; none; some 3; some 4; 4",
+    ),
+    (
+        "new 20; put 1 1; put 2 2; put 3 3; put 4 4; put 5 5; put 6 6; put 7 7; put 8 8; put 9 9; put 10 10; \
+         put 11 11; put 12 12; put 13 13; put 14 14; put 15 15; put 16 16; put 17 17; put 18 18; put 19 19; \
+         put 20 20; get 1; put 21 21; peek 21; peek 1; peek 3",
+        "ok; none; none; none; none; none; none; none; none; none; none; \
+         none; none; none; none; none; none; none; none; none; \
+         none; some 1; none; some 21; some 1; none",
+    ),
+    (
+        "new 2; is_empty; capacity; put 7 70; is_empty; contains 7; peek 7; len",
+        "ok; true; 2; none; false; true; some 70; 1",
+    ),
+    ("new 2; put 01 0010; get 1", "ok; none; some 10"),
+    (
+        "new 1; put 18446744073709551615 18446744073709551615; get 18446744073709551615",
+        "ok; none; some 18446744073709551615",
+    ),
+    ("new 00000000000000000002", "ok"),
+];
+
+#[test]
+fn answered(rt: HostRuntime) -> Result<(), Fail> {
+    for (commands, replies) in ANSWERED {
+        let text = lines(rt.alloc(), commands)?;
+        let want = lines(rt.alloc(), replies)?;
+        let (outcome, written) = served(rt.alloc(), text.as_bytes());
+        assert_eq!(rt; outcome, Ok(()), "{commands}");
+        assert_eq!(rt; written.as_slice(), want.as_bytes(), "{commands}");
+    }
+    let (outcome, written) = served(rt.alloc(), b"new 2");
+    assert_eq!(rt; outcome, Ok(()), "no line end");
+    assert_eq!(rt; written.as_slice(), b"ok\n".as_slice(), "no line end");
+    Ok(())
+}
+
+// Texts, and the number of the first line that isn't a command in its place.
+const BAD_LINES: [(&[u8], usize); 41] = [
+    (b"", 1),
+    (b"\n", 1),
+    (b"new 0", 1),
+    (b"new", 1),
+    (b"new 2 1", 1),
+    (b"new two", 1),
+    (b"len", 1),
+    (b" new 2", 1),
+    (b"new  2", 1),
+    (b"new 2 ", 1),
+    (b"new 2\r", 1),
+    (b"new 2\r\nlen\r\n", 1),
+    (b"new 18446744073709551616", 1),
+    (b"new 2\nput 1", 2),
+    (b"new 2\nput 1 2 3", 2),
+    (b"new 2\nnew 2", 2),
+    (b"new 2\n\n", 2),
+    (b"new 2\n\nlen\n", 2),
+    (b"new 2\nLEN", 2),
+    (b"new 2\nlen 1", 2),
+    (b"new 2\nget", 2),
+    (b"new 2\nget ", 2),
+    (b"new 2\nget +1", 2),
+    (b"new 2\nget -1", 2),
+    (b"new 2\nget 1x", 2),
+    (b"new 2\nget 0x1", 2),
+    (b"new 2\nget \xFF", 2),
+    (b"new 2\n\xFF", 2),
+    (b"new 2\n\0", 2),
+    (b"new 2\nget\t1", 2),
+    (b"new 2\nget_at 0", 2),
+    (b"new 2\nretain", 2),
+    (b"new 2\nretain 012", 2),
+    (b"new 2\nprefill", 2),
+    (b"new 2\nprefill 1  2", 2),
+    (b"new 2\ntry 1 FAIL", 2),
+    (b"new 2\nlen\nget 18446744073709551616", 3),
+    (b"new 16777216\nbogus", 2),
+    (b"new 2\nclear", 2),
+    (b"new 2\nremove 1", 2),
+    (b"new 2\nget_at 0 1", 2),
+];
+
+#[test]
+fn bad_lines(rt: HostRuntime) -> Result<(), Fail> {
+    for (text, line) in BAD_LINES {
+        let (outcome, written) = served(rt.alloc(), text);
+        assert_eq!(rt; outcome, Err(ServeError::BadLine(line)), "{text:?}");
+        assert_eq!(rt; written.len(), 0, "{text:?}");
+    }
+    Ok(())
+}
+
+#[test]
+fn large_capacities(rt: HostRuntime) {
+    let rows: [&[u8]; 3] = [
+        b"new 16777216",
+        b"new 18446744073709551615",
+        b"new 16777216\nput 1 10\nlen\n",
+    ];
+    for text in rows {
+        let (outcome, written) = served(rt.alloc(), text);
+        assert_eq!(rt; outcome, Err(ServeError::Capacity), "{text:?}");
+        assert_eq!(rt; written.len(), 0, "{text:?}");
+    }
+}
+
+// The line and the status of each refusal.
+#[test]
+fn told(rt: HostRuntime) -> Result<(), Fail> {
+    let rows = [
+        (ServeError::BadLine(1), "line 1: bad command", 2),
+        (ServeError::BadLine(10), "line 10: bad command", 2),
+        (ServeError::Capacity, "capacity refused", 3),
+        (ServeError::Memory, "no memory", 3),
+        (ServeError::Read, "read failed", 4),
+        (ServeError::Write, "write failed", 4),
+    ];
+    for (refusal, line, status) in rows {
+        assert_eq!(rt; refusal.to_string(rt.alloc())?.as_str(), line);
+        assert_eq!(rt; refusal.status(), status, "{line}");
+    }
+    Ok(())
+}
