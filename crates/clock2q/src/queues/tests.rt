@@ -1,3 +1,5 @@
+ghost use Rattle.std.specs.Prelude.{◌≡◌, ◌<◌};
+
 use super::*;
 use std::process::Abort;
 use std::test::Fail;
@@ -210,4 +212,79 @@ fn compare(rt: &impl Abort, queues: &mut Queues, lists: &Lists)
     assert_eq!(rt; queues.small_len(), lists.small.len());
     assert_eq!(rt; queues.main_len(), lists.main.len());
     assert!(rt; queues.tail() == lists.small.first().map(|entry| entry.slot));
+}
+
+// One step of a run: an admission in place of Small's tail where Small is full, a slot put into
+// Main, a slot that leaves, a hit, or Main's victim going.
+fn step(
+    rt: &impl Abort,
+    queues: &mut Queues,
+    lists: &mut Lists,
+    small: usize,
+    random: usize,
+) -> Result<(), Fail>
+    requires slots { queues.old.slots ≡ 12 }
+    requires window { 0 < queues.old.window }
+    ensures slots { queues.new.slots ≡ 12 }
+    ensures window { queues.new.window ≡ queues.old.window }
+{
+    let slot = random / 8 % SLOTS;
+    let free = queues.standing(slot) == Standing::Free;
+    match random % 8 {
+        0..4 if free => {
+            if queues.small_len() >= small {
+                let tail = queues.tail().expect(rt, "Small is full");
+                assert!(rt; tail < SLOTS);
+                queues.leave(tail);
+                lists.leave(tail);
+            }
+            admit(rt, queues, slot);
+            lists.admit(slot)?;
+        }
+        4 if free => {
+            append(rt, queues, slot);
+            lists.main.push(Entry { slot, age: 0, bit: false })?;
+        }
+        5 => {
+            queues.leave(slot);
+            lists.leave(slot);
+        }
+        6 if queues.main_len() > 0 => {
+            let victim = queues.select();
+            assert!(rt; lists.select()? == Some(victim));
+            assert!(rt; victim < SLOTS);
+            queues.leave(victim);
+            lists.leave(victim);
+        }
+        _ => assert!(rt; queues.hit(slot) == lists.hit(slot)),
+    }
+    Ok(())
+}
+
+fn seeded_run(rt: &impl Abort, alloc: Global, small: usize, window: u32) -> Result<(), Fail>
+    requires { 0 < window }
+{
+    let mut queues = Queues::new(alloc, SLOTS, window)?;
+    let mut lists = Lists {
+        small: Vec::new(alloc),
+        main: Vec::new(alloc),
+        window,
+    };
+    let mut seed: u64 = 1;
+    for _ in 0..2000 {
+        seed = seed.wrapping_mul(6364136223846793005).wrapping_add(1442695040888963407);
+        step(rt, &mut queues, &mut lists, small, (seed >> 33) as usize)?;
+        compare(rt, &mut queues, &lists);
+    }
+    Ok(())
+}
+
+#[test]
+fn seeded_runs_match_plain_lists(rt: HostRuntime) -> Result<(), Fail> {
+    for (small, windows) in [(1, 1), (2, 2), (5, 5)] {
+        for window in 1..=windows {
+            seeded_run(&rt, rt.alloc(), small, window)?;
+        }
+    }
+    Ok(())
 }
