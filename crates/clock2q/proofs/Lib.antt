@@ -20,3 +20,4 @@ pub mod Slots
 pub mod Window
 pub mod Sharing
 pub mod Hits
+pub mod Keyed

@@ -21,3 +21,4 @@ pub mod MainRing
 pub mod Rings
 pub mod Small
 pub mod Queues
+pub mod Keyed
