@@ -10,3 +10,14 @@ mod Spelling
 mod Answering
 mod Transferring
 mod Serving
+pub mod Hand
+pub mod Leaving
+pub mod Main
+pub mod Joining
+pub mod Resetting
+pub mod Rings
+pub mod Slots
+pub mod Window
+pub mod Sharing
+pub mod Hits
+pub mod Keyed

@@ -15,3 +15,10 @@ pub mod ServeError
 pub mod Parsing
 pub mod Transfer
 pub mod Serve
+pub mod Ends
+pub mod Links
+pub mod MainRing
+pub mod Rings
+pub mod Small
+pub mod Queues
+pub mod Keyed

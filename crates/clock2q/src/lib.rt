@@ -3,3 +3,8 @@
 
 pub mod cache;
 pub mod command;
+mod count;
+mod links;
+mod main_ring;
+mod queues;
+mod small;
