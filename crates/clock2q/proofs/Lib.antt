@@ -16,7 +16,7 @@ pub mod Main
 pub mod Joining
 pub mod Resetting
 pub mod Rings
-pub mod Slots
+pub mod Records
 pub mod Window
 pub mod Sharing
 pub mod Hits
