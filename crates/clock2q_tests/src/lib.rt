@@ -3,5 +3,6 @@
 
 #[cfg(test)]
 mod devices;
+pub mod refusing;
 #[cfg(test)]
 mod texts;
