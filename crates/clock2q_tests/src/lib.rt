@@ -3,6 +3,8 @@
 
 #[cfg(test)]
 mod devices;
+#[cfg(test)]
+mod refused;
 pub mod refusing;
 #[cfg(test)]
 mod texts;
