@@ -2,7 +2,9 @@
 
 use crate::refusing::Refusing;
 use clock2q::cache::{Cache, CacheError, DefaultHasher};
-use clock2q::command::{Command, Reply, run};
+use clock2q::command::ports::Device;
+use clock2q::command::serve::serve;
+use clock2q::command::{Command, Reply, ServeError, run};
 use std::alloc::{AllocError, Global};
 use std::num::NonZeroUsize;
 use std::test::Fail;
@@ -125,6 +127,32 @@ fn runs(rt: HostRuntime) -> Result<(), Fail> {
                 break;
             }
         }
+    }
+    assert_ne!(rt; enough, 0);
+    Ok(())
+}
+
+const TEXT: &[u8] = b"new 2\nput 1 10\nget 1\nlen\n";
+
+const REPLIES: &[u8] = b"ok\nnone\nsome 10\n1\n";
+
+#[test]
+fn serving(rt: HostRuntime) -> Result<(), Fail> {
+    let alloc = Refusing::new(rt.alloc());
+    let mut enough = 0;
+    for granted in 0..MANY {
+        let mut reader = Device::new(TEXT);
+        let mut writer = Device::new(Vec::new(rt.alloc()));
+        alloc.refuse_after(granted);
+        let outcome = serve(&alloc, &mut reader, &mut writer);
+        let written = writer.into_inner();
+        if outcome.is_ok() {
+            assert_eq!(rt; written.as_slice(), REPLIES);
+            enough = granted;
+            break;
+        }
+        assert_eq!(rt; outcome, Err(ServeError::Memory), "{granted} granted");
+        assert!(rt; written.is_empty(), "{granted} granted");
     }
     assert_ne!(rt; enough, 0);
     Ok(())

@@ -31,8 +31,8 @@ impl Requests {
 
 /// An allocator that passes requests on to another, counts them, and refuses some.
 ///
-/// What is given back, and what is asked again after a refusal, is passed on too. A request that
-/// is refused takes nothing from the other allocator.
+/// What is given back is passed on too. A request that is refused doesn't reach the other
+/// allocator.
 #[derive(Drop)]
 pub struct Refusing<A: Allocator> {
     inner: A,

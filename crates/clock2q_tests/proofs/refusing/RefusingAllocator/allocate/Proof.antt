@@ -36,7 +36,7 @@ use denote.Triple.Table.{entered, cited}
 use denote.Triple.Walked.{Stays, stay_dropped, walk_of, ends_at, walked, Goes-dropped, walk_Meets}
 use Rattle.std.proofs.alloc.Calls.{Al, α, token, seen, Answer, answer_val, Answer-typed, Answer-Ok, Answer-err, takes_key, Takes, at_takes, Answered, Takes-goes, Takes-gives, answers}
 use Rattle.std.proofs.alloc.Shapes.{after}
-use Rattle.clock2q_tests.proofs.Asked.{Refuses, at_refuses, Told, Refuses-goes, Refuses-gives}
+use Rattle.clock2q_tests.proofs.Asked.{Refuses, at_refuses, Refuses-goes, Refuses-gives}
 use Rattle.clock2q_tests.proofs.refusing.Requests.refuses.Symbol as refuses_symbol
 use Rattle.clock2q_tests.proofs.refusing.Requests.refuses.Met as refuses_met
 use Rattle.clock2q_tests.specs.contracts.refusing.Refusing as refusing
