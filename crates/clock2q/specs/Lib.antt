@@ -1,0 +1,3 @@
+pub mod Homes
+pub mod Layout
+pub mod TableStep
