@@ -1,1 +1,3 @@
 mod LayoutVectors
+pub mod Groups
+pub mod Cells

@@ -1,3 +1,5 @@
 pub mod Homes
 pub mod Layout
 pub mod TableStep
+pub mod Slots
+pub mod Partition

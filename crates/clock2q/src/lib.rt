@@ -2,3 +2,6 @@
 #![tactic(auto)]
 
 mod count;
+mod handles;
+
+pub use handles::{Candidates, Table, TableError, partition};
