@@ -1,1 +1,5 @@
 mod LayoutVectors
+pub mod Spill
+pub mod Tiles
+pub mod Laps
+pub mod Laid
