@@ -3,3 +3,4 @@ pub mod Spill
 pub mod Tiles
 pub mod Laps
 pub mod Laid
+pub mod Walk
