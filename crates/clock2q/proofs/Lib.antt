@@ -1,3 +1,8 @@
 mod LayoutVectors
 pub mod Groups
 pub mod Cells
+pub mod Spill
+pub mod Tiles
+pub mod Laps
+pub mod Laid
+pub mod Walk
