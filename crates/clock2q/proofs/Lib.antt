@@ -1,6 +1,7 @@
 mod LayoutVectors
 pub mod Groups
 pub mod Cells
+pub mod Shifts
 pub mod Spill
 pub mod Tiles
 pub mod Laps

@@ -2,4 +2,5 @@ pub mod Homes
 pub mod Layout
 pub mod TableStep
 pub mod Slots
+pub mod Shifts
 pub mod Partition

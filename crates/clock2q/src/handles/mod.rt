@@ -88,8 +88,9 @@ impl<H: Copy + Eq + Default, A: Allocator + Copy> Table<H, A> {
         if self.len == self.capacity() {
             self.grow(rehash)?;
         }
-        let distance = self.slots.end(self.slots.home(hash));
-        self.place(hash, distance, handle)
+        let home = self.slots.home(hash);
+        let distance = self.slots.end(home);
+        self.place(home, distance, hash, handle)
     }
 
     /// The first candidate of `hash` that `matches` accepts, and false; or, where it accepts none,
@@ -107,14 +108,14 @@ impl<H: Copy + Eq + Default, A: Allocator + Copy> Table<H, A> {
         match self.slots.offer(hash, matches) {
             Ok(found) => Ok((found, false)),
             Err(distance) => {
-                self.place(hash, distance, handle)?;
+                self.place(self.slots.home(hash), distance, hash, handle)?;
                 Ok((handle, true))
             }
         }
     }
 
-    fn place(&mut self, hash: u64, distance: usize, handle: H) -> Result<(), TableError> {
-        if !self.slots.put_in(hash, distance, handle) {
+    fn place(&mut self, home: usize, distance: usize, hash: u64, handle: H) -> Result<(), TableError> {
+        if !self.slots.put_in(home, distance, hash, handle) {
             return Err(TableError::RunTooLong);
         }
         self.len += 1;
@@ -141,8 +142,9 @@ impl<H: Copy + Eq + Default, A: Allocator + Copy> Table<H, A> {
             if !self.slots.metadata(0, slot).is_empty() {
                 let handle = self.slots.handle(0, slot);
                 let hash = rehash(handle);
-                let distance = table.slots.end(table.slots.home(hash));
-                table.place(hash, distance, handle)?;
+                let home = table.slots.home(hash);
+                let distance = table.slots.end(home);
+                table.place(home, distance, hash, handle)?;
             }
         }
         *self = table;

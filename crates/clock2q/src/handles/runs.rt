@@ -1,4 +1,9 @@
 //! Walks along a table's slots, and what moves entries within a run.
+ghost use Rattle.clock2q.specs.Homes.{top, is_entry_of};
+ghost use Rattle.clock2q.specs.Layout.{IsTidy, reach, slot_at, placed};
+ghost use Rattle.clock2q.specs.Shifts.{Opens, Closes, HasRoom, IsVacancy, moved_on};
+ghost use Rattle.std.specs.Bool.{OnTrue, OnFalse};
+ghost use Rattle.std.specs.Prelude.{◌≡◌, ◌+◌, ◌-◌, ◌<◌, ◌≤◌, ℕ, suc, true, false, Some, None, IfSome, IfNone, length};
 
 use super::metadata::{MAX_DISPLACEMENT, Metadata};
 use super::slots::Slots;
@@ -7,7 +12,13 @@ use std::alloc::Allocator;
 impl<H: Copy + Default, A: Allocator> Slots<H, A> {
     /// How far from the home a walk ends: at the first empty slot or entry that is nearer to its
     /// own home.
-    pub(super) fn end(&self, home: usize) -> usize {
+    pub(super) fn end(&self, home: usize) -> usize
+        requires tidy { IsTidy self.now.slots }
+        requires home { home < length self.now.slots }
+        ensures passed { (j : ℕ) → j < result → j < reach (slot_at self.now.slots (home + j)) }
+        ensures stop { reach (slot_at self.now.slots (home + result)) ≤ result }
+        ensures within { result < length self.now.slots }
+    {
         let mut distance = 0;
         while !self.metadata(home, distance).ends_walk(distance) {
             distance += 1;
@@ -53,9 +64,19 @@ impl<H: Copy + Default, A: Allocator> Slots<H, A> {
         }
     }
 
-    /// How far from the home the first empty slot is, from a distance on, or None where an entry
-    /// on the way stands as far past its home as one may.
-    fn vacancy(&self, home: usize, from: usize) -> Option<usize> {
+    /// How far from the home the first empty slot is, from where a walk ended on, or None where an
+    /// entry on the way stands as far past its home as one may.
+    fn vacancy(&self, home: usize, from: usize) -> Option<usize>
+        requires tidy { IsTidy self.now.slots }
+        requires home { home < length self.now.slots }
+        requires from { from < length self.now.slots }
+        requires walked { (j : ℕ) → j < from → 0 < reach (slot_at self.now.slots (home + j)) }
+        requires near { from ≤ MAX_DISPLACEMENT }
+        ensures room { IfSome result (HasRoom (slot_at self.now.slots) MAX_DISPLACEMENT home from) }
+        ensures vacancy { IfSome result (IsVacancy (slot_at self.now.slots) home) }
+        ensures within { IfSome result (λ v. (from ≤ v) × (v < length self.now.slots)) }
+        ensures far { IfNone result ((v : ℕ) → IsVacancy (slot_at self.now.slots) home v → HasRoom (slot_at self.now.slots) MAX_DISPLACEMENT home from v → ⊥) }
+    {
         let mut distance = from;
         loop {
             let metadata = self.metadata(home, distance);
@@ -72,8 +93,27 @@ impl<H: Copy + Default, A: Allocator> Slots<H, A> {
     /// Puts an entry in at a distance from the home of its hash, where the walk for it ended. The
     /// rest of the run moves on one slot. Answers whether no entry would come to stand too far
     /// past its home; if one would, nothing changes.
-    pub(super) fn put_in(&mut self, hash: u64, distance: usize, handle: H) -> bool {
-        let home = self.home(hash);
+    pub(super) fn put_in(&mut self, home: usize, distance: usize, hash: u64, handle: H) -> bool
+        requires tidy { IsTidy self.old.slots }
+        requires home { home < length self.old.slots }
+        requires within { distance < length self.old.slots }
+        requires walked { (j : ℕ) → j < distance → 0 < reach (slot_at self.old.slots (home + j)) }
+        ensures put {
+            OnTrue result ((v : ℕ) → IsVacancy (slot_at self.old.slots) home v →
+                Opens (slot_at self.old.slots) (slot_at self.new.slots) (length self.old.slots) home distance v (top hash, handle))
+        }
+        ensures room {
+            OnTrue result ((v : ℕ) → IsVacancy (slot_at self.old.slots) home v → HasRoom (slot_at self.old.slots) MAX_DISPLACEMENT home distance v)
+        }
+        ensures writes {
+            OnTrue result ((v : ℕ) → IsVacancy (slot_at self.old.slots) home v → self.new.writes + distance ≡ self.old.writes + v + 1)
+        }
+        ensures far {
+            OnFalse result ((v : ℕ) → IsVacancy (slot_at self.old.slots) home v → HasRoom (slot_at self.old.slots) MAX_DISPLACEMENT home distance v → ⊥)
+        }
+        ensures refused { OnFalse result (self.new ≡ self.old) }
+        ensures len { length self.new.slots ≡ length self.old.slots }
+    {
         if distance > MAX_DISPLACEMENT {
             return false;
         }
@@ -86,7 +126,18 @@ impl<H: Copy + Default, A: Allocator> Slots<H, A> {
     }
 
     /// Moves the entries from one distance up to another, where the slot is empty, on by one slot.
-    fn move_on(&mut self, home: usize, from: usize, vacancy: usize) {
+    fn move_on(&mut self, home: usize, from: usize, vacancy: usize)
+        requires home { home < length self.old.slots }
+        requires from { from ≤ vacancy }
+        requires upto { vacancy < length self.old.slots }
+        requires occupied { (j : ℕ) → from ≤ j → j < vacancy → 0 < reach (slot_at self.old.slots (home + j)) }
+        requires near { (j : ℕ) → from ≤ j → j < vacancy → reach (slot_at self.old.slots (home + j)) ≤ MAX_DISPLACEMENT }
+        ensures moved { (j : ℕ) → from ≤ j → j < vacancy → slot_at self.new.slots (home + suc j) ≡ moved_on (slot_at self.old.slots (home + j)) }
+        ensures before { (j : ℕ) → j ≤ from → slot_at self.new.slots (home + j) ≡ slot_at self.old.slots (home + j) }
+        ensures after { (j : ℕ) → vacancy < j → j < length self.old.slots → slot_at self.new.slots (home + j) ≡ slot_at self.old.slots (home + j) }
+        ensures len { length self.new.slots ≡ length self.old.slots }
+        ensures writes { self.new.writes + from ≡ self.old.writes + vacancy }
+    {
         let mut distance = vacancy;
         while from < distance {
             let metadata = self.metadata(home, distance - 1);
@@ -98,7 +149,18 @@ impl<H: Copy + Default, A: Allocator> Slots<H, A> {
 
     /// Takes the entry at a distance from the home out. Those that follow it move back one slot,
     /// up to an empty slot or an entry at its home.
-    pub(super) fn take_out(&mut self, home: usize, distance: usize) {
+    pub(super) fn take_out(&mut self, home: usize, distance: usize)
+        requires tidy { IsTidy self.old.slots }
+        requires home { home < length self.old.slots }
+        requires within { distance < length self.old.slots }
+        requires walked { (j : ℕ) → j ≤ distance → 0 < reach (slot_at self.old.slots (home + j)) }
+        ensures closes {
+            (e : ℕ × H) → slot_at self.old.slots (home + distance) ≡ Some (placed distance e) →
+                (v : ℕ) × Closes (slot_at self.old.slots) (slot_at self.new.slots) (length self.old.slots) home distance v e
+                × (self.new.writes + distance ≡ self.old.writes + v + 1)
+        }
+        ensures len { length self.new.slots ≡ length self.old.slots }
+    {
         let mut hole = distance;
         loop {
             let metadata = self.metadata(home, hole + 1);

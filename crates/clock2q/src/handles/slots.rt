@@ -79,13 +79,12 @@ impl<H: Copy + Default, A: Allocator> Slots<H, A> {
         self.metadata.len()
     }
 
-    /// The home slot of a hash.
+    /// The home slot of a hash, where there are slots.
     pub(super) fn home(&self, hash: u64) -> usize
-        requires { 0 < length self.now.slots }
-        ensures home { result ≡ hash % length self.now.slots }
-        ensures within { result < length self.now.slots }
+        ensures home { 0 < length self.now.slots → result ≡ hash % length self.now.slots }
+        ensures within { 0 < length self.now.slots → result < length self.now.slots }
     {
-        let mask = self.count() - 1;
+        let mask = self.count().wrapping_sub(1);
         hash as usize & mask
     }
 

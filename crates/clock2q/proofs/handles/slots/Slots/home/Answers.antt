@@ -7,10 +7,9 @@ use Rattle.clock2q.proofs.Cells.{slot_mask, length-cells, filled_cells, written_
 use Rattle.clock2q.proofs.handles.slots.Slots.home.Goals as goal
 
 pub returns-clause-home : goal.returns-clause-home
-returns-clause-home g c =
-    ap (λ m. bit_and c.args.hash (m - 1)) c.count-mask.ensures.count ∙ slot_mask c.args.hash (length c.args.self.now.slots) c.count-mask.ensures.power c.requires
+returns-clause-home g c some = ?
 
 pub returns-clause-within : goal.returns-clause-within
-returns-clause-within g c =
-    let below = mod_below c.args.hash (length c.args.self.now.slots) c.requires in
-    omega (arith, returns-clause-home g c, below)
+returns-clause-within g c some =
+    let below = mod_below c.args.hash (length c.args.self.now.slots) some in
+    omega (arith, returns-clause-home g c some, below)
