@@ -4,3 +4,5 @@ pub mod Tiles
 pub mod Laps
 pub mod Laid
 pub mod Walk
+pub mod Sums
+pub mod Slots
