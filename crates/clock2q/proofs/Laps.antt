@@ -27,12 +27,12 @@ lap-same f m again some h n = sym (again-times f m again (h + lap m h n) ((n + h
 
 pub rem-same : {X : Type 0} (f : ℕ → X) (m : ℕ) → ((n : ℕ) → f (n + m) ≡ f n) → (n : ℕ) → f (n % m) ≡ f n
 rem-same f m again n =
-  let e : n % m + n / m * m ≡ n = omega (arith, div-add-mod' n m) in
-  sym (again-times f m again (n % m) (n / m)) ∙ ap f e
+    let e : n % m + n / m * m ≡ n = omega (arith, div-add-mod' n m) in
+    sym (again-times f m again (n % m) (n / m)) ∙ ap f e
 
 -- slots less than a lap apart are not the same
 pub rems-differ : (m a b : ℕ) → a < b → b < a + m → a % m ≡ b % m → ⊥
 rems-differ m a b l u e = elim (cases_lt (a / m) (b / m)) [
-    inl below ↦ omega (arith, div-add-mod' a m, div-add-mod' b m, mul-le-mul_right m below)
+  | inl below ↦ omega (arith, div-add-mod' a m, div-add-mod' b m, mul-le-mul_right m below)
   | inr from ↦ omega (arith, div-add-mod' a m, div-add-mod' b m, mul-le-mul_right m from)
-  ]
+]

@@ -6,3 +6,4 @@ pub mod Laid
 pub mod Walk
 pub mod Sums
 pub mod Slots
+pub mod Tidy
