@@ -1,5 +1,6 @@
 -- What repeats every m slots is known from any lap of it.
-use Rattle.std.proofs.Common.{◌≡◌, ℕ, zero, suc, ◌+◌, ◌-◌, ◌*◌, ◌/◌, ◌%◌, ◌<◌, ◌≤◌, refl, ap, sym, ◌∙◌, arith, mod-lt, div-add-mod', le-mul_of_pos_right}
+use Rattle.std.proofs.Common.{◌≡◌, ℕ, zero, suc, ◌+◌, ◌-◌, ◌*◌, ◌/◌, ◌%◌, ◌<◌, ◌≤◌, ◌⊎◌, inl, inr, refl, ap, sym, ◌∙◌, arith, mod-lt, div-add-mod', le-mul_of_pos_right, mul-le-mul_right}
+use Rattle.std.proofs.lemmas.Bool.{cases_lt}
 
 pub again-times : {X : Type 0} (f : ℕ → X) (m : ℕ) → ((n : ℕ) → f (n + m) ≡ f n) → (n k : ℕ) → f (n + k * m) ≡ f n
 again-times f m again n zero =
@@ -23,3 +24,15 @@ lap-sum m h n some = omega (arith, div-add-mod' (n + h * m - h) m, le-mul_of_pos
 
 pub lap-same : {X : Type 0} (f : ℕ → X) (m : ℕ) → ((n : ℕ) → f (n + m) ≡ f n) → 0 < m → (h n : ℕ) → f (h + lap m h n) ≡ f n
 lap-same f m again some h n = sym (again-times f m again (h + lap m h n) ((n + h * m - h) / m)) ∙ ap f (lap-sum m h n some) ∙ again-times f m again n h
+
+pub rem-same : {X : Type 0} (f : ℕ → X) (m : ℕ) → ((n : ℕ) → f (n + m) ≡ f n) → (n : ℕ) → f (n % m) ≡ f n
+rem-same f m again n =
+    let e : n % m + n / m * m ≡ n = omega (arith, div-add-mod' n m) in
+    sym (again-times f m again (n % m) (n / m)) ∙ ap f e
+
+-- slots less than a lap apart are not the same
+pub rems-differ : (m a b : ℕ) → a < b → b < a + m → a % m ≡ b % m → ⊥
+rems-differ m a b l u e = elim (cases_lt (a / m) (b / m)) [
+  | inl below ↦ omega (arith, div-add-mod' a m, div-add-mod' b m, mul-le-mul_right m below)
+  | inr from ↦ omega (arith, div-add-mod' a m, div-add-mod' b m, mul-le-mul_right m from)
+]

@@ -7,3 +7,6 @@ pub mod Tiles
 pub mod Laps
 pub mod Laid
 pub mod Walk
+pub mod Sums
+pub mod Slots
+pub mod Tidy
