@@ -3,7 +3,7 @@ ghost use Rattle.clock2q.specs.Homes.{top, is_entry_of};
 ghost use Rattle.clock2q.specs.Layout.{IsTidy, reach, slot_at, placed};
 ghost use Rattle.clock2q.specs.Shifts.{Opens, Closes, HasRoom, IsVacancy, moved_on};
 ghost use Rattle.std.specs.Bool.{OnTrue, OnFalse};
-ghost use Rattle.std.specs.Prelude.{◌≡◌, ◌+◌, ◌-◌, ◌<◌, ◌≤◌, ℕ, suc, true, false, Some, None, IfSome, IfNone, length};
+ghost use Rattle.std.specs.Prelude.{◌≡◌, ◌+◌, ◌-◌, ◌^◌, ◌<◌, ◌≤◌, ℕ, suc, true, false, Some, None, IfSome, IfNone, length};
 
 use super::metadata::{MAX_DISPLACEMENT, Metadata};
 use super::slots::Slots;
@@ -150,6 +150,7 @@ impl<H: Copy + Default, A: Allocator> Slots<H, A> {
     /// Takes the entry at a distance from the home out. Those that follow it move back one slot,
     /// up to an empty slot or an entry at its home.
     pub(super) fn take_out(&mut self, home: usize, distance: usize)
+        requires small { length self.old.slots < 2 ^ 63 }
         requires tidy { IsTidy self.old.slots }
         requires home { home < length self.old.slots }
         requires within { distance < length self.old.slots }

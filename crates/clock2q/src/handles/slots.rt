@@ -83,6 +83,7 @@ impl<H: Copy + Default, A: Allocator> Slots<H, A> {
     pub(super) fn home(&self, hash: u64) -> usize
         ensures home { 0 < length self.now.slots → result ≡ hash % length self.now.slots }
         ensures within { 0 < length self.now.slots → result < length self.now.slots }
+        ensures small { length self.now.slots < 2 ^ 63 }
     {
         let mask = self.count().wrapping_sub(1);
         hash as usize & mask
@@ -101,7 +102,8 @@ impl<H: Copy + Default, A: Allocator> Slots<H, A> {
     pub(super) fn metadata(&self, home: usize, distance: usize) -> Metadata
         requires home { home < length self.now.slots }
         requires distance { distance ≤ length self.now.slots }
-        ensures { told result ≡ mark_of (slot_at self.now.slots (home + distance)) }
+        ensures told { told result ≡ mark_of (slot_at self.now.slots (home + distance)) }
+        ensures small { length self.now.slots < 2 ^ 63 }
     {
         self.metadata[self.slot(home, distance)]
     }
