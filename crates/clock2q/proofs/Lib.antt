@@ -7,3 +7,5 @@ pub mod Walk
 pub mod Sums
 pub mod Slots
 pub mod Tidy
+pub mod Gaps
+pub mod Shifts
