@@ -9,3 +9,4 @@ pub mod Slots
 pub mod Tidy
 pub mod Gaps
 pub mod Shifts
+pub mod Changes
