@@ -86,6 +86,29 @@ module _ {E : Type 0} where
     pub gap-reach : (n : ℕ) → IsGap (counts L) m n → reach (A n) ≡ 0
     gap-reach n g = ap reach (laid.rest n g)
 
+    -- an empty slot is a gap
+    pub none-gap : (n : ℕ) → spill (counts L) m 0 ≤ n → A n ≡ None → IsGap (counts L) m n
+    none-gap n l none = elim (taken (counts L) m roomy n l) [
+      | inl g ↦ g
+      | inr p ↦ absurd (omega (arith, part-reach n p.0 p.1, ap reach none))
+    ]
+
+    -- where an entry stands away from its home, something is spilled
+    pub far-spilled : (n : ℕ) → spill (counts L) m 0 ≤ n → 2 ≤ reach (A n) → 1 ≤ spill (counts L) m n
+    far-spilled n l far = elim (taken (counts L) m roomy n l) [
+      | inl g ↦ absurd (omega (arith, gap-reach n g))
+      | inr p ↦ omega (arith, part-reach n p.0 p.1, apart (counts L) m roomy p.0 n (omega (arith, part-reach n p.0 p.1)))
+    ]
+
+    -- and where one stands at home, or none, nothing is
+    pub near-unspilled : (n : ℕ) → spill (counts L) m 0 ≤ n → reach (A n) ≤ 1 → spill (counts L) m n ≡ 0
+    near-unspilled n l near = elim (taken (counts L) m roomy n l) [
+      | inl g ↦ g.spilled
+      | inr p ↦
+          let e : p.0 ≡ n = omega (arith, part-reach n p.0 p.1) in
+          omega (arith, ap (spill (counts L) m) e)
+    ]
+
     not_before : (n g : ℕ) → IsGap (counts L) m n → g ≤ n → IsPartOf (counts L) m g (suc n) → ⊥
     not_before n g gap l p = elim (cases_lt g n) [
       | inl below ↦ omega (arith, apart (counts L) m roomy g n below)

@@ -1,6 +1,7 @@
 -- What repeats every m slots is known from any lap of it.
 use Rattle.std.proofs.Common.{◌≡◌, ℕ, zero, suc, ◌+◌, ◌-◌, ◌*◌, ◌/◌, ◌%◌, ◌<◌, ◌≤◌, ◌⊎◌, inl, inr, refl, ap, sym, ◌∙◌, arith, mod-lt, div-add-mod', le-mul_of_pos_right, mul-le-mul_right}
 use Rattle.std.proofs.lemmas.Bool.{cases_lt}
+use Rattle.std.proofs.Math.Nat.{add-mod_right}
 
 pub again-times : {X : Type 0} (f : ℕ → X) (m : ℕ) → ((n : ℕ) → f (n + m) ≡ f n) → (n k : ℕ) → f (n + k * m) ≡ f n
 again-times f m again n zero =
@@ -35,4 +36,19 @@ pub rems-differ : (m a b : ℕ) → a < b → b < a + m → a % m ≡ b % m → 
 rems-differ m a b l u e = elim (cases_lt (a / m) (b / m)) [
   | inl below ↦ omega (arith, div-add-mod' a m, div-add-mod' b m, mul-le-mul_right m below)
   | inr from ↦ omega (arith, div-add-mod' a m, div-add-mod' b m, mul-le-mul_right m from)
+]
+
+-- the home that lies a lap on, and no other of that lap, is the home of h
+pub same_home : (m h v : ℕ) → v < m → (h + suc v + (m - suc v)) % m ≡ h % m
+same_home m h v l =
+    let q : h + suc v + (m - suc v) ≡ h + m = omega arith in
+    ap (λ x. x % m) q ∙ add-mod_right h m
+
+pub other_home : (m h v j : ℕ) → v < m → j < m → (j ≡ m - suc v → ⊥) → (h + suc v + j) % m ≡ h % m → ⊥
+other_home m h v j l u other e = elim (cases_lt j (m - suc v)) [
+  | inl before ↦ rems-differ m (h + suc v + j) (h + suc v + (m - suc v)) (omega arith) (omega arith) (e ∙ sym (same_home m h v l))
+  | inr from ↦ elim (cases_lt (m - suc v) j) [
+    | inl past ↦ rems-differ m (h + suc v + (m - suc v)) (h + suc v + j) (omega arith) (omega arith) (same_home m h v l ∙ sym e)
+    | inr at ↦ other (omega arith)
+  ]
 ]

@@ -1,7 +1,7 @@
 mod LayoutVectors
 pub mod Groups
 pub mod Cells
-pub mod Shifts
+pub mod Moves
 pub mod Spill
 pub mod Tiles
 pub mod Laps
@@ -10,3 +10,6 @@ pub mod Walk
 pub mod Sums
 pub mod Slots
 pub mod Tidy
+pub mod Gaps
+pub mod Shifts
+pub mod Changes

@@ -1,175 +1,208 @@
--- What one write leaves in each slot, what the tests of a slot's mark say, and the loops that walk and move a run's entries.
-use Rattle.std.proofs.Common.{◌≡◌, ◌≢◌, ℕ, zero, suc, pred, ◌+◌, ◌-◌, ◌%◌, ◌<◌, ◌≤◌, ◌⊎◌, ◌↔◌, inl, inr, refl, ap, sym, ◌∙◌, subst, arith, Bool, true, false, IsTrue, List, length, set, get_or, get_or-set_same, get_or-set_other, length-set, Option, Some, None, IfSome}
+-- What moving the slots up to the next empty one on by one, for an entry put between them, does to a layout, and what moving them back does.
+use Rattle.std.proofs.Common.{◌≡◌, ℕ, zero, suc, ◌+◌, ◌-◌, ◌*◌, ◌<◌, ◌≤◌, ◌⊎◌, inl, inr, min, refl, ap, sym, ◌∙◌, arith, List, [], ◌∷◌, ◌++◌, length, length-append, Option, Some, None, slice_get}
 use Rattle.std.proofs.lemmas.Bool.{cases_lt}
-use Rattle.std.proofs.lemmas.Nat.{mod_below}
-use Rattle.clock2q.specs.Layout.{Placed, placed, slot_at, reach, IsTidy}
-use Rattle.clock2q.specs.Shifts.{Opens, Closes, IsVacancy, moved_on}
-use Rattle.clock2q.specs.Slots.{Mark, cell, mark_of, mark_on, mark_back, mark_reach, told}
-use Rattle.clock2q.proofs.Laps.{lap, lap-lt, lap-same, rems-differ}
-use Rattle.clock2q.proofs.Slots.{slot-again}
-use Rattle.clock2q.proofs.Tidy.{tidy-vacant}
+use Rattle.std.proofs.lemmas.Option.{slice_get_within}
+use Rattle.clock2q.specs.Layout.{Placed, placed, spill}
+use Rattle.clock2q.proofs.Spill.{Roomy, spill-again}
+use Rattle.clock2q.proofs.Tiles.{IsGap, apart}
+use Rattle.clock2q.proofs.Laps.{lap, lap-lt, lap-same}
+use Rattle.clock2q.proofs.Laid.{counts, IsLaid}
+use Rattle.clock2q.proofs.Gaps.{IsOneMore}
 
-module _ {E : Type 0} (slots : List (Option (Placed E))) (x : Option (Placed E)) where
-  -- the slot that was written
-  pub slot_at-set_same : (n : ℕ) → 0 < length slots → slot_at (set slots (n % length slots) x) n ≡ x
-  slot_at-set_same n some = ap (λ m. get_or (set slots (n % length slots) x) (n % m) None) (length-set slots (n % length slots) x) ∙ get_or-set_same slots (n % length slots) x None (mod_below n (length slots) some)
-
-  -- a slot that was not
-  pub slot_at-set_other : (n k : ℕ) → k % length slots ≢ n % length slots → slot_at (set slots (n % length slots) x) k ≡ slot_at slots k
-  slot_at-set_other n k other = ap (λ m. get_or (set slots (n % length slots) x) (k % m) None) (length-set slots (n % length slots) x) ∙ get_or-set_other slots (n % length slots) (k % length slots) x None other
-
--- slots less than a lap past one home are different slots
-pub apart_on_lap : (m h i j : ℕ) → i < m → j < m → i ≢ j → (h + i) % m ≢ (h + j) % m
-apart_on_lap m h i j li lj ne e = elim (cases_lt i j) [
-  | inl below ↦ rems-differ m (h + i) (h + j) (omega arith) (omega arith) e
-  | inr from ↦ elim (cases_lt j i) [
-    | inl above ↦ rems-differ m (h + j) (h + i) (omega arith) (omega arith) (sym e)
-    | inr upto ↦ ne (omega arith)
-  ]
-]
-
--- a test that failed
-refused : {P : Type 0} (b : Bool) → IsTrue b ↔ P → b ≡ false → P → ⊥
-refused b test off p = let on : b ≡ true = test.1 p in cc
-
-module _ {H : Type 0} where
-  -- a mark leaves the room that its entry does
-  pub mark_reach-mark_of : (o : Option (Placed (ℕ × H))) → mark_reach (mark_of o) ≡ reach o
-  mark_reach-mark_of None = refl
-  mark_reach-mark_of (Some s) = refl
-
-  pub reach_told : (s : Mark) (o : Option (Placed (ℕ × H))) → s ≡ mark_of o → mark_reach s ≡ reach o
-  reach_told s o is = ap mark_reach is ∙ mark_reach-mark_of o
-
-  -- a walk goes on past an entry at least as far from its home
-  pub walk_goes_on : (b : Bool) (s : Mark) (o : Option (Placed (ℕ × H))) (d : ℕ) → IsTrue b ↔ (mark_reach s ≤ d) → b ≡ false → s ≡ mark_of o → d < reach o
-  walk_goes_on b s o d test off is = elim (cases_lt d (reach o)) [
-    | inl on ↦ on
-    | inr ends ↦ absurd (refused b test off (omega (arith, reach_told s o is, ends)))
+module _ {E : Type 0} where
+  inserted_get : (xs ys : List E) (e f : E) (k : ℕ) → slice_get (xs ++ e ∷ ys) k ≡ Some f → ((k < length xs) × (slice_get (xs ++ ys) k ≡ Some f)) ⊎ (((k ≡ length xs) × (e ≡ f)) ⊎ ((length xs < k) × (slice_get (xs ++ ys) (k - 1) ≡ Some f)))
+  inserted_get [] ys e f zero is =
+      let s : e ≡ f = cc in
+      inr (inl (refl, s))
+  inserted_get [] ys e f (suc k) is =
+      let o : k ≡ suc k - 1 = omega arith in
+      inr (inr (omega arith, ap (slice_get ys) (sym o) ∙ is))
+  inserted_get (x ∷ xs) ys e f zero is = inl (omega arith, is)
+  inserted_get (x ∷ xs) ys e f (suc k) is = elim (inserted_get xs ys e f k is) [
+    | inl l ↦ inl (omega arith, l.1)
+    | inr r ↦ elim r [
+      | inl m ↦ inr (inl (omega arith, m.1))
+      | inr u ↦
+          let o : suc (k - 1) ≡ suc k - 1 = omega arith in
+          inr (inr (omega arith, ap (slice_get (x ∷ xs ++ ys)) (sym o) ∙ u.1))
+    ]
   ]
 
-  -- a slot that isn't empty
-  pub occupied_told : (b : Bool) (s : Mark) (o : Option (Placed (ℕ × H))) → IsTrue b ↔ (s ≡ None) → b ≡ false → s ≡ mark_of o → 0 < reach o
-  occupied_told b s None test off is = absurd (refused b test off is)
-  occupied_told b s (Some p) test off is = omega arith
-
-  -- a slot that is
-  pub vacant_told : (s : Mark) (o : Option (Placed (ℕ × H))) → s ≡ None → s ≡ mark_of o → o ≡ None
-  vacant_told s None e is = refl
-  vacant_told s (Some p) e is = absurd (cc)
-
-  -- a slot whose entry can't move back
-  pub near_told : (b : Bool) (s : Mark) (o : Option (Placed (ℕ × H))) → IsTrue b ↔ (1 < mark_reach s) → b ≡ false → s ≡ mark_of o → reach o ≤ 1
-  near_told b s o test off is = elim (cases_lt 1 (reach o)) [
-    | inl far ↦ absurd (refused b test off (omega (arith, reach_told s o is, far)))
-    | inr near ↦ near
+  get_inserted : (xs ys : List E) (e f : E) (k : ℕ) → slice_get (xs ++ ys) k ≡ Some f → ((k < length xs) × (slice_get (xs ++ e ∷ ys) k ≡ Some f)) ⊎ ((length xs ≤ k) × (slice_get (xs ++ e ∷ ys) (suc k) ≡ Some f))
+  get_inserted [] ys e f k is = inr (omega arith, is)
+  get_inserted (x ∷ xs) ys e f zero is = inl (omega arith, is)
+  get_inserted (x ∷ xs) ys e f (suc k) is = elim (get_inserted xs ys e f k is) [
+    | inl l ↦ inl (omega arith, l.1)
+    | inr r ↦ inr (omega arith, r.1)
   ]
 
-  -- an entry that moves on by one slot
-  pub cell-mark_on : (s s' : Mark) (o : Option (Placed (ℕ × H))) (v : H) → s ≡ mark_of o → s' ≡ mark_on s → IfSome o (λ p. v ≡ p.entry.1) → cell s' v ≡ moved_on o
-  cell-mark_on s s' None v is more handle = ap (λ m. cell m v) (more ∙ ap mark_on is)
-  cell-mark_on s s' (Some p) v is more handle =
-      ap (λ m. cell m v) (more ∙ ap mark_on is) ∙ ap (λ w. Some (placed (suc p.displacement) (p.entry.0, w))) handle
+  get_here : (xs ys : List E) (e : E) → slice_get (xs ++ e ∷ ys) (length xs) ≡ Some e
+  get_here [] ys e = refl
+  get_here (x ∷ xs) ys e = get_here xs ys e
 
-  -- an entry that moves back by one slot
-  pub cell-mark_back : (s s' : Mark) (o : Option (Placed (ℕ × H))) (v : H) → 1 < reach o → s ≡ mark_of o → s' ≡ mark_back s → IfSome o (λ p. v ≡ p.entry.1) → o ≡ moved_on (cell s' v)
-  cell-mark_back s s' None v far is less handle = absurd (omega (arith, far))
-  cell-mark_back s s' (Some p) v far is less handle =
-      let e : suc (pred p.displacement) ≡ p.displacement = omega (arith, far) in
-      sym (ap (λ m. moved_on (cell m v)) (less ∙ ap mark_back is) ∙ ap (λ w. Some (placed (suc (pred p.displacement)) (p.entry.0, w))) handle ∙ ap (λ d. Some (placed d p.entry)) e)
+  -- a layout is known from one lap
+  pub laid-lap : (m : ℕ) (L : ℕ → List E) (A : ℕ → Option (Placed E)) → ((n : ℕ) → L (n + m) ≡ L n) → ((n : ℕ) → A (n + m) ≡ A n) → 0 < m → (z : ℕ) → ((j i : ℕ) (e : E) → j < m → slice_get (L (z + j)) i ≡ Some e → A (z + j + spill (counts L) m (z + j) + i) ≡ Some (placed (spill (counts L) m (z + j) + i) e)) → ((j : ℕ) → j < m → IsGap (counts L) m (z + j) → A (z + j) ≡ None) → IsLaid m L A
+  laid-lap m L A same again some z standing rest = record {
+    standing = λ h i e is.
+        let j : ℕ = lap m z h in
+        let ls : L (z + j) ≡ L h = lap-same L m same some z h in
+        let ss : spill (counts L) m (z + j) ≡ spill (counts L) m h = lap-same (spill (counts L) m) m (spill-again (counts L) m (λ n. ap length (same n))) some z h in
+        let around : A (z + j + spill (counts L) m h + i) ≡ A (h + spill (counts L) m h + i) = lap-same (λ x. A (x + spill (counts L) m h + i)) m (λ n. let q : n + m + spill (counts L) m h + i ≡ n + spill (counts L) m h + i + m = omega arith in ap A q ∙ again (n + spill (counts L) m h + i)) some z h in
+        sym around ∙ ap (λ x. A (z + j + x + i)) (sym ss) ∙ standing j i e (lap-lt m z h some) (ap (λ xs. slice_get xs i) ls ∙ is) ∙ ap (λ x. Some (placed (x + i) e)) ss;
+    rest = λ n g.
+        let j : ℕ = lap m z n in
+        let ss : spill (counts L) m (z + j) ≡ spill (counts L) m n = lap-same (spill (counts L) m) m (spill-again (counts L) m (λ n. ap length (same n))) some z n in
+        let cs : counts L (z + j) ≡ counts L n = lap-same (counts L) m (λ n. ap length (same n)) some z n in
+        sym (lap-same A m again some z n) ∙ rest j (lap-lt m z n some) (record { spilled = ss ∙ g.spilled; counted = cs ∙ g.counted });
+  }
 
--- a walk that has met no empty slot has come less than once round
-pub less_than_lap : {E : Type 0} (slots : List (Option (Placed E))) (h n : ℕ) → IsTidy slots → 0 < length slots → ((j : ℕ) → j < n → 0 < reach (slot_at slots (h + j))) → n < length slots
-less_than_lap slots h n tidy some occupied =
-    let v = tidy-vacant slots tidy some in
-    let l : ℕ = lap (length slots) h v.0 in
-    let within : l < length slots = lap-lt (length slots) h v.0 some in
-    let empty : slot_at slots (h + l) ≡ None = lap-same (slot_at slots) (length slots) (slot-again slots) some h v.0 ∙ v.1 in
-    elim (cases_lt l n) [
-      | inl before ↦ absurd (omega (arith, occupied l before, ap reach empty))
-      | inr from ↦ omega arith
+  -- B is A with the slots from p on, up to the empty v, moved on by one, and e put in slot p, d past its home; before p, from z on, they are the same
+  pub record IsOpened (A B : ℕ → Option (Placed E)) (z p v d : ℕ) (e : E) : Type 0 where
+    pub here : B p ≡ Some (placed d e)
+    pub moved : (n : ℕ) → p ≤ n → n < v → (s : Placed E) × (A n ≡ Some s) × (B (suc n) ≡ Some (placed (suc s.displacement) s.entry))
+    pub hole : A v ≡ None
+    pub kept : (n : ℕ) → z ≤ n → n < p → B n ≡ A n
+
+  module _ (A B : ℕ → Option (Placed E)) (z p v d : ℕ) (e : E) (opened : IsOpened A B z p v d e) where
+    moved_to : (n x : ℕ) (y : E) → p ≤ n → n < v → A n ≡ Some (placed x y) → B (suc n) ≡ Some (placed (suc x) y)
+    moved_to n x y from upto is =
+        let r = opened.moved n from upto in
+        let q : Some r.0 ≡ Some (placed x y) = sym r.1 ∙ is in
+        let s : r.0 ≡ placed x y = cc in
+        r.2 ∙ ap (λ w. Some (placed (suc w.displacement) w.entry)) s
+
+    moved_from : (n x : ℕ) (y : E) → p ≤ n → n < v → B (suc n) ≡ Some (placed (suc x) y) → A n ≡ Some (placed x y)
+    moved_from n x y from upto is =
+        let r = opened.moved n from upto in
+        let q : Some (placed (suc r.0.displacement) r.0.entry) ≡ Some (placed (suc x) y) = sym r.2 ∙ is in
+        let s : placed (suc r.0.displacement) r.0.entry ≡ placed (suc x) y = cc in
+        let dx : suc r.0.displacement ≡ suc x = ap (λ w. w.displacement) s in
+        let dy : r.0.entry ≡ y = ap (λ w. w.entry) s in
+        let ds : r.0.displacement ≡ x = omega arith in
+        r.1 ∙ ap (λ w. Some (placed w r.0.entry)) ds ∙ ap (λ w. Some (placed x w)) dy
+
+  module _ (m z a v : ℕ) (L M : ℕ → List E) (A B : ℕ → Option (Placed E)) (xs ys : List E) (e : E)
+      (less : L (z + a) ≡ xs ++ ys) (more : M (z + a) ≡ xs ++ e ∷ ys) (same : (j : ℕ) → j < m → (j ≡ a → ⊥) → M (z + j) ≡ L (z + j))
+      (roomy : Roomy (counts L) m) (roomy' : Roomy (counts M) m) (one : IsOneMore (counts L) (counts M) m z a) (within : a < m) (end : suc v ≡ z + m)
+      (opened : IsOpened A B z (z + a + spill (counts L) m (z + a) + length xs) v (spill (counts L) m (z + a) + length xs) e)
+      (l_again : (n : ℕ) → L (n + m) ≡ L n) (m_again : (n : ℕ) → M (n + m) ≡ M n) (a_again : (n : ℕ) → A (n + m) ≡ A n) (b_again : (n : ℕ) → B (n + m) ≡ B n) where
+    upto_last : (j k : ℕ) → j < m → k < counts L (z + j) → z + j + spill (counts L) m (z + j) + k < v
+    upto_last j k l lk = elim (cases_lt (suc j) m) [
+      | inl inner ↦
+          let i : ℕ = m - 1 in
+          let q : z + i ≡ v = omega arith in
+          let g : IsGap (counts L) m (z + i) = one.gap i (omega arith) in
+          omega (arith, apart (counts L) m roomy (z + j) (z + i) (omega arith), g.spilled)
+      | inr last ↦
+          let g : IsGap (counts L) m (z + j) = one.gap j (omega arith) in
+          absurd (omega (arith, g.counted))
     ]
 
--- B is A where the entries from d past h up to v have moved on by one: the slot d is as it was
-pub record Moving {E : Type 0} (A B : ℕ → Option (Placed E)) (m h d v : ℕ) : Type 0 where
-  pub moved : (j : ℕ) → d ≤ j → j < v → B (h + suc j) ≡ moved_on (A (h + j))
-  pub before : (j : ℕ) → j ≤ d → B (h + j) ≡ A (h + j)
-  pub after : (j : ℕ) → v < j → j < m → B (h + j) ≡ A (h + j)
+    upto_here : length xs ≤ counts L (z + a)
+    upto_here = omega (arith, ap length less, length-append xs ys)
 
--- B is A where the entries after n past h up to d have moved back by one: the slot d is as it was
-pub record MovingBack {E : Type 0} (A B : ℕ → Option (Placed E)) (m h n d : ℕ) : Type 0 where
-  pub moved : (j : ℕ) → n ≤ j → j < d → A (h + suc j) ≡ moved_on (B (h + j))
-  pub before : (j : ℕ) → j < n → B (h + j) ≡ A (h + j)
-  pub after : (j : ℕ) → d < j → j < m → B (h + j) ≡ A (h + j)
+    module _ (laid : IsLaid m L A) where
+      -- an entry that moves on with its slot
+      on_by_one : (j k : ℕ) (f : E) → j < m → a ≤ j → (j ≡ a → length xs ≤ k) → slice_get (L (z + j)) k ≡ Some f → B (suc (z + j + spill (counts L) m (z + j) + k)) ≡ Some (placed (suc (spill (counts L) m (z + j) + k)) f)
+      on_by_one j k f l from past is = moved_to A B z (z + a + spill (counts L) m (z + a) + length xs) v (spill (counts L) m (z + a) + length xs) e opened (z + j + spill (counts L) m (z + j) + k) (spill (counts L) m (z + j) + k) f (
+          elim (cases_lt a j) [
+            | inl above ↦ omega (arith, apart (counts L) m roomy (z + a) (z + j) (omega arith), upto_here)
+            | inr upto ↦
+                let q : j ≡ a = omega arith in
+                omega (arith, past q, ap (λ x. spill (counts L) m (z + x)) q)
+          ]) (upto_last j k l (slice_get_within (L (z + j)) k f is)) (laid.standing (z + j) k f is)
 
-module _ {E : Type 0} (A : ℕ → Option (Placed E)) (slots slots' : List (Option (Placed E))) (x : Option (Placed E)) (h : ℕ) where
-  -- a slot on the lap from h that is written
-  at_written : (d : ℕ) → d < length slots → slots' ≡ set slots ((h + d) % length slots) x → slot_at slots' (h + d) ≡ x
-  at_written d within e = ap (λ s. slot_at s (h + d)) e ∙ slot_at-set_same slots x (h + d) (omega (arith, within))
+      -- an entry that keeps its slot
+      in_place : (j k : ℕ) (f : E) → j < m → z + j + spill (counts L) m (z + j) + k < z + a + spill (counts L) m (z + a) + length xs → slice_get (L (z + j)) k ≡ Some f → B (z + j + spill (counts L) m (z + j) + k) ≡ Some (placed (spill (counts L) m (z + j) + k) f)
+      in_place j k f l before is = opened.kept (z + j + spill (counts L) m (z + j) + k) (omega arith) before ∙ laid.standing (z + j) k f is
 
-  -- and one that isn't
-  at_other : (d j : ℕ) → d < length slots → j < length slots → j ≢ d → slots' ≡ set slots ((h + d) % length slots) x → slot_at slots' (h + j) ≡ slot_at slots (h + j)
-  at_other d j within lj ne e = ap (λ s. slot_at s (h + j)) e ∙ slot_at-set_other slots x (h + d) (h + j) (apart_on_lap (length slots) h j d lj within ne)
+      open_standing : (j k : ℕ) (f : E) → j < m → slice_get (M (z + j)) k ≡ Some f → B (z + j + spill (counts M) m (z + j) + k) ≡ Some (placed (spill (counts M) m (z + j) + k) f)
+      open_standing j k f l is = elim (cases_lt j a) [
+        | inl before ↦
+            let s : spill (counts L) m (z + j) ≡ spill (counts M) m (z + j) = omega (arith, one.spills j l) in
+            let is' : slice_get (L (z + j)) k ≡ Some f = ap (λ x. slice_get x k) (sym (same j l (λ q. omega arith))) ∙ is in
+            ap (λ x. B (z + j + x + k)) (sym s) ∙ in_place j k f l (omega (arith, apart (counts L) m roomy (z + j) (z + a) (omega arith), slice_get_within (L (z + j)) k f is')) is' ∙ ap (λ x. Some (placed (x + k) f)) s
+        | inr from ↦ elim (cases_lt a j) [
+          | inl past ↦
+              let s : suc (spill (counts L) m (z + j) + k) ≡ spill (counts M) m (z + j) + k = omega (arith, one.spills j l) in
+              let p : suc (z + j + spill (counts L) m (z + j) + k) ≡ z + j + spill (counts M) m (z + j) + k = omega (arith, one.spills j l) in
+              let is' : slice_get (L (z + j)) k ≡ Some f = ap (λ x. slice_get x k) (sym (same j l (λ q. omega arith))) ∙ is in
+              ap B (sym p) ∙ on_by_one j k f l from (λ q. omega arith) is' ∙ ap (λ x. Some (placed x f)) s
+          | inr upto ↦
+              let q : j ≡ a = omega arith in
+              let qs : spill (counts L) m (z + j) ≡ spill (counts L) m (z + a) = ap (λ x. spill (counts L) m (z + x)) q in
+              let s : spill (counts L) m (z + j) ≡ spill (counts M) m (z + j) = omega (arith, one.spills j l) in
+              let lq : L (z + j) ≡ xs ++ ys = ap (λ x. L (z + x)) q ∙ less in
+              elim (inserted_get xs ys e f k (ap (λ x. slice_get x k) (sym more) ∙ ap (λ x. slice_get (M (z + x)) k) (sym q) ∙ is)) [
+                | inl front ↦ ap (λ x. B (z + j + x + k)) (sym s) ∙ in_place j k f l (omega arith) (ap (λ x. slice_get x k) lq ∙ front.1) ∙ ap (λ x. Some (placed (x + k) f)) s
+                | inr r ↦ elim r [
+                  | inl here ↦
+                      let p : z + j + spill (counts M) m (z + j) + k ≡ z + a + spill (counts L) m (z + a) + length xs = omega arith in
+                      let t : spill (counts L) m (z + a) + length xs ≡ spill (counts M) m (z + j) + k = omega arith in
+                      ap B p ∙ opened.here ∙ ap (λ x. Some (placed x e)) t ∙ ap (λ y. Some (placed (spill (counts M) m (z + j) + k) y)) here.1
+                  | inr back ↦
+                      let p : suc (z + j + spill (counts L) m (z + j) + (k - 1)) ≡ z + j + spill (counts M) m (z + j) + k = omega arith in
+                      let t : suc (spill (counts L) m (z + j) + (k - 1)) ≡ spill (counts M) m (z + j) + k = omega arith in
+                      ap B (sym p) ∙ on_by_one j (k - 1) f l from (λ _. omega arith) (ap (λ x. slice_get x (k - 1)) lq ∙ back.1) ∙ ap (λ x. Some (placed x f)) t
+                ]
+              ]
+        ]
+      ]
 
-  -- one entry more has moved on
-  pub moving_more : (d v : ℕ) → 0 < d → d ≤ v → v < length slots → Moving A (slot_at slots) (length slots) h d v → x ≡ moved_on (slot_at slots (h + (d - 1))) → slots' ≡ set slots ((h + d) % length slots) x
-      → Moving A (slot_at slots') (length slots) h (d - 1) v
-  moving_more d v some upto within so_far is e = record {
-    moved = λ j from below. elim (cases_lt j d) [
-      | inl here ↦
-          let k : j ≡ d - 1 = omega arith in
-          let s : suc j ≡ d = omega arith in
-          ap (λ i. slot_at slots' (h + i)) s ∙ at_written d (omega arith) e ∙ is ∙ ap moved_on (so_far.before (d - 1) (omega arith)) ∙ ap (λ i. moved_on (A (h + i))) (sym k)
-      | inr past ↦ at_other d (suc j) (omega arith) (omega arith) (λ q. omega arith) e ∙ so_far.moved j past below
-    ];
-    before = λ j l. at_other d j (omega arith) (omega arith) (λ q. omega arith) e ∙ so_far.before j (omega arith);
-    after = λ j l u. at_other d j (omega arith) u (λ q. omega arith) e ∙ so_far.after j l u;
-  }
+      open_rest : (j : ℕ) → j < m → IsGap (counts M) m (z + j) → B (z + j) ≡ None
+      open_rest j l g = elim (cases_lt j a) [
+        | inl before ↦ opened.kept (z + j) (omega arith) (omega arith) ∙ laid.rest (z + j) (record { spilled = omega (arith, one.spills j l, g.spilled); counted = omega (arith, one.same j l (λ q. omega arith), g.counted) })
+        | inr from ↦ elim (cases_lt a j) [
+          | inl past ↦ absurd (omega (arith, one.spills j l, g.spilled))
+          | inr upto ↦
+              let q : j ≡ a = omega arith in
+              absurd (omega (arith, ap (λ x. counts M (z + x)) q, one.more, g.counted))
+        ]
+      ]
 
-  -- one entry more has moved back
-  pub moving_back_more : (n d k : ℕ) → k ≡ suc d → n ≤ d → k < length slots → MovingBack A (slot_at slots) (length slots) h n d → slot_at slots (h + k) ≡ moved_on x → slots' ≡ set slots ((h + d) % length slots) x
-      → MovingBack A (slot_at slots') (length slots) h n k
-  moving_back_more n d k next from within so_far is e = record {
-    moved = λ j l below. elim (cases_lt j d) [
-      | inl earlier ↦ so_far.moved j l earlier ∙ ap moved_on (sym (at_other d j (omega arith) (omega arith) (λ q. omega arith) e))
-      | inr here ↦
-          let same : j ≡ d = omega arith in
-          let s : suc j ≡ k = omega arith in
-          ap (λ i. A (h + i)) s ∙ sym (so_far.after k (omega arith) within) ∙ is ∙ ap moved_on (sym (at_written d (omega arith) e)) ∙ ap (λ i. moved_on (slot_at slots' (h + i))) (sym same)
-    ];
-    before = λ j l. at_other d j (omega arith) (omega arith) (λ q. omega arith) e ∙ so_far.before j l;
-    after = λ j l u. at_other d j (omega arith) u (λ q. omega arith) e ∙ so_far.after j (omega arith) u;
-  }
+      -- the slots moved on lay out the lists with the entry
+      pub opened-laid : IsLaid m M B
+      opened-laid = laid-lap m M B m_again b_again (omega arith) z open_standing open_rest
 
-  -- once they have moved on, the entry is put in
-  pub opened : (n v : ℕ) (entry : E) → n ≤ v → v < length slots → A (h + v) ≡ None → Moving A (slot_at slots) (length slots) h n v → x ≡ Some (placed n entry) → slots' ≡ set slots ((h + n) % length slots) x
-      → Opens A (slot_at slots') (length slots) h n v entry
-  opened n v entry from within vacant done is e = record {
-    from = from;
-    upto = within;
-    vacant = vacant;
-    put = at_written n (omega arith) e ∙ is;
-    moved = λ j l u. at_other n (suc j) (omega arith) (omega arith) (λ q. omega arith) e ∙ done.moved j l u;
-    before = λ j l. at_other n j (omega arith) (omega arith) (λ q. omega arith) e ∙ done.before j (omega arith);
-    after = λ j l u. at_other n j (omega arith) u (λ q. omega arith) e ∙ done.after j l u;
-  }
+    module _ (laid : IsLaid m M B) where
+      close_standing : (j k : ℕ) (f : E) → j < m → slice_get (L (z + j)) k ≡ Some f → A (z + j + spill (counts L) m (z + j) + k) ≡ Some (placed (spill (counts L) m (z + j) + k) f)
+      close_standing j k f l is = elim (cases_lt j a) [
+        | inl before ↦
+            let s : spill (counts M) m (z + j) ≡ spill (counts L) m (z + j) = omega (arith, one.spills j l) in
+            let is' : slice_get (M (z + j)) k ≡ Some f = ap (λ x. slice_get x k) (same j l (λ q. omega arith)) ∙ is in
+            sym (opened.kept (z + j + spill (counts L) m (z + j) + k) (omega arith) (omega (arith, apart (counts L) m roomy (z + j) (z + a) (omega arith), slice_get_within (L (z + j)) k f is))) ∙ ap (λ x. B (z + j + x + k)) (sym s) ∙ laid.standing (z + j) k f is' ∙ ap (λ x. Some (placed (x + k) f)) s
+        | inr from ↦ elim (cases_lt a j) [
+          | inl past ↦
+              let s : spill (counts M) m (z + j) + k ≡ suc (spill (counts L) m (z + j) + k) = omega (arith, one.spills j l) in
+              let p : suc (z + j + spill (counts L) m (z + j) + k) ≡ z + j + spill (counts M) m (z + j) + k = omega (arith, one.spills j l) in
+              let is' : slice_get (M (z + j)) k ≡ Some f = ap (λ x. slice_get x k) (same j l (λ q. omega arith)) ∙ is in
+              moved_from A B z (z + a + spill (counts L) m (z + a) + length xs) v (spill (counts L) m (z + a) + length xs) e opened (z + j + spill (counts L) m (z + j) + k) (spill (counts L) m (z + j) + k) f (omega (arith, apart (counts L) m roomy (z + a) (z + j) (omega arith), upto_here)) (upto_last j k l (slice_get_within (L (z + j)) k f is)) (ap B p ∙ laid.standing (z + j) k f is' ∙ ap (λ x. Some (placed x f)) s)
+          | inr upto ↦
+              let q : j ≡ a = omega arith in
+              let qs : spill (counts L) m (z + j) ≡ spill (counts L) m (z + a) = ap (λ x. spill (counts L) m (z + x)) q in
+              let s : spill (counts M) m (z + j) ≡ spill (counts L) m (z + j) = omega (arith, one.spills j l) in
+              let mq : M (z + j) ≡ xs ++ e ∷ ys = ap (λ x. M (z + x)) q ∙ more in
+              elim (get_inserted xs ys e f k (ap (λ x. slice_get x k) (sym less) ∙ ap (λ x. slice_get (L (z + x)) k) (sym q) ∙ is)) [
+                | inl front ↦ sym (opened.kept (z + j + spill (counts L) m (z + j) + k) (omega arith) (omega arith)) ∙ ap (λ x. B (z + j + x + k)) (sym s) ∙ laid.standing (z + j) k f (ap (λ x. slice_get x k) mq ∙ front.1) ∙ ap (λ x. Some (placed (x + k) f)) s
+                | inr back ↦
+                    let t : spill (counts M) m (z + j) + suc k ≡ suc (spill (counts L) m (z + j) + k) = omega arith in
+                    let p : suc (z + j + spill (counts L) m (z + j) + k) ≡ z + j + spill (counts M) m (z + j) + suc k = omega arith in
+                    moved_from A B z (z + a + spill (counts L) m (z + a) + length xs) v (spill (counts L) m (z + a) + length xs) e opened (z + j + spill (counts L) m (z + j) + k) (spill (counts L) m (z + j) + k) f (omega arith) (upto_last j k l (slice_get_within (L (z + j)) k f is)) (ap B p ∙ laid.standing (z + j) (suc k) f (ap (λ x. slice_get x (suc k)) mq ∙ back.1) ∙ ap (λ x. Some (placed x f)) t)
+              ]
+        ]
+      ]
 
-  -- once they have moved back, the last slot is emptied
-  pub closed : (n v : ℕ) (entry : E) → n ≤ v → v < length slots → A (h + n) ≡ Some (placed n entry) → MovingBack A (slot_at slots) (length slots) h n v → x ≡ None → slots' ≡ set slots ((h + v) % length slots) x
-      → Opens (slot_at slots') A (length slots) h n v entry
-  closed n v entry from within was done is e = record {
-    from = from;
-    upto = within;
-    vacant = at_written v within e ∙ is;
-    put = was;
-    moved = λ j l u. done.moved j l u ∙ ap moved_on (sym (at_other v j within (omega arith) (λ q. omega arith) e));
-    before = λ j l. sym (at_other v j within (omega arith) (λ q. omega arith) e ∙ done.before j l);
-    after = λ j l u. sym (at_other v j within u (λ q. omega arith) e ∙ done.after j l u);
-  }
+      close_rest : (j : ℕ) → j < m → IsGap (counts L) m (z + j) → A (z + j) ≡ None
+      close_rest j l g = elim (cases_lt j a) [
+        | inl before ↦ sym (opened.kept (z + j) (omega arith) (omega arith)) ∙ laid.rest (z + j) (record { spilled = omega (arith, one.spills j l, g.spilled); counted = omega (arith, one.same j l (λ q. omega arith), g.counted) })
+        | inr from ↦ elim (cases_lt (suc j) m) [
+          | inl inner ↦ absurd (omega (arith, one.full j from inner, g.spilled, g.counted))
+          | inr last ↦
+              let p : z + j ≡ v = omega arith in
+              ap A p ∙ opened.hole
+        ]
+      ]
 
--- the first empty slot is one
-pub vacancy_same : {E : Type 0} (A : ℕ → Option (Placed E)) (h v w : ℕ) → IsVacancy A h v → IsVacancy A h w → v ≡ w
-vacancy_same A h v w p q = elim (cases_lt v w) [
-  | inl below ↦ absurd (omega (arith, q.occupied v below, ap reach p.vacant))
-  | inr from ↦ elim (cases_lt w v) [ inl above ↦ absurd (omega (arith, p.occupied w above, ap reach q.vacant)) | inr upto ↦ omega arith ]
-]
+      -- the slots moved back lay out the lists without it
+      pub closed-laid : IsLaid m L A
+      closed-laid = laid-lap m L A l_again a_again (omega arith) z close_standing close_rest

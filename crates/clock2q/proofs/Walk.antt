@@ -6,7 +6,7 @@ use Rattle.clock2q.specs.Layout.{Placed, placed, window, spill, reach, at_home, 
 use Rattle.clock2q.proofs.Spill.{Roomy, spill-again, window-lap, window-add}
 use Rattle.clock2q.proofs.Tiles.{IsGap, unique}
 use Rattle.clock2q.proofs.Laps.{lap, lap-lt, lap-same}
-use Rattle.clock2q.proofs.Laid.{counts, IsLaid, at_home-own, at_home-other, reach-none, met-last, met-again}
+use Rattle.clock2q.proofs.Laid.{counts, IsLaid, at_home-own, at_home-other, reach-none, met-last, met-add, met-again}
 
 -- the first n slots from h on hold entries more than t further from their homes than h is, and slot n doesn't
 pub record Stops {E : Type 0} (A : ℕ → Option (Placed E)) (h t n : ℕ) : Type 0 where
@@ -52,6 +52,14 @@ module _ {E : Type 0} (A : ℕ → Option (Placed E)) (ordered : IsOrdered A) wh
     | inl below ↦ absurd (omega (arith, q.before n below, p.stop))
     | inr from ↦ elim (cases_lt k n) [ inl below ↦ absurd (omega (arith, p.before k below, q.stop)) | inr upto ↦ omega arith ]
   ]
+
+  -- past its stop a walk meets no entry of its home
+  pub met-late : (h n k : ℕ) → reach (A (h + n)) ≤ n → met A h n k ≡ []
+  met-late h n zero l = refl
+  met-late h n (suc k) l =
+      let here : at_home (A (h + n)) n ≡ [] = at_home-other (A (h + n)) n (λ e. omega arith) in
+      let next : reach (A (h + suc n)) ≤ suc n = omega (arith, after h 0 n (omega arith) (suc n) (omega arith)) in
+      ap (λ xs. xs ++ met A h (suc n) k) here ∙ met-late h (suc n) k next
 
   search_for : (h t k : ℕ) → ((n : ℕ) × (n < k) × Stops A h t n) ⊎ ((j : ℕ) → j < k → j + t < reach (A (h + j)))
   search_for h t zero = inr (λ j l. absurd (omega arith))
@@ -242,3 +250,18 @@ module _ {E : Type 0} (A : ℕ → Option (Placed E)) (ordered : IsOrdered A) wh
     -- a walk stops past its home's last entry
     pub stop-sum : (h n : ℕ) → Stops A h 0 n → n ≡ spill (counts lists) m h + counts lists h
     stop-sum h n s = stops-unique h 0 n (ending h) s (ending-stops h) ∙ ending-sum h
+
+    -- an entry's displacement: what is spilled at its home, and the home's entries before it
+    pub met-count : (h d : ℕ) → reach (A (h + d)) ≡ suc d → spill (counts lists) m h + length (met A h 0 d) ≡ d
+    met-count h d r =
+        let from : pushed h ≤ d = elim (cases_lt d (pushed h)) [ inl early ↦ absurd (omega (arith, (pushed-stops h).before d early)) | inr from ↦ from ] in
+        let upto : d < ending h = elim (cases_lt d (ending h)) [ inl upto ↦ upto | inr late ↦ absurd (omega (arith, after h 0 (ending h) (ending-stops h).stop d late)) ] in
+        omega (arith, met-length h d, spill-pushed h)
+
+    -- a home's list is what its walk meets up to the stop
+    pub met-stop : (h n : ℕ) → n ≤ m → Stops A h 0 n → lists h ≡ met A h 0 n
+    met-stop h n l s =
+        let e : m ≡ n + (m - n) = omega arith in
+        let z : 0 + n ≡ n = omega arith in
+        let stop : reach (A (h + n)) ≤ n = omega (arith, s.stop) in
+        ap (met A h 0) e ∙ met-add A h 0 n (m - n) ∙ ap (λ x. met A h 0 n ++ met A h x (m - n)) z ∙ ap (λ xs. met A h 0 n ++ xs) (met-late h n (m - n) stop) ∙ append-nil (met A h 0 n)

@@ -1,6 +1,6 @@
 use Rattle.std.proofs.Common.{◌≡◌, ℕ, suc, ◌+◌, ◌-◌, ◌<◌, ◌≤◌, length}
 use Rattle.clock2q.specs.Layout.{slot_at}
-use Rattle.clock2q.proofs.Shifts.{Moving}
+use Rattle.clock2q.proofs.Moves.{Moving}
 use Rattle.clock2q.proofs.handles.slots.Slots.move_on.Given as goal
 
 abbrev pub invariant-loop-distance : goal.invariant-loop-distance

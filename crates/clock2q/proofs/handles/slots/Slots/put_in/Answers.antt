@@ -3,7 +3,7 @@ use Rattle.clock2q.specs.Homes.{top}
 use Rattle.clock2q.specs.Layout.{reach, slot_at}
 use Rattle.clock2q.specs.Slots.{cell, told}
 use Rattle.clock2q.specs.Shifts.{Opens}
-use Rattle.clock2q.proofs.Shifts.{Moving, opened, vacancy_same}
+use Rattle.clock2q.proofs.Moves.{Moving, opened, vacancy_same}
 use Rattle.clock2q.proofs.handles.slots.Slots.put_in.Goals as goal
 
 pub returns-clause-put : goal.returns-clause-put

@@ -3,7 +3,7 @@ use Rattle.std.proofs.Math.ListN.{length-set}
 use Rattle.clock2q.specs.Layout.{reach, slot_at}
 use Rattle.clock2q.specs.Slots.{cell, told}
 use Rattle.clock2q.specs.Shifts.{Closes, Opens}
-use Rattle.clock2q.proofs.Shifts.{MovingBack, moving_back_more, closed, cell-mark_back, reach_told, near_told, less_than_lap}
+use Rattle.clock2q.proofs.Moves.{MovingBack, moving_back_more, closed, cell-mark_back, reach_told, near_told, less_than_lap}
 use Rattle.clock2q.proofs.handles.slots.Slots.take_out.Goals as goal
 
 pub overflow_add-hole : goal.overflow_add-hole

@@ -1,6 +1,6 @@
 use Rattle.std.proofs.Common.{◌≡◌, ℕ, ◌+◌, ◌-◌, ◌<◌, ◌≤◌, length}
 use Rattle.clock2q.specs.Layout.{reach, slot_at}
-use Rattle.clock2q.proofs.Shifts.{MovingBack}
+use Rattle.clock2q.proofs.Moves.{MovingBack}
 use Rattle.clock2q.proofs.handles.slots.Slots.take_out.Given as goal
 
 abbrev pub invariant-loop-metadata : goal.invariant-loop-metadata
