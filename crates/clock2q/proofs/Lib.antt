@@ -1,6 +1,8 @@
 mod LayoutVectors
 pub mod Groups
 pub mod Cells
+pub mod Fit
+pub mod Tables
 pub mod Moves
 pub mod Spill
 pub mod Tiles

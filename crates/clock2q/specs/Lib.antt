@@ -2,5 +2,6 @@ pub mod Homes
 pub mod Layout
 pub mod TableStep
 pub mod Slots
+pub mod Table
 pub mod Shifts
 pub mod Partition

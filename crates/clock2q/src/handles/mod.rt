@@ -1,5 +1,9 @@
 //! A multimap from hashes of 64 bits to handles that its caller owns.
 
+ghost use Rattle.clock2q.specs.Slots.{IsSlotCount};
+ghost use Rattle.clock2q.specs.TableStep.{fit};
+ghost use Rattle.std.specs.Prelude.{◌≡◌, ◌≢◌, ◌^◌, ◌<◌, ◌≤◌, ◌↔◌, [], IsTrue, IsOk, IsErrOf, IfOk, IfSome, MatchOption, length};
+
 mod candidates;
 mod metadata;
 mod partitions;
@@ -14,6 +18,7 @@ pub use partitions::partition;
 use slots::Slots;
 use std::alloc::{Allocator, Global};
 use std::fmt;
+use std::marker::Model;
 use thiserror::Error;
 
 /// Why a call of a [Table] was refused.
@@ -33,21 +38,47 @@ pub enum TableError {
 /// The least number of slots.
 const MIN_SLOTS: usize = 16;
 
+/// A multimap from hashes of 64 bits to handles. See the [module documentation](self).
 #[derive(Drop)]
 pub struct Table<H: Copy + Eq + Default, A: Allocator = Global> {
     slots: Slots<H, A>,
     len: usize,
 }
 
+impl<H: Copy + Eq + Default, A: Allocator> Model for Table<H, A> {
+    ghost use Rattle.clock2q.specs.Layout.{homes_of};
+    ghost use Rattle.clock2q.specs.Table.{IsTable};
+    ghost use Rattle.clock2q.specs.TableStep.{TableValue, table_code, table_value};
+
+    ghost Value = { TableValue H };
+
+    ghost coded = { table_code H.code };
+
+    ghost view = { λ t. table_value (homes_of t.slots.slots) t.slots.slots t.slots.writes };
+
+    ghost invariant = { λ t. IsTable t.slots.slots t.len };
+}
+
 /// The least slot count in which `entries` entries fit, if it can be counted.
-fn slots_for(entries: usize) -> Option<usize> {
+fn slots_for(entries: usize) -> Option<usize>
+    ensures count { MatchOption result (2 ^ 64 ≤ fit entries) (λ count. count ≡ fit entries) }
+    ensures power { IfSome result IsSlotCount }
+{
     let quarter = entries.div_ceil(3).checked_next_power_of_two()?;
-    Some(quarter.checked_mul(4)?.max(MIN_SLOTS))
+    let Some(count) = quarter.checked_mul(4) else {
+        return None;
+    };
+    Some(count.max(MIN_SLOTS))
 }
 
 impl<H: Copy + Eq + Default, A: Allocator + Copy> Table<H, A> {
+    ghost use Rattle.clock2q.specs.Layout.{layout};
+    ghost use Rattle.clock2q.specs.TableStep.{table_value, made_for};
+
     /// An empty table with no slots, which takes no memory.
-    pub fn new(alloc: A) -> Table<H, A> {
+    pub fn new(alloc: A) -> Table<H, A>
+        ensures { result ≡ table_value [] [] 0 }
+    {
         Table {
             slots: Slots::new(alloc),
             len: 0,
@@ -55,12 +86,25 @@ impl<H: Copy + Eq + Default, A: Allocator + Copy> Table<H, A> {
     }
 
     /// An empty table that takes `entries` entries without growing.
-    pub fn with_capacity(alloc: A, entries: usize) -> Result<Table<H, A>, TableError> {
+    ///
+    /// # Errors
+    ///
+    /// `Size` where the slots are too many to count, and `Memory` where they can't be had.
+    pub fn with_capacity(alloc: A, entries: usize) -> Result<Table<H, A>, TableError>
+        ensures made { IfOk result (λ t. t ≡ table_value (made_for entries) (layout (made_for entries)) 0) }
+        ensures size { IsErrOf result TableError.Size ↔ ((0 < entries) × (2 ^ 64 ≤ fit entries)) }
+        ensures only { result ≢ Err TableError.RunTooLong }
+        ensures none { entries ≡ 0 → IsOk result }
+    {
         if entries == 0 {
             return Ok(Table::new(alloc));
         }
-        let count = slots_for(entries).ok_or(TableError::Size)?;
-        let slots = Slots::with_count(alloc, count).map_err(|_| TableError::Memory)?;
+        let Some(count) = slots_for(entries) else {
+            return Err(TableError::Size);
+        };
+        let Ok(slots) = Slots::with_count(alloc, count) else {
+            return Err(TableError::Memory);
+        };
         Ok(Table { slots, len: 0 })
     }
 
@@ -105,10 +149,11 @@ impl<H: Copy + Eq + Default, A: Allocator + Copy> Table<H, A> {
         if self.len == self.capacity() {
             self.grow(rehash)?;
         }
+        let home = self.slots.home(hash);
         match self.slots.offer(hash, matches) {
             Ok(found) => Ok((found, false)),
             Err(distance) => {
-                self.place(self.slots.home(hash), distance, hash, handle)?;
+                self.place(home, distance, hash, handle)?;
                 Ok((handle, true))
             }
         }
@@ -153,18 +198,28 @@ impl<H: Copy + Eq + Default, A: Allocator + Copy> Table<H, A> {
 }
 
 impl<H: Copy + Eq + Default, A: Allocator> Table<H, A> {
+    ghost use Rattle.clock2q.specs.Homes.{total, capacity};
+    ghost use Rattle.clock2q.specs.Table.{IsWhole};
+
     /// How many entries there are.
-    pub fn len(&self) -> usize {
+    pub fn len(&self) -> usize
+        ensures len { result ≡ total self.now.homes }
+        ensures whole { IsWhole self.now }
+    {
         self.len
     }
 
     /// Whether there is no entry.
-    pub fn is_empty(&self) -> bool {
-        self.len == 0
+    pub fn is_empty(&self) -> bool
+        ensures { IsTrue result ↔ (total self.now.homes ≡ 0) }
+    {
+        self.len() == 0
     }
 
     /// How many entries fit before the table grows.
-    pub fn capacity(&self) -> usize {
+    pub fn capacity(&self) -> usize
+        ensures { result ≡ capacity (length self.now.homes) }
+    {
         self.slots.count() / 4 * 3
     }
 
@@ -184,7 +239,8 @@ impl<H: Copy + Eq + Default, A: Allocator> Table<H, A> {
         let Some(distance) = self.slots.find(hash, handle) else {
             return false;
         };
-        self.slots.take_out(self.slots.home(hash), distance);
+        let home = self.slots.home(hash);
+        self.slots.take_out(home, distance);
         self.len -= 1;
         true
     }
