@@ -3,6 +3,7 @@ pub mod Groups
 pub mod Cells
 pub mod Fit
 pub mod Tables
+pub mod Finding
 pub mod Moves
 pub mod Spill
 pub mod Tiles

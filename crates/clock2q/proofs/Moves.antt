@@ -29,7 +29,7 @@ apart_on_lap m h i j li lj ne e = elim (cases_lt i j) [
 ]
 
 -- a test that failed
-refused : {P : Type 0} (b : Bool) → IsTrue b ↔ P → b ≡ false → P → ⊥
+pub refused : {P : Type 0} (b : Bool) → IsTrue b ↔ P → b ≡ false → P → ⊥
 refused b test off p = let on : b ≡ true = test.1 p in cc
 
 module _ {H : Type 0} where

@@ -4,4 +4,5 @@ pub mod TableStep
 pub mod Slots
 pub mod Table
 pub mod Shifts
+pub mod Found
 pub mod Partition

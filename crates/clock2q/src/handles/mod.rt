@@ -236,10 +236,10 @@ impl<H: Copy + Eq + Default, A: Allocator> Table<H, A> {
     /// Takes the first candidate of `hash` that equals `handle` out, and answers whether there was
     /// one.
     pub fn remove(&mut self, hash: u64, handle: H) -> bool {
-        let Some(distance) = self.slots.find(hash, handle) else {
+        let home = self.slots.home(hash);
+        let Some(distance) = self.slots.find(home, hash, handle) else {
             return false;
         };
-        let home = self.slots.home(hash);
         self.slots.take_out(home, distance);
         self.len -= 1;
         true

@@ -1,9 +1,10 @@
 //! Walks along a table's slots, and what moves entries within a run.
-ghost use Rattle.clock2q.specs.Homes.{top, is_entry_of};
-ghost use Rattle.clock2q.specs.Layout.{IsTidy, reach, slot_at, placed};
+ghost use Rattle.clock2q.specs.Homes.{top, is_entry_of, listed};
+ghost use Rattle.clock2q.specs.Found.{Finds};
+ghost use Rattle.clock2q.specs.Layout.{IsTidy, reach, slot_at, placed, homes_of};
 ghost use Rattle.clock2q.specs.Shifts.{Opens, Closes, HasRoom, IsVacancy, moved_on};
 ghost use Rattle.std.specs.Bool.{OnTrue, OnFalse};
-ghost use Rattle.std.specs.Prelude.{◌≡◌, ◌+◌, ◌-◌, ◌^◌, ◌<◌, ◌≤◌, ℕ, suc, true, false, Some, None, IfSome, IfNone, length};
+ghost use Rattle.std.specs.Prelude.{◌≡◌, ◌+◌, ◌-◌, ◌^◌, ◌<◌, ◌≤◌, ℕ, suc, [], filter, Some, None, IfSome, IfNone, length};
 
 use super::metadata::{MAX_DISPLACEMENT, Metadata};
 use super::slots::Slots;
@@ -27,11 +28,16 @@ impl<H: Copy + Default, A: Allocator> Slots<H, A> {
     }
 
     /// How far from the home of `hash` its first candidate that equals `handle` stands.
-    pub(super) fn find(&self, hash: u64, handle: H) -> Option<usize>
+    pub(super) fn find(&self, home: usize, hash: u64, handle: H) -> Option<usize>
     where
         H: PartialEq,
+        requires tidy { IsTidy self.now.slots }
+        requires home { 0 < length self.now.slots → home < length self.now.slots }
+        requires near { (n : ℕ) → reach (slot_at self.now.slots n) ≤ 16777215 }
+        ensures found { IfSome result (Finds (is_entry_of H.PartialEq.eq hash handle) (slot_at self.now.slots) home) }
+        ensures within { IfSome result (λ n. n < length self.now.slots) }
+        ensures none { IfNone result (filter (is_entry_of H.PartialEq.eq hash handle) (listed (homes_of self.now.slots) home) ≡ []) }
     {
-        let home = self.home(hash);
         for distance in 0..self.count() {
             let metadata = self.metadata(home, distance);
             if metadata.ends_walk(distance) {
