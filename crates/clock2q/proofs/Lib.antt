@@ -10,3 +10,4 @@ pub mod Tidy
 pub mod Gaps
 pub mod Shifts
 pub mod Changes
+pub mod Placement
