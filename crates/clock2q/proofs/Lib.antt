@@ -11,3 +11,4 @@ pub mod Gaps
 pub mod Shifts
 pub mod Changes
 pub mod Placement
+pub mod Rebuild

@@ -92,7 +92,7 @@ spill-again c m again h = largest-same (λ j. window c (h + m + m - j) j - j) (�
 
 module _ (c : ℕ → ℕ) (m : ℕ) (roomy : Roomy c m) where
   -- a window of a lap or less holds no more than a lap
-  within_lap : (a k : ℕ) → k ≤ m → window c a k ≤ window c 0 m
+  pub within_lap : (a k : ℕ) → k ≤ m → window c a k ≤ window c 0 m
   within_lap a k l =
       let e : k + (m - k) ≡ m = omega arith in
       omega (arith, window-add c a k (m - k), ap (window c a) e, window-lap c m roomy.again a)
