@@ -60,11 +60,11 @@ module _ {E : Type 0} where
         ap B q ∙ moved.kept j (omega arith) (omega arith) ∙ ap A (sym q);
   }
 
-  slots_again : (slots : List (Option (Placed E))) (m : ℕ) → length slots ≡ m → (n : ℕ) → slot_at slots (n + m) ≡ slot_at slots n
+  pub slots_again : (slots : List (Option (Placed E))) (m : ℕ) → length slots ≡ m → (n : ℕ) → slot_at slots (n + m) ≡ slot_at slots n
   slots_again slots m len n = ap (λ x. slot_at slots (n + x)) (sym len) ∙ slot-again slots n
 
   -- an empty slot ends what is known of the slots before it: it lies within a lap of the home
-  vacant_within : (A : ℕ → Option (Placed E)) (m h v : ℕ) → ((n : ℕ) → A (n + m) ≡ A n) → 0 < m → (w : ℕ) → A w ≡ None → ((j : ℕ) → j < v → 1 ≤ reach (A (h + j))) → v < m
+  pub vacant_within : (A : ℕ → Option (Placed E)) (m h v : ℕ) → ((n : ℕ) → A (n + m) ≡ A n) → 0 < m → (w : ℕ) → A w ≡ None → ((j : ℕ) → j < v → 1 ≤ reach (A (h + j))) → v < m
   vacant_within A m h v again some w vacant full = elim (cases_lt v m) [
     | inl below ↦ below
     | inr from ↦
@@ -94,6 +94,30 @@ module _ {E : Type 0} where
       let v = tidy-vacant slots tidy some in
       let q : spill (count (homes_of slots)) (length slots) h + length (met (slot_at slots) h 0 d) ≡ d = subst (λ L. spill (counts L) (length slots) h + length (met (slot_at slots) h 0 d) ≡ d) (λ i x. sym (listed-homes_of slots x) i) (met-count (slot_at slots) tidy.ordered (length slots) (slot-again slots) some v.0 v.1 h d r) in
       ap (λ x. spill (count (homes_of slots)) x h + length (met (slot_at slots) h 0 d)) (length-homes_of slots) ∙ q
+
+  -- one entry more in a home from which the slots are full up to a hole
+  pub one-put : (m h v : ℕ) (L M : ℕ → List E) (A : ℕ → Option (Placed E)) → Roomy (counts L) m → Roomy (counts M) m → v < m → counts M h ≡ suc (counts L h) → ((n : ℕ) → (n % m ≡ h % m → ⊥) → counts M n ≡ counts L n) → IsLaid m L A → ((n : ℕ) → A (n + m) ≡ A n) → A (h + v) ≡ None → ((j : ℕ) → j < v → 1 ≤ reach (A (h + j))) → IsOneMore (counts L) (counts M) m (h + suc v) (m - suc v)
+  one-put m h v L M A roomy roomy' within more other laid again hole full = one-more (counts L) (counts M) m (h + suc v) (m - suc v) roomy roomy' (omega arith) more_there (λ j l q. other (h + suc v + j) (other_home m h v j within l q)) put_full put_gap
+    where
+      there : h + suc v + (m - suc v) ≡ h + m
+      there = omega arith
+
+      more_there : counts M (h + suc v + (m - suc v)) ≡ suc (counts L (h + suc v + (m - suc v)))
+      more_there = omega (arith, more, ap (counts L) there, ap (counts M) there, roomy.again h, roomy'.again h)
+
+      put_full : (j : ℕ) → m - suc v ≤ j → suc j < m → 1 ≤ spill (counts L) m (h + suc v + j) + counts L (h + suc v + j)
+      put_full j from l =
+          let k : ℕ = j - (m - suc v) in
+          let q : h + suc v + j ≡ h + k + m = omega arith in
+          elim (cases_lt 0 (spill (counts L) m (h + suc v + j) + counts L (h + suc v + j))) [
+            | inl some ↦ some
+            | inr none ↦ absurd (omega (arith, full k (omega arith), ap reach (laid.rest (h + suc v + j) (record { spilled = omega arith; counted = omega arith })), ap (λ x. reach (A x)) q, ap reach (again (h + k))))
+          ]
+
+      put_gap : (j : ℕ) → suc j ≡ m → IsGap (counts L) m (h + suc v + j)
+      put_gap j l =
+          let q : h + suc v + j ≡ h + v + m = omega arith in
+          none-gap m L A roomy laid (h + suc v + j) (omega (arith, spill-lt (counts L) m roomy 0)) (ap A q ∙ again (h + v) ∙ hole)
 
   -- lists that differ in one entry, e, between xs and ys in the list of h, and slots that differ as moving on for it makes them
   module _ (m h d v : ℕ) (L M : ℕ → List E) (A B : ℕ → Option (Placed E)) (xs ys : List E) (e : E)
@@ -129,21 +153,7 @@ module _ {E : Type 0} where
     -- the entry is put: the slots from the home to the hole are full
     module _ (laid : IsLaid m L A) (full : (j : ℕ) → j < v → 1 ≤ reach (A (h + j))) where
       put_one : IsOneMore (counts L) (counts M) m (h + suc v) (m - suc v)
-      put_one = one-more (counts L) (counts M) m (h + suc v) (m - suc v) roomy roomy' (omega arith) more_count others_count put_full put_gap
-        where
-          put_full : (j : ℕ) → m - suc v ≤ j → suc j < m → 1 ≤ spill (counts L) m (h + suc v + j) + counts L (h + suc v + j)
-          put_full j from l =
-              let k : ℕ = j - (m - suc v) in
-              let q : h + suc v + j ≡ h + k + m = omega arith in
-              elim (cases_lt 0 (spill (counts L) m (h + suc v + j) + counts L (h + suc v + j))) [
-                | inl some ↦ some
-                | inr none ↦ absurd (omega (arith, full k (omega arith), ap reach (laid.rest (h + suc v + j) (record { spilled = omega arith; counted = omega arith })), ap (λ x. reach (A x)) q, ap reach (a_again (h + k))))
-              ]
-
-          put_gap : (j : ℕ) → suc j ≡ m → IsGap (counts L) m (h + suc v + j)
-          put_gap j l =
-              let q : h + suc v + j ≡ h + v + m = omega arith in
-              none-gap m L A roomy laid (h + suc v + j) (omega (arith, spill-lt (counts L) m roomy 0)) (ap A q ∙ a_again (h + v) ∙ moved.hole)
+      put_one = one-put m h v L M A roomy roomy' within (omega (arith, ap length less, ap length more, length-append xs ys, length-append xs (e ∷ ys))) (λ n q. ap length (other n q)) laid a_again moved.hole full
 
       put-laid : spill (counts L) m h + length xs ≡ d → IsLaid m M B
       put-laid at = opened-laid m (h + suc v) (m - suc v) (h + m + v) L M A B xs ys e less_there more_there others_there roomy roomy' put_one (omega arith) lap_end (opened_there at) l_again m_again a_again b_again laid
@@ -171,13 +181,13 @@ module _ {E : Type 0} where
       taken-laid : spill (counts M) m h + length xs ≡ d → IsLaid m L A
       taken-laid at = closed-laid m (h + suc v) (m - suc v) (h + m + v) L M A B xs ys e less_there more_there others_there roomy roomy' taken_one (omega arith) lap_end (opened_there (omega (arith, taken_spill))) l_again m_again a_again b_again laid
 
-  roomy_at : (homes : List (List E)) (m : ℕ) → length homes ≡ m → total homes < m → Roomy (count homes) m
+  pub roomy_at : (homes : List (List E)) (m : ℕ) → length homes ≡ m → total homes < m → Roomy (count homes) m
   roomy_at homes m len l = subst (Roomy (count homes)) len (roomy-of homes (omega arith))
 
-  listed_at : (homes : List (List E)) (m : ℕ) → length homes ≡ m → (n : ℕ) → listed homes (n + m) ≡ listed homes n
+  pub listed_at : (homes : List (List E)) (m : ℕ) → length homes ≡ m → (n : ℕ) → listed homes (n + m) ≡ listed homes n
   listed_at homes m len n = ap (λ x. listed homes (n + x)) (sym len) ∙ listed-again homes n
 
-  other_at : (homes : List (List E)) (m h : ℕ) (es : List E) → length homes ≡ m → (n : ℕ) → (n % m ≡ h % m → ⊥) → listed (with_list homes h es) n ≡ listed homes n
+  pub other_at : (homes : List (List E)) (m h : ℕ) (es : List E) → length homes ≡ m → (n : ℕ) → (n % m ≡ h % m → ⊥) → listed (with_list homes h es) n ≡ listed homes n
   other_at homes m h es len n other = listed-with_other homes h n es (λ q. other (ap (λ x. n % x) (sym len) ∙ q ∙ ap (λ x. h % x) len))
 
   module _ (slots others : List (Option (Placed E))) (h d v : ℕ) (e : E) (len : length others ≡ length slots) (order : d ≤ v) (moved : IsMovedOn (slot_at slots) (slot_at others) (length slots) h d v e) where

@@ -12,3 +12,4 @@ pub mod Shifts
 pub mod Changes
 pub mod Placement
 pub mod Rebuild
+pub mod TooLong
