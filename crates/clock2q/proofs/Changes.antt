@@ -4,7 +4,7 @@ use Rattle.std.proofs.lemmas.Bool.{cases_lt}
 use Rattle.std.proofs.lemmas.List.{get_or_past}
 use Rattle.std.proofs.lemmas.List.Sums.{sum_by-set}
 use Rattle.clock2q.specs.Homes.{capacity, home, listed, count, total, with_list, put_last}
-use Rattle.clock2q.specs.Layout.{Placed, placed, spill, spill_of, slot_at, layout, entries, reach, at_home, met, homes_of, IsOrdered, IsTidy}
+use Rattle.clock2q.specs.Layout.{Placed, placed, spill, spill_of, slot_at, layout, entries, reach, at_home, met, homes_of, run, IsOrdered, IsTidy}
 use Rattle.clock2q.proofs.Spill.{Roomy, spill-again, spill-lt}
 use Rattle.clock2q.proofs.Tiles.{IsGap}
 use Rattle.clock2q.proofs.Laps.{lap, lap-lt, lap-same, same_home, other_home}
@@ -12,6 +12,7 @@ use Rattle.clock2q.proofs.Laid.{counts, IsLaid, at_home-own, met-add, none-gap, 
 use Rattle.clock2q.proofs.Walk.{Stops, passed, stop-sum, met-count, met-stop}
 use Rattle.clock2q.proofs.Slots.{slot-again, listed-again, count-again, length-layout, layout-laid}
 use Rattle.clock2q.proofs.Tidy.{capacity-lt, roomy-of, length-homes_of, listed-homes_of, laid-layout, tidy-vacant, tidy-total, tidy-room, read-laid-homes, layout-read, layout-tidy}
+use Rattle.clock2q.proofs.Runs.{run-is, run-above}
 use Rattle.clock2q.proofs.Gaps.{IsOneMore, one-more, one-less}
 use Rattle.clock2q.proofs.Shifts.{IsOpened, opened-laid, closed-laid}
 
@@ -74,6 +75,18 @@ module _ {E : Type 0} where
 
   at_home-same : (d : ℕ) (e : E) → at_home (Some (placed d e)) d ≡ e ∷ []
   at_home-same d e = rw (eq-eqb d d refl)
+
+  -- the list of home h without the entry that stands d past it
+  abbrev pub list_without : List (Option (Placed E)) → ℕ → ℕ → List E
+  list_without slots h d = met (slot_at slots) h 0 d ++ met (slot_at slots) h (suc d) (length slots - suc d)
+
+  -- that entry stands between the two parts
+  pub read-split : (slots : List (Option (Placed E))) (h d : ℕ) (e : E) → d < length slots → slot_at slots (h + d) ≡ Some (placed d e) → listed (homes_of slots) h ≡ met (slot_at slots) h 0 d ++ e ∷ met (slot_at slots) h (suc d) (length slots - suc d)
+  read-split slots h d e l here =
+      let q : length slots ≡ d + suc (length slots - suc d) = omega arith in
+      let z : 0 + d ≡ d = omega arith in
+      let own : at_home (slot_at slots (h + d)) d ≡ e ∷ [] = ap (λ o. at_home o d) here ∙ at_home-same d e in
+      listed-homes_of slots h ∙ ap (met (slot_at slots) h 0) q ∙ met-add (slot_at slots) h 0 d (suc (length slots - suc d)) ∙ ap (λ x. met (slot_at slots) h 0 d ++ met (slot_at slots) h x (suc (length slots - suc d))) z ∙ ap (λ xs. met (slot_at slots) h 0 d ++ (xs ++ met (slot_at slots) h (suc d) (length slots - suc d))) own
 
   -- where a walk of an ordered table stops
   pub read-stop : (slots : List (Option (Placed E))) → IsTidy slots → 0 < length slots → (h n : ℕ) → Stops (slot_at slots) h 0 n → n ≡ spill_of (homes_of slots) h + count (homes_of slots) h
@@ -198,6 +211,13 @@ module _ {E : Type 0} where
         | inr from ↦ omega (arith, ap reach (moved.moved j from l).1)
       ]
 
+      -- its run ends at the hole
+      pub inserted-run : run slots h ≡ v
+      inserted-run =
+          let some : 0 < length slots = omega arith in
+          let w = tidy-vacant slots tidy some in
+          run-is slots h v (vacant_within (slot_at slots) (length slots) h v (slot-again slots) some w.0 w.1 full_before) moved.hole full_before
+
       put_total : total (put_last (homes_of slots) h e) ≡ suc (total (homes_of slots))
       put_total = omega (arith, total-with_list (homes_of slots) h (listed (homes_of slots) h ++ e ∷ []) (omega (arith, length-homes_of slots)), length-append (listed (homes_of slots) h) (e ∷ []))
 
@@ -248,10 +268,6 @@ module _ {E : Type 0} where
         ]
       ]
 
-      -- the home's list without the entry
-      pub rest_of : List E
-      rest_of = met (slot_at others) h 0 d ++ met (slot_at others) h (suc d) (length others - suc d)
-
       some_others : 0 < length others
       some_others = elim (cases_lt 0 (length others)) [
         | inl some ↦ some
@@ -263,42 +279,40 @@ module _ {E : Type 0} where
           let w = tidy-vacant others tidy some_others in
           vacant_within (slot_at others) (length others) h (suc v) (slot-again others) some_others w.0 w.1 full_upto
 
+      -- the run reaches past the hole
+      pub removed-run : suc v ≤ run others h
+      removed-run = run-above others h (suc v) (omega (arith, taken_within)) full_upto
+
       taken_split : listed (homes_of others) h ≡ met (slot_at others) h 0 d ++ e ∷ met (slot_at others) h (suc d) (length others - suc d)
-      taken_split =
-          let q : length others ≡ d + suc (length others - suc d) = omega (arith, taken_within) in
-          let z : 0 + d ≡ d = omega arith in
-          let own : at_home (slot_at others (h + d)) d ≡ e ∷ [] = ap (λ o. at_home o d) moved.here ∙ at_home-same d e in
-          listed-homes_of others h ∙ ap (met (slot_at others) h 0) q ∙ met-add (slot_at others) h 0 d (suc (length others - suc d)) ∙ ap (λ x. met (slot_at others) h 0 d ++ met (slot_at others) h x (suc (length others - suc d))) z ∙ ap (λ xs. met (slot_at others) h 0 d ++ (xs ++ met (slot_at others) h (suc d) (length others - suc d))) own
+      taken_split = read-split others h d e (omega (arith, taken_within)) moved.here
 
-      taken_total : suc (total (with_list (homes_of others) h rest_of)) ≡ total (homes_of others)
-      unfolding rest_of
-      taken_total = omega (arith, total-with_list (homes_of others) h rest_of (omega (arith, some_others, length-homes_of others)), ap length taken_split, length-append (met (slot_at others) h 0 d) (met (slot_at others) h (suc d) (length others - suc d)), length-append (met (slot_at others) h 0 d) (e ∷ met (slot_at others) h (suc d) (length others - suc d)))
+      taken_total : suc (total (with_list (homes_of others) h (list_without others h d))) ≡ total (homes_of others)
+      taken_total = omega (arith, total-with_list (homes_of others) h (list_without others h d) (omega (arith, some_others, length-homes_of others)), ap length taken_split, length-append (met (slot_at others) h 0 d) (met (slot_at others) h (suc d) (length others - suc d)), length-append (met (slot_at others) h 0 d) (e ∷ met (slot_at others) h (suc d) (length others - suc d)))
 
-      taken_length : length (with_list (homes_of others) h rest_of) ≡ length others
-      taken_length = length-with_list (homes_of others) h rest_of ∙ length-homes_of others
+      taken_length : length (with_list (homes_of others) h (list_without others h d)) ≡ length others
+      taken_length = length-with_list (homes_of others) h (list_without others h d) ∙ length-homes_of others
 
-      taken_room : total (with_list (homes_of others) h rest_of) ≤ capacity (length (with_list (homes_of others) h rest_of))
+      taken_room : total (with_list (homes_of others) h (list_without others h d)) ≤ capacity (length (with_list (homes_of others) h (list_without others h d)))
       taken_room = omega (arith, taken_total, tidy.room, tidy-total others tidy, ap capacity taken_length)
 
       -- the slots that moved back lay out the lists without the entry
-      pub removed-layout : slots ≡ layout (with_list (homes_of others) h rest_of)
-      unfolding rest_of
+      pub removed-layout : slots ≡ layout (with_list (homes_of others) h (list_without others h d))
       removed-layout =
           let m : ℕ = length others in
           let some : 0 < m = some_others in
           let more : List (List E) = homes_of others in
-          let less : List (List E) = with_list (homes_of others) h rest_of in
+          let less : List (List E) = with_list (homes_of others) h (list_without others h d) in
           let w = tidy-vacant others tidy some in
           let room : total more < m = omega (arith, tidy.room, tidy-total others tidy, capacity-lt m some) in
           let room' : total less < m = omega (arith, taken_total, room) in
           let laid : IsLaid m (listed more) (slot_at others) = subst (λ x. IsLaid x (listed more) (slot_at others)) (length-homes_of others) (read-laid-homes others tidy.ordered w.0 w.1 some) in
           let at : spill (count more) m h + length (met (slot_at others) h 0 d) ≡ d = ap (λ x. spill (count more) x h + length (met (slot_at others) h 0 d)) (sym (length-homes_of others)) ∙ read-count others tidy some h d (ap reach moved.here) in
           let moved' : IsMovedOn (slot_at slots) (slot_at others) m h d v e = subst (λ x. IsMovedOn (slot_at slots) (slot_at others) x h d v e) (sym len) moved in
-          let result : IsLaid m (listed less) (slot_at slots) = taken-laid m h d v (listed less) (listed more) (slot_at slots) (slot_at others) (met (slot_at others) h 0 d) (met (slot_at others) h (suc d) (m - suc d)) e (listed-with_same more h h rest_of (omega (arith, some, length-homes_of others)) refl) taken_split (λ n q. sym (other_at more m h rest_of (length-homes_of others) n q)) (listed_at less m taken_length) (listed_at more m (length-homes_of others)) (slots_again slots m (sym len)) (slot-again others) (roomy_at less m taken_length room') (roomy_at more m (length-homes_of others) room) order (omega (arith, taken_within)) moved' laid away near at in
+          let result : IsLaid m (listed less) (slot_at slots) = taken-laid m h d v (listed less) (listed more) (slot_at slots) (slot_at others) (met (slot_at others) h 0 d) (met (slot_at others) h (suc d) (m - suc d)) e (listed-with_same more h h (list_without others h d) (omega (arith, some, length-homes_of others)) refl) taken_split (λ n q. sym (other_at more m h (list_without others h d) (length-homes_of others) n q)) (listed_at less m taken_length) (listed_at more m (length-homes_of others)) (slots_again slots m (sym len)) (slot-again others) (roomy_at less m taken_length room') (roomy_at more m (length-homes_of others) room) order (omega (arith, taken_within)) moved' laid away near at in
           laid-layout less slots (omega (arith, room', taken_length)) (sym len ∙ sym taken_length) (subst (λ x. IsLaid x (listed less) (slot_at slots)) (sym taken_length) result)
 
       pub removed-tidy : IsTidy slots
-      removed-tidy = subst IsTidy (sym removed-layout) (layout-tidy (with_list (homes_of others) h rest_of) taken_room)
+      removed-tidy = subst IsTidy (sym removed-layout) (layout-tidy (with_list (homes_of others) h (list_without others h d)) taken_room)
 
-      pub removed-homes : homes_of slots ≡ with_list (homes_of others) h rest_of
-      removed-homes = ap homes_of removed-layout ∙ layout-read (with_list (homes_of others) h rest_of) taken_room
+      pub removed-homes : homes_of slots ≡ with_list (homes_of others) h (list_without others h d)
+      removed-homes = ap homes_of removed-layout ∙ layout-read (with_list (homes_of others) h (list_without others h d)) taken_room

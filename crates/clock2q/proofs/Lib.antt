@@ -13,3 +13,4 @@ pub mod Changes
 pub mod Placement
 pub mod Rebuild
 pub mod TooLong
+pub mod Runs
