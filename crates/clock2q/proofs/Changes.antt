@@ -218,8 +218,9 @@ module _ {E : Type 0} where
           let w = tidy-vacant slots tidy some in
           run-is slots h v (vacant_within (slot_at slots) (length slots) h v (slot-again slots) some w.0 w.1 full_before) moved.hole full_before
 
-      put_total : total (put_last (homes_of slots) h e) ≡ suc (total (homes_of slots))
-      put_total = omega (arith, total-with_list (homes_of slots) h (listed (homes_of slots) h ++ e ∷ []) (omega (arith, length-homes_of slots)), length-append (listed (homes_of slots) h) (e ∷ []))
+      -- one entry more
+      pub inserted-total : total (put_last (homes_of slots) h e) ≡ suc (total (homes_of slots))
+      inserted-total = omega (arith, total-with_list (homes_of slots) h (listed (homes_of slots) h ++ e ∷ []) (omega (arith, length-homes_of slots)), length-append (listed (homes_of slots) h) (e ∷ []))
 
       put_length : length (put_last (homes_of slots) h e) ≡ length slots
       put_length = length-with_list (homes_of slots) h (listed (homes_of slots) h ++ e ∷ []) ∙ length-homes_of slots
@@ -231,7 +232,7 @@ module _ {E : Type 0} where
           let homes : List (List E) = homes_of slots in
           let some : 0 < m = omega arith in
           let room : total homes < m = omega (arith, capacity-lt m some) in
-          let room' : total (put_last homes h e) < m = omega (arith, put_total, capacity-lt m some) in
+          let room' : total (put_last homes h e) < m = omega (arith, inserted-total, capacity-lt m some) in
           let w = tidy-vacant slots tidy some in
           let within : v < m = vacant_within (slot_at slots) m h v (slot-again slots) some w.0 w.1 full_before in
           let laid : IsLaid m (listed homes) (slot_at slots) = subst (λ x. IsLaid x (listed homes) (slot_at slots)) (length-homes_of slots) (read-laid-homes slots tidy.ordered w.0 w.1 some) in
@@ -240,7 +241,7 @@ module _ {E : Type 0} where
           laid-layout (put_last homes h e) others (omega (arith, put_length)) (len ∙ sym put_length) (subst (λ x. IsLaid x (listed (put_last homes h e)) (slot_at others)) (sym put_length) result)
 
       put_room : total (put_last (homes_of slots) h e) ≤ capacity (length (put_last (homes_of slots) h e))
-      put_room = omega (arith, put_total, ap capacity put_length)
+      put_room = omega (arith, inserted-total, ap capacity put_length)
 
       pub inserted-tidy : IsTidy others
       inserted-tidy = subst IsTidy (sym inserted-layout) (layout-tidy (put_last (homes_of slots) h e) put_room)
@@ -286,14 +287,15 @@ module _ {E : Type 0} where
       taken_split : listed (homes_of others) h ≡ met (slot_at others) h 0 d ++ e ∷ met (slot_at others) h (suc d) (length others - suc d)
       taken_split = read-split others h d e (omega (arith, taken_within)) moved.here
 
-      taken_total : suc (total (with_list (homes_of others) h (list_without others h d))) ≡ total (homes_of others)
-      taken_total = omega (arith, total-with_list (homes_of others) h (list_without others h d) (omega (arith, some_others, length-homes_of others)), ap length taken_split, length-append (met (slot_at others) h 0 d) (met (slot_at others) h (suc d) (length others - suc d)), length-append (met (slot_at others) h 0 d) (e ∷ met (slot_at others) h (suc d) (length others - suc d)))
+      -- one entry less
+      pub removed-total : suc (total (with_list (homes_of others) h (list_without others h d))) ≡ total (homes_of others)
+      removed-total = omega (arith, total-with_list (homes_of others) h (list_without others h d) (omega (arith, some_others, length-homes_of others)), ap length taken_split, length-append (met (slot_at others) h 0 d) (met (slot_at others) h (suc d) (length others - suc d)), length-append (met (slot_at others) h 0 d) (e ∷ met (slot_at others) h (suc d) (length others - suc d)))
 
       taken_length : length (with_list (homes_of others) h (list_without others h d)) ≡ length others
       taken_length = length-with_list (homes_of others) h (list_without others h d) ∙ length-homes_of others
 
       taken_room : total (with_list (homes_of others) h (list_without others h d)) ≤ capacity (length (with_list (homes_of others) h (list_without others h d)))
-      taken_room = omega (arith, taken_total, tidy.room, tidy-total others tidy, ap capacity taken_length)
+      taken_room = omega (arith, removed-total, tidy.room, tidy-total others tidy, ap capacity taken_length)
 
       -- the slots that moved back lay out the lists without the entry
       pub removed-layout : slots ≡ layout (with_list (homes_of others) h (list_without others h d))
@@ -304,7 +306,7 @@ module _ {E : Type 0} where
           let less : List (List E) = with_list (homes_of others) h (list_without others h d) in
           let w = tidy-vacant others tidy some in
           let room : total more < m = omega (arith, tidy.room, tidy-total others tidy, capacity-lt m some) in
-          let room' : total less < m = omega (arith, taken_total, room) in
+          let room' : total less < m = omega (arith, removed-total, room) in
           let laid : IsLaid m (listed more) (slot_at others) = subst (λ x. IsLaid x (listed more) (slot_at others)) (length-homes_of others) (read-laid-homes others tidy.ordered w.0 w.1 some) in
           let at : spill (count more) m h + length (met (slot_at others) h 0 d) ≡ d = ap (λ x. spill (count more) x h + length (met (slot_at others) h 0 d)) (sym (length-homes_of others)) ∙ read-count others tidy some h d (ap reach moved.here) in
           let moved' : IsMovedOn (slot_at slots) (slot_at others) m h d v e = subst (λ x. IsMovedOn (slot_at slots) (slot_at others) x h d v e) (sym len) moved in

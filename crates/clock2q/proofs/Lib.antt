@@ -14,3 +14,4 @@ pub mod Placement
 pub mod Rebuild
 pub mod TooLong
 pub mod Runs
+pub mod Removals
