@@ -1,17 +1,17 @@
 -- What an insertion and a removal make of a table's slots, and of the lists that are read off them.
-use Rattle.std.proofs.Common.{◌≡◌, ℕ, zero, suc, ◌+◌, ◌-◌, ◌*◌, ◌%◌, ◌<◌, ◌≤◌, ◌⊎◌, inl, inr, min, refl, ap, sym, ◌∙◌, subst, arith, eq-eqb, List, [], ◌∷◌, ◌++◌, length, set, get_or, get_or-set_same, get_or-set_other, length-set, length-append, append-nil, Option, Some, None, mod-lt}
+use Rattle.std.proofs.Common.{◌≡◌, ℕ, suc, ◌+◌, ◌-◌, ◌%◌, ◌<◌, ◌≤◌, inl, inr, refl, ap, sym, ◌∙◌, subst, arith, eq-eqb, List, [], ◌∷◌, ◌++◌, length, get_or, get_or-set_same, get_or-set_other, length-set, length-append, append-nil, Option, Some, None}
 use Rattle.std.proofs.lemmas.Bool.{cases_lt}
 use Rattle.std.proofs.lemmas.List.{get_or_past}
 use Rattle.std.proofs.lemmas.List.Sums.{sum_by-set}
 use Rattle.clock2q.specs.Homes.{capacity, home, listed, count, total, with_list, put_last}
-use Rattle.clock2q.specs.Layout.{Placed, placed, spill, spill_of, slot_at, layout, entries, reach, at_home, met, homes_of, run, IsOrdered, IsTidy}
+use Rattle.clock2q.specs.Layout.{Placed, placed, spill, spill_of, slot_at, layout, reach, at_home, met, homes_of, run, IsTidy}
 use Rattle.clock2q.proofs.Spill.{Roomy, spill-again, spill-lt}
 use Rattle.clock2q.proofs.Tiles.{IsGap}
-use Rattle.clock2q.proofs.Laps.{lap, lap-lt, lap-same, same_home, other_home}
-use Rattle.clock2q.proofs.Laid.{counts, IsLaid, at_home-own, met-add, none-gap, far-spilled, near-unspilled}
+use Rattle.clock2q.proofs.Laps.{lap, lap-lt, lap-same, other_home}
+use Rattle.clock2q.proofs.Laid.{counts, IsLaid, met-add, none-gap, far-spilled, near-unspilled}
 use Rattle.clock2q.proofs.Walk.{Stops, passed, stop-sum, met-count, met-stop}
-use Rattle.clock2q.proofs.Slots.{slot-again, listed-again, count-again, length-layout, layout-laid}
-use Rattle.clock2q.proofs.Tidy.{capacity-lt, roomy-of, length-homes_of, listed-homes_of, laid-layout, tidy-vacant, tidy-total, tidy-room, read-laid-homes, layout-read, layout-tidy}
+use Rattle.clock2q.proofs.Slots.{slot-again, listed-again}
+use Rattle.clock2q.proofs.Tidy.{capacity-lt, roomy-of, length-homes_of, listed-homes_of, laid-layout, tidy-vacant, tidy-total, read-laid-homes, layout-read, layout-tidy}
 use Rattle.clock2q.proofs.Runs.{run-is, run-above}
 use Rattle.clock2q.proofs.Gaps.{IsOneMore, one-more, one-less}
 use Rattle.clock2q.proofs.Shifts.{IsOpened, opened-laid, closed-laid}

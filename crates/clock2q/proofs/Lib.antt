@@ -15,3 +15,4 @@ pub mod Rebuild
 pub mod TooLong
 pub mod Runs
 pub mod Removals
+pub mod Hashes

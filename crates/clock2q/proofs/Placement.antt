@@ -1,12 +1,12 @@
 -- No placement of the same entries does better than the layout: the homes of a window that is overfull have too many entries for nearer slots.
-use Rattle.std.proofs.Common.{◌≡◌, ℕ, zero, suc, ◌+◌, ◌-◌, ◌*◌, ◌%◌, ◌<◌, ◌≤◌, ◌⊎◌, inl, inr, refl, ap, sym, ◌∙◌, arith, Bool, true, false, ◌||◌, eqb, eqb-true, eq-eqb, ne_eqb, List, [], ◌∷◌, length, mod-lt, mod-eq_of_lt}
+use Rattle.std.proofs.Common.{◌≡◌, ℕ, zero, suc, ◌+◌, ◌-◌, ◌%◌, ◌<◌, ◌≤◌, ◌⊎◌, inl, inr, refl, ap, sym, ◌∙◌, arith, Bool, true, false, ◌||◌, eqb, eqb-true, eq-eqb, ne_eqb, List, [], ◌∷◌, length, mod-eq_of_lt}
 use Rattle.std.specs.List.{IsDistinct, AllByRecursion, list_any}
 use Rattle.std.proofs.lemmas.Bool.{cases_lt}
 use Rattle.std.proofs.lemmas.Map.Steps.{length-le_from_distinct_below}
 use Rattle.std.proofs.Math.Nat.{add-mod_right}
 use Rattle.clock2q.specs.Homes.{capacity, count, total}
-use Rattle.clock2q.specs.Layout.{window, spill, spill_of, IsPlacement, StandsPast, IsBestPlaced}
-use Rattle.clock2q.proofs.Spill.{Roomy, spill-found, spill-step, spill-lt}
+use Rattle.clock2q.specs.Layout.{window, spill_of, IsPlacement, StandsPast, IsBestPlaced}
+use Rattle.clock2q.proofs.Spill.{spill-found}
 use Rattle.clock2q.proofs.Laps.{rem-same, rems-differ}
 use Rattle.clock2q.proofs.Slots.{count-again}
 use Rattle.clock2q.proofs.Tidy.{capacity-lt}

@@ -1,19 +1,18 @@
 -- Fewer entries push less, in as many homes or in a multiple: what a removal and a rebuild owe to that. And what a rebuild makes of the lists.
-use Rattle.std.proofs.Common.{◌≡◌, ℕ, zero, suc, ◌+◌, ◌-◌, ◌*◌, ◌%◌, ◌^◌, ◌<◌, ◌≤◌, ◌⊎◌, inl, inr, refl, ap, sym, ◌∙◌, subst, arith, Bool, true, false, cond, eqb, eqb-true, eq-eqb, ne_eqb, List, [], ◌∷◌, ◌++◌, length, take, drop, take-append-drop, get_or, fold, sum_by, replicate, length-append, Option, Some, None, slice_get, mod-lt, mod-eq_of_lt}
+use Rattle.std.proofs.Common.{◌≡◌, ℕ, zero, suc, ◌+◌, ◌-◌, ◌*◌, ◌%◌, ◌<◌, ◌≤◌, inl, inr, refl, ap, sym, ◌∙◌, arith, Bool, true, false, cond, eqb, eq-eqb, ne_eqb, List, [], ◌∷◌, ◌++◌, length, take, drop, take-append-drop, get_or, sum_by, length-append, Option, Some, slice_get}
 use Rattle.std.proofs.lemmas.Bool.{cases_lt, cases_eq}
 use Rattle.std.proofs.lemmas.List.{get_or_past, length-replicate}
 use Rattle.std.proofs.lemmas.List.Elements.{filter_map-append}
 use Rattle.std.proofs.lemmas.List.Sums.{fold_push, sum_by-cons, sum_by-append}
 use Rattle.std.proofs.Math.ListN.{get_or-replicate}
 use Rattle.std.proofs.Math.Nat.{add-mul-mod_self_right}
-use Rattle.clock2q.specs.Homes.{top, capacity, home, listed, count, total, no_entries, with_list, put_last}
-use Rattle.clock2q.specs.Layout.{Placed, placed, window, spill, spill_of, walk, slot_at, layout, entries, homes_of, IsTooLong, IsTidy}
-use Rattle.clock2q.specs.TableStep.{put_all, rebuilt, IsHashOf}
-use Rattle.clock2q.proofs.Spill.{Roomy, spill-again, spill-found, spill-step, window-le, window-same, within_lap}
+use Rattle.clock2q.specs.Homes.{capacity, listed, count, total, no_entries, with_list, put_last}
+use Rattle.clock2q.specs.Layout.{Placed, window, spill, spill_of, walk, layout, entries}
+use Rattle.clock2q.specs.TableStep.{put_all, IsHashOf}
+use Rattle.clock2q.proofs.Spill.{Roomy, spill-again, spill-found, spill-step, window-le}
 use Rattle.clock2q.proofs.Laps.{again-times, rem-same}
-use Rattle.clock2q.proofs.Sums.{weight, entries-sum, laid-sum}
-use Rattle.clock2q.proofs.Slots.{slot-again, listed-again, count-again, length-layout, layout-laid}
-use Rattle.clock2q.proofs.Tidy.{capacity-lt, roomy-of, layout-sum, length-homes_of, tidy-layout, tidy-total}
+use Rattle.clock2q.proofs.Slots.{listed-again}
+use Rattle.clock2q.proofs.Tidy.{capacity-lt, roomy-of, layout-sum}
 use Rattle.clock2q.proofs.Changes.{length-with_list, listed-with_same, listed-with_other, total-with_list}
 
 -- a window of any length holds no more than its slots and what is spilled after it

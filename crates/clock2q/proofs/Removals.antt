@@ -1,8 +1,8 @@
 -- What taking an entry out of its home's list leaves: the list as a removal finds it, the table as it was before an insertion, and walks that are no longer.
-use Rattle.std.proofs.Common.{◌≡◌, ℕ, zero, suc, ◌+◌, ◌%◌, ◌<◌, ◌≤◌, ◌⊎◌, inl, inr, refl, ap, sym, ◌∙◌, arith, Bool, true, false, cond, ◌||◌, ◌&&◌, ◌==◌, eq-eqb, List, [], ◌∷◌, ◌++◌, length, get_or, set, set-set, append-nil, Option, Some, None, ◌-◌}
+use Rattle.std.proofs.Common.{◌≡◌, ℕ, suc, ◌+◌, ◌%◌, ◌<◌, ◌≤◌, refl, ap, sym, ◌∙◌, arith, Bool, true, false, cond, ◌||◌, ◌&&◌, eq-eqb, List, [], ◌∷◌, ◌++◌, length, set, set-set, append-nil, Option, Some, ◌-◌}
 use Rattle.std.specs.List.{list_any}
 use Rattle.std.proofs.Math.Seq.{set-get_or}
-use Rattle.clock2q.specs.Homes.{top, capacity, home, listed, count, total, with_list, put_last, without_first, inserted, is_entry_of, removed, IsNew}
+use Rattle.clock2q.specs.Homes.{top, capacity, home, listed, total, with_list, without_first, inserted, is_entry_of, removed, IsNew}
 use Rattle.clock2q.specs.Layout.{Placed, placed, slot_at, walk, layout, homes_of, met, IsTidy}
 use Rattle.clock2q.proofs.Tidy.{tidy-layout, length-homes_of}
 use Rattle.clock2q.proofs.Rebuild.{shorter-walk}

@@ -1,5 +1,5 @@
 -- How far the occupied slots from a home go.
-use Rattle.std.proofs.Common.{◌≡◌, ℕ, zero, suc, ◌+◌, ◌<◌, ◌≤◌, refl, ap, sym, ◌∙◌, arith, List, length, Option, Some, None}
+use Rattle.std.proofs.Common.{◌≡◌, ℕ, zero, suc, ◌+◌, ◌<◌, ◌≤◌, refl, ap, ◌∙◌, arith, List, length, Option, Some, None}
 use Rattle.clock2q.specs.Layout.{Placed, reach, slot_at, occupied, run}
 
 module _ {E : Type 0} where

@@ -1,5 +1,5 @@
 -- How far earlier homes push the entries of a home, over counts that repeat every m homes.
-use Rattle.std.proofs.Common.{◌≡◌, ℕ, zero, suc, ◌+◌, ◌-◌, ◌<◌, ◌≤◌, ◌⊎◌, inl, inr, max, refl, ap, sym, ◌∙◌, arith, add_assoc, add_comm, add-zero, add-suc}
+use Rattle.std.proofs.Common.{◌≡◌, ℕ, zero, suc, ◌+◌, ◌-◌, ◌<◌, ◌≤◌, inl, inr, refl, ap, arith, add_assoc, add-zero, add-suc}
 use Rattle.std.proofs.lemmas.Bool.{cases_lt}
 use Rattle.clock2q.specs.Layout.{window, largest, spill}
 
@@ -9,7 +9,7 @@ pub record Roomy (c : ℕ → ℕ) (m : ℕ) : Type 0 where
   pub room : window c 0 m < m
 
 pub window-add : (c : ℕ → ℕ) (a k l : ℕ) → window c a (k + l) ≡ window c a k + window c (a + k) l
-window-add c a k zero = rw add-zero (omega arith)
+window-add c a k zero = rw (add-zero k) (omega arith)
 window-add c a k (suc l) = rw add-suc (omega (arith, window-add c a k l, ap c (add_assoc a k l)))
 
 pub window-again : (c : ℕ → ℕ) (m : ℕ) → ((n : ℕ) → c (n + m) ≡ c n) → (a k : ℕ) → window c (a + m) k ≡ window c a k

@@ -1,15 +1,15 @@
 -- A table's slots are tidy exactly where they are the layout of few enough entries, which are then those read off them.
-use Rattle.std.proofs.Common.{◌≡◌, ℕ, zero, suc, ◌+◌, ◌-◌, ◌*◌, ◌/◌, ◌%◌, ◌<◌, ◌≤◌, ◌⊎◌, inl, inr, refl, ap, sym, ◌∙◌, subst, arith, List, [], ◌∷◌, ◌++◌, length, take, take_all, replicate, get_or, length-append, ext_get_or, sum_by, Option, Some, None, mod-lt, mod-eq_of_lt, add-one}
+use Rattle.std.proofs.Common.{◌≡◌, ℕ, zero, suc, ◌+◌, ◌%◌, ◌<◌, ◌≤◌, inl, inr, refl, ap, sym, ◌∙◌, subst, arith, List, [], ◌∷◌, length, take, take_all, get_or, length-append, ext_get_or, sum_by, Option, Some, None, mod-eq_of_lt, add-one}
 use Rattle.std.proofs.lemmas.Bool.{cases_lt}
 use Rattle.std.proofs.lemmas.List.{get_or_past, get_or_at}
 use Rattle.std.proofs.lemmas.List.Sums.{sum_by_more, sum_by-cons}
 use Rattle.std.proofs.Math.ListN.{get_or-append}
-use Rattle.clock2q.specs.Homes.{capacity, home, listed, count, total}
-use Rattle.clock2q.specs.Layout.{Placed, placed, window, spill, slot_at, layout, entries, met, read_upto, homes_of, IsOrdered, IsTidy}
+use Rattle.clock2q.specs.Homes.{capacity, listed, count, total}
+use Rattle.clock2q.specs.Layout.{Placed, window, slot_at, layout, entries, met, read_upto, homes_of, IsOrdered, IsTidy}
 use Rattle.clock2q.proofs.Spill.{Roomy, window-same}
 use Rattle.clock2q.proofs.Laps.{rem-same}
-use Rattle.clock2q.proofs.Laid.{counts, IsLaid, laid-ordered, laid-met, laid-same, met-again}
-use Rattle.clock2q.proofs.Walk.{lists, lists-roomy, ordered-laid}
+use Rattle.clock2q.proofs.Laid.{IsLaid, laid-ordered, laid-met, laid-same, met-again}
+use Rattle.clock2q.proofs.Walk.{lists-roomy, ordered-laid}
 use Rattle.clock2q.proofs.Sums.{weight, entries-sum, laid-sum}
 use Rattle.clock2q.proofs.Slots.{slot-again, listed-again, count-again, length-layout, layout-laid}
 

@@ -1,20 +1,20 @@
 -- Where a table's entries stand too far from their homes: what that takes, where it shows in the slots, and when an insertion makes it so.
-use Rattle.std.proofs.Common.{◌≡◌, ℕ, zero, suc, ◌+◌, ◌-◌, ◌*◌, ◌%◌, ◌^◌, ◌<◌, ◌≤◌, ◌⊎◌, inl, inr, min, refl, ap, sym, ◌∙◌, subst, arith, List, [], ◌∷◌, ◌++◌, length, take, length-append, Option, Some, None, slice_get, mod-lt}
+use Rattle.std.proofs.Common.{◌≡◌, ℕ, zero, suc, ◌+◌, ◌-◌, ◌*◌, ◌%◌, ◌^◌, ◌<◌, ◌≤◌, ◌⊎◌, inl, inr, refl, ap, sym, ◌∙◌, subst, arith, List, [], ◌∷◌, ◌++◌, length, take, length-append, Option, None}
 use Rattle.std.proofs.lemmas.Bool.{cases_lt}
-use Rattle.std.proofs.lemmas.List.{length-replicate}
-use Rattle.clock2q.specs.Homes.{capacity, home, listed, count, total, no_entries, with_list, put_last}
-use Rattle.clock2q.specs.Layout.{Placed, placed, window, spill, spill_of, slot_at, layout, entries, reach, homes_of, IsOrdered, IsTidy, IsTooLong}
-use Rattle.clock2q.specs.TableStep.{put_all, IsHashOf}
+use Rattle.clock2q.specs.Homes.{capacity, listed, count, total, no_entries, put_last}
+use Rattle.clock2q.specs.Layout.{Placed, spill, spill_of, slot_at, layout, entries, reach, homes_of, IsTidy, IsTooLong}
+use Rattle.clock2q.specs.TableStep.{put_all, rebuilt, IsHashOf}
 use Rattle.clock2q.proofs.Spill.{Roomy, spill-again, spill-found, spill-lt, within_lap}
 use Rattle.clock2q.proofs.Tiles.{IsGap, taken, apart}
 use Rattle.clock2q.proofs.Laps.{lap, lap-lt, lap-same, rem-same}
-use Rattle.clock2q.proofs.Laid.{counts, IsLaid, get_some, part-reach, gap-reach, reach-none}
-use Rattle.clock2q.proofs.Walk.{Stops, passed, after, stop, ending, ending-stops}
+use Rattle.clock2q.proofs.Laid.{IsLaid, get_some, part-reach, gap-reach, reach-none}
+use Rattle.clock2q.proofs.Walk.{Stops, after, stop}
 use Rattle.clock2q.proofs.Slots.{slot-again, count-again}
 use Rattle.clock2q.proofs.Tidy.{capacity-lt, roomy-of, sum-window, length-homes_of, tidy-vacant, tidy-total, read-laid-homes}
 use Rattle.clock2q.proofs.Gaps.{IsOneMore}
-use Rattle.clock2q.proofs.Changes.{length-with_list, listed-with_same, total-with_list, vacant_within, slots_again, read-stop, one-put, roomy_at, other_at}
-use Rattle.clock2q.proofs.Rebuild.{rebuilding-count, rebuilding-reach, length-put_all}
+use Rattle.clock2q.proofs.Changes.{length-with_list, listed-with_same, total-with_list, vacant_within, read-stop, one-put, roomy_at, other_at}
+use Rattle.clock2q.proofs.Rebuild.{rebuilding-count, rebuilding-reach}
+use Rattle.clock2q.proofs.Hashes.{entries-all, rebuilt-length, rebuilt-total}
 
 module _ {E : Type 0} where
   -- no home reaches further than there are entries
@@ -213,3 +213,26 @@ module _ {E : Type 0} where
 -- a rebuild to k times the slots makes no table too long, at no time on its way
 pub rebuilding-short : {H : Type 0} (key : H → ℕ) (homes : List (List (ℕ × H))) (k i : ℕ) → total homes < length homes → 0 < k * length homes → IsHashOf key homes → (IsTooLong homes → ⊥) → IsTooLong (put_all key (no_entries (k * length homes)) (entries (take i (layout homes)))) → ⊥
 rebuilding-short key homes k i room some hashes short long = short (too-long-at homes room long.0 (omega (arith, long.2, rebuilding-count key homes k i long.0 room some hashes)) (omega (arith, long.3, rebuilding-reach key homes k i long.0 room some hashes)))
+
+module _ {H : Type 0} (key : H → ℕ) (homes : List (List (ℕ × H))) (m : ℕ) (room : total homes ≤ capacity (length homes)) (fits : total homes < m) (multiple : 0 < length homes → (k : ℕ) × (m ≡ k * length homes)) (hashes : IsHashOf key homes) where
+  -- a rebuild gives no home a longer reach than the home that its entries came from had
+  pub rebuilt-reach : (n : ℕ) → spill_of (rebuilt key m homes) n + count (rebuilt key m homes) n ≤ spill_of homes n + count homes n
+  rebuilt-reach n = elim (cases_lt 0 (length homes)) [
+    | inl some ↦
+        let k = multiple some in
+        let below : total homes < length homes = omega (arith, room, capacity-lt (length homes) some) in
+        let all : put_all key (no_entries (k.0 * length homes)) (entries (take (length (layout homes)) (layout homes))) ≡ rebuilt key m homes = ap (λ es. put_all key (no_entries (k.0 * length homes)) es) (entries-all (layout homes)) ∙ ap (λ x. rebuilt key x homes) (sym k.1) in
+        subst (λ hs. spill_of hs n + count hs n ≤ spill_of homes n + count homes n) all (rebuilding-reach key homes k.0 (length (layout homes)) n below (omega (arith, k.1, fits)) hashes)
+    | inr none ↦ omega (arith, reach-total (rebuilt key m homes) (omega (arith, rebuilt-length key homes m, rebuilt-total key homes m room (omega arith))) n, rebuilt-total key homes m room (omega arith), room)
+  ]
+
+  -- so it is never refused for a run
+  pub rebuilt-short : (IsTooLong homes → ⊥) → IsTooLong (rebuilt key m homes) → ⊥
+  rebuilt-short short long = elim (cases_lt 0 (length homes)) [
+    | inl some ↦
+        let k = multiple some in
+        let below : total homes < length homes = omega (arith, room, capacity-lt (length homes) some) in
+        let all : rebuilt key m homes ≡ put_all key (no_entries (k.0 * length homes)) (entries (take (length (layout homes)) (layout homes))) = ap (λ x. rebuilt key x homes) k.1 ∙ ap (λ es. put_all key (no_entries (k.0 * length homes)) es) (sym (entries-all (layout homes))) in
+        rebuilding-short key homes k.0 (length (layout homes)) below (omega (arith, k.1, fits)) hashes short (subst IsTooLong all long)
+    | inr none ↦ omega (arith, reach-total (rebuilt key m homes) (omega (arith, rebuilt-length key homes m, rebuilt-total key homes m room (omega arith))) long.0, rebuilt-total key homes m room (omega arith), room, long.3)
+  ]
