@@ -1,12 +1,9 @@
 -- What one entry more does: to what is spilled, and to the slots, where those up to the next empty one move on by one. Read backwards, what one entry less does.
-use Rattle.std.proofs.Common.{◌≡◌, ℕ, zero, suc, ◌+◌, ◌-◌, ◌*◌, ◌<◌, ◌≤◌, ◌⊎◌, inl, inr, min, refl, ap, sym, ◌∙◌, arith, List, [], ◌∷◌, ◌++◌, length, length-append, Option, Some, None, slice_get}
+use Rattle.std.proofs.Common.{◌≡◌, ℕ, suc, ◌+◌, ◌-◌, ◌<◌, ◌≤◌, inl, inr, min, ap, ◌∙◌, arith}
 use Rattle.std.proofs.lemmas.Bool.{cases_lt}
-use Rattle.std.proofs.lemmas.Option.{slice_get_within}
-use Rattle.clock2q.specs.Layout.{Placed, placed, window, spill, reach}
-use Rattle.clock2q.proofs.Spill.{Roomy, spill-again, spill-step, spill-lt, window-lap, window-le}
-use Rattle.clock2q.proofs.Tiles.{IsGap, IsPartOf, unique, starts, apart}
-use Rattle.clock2q.proofs.Laps.{lap, lap-lt, lap-same}
-use Rattle.clock2q.proofs.Laid.{counts, IsLaid}
+use Rattle.clock2q.specs.Layout.{spill}
+use Rattle.clock2q.proofs.Spill.{Roomy, spill-again, spill-step}
+use Rattle.clock2q.proofs.Tiles.{IsGap, unique}
 
 -- over the lap from z on, d counts one entry more than c, at home z + a, and the slots from there are full up to the lap's last, which is a gap
 pub record IsOneMore (c d : ℕ → ℕ) (m z a : ℕ) : Type 0 where

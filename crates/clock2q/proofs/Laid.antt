@@ -1,11 +1,9 @@
 -- Slots in which each home's entries stand as the layout says: what stands where, that they are in order, and that each home's list can be read off them.
-use Rattle.std.proofs.Common.{◌≡◌, ℕ, zero, suc, ◌+◌, ◌-◌, ◌*◌, ◌<◌, ◌≤◌, ◌⊎◌, inl, inr, refl, ap, sym, ◌∙◌, arith, Bool, true, false, cond, eqb, eq-eqb, ne_eqb, List, [], ◌∷◌, ◌++◌, length, take, take_all, Option, Some, None, add-zero, add-suc, zero-add, append_assoc, append-nil, length-append, slice_get}
-use Rattle.std.proofs.lemmas.Bool.{cases_lt, cases_eq}
-use Rattle.std.proofs.lemmas.Option.{slice_get_within, slice_get_past, slice_get_cases}
+use Rattle.std.proofs.Common.{◌≡◌, ℕ, zero, suc, ◌+◌, ◌-◌, ◌<◌, ◌≤◌, inl, inr, refl, ap, sym, ◌∙◌, arith, eq-eqb, ne_eqb, List, [], ◌∷◌, ◌++◌, length, take, take_all, Option, Some, None, append_assoc, append-nil, slice_get}
+use Rattle.std.proofs.lemmas.Bool.{cases_lt}
 use Rattle.clock2q.specs.Layout.{Placed, placed, spill, reach, at_home, met, IsOrdered}
-use Rattle.clock2q.proofs.Spill.{Roomy, spill-again, spill-step, spill-lt}
+use Rattle.clock2q.proofs.Spill.{Roomy, spill-step, spill-lt}
 use Rattle.clock2q.proofs.Tiles.{IsGap, IsPartOf, apart, taken}
-use Rattle.clock2q.proofs.Laps.{lap}
 
 module _ {E : Type 0} where
   -- how many entries each list has

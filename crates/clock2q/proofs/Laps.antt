@@ -1,6 +1,7 @@
 -- What repeats every m slots is known from any lap of it.
-use Rattle.std.proofs.Common.{◌≡◌, ℕ, zero, suc, ◌+◌, ◌-◌, ◌*◌, ◌/◌, ◌%◌, ◌<◌, ◌≤◌, ◌⊎◌, inl, inr, refl, ap, sym, ◌∙◌, arith, mod-lt, div-add-mod', le-mul_of_pos_right, mul-le-mul_right}
+use Rattle.std.proofs.Common.{◌≡◌, ℕ, zero, suc, ◌+◌, ◌-◌, ◌*◌, ◌/◌, ◌%◌, ◌^◌, ◌<◌, ◌≤◌, inl, inr, ap, sym, ◌∙◌, arith, div-add-mod', le-mul_of_pos_right, mul-le-mul_right}
 use Rattle.std.proofs.lemmas.Bool.{cases_lt}
+use Rattle.std.proofs.lemmas.Nat.{pow-add, pow_below}
 use Rattle.std.proofs.Math.Nat.{add-mod_right}
 
 pub again-times : {X : Type 0} (f : ℕ → X) (m : ℕ) → ((n : ℕ) → f (n + m) ≡ f n) → (n k : ℕ) → f (n + k * m) ≡ f n
@@ -51,4 +52,13 @@ other_home m h v j l u other e = elim (cases_lt j (m - suc v)) [
     | inl past ↦ rems-differ m (h + suc v + (m - suc v)) (h + suc v + j) (omega arith) (omega arith) (same_home m h v l ∙ sym e)
     | inr at ↦ other (omega arith)
   ]
+]
+
+-- a power of two is a multiple of each smaller one
+pub powers-divide : (a b : ℕ) → 2 ^ a ≤ 2 ^ b → (k : ℕ) × (2 ^ b ≡ k * 2 ^ a)
+powers-divide a b l = elim (cases_lt b a) [
+  | inl below ↦ absurd (omega (arith, pow_below b a below))
+  | inr from ↦
+      let e : b ≡ b - a + a = omega arith in
+      (2 ^ (b - a), ap (λ x. 2 ^ x) e ∙ pow-add 2 (b - a) a)
 ]

@@ -16,3 +16,9 @@ pub mod Tidy
 pub mod Gaps
 pub mod Shifts
 pub mod Changes
+pub mod Placement
+pub mod Rebuild
+pub mod TooLong
+pub mod Runs
+pub mod Removals
+pub mod Hashes

@@ -1,19 +1,16 @@
 -- The layout as a list of slots, and the lists read off one.
-use Rattle.std.proofs.Common.{◌≡◌, ℕ, zero, suc, ◌+◌, ◌-◌, ◌*◌, ◌/◌, ◌%◌, ◌<◌, ◌≤◌, ◌⊎◌, inl, inr, refl, ap, sym, ◌∙◌, subst, arith, List, [], ◌∷◌, ◌++◌, length, take, take_all, set, replicate, get_or, get_or-set_same, get_or-set_other, length-set, length-append, ext_get_or, sum_by, Option, Some, None, mod-lt, mod-eq_of_lt, slice_get}
+use Rattle.std.proofs.Common.{◌≡◌, ℕ, zero, suc, ◌+◌, ◌%◌, ◌<◌, ◌≤◌, inl, inr, refl, ap, sym, ◌∙◌, arith, List, [], ◌∷◌, length, set, replicate, get_or, get_or-set_same, get_or-set_other, length-set, Option, Some, None, mod-eq_of_lt, slice_get}
 use Rattle.std.proofs.lemmas.Bool.{cases_lt}
-use Rattle.std.proofs.lemmas.List.{get_or_past, get_or_at, length-replicate}
-use Rattle.std.proofs.lemmas.List.Sums.{sum_by_more}
+use Rattle.std.proofs.lemmas.List.{get_or_past, length-replicate}
 use Rattle.std.proofs.lemmas.Option.{slice_get_within}
-use Rattle.std.proofs.Math.ListN.{get_or-append, get_or-replicate}
+use Rattle.std.proofs.Math.ListN.{get_or-replicate}
 use Rattle.std.proofs.Math.Nat.{add-mod_right}
-use Rattle.clock2q.specs.Homes.{capacity, home, listed, count, total}
-use Rattle.clock2q.specs.Layout.{Placed, placed, window, spill, spill_of, slot_at, put_from, layout_upto, layout, entries, met, read_upto, homes_of, IsOrdered, IsTidy}
-use Rattle.clock2q.proofs.Spill.{Roomy, spill-again, spill-same, spill-lt, window-same}
+use Rattle.clock2q.specs.Homes.{listed, count}
+use Rattle.clock2q.specs.Layout.{Placed, placed, spill, spill_of, slot_at, put_from, layout_upto, layout}
+use Rattle.clock2q.proofs.Spill.{Roomy, spill-again, spill-lt}
 use Rattle.clock2q.proofs.Tiles.{IsGap, apart}
-use Rattle.clock2q.proofs.Laps.{again-times, rem-same, rems-differ}
-use Rattle.clock2q.proofs.Laid.{counts, IsLaid, laid-ordered, laid-met, laid-same, met-again}
-use Rattle.clock2q.proofs.Walk.{lists, lists-roomy, ordered-laid}
-use Rattle.clock2q.proofs.Sums.{weight, entries-sum, laid-sum}
+use Rattle.clock2q.proofs.Laps.{rem-same, rems-differ}
+use Rattle.clock2q.proofs.Laid.{IsLaid}
 
 module _ {E : Type 0} where
   pub slot-again : (slots : List (Option (Placed E))) (n : ℕ) → slot_at slots (n + length slots) ≡ slot_at slots n

@@ -1,5 +1,5 @@
 -- How far earlier homes push the entries of a home, over counts that repeat every m homes.
-use Rattle.std.proofs.Common.{◌≡◌, ℕ, zero, suc, ◌+◌, ◌-◌, ◌<◌, ◌≤◌, ◌⊎◌, inl, inr, max, refl, ap, sym, ◌∙◌, arith, add_assoc, add_comm, add-zero, add-suc}
+use Rattle.std.proofs.Common.{◌≡◌, ℕ, zero, suc, ◌+◌, ◌-◌, ◌<◌, ◌≤◌, inl, inr, refl, ap, arith, add_assoc, add-zero, add-suc}
 use Rattle.std.proofs.lemmas.Bool.{cases_lt}
 use Rattle.clock2q.specs.Layout.{window, largest, spill}
 
@@ -9,7 +9,7 @@ pub record Roomy (c : ℕ → ℕ) (m : ℕ) : Type 0 where
   pub room : window c 0 m < m
 
 pub window-add : (c : ℕ → ℕ) (a k l : ℕ) → window c a (k + l) ≡ window c a k + window c (a + k) l
-window-add c a k zero = rw add-zero (omega arith)
+window-add c a k zero = rw (add-zero k) (omega arith)
 window-add c a k (suc l) = rw add-suc (omega (arith, window-add c a k l, ap c (add_assoc a k l)))
 
 pub window-again : (c : ℕ → ℕ) (m : ℕ) → ((n : ℕ) → c (n + m) ≡ c n) → (a k : ℕ) → window c (a + m) k ≡ window c a k
@@ -92,7 +92,7 @@ spill-again c m again h = largest-same (λ j. window c (h + m + m - j) j - j) (�
 
 module _ (c : ℕ → ℕ) (m : ℕ) (roomy : Roomy c m) where
   -- a window of a lap or less holds no more than a lap
-  within_lap : (a k : ℕ) → k ≤ m → window c a k ≤ window c 0 m
+  pub within_lap : (a k : ℕ) → k ≤ m → window c a k ≤ window c 0 m
   within_lap a k l =
       let e : k + (m - k) ≡ m = omega arith in
       omega (arith, window-add c a k (m - k), ap (window c a) e, window-lap c m roomy.again a)

@@ -1,12 +1,11 @@
 -- What the entries add up to: by slots, by homes, and as a list in the order of the slots.
-use Rattle.std.proofs.Common.{◌≡◌, ℕ, zero, suc, ◌+◌, ◌-◌, ◌<◌, ◌≤◌, ◌⊎◌, inl, inr, refl, ap, sym, ◌∙◌, arith, List, [], ◌∷◌, ◌++◌, length, take, take_all, get_or, sum_by, Option, Some, None, slice_get}
+use Rattle.std.proofs.Common.{◌≡◌, ℕ, zero, suc, ◌+◌, ◌-◌, ◌≤◌, inl, inr, refl, ap, ◌∙◌, arith, List, [], ◌∷◌, length, take, take_all, get_or, sum_by, Option, Some, None}
 use Rattle.std.proofs.lemmas.Bool.{cases_lt}
 use Rattle.std.proofs.lemmas.List.Sums.{sum_by-cons, sum_by_push}
-use Rattle.std.proofs.lemmas.Option.{slice_get_within}
 use Rattle.clock2q.specs.Layout.{Placed, placed, window, spill, entries}
-use Rattle.clock2q.proofs.Spill.{Roomy, spill-again, spill-step, spill-lt, window-add, window-lap, window-same}
-use Rattle.clock2q.proofs.Tiles.{IsGap, IsPartOf, gap}
-use Rattle.clock2q.proofs.Laid.{counts, IsLaid, shows, take-more-get, get_some}
+use Rattle.clock2q.proofs.Spill.{Roomy, spill-again, spill-step, window-add, window-lap}
+use Rattle.clock2q.proofs.Tiles.{gap}
+use Rattle.clock2q.proofs.Laid.{counts, IsLaid, take-more-get, get_some}
 
 pub window-front : (f : ℕ → ℕ) (a k : ℕ) → window f a (suc k) ≡ f a + window f (suc a) k
 window-front f a zero =

@@ -1,15 +1,15 @@
 -- A table's slots are tidy exactly where they are the layout of few enough entries, which are then those read off them.
-use Rattle.std.proofs.Common.{◌≡◌, ℕ, zero, suc, ◌+◌, ◌-◌, ◌*◌, ◌/◌, ◌%◌, ◌<◌, ◌≤◌, ◌⊎◌, inl, inr, refl, ap, sym, ◌∙◌, subst, arith, List, [], ◌∷◌, ◌++◌, length, take, take_all, replicate, get_or, length-append, ext_get_or, sum_by, Option, Some, None, mod-lt, mod-eq_of_lt, add-one}
+use Rattle.std.proofs.Common.{◌≡◌, ℕ, zero, suc, ◌+◌, ◌%◌, ◌<◌, ◌≤◌, inl, inr, refl, ap, sym, ◌∙◌, subst, arith, List, [], ◌∷◌, length, take, take_all, get_or, length-append, ext_get_or, sum_by, Option, Some, None, mod-eq_of_lt, add-one}
 use Rattle.std.proofs.lemmas.Bool.{cases_lt}
 use Rattle.std.proofs.lemmas.List.{get_or_past, get_or_at}
 use Rattle.std.proofs.lemmas.List.Sums.{sum_by_more, sum_by-cons}
 use Rattle.std.proofs.Math.ListN.{get_or-append}
-use Rattle.clock2q.specs.Homes.{capacity, home, listed, count, total}
-use Rattle.clock2q.specs.Layout.{Placed, placed, window, spill, slot_at, layout, entries, met, read_upto, homes_of, IsOrdered, IsTidy}
+use Rattle.clock2q.specs.Homes.{capacity, listed, count, total}
+use Rattle.clock2q.specs.Layout.{Placed, window, slot_at, layout, entries, met, read_upto, homes_of, IsOrdered, IsTidy}
 use Rattle.clock2q.proofs.Spill.{Roomy, window-same}
 use Rattle.clock2q.proofs.Laps.{rem-same}
-use Rattle.clock2q.proofs.Laid.{counts, IsLaid, laid-ordered, laid-met, laid-same, met-again}
-use Rattle.clock2q.proofs.Walk.{lists, lists-roomy, ordered-laid}
+use Rattle.clock2q.proofs.Laid.{IsLaid, laid-ordered, laid-met, laid-same, met-again}
+use Rattle.clock2q.proofs.Walk.{lists-roomy, ordered-laid}
 use Rattle.clock2q.proofs.Sums.{weight, entries-sum, laid-sum}
 use Rattle.clock2q.proofs.Slots.{slot-again, listed-again, count-again, length-layout, layout-laid}
 
@@ -117,18 +117,19 @@ module _ {E : Type 0} where
     pub read-layout : slots ≡ layout (homes_of slots)
     read-layout = laid-layout (homes_of slots) slots (omega (arith, read-room, length-homes_of slots)) (sym (length-homes_of slots)) read-laid-homes
 
-  -- as many entries by slot as by home
-  pub laid-total : (homes : List (List E)) → total homes < length homes → length (entries (layout homes)) ≡ total homes
-  laid-total homes l =
+  -- what the entries of a layout add up to by slot, they do by home
+  pub layout-sum : (w : E → ℕ) (homes : List (List E)) → total homes < length homes → sum_by (λ s. w s.entry) (entries (layout homes)) ≡ window (λ h. sum_by w (listed homes h)) 0 (length homes)
+  layout-sum w homes l =
       let m : ℕ = length homes in
       let A : ℕ → Option (Placed E) = slot_at (layout homes) in
       let again : (n : ℕ) → A (n + m) ≡ A n = λ n. ap (λ x. slot_at (layout homes) (n + x)) (sym (length-layout homes)) ∙ slot-again (layout homes) n in
-      let by_slot : length (entries (layout homes)) ≡ window (λ n. weight (λ _. 1) (get_or (layout homes) n None)) 0 (length (layout homes)) = sym (sum_by_one (entries (layout homes))) ∙ entries-sum (λ _. 1) (layout homes) in
-      let around : window (λ n. weight (λ _. 1) (get_or (layout homes) n None)) 0 (length (layout homes)) ≡ window (λ n. weight (λ _. 1) (A n)) 0 (length (layout homes)) = window-same (λ n. weight (λ _. 1) (get_or (layout homes) n None)) (λ n. weight (λ _. 1) (A n)) 0 (length (layout homes)) (λ j lj.
+      let around : window (λ n. weight w (get_or (layout homes) n None)) 0 (length (layout homes)) ≡ window (λ n. weight w (A n)) 0 (length (layout homes)) = window-same (λ n. weight w (get_or (layout homes) n None)) (λ n. weight w (A n)) 0 (length (layout homes)) (λ j lj.
       let e : (0 + j) % length (layout homes) ≡ 0 + j = mod-eq_of_lt (omega arith) in
-      ap (λ x. weight (λ _. 1) (get_or (layout homes) x None)) (sym e)) in
-      let by_home : window (λ n. weight (λ _. 1) (A n)) 0 m ≡ window (λ h. sum_by (λ _. 1) (listed homes h)) 0 m = laid-sum m (listed homes) A (roomy-of homes l) (layout-laid homes (roomy-of homes l)) (λ _. 1) (listed-again homes) again in
-      by_slot ∙ around ∙ ap (window (λ n. weight (λ _. 1) (A n)) 0) (length-layout homes) ∙ by_home ∙ window-same (λ h. sum_by (λ _. 1) (listed homes h)) (count homes) 0 m (λ j _. sum_by_one (listed homes (0 + j))) ∙ sum-window length homes
+      ap (λ x. weight w (get_or (layout homes) x None)) (sym e)) in
+      entries-sum w (layout homes) ∙ around ∙ ap (window (λ n. weight w (A n)) 0) (length-layout homes) ∙ laid-sum m (listed homes) A (roomy-of homes l) (layout-laid homes (roomy-of homes l)) w (listed-again homes) again
+
+  laid-total : (homes : List (List E)) → total homes < length homes → length (entries (layout homes)) ≡ total homes
+  laid-total homes l = sym (sum_by_one (entries (layout homes))) ∙ layout-sum (λ _. 1) homes l ∙ window-same (λ h. sum_by (λ _. 1) (listed homes h)) (count homes) 0 (length homes) (λ j _. sum_by_one (listed homes (0 + j))) ∙ sum-window length homes
 
   pub layout-ordered : (homes : List (List E)) → total homes < length homes → IsOrdered (slot_at (layout homes))
   layout-ordered homes l =

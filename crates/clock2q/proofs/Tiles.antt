@@ -1,8 +1,8 @@
 -- The slots of a table as parts, one for each home, with gaps between them.
-use Rattle.std.proofs.Common.{◌≡◌, ℕ, zero, suc, ◌+◌, ◌-◌, ◌<◌, ◌≤◌, ◌⊎◌, inl, inr, refl, ap, sym, ◌∙◌, arith}
+use Rattle.std.proofs.Common.{◌≡◌, ℕ, zero, suc, ◌+◌, ◌-◌, ◌<◌, ◌≤◌, ◌⊎◌, inl, inr, ap, arith}
 use Rattle.std.proofs.lemmas.Bool.{cases_lt}
 use Rattle.clock2q.specs.Layout.{window, spill}
-use Rattle.clock2q.proofs.Spill.{Roomy, window-lap, spill-again, spill-step, spill-lt}
+use Rattle.clock2q.proofs.Spill.{Roomy, window-lap, spill-again, spill-step}
 
 -- nothing is spilled at n and nothing has its home there
 pub record IsGap (c : ℕ → ℕ) (m n : ℕ) : Type 0 where

@@ -3,8 +3,8 @@ use Rattle.std.proofs.Common.{◌≡◌, ℕ, zero, suc, ◌+◌, ◌-◌, ◌<�
 use Rattle.std.proofs.lemmas.Bool.{cases_lt}
 use Rattle.std.proofs.lemmas.Option.{slice_get_within}
 use Rattle.clock2q.specs.Layout.{Placed, placed, window, spill, reach, at_home, met, IsOrdered}
-use Rattle.clock2q.proofs.Spill.{Roomy, spill-again, window-lap, window-add}
-use Rattle.clock2q.proofs.Tiles.{IsGap, unique}
+use Rattle.clock2q.proofs.Spill.{Roomy, spill-again, window-lap}
+use Rattle.clock2q.proofs.Tiles.{unique}
 use Rattle.clock2q.proofs.Laps.{lap, lap-lt, lap-same}
 use Rattle.clock2q.proofs.Laid.{counts, IsLaid, at_home-own, at_home-other, reach-none, met-last, met-add, met-again}
 
@@ -61,9 +61,9 @@ module _ {E : Type 0} (A : ℕ → Option (Placed E)) (ordered : IsOrdered A) wh
       let next : reach (A (h + suc n)) ≤ suc n = omega (arith, after h 0 n (omega arith) (suc n) (omega arith)) in
       ap (λ xs. xs ++ met A h (suc n) k) here ∙ met-late h (suc n) k next
 
-  search_for : (h t k : ℕ) → ((n : ℕ) × (n < k) × Stops A h t n) ⊎ ((j : ℕ) → j < k → j + t < reach (A (h + j)))
-  search_for h t zero = inr (λ j l. absurd (omega arith))
-  search_for h t (suc k) = elim (search_for h t k) [
+  stop_upto : (h t k : ℕ) → ((n : ℕ) × (n < k) × Stops A h t n) ⊎ ((j : ℕ) → j < k → j + t < reach (A (h + j)))
+  stop_upto h t zero = inr (λ j l. absurd (omega arith))
+  stop_upto h t (suc k) = elim (stop_upto h t k) [
     | inl found ↦ inl (found.0, omega arith, found.2)
     | inr all ↦ elim (cases_lt (k + t) (reach (A (h + k)))) [
       | inl far ↦ inr (λ j l. passed h t k far j (omega arith))
@@ -76,7 +76,7 @@ module _ {E : Type 0} (A : ℕ → Option (Placed E)) (ordered : IsOrdered A) wh
     pub stop : (h t : ℕ) → (n : ℕ) × (n < m) × Stops A h t n
     stop h t =
         let l : lap m h v < m = lap-lt m h v some in
-        elim (search_for h t (suc (lap m h v))) [
+        elim (stop_upto h t (suc (lap m h v))) [
           | inl found ↦ (found.0, omega arith, found.2)
           | inr all ↦ absurd (omega (arith, all (lap m h v) (omega arith), ap reach (lap-same A m again some h v ∙ vacant)))
         ]

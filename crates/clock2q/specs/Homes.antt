@@ -1,5 +1,6 @@
 -- A table's entries, a list of them for each home slot: what a hash names, and what is put in, found and taken out.
-use Rattle.std.specs.Prelude.{ℕ, ◌*◌, ◌/◌, ◌%◌, ◌^◌, Bool, ◌&&◌, ◌==◌, cond, List, [], ◌∷◌, ◌++◌, map, filter, length, get_or, set, replicate, sum_by}
+use Rattle.std.specs.Prelude.{◌≡◌, false, ℕ, ◌*◌, ◌/◌, ◌%◌, ◌^◌, Bool, ◌&&◌, ◌==◌, cond, List, [], ◌∷◌, ◌++◌, map, filter, length, get_or, set, replicate, sum_by}
+use Rattle.std.specs.List.{list_any}
 
 -- the fingerprint of a hash: its top byte
 abbrev pub top : ℕ → ℕ
@@ -57,3 +58,7 @@ is_entry_of eq x v e = (e.0 == top x) && eq e.1 v
 -- the first such entry of x's home is taken out
 abbrev pub removed : {H : Type 0} → (H → H → Bool) → List (List (ℕ × H)) → ℕ → H → List (List (ℕ × H))
 removed eq homes x v = with_list homes x (without_first (is_entry_of eq x v) (listed homes x))
+
+-- no entry of x's home with its fingerprint has a handle equal to v
+abbrev pub IsNew : {H : Type 0} → (H → H → Bool) → List (List (ℕ × H)) → ℕ → H → Type 0
+IsNew eq homes x v = list_any (is_entry_of eq x v) (listed homes x) ≡ false
