@@ -1,9 +1,10 @@
 -- Walks that look for an entry of a home.
-use Rattle.std.proofs.Common.{◌≡◌, ◌≢◌, ℕ, zero, suc, ◌+◌, ◌-◌, ◌%◌, ◌<◌, ◌≤◌, ◌⊎◌, inl, inr, ◌↔◌, refl, ap, sym, ◌∙◌, subst, arith, Bool, true, false, IsTrue, cond, ◌&&◌, eqb, eq-eqb, List, [], ◌∷◌, ◌++◌, filter, length, Option, Some, None, IfSome}
+use Rattle.std.proofs.Common.{◌≡◌, ◌≢◌, ℕ, zero, suc, ◌+◌, ◌-◌, ◌%◌, ◌<◌, ◌≤◌, ◌⊎◌, inl, inr, ◌↔◌, refl, ap, sym, ◌∙◌, subst, arith, Bool, true, false, IsTrue, cond, ◌&&◌, ◌||◌, eqb, eq-eqb, List, [], ◌∷◌, ◌++◌, length, Option, Some, None, IfSome}
 use Rattle.std.proofs.lemmas.Bool.{cases_lt}
 use Rattle.std.proofs.lemmas.Bool.Decides.{eqb_tells}
-use Rattle.std.proofs.lemmas.List.Elements.{filter-append}
-use Rattle.clock2q.specs.Homes.{top, is_entry_of, without_first, listed}
+use Rattle.std.proofs.lemmas.List.Folds.{list_any-append}
+use Rattle.std.specs.List.{list_any}
+use Rattle.clock2q.specs.Homes.{top, is_entry_of, listed}
 use Rattle.clock2q.specs.Layout.{Placed, placed, slot_at, reach, at_home, met, homes_of, IsTidy}
 use Rattle.clock2q.specs.Slots.{Mark, mark_of}
 use Rattle.clock2q.proofs.Laid.{at_home-other, met-last}
@@ -19,9 +20,9 @@ module _ {E : Type 0} where
       ap (met A h 0) e ∙ met-last A h 0 k ∙ ap (λ i. met A h 0 k ++ at_home (A (h + i)) i) z
 
   -- where nothing passes in the slots passed nor in the next, nothing passes in all
-  pub none_more : (test : E → Bool) (A : ℕ → Option (Placed E)) (h k : ℕ) → filter test (met A h 0 k) ≡ [] → filter test (at_home (A (h + k)) k) ≡ [] → filter test (met A h 0 (k + 1)) ≡ []
+  pub none_more : (test : E → Bool) (A : ℕ → Option (Placed E)) (h k : ℕ) → list_any test (met A h 0 k) ≡ false → list_any test (at_home (A (h + k)) k) ≡ false → list_any test (met A h 0 (k + 1)) ≡ false
   none_more test A h k before here =
-      ap (filter test) (met-more A h k) ∙ filter-append test (met A h 0 k) (at_home (A (h + k)) k) ∙ ap (λ xs. xs ++ filter test (at_home (A (h + k)) k)) before ∙ here
+      ap (list_any test) (met-more A h k) ∙ list_any-append test (met A h 0 k) (at_home (A (h + k)) k) ∙ ap (λ b. b || list_any test (at_home (A (h + k)) k)) before ∙ here
 
   -- what a walk has met at its end is its home's list
   pub met_all : (slots : List (Option (Placed E))) → IsTidy slots → (h n : ℕ) → n < length slots → ((j : ℕ) → j < n → j < reach (slot_at slots (h + j))) → reach (slot_at slots (h + n)) ≤ n
@@ -29,29 +30,10 @@ module _ {E : Type 0} where
   met_all slots tidy h n within passed stop =
       read-met slots tidy (omega (arith, within)) h n (omega (arith, within)) (record { before = λ j l. omega (arith, passed j l); stop = omega (arith, stop) })
 
-  -- where nothing passes, the first doesn't, nor does anything in the rest
-  front_fails : (b : Bool) (x : E) (rest : List E) → cond b (x ∷ rest) rest ≡ [] → (b ≡ false) × (rest ≡ [])
-  front_fails true x rest none = absurd (cc)
-  front_fails false x rest none = (refl, none)
-
   -- an entry of the home that fails
-  pub filter-failed : (test : E → Bool) (o : Option (Placed E)) (d : ℕ) (e : E) → o ≡ Some (placed d e) → test e ≡ false → filter test (at_home o d) ≡ []
-  filter-failed test o d e is fails =
-      ap (λ s. filter test (at_home s d)) is ∙ ap (λ b. filter test (cond b (e ∷ []) [])) (eq-eqb d d refl) ∙ ap (λ b. cond b (e ∷ []) []) fails
-
-  -- the first that passes is taken out
-  pub without_first-found : (test : E → Bool) (xs : List E) (e : E) (ys : List E) → filter test xs ≡ [] → test e ≡ true → without_first test (xs ++ e ∷ ys) ≡ xs ++ ys
-  without_first-found test [] e ys none passes = ap (λ b. cond b ys (e ∷ without_first test ys)) passes
-  without_first-found test (x ∷ xs) e ys none passes =
-      let fails = front_fails (test x) x (filter test xs) none in
-      ap (λ b. cond b (xs ++ e ∷ ys) (x ∷ without_first test (xs ++ e ∷ ys))) fails.0 ∙ ap (λ r. x ∷ r) (without_first-found test xs e ys fails.1 passes)
-
-  -- and nothing is, where none passes
-  pub without_first-none : (test : E → Bool) (xs : List E) → filter test xs ≡ [] → without_first test xs ≡ xs
-  without_first-none test [] none = refl
-  without_first-none test (x ∷ xs) none =
-      let fails = front_fails (test x) x (filter test xs) none in
-      ap (λ b. cond b xs (x ∷ without_first test xs)) fails.0 ∙ ap (λ r. x ∷ r) (without_first-none test xs fails.1)
+  pub any-failed : (test : E → Bool) (o : Option (Placed E)) (d : ℕ) (e : E) → o ≡ Some (placed d e) → test e ≡ false → list_any test (at_home o d) ≡ false
+  any-failed test o d e is fails =
+      ap (λ s. list_any test (at_home s d)) is ∙ ap (λ b. list_any test (cond b (e ∷ []) [])) (eq-eqb d d refl) ∙ ap (λ b. b || false) fails
 
 -- marks that are the same have the same parts
 mark_parts : (s t : ℕ × ℕ) → ◌≡◌ {A = Mark} (Some s) (Some t) → (s.0 ≡ t.0) × (s.1 ≡ t.1)
@@ -71,12 +53,12 @@ module _ {H : Type 0} (eq : H → H → Bool) (x : ℕ) (v : H) where
   is_entry_of-candidate w = ap (λ b. b && eq w v) (eq-eqb (top x) (top x) refl)
 
   -- no other slot holds such an entry
-  pub filter-other : (o : Option (Placed (ℕ × H))) (d : ℕ) → mark_of o ≢ Some (d, top x) → filter (is_entry_of eq x v) (at_home o d) ≡ []
-  filter-other None d other = refl
-  filter-other (Some p) d other = elim (eqb_tells p.displacement d) [
+  pub any-other : (o : Option (Placed (ℕ × H))) (d : ℕ) → mark_of o ≢ Some (d, top x) → list_any (is_entry_of eq x v) (at_home o d) ≡ false
+  any-other None d other = refl
+  any-other (Some p) d other = elim (eqb_tells p.displacement d) [
     | inl at ↦ elim (eqb_tells p.entry.0 (top x)) [
       | inl same ↦ absurd (other (ap (λ n. Some (n, p.entry.0)) at.1 ∙ ap (λ f. Some (d, f)) same.1))
-      | inr differs ↦ ap (λ b. filter (is_entry_of eq x v) (cond b (p.entry ∷ []) [])) at.0 ∙ ap (λ b. cond (b && eq p.entry.1 v) (p.entry ∷ []) []) differs.0
+      | inr differs ↦ ap (λ b. list_any (is_entry_of eq x v) (cond b (p.entry ∷ []) [])) at.0 ∙ ap (λ b. (b && eq p.entry.1 v) || false) differs.0
     ]
-    | inr away ↦ ap (λ b. filter (is_entry_of eq x v) (cond b (p.entry ∷ []) [])) away.0
+    | inr away ↦ ap (λ b. list_any (is_entry_of eq x v) (cond b (p.entry ∷ []) [])) away.0
   ]

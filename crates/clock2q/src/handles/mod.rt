@@ -2,7 +2,8 @@
 
 ghost use Rattle.clock2q.specs.Slots.{IsSlotCount};
 ghost use Rattle.clock2q.specs.TableStep.{fit};
-ghost use Rattle.std.specs.Prelude.{◌≡◌, ◌≢◌, ◌^◌, ◌<◌, ◌≤◌, ◌↔◌, [], IsTrue, IsOk, IsErrOf, IfOk, IfSome, MatchOption, length};
+ghost use Rattle.std.specs.Prelude.{◌≡◌, ◌≢◌, ◌^◌, ◌<◌, ◌≤◌, ◌+◌, ◌↔◌, ℕ, [], IsTrue, IsOk, IsErrOf, IfOk, IfSome, MatchOption, length};
+ghost use Rattle.std.specs.Bool.{OnFalse};
 
 mod candidates;
 mod metadata;
@@ -198,7 +199,9 @@ impl<H: Copy + Eq + Default, A: Allocator + Copy> Table<H, A> {
 }
 
 impl<H: Copy + Eq + Default, A: Allocator> Table<H, A> {
-    ghost use Rattle.clock2q.specs.Homes.{total, capacity};
+    ghost use Rattle.clock2q.specs.Homes.{total, capacity, listed, removed, is_entry_of};
+    ghost use Rattle.clock2q.specs.Layout.{run, walk, IsBestPlaced};
+    ghost use Rattle.std.specs.List.{list_any};
     ghost use Rattle.clock2q.specs.Table.{IsWhole};
 
     /// How many entries there are.
@@ -235,7 +238,19 @@ impl<H: Copy + Eq + Default, A: Allocator> Table<H, A> {
 
     /// Takes the first candidate of `hash` that equals `handle` out, and answers whether there was
     /// one.
-    pub fn remove(&mut self, hash: u64, handle: H) -> bool {
+    pub fn remove(&mut self, hash: u64, handle: H) -> bool
+        ensures removed { self.new.homes ≡ removed H.PartialEq.eq self.old.homes hash handle }
+        ensures found { result ≡ list_any (is_entry_of H.PartialEq.eq hash handle) (listed self.old.homes hash) }
+        ensures none { OnFalse result (self.new ≡ self.old) }
+
+        // It writes no more slots than the run of `hash` has.
+        ensures counted { self.old.writes ≤ self.new.writes }
+        ensures writes { self.new.writes ≤ self.old.writes + run self.old.slots hash }
+
+        // No placement of the entries that are left does better, and no walk is longer.
+        ensures best { IsBestPlaced self.new.homes }
+        ensures shorter { (x : ℕ) → walk self.new.homes x ≤ walk self.old.homes x }
+    {
         let home = self.slots.home(hash);
         let Some(distance) = self.slots.find(home, hash, handle) else {
             return false;

@@ -4,7 +4,8 @@ ghost use Rattle.clock2q.specs.Found.{Finds};
 ghost use Rattle.clock2q.specs.Layout.{IsTidy, reach, slot_at, placed, homes_of};
 ghost use Rattle.clock2q.specs.Shifts.{Opens, Closes, HasRoom, IsVacancy, moved_on};
 ghost use Rattle.std.specs.Bool.{OnTrue, OnFalse};
-ghost use Rattle.std.specs.Prelude.{◌≡◌, ◌+◌, ◌-◌, ◌^◌, ◌<◌, ◌≤◌, ℕ, suc, [], filter, Some, None, IfSome, IfNone, length};
+ghost use Rattle.std.specs.List.{list_any};
+ghost use Rattle.std.specs.Prelude.{◌≡◌, ◌+◌, ◌-◌, ◌^◌, ◌<◌, ◌≤◌, ℕ, suc, false, Some, None, IfSome, IfNone, length};
 
 use super::metadata::{MAX_DISPLACEMENT, Metadata};
 use super::slots::Slots;
@@ -36,7 +37,7 @@ impl<H: Copy + Default, A: Allocator> Slots<H, A> {
         requires near { (n : ℕ) → reach (slot_at self.now.slots n) ≤ 16777215 }
         ensures found { IfSome result (Finds (is_entry_of H.PartialEq.eq hash handle) (slot_at self.now.slots) home) }
         ensures within { IfSome result (λ n. n < length self.now.slots) }
-        ensures none { IfNone result (filter (is_entry_of H.PartialEq.eq hash handle) (listed (homes_of self.now.slots) home) ≡ []) }
+        ensures none { IfNone result (list_any (is_entry_of H.PartialEq.eq hash handle) (listed (homes_of self.now.slots) home) ≡ false) }
     {
         for distance in 0..self.count() {
             let metadata = self.metadata(home, distance);
