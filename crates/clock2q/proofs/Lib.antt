@@ -16,3 +16,4 @@ pub mod TooLong
 pub mod Runs
 pub mod Removals
 pub mod Hashes
+pub mod Lookups
