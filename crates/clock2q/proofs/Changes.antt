@@ -7,7 +7,7 @@ use Rattle.clock2q.specs.Homes.{capacity, home, listed, count, total, with_list,
 use Rattle.clock2q.specs.Layout.{Placed, placed, spill, spill_of, slot_at, layout, reach, at_home, met, homes_of, run, IsTidy}
 use Rattle.clock2q.proofs.Spill.{Roomy, spill-again, spill-lt}
 use Rattle.clock2q.proofs.Tiles.{IsGap}
-use Rattle.clock2q.proofs.Laps.{lap, lap-lt, lap-same, other_home}
+use Rattle.clock2q.proofs.Laps.{again-at, lap, lap-lt, lap-same, other_home}
 use Rattle.clock2q.proofs.Laid.{counts, IsLaid, met-add, none-gap, far-spilled, near-unspilled}
 use Rattle.clock2q.proofs.Walk.{Stops, passed, stop-sum, met-count, met-stop}
 use Rattle.clock2q.proofs.Slots.{slot-again, listed-again}
@@ -41,24 +41,23 @@ module _ {E : Type 0} where
     pub hole : A (h + v) ≡ None
     pub kept : (j : ℕ) → v < j → j < d + m → B (h + j) ≡ A (h + j)
 
+  moved_at : (A B : ℕ → Option (Placed E)) (m h d v n : ℕ) (e : E) → ((n : ℕ) → A (n + m) ≡ A n) → ((n : ℕ) → B (n + m) ≡ B n) → IsMovedOn A B m h d v e → (j : ℕ) → n ≡ h + j + m → d ≤ j → j < v → (s : Placed E) × (A n ≡ Some s) × (B (suc n) ≡ Some (placed (suc s.displacement) s.entry))
+  moved_at A B m h d v n e a b moved j q from upto =
+      let r = moved.moved j from upto in
+      (r.0, again-at A m a n (h + j) q ∙ r.1, again-at B m b (suc n) (h + suc j) (omega arith) ∙ r.2)
+
+  moved_far : (A B : ℕ → Option (Placed E)) (m h d v : ℕ) (e : E) → IsMovedOn A B m h d v e → (j : ℕ) → d ≤ j → j < v → 2 ≤ reach (B (h + suc j))
+  moved_far A B m h d v e moved j from upto = omega (arith, ap reach (moved.moved j from upto).2)
+
+  kept_at : (A B : ℕ → Option (Placed E)) (m h d v n : ℕ) (e : E) → IsMovedOn A B m h d v e → (j : ℕ) → n ≡ h + j → v < j → j < d + m → B n ≡ A n
+  kept_at A B m h d v n e moved j q past upto = ap B q ∙ moved.kept j past upto ∙ ap A (sym q)
+
   moved-opened : (A B : ℕ → Option (Placed E)) (m h d v p x : ℕ) (e : E) → ((n : ℕ) → A (n + m) ≡ A n) → ((n : ℕ) → B (n + m) ≡ B n) → d ≤ v → v < m → p ≡ h + m + d → x ≡ d → IsMovedOn A B m h d v e → IsOpened A B (h + suc v) p (h + m + v) x e
   moved-opened A B m h d v p x e a b l u pd xd moved = record {
-    here =
-        let q : p ≡ h + d + m = omega arith in
-        ap B q ∙ b (h + d) ∙ moved.here ∙ ap (λ y. Some (placed y e)) (sym xd);
-    moved = λ n from upto.
-        let j : ℕ = n - (h + m) in
-        let q : n ≡ h + j + m = omega arith in
-        let q' : suc n ≡ h + suc j + m = omega arith in
-        let r = moved.moved j (omega arith) (omega arith) in
-        (r.0, ap A q ∙ a (h + j) ∙ r.1, ap B q' ∙ b (h + suc j) ∙ r.2);
-    hole =
-        let q : h + m + v ≡ h + v + m = omega arith in
-        ap A q ∙ a (h + v) ∙ moved.hole;
-    kept = λ n from upto.
-        let j : ℕ = n - h in
-        let q : n ≡ h + j = omega arith in
-        ap B q ∙ moved.kept j (omega arith) (omega arith) ∙ ap A (sym q);
+    here = again-at B m b p (h + d) (omega arith) ∙ moved.here ∙ ap (λ y. Some (placed y e)) (sym xd);
+    moved = λ n from upto. moved_at A B m h d v n e a b moved (n - (h + m)) (omega arith) (omega arith) (omega arith);
+    hole = again-at A m a (h + m + v) (h + v) (omega arith) ∙ moved.hole;
+    kept = λ n from upto. kept_at A B m h d v n e moved (n - h) (omega arith) (omega arith) (omega arith);
   }
 
   pub slots_again : (slots : List (Option (Placed E))) (m : ℕ) → length slots ≡ m → (n : ℕ) → slot_at slots (n + m) ≡ slot_at slots n
@@ -254,7 +253,7 @@ module _ {E : Type 0} where
       away j some upto = elim (cases_lt d j) [
         | inl past ↦
             let q : suc (j - 1) ≡ j = omega arith in
-            omega (arith, ap reach (moved.moved (j - 1) (omega arith) (omega arith)).2, ap (λ x. reach (slot_at others (h + x))) q)
+            omega (arith, moved_far (slot_at slots) (slot_at others) (length slots) h d v e moved (j - 1) (omega arith) (omega arith), ap (λ x. reach (slot_at others (h + x))) q)
         | inr from ↦ omega (arith, passed (slot_at others) tidy.ordered h 0 d (omega (arith, ap reach moved.here)) j from)
       ]
 

@@ -1,19 +1,15 @@
 -- One function that gives each entry's handle a hash of the entry's home and fingerprint: it does so after each change, and through a rebuild.
-use Rattle.std.proofs.Common.{◌≡◌, ℕ, zero, suc, ◌+◌, ◌-◌, ◌%◌, ◌<◌, ◌≤◌, inl, inr, refl, ap, sym, ◌∙◌, subst, arith, Bool, true, false, cond, List, [], ◌∷◌, ◌++◌, length, take, drop, take-append-drop, take-suc, take_all, get_or, append-nil, length-append, Option, Some, None, slice_get, mod-eq_of_lt}
+use Rattle.std.proofs.Common.{◌≡◌, ℕ, zero, suc, ◌-◌, ◌%◌, ◌<◌, ◌≤◌, inl, inr, refl, ap, sym, ◌∙◌, subst, arith, Bool, true, false, cond, List, [], ◌∷◌, ◌++◌, length, take, drop, take-append-drop, take-suc, take_all, get_or, append-nil, length-append, Option, Some, None, slice_get, mod-eq_of_lt}
 use Rattle.std.proofs.lemmas.Bool.{cases_lt, cases_eq}
 use Rattle.std.proofs.lemmas.List.{get_or_past, length-replicate}
 use Rattle.std.proofs.lemmas.List.Elements.{filter_map-append}
 use Rattle.std.proofs.lemmas.Option.{slice_get_within}
 use Rattle.std.proofs.Math.ListN.{get_or-replicate}
-use Rattle.clock2q.specs.Homes.{top, capacity, home, listed, count, total, no_entries, with_list, put_last, without_first, is_entry_of, removed}
-use Rattle.clock2q.specs.Layout.{Placed, placed, spill, slot_at, layout, entries, homes_of, IsTidy, reach}
+use Rattle.clock2q.specs.Homes.{top, capacity, home, listed, total, no_entries, with_list, put_last, without_first, is_entry_of, removed}
+use Rattle.clock2q.specs.Layout.{Placed, slot_at, layout, entries, homes_of, IsTidy, reach}
 use Rattle.clock2q.specs.TableStep.{put_all, rebuilt, IsHashOf}
-use Rattle.clock2q.proofs.Spill.{Roomy, spill-lt}
-use Rattle.clock2q.proofs.Tiles.{taken}
-use Rattle.clock2q.proofs.Laid.{IsLaid, shows, gap-reach}
 use Rattle.clock2q.proofs.Walk.{slice_get-append}
-use Rattle.clock2q.proofs.Slots.{slot-again, layout-laid}
-use Rattle.clock2q.proofs.Tidy.{capacity-lt, roomy-of, length-homes_of, tidy-layout, tidy-total, layout-total, layout-tidy, layout-read}
+use Rattle.clock2q.proofs.Tidy.{layout-only, capacity-lt, length-homes_of, tidy-layout, tidy-total, layout-total, layout-tidy, layout-read}
 use Rattle.clock2q.proofs.Changes.{length-with_list, listed-with_same, listed-with_other}
 use Rattle.clock2q.proofs.Rebuild.{length-put_all, total-put_all, total-no_entries}
 
@@ -68,19 +64,8 @@ module _ {H : Type 0} (key : H → ℕ) where
         let homes : List (List (ℕ × H)) = homes_of slots in
         let len : length homes ≡ length slots = length-homes_of slots in
         let room : total homes < length homes = omega (arith, tidy.room, tidy-total slots tidy, capacity-lt (length slots) some) in
-        let m : ℕ = length homes in
-        let roomy : Roomy (count homes) m = roomy-of homes room in
-        let laid : IsLaid m (listed homes) (slot_at slots) = subst (λ x. IsLaid m (listed homes) (slot_at x)) (sym (tidy-layout slots tidy)) (layout-laid homes roomy) in
-        let there : slot_at slots (n + m) ≡ Some s = ap (λ x. slot_at slots (n + x)) len ∙ slot-again slots n ∙ is in
-        elim (taken (count homes) m roomy (n + m) (omega (arith, spill-lt (count homes) m roomy 0))) [
-          | inl g ↦ absurd (omega (arith, gap-reach m (listed homes) (slot_at slots) roomy laid (n + m) g, ap reach there))
-          | inr p ↦
-              let r = shows m (listed homes) (slot_at slots) roomy laid (n + m) p.0 p.1 in
-              let q : Some s ≡ Some (placed (n + m - p.0) r.0) = sym there ∙ r.1 in
-              let t : s ≡ placed (n + m - p.0) r.0 = cc in
-              let e : s.entry ≡ r.0 = ap (λ x. x.entry) t in
-              ap (λ x. top (key x.1)) e ∙ (hash-at homes hashes (omega (arith, some, len)) p.0 (n + m - (p.0 + spill (count homes) m p.0)) r.0 r.2).1 ∙ ap (λ x. x.0) (sym e)
-        ]
+        let r = layout-only homes room n s (ap (λ x. slot_at x n) (sym (tidy-layout slots tidy)) ∙ is) in
+        (hash-at homes hashes (omega (arith, some, len)) r.0 r.1 s.entry r.2).1
     | inr none ↦ absurd (omega (arith, ap reach is, ap reach (get_or_past slots (n % length slots) None (omega arith))))
   ]
 

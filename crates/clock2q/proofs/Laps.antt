@@ -4,6 +4,9 @@ use Rattle.std.proofs.lemmas.Bool.{cases_lt}
 use Rattle.std.proofs.lemmas.Nat.{pow-add, pow_below}
 use Rattle.std.proofs.Math.Nat.{add-mod_right}
 
+pub again-at : {X : Type 0} (f : ℕ → X) (m : ℕ) → ((n : ℕ) → f (n + m) ≡ f n) → (n k : ℕ) → n ≡ k + m → f n ≡ f k
+again-at f m again n k e = ap f e ∙ again k
+
 pub again-times : {X : Type 0} (f : ℕ → X) (m : ℕ) → ((n : ℕ) → f (n + m) ≡ f n) → (n k : ℕ) → f (n + k * m) ≡ f n
 again-times f m again n zero =
     let e : n + 0 * m ≡ n = omega arith in

@@ -1,8 +1,8 @@
 -- Tables whose slots are known from outside, computed.
-use Rattle.std.proofs.Common.{◌≡◌, ℕ, zero, suc, ◌*◌, ◌+◌, ◌%◌, eqb, List, [], ◌∷◌, ◌++◌, refl, Option, Some, None, replicate}
+use Rattle.std.proofs.Common.{◌≡◌, ℕ, zero, suc, ◌*◌, ◌+◌, ◌%◌, eqb, List, [], ◌∷◌, ◌++◌, refl, Option, Some, None, replicate, map, option_map}
 use Rattle.clock2q.specs.Homes.{no_entries, inserted, removed, candidates}
 use Rattle.clock2q.specs.Layout.{Placed, placed, layout, spill, walk, homes_of}
-use Rattle.clock2q.specs.TableStep.{rebuilt}
+use Rattle.clock2q.specs.TableStep.{rebuilt, fit}
 
 -- a table of numbers, each with its hash
 abbrev Numbers : Type 0
@@ -118,3 +118,40 @@ wide-candidates = (refl, refl)
 wide-walk : walk wide 15 ≡ 7
 unfolding layout spill
 wide-walk = refl
+
+-- a run that wraps over the end: handles under 14, 14, 15, 0 and 0
+abbrev round : Numbers
+round = put_each (no_entries 16) (14 ∷ 14 ∷ 15 ∷ 0 ∷ 0 ∷ []) 0
+
+round-layout : layout round ≡ (at 0 2 1 ∷ at 0 3 1 ∷ at 0 4 2 ∷ []) ++ vacant 11 ++ (at 0 0 0 ∷ at 0 1 1 ∷ [])
+unfolding layout spill
+round-layout = refl
+
+round-walks : walk round 14 ∷ walk round 15 ∷ walk round 0 ∷ [] ≡ 3 ∷ 3 ∷ 4 ∷ []
+unfolding spill
+round-walks = refl
+
+round-read : homes_of (layout round) ≡ round
+unfolding layout spill homes_of
+round-read = refl
+
+abbrev round_less : Numbers
+round_less = removed eqb round 14 0
+
+round_less-layout : layout round_less ≡ (at 0 3 0 ∷ at 0 4 1 ∷ []) ++ vacant 12 ++ (at 0 1 0 ∷ at 0 2 0 ∷ [])
+unfolding layout spill
+round_less-layout = refl
+
+round_less-walks : walk round_less 14 ∷ walk round_less 15 ∷ walk round_less 0 ∷ [] ≡ 2 ∷ 2 ∷ 3 ∷ []
+unfolding spill
+round_less-walks = refl
+
+-- the same homes in another order of insertion have the same slots and displacements
+round-order : map (option_map (λ s. s.displacement)) (layout (put_each (no_entries 16) (0 ∷ 15 ∷ 14 ∷ 0 ∷ 14 ∷ []) 0)) ≡ map (option_map (λ s. s.displacement)) (layout round)
+unfolding layout spill
+round-order = refl
+
+-- slot counts for numbers of entries
+fits : map fit (1 ∷ 12 ∷ 13 ∷ 384 ∷ 385 ∷ []) ≡ 16 ∷ 16 ∷ 32 ∷ 512 ∷ 1024 ∷ []
+unfolding fit
+fits = refl

@@ -23,3 +23,4 @@ pub mod Runs
 pub mod Removals
 pub mod Hashes
 pub mod Steps
+pub mod Lookups

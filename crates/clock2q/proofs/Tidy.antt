@@ -1,14 +1,16 @@
 -- A table's slots are tidy exactly where they are the layout of few enough entries, which are then those read off them.
-use Rattle.std.proofs.Common.{◌≡◌, ℕ, zero, suc, ◌+◌, ◌%◌, ◌<◌, ◌≤◌, inl, inr, refl, ap, sym, ◌∙◌, subst, arith, List, [], ◌∷◌, length, take, take_all, get_or, length-append, ext_get_or, sum_by, Option, Some, None, mod-eq_of_lt, add-one}
+use Rattle.std.proofs.Common.{◌≡◌, ℕ, zero, suc, ◌-◌, ◌+◌, ◌%◌, ◌<◌, ◌≤◌, inl, inr, refl, ap, sym, ◌∙◌, subst, arith, List, [], ◌∷◌, length, take, take_all, get_or, length-append, ext_get_or, sum_by, Option, Some, None, slice_get, mod-eq_of_lt, add-one}
 use Rattle.std.proofs.lemmas.Bool.{cases_lt}
 use Rattle.std.proofs.lemmas.List.{get_or_past, get_or_at}
 use Rattle.std.proofs.lemmas.List.Sums.{sum_by_more, sum_by-cons}
 use Rattle.std.proofs.Math.ListN.{get_or-append}
+use Rattle.std.proofs.Math.Nat.{add-mod_right}
 use Rattle.clock2q.specs.Homes.{capacity, listed, count, total}
-use Rattle.clock2q.specs.Layout.{Placed, window, slot_at, layout, entries, met, read_upto, homes_of, IsOrdered, IsTidy}
-use Rattle.clock2q.proofs.Spill.{Roomy, window-same}
+use Rattle.clock2q.specs.Layout.{placed, reach, spill_of, Placed, window, slot_at, layout, entries, met, read_upto, homes_of, IsOrdered, IsTidy}
+use Rattle.clock2q.proofs.Spill.{Roomy, spill-lt, window-same}
 use Rattle.clock2q.proofs.Laps.{rem-same}
-use Rattle.clock2q.proofs.Laid.{IsLaid, laid-ordered, laid-met, laid-same, met-again}
+use Rattle.clock2q.proofs.Tiles.{taken}
+use Rattle.clock2q.proofs.Laid.{shows, gap-reach, IsLaid, laid-ordered, laid-met, laid-same, met-again}
 use Rattle.clock2q.proofs.Walk.{lists-roomy, ordered-laid}
 use Rattle.clock2q.proofs.Sums.{weight, entries-sum, laid-sum}
 use Rattle.clock2q.proofs.Slots.{slot-again, listed-again, count-again, length-layout, layout-laid}
@@ -130,6 +132,30 @@ module _ {E : Type 0} where
 
   laid-total : (homes : List (List E)) → total homes < length homes → length (entries (layout homes)) ≡ total homes
   laid-total homes l = sym (sum_by_one (entries (layout homes))) ∙ layout-sum (λ _. 1) homes l ∙ window-same (λ h. sum_by (λ _. 1) (listed homes h)) (count homes) 0 (length homes) (λ j _. sum_by_one (listed homes (0 + j))) ∙ sum-window length homes
+
+  -- an entry of a list stands where the layout says
+  pub layout-standing : (homes : List (List E)) → total homes < length homes → (h i : ℕ) (e : E) → slice_get (listed homes h) i ≡ Some e → slot_at (layout homes) (h + spill_of homes h + i) ≡ Some (placed (spill_of homes h + i) e)
+  layout-standing homes l h i e is = (layout-laid homes (roomy-of homes l)).standing h i e is
+
+  -- and what stands in a slot is such an entry
+  pub layout-only : (homes : List (List E)) → total homes < length homes → (n : ℕ) (s : Placed E) → slot_at (layout homes) n ≡ Some s → (h : ℕ) × (i : ℕ) × (slice_get (listed homes h) i ≡ Some s.entry) × (s.displacement ≡ spill_of homes h + i) × ((h + spill_of homes h + i) % length homes ≡ n % length homes)
+  layout-only homes l n s is =
+      let m : ℕ = length homes in
+      let A : ℕ → Option (Placed E) = slot_at (layout homes) in
+      let roomy : Roomy (count homes) m = roomy-of homes l in
+      let there : A (n + m) ≡ Some s = ap (λ x. A (n + x)) (sym (length-layout homes)) ∙ slot-again (layout homes) n ∙ is in
+      elim (taken (count homes) m roomy (n + m) (omega (arith, spill-lt (count homes) m roomy 0))) [
+        | inl g ↦ absurd (omega (arith, gap-reach m (listed homes) A roomy (layout-laid homes roomy) (n + m) g, ap reach there))
+        | inr p ↦
+            let r = shows m (listed homes) A roomy (layout-laid homes roomy) (n + m) p.0 p.1 in
+            let q : Some s ≡ Some (placed (n + m - p.0) r.0) = sym there ∙ r.1 in
+            let t : s ≡ placed (n + m - p.0) r.0 = cc in
+            let e : r.0 ≡ s.entry = ap (λ x. x.entry) (sym t) in
+            let d : s.displacement ≡ n + m - p.0 = ap (λ x. x.displacement) t in
+            let i : ℕ = n + m - (p.0 + spill_of homes p.0) in
+            let w : p.0 + spill_of homes p.0 + i ≡ n + m = omega arith in
+            (p.0, i, r.2 ∙ ap Some e, omega arith, ap (λ x. x % m) w ∙ add-mod_right n m)
+      ]
 
   pub layout-ordered : (homes : List (List E)) → total homes < length homes → IsOrdered (slot_at (layout homes))
   layout-ordered homes l =
