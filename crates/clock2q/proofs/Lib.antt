@@ -23,4 +23,5 @@ pub mod Runs
 pub mod Removals
 pub mod Hashes
 pub mod Steps
+pub mod Insertions
 pub mod Lookups

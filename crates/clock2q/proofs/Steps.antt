@@ -38,12 +38,12 @@ module _ {E : Type 0} where
   entry_off None p some is = absurd (omega (arith, some, ap reach is))
   entry_off (Some s) p some is = omega arith
 
-  reach-moved_on : (o : Option (Placed E)) → (reach o ≤ reach (moved_on o)) × (reach (moved_on o) ≤ suc (reach o))
+  pub reach-moved_on : (o : Option (Placed E)) → (reach o ≤ reach (moved_on o)) × (reach (moved_on o) ≤ suc (reach o))
   reach-moved_on None = (omega arith, omega arith)
   reach-moved_on (Some s) = (omega arith, omega arith)
 
   -- what holds of each slot on a lap holds of every slot
-  near_by_lap : (slots : List (Option (Placed E))) (g b : ℕ) → 0 < length slots → ((j : ℕ) → j < length slots → reach (slot_at slots (g + j)) ≤ b) → (n : ℕ) → reach (slot_at slots n) ≤ b
+  pub near_by_lap : (slots : List (Option (Placed E))) (g b : ℕ) → 0 < length slots → ((j : ℕ) → j < length slots → reach (slot_at slots (g + j)) ≤ b) → (n : ℕ) → reach (slot_at slots n) ≤ b
   near_by_lap slots g b some lap_near n =
       let l : ℕ = lap (length slots) g n in
       omega (arith, lap_near l (lap-lt (length slots) g n some), ap reach (lap-same (slot_at slots) (length slots) (slot-again slots) some g n))

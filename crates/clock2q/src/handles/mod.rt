@@ -2,7 +2,7 @@
 
 ghost use Rattle.clock2q.specs.Slots.{IsSlotCount};
 ghost use Rattle.clock2q.specs.TableStep.{fit};
-ghost use Rattle.std.specs.Prelude.{◌≡◌, ◌≢◌, ◌^◌, ◌<◌, ◌≤◌, ◌+◌, ◌↔◌, ℕ, [], IsTrue, IsOk, IsErrOf, IfOk, IfSome, MatchOption, length};
+ghost use Rattle.std.specs.Prelude.{◌≡◌, ◌≢◌, ◌%◌, ◌^◌, ◌<◌, ◌≤◌, ◌+◌, ◌↔◌, ℕ, [], IsTrue, IsOk, IsOkUnless, IsErrOf, OnOk, OnErr, IfOk, IfSome, MatchOption, length};
 ghost use Rattle.std.specs.Bool.{OnFalse};
 
 mod candidates;
@@ -73,7 +73,8 @@ fn slots_for(entries: usize) -> Option<usize>
 }
 
 impl<H: Copy + Eq + Default, A: Allocator + Copy> Table<H, A> {
-    ghost use Rattle.clock2q.specs.Layout.{layout};
+    ghost use Rattle.clock2q.specs.Homes.{total, capacity, inserted};
+    ghost use Rattle.clock2q.specs.Layout.{layout, slot_at, reach, run, IsTooLong, IsBestPlaced};
     ghost use Rattle.clock2q.specs.TableStep.{table_value, made_for};
 
     /// An empty table with no slots, which takes no memory.
@@ -160,7 +161,22 @@ impl<H: Copy + Eq + Default, A: Allocator + Copy> Table<H, A> {
         }
     }
 
-    fn place(&mut self, home: usize, distance: usize, hash: u64, handle: H) -> Result<(), TableError> {
+    /// Puts an entry in where the walk for it ended.
+    fn place(&mut self, home: usize, distance: usize, hash: u64, handle: H) -> Result<(), TableError>
+        requires room { total self.old.homes < capacity (length self.old.homes) }
+        requires home { home ≡ hash % length self.old.slots }
+        requires within { distance < length self.old.slots }
+        requires passed { (j : ℕ) → j < distance → j < reach (slot_at self.old.slots (home + j)) }
+        requires stop { reach (slot_at self.old.slots (home + distance)) ≤ distance }
+        ensures ok { OnOk result (self.new.homes ≡ inserted self.old.homes hash handle) }
+        ensures short { OnOk result (IsTooLong (inserted self.old.homes hash handle) → ⊥) }
+        ensures long { OnErr result (IsTooLong (inserted self.old.homes hash handle)) }
+        ensures err { OnErr result (self.new ≡ self.old) }
+        ensures only { IsOkUnless result TableError.RunTooLong }
+        ensures counted { self.old.writes ≤ self.new.writes }
+        ensures writes { self.new.writes ≤ self.old.writes + run self.old.slots hash + 1 }
+        ensures best { IsBestPlaced self.new.homes }
+    {
         if !self.slots.put_in(home, distance, hash, handle) {
             return Err(TableError::RunTooLong);
         }

@@ -82,6 +82,7 @@ impl<H: Copy + Default, A: Allocator> Slots<H, A> {
         ensures room { IfSome result (HasRoom (slot_at self.now.slots) MAX_DISPLACEMENT home from) }
         ensures vacancy { IfSome result (IsVacancy (slot_at self.now.slots) home) }
         ensures within { IfSome result (λ v. (from ≤ v) × (v < length self.now.slots)) }
+        ensures small { length self.now.slots < 2 ^ 63 }
         ensures far { IfNone result ((v : ℕ) → IsVacancy (slot_at self.now.slots) home v → HasRoom (slot_at self.now.slots) MAX_DISPLACEMENT home from v → ⊥) }
     {
         let mut distance = from;
@@ -118,6 +119,7 @@ impl<H: Copy + Default, A: Allocator> Slots<H, A> {
         ensures far {
             OnFalse result ((v : ℕ) → IsVacancy (slot_at self.old.slots) home v → HasRoom (slot_at self.old.slots) MAX_DISPLACEMENT home distance v → ⊥)
         }
+        ensures small { OnTrue result (length self.old.slots < 2 ^ 63) }
         ensures refused { OnFalse result (self.new ≡ self.old) }
         ensures len { length self.new.slots ≡ length self.old.slots }
     {
