@@ -24,4 +24,5 @@ pub mod Removals
 pub mod Hashes
 pub mod Steps
 pub mod Insertions
+pub mod Yields
 pub mod Lookups

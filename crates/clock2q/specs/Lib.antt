@@ -5,4 +5,5 @@ pub mod Slots
 pub mod Table
 pub mod Shifts
 pub mod Found
+pub mod Candidates
 pub mod Partition

@@ -215,7 +215,7 @@ impl<H: Copy + Eq + Default, A: Allocator + Copy> Table<H, A> {
 }
 
 impl<H: Copy + Eq + Default, A: Allocator> Table<H, A> {
-    ghost use Rattle.clock2q.specs.Homes.{total, capacity, listed, removed, is_entry_of};
+    ghost use Rattle.clock2q.specs.Homes.{total, capacity, listed, candidates, removed, is_entry_of};
     ghost use Rattle.clock2q.specs.Layout.{run, walk, IsBestPlaced};
     ghost use Rattle.std.specs.List.{list_any};
     ghost use Rattle.clock2q.specs.Table.{IsWhole};
@@ -243,7 +243,13 @@ impl<H: Copy + Eq + Default, A: Allocator> Table<H, A> {
     }
 
     /// The handles whose home and fingerprint are those of `hash`, in the order of their slots.
-    pub fn get(&self, hash: u64) -> Candidates<'_, H, A> {
+    pub fn get(&self, hash: u64) -> Candidates<'_, H, A>
+        ensures candidates { result.left ≡ candidates self.now.homes hash }
+
+        // A lookup that is drained reads all of its walk, and none of it is read yet.
+        ensures reads { result.reads ≡ 0 }
+        ensures unread { result.unread ≡ walk self.now.homes hash }
+    {
         Candidates::new(&self.slots, hash)
     }
 
