@@ -1,5 +1,5 @@
 -- Lookups: the candidates that a walk has passed, those that are left, and the slots that it reads.
-use Rattle.std.proofs.Common.{◌≡◌, ◌≢◌, ℕ, zero, suc, ◌+◌, ◌-◌, ◌%◌, ◌<◌, ◌≤◌, ◌⊎◌, inl, inr, refl, ap, sym, ◌∙◌, subst, arith, Bool, true, false, cond, ◌==◌, eqb, eq-eqb, List, [], ◌∷◌, ◌++◌, map, filter, length, Option, Some, None}
+use Rattle.std.proofs.Common.{◌≡◌, ◌≢◌, ℕ, zero, suc, ◌+◌, ◌-◌, ◌%◌, ◌<◌, ◌≤◌, ◌⊎◌, inl, inr, refl, ap, sym, ◌∙◌, subst, arith, Bool, true, false, cond, ◌==◌, eqb, eq-eqb, List, [], ◌∷◌, ◌++◌, map, filter, length, Option, Some, None, IfSome}
 use Rattle.std.proofs.lemmas.Bool.{cases_lt}
 use Rattle.std.proofs.lemmas.Bool.Decides.{eqb_tells}
 use Rattle.std.proofs.lemmas.List.Elements.{filter-append}
@@ -15,7 +15,8 @@ use Rattle.clock2q.proofs.Tidy.{length-homes_of, listed-homes_of, tidy-vacant}
 use Rattle.clock2q.proofs.Changes.{read-stop}
 use Rattle.clock2q.proofs.Rebuild.{walk-is}
 use Rattle.clock2q.proofs.Finding.{mark_parts}
-use Rattle.clock2q.proofs.Steps.{listed-home}
+use Rattle.clock2q.proofs.Steps.{listed-home, past_home}
+use Rattle.std.specs.Iterator.{MakesProgress, item_count}
 
 module _ {E : Type 0} where
   -- past its end a walk meets no entry of its home
@@ -124,10 +125,9 @@ module _ {H : Type 0} (slots : List (Option (Placed (ℕ × H)))) (x : ℕ) wher
       ap (λ es. map (λ e. e.1) (matching x es)) (ap (met (slot_at slots) g 0) all ∙ sym (listed-homes_of slots g) ∙ listed-home slots g x (λ _. refl))
 
   -- the next candidate is the first that is left
-  pub left_next : (d n : ℕ) (next : IsNextCandidate slots (x % length slots) x d n) → left_from slots x d ≡ next.handle ∷ left_from slots x (n + 1)
-  left_next d n next =
+  pub left_next : (g d n : ℕ) → g ≡ x % length slots → (next : IsNextCandidate slots g x d n) → left_from slots x d ≡ next.handle ∷ left_from slots x (n + 1)
+  left_next g d n at next =
       let A = slot_at slots in
-      let g : ℕ = x % length slots in
       let m : ℕ = length slots in
       let rest = met A g (n + 1) (m - (n + 1)) in
       let k : n + 1 - n ≡ suc 0 = omega arith in
@@ -136,11 +136,52 @@ module _ {H : Type 0} (slots : List (Option (Placed (ℕ × H)))) (x : ℕ) wher
           ap (matching x) (met-next A g n n (omega arith) ∙ ap (λ i. met A g n i ++ at_home (A (g + n)) n) (let s : n - n ≡ 0 = omega arith in s)) ∙ matching-here x (A (g + n)) n next.handle next.here in
       let split : met A g d (m - d) ≡ met A g d (n - d) ++ (met A g n (n + 1 - n) ++ rest) =
           met-split A g d n m next.from (omega (arith, next.within)) ∙ ap (λ xs. met A g d (n - d) ++ xs) (met-split A g n (n + 1) m (omega arith) (omega (arith, next.within))) in
-      ap (λ es. map (λ e. e.1) es) (ap (matching x) split ∙ filter-append (λ e. e.0 == top x) (met A g d (n - d)) (met A g n (n + 1 - n) ++ rest) ∙ ap (λ xs. xs ++ matching x (met A g n (n + 1 - n) ++ rest)) next.none_before
+      ap (λ h. map (λ e. e.1) (matching x (met A h d (m - d)))) (sym at) ∙ ap (λ es. map (λ e. e.1) es) (ap (matching x) split ∙ filter-append (λ e. e.0 == top x) (met A g d (n - d)) (met A g n (n + 1 - n) ++ rest) ∙ ap (λ xs. xs ++ matching x (met A g n (n + 1 - n) ++ rest)) next.none_before
         ∙ filter-append (λ e. e.0 == top x) (met A g n (n + 1 - n)) rest ∙ ap (λ xs. xs ++ matching x rest) one)
+      ∙ ap (λ h. next.handle ∷ map (λ e. e.1) (matching x (met A h (n + 1) (m - (n + 1))))) at
 
   -- past all slots nothing is left
   pub left_past : left_from slots x (length slots) ≡ []
   left_past =
       let none : length slots - length slots ≡ 0 = omega arith in
       ap (λ k. map (λ e. e.1) (matching x (met (slot_at slots) (x % length slots) (length slots) k))) none
+
+module _ {H : Type 0} (slots : List (Option (Placed (ℕ × H)))) (tidy : IsTidy slots) (x g : ℕ) (at : 0 < length slots → g ≡ x % length slots) where
+  -- nothing left from the home is nothing left
+  pub left_none : (d : ℕ) → matching x (met (slot_at slots) g d (length slots - d)) ≡ [] → left_from slots x d ≡ []
+  left_none d none = elim (cases_lt 0 (length slots)) [
+    | inl some ↦ ap (λ es. map (λ e. e.1) es) (ap (λ h. matching x (met (slot_at slots) h d (length slots - d))) (sym (at some)) ∙ none)
+    | inr empty ↦ let z : length slots - d ≡ 0 = omega (arith, empty) in ap (λ k. map (λ e. e.1) (matching x (met (slot_at slots) (x % length slots) d k))) z
+  ]
+
+  -- a walk from the home is one for the hash
+  pub walk-home : walk (homes_of slots) g ≡ walk (homes_of slots) x
+  walk-home = elim (cases_lt 0 (length slots)) [
+    | inl some ↦
+        let v = tidy-vacant slots tidy some in
+        let s = stop (slot_at slots) tidy.ordered (length slots) (slot-again slots) some v.0 v.1 g 0 in
+        let past = past_home slots (length slots) g x refl (at some) in
+        walk-at slots tidy g s.0 some (λ j l. omega (arith, s.2.before j l)) (omega (arith, s.2.stop))
+        ∙ sym (walk-at slots tidy x s.0 some (λ j l. omega (arith, s.2.before j l, ap reach (past j))) (omega (arith, s.2.stop, ap reach (past s.0))))
+    | inr empty ↦
+        let none : length (homes_of slots) ≡ 0 = omega (arith, empty, length-homes_of slots) in
+        walk-none (homes_of slots) g none ∙ sym (walk-none (homes_of slots) x none)
+  ]
+
+  -- a handle that is yielded was the first that was left
+  pub yielded : (d n : ℕ) (r : H) → IsNextCandidate slots g x d n → IfSome (slot_at slots (g + n)) (λ p. r ≡ p.entry.1) → left_from slots x d ≡ r ∷ left_from slots x (n + 1)
+  yielded d n r next handle =
+      let same : r ≡ next.handle = subst (λ o. IfSome o (λ p. r ≡ p.entry.1)) next.here handle in
+      left_next slots x g d n (at (omega (arith, next.within))) next ∙ ap (λ w. w ∷ left_from slots x (n + 1)) (sym same)
+
+  -- and its slot was one of the walk, with more to come
+  pub yielded-read : (d n : ℕ) → IsNextCandidate slots g x d n → n + 1 < walk (homes_of slots) x
+  yielded-read d n next = omega (arith, (walk-beyond slots tidy g n (omega (arith, next.within)) (omega (arith, ap reach next.here))).0, walk-home)
+
+-- a call that yields a handle comes nearer the end
+pub yields_progress : {S A : Type 0} (rest : S → List A) (can : S → Type 0) (s t : S) (a : A) → rest s ≡ a ∷ rest t → can t → MakesProgress can (item_count rest) s (Some a) t
+yields_progress rest can s t a is may = record {
+  on = λ _. (may, tt, omega (arith, ap length is));
+  keeps = may;
+  rests = λ _. tt;
+}
