@@ -25,4 +25,5 @@ pub mod Hashes
 pub mod Steps
 pub mod Insertions
 pub mod Yields
+pub mod Rebuilds
 pub mod Lookups
