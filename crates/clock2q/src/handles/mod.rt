@@ -2,7 +2,7 @@
 
 ghost use Rattle.clock2q.specs.Slots.{IsSlotCount};
 ghost use Rattle.clock2q.specs.TableStep.{fit};
-ghost use Rattle.std.specs.Prelude.{◌≡◌, ◌≢◌, ◌*◌, ◌%◌, ◌^◌, ◌<◌, ◌≤◌, ◌+◌, ◌↔◌, ℕ, [], IsTrue, IsOk, IsOkUnless, IsErrOf, OnOk, OnErr, IfOk, IfSome, MatchOption, length};
+ghost use Rattle.std.specs.Prelude.{◌≡◌, ◌≢◌, Err, ◌*◌, ◌%◌, ◌^◌, ◌<◌, ◌≤◌, ◌+◌, ◌↔◌, ℕ, [], IsTrue, IsOk, IsOkUnless, IsErrOf, OnOk, OnErr, IfOk, IfSome, MatchOption, length};
 ghost use Rattle.std.specs.Bool.{OnFalse};
 
 mod candidates;
@@ -75,8 +75,8 @@ fn slots_for(entries: usize) -> Option<usize>
 impl<H: Copy + Eq + Default, A: Allocator + Copy> Table<H, A> {
     ghost use Rattle.clock2q.specs.Homes.{total, capacity, inserted};
     ghost use Rattle.clock2q.specs.Layout.{layout, slot_at, reach, run, IsTooLong, IsBestPlaced};
-    ghost use Rattle.clock2q.specs.Rehash.{AnswersBy, Asks, IsHeld, held_handles};
-    ghost use Rattle.clock2q.specs.TableStep.{table_value, made_for, rebuilt, IsHashOf};
+    ghost use Rattle.clock2q.specs.Rehash.{Asks, GivesHashes, held_handles};
+    ghost use Rattle.clock2q.specs.TableStep.{table_value, made_for, rebuilt, grown, doubled, reserved, IsFull, IsShortOf, IsPastSize};
 
     /// An empty table with no slots, which takes no memory.
     pub fn new(alloc: A) -> Table<H, A>
@@ -157,12 +157,10 @@ impl<H: Copy + Eq + Default, A: Allocator + Copy> Table<H, A> {
         requires count { IsSlotCount count }
         requires fits { total self.now.homes ≤ capacity count }
         requires multiple { 0 < length self.now.homes → (k : ℕ) × (count ≡ k * length self.now.homes) }
-        requires asked { (key : H → ℕ) × AnswersBy F.FnMut key (IsHeld self.now.homes) rehash × IsHashOf key self.now.homes }
-        ensures made {
-            IfOk result (λ t. (key : H → ℕ) → AnswersBy F.FnMut key (IsHeld self.now.homes) rehash → IsHashOf key self.now.homes → t.homes ≡ rebuilt key count self.now.homes)
-        }
+        requires asked { (key : H → ℕ) × GivesHashes F.FnMut key self.now.homes rehash }
+        ensures made { IfOk result (λ t. (key : H → ℕ) → GivesHashes F.FnMut key self.now.homes rehash → t.homes ≡ rebuilt key count self.now.homes) }
         ensures asks {
-            OnOk result ((key : H → ℕ) → AnswersBy F.FnMut key (IsHeld self.now.homes) rehash → IsHashOf key self.now.homes → (last : F) × Asks F.FnMut key rehash (held_handles self.now.homes) last)
+            OnOk result ((key : H → ℕ) → GivesHashes F.FnMut key self.now.homes rehash → (last : F) × Asks F.FnMut key rehash (held_handles self.now.homes) last)
         }
         ensures only { IsOkUnless result TableError.Memory }
     {
@@ -178,6 +176,81 @@ impl<H: Copy + Eq + Default, A: Allocator + Copy> Table<H, A> {
             }
         }
         Ok(table)
+    }
+
+    /// Rebuilds a full table in twice the slots, or in the least count of them.
+    fn grow<F: FnMut(H) -> u64>(&mut self, rehash: F) -> Result<(), TableError>
+        requires full { IsFull self.old.homes }
+        requires asked { (key : H → ℕ) × GivesHashes F.FnMut key self.old.homes rehash }
+        ensures grown { OnOk result ((key : H → ℕ) → GivesHashes F.FnMut key self.old.homes rehash → self.new.homes ≡ rebuilt key (doubled (length self.old.homes)) self.old.homes) }
+        ensures room { OnOk result (total self.new.homes < capacity (length self.new.homes)) }
+        ensures asks {
+            OnOk result ((key : H → ℕ) → GivesHashes F.FnMut key self.old.homes rehash → (last : F) × Asks F.FnMut key rehash (held_handles self.old.homes) last)
+        }
+        ensures err { OnErr result (self.new ≡ self.old) }
+        ensures only { IsOkUnless result TableError.Memory }
+        ensures best { IsBestPlaced self.new.homes }
+    {
+        let count = (self.slots.count() * 2).max(MIN_SLOTS);
+        *self = self.rebuilt(count, rehash)?;
+        Ok(())
+    }
+
+    /// Makes room for one entry more in a table that is full.
+    fn make_room<F: FnMut(H) -> u64>(&mut self, rehash: F) -> Result<(), TableError>
+        requires { IsFull self.old.homes → (key : H → ℕ) × GivesHashes F.FnMut key self.old.homes rehash }
+        ensures grown { OnOk result ((key : H → ℕ) → (IsFull self.old.homes → GivesHashes F.FnMut key self.old.homes rehash) → self.new.homes ≡ grown key self.old.homes) }
+        ensures room { OnOk result (total self.new.homes < capacity (length self.new.homes)) }
+        ensures asks {
+            OnOk result (IsFull self.old.homes → (key : H → ℕ) → GivesHashes F.FnMut key self.old.homes rehash → (last : F) × Asks F.FnMut key rehash (held_handles self.old.homes) last)
+        }
+        ensures kept { total self.old.homes < capacity (length self.old.homes) → IsOk result × (self.new ≡ self.old) }
+        ensures full { OnErr result (IsFull self.old.homes) }
+        ensures err { OnErr result (self.new ≡ self.old) }
+        ensures only { IsOkUnless result TableError.Memory }
+        ensures best { IsBestPlaced self.new.homes }
+    {
+        if self.len() == self.capacity() {
+            return self.grow(rehash);
+        }
+        Ok(())
+    }
+
+    /// Puts `handle` in under `hash`, last among the entries of its home. Handles and hashes may
+    /// repeat. A full table is rebuilt in twice the slots first, and only then is `rehash` asked
+    /// for the hash that each held handle was put in under.
+    ///
+    /// # Errors
+    ///
+    /// `Memory` where the table was full and can't grow: it is unchanged. `RunTooLong` where an
+    /// entry would stand more than 2^24 - 2 slots past its home: the entries are the same, in twice
+    /// the slots where the table was full. It takes 2^24 entries with the new one.
+    pub fn insert<F: FnMut(H) -> u64>(&mut self, hash: u64, handle: H, rehash: F) -> Result<(), TableError>
+        requires { IsFull self.old.homes → (key : H → ℕ) × GivesHashes F.FnMut key self.old.homes rehash }
+        ensures ok {
+            OnOk result ((key : H → ℕ) → (IsFull self.old.homes → GivesHashes F.FnMut key self.old.homes rehash) → self.new.homes ≡ inserted (grown key self.old.homes) hash handle)
+        }
+        ensures short {
+            OnOk result ((key : H → ℕ) → (IsFull self.old.homes → GivesHashes F.FnMut key self.old.homes rehash) → IsTooLong (inserted (grown key self.old.homes) hash handle) → ⊥)
+        }
+        ensures long {
+            result ≡ Err TableError.RunTooLong → (key : H → ℕ) → (IsFull self.old.homes → GivesHashes F.FnMut key self.old.homes rehash) →
+                IsTooLong (inserted (grown key self.old.homes) hash handle) × (self.new.homes ≡ grown key self.old.homes)
+        }
+        ensures memory { result ≡ Err TableError.Memory → IsFull self.old.homes × (self.new ≡ self.old) }
+        ensures only { result ≢ Err TableError.Size }
+
+        // Where there is room, it takes no memory, and writes one slot more than the run at most.
+        ensures room { total self.old.homes < capacity (length self.old.homes) → IsOkUnless result TableError.RunTooLong × IfOk result (λ _. self.new.homes ≡ inserted self.old.homes hash handle) }
+        ensures writes {
+            total self.old.homes < capacity (length self.old.homes) → (self.old.writes ≤ self.new.writes) × (self.new.writes ≤ self.old.writes + run self.old.slots hash + 1)
+        }
+
+        // No placement of the entries does better.
+        ensures best { IsBestPlaced self.new.homes }
+    {
+        self.make_room(rehash)?;
+        self.put(hash, handle)
     }
 }
 

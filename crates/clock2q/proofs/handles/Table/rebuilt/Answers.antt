@@ -31,7 +31,7 @@ rehash-hash-requires g c =
     let occupied = occupied_told c.is_empty.result _ (slot_at slots (0 + c.loop-slot.slot)) c.is_empty.ensures c.if-not-is_empty.true c.metadata.ensures.told in
     let held = step_held c.args.self.now.homes slots c.self.inside.len c.self.invariant is c.args.count c.loop-slot.slot within c.handle-handle.result occupied c.handle-handle.ensures in
     let reached = c.loop-slot.invariant.reached in
-    c.requires.asked.1.takes reached.0 c.loop-slot.rehash c.handle-handle.result reached.1 held
+    c.requires.asked.1.answers.takes reached.0 c.loop-slot.rehash c.handle-handle.result reached.1 held
 
 pub put-requires : goal.put-requires
 put-requires g c =
@@ -41,8 +41,8 @@ put-requires g c =
     let occupied = occupied_told c.is_empty.result _ (slot_at slots (0 + c.loop-slot.slot)) c.is_empty.ensures c.if-not-is_empty.true c.metadata.ensures.told in
     let held = step_held c.args.self.now.homes slots c.self.inside.len c.self.invariant is c.args.count c.loop-slot.slot within c.handle-handle.result occupied c.handle-handle.ensures in
     let key = c.requires.asked.0 in
-    let answers = c.requires.asked.1 in
-    let hashes = c.requires.asked.2 in
+    let answers = c.requires.asked.1.answers in
+    let hashes = c.requires.asked.1.hashes in
     let reached = c.loop-slot.invariant.reached in
     let answered = answers.answers reached.0 c.loop-slot.rehash c.handle-handle.result c.rehash-hash.result _ reached.1 held c.rehash-hash.ensures in
     let so_far = c.loop-slot.invariant.built key answers hashes in
@@ -56,8 +56,8 @@ returns-in_err-put-clause-only g c =
     let occupied = occupied_told c.is_empty.result _ (slot_at slots (0 + c.loop-slot.slot)) c.is_empty.ensures c.if-not-is_empty.true c.metadata.ensures.told in
     let held = step_held c.args.self.now.homes slots c.self.inside.len c.self.invariant is c.args.count c.loop-slot.slot within c.handle-handle.result occupied c.handle-handle.ensures in
     let key = c.requires.asked.0 in
-    let answers = c.requires.asked.1 in
-    let hashes = c.requires.asked.2 in
+    let answers = c.requires.asked.1.answers in
+    let hashes = c.requires.asked.1.hashes in
     let reached = c.loop-slot.invariant.reached in
     let answered = answers.answers reached.0 c.loop-slot.rehash c.handle-handle.result c.rehash-hash.result _ reached.1 held c.rehash-hash.ensures in
     let so_far = c.loop-slot.invariant.built key answers hashes in
@@ -104,17 +104,17 @@ loop-slot-preserved g c =
     ]
 
 pub returns-clause-made : goal.returns-clause-made
-returns-clause-made g c key answers hashes =
+returns-clause-made g c key gives =
     let slots = c.self.inside.slots.slots in
     let V = c.args.self.now in
     let all : c.loop-slot.slot ≡ length slots = omega (arith, c.loop-slot-test.false, c.loop-slot.auto.slot-end, c.count-slot-end.ensures.count) in
-    c.loop-slot.invariant.built key answers hashes ∙ ap (λ n. put_all key (no_entries c.args.count) (entries (take n slots))) all ∙ ap (put_all key (no_entries c.args.count)) (entries-all slots)
+    c.loop-slot.invariant.built key gives.answers gives.hashes ∙ ap (λ n. put_all key (no_entries c.args.count) (entries (take n slots))) all ∙ ap (put_all key (no_entries c.args.count)) (entries-all slots)
       ∙ ap (λ s. put_all key (no_entries c.args.count) (entries s)) (tidy-layout slots c.self.invariant.tidy) ∙ ap (λ t. put_all key (no_entries c.args.count) (entries (layout t.homes))) c.self.view_is
 
 pub returns-clause-asks : goal.returns-clause-asks
-returns-clause-asks g c key answers hashes =
+returns-clause-asks g c key gives =
     let slots = c.self.inside.slots.slots in
     let all : c.loop-slot.slot ≡ length slots = omega (arith, c.loop-slot-test.false, c.loop-slot.auto.slot-end, c.count-slot-end.ensures.count) in
     let list : map (λ s. s.entry.1) (entries (take c.loop-slot.slot slots)) ≡ held_handles c.args.self.now.homes =
         ap (λ n. map (λ s. s.entry.1) (entries (take n slots))) all ∙ ap (map (λ s. s.entry.1)) (entries-all slots) ∙ ap (λ s. map (λ s. s.entry.1) (entries s)) (tidy-layout slots c.self.invariant.tidy) ∙ ap (λ t. held_handles t.homes) c.self.view_is in
-    (c.loop-slot.rehash, subst (λ hs. Asks g.F.FnMut key c.args.rehash hs c.loop-slot.rehash) list (c.loop-slot.invariant.asked key answers hashes))
+    (c.loop-slot.rehash, subst (λ hs. Asks g.F.FnMut key c.args.rehash hs c.loop-slot.rehash) list (c.loop-slot.invariant.asked key gives.answers gives.hashes))
