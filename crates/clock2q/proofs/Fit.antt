@@ -77,3 +77,7 @@ slot_count_from_power p k is = record {
   ];
   least = λ _. omega arith;
 }
+
+-- and takes the entries
+pub fit_enough : (e p m : ℕ) → IsNextPowerOfTwo (div_ceil e 3) p → m ≡ max (p * 4) 16 → e ≤ capacity m
+fit_enough e p m next is = omega (arith, next.1, is)

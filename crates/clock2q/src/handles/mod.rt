@@ -1,5 +1,6 @@
 //! A multimap from hashes of 64 bits to handles that its caller owns.
 
+ghost use Rattle.clock2q.specs.Homes.{capacity};
 ghost use Rattle.clock2q.specs.Slots.{IsSlotCount};
 ghost use Rattle.clock2q.specs.TableStep.{fit};
 ghost use Rattle.std.specs.Prelude.{◌≡◌, ◌≢◌, Err, ◌*◌, ◌%◌, ◌^◌, ◌<◌, ◌≤◌, ◌+◌, ◌↔◌, ℕ, [], IsTrue, IsOk, IsOkUnless, IsErrOf, OnOk, OnErr, IfOk, IfSome, MatchOption, length};
@@ -64,6 +65,7 @@ impl<H: Copy + Eq + Default, A: Allocator> Model for Table<H, A> {
 fn slots_for(entries: usize) -> Option<usize>
     ensures count { MatchOption result (2 ^ 64 ≤ fit entries) (λ count. count ≡ fit entries) }
     ensures power { IfSome result IsSlotCount }
+    ensures enough { IfSome result (λ count. entries ≤ capacity count) }
 {
     let quarter = entries.div_ceil(3).checked_next_power_of_two()?;
     let Some(count) = quarter.checked_mul(4) else {
@@ -73,8 +75,8 @@ fn slots_for(entries: usize) -> Option<usize>
 }
 
 impl<H: Copy + Eq + Default, A: Allocator + Copy> Table<H, A> {
-    ghost use Rattle.clock2q.specs.Homes.{total, capacity, inserted};
-    ghost use Rattle.clock2q.specs.Layout.{layout, slot_at, reach, run, IsTooLong, IsBestPlaced};
+    ghost use Rattle.clock2q.specs.Homes.{total, count, inserted};
+    ghost use Rattle.clock2q.specs.Layout.{layout, slot_at, reach, run, spill_of, IsTooLong, IsBestPlaced};
     ghost use Rattle.clock2q.specs.Rehash.{Asks, GivesHashes, held_handles};
     ghost use Rattle.clock2q.specs.TableStep.{table_value, made_for, rebuilt, grown, doubled, reserved, IsFull, IsShortOf, IsPastSize};
 
@@ -216,6 +218,46 @@ impl<H: Copy + Eq + Default, A: Allocator + Copy> Table<H, A> {
         Ok(())
     }
 
+    /// Makes room for `additional` entries more, so that putting them in doesn't grow the table.
+    /// Where it has to grow for that, `rehash` is asked for the hash of each held handle.
+    ///
+    /// # Errors
+    ///
+    /// `Size` where the entries or their slots are too many to count, and `Memory` where the slots
+    /// can't be had. The table is unchanged.
+    pub fn reserve<F: FnMut(H) -> u64>(&mut self, additional: usize, rehash: F) -> Result<(), TableError>
+        requires { IsShortOf self.old.homes additional → (key : H → ℕ) × GivesHashes F.FnMut key self.old.homes rehash }
+        ensures reserved {
+            OnOk result ((key : H → ℕ) → (IsShortOf self.old.homes additional → GivesHashes F.FnMut key self.old.homes rehash) → self.new.homes ≡ reserved key self.old.homes additional)
+        }
+        ensures asks {
+            OnOk result (IsShortOf self.old.homes additional → (key : H → ℕ) → GivesHashes F.FnMut key self.old.homes rehash → (last : F) × Asks F.FnMut key rehash (held_handles self.old.homes) last)
+        }
+        ensures kept { total self.old.homes + additional ≤ capacity (length self.old.homes) → total self.old.homes + additional < 2 ^ 64 → IsOk result × (self.new ≡ self.old) }
+        ensures size { result ≡ Err TableError.Size → IsPastSize self.old.homes additional }
+        ensures past { IsPastSize self.old.homes additional → result ≡ Err TableError.Size }
+        ensures memory { result ≡ Err TableError.Memory → IsShortOf self.old.homes additional }
+        ensures only { result ≢ Err TableError.RunTooLong }
+        ensures err { OnErr result (self.new ≡ self.old) }
+
+        // No placement of the entries does better, and no home reaches further than the home that
+        // its entries came from.
+        ensures best { IsBestPlaced self.new.homes }
+        ensures nearer { (x : ℕ) → spill_of self.new.homes x + count self.new.homes x ≤ spill_of self.old.homes x + count self.old.homes x }
+    {
+        let Some(entries) = self.len().checked_add(additional) else {
+            return Err(TableError::Size);
+        };
+        if entries <= self.capacity() {
+            return Ok(());
+        }
+        let Some(count) = slots_for(entries) else {
+            return Err(TableError::Size);
+        };
+        *self = self.rebuilt(count, rehash)?;
+        Ok(())
+    }
+
     /// Puts `handle` in under `hash`, last among the entries of its home. Handles and hashes may
     /// repeat. A full table is rebuilt in twice the slots first, and only then is `rehash` asked
     /// for the hash that each held handle was put in under.
@@ -255,7 +297,7 @@ impl<H: Copy + Eq + Default, A: Allocator + Copy> Table<H, A> {
 }
 
 impl<H: Copy + Eq + Default, A: Allocator> Table<H, A> {
-    ghost use Rattle.clock2q.specs.Homes.{total, capacity, listed, candidates, removed, is_entry_of};
+    ghost use Rattle.clock2q.specs.Homes.{total, listed, candidates, removed, is_entry_of};
     ghost use Rattle.clock2q.specs.Layout.{run, walk, IsBestPlaced};
     ghost use Rattle.std.specs.List.{list_any};
     ghost use Rattle.clock2q.specs.Table.{IsWhole};
