@@ -178,6 +178,31 @@ module _ {H : Type 0} (slots : List (Option (Placed (ℕ × H)))) (tidy : IsTidy
   pub yielded-read : (d n : ℕ) → IsNextCandidate slots g x d n → n + 1 < walk (homes_of slots) x
   yielded-read d n next = omega (arith, (walk-beyond slots tidy g n (omega (arith, next.within)) (omega (arith, ap reach next.here))).0, walk-home)
 
+  -- at the end of the walk nothing is left
+  pub left_end : (d : ℕ) → d < length slots → reach (slot_at slots (g + d)) ≤ d → left_from slots x d ≡ []
+  left_end d within near =
+      let z : d - d ≡ 0 = omega arith in
+      left_none d (matching-end x (slot_at slots) tidy.ordered g d d (length slots) (omega arith) (omega (arith, within)) near (ap (λ k. matching x (met (slot_at slots) g d k)) z))
+
+  -- a slot that holds no candidate is passed
+  pub left_skip : (d : ℕ) → d < length slots → mark_of (slot_at slots (g + d)) ≢ Some (d, top x) → left_from slots x d ≡ left_from slots x (d + 1)
+  left_skip d within other =
+      let A = slot_at slots in
+      let m : ℕ = length slots in
+      let base = at (omega (arith, within)) in
+      let z : d - d ≡ 0 = omega arith in
+      let first : matching x (met A g d (d + 1 - d)) ≡ [] = matching-more x A g d d (omega arith) (ap (λ k. matching x (met A g d k)) z) (matching-other x (A (g + d)) d other) in
+      ap (λ h. map (λ e. e.1) (matching x (met A h d (m - d)))) (sym base)
+      ∙ ap (λ es. map (λ e. e.1) es) (ap (matching x) (met-split A g d (d + 1) m (omega arith) (omega (arith, within))) ∙ filter-append (λ e. e.0 == top x) (met A g d (d + 1 - d)) (met A g (d + 1) (m - (d + 1))) ∙ ap (λ xs. xs ++ matching x (met A g (d + 1) (m - (d + 1)))) first)
+      ∙ ap (λ h. map (λ e. e.1) (matching x (met A h (d + 1) (m - (d + 1))))) base
+
+  -- a candidate is the first that is left
+  pub left_take : (d : ℕ) (r : H) → d < length slots → ((j : ℕ) → j < d → j < reach (slot_at slots (g + j))) → mark_of (slot_at slots (g + d)) ≡ Some (d, top x) → IfSome (slot_at slots (g + d)) (λ p. r ≡ p.entry.1) → left_from slots x d ≡ r ∷ left_from slots x (d + 1)
+  left_take d r within passed is handle =
+      let z : d - d ≡ 0 = omega arith in
+      let entry = candidate_entry x (slot_at slots (g + d)) d is in
+      yielded d d r (record { handle = entry.0; here = entry.1; from = omega arith; within = within; none_before = ap (λ k. matching x (met (slot_at slots) g d k)) z; passed = passed }) handle
+
 -- a call that yields a handle comes nearer the end
 pub yields_progress : {S A : Type 0} (rest : S → List A) (can : S → Type 0) (s t : S) (a : A) → rest s ≡ a ∷ rest t → can t → MakesProgress can (item_count rest) s (Some a) t
 yields_progress rest can s t a is may = record {

@@ -3,7 +3,7 @@
 ghost use Rattle.clock2q.specs.Homes.{capacity};
 ghost use Rattle.clock2q.specs.Slots.{IsSlotCount};
 ghost use Rattle.clock2q.specs.TableStep.{fit};
-ghost use Rattle.std.specs.Prelude.{◌≡◌, ◌≢◌, Err, ◌*◌, ◌%◌, ◌^◌, ◌<◌, ◌≤◌, ◌+◌, ◌↔◌, ℕ, [], IsTrue, IsOk, IsOkUnless, IsErrOf, OnOk, OnErr, IfOk, IfSome, MatchOption, length};
+ghost use Rattle.std.specs.Prelude.{◌≡◌, ◌≢◌, Option, Err, ◌*◌, ◌%◌, ◌^◌, ◌<◌, ◌≤◌, ◌+◌, ◌↔◌, ℕ, [], IsTrue, IsOk, IsOkUnless, IsErrOf, OnOk, OnErr, IfOk, IfSome, MatchOption, length};
 ghost use Rattle.std.specs.Bool.{OnFalse};
 
 mod candidates;
@@ -75,7 +75,8 @@ fn slots_for(entries: usize) -> Option<usize>
 }
 
 impl<H: Copy + Eq + Default, A: Allocator + Copy> Table<H, A> {
-    ghost use Rattle.clock2q.specs.Homes.{total, count, inserted};
+    ghost use Rattle.clock2q.specs.Homes.{total, count, candidates, inserted};
+    ghost use Rattle.clock2q.specs.Offers.{Offers, Settles};
     ghost use Rattle.clock2q.specs.Layout.{layout, slot_at, reach, run, spill_of, IsTooLong, IsBestPlaced};
     ghost use Rattle.clock2q.specs.Rehash.{Asks, GivesHashes, held_handles};
     ghost use Rattle.clock2q.specs.TableStep.{table_value, made_for, rebuilt, grown, doubled, reserved, IsFull, IsShortOf, IsPastSize};
@@ -293,6 +294,53 @@ impl<H: Copy + Eq + Default, A: Allocator + Copy> Table<H, A> {
     {
         self.make_room(rehash)?;
         self.put(hash, handle)
+    }
+
+    /// Offers the candidates of `hash` to `matches` in order. Answers the first that it accepts,
+    /// and false; or puts `handle` in under `hash` as [Table::insert] does, and answers it, and
+    /// true. A full table grows first, even if a candidate is then accepted.
+    ///
+    /// # Errors
+    ///
+    /// As [Table::insert]; `RunTooLong` only where every candidate was rejected.
+    pub fn find_or_insert<M: FnMut(H) -> bool, F: FnMut(H) -> u64>(&mut self, hash: u64, matches: M, handle: H, rehash: F) -> Result<(H, bool), TableError>
+        requires rehash { IsFull self.old.homes → (key : H → ℕ) × GivesHashes F.FnMut key self.old.homes rehash }
+        requires callable { M.IsAlwaysCallable matches }
+        ensures settles {
+            (result ≢ Err TableError.Memory) → (key : H → ℕ) → (IsFull self.old.homes → GivesHashes F.FnMut key self.old.homes rehash) →
+                (found : Option H) × (last : M) × Offers M.FnMut matches (candidates (grown key self.old.homes) hash) found last
+                × Settles (grown key self.old.homes) hash handle found result self.new.homes
+        }
+        ensures memory { result ≡ Err TableError.Memory → IsFull self.old.homes × (self.new ≡ self.old) }
+        ensures writes {
+            total self.old.homes < capacity (length self.old.homes) → (self.old.writes ≤ self.new.writes) × (self.new.writes ≤ self.old.writes + run self.old.slots hash + 1)
+        }
+        ensures best { IsBestPlaced self.new.homes }
+    {
+        self.make_room(rehash)?;
+        self.find_or_put(hash, matches, handle)
+    }
+
+    /// Offers the candidates, and puts the handle in where none is accepted.
+    fn find_or_put<M: FnMut(H) -> bool>(&mut self, hash: u64, matches: M, handle: H) -> Result<(H, bool), TableError>
+        requires room { total self.old.homes < capacity (length self.old.homes) }
+        requires callable { M.IsAlwaysCallable matches }
+        ensures settles {
+            (found : Option H) × (last : M) × Offers M.FnMut matches (candidates self.old.homes hash) found last × Settles self.old.homes hash handle found result self.new.homes
+        }
+        ensures only { result ≢ Err TableError.Memory }
+        ensures counted { self.old.writes ≤ self.new.writes }
+        ensures writes { self.new.writes ≤ self.old.writes + run self.old.slots hash + 1 }
+        ensures best { IsBestPlaced self.new.homes }
+    {
+        let home = self.slots.home(hash);
+        match self.slots.offer(home, hash, matches) {
+            Ok(found) => Ok((found, false)),
+            Err(distance) => match self.place(home, distance, hash, handle) {
+                Ok(()) => Ok((handle, true)),
+                Err(refusal) => Err(refusal),
+            },
+        }
     }
 }
 
