@@ -4,6 +4,7 @@
 pub mod cache;
 pub mod command;
 mod count;
+pub mod handles;
 mod links;
 mod main_ring;
 mod queues;
