@@ -51,3 +51,4 @@ pub mod Yields
 pub mod Rebuilds
 pub mod Growth
 pub mod Lookups
+pub mod Promises

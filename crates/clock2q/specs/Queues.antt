@@ -28,7 +28,8 @@ queues_shown l small main = record {
   slots = length l.slots;
   window = length l.places;
   accesses = l.accesses;
-  inspections = l.inspections }
+  inspections = l.inspections;
+}
 
 -- the links hold both queues, and any other slot stands nowhere
 pub record AreQueues (l : LinkState) (s : Small) (m : MainRing) : Type 0 where

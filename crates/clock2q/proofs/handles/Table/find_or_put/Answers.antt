@@ -5,6 +5,7 @@ use Rattle.clock2q.specs.Offers.{Offers}
 use Rattle.clock2q.proofs.Tidy.{length-homes_of}
 use Rattle.clock2q.proofs.Steps.{table-best}
 use Rattle.clock2q.proofs.Yields.{left_at_start}
+use Rattle.clock2q.proofs.Promises.{few_fit, restored_by}
 use Rattle.clock2q.proofs.handles.Table.find_or_put.Goals as goal
 
 pub offer-requires-clause-some : goal.offer-requires-clause-some
@@ -43,3 +44,11 @@ returns-in-Err-place-clause-settles g c =
     let offered = c.in-Err.ensures.offers in
     let only = c.in-Err-place.ensures.only in
     (None, offered.0, subst (λ hs. Offers g.M.FnMut c.args.matches hs None offered.0) list offered.1, (only, ap (λ t. t.homes) c.in-Err-place.ensures.err, c.in-Err-place.ensures.long))
+
+pub returns-in-Ok-place-clause-restored : goal.returns-in-Ok-place-clause-restored
+returns-in-Ok-place-clause-restored g c _ fresh =
+    restored_by g.H.PartialEq.eq c.self.inside.slots.slots c.args.self.now.homes c.place.new.self.homes c.args.hash c.args.handle (ap (λ t. t.homes) c.self.view_is) c.self.invariant.tidy c.requires.room
+    (g.met.H.Eq.laws.refl c.args.handle) c.in-Ok-place.ensures.ok fresh ∙ ap (λ t. t.slots) c.self.view_is
+
+pub returns-in-Err-place-clause-few : goal.returns-in-Err-place-clause-few
+returns-in-Err-place-clause-few g c few = absurd (few_fit c.args.self.now.homes c.args.hash c.args.handle c.requires.room few c.in-Err-place.ensures.long)

@@ -6,6 +6,7 @@ use Rattle.clock2q.specs.Slots.{IsSlotCount}
 use Rattle.clock2q.proofs.Tidy.{length-homes_of, tidy-room}
 use Rattle.clock2q.proofs.Steps.{table-best}
 use Rattle.clock2q.proofs.Growth.{slot_count_doubled, doubled_is, doubled_more, doubled_multiple, rebuilt_room}
+use Rattle.clock2q.proofs.Hashes.{rebuilt-total}
 use Rattle.clock2q.proofs.handles.Table.grow.Goals as goal
 
 pub rebuilt-requires-clause-count : goal.rebuilt-requires-clause-count
@@ -62,3 +63,11 @@ returns-clause-room g c =
 
 pub returns-clause-best : goal.returns-clause-best
 returns-clause-best g c = table-best c.drop.inside.slots.slots c.drop.inside.len c.drop.invariant
+
+pub returns-clause-as_many : goal.returns-clause-as_many
+returns-clause-as_many g c =
+    let homes = c.args.self.now.homes in
+    let room : total homes ≤ capacity (length homes) = subst (λ t. total t.homes ≤ capacity (length t.homes)) c.self.view_is (tidy-room c.self.inside.slots.slots c.self.invariant.tidy) in
+    let key = c.requires.asked.0 in
+    let made = ap (λ t. t.homes) c.drop.view_is ∙ c.in_ok-self-inside.ensures.made key c.requires.asked.1 in
+    ap total made ∙ rebuilt-total key homes c.max-count.result room (omega (arith, c.max-count.ensures))

@@ -9,7 +9,7 @@ pub loop-place-preserved : goal.loop-place-preserved
 loop-place-preserved g c =
     let s = c.loop-place.invariant in
     SetsBackPlaces-more c.args.self.now c.loop-place.self c.set_place.new.self c.loop-place.place s
-      (omega (arith, s.as_many)) c.set_place.ensures
+    (omega (arith, s.as_many)) c.set_place.ensures
 
 pub returns : goal.returns
 returns g c =

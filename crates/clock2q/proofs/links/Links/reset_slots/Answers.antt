@@ -11,7 +11,7 @@ pub loop-slot-preserved : goal.loop-slot-preserved
 loop-slot-preserved g c =
     let s = c.loop-slot.invariant in
     SetsBackSlots-more c.args.self.now c.loop-slot.self c.write.new.self c.set_bit.new.self c.loop-slot.slot s
-      (omega (arith, s.as_many)) c.write.ensures c.set_bit.ensures
+    (omega (arith, s.as_many)) c.write.ensures c.set_bit.ensures
 
 pub returns : goal.returns
 returns g c =

@@ -12,7 +12,7 @@ returns-in-Free-clause-main g c = c.in-Free.ensures.main ∙ without_slot-absent
 pub returns-in-Young-clause-main : goal.returns-in-Young-clause-main
 returns-in-Young-clause-main g c =
     c.leave_small.ensures.main ∙ c.standing.ensures.main ∙ without_slot-absent c.args.slot c.args.self.now.main
-      (main_absent c.standing.result c.args.slot c.args.self.now c.standing.ensures.value c.in-Young.is)
+    (main_absent c.standing.result c.args.slot c.args.self.now c.standing.ensures.value c.in-Young.is)
 
 pub returns-in-Main-clause-small : goal.returns-in-Main-clause-small
 returns-in-Main-clause-small g c = c.leave_main.ensures.small ∙ c.in-Main.ensures.small ∙ without_slot-absent c.args.slot c.args.self.now.small c.in-Main.ensures.value.0
