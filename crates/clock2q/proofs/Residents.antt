@@ -20,29 +20,29 @@ module _ {K : Type 0} (is : K → Bool) where
   slot_among_main : (main : List (MainEntry K)) → option_map (λ r. r.1) (find (λ r. is r.0) (in_main main)) ≡ slot_in_main main
   slot_among_main [] = refl
   slot_among_main (e ∷ main) =
-    elim (is e.key) as (λ b. option_map (λ r. r.1) (cond b (Some (e.key, e.slot)) (find (λ r. is r.0) (in_main main))) ≡ option_map (λ x. x.slot) (cond b (Some e) (find (λ x. is x.key) main)))
+      elim (is e.key) as (λ b. option_map (λ r. r.1) (cond b (Some (e.key, e.slot)) (find (λ r. is r.0) (in_main main))) ≡ option_map (λ x. x.slot) (cond b (Some e) (find (λ x. is x.key) main)))
       [ true ↦ refl | false ↦ slot_among_main main ]
 
   -- Small is searched first, and then Main
   pub slot_among : (small : List (SmallEntry K)) (main : List (MainEntry K))
-    → option_map (λ r. r.1) (find (λ r. is r.0) (map (λ e. (e.key, e.slot)) small ++ in_main main)) ≡ option_or (slot_in_small small) (slot_in_main main)
+      → option_map (λ r. r.1) (find (λ r. is r.0) (map (λ e. (e.key, e.slot)) small ++ in_main main)) ≡ option_or (slot_in_small small) (slot_in_main main)
   slot_among [] main = slot_among_main main
   slot_among (e ∷ small) main =
-    elim (is e.key) as (λ b. option_map (λ r. r.1) (cond b (Some (e.key, e.slot)) (find (λ r. is r.0) (map (λ x. (x.key, x.slot)) small ++ in_main main))) ≡ option_or (option_map (λ x. x.slot) (cond b (Some e) (find (λ x. is x.key) small))) (slot_in_main main))
+      elim (is e.key) as (λ b. option_map (λ r. r.1) (cond b (Some (e.key, e.slot)) (find (λ r. is r.0) (map (λ x. (x.key, x.slot)) small ++ in_main main))) ≡ option_or (option_map (λ x. x.slot) (cond b (Some e) (find (λ x. is x.key) small))) (slot_in_main main))
       [ true ↦ refl | false ↦ slot_among small main ]
 
   -- a slot that is found is an entry's, of which this holds
   found_in_main : (P : ℕ → Type 0) (main : List (MainEntry K)) → AllByRecursion (λ e. P e.slot) main → IfSome (slot_in_main main) P
   found_in_main P [] all = tt
   found_in_main P (e ∷ main) all =
-    elim (is e.key) as (λ b. IfSome (option_map (λ x. x.slot) (cond b (Some e) (find (λ x. is x.key) main))) P)
+      elim (is e.key) as (λ b. IfSome (option_map (λ x. x.slot) (cond b (Some e) (find (λ x. is x.key) main))) P)
       [ true ↦ all.0 | false ↦ found_in_main P main all.1 ]
 
   found_in_both : (P : ℕ → Type 0) (small : List (SmallEntry K)) (main : List (MainEntry K)) → AllByRecursion (λ e. P e.slot) small → AllByRecursion (λ e. P e.slot) main
-    → IfSome (option_or (slot_in_small small) (slot_in_main main)) P
+      → IfSome (option_or (slot_in_small small) (slot_in_main main)) P
   found_in_both P [] main in_small in_main = found_in_main P main in_main
   found_in_both P (e ∷ small) main in_small in_main =
-    elim (is e.key) as (λ b. IfSome (option_or (option_map (λ x. x.slot) (cond b (Some e) (find (λ x. is x.key) small))) (slot_in_main main)) P)
+      elim (is e.key) as (λ b. IfSome (option_or (option_map (λ x. x.slot) (cond b (Some e) (find (λ x. is x.key) small))) (slot_in_main main)) P)
       [ true ↦ in_small.0 | false ↦ found_in_both P small main in_small.1 in_main ]
 
   -- the same as a search of a cache's two queues finds it
@@ -63,13 +63,13 @@ module _ {K : Type 0} (is : K → Bool) where
   absent_in_main : (main : List (MainEntry K)) → slot_in_main main ≡ None → main_hit is main ≡ main
   absent_in_main [] absent = refl
   absent_in_main (e ∷ main) absent =
-    (elim (is e.key) as (λ b. option_map (λ x. x.slot) (cond b (Some e) (find (λ x. is x.key) main)) ≡ None → (if b then with_bit e true else e) ∷ main_hit is main ≡ e ∷ main)
+      (elim (is e.key) as (λ b. option_map (λ x. x.slot) (cond b (Some e) (find (λ x. is x.key) main)) ≡ None → (if b then with_bit e true else e) ∷ main_hit is main ≡ e ∷ main)
       [ true ↦ λ some. cc | false ↦ λ none. ap (λ xs. e ∷ xs) (absent_in_main main none) ]) absent
 
   absent_in_small : (small : List (SmallEntry K)) → slot_in_small small ≡ None → small_hit is small ≡ small
   absent_in_small [] absent = refl
   absent_in_small (e ∷ small) absent =
-    (elim (is e.key) as (λ b. option_map (λ x. x.slot) (cond b (Some e) (find (λ x. is x.key) small)) ≡ None → (if b then with_age e (touched e.age) else e) ∷ small_hit is small ≡ e ∷ small)
+      (elim (is e.key) as (λ b. option_map (λ x. x.slot) (cond b (Some e) (find (λ x. is x.key) small)) ≡ None → (if b then with_age e (touched e.age) else e) ∷ small_hit is small ≡ e ∷ small)
       [ true ↦ λ some. cc | false ↦ λ none. ap (λ xs. e ∷ xs) (absent_in_small small none) ]) absent
 
 neither : (o p : Option ℕ) → option_or o p ≡ None → (o ≡ None) × (p ≡ None)
@@ -78,7 +78,7 @@ neither (Some x) p e = cc
 
 pub hit-absent : {K V : Type 0} (is : K → Bool) (m : Machine K V) → slot_of is m ≡ None → hit is m ≡ m
 hit-absent is m absent =
-  let none = neither (slot_in_small is m.small) (slot_in_main is m.main) (sym (slot_among is m.small m.main) ∙ absent) in
-  let small = absent_in_small is m.small none.0 in
-  let main = absent_in_main is m.main none.1 in
-  rw (small, main)
+    let none = neither (slot_in_small is m.small) (slot_in_main is m.main) (sym (slot_among is m.small m.main) ∙ absent) in
+    let small = absent_in_small is m.small none.0 in
+    let main = absent_in_main is m.main none.1 in
+    rw (small, main)

@@ -68,7 +68,9 @@ module _ {K V : Type 0} where
     slot = tail.slot;
     machine = admitted key tail.slot (record m {
       small = take (length m.small - 1) m.small;
-      history = take (ghost_share m.shares) (tail.key ∷ m.history) }) }
+      history = take (ghost_share m.shares) (tail.key ∷ m.history);
+    });
+  }
 
   -- Small's tail moves to Main with its own slot, and the key takes the slot of Main's victim, which goes without history
   abbrev pub promoting_tail : K → SmallEntry K → List (MainEntry K) → Machine K V → Placement K V
@@ -77,14 +79,16 @@ module _ {K V : Type 0} where
     slot = victim.slot;
     machine = admitted key victim.slot (record m {
       small = take (length m.small - 1) m.small;
-      main = behind_hand tail.key tail.slot others }) }
+      main = behind_hand tail.key tail.slot others;
+    });
+  }
 
   -- into Small: at a vacancy, else in place of its tail, else of Main's victim
   abbrev pub into_small_at : K → Option ℕ → Option (SmallEntry K) → Machine K V → Placement K V
   into_small_at key (Some slot) tail m = record { slot = slot; machine = admitted key slot (record m { free = drop 1 m.free }) }
   into_small_at key None None m = record { slot = 0; machine = m }
   into_small_at key None (Some tail) m =
-    if is_promoted tail.age then promoting_tail key tail (from_victim m.main) m else evicting_tail key tail m
+      if is_promoted tail.age then promoting_tail key tail (from_victim m.main) m else evicting_tail key tail m
 
   abbrev pub into_small : K → Machine K V → Placement K V
   into_small key m = into_small_at key (vacancy m) (last_or None m.small) m
@@ -94,14 +98,16 @@ module _ {K V : Type 0} where
   replacing_victim key [] m = record { slot = 0; machine = m }
   replacing_victim key (victim ∷ others) m = record {
     slot = victim.slot;
-    machine = record m { main = behind_hand key victim.slot others } }
+    machine = record m { main = behind_hand key victim.slot others };
+  }
 
   -- into Main where it has room
   abbrev pub joining_main : K → Option ℕ → Machine K V → Placement K V
   joining_main key None m = record { slot = 0; machine = m }
   joining_main key (Some slot) m = record {
     slot = slot;
-    machine = record m { main = behind_hand key slot m.main; free = drop 1 m.free } }
+    machine = record m { main = behind_hand key slot m.main; free = drop 1 m.free };
+  }
 
   -- into Main: in place of its victim where it has its share, else at a vacancy
   abbrev pub into_main : K → Machine K V → Placement K V
@@ -118,7 +124,8 @@ module _ {K V : Type 0} where
   -- the value of a slot; that of the next slot makes it
   abbrev pub stored : ℕ → V → Machine K V → Machine K V
   stored slot value m = record m {
-    values = if nat_lt slot (length m.values) then slice_set m.values slot value else m.values ++ value ∷ [] }
+    values = if nat_lt slot (length m.values) then slice_set m.values slot value else m.values ++ value ∷ [];
+  }
 
   -- the key is placed, and its slot has the value
   abbrev pub inserted : (K → Bool) → K → V → Machine K V → Machine K V
@@ -127,14 +134,15 @@ module _ {K V : Type 0} where
   -- the key is placed; a slot that was made before keeps its value, and only a new one gets this value
   abbrev pub reused : (K → Bool) → K → V → Machine K V → Machine K V
   reused is key fresh m = let p = placement is key m in
-    if nat_lt p.slot (length m.values) then p.machine else stored p.slot fresh p.machine
+      if nat_lt p.slot (length m.values) then p.machine else stored p.slot fresh p.machine
 
   -- the resident at a slot leaves, and the slot goes on top of the free ones with its value
   abbrev pub vacated : ℕ → Machine K V → Machine K V
   vacated slot m = record m {
     small = filter (λ e. not (e.slot == slot)) m.small;
     main = filter (λ e. not (e.slot == slot)) m.main;
-    free = slot ∷ m.free }
+    free = slot ∷ m.free;
+  }
 
   -- the key leaves; if it is not resident its history is erased
   abbrev pub removed_at : (K → Bool) → Option ℕ → Machine K V → Machine K V
@@ -164,12 +172,13 @@ module _ {K V : Type 0} where
   abbrev pub prefilled : List V → Machine K V → Machine K V
   prefilled made m = record m {
     free = range_with_len (length m.values) (length made) ++ m.free;
-    values = m.values ++ made }
+    values = m.values ++ made;
+  }
 
   -- the code by which a model may hold a machine
   abbrev pub machine_code : Coded K → Coded V → Coded (Machine K V)
   machine_code key value = code_by (Shares × (List (SmallEntry K) × (List (MainEntry K) × (List K × (List ℕ × List V)))))
-    (coded× shares_code (coded× (coded_list (small_entry_code key)) (coded× (coded_list (main_entry_code key)) (coded× (coded_list key) (coded× (coded_list coded_ℕ) (coded_list value))))))
-    (λ m. (m.shares, (m.small, (m.main, (m.history, (m.free, m.values))))))
-    (λ p. record { shares = p.0; small = p.1.0; main = p.1.1.0; history = p.1.1.1.0; free = p.1.1.1.1.0; values = p.1.1.1.1.1 })
-    (λ _. refl)
+      (coded× shares_code (coded× (coded_list (small_entry_code key)) (coded× (coded_list (main_entry_code key)) (coded× (coded_list key) (coded× (coded_list coded_ℕ) (coded_list value))))))
+      (λ m. (m.shares, (m.small, (m.main, (m.history, (m.free, m.values))))))
+      (λ p. record { shares = p.0; small = p.1.0; main = p.1.1.0; history = p.1.1.1.0; free = p.1.1.1.1.0; values = p.1.1.1.1.1 })
+      (λ _. refl)

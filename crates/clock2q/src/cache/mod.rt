@@ -6,9 +6,8 @@ mod insertion;
 mod queues;
 mod shares;
 
-pub use crate::cache::error::CacheError;
-
 use crate::cache::entries::{MainEntry, SmallEntry};
+pub use crate::cache::error::CacheError;
 use crate::cache::shares::Shares;
 use std::alloc::{Allocator, Global};
 use std::hash::{BuildHasher, BuildHasherDefault, FoldHasher, Hash};

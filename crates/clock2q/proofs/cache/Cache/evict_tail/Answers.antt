@@ -13,5 +13,5 @@ pub returns : goal.returns
 returns g c =
     rw (c.admit.ensures.items, c.window.ensures, c.remember.ensures.items, c.history-share.ensures, c.into_key.ensures, c.slot-slot.ensures, ← c.self.view_is)
     (placed_for_tail _ _ _ _ _ _ c.take_tail-tail.result _ _ c.take_tail-tail.ensures.parts c.take_tail-tail.ensures.front
-      (promotion_of_tail _ _ _ c.take_tail-tail.result c.take_tail-tail.ensures.parts (rw (← c.self.view_is) at c.requires.out)) (rw (← c.self.view_is) at c.requires.full)
-      (tail_made _ _ _ c.take_tail-tail.result c.take_tail-tail.ensures.parts c.self.invariant.whole.small_made))
+    (promotion_of_tail _ _ _ c.take_tail-tail.result c.take_tail-tail.ensures.parts (rw (← c.self.view_is) at c.requires.out)) (rw (← c.self.view_is) at c.requires.full)
+    (tail_made _ _ _ c.take_tail-tail.result c.take_tail-tail.ensures.parts c.self.invariant.whole.small_made))

@@ -19,4 +19,4 @@ returns g c =
     let below = victim_made _ _ _ c.take_victim-victim.result c.take_victim-victim.ensures.choice c.self.invariant.whole.main_made in
     rw (c.admit.ensures.items, c.window.ensures, c.push_reserved.ensures.items, c.into_main.ensures, c.slot-slot.ensures, ← c.self.view_is)
     (placed_by_promotion _ _ _ _ _ _ _ c.take_tail-tail.result c.take_victim-victim.result _ _ c.take_tail-tail.ensures.parts c.take_tail-tail.ensures.front
-      (promotion_of_tail _ _ _ c.take_tail-tail.result c.take_tail-tail.ensures.parts (rw (← c.self.view_is) at c.requires.on)) c.take_victim-victim.ensures.choice (rw (← c.self.view_is) at c.requires.full) below)
+    (promotion_of_tail _ _ _ c.take_tail-tail.result c.take_tail-tail.ensures.parts (rw (← c.self.view_is) at c.requires.on)) c.take_victim-victim.ensures.choice (rw (← c.self.view_is) at c.requires.full) below)

@@ -1,0 +1,71 @@
+//! The calls of a cache, one by one.
+
+use clock2q::cache::{Cache, CacheError, MAX_CAPACITY};
+use clock2q::command::{Command, Reply, run};
+use std::num::NonZeroUsize;
+use std::test::Fail;
+
+#[test]
+fn each_call(rt: HostRuntime) -> Result<(), Fail> {
+    let capacity = NonZeroUsize::new(2).ok_or("not zero")?;
+    let mut cache = Cache::new(rt.alloc(), capacity)?;
+    assert_eq!(rt; cache.capacity(), 2);
+    assert!(rt; cache.is_empty());
+    assert_eq!(rt; cache.put(1u64, 10u64), None);
+    assert_eq!(rt; cache.put(1, 11), Some(10));
+    assert_eq!(rt; cache.put(2, 20), None);
+    assert_eq!(rt; cache.len(), 2);
+    assert!(rt; !cache.is_empty());
+    assert!(rt; cache.contains(&2));
+    assert!(rt; !cache.contains(&3));
+    assert_eq!(rt; cache.peek(&1).copied(), Some(11));
+    assert_eq!(rt; cache.get(&1).copied(), Some(11));
+    assert_eq!(rt; cache.get(&3).copied(), None);
+    Ok(())
+}
+
+#[test]
+fn runs(rt: HostRuntime) -> Result<(), Fail> {
+    let capacity = NonZeroUsize::new(1).ok_or("not zero")?;
+    let mut cache = Cache::new(rt.alloc(), capacity)?;
+    let commands = vec![in rt.alloc();
+        Command::Put(1u64, 10u64),
+        Command::Get(1),
+        Command::Put(2, 20),
+        Command::Contains(1),
+        Command::Get(2),
+        Command::Len,
+        Command::IsEmpty,
+        Command::Capacity,
+    ]?;
+    let replies = run(rt.alloc(), &mut cache, commands)?;
+    let want = [
+        Reply::Value(None),
+        Reply::Value(Some(10)),
+        Reply::Value(None),
+        Reply::Flag(false),
+        Reply::Value(Some(20)),
+        Reply::Number(1),
+        Reply::Flag(false),
+        Reply::Number(1),
+    ];
+    assert_eq!(rt; replies.as_slice(), want.as_slice());
+    Ok(())
+}
+
+#[test]
+fn refusals(rt: HostRuntime) -> Result<(), Fail> {
+    let too_large = NonZeroUsize::new(MAX_CAPACITY + 1).ok_or("not zero")?;
+    match Cache::<u64, u64, _, _>::new(rt.alloc(), too_large) {
+        Ok(_) => assert!(rt; false, "made"),
+        Err(refusal) => assert_eq!(rt; refusal, CacheError::Capacity),
+    }
+    for (refusal, text) in [
+        (CacheError::Memory, "no memory"),
+        (CacheError::Capacity, "capacity refused"),
+    ] {
+        let shown = refusal.to_string(rt.alloc())?;
+        assert_eq!(rt; shown.as_str(), text);
+    }
+    Ok(())
+}
