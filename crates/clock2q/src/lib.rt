@@ -3,3 +3,9 @@
 
 pub mod cache;
 pub mod command;
+mod count;
+pub mod handles;
+mod links;
+mod main_ring;
+mod queues;
+mod small;

@@ -6,4 +6,7 @@ mod caches;
 #[cfg(test)]
 mod devices;
 #[cfg(test)]
+mod refused;
+pub mod refusing;
+#[cfg(test)]
 mod texts;

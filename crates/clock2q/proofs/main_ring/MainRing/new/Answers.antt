@@ -1,0 +1,7 @@
+use Rattle.std.proofs.Common.{false, []}
+use Rattle.std.proofs.lemmas.Bool.{both_ways}
+use Rattle.clock2q.proofs.Main.{IsMainRing-empty}
+use Rattle.clock2q.proofs.main_ring.MainRing.new.Goals as goal
+
+pub returns-clause-whole : goal.returns-clause-whole
+returns-clause-whole c = λ l h. IsMainRing-empty l h

@@ -1,0 +1,159 @@
+//! Calls whose requests for memory are refused.
+
+use crate::refusing::Refusing;
+use clock2q::cache::{Cache, CacheError, DefaultHasher};
+use clock2q::command::ports::Device;
+use clock2q::command::serve::serve;
+use clock2q::command::{Command, Reply, ServeError, run};
+use std::alloc::{AllocError, Global};
+use std::num::NonZeroUsize;
+use std::test::Fail;
+
+type RefusedCache<'a> = Cache<u64, u64, DefaultHasher, &'a Refusing<Global>>;
+
+type Commands<'a> = Vec<Command<u64, u64>, &'a Refusing<Global>>;
+
+// More requests than any of the calls makes.
+const MANY: u64 = 100;
+
+fn new_cache(alloc: &Refusing<Global>, capacity: usize) -> Result<RefusedCache<'_>, CacheError> {
+    let capacity = NonZeroUsize::new(capacity).unwrap_or(NonZeroUsize::MAX);
+    Cache::new(alloc, capacity)
+}
+
+#[test]
+fn constructions(rt: HostRuntime) -> Result<(), Fail> {
+    for capacity in [1, 20] {
+        let alloc = Refusing::new(rt.alloc());
+        let mut enough = 0;
+        for granted in 0..MANY {
+            alloc.refuse_after(granted);
+            let Err(error) = new_cache(&alloc, capacity) else {
+                enough = granted;
+                break;
+            };
+            assert_eq!(rt; error, CacheError::Memory, "{capacity}: {granted} granted");
+        }
+        assert_ne!(rt; enough, 0, "{capacity}");
+        alloc.grant();
+        let cache = new_cache(&alloc, capacity)?;
+        assert_eq!(rt; cache.capacity(), capacity);
+        assert!(rt; cache.is_empty(), "{capacity}");
+    }
+    Ok(())
+}
+
+#[test]
+fn nothing_asked_after_construction(rt: HostRuntime) -> Result<(), Fail> {
+    let alloc = Refusing::new(rt.alloc());
+    let mut cache = new_cache(&alloc, 20)?;
+    let asked = alloc.requests();
+    alloc.refuse_after(0);
+    for key in 0..30 {
+        assert_eq!(rt; cache.put(key, key + 100), None, "{key}");
+        assert_eq!(rt; cache.get(&key).copied(), Some(key + 100), "{key}");
+        assert!(rt; cache.contains(&key), "{key}");
+    }
+    assert_eq!(rt; cache.len(), 20);
+    assert_eq!(rt; alloc.requests(), asked);
+    Ok(())
+}
+
+// Four keys, of which two are hit.
+const FIRST: [Command<u64, u64>; 6] = [
+    Command::Put(1, 1),
+    Command::Put(2, 2),
+    Command::Put(3, 3),
+    Command::Put(4, 4),
+    Command::Get(4),
+    Command::Get(3),
+];
+
+const THEN: [(Command<u64, u64>, Reply<u64>); 9] = [
+    (Command::Put(5, 5), Reply::Value(None)),
+    (Command::Put(1, 1), Reply::Value(None)),
+    (Command::Put(6, 6), Reply::Value(None)),
+    (Command::Put(5, 5), Reply::Value(None)),
+    (Command::Peek(1), Reply::Value(None)),
+    (Command::Peek(2), Reply::Value(None)),
+    (Command::Peek(3), Reply::Value(Some(3))),
+    (Command::Peek(4), Reply::Value(Some(4))),
+    (Command::Len, Reply::Number(4)),
+];
+
+fn first(alloc: &Refusing<Global>) -> Result<Commands<'_>, AllocError> {
+    let mut commands = Vec::new(alloc);
+    for command in FIRST {
+        commands.push(command)?;
+    }
+    Ok(commands)
+}
+
+fn then(alloc: &Refusing<Global>) -> Result<Commands<'_>, AllocError> {
+    let mut commands = Vec::new(alloc);
+    for (command, _) in THEN {
+        commands.push(command)?;
+    }
+    Ok(commands)
+}
+
+// What is stored for the keys that the commands name.
+fn residents(cache: &RefusedCache) -> [Option<u64>; 6] {
+    [1, 2, 3, 4, 5, 6].map(|key| cache.peek(&key).copied())
+}
+
+#[test]
+fn runs(rt: HostRuntime) -> Result<(), Fail> {
+    let alloc = Refusing::new(rt.alloc());
+    let mut cache = new_cache(&alloc, 4)?;
+    run(&alloc, &mut cache, first(&alloc)?)?;
+    let before = residents(&cache);
+    let mut enough = 0;
+    for granted in 0..MANY {
+        alloc.grant();
+        let commands = then(&alloc)?;
+        alloc.refuse_after(granted);
+        match run(&alloc, &mut cache, commands) {
+            Err(error) => {
+                assert_eq!(rt; error, CacheError::Memory, "{granted} granted");
+                assert_eq!(rt; cache.len(), 4, "{granted} granted");
+                assert_eq!(rt; residents(&cache), before, "{granted} granted");
+            }
+            Ok(replies) => {
+                enough = granted;
+                for (reply, (command, expected)) in replies.into_iter().zip(THEN) {
+                    assert_eq!(rt; reply, expected, "{command:?}");
+                }
+                break;
+            }
+        }
+    }
+    assert_ne!(rt; enough, 0);
+    Ok(())
+}
+
+const TEXT: &[u8] = b"new 2\nput 1 10\nget 1\nlen\n";
+
+const REPLIES: &[u8] = b"ok\nnone\nsome 10\n1\n";
+
+#[test]
+fn serving(rt: HostRuntime) -> Result<(), Fail> {
+    let alloc = Refusing::new(rt.alloc());
+    let mut enough = 0;
+    for granted in 0..MANY {
+        let mut reader = Device::new(TEXT);
+        let mut writer = Device::new(Vec::new(rt.alloc()));
+        alloc.refuse_after(granted);
+        let outcome = serve(&alloc, &mut reader, &mut writer);
+        let written = writer.into_inner();
+        if outcome.is_ok() {
+            assert_eq!(rt; written.as_slice(), REPLIES);
+            enough = granted;
+            break;
+        }
+        assert_eq!(rt; outcome, Err(ServeError::Memory), "{granted} granted");
+        assert!(rt; written.is_empty(), "{granted} granted");
+    }
+    assert_ne!(rt; enough, 0);
+    Ok(())
+}
