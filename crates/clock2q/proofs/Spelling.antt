@@ -1,7 +1,11 @@
 -- The calls that lines spell, as a loop over the lines gathers them.
 use Rattle.std.proofs.Common.{◌≡◌, ℕ, List, [], ◌∷◌, ◌++◌, Option, Some, None, Result, Ok, Err, refl, sym, ap, ◌∙◌, subst, append_assoc}
-use Rattle.std.specs.Option.{ok_or}
+use Rattle.std.specs.Borrow.{Bor}
+use Rattle.std.specs.NonZero.{non_zero_usize_get}
+use Rattle.std.specs.Option.{ok_or, option_map}
+use Rattle.std.specs.declared.num.NonZeroUsize.{NonZeroUsize}
 use Rattle.clock2q.specs.Calls.{Call}
+use Rattle.clock2q.specs.Cut.{first_and_others}
 use Rattle.clock2q.specs.Parsing.{Refuses}
 use Rattle.clock2q.specs.Text.{lines_of, words_of, capacity_in, with_call, calls_from, script_in, script_of, script_then, script_with}
 use Rattle.clock2q.specs.declared.command.serve_error.ServeError.{ServeError}
@@ -20,6 +24,14 @@ gathered-none (Err line) = refl
 pub gathered-more : (front : List (Call ℕ ℕ)) (call : Call ℕ ℕ) (rest : Result (List (Call ℕ ℕ)) ℕ) → gathered front (with_call call rest) ≡ gathered (front ++ call ∷ []) rest
 gathered-more front call (Ok calls) = ap Ok (sym (append_assoc front (call ∷ []) calls))
 gathered-more front call (Err line) = refl
+
+-- the lines of a text whose first was found
+pub lines_of-found : (text : List ℕ) (found : Option (Bor (List ℕ) × Bor (List ℕ))) (first others : Bor (List ℕ)) → lines_of text ≡ first_and_others found → found ≡ Some (first, others) → lines_of text ≡ first.now ∷ lines_of others.now
+lines_of-found text found first others e some = e ∙ ap first_and_others some
+
+-- the capacity of words in which one was found
+pub capacity_in-found : (words : List (List ℕ)) (found : Option NonZeroUsize) (capacity : NonZeroUsize) → option_map non_zero_usize_get found ≡ capacity_in words → found ≡ Some capacity → capacity_in words ≡ Some (non_zero_usize_get capacity)
+capacity_in-found words found capacity e some = sym e ∙ ap (option_map non_zero_usize_get) some
 
 -- a text without lines
 pub script_of-empty : (text : List ℕ) → lines_of text ≡ [] → script_of text ≡ Err 1

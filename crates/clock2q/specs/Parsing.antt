@@ -1,5 +1,10 @@
 -- What the parser answers against what the text spells.
-use Rattle.std.specs.Prelude.{◌≡◌, ℕ, Result, Ok, Err}
+use Rattle.std.specs.Prelude.{List, map, ◌≡◌, ℕ, Result, Ok, Err}
+use Rattle.std.specs.NonZero.{non_zero_usize_get}
+use Rattle.std.specs.declared.num.NonZeroUsize.{NonZeroUsize}
+use Rattle.clock2q.specs.Commands.{call_of}
+use Rattle.clock2q.specs.Text.{Script}
+use Rattle.clock2q.specs.declared.command.Command.{Command}
 use Rattle.clock2q.specs.declared.command.serve_error.ServeError.{ServeError}
 use Rattle.clock2q.specs.declared.command.serve_error.ServeError.TheVariants.{BadLine, Memory, Capacity, Read, Write}
 
@@ -15,3 +20,7 @@ Refuses Write spelled = ⊥
 abbrev pub Parses : {X Y : Type 0} → (X → Y) → Result X ServeError → Result Y ℕ → Type 0
 Parses view (Ok x) spelled = spelled ≡ Ok (view x)
 Parses view (Err refusal) spelled = Refuses refusal spelled
+
+-- a capacity and commands as the script that they are
+abbrev pub script_value : NonZeroUsize → List (Command ℕ ℕ) → Script
+script_value capacity commands = record { capacity = non_zero_usize_get capacity; calls = map call_of commands }

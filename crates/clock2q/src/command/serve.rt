@@ -1,7 +1,6 @@
 //! The program's whole work: from the bytes of a command text to the bytes of its replies.
-ghost use Rattle.std.specs.Prelude.{◌≡◌, ◌≢◌, ◌↔◌, ◌<◌, OnOk, IfErr, IsErrOf, string_bytes, map};
-ghost use Rattle.std.specs.NonZero.{non_zero_usize_get};
-ghost use Rattle.clock2q.specs.Commands.{call_of};
+ghost use Rattle.std.specs.Prelude.{◌≡◌, ◌≢◌, ◌↔◌, ◌<◌, OnOk, IfErr, IsErrOf, string_bytes};
+ghost use Rattle.clock2q.specs.Parsing.{script_value};
 ghost use Rattle.clock2q.specs.Serve.{Answers, Sends, RepliesTo, IsServed, IsRefused};
 
 use crate::cache::{Cache, DefaultHasher};
@@ -17,8 +16,7 @@ fn reply_to<'a, A: Allocator>(
     alloc: &'a A,
     script: Script<&'a A>,
 ) -> Result<String<&'a A>, ServeError>
-    ensures { RepliesTo
-        (record { capacity = non_zero_usize_get script.entry.capacity; calls = map call_of script.entry.commands.items })
+    ensures { RepliesTo (script_value script.entry.capacity script.entry.commands.items)
         string_bytes result }
 {
     let Script { capacity, commands } = script;
@@ -63,7 +61,8 @@ pub fn serve<R: Source, W: Sink, A: Allocator>(
     reader: &mut R,
     writer: &mut W,
 ) -> Result<(), ServeError>
-    // The whole input was read, it is a script, and exactly the text of its answers was written and sent on.
+    // The whole input was read, it is a script, and exactly the text of its answers was written
+    // and sent on.
     ensures ok { OnOk result (IsServed
         (R.given reader.old) (R.given reader.new) (R.remaining reader.old) (R.remaining reader.new)
         (W.taken writer.old) (W.taken writer.new) (W.contents writer.old) (W.contents writer.new)) }

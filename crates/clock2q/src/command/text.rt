@@ -6,7 +6,7 @@ ghost use Rattle.std.specs.Option.{option_map};
 ghost use Rattle.std.specs.NonZero.{non_zero_usize_get};
 ghost use Rattle.clock2q.specs.Commands.{call_of};
 ghost use Rattle.clock2q.specs.Text.{lines_of, words_of, number_of, with_one, with_two, call_in, capacity_in, calls_from, script_of};
-ghost use Rattle.clock2q.specs.Parsing.{Parses};
+ghost use Rattle.clock2q.specs.Parsing.{Parses, script_value};
 ghost use Rattle.clock2q.specs.Cut.{parts_after, words_after, first_and_others};
 
 use crate::command::{Command, ServeError};
@@ -154,9 +154,7 @@ pub(super) struct Script<A: Allocator> {
 
 /// The script that a text spells, or its first bad line. It takes time in proportion to the text.
 pub(super) fn parse<A: Allocator>(alloc: A, text: &[u8]) -> Result<Script<A>, ServeError>
-    ensures { Parses
-        (λ s. record { capacity = non_zero_usize_get s.capacity; calls = map call_of s.commands.items })
-        result (script_of text.now) }
+    ensures { Parses (λ s. script_value s.capacity s.commands.items) result (script_of text.now) }
 {
     let (first, others) = cut_line(text).ok_or(ServeError::BadLine(1))?;
     let capacity = capacity_of(first).ok_or(ServeError::BadLine(1))?;
