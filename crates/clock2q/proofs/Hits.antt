@@ -1,15 +1,13 @@
 -- A hit on a slot: its bit is set, and nothing else changes.
-use Rattle.std.proofs.Common.{◌≡◌, ℕ, ◌+◌, ◌<◌, ◌≢◌, Bool, true, false, not, cond, ◌||◌, eqb, Option, List, [], ◌∷◌, length, map, inl, inr, refl, sym, ap, ◌∙◌, subst, arith}
-use Rattle.std.proofs.lemmas.Bool.{eqb-true, both_ways, cases_Bool}
-use Rattle.clock2q.specs.Entries as machine
+use Rattle.std.proofs.Common.{◌≡◌, ℕ, ◌<◌, ◌≢◌, Bool, true, false, cond, eqb, List, [], ◌∷◌, length, map, inl, inr, refl, sym, ap, ◌∙◌, subst}
+use Rattle.std.proofs.lemmas.Bool.{eqb-true, cases_Bool}
 use Rattle.clock2q.specs.Entries.{Age, touched}
-use Rattle.clock2q.specs.declared.links.Record.{Record}
 use Rattle.clock2q.specs.declared.links.Standing.{Standing}
 use Rattle.clock2q.specs.declared.links.Standing.TheVariants.{Free, Young, Old, Main}
 use Rattle.clock2q.specs.declared.main_ring.MainRing.{MainRing}
 use Rattle.clock2q.specs.declared.small.Small.{Small}
 use Rattle.clock2q.specs.Rings.{has}
-use Rattle.clock2q.specs.Links.{LinkState, IsSameBut, slot_at, record_at, standing_at, bit_at, accessed, with_bit}
+use Rattle.clock2q.specs.Links.{LinkState, IsSameBut, standing_at, bit_at, accessed, with_bit}
 use Rattle.clock2q.specs.MainRing.{IsMain, IsMainRing, main_slots, main_entries, main_hit_at}
 use Rattle.clock2q.specs.Small.{IsSmall, IsSmallQueue, IsInSmall, small_slots, small_entries, small_hit_at, age_of, age_at}
 use Rattle.clock2q.proofs.Rings.{has_first, has_later, or_parts}
@@ -20,13 +18,14 @@ use Rattle.clock2q.proofs.Window.{small_slots-is, IsSmallQueue-from}
 
 -- an entry at a time, where it depends on its slot alone
 entries-at : {X : Type 0} (f g : ℕ → X) (h : X → X) (slot : ℕ) (ss : List ℕ)
-  → ((t : ℕ) → has t ss ≡ true → eqb t slot ≡ true → f t ≡ h (g t)) → ((t : ℕ) → has t ss ≡ true → eqb t slot ≡ false → f t ≡ g t)
-  → map {B = ℕ × X} (λ s. (s, f s)) ss ≡ map {A = ℕ × X} {B = ℕ × X} (λ e. cond (eqb e.0 slot) (e.0, h e.1) e) (map {B = ℕ × X} (λ s. (s, g s)) ss)
+    → ((t : ℕ) → has t ss ≡ true → eqb t slot ≡ true → f t ≡ h (g t)) → ((t : ℕ) → has t ss ≡ true → eqb t slot ≡ false → f t ≡ g t)
+    → map {B = ℕ × X} (λ s. (s, f s)) ss ≡ map {A = ℕ × X} {B = ℕ × X} (λ e. cond (eqb e.0 slot) (e.0, h e.1) e) (map {B = ℕ × X} (λ s. (s, g s)) ss)
 entries-at f g h slot [] a b = refl
 entries-at {X} f g h slot (s ∷ ss) a b =
     let first : ◌≡◌ {A = ℕ × X} (s, f s) (cond (eqb s slot) (s, h (g s)) (s, g s)) = elim (cases_Bool (eqb s slot)) [
-        inl e ↦ rw e (ap (λ z. (s, z)) (a s (has_first s ss) e))
-      | inr e ↦ rw e (ap (λ z. (s, z)) (b s (has_first s ss) e)) ] in
+      | inl e ↦ rw e (ap (λ z. (s, z)) (a s (has_first s ss) e))
+      | inr e ↦ rw e (ap (λ z. (s, z)) (b s (has_first s ss) e))
+    ] in
     ap (λ z. z ∷ map {B = ℕ × X} (λ s. (s, f s)) ss) first
     ∙ ap (λ zs. cond (eqb s slot) (s, h (g s)) (s, g s) ∷ zs) (entries-at f g h slot ss (λ t k e. a t (has_later t s ss k) e) (λ t k e. b t (has_later t s ss k) e))
 
@@ -49,14 +48,14 @@ HitsMain-from slot l main m h =
     let new = with_bit slot true l in
     let ss = main_slots l main in
     let is : IsMain new main ss = record {
-        queue = record { linked = IsLinked-with_bit l slot true ss m.queue.linked; starts = m.queue.starts; counted = m.queue.counted; countable = rw (length-with_bit l slot true) m.queue.countable };
-        standing = λ t g. standing-with_bit l slot true t ∙ m.standing t g;
-      } in
+      queue = record { linked = IsLinked-with_bit l slot true ss m.queue.linked; starts = m.queue.starts; counted = m.queue.counted; countable = rw (length-with_bit l slot true) m.queue.countable };
+      standing = λ t g. standing-with_bit l slot true t ∙ m.standing t g;
+    } in
     record {
       whole = IsMainRing-from new main ss is;
       entries = ap (λ z. map {B = ℕ × Bool} (λ s. (s, bit_at new s)) z) (main_slots-is new main ss is)
-        ∙ entries-at (λ s. bit_at new s) (λ s. bit_at l s) (λ b. true) slot ss
-            (λ t g e. bit_at-with_bit l slot true t h ∙ rw e refl) (λ t g e. bit_at-with_bit l slot true t h ∙ rw e refl);
+          ∙ entries-at (λ s. bit_at new s) (λ s. bit_at l s) (λ b. true) slot ss
+          (λ t g e. bit_at-with_bit l slot true t h ∙ rw e refl) (λ t g e. bit_at-with_bit l slot true t h ∙ rw e refl);
     }
 
 -- Small with another bit
@@ -88,10 +87,10 @@ HitsSmall-old slot l small m h o =
     record {
       whole = IsSmallQueue-from new small ss is;
       entries = ap (λ z. map {B = ℕ × Age} (λ s. (s, age_at new small.cursor s)) z) (small_slots-is new small ss is)
-        ∙ entries-at (λ s. age_at new small.cursor s) (λ s. age_at l small.cursor s) touched slot ss
-            (λ t g e. rw (standing-with_bit l slot true t, bit_at-with_bit l slot true t h, e)
-              (old_touched (length l.places) small.cursor (standing_at l t) (bit_at l t) (ap (λ z. standing_at l z) (eqb-true t slot e) ∙ o)))
-            (λ t g e. rw (standing-with_bit l slot true t, bit_at-with_bit l slot true t h, e) refl);
+          ∙ entries-at (λ s. age_at new small.cursor s) (λ s. age_at l small.cursor s) touched slot ss
+          (λ t g e. rw (standing-with_bit l slot true t, bit_at-with_bit l slot true t h, e)
+          (old_touched (length l.places) small.cursor (standing_at l t) (bit_at l t) (ap (λ z. standing_at l z) (eqb-true t slot e) ∙ o)))
+          (λ t g e. rw (standing-with_bit l slot true t, bit_at-with_bit l slot true t h, e) refl);
     }
 
 young_touched : (window cursor : ℕ) (standing : Standing) (b : Bool) → IsInSmall standing → standing ≢ Old → age_of window cursor standing b ≡ touched (age_of window cursor standing b)
@@ -105,8 +104,8 @@ pub HitsSmall-young : (slot : ℕ) (l : LinkState) (small : Small) → IsSmallQu
 HitsSmall-young slot l small m n = record {
   whole = m;
   entries = entries-at (λ s. age_at l small.cursor s) (λ s. age_at l small.cursor s) touched slot (small_slots l small)
-    (λ t g e. young_touched (length l.places) small.cursor (standing_at l t) (bit_at l t) (m.standing t g) (λ o. n (ap (λ z. standing_at l z) (sym (eqb-true t slot e)) ∙ o)))
-    (λ t g e. refl);
+      (λ t g e. young_touched (length l.places) small.cursor (standing_at l t) (bit_at l t) (m.standing t g) (λ o. n (ap (λ z. standing_at l z) (sym (eqb-true t slot e)) ∙ o)))
+      (λ t g e. refl);
 }
 
 -- the record was read first

@@ -1,15 +1,15 @@
 -- What putting a slot into the links, and taking one out, makes of the queue that it joins or leaves, and of the rest.
-use Rattle.std.proofs.Common.{◌≡◌, ℕ, zero, suc, ◌+◌, ◌-◌, ◌^◌, ◌<◌, ◌≤◌, ◌≢◌, ltb, Bool, true, false, not, cond, ◌||◌, eqb, Option, Some, None, slice_get, List, [], ◌∷◌, ◌++◌, length, map, inl, inr, refl, sym, ap, ◌∙◌, subst, arith, rules}
+use Rattle.std.proofs.Common.{◌≡◌, ℕ, ◌+◌, ◌-◌, ◌<◌, ◌≤◌, ◌≢◌, ltb, Bool, true, false, not, cond, ◌||◌, eqb, Option, Some, None, slice_get, List, [], ◌∷◌, ◌++◌, length, map, inl, inr, refl, sym, ap, ◌∙◌, subst, arith}
 use Rattle.std.specs.Bool.{then_some}
 use Rattle.std.specs.Option.{option_eq}
 use Rattle.std.specs.List.{filter, list_any, AllByRecursion, IsDistinct, last_or}
 use Rattle.std.proofs.lemmas.Bool.{eqb-true, eq-eqb, lt-ltb, both_ways, cases_Bool, or_cases}
-use Rattle.std.proofs.lemmas.List.{append-nil, append_assoc, length-append, length-set, map-append}
+use Rattle.std.proofs.lemmas.List.{append-nil, length-append, length-set}
 use Rattle.std.proofs.lemmas.List.Elements.{filter-append}
 use Rattle.std.proofs.lemmas.Map.Steps.{length-le_from_distinct_below}
 use Rattle.clock2q.specs.declared.links.Record.{Record}
 use Rattle.clock2q.specs.declared.links.Standing.{Standing}
-use Rattle.clock2q.specs.Rings.{has, without, AllApart, AllBelow, Joins, IsRing, around}
+use Rattle.clock2q.specs.Rings.{has, without, AllApart, AllBelow, Joins, IsRing}
 use Rattle.clock2q.specs.Links.{LinkState, IsLinked, IsQueue, IsSameBut, IsSameElsewhere, Attaches, Detaches, slots_from, slot_at, record_at, next_at, previous_at, standing_at, bit_at, accessed, with_record, with_bit, vacant}
 use Rattle.clock2q.proofs.Rings.{eqb_self, eqb_swap, or_left, or_right, or_parts, or_neither, has-append, has_first, has_later, differs, AllApart-append, AllApart-left, AllApart-right, apart_from, AllApart-turned, AllBelow-append, AllBelow-left, AllBelow-right, below_of, parted, IsRing-kept, IsRing-put, IsRing-taken, IsRing-turned, before_end, Joins_parts, around-ring, without-parted}
 use Rattle.clock2q.proofs.Slots.{changed, kept}
@@ -52,7 +52,7 @@ room l ss slot k h b = length-le_bound (length l.slots) (slot ∷ ss) (h, k.apar
 -- Queues
 
 pub IsLinked-kept : (old new : LinkState) (ss : List ℕ) → IsLinked old ss → length new.slots ≡ length old.slots
-  → ((t : ℕ) → has t ss ≡ true → record_at new t ≡ record_at old t) → IsLinked new ss
+    → ((t : ℕ) → has t ss ≡ true → record_at new t ≡ record_at old t) → IsLinked new ss
 IsLinked-kept old new ss k n h = record {
   ring = IsRing-kept (next_at old) (previous_at old) (next_at new) (previous_at new) ss k.ring (λ t g. ap (λ r. r.next) (h t g)) (λ t g. ap (λ r. r.previous) (h t g));
   apart = k.apart;
@@ -77,8 +77,9 @@ slots_from-is l (Some f) count (s ∷ ss) q =
 
 has-turned : (t : ℕ) (xs ys : List ℕ) → has t (ys ++ xs) ≡ true → has t (xs ++ ys) ≡ true
 has-turned t xs ys h = elim (or_cases (has t ys) (has t xs) (sym (has-append t ys xs) ∙ h)) [
-    inl g ↦ has-append t xs ys ∙ or_right (has t xs) (has t ys) g
-  | inr g ↦ has-append t xs ys ∙ or_left (has t xs) (has t ys) g ]
+  | inl g ↦ has-append t xs ys ∙ or_right (has t xs) (has t ys) g
+  | inr g ↦ has-append t xs ys ∙ or_left (has t xs) (has t ys) g
+]
 
 next_in_ring : (next previous : ℕ → ℕ) (s : ℕ) (ss : List ℕ) → IsRing next previous (s ∷ ss) → has (next s) (s ∷ ss) ≡ true
 next_in_ring next previous s [] r = or_left _ _ (eq-eqb _ _ r.0)
@@ -115,8 +116,8 @@ pub record Inserts (slot : ℕ) (standing : Standing) (ss : List ℕ) (old new :
 
 -- into a queue with slots, just before its first one
 pub Inserts-attached : (old new : LinkState) (first : ℕ) (ss : List ℕ) (slot : ℕ) (standing : Standing)
-  → IsLinked old (first ∷ ss) → has slot (first ∷ ss) ≡ false → slot < length old.slots → Attaches slot first standing old new
-  → Inserts slot standing (first ∷ ss) old new
+    → IsLinked old (first ∷ ss) → has slot (first ∷ ss) ≡ false → slot < length old.slots → Attaches slot first standing old new
+    → Inserts slot standing (first ∷ ss) old new
 Inserts-attached old new first ss slot standing k absent b a =
     let last_in = before_end (next_at old) (previous_at old) first ss first k.ring in
     record {
@@ -129,11 +130,11 @@ Inserts-attached old new first ss slot standing k absent b a =
       bits = a.bits;
       same = record {
         others = λ t h.
-          let p : eqb t slot ≡ false = (or_parts (eqb t slot) (has t (first ∷ ss)) h).0 in
-          let q : has t (first ∷ ss) ≡ false = (or_parts (eqb t slot) (has t (first ∷ ss)) h).1 in
-          let f : eqb t first ≡ false = (or_parts (eqb t first) (has t ss) q).0 in
-          let l : eqb t (previous_at old first) ≡ false = eqb_swap (previous_at old first) t (differs (previous_at old first) t (first ∷ ss) last_in q) in
-          same_slot (slot_at new t) (slot_at old t)
+            let p : eqb t slot ≡ false = (or_parts (eqb t slot) (has t (first ∷ ss)) h).0 in
+            let q : has t (first ∷ ss) ≡ false = (or_parts (eqb t slot) (has t (first ∷ ss)) h).1 in
+            let f : eqb t first ≡ false = (or_parts (eqb t first) (has t ss) q).0 in
+            let l : eqb t (previous_at old first) ≡ false = eqb_swap (previous_at old first) t (differs (previous_at old first) t (first ∷ ss) last_in q) in
+            same_slot (slot_at new t) (slot_at old t)
             (a.previouses t ∙ rw (f, p) refl) (a.nexts t ∙ rw (l, p) refl) (a.standings t ∙ rw p refl) (a.bits t);
         as_many = a.rest.as_many;
       };
@@ -143,7 +144,7 @@ Inserts-attached old new first ss slot standing k absent b a =
 
 -- into an empty queue
 pub Inserts-alone : (old : LinkState) (slot : ℕ) (standing : Standing) → slot < length old.slots
-  → Inserts slot standing [] old (accessed (with_record slot (record { previous = slot; next = slot; standing = standing }) old))
+    → Inserts slot standing [] old (accessed (with_record slot (record { previous = slot; next = slot; standing = standing }) old))
 Inserts-alone old slot standing b =
     let r : Record × Bool = (record { previous = slot; next = slot; standing = standing }, bit_at old slot) in
     let n = length-set old.slots slot r in
@@ -176,7 +177,7 @@ pub record Removes (slot : ℕ) (ss : List ℕ) (old new : LinkState) : Type 0 w
   pub accesses : new.accesses ≤ old.accesses + 6
 
 pub Removes-detached : (old new : LinkState) (ss : List ℕ) (slot : ℕ)
-  → IsLinked old ss → has slot ss ≡ true → Detaches slot old new → Removes slot ss old new
+    → IsLinked old ss → has slot ss ≡ true → Detaches slot old new → Removes slot ss old new
 Removes-detached old new ss slot k h d =
     let p = parted slot ss h in
     let xs = p.0 in
@@ -193,10 +194,10 @@ Removes-detached old new ss slot k h d =
       bits = d.bits;
       same = record {
         others = λ t g.
-          let q : eqb t slot ≡ false = eqb_swap slot t (differs slot t ss h g) in
-          let l : eqb t (previous_at old slot) ≡ false = eqb_swap (previous_at old slot) t (differs (previous_at old slot) t ss (previous_in old ss slot k h) g) in
-          let r : eqb t (next_at old slot) ≡ false = eqb_swap (next_at old slot) t (differs (next_at old slot) t ss (next_in old ss slot k h) g) in
-          same_slot (slot_at new t) (slot_at old t)
+            let q : eqb t slot ≡ false = eqb_swap slot t (differs slot t ss h g) in
+            let l : eqb t (previous_at old slot) ≡ false = eqb_swap (previous_at old slot) t (differs (previous_at old slot) t ss (previous_in old ss slot k h) g) in
+            let r : eqb t (next_at old slot) ≡ false = eqb_swap (next_at old slot) t (differs (next_at old slot) t ss (next_in old ss slot k h) g) in
+            same_slot (slot_at new t) (slot_at old t)
             (d.previouses t q ∙ rw r refl) (d.nexts t q ∙ rw l refl) (d.standings t q) (d.bits t);
         as_many = d.rest.as_many;
       };
@@ -207,16 +208,16 @@ Removes-detached old new ss slot k h d =
 
 -- the first slot of a queue, as its owner holds it, decides how a slot is put in
 pub Inserts-before : (old new : LinkState) (ss : List ℕ) (slot : ℕ) (standing : Standing) (first : ℕ)
-  → IsLinked old ss → Some first ≡ slice_get ss 0 → has slot ss ≡ false → slot < length old.slots → Attaches slot first standing old new
-  → Inserts slot standing ss old new
+    → IsLinked old ss → Some first ≡ slice_get ss 0 → has slot ss ≡ false → slot < length old.slots → Attaches slot first standing old new
+    → Inserts slot standing ss old new
 Inserts-before old new [] slot standing first k e absent b a = absurd (cc)
 Inserts-before old new (s ∷ ss) slot standing first k e absent b a =
     let q : first ≡ s = cc in
     Inserts-attached old new s ss slot standing k absent b (subst (λ z. Attaches slot z standing old new) q a)
 
 pub Inserts-first : (old new : LinkState) (ss : List ℕ) (slot : ℕ) (standing : Standing)
-  → None ≡ slice_get ss 0 → slot < length old.slots → new ≡ accessed (with_record slot (record { previous = slot; next = slot; standing = standing }) old)
-  → Inserts slot standing ss old new
+    → None ≡ slice_get ss 0 → slot < length old.slots → new ≡ accessed (with_record slot (record { previous = slot; next = slot; standing = standing }) old)
+    → Inserts slot standing ss old new
 Inserts-first old new [] slot standing e b n = subst (λ z. Inserts slot standing [] old z) (sym n) (Inserts-alone old slot standing b)
 Inserts-first old new (s ∷ ss) slot standing e b n = absurd (cc)
 
@@ -242,16 +243,19 @@ IsLinked-with_bit l slot b ss k = IsLinked-kept l (with_bit slot b l) ss k (leng
 pub filter-entries : {X : Type 0} (slot : ℕ) (f : ℕ → X) (ss : List ℕ) → filter (λ (e : ℕ × X). not (eqb e.0 slot)) (map (λ s. (s, f s)) ss) ≡ map (λ s. (s, f s)) (without slot ss)
 filter-entries slot f [] = refl
 filter-entries slot f (s ∷ ss) = elim (cases_Bool (eqb s slot)) [
-    inl e ↦ rw e (filter-entries slot f ss)
-  | inr e ↦ rw e (ap (λ zs. (s, f s) ∷ zs) (filter-entries slot f ss)) ]
+  | inl e ↦ rw e (filter-entries slot f ss)
+  | inr e ↦ rw e (ap (λ zs. (s, f s) ∷ zs) (filter-entries slot f ss))
+]
 
 pub has-without : (t slot : ℕ) (ss : List ℕ) → has t (without slot ss) ≡ true → (has t ss ≡ true) × (eqb t slot ≡ false)
 has-without t slot [] h = absurd (both_ways false refl h)
 has-without t slot (s ∷ ss) h = elim (cases_Bool (eqb s slot)) [
-    inl e ↦ let g = has-without t slot ss (rw e at h) in (has_later t s ss g.0, g.1)
+  | inl e ↦ let g = has-without t slot ss (rw e at h) in (has_later t s ss g.0, g.1)
   | inr e ↦ elim (or_cases (eqb t s) (has t (without slot ss)) (rw e at h)) [
-      inl q ↦ (or_left (eqb t s) (has t ss) q, subst (λ z. eqb z slot ≡ false) (sym (eqb-true t s q)) e)
-    | inr q ↦ let g = has-without t slot ss q in (has_later t s ss g.0, g.1) ] ]
+    | inl q ↦ (or_left (eqb t s) (has t ss) q, subst (λ z. eqb z slot ≡ false) (sym (eqb-true t s q)) e)
+    | inr q ↦ let g = has-without t slot ss q in (has_later t s ss g.0, g.1)
+  ]
+]
 
 -- Counts and ends after a slot was taken out
 
@@ -266,7 +270,7 @@ length-without slot ss a h =
 
 -- where the first slot went, the next one is first, if there is one
 pub first_after : (l : LinkState) (count : ℕ) (ss : List ℕ) (slot : ℕ) → IsQueue l (Some slot) count ss
-  → then_some (ltb 0 (count - 1)) (next_at l slot) ≡ slice_get (without slot ss) 0
+    → then_some (ltb 0 (count - 1)) (next_at l slot) ≡ slice_get (without slot ss) 0
 first_after l count [] slot q = absurd (let e = q.starts in cc)
 first_after l count (s ∷ []) slot q =
     let e : slot ≡ s = let h = q.starts in cc in
@@ -280,7 +284,7 @@ first_after l count (s ∷ t ∷ ss) slot q =
 
 -- where another one went, it stays the first
 pub first_stays : (l : LinkState) (first : Option ℕ) (count : ℕ) (ss : List ℕ) (slot : ℕ) → IsQueue l first count ss → first ≢ Some slot
-  → first ≡ slice_get (without slot ss) 0
+    → first ≡ slice_get (without slot ss) 0
 first_stays l first count [] slot q d = q.starts
 first_stays l first count (s ∷ ss) slot q d =
     let e : eqb s slot ≡ false = elim (cases_Bool (eqb s slot)) [ inl h ↦ absurd (d (q.starts ∙ ap (λ z. Some z) (eqb-true s slot h))) | inr h ↦ h ] in
@@ -295,7 +299,7 @@ not_first None slot e h = cc
 not_first (Some s) slot e h = let q : s ≡ slot = cc in both_ways (eqb s slot) (sym e) (eq-eqb s slot q)
 
 pub first_gone : (l : LinkState) (first : Option ℕ) (count : ℕ) (ss : List ℕ) (slot : ℕ) → IsQueue l first count ss → first ≡ Some slot
-  → then_some (ltb 0 (count - 1)) (next_at l slot) ≡ slice_get (without slot ss) 0
+    → then_some (ltb 0 (count - 1)) (next_at l slot) ≡ slice_get (without slot ss) 0
 first_gone l first count ss slot q e = first_after l count ss slot (subst (λ z. IsQueue l z count ss) e q)
 
 -- The last slot
@@ -313,7 +317,7 @@ last_or-push o [] x = refl
 last_or-push o (y ∷ xs) x = last_or-push (Some y) xs x
 
 last_of_front : (l : LinkState) (xs : List ℕ) (slot : ℕ) → IsRing (next_at l) (previous_at l) (xs ++ slot ∷ [])
-  → then_some (ltb 0 (length xs + 1 - 1)) (previous_at l slot) ≡ last_or None xs
+    → then_some (ltb 0 (length xs + 1 - 1)) (previous_at l slot) ≡ last_or None xs
 last_of_front l [] slot r = refl
 last_of_front l (x ∷ xs) slot r =
     let b : ltb 0 (length (x ∷ xs) + 1 - 1) ≡ true = lt-ltb 0 (length (x ∷ xs) + 1 - 1) (omega arith) in
@@ -321,7 +325,7 @@ last_of_front l (x ∷ xs) slot r =
 
 -- the last one of a queue went: the one before it is last, if there is one
 pub last_gone : (l : LinkState) (count : ℕ) (ss : List ℕ) (slot : ℕ) → IsLinked l ss → count ≡ length ss → last_or None ss ≡ Some slot
-  → then_some (ltb 0 (count - 1)) (previous_at l slot) ≡ last_or None (without slot ss)
+    → then_some (ltb 0 (count - 1)) (previous_at l slot) ≡ last_or None (without slot ss)
 last_gone l count [] slot k n e = absurd (cc)
 last_gone l count (s ∷ ss) slot k n e =
     let p = split_last ss s slot e in
@@ -344,16 +348,18 @@ last_stays (s ∷ ss) slot d =
     let e : eqb x.0 slot ≡ false = elim (cases_Bool (eqb x.0 slot)) [ inl h ↦ absurd (d (x.1 ∙ ap (λ z. Some z) (eqb-true x.0 slot h))) | inr h ↦ h ] in
     let w : without slot (x.0 ∷ []) ≡ x.0 ∷ [] = rw e refl in
     x.1 ∙ sym (ap (λ z. last_or None (without slot z)) p.1
-      ∙ ap (λ z. last_or None z) (filter-append (λ t. not (eqb t slot)) p.0 (x.0 ∷ []))
-      ∙ ap (λ z. last_or None (without slot p.0 ++ z)) w ∙ last_or-push None (without slot p.0) x.0)
+    ∙ ap (λ z. last_or None z) (filter-append (λ t. not (eqb t slot)) p.0 (x.0 ∷ []))
+    ∙ ap (λ z. last_or None (without slot p.0 ++ z)) w ∙ last_or-push None (without slot p.0) x.0)
 
 pub has-without-back : (t slot : ℕ) (ss : List ℕ) → has t ss ≡ true → eqb t slot ≡ false → has t (without slot ss) ≡ true
 has-without-back t slot [] h d = h
 has-without-back t slot (s ∷ ss) h d = elim (or_cases (eqb t s) (has t ss) h) [
-    inl e ↦
+  | inl e ↦
       let q : t ≡ s = eqb-true t s e in
       let n : eqb s slot ≡ false = subst (λ z. eqb z slot ≡ false) q d in
       rw n (or_left (eqb t s) (has t (without slot ss)) e)
   | inr g ↦ elim (cases_Bool (eqb s slot)) [
-      inl e ↦ rw e (has-without-back t slot ss g d)
-    | inr e ↦ rw e (or_right (eqb t s) (has t (without slot ss)) (has-without-back t slot ss g d)) ] ]
+    | inl e ↦ rw e (has-without-back t slot ss g d)
+    | inr e ↦ rw e (or_right (eqb t s) (has t (without slot ss)) (has-without-back t slot ss g d))
+  ]
+]

@@ -1,7 +1,6 @@
 -- Small after a slot left it.
-use Rattle.std.proofs.Common.{◌≡◌, ℕ, ◌+◌, ◌-◌, ◌^◌, ◌<◌, ◌≤◌, ◌≢◌, ◌⊎◌, Bool, true, false, not, cond, ◌||◌, eqb, ltb, Option, Some, None, slice_get, List, [], ◌∷◌, length, map, set, get_or, inl, inr, refl, sym, ap, ◌∙◌, subst, arith}
+use Rattle.std.proofs.Common.{◌≡◌, ℕ, ◌-◌, ◌<◌, ◌≢◌, ◌⊎◌, Bool, true, false, not, eqb, ltb, Option, Some, None, slice_get, List, length, map, get_or, inl, inr, refl, sym, ap, ◌∙◌, subst, arith}
 use Rattle.std.specs.Bool.{then_some}
-use Rattle.std.specs.Option.{option_eq}
 use Rattle.std.specs.List.{filter, last_or}
 use Rattle.std.proofs.lemmas.Bool.{eqb-true, eq-eqb, ne_eqb, both_ways, cases_Bool, cases_lt}
 use Rattle.std.proofs.lemmas.List.{length-set, get_or_past, set_past}
@@ -11,17 +10,17 @@ use Rattle.clock2q.specs.declared.links.Standing.{Standing}
 use Rattle.clock2q.specs.declared.links.Standing.TheVariants.{Free, Young, Old, Main}
 use Rattle.clock2q.specs.declared.small.Small.{Small}
 use Rattle.clock2q.specs.Rings.{has, without, AllBelow}
-use Rattle.clock2q.specs.Links.{LinkState, IsLinked, IsQueue, IsSameBut, IsSameElsewhere, Detaches, slot_at, record_at, next_at, previous_at, standing_at, bit_at, place_at, accessed, with_place}
+use Rattle.clock2q.specs.Links.{LinkState, IsLinked, IsSameBut, Detaches, slot_at, next_at, previous_at, standing_at, bit_at, place_at}
 use Rattle.clock2q.specs.Ends.{place_freed, end_after}
-use Rattle.clock2q.specs.Small.{IsSmall, IsSmallQueue, IsInSmall, small_slots, small_entries, age_of, age_at}
+use Rattle.clock2q.specs.Small.{IsSmall, IsSmallQueue, small_slots, small_entries, age_at}
 use Rattle.clock2q.proofs.Slots.{changed}
 use Rattle.clock2q.proofs.Rings.{IsRing-kept, eqb_self}
-use Rattle.clock2q.proofs.Joining.{Removes, Removes-detached, map-agree, is_first, not_first, first_gone, first_stays, last_gone, last_stays, in_bounds, previous_in, next_in, filter-entries, has-without, has-without-back, length-without}
+use Rattle.clock2q.proofs.Joining.{Removes, Removes-detached, map-agree, first_gone, first_stays, last_gone, last_stays, in_bounds, previous_in, next_in, filter-entries, has-without, has-without-back, length-without}
 use Rattle.clock2q.proofs.Window.{small_slots-is, IsSmallQueue-from}
 
 -- the neighbours of a slot of Small are there
 pub neighbours_fit : (l : LinkState) (small : Small) (slot : ℕ) → IsSmallQueue l small → has slot (small_slots l small) ≡ true
-  → (slot < length l.slots) × (next_at l slot < length l.slots) × (previous_at l slot < length l.slots)
+    → (slot < length l.slots) × (next_at l slot < length l.slots) × (previous_at l slot < length l.slots)
 neighbours_fit l small slot m h =
     let ss = small_slots l small in
     let k = m.queue.linked in
@@ -45,22 +44,27 @@ window-freed Main l = refl
 place_kept : (standing : Standing) (l : LinkState) (p t : ℕ) → place_at l p ≡ Some t → ((place : ℕ) → standing ≡ Young place → p ≢ place) → place_at (place_freed standing l) p ≡ Some t
 place_kept Free l p t h d = h
 place_kept (Young place) l p t h d = elim (cases_lt place (length l.places)) [
-    inl w ↦ changed (λ z. z) l.places place None None p w ∙ rw (ne_eqb p place (d place refl)) h
-  | inr w ↦ rw (set_past l.places place None w) h ]
+  | inl w ↦ changed (λ z. z) l.places place None None p w ∙ rw (ne_eqb p place (d place refl)) h
+  | inr w ↦ rw (set_past l.places place None w) h
+]
 place_kept Old l p t h d = h
 place_kept Main l p t h d = h
 
 place_was : (standing : Standing) (l : LinkState) (p t : ℕ) → place_at (place_freed standing l) p ≡ Some t → (place_at l p ≡ Some t) × ((place : ℕ) → standing ≡ Young place → p ≢ place)
 place_was Free l p t h = (h, λ place e. absurd (cc))
 place_was (Young place) l p t h = elim (cases_lt place (length l.places)) [
-    inl w ↦ elim (cases_Bool (eqb p place)) [
-        inl g ↦ let q : place_at (place_freed (Young place) l) p ≡ None = changed (λ z. z) l.places place None None p w ∙ rw g refl in absurd (cc)
-      | inr g ↦ (sym (changed (λ z. z) l.places place None None p w ∙ rw g refl) ∙ h, λ q e c. let r : q ≡ place = cc in both_ways (eqb p place) g (eq-eqb p place (c ∙ r))) ]
+  | inl w ↦ elim (cases_Bool (eqb p place)) [
+    | inl g ↦ let q : place_at (place_freed (Young place) l) p ≡ None = changed (λ z. z) l.places place None None p w ∙ rw g refl in absurd (cc)
+    | inr g ↦ (sym (changed (λ z. z) l.places place None None p w ∙ rw g refl) ∙ h, λ q e c. let r : q ≡ place = cc in both_ways (eqb p place) g (eq-eqb p place (c ∙ r)))
+  ]
   | inr w ↦
-      let k : place_at l p ≡ Some t = rw (set_past l.places place None w) at h in
-      (k, λ q e c. let r : p ≡ place = let s : q ≡ place = cc in c ∙ s in
-        let n : place_at l p ≡ None = get_or_past l.places p None (rw r w) in
-        absurd (cc)) ]
+      let k : place_at l p ≡ Some t = rw (set_past l.places place None w) at h in (
+        k,
+        λ q e c. let r : p ≡ place = let s : q ≡ place = cc in c ∙ s in
+            let n : place_at l p ≡ None = get_or_past l.places p None (rw r w) in
+            absurd (cc),
+      )
+]
 place_was Old l p t h = (h, λ place e. absurd (cc))
 place_was Main l p t h = (h, λ place e. absurd (cc))
 
@@ -76,8 +80,9 @@ end_stays (Some s) slot others neighbour d = rw (ne_eqb s slot (λ e. d (ap (λ 
 cases_end : (end : Option ℕ) (slot : ℕ) → (end ≡ Some slot) ⊎ (end ≢ Some slot)
 cases_end None slot = inr (λ e. cc)
 cases_end (Some s) slot = elim (cases_Bool (eqb s slot)) [
-    inl e ↦ inl (ap (λ z. Some z) (eqb-true s slot e))
-  | inr e ↦ inr (λ h. let q : s ≡ slot = cc in both_ways (eqb s slot) e (eq-eqb s slot q)) ]
+  | inl e ↦ inl (ap (λ z. Some z) (eqb-true s slot e))
+  | inr e ↦ inr (λ h. let q : s ≡ slot = cc in both_ways (eqb s slot) e (eq-eqb s slot q))
+]
 
 -- a slot was taken out of Small
 pub record UnlinksSmall (slot : ℕ) (old : LinkState) (small : Small) (new : LinkState) (small' : Small) : Type 0 where
@@ -88,7 +93,7 @@ pub record UnlinksSmall (slot : ℕ) (old : LinkState) (small : Small) (new : Li
   pub window : length new.places ≡ length old.places
 
 module _ (slot : ℕ) (old : LinkState) (small : Small) (mid new : LinkState) (m : IsSmallQueue old small) (h : has slot (small_slots old small) ≡ true)
-  (d : Detaches slot old mid) (standing : Standing) (was : standing ≡ standing_at old slot) (e : new ≡ place_freed standing mid) where
+    (d : Detaches slot old mid) (standing : Standing) (was : standing ≡ standing_at old slot) (e : new ≡ place_freed standing mid) where
   removed : Removes slot (small_slots old small) old mid
   removed = Removes-detached old mid (small_slots old small) slot m.queue.linked h d
 
@@ -124,35 +129,39 @@ module _ (slot : ℕ) (old : LinkState) (small : Small) (mid new : LinkState) (m
       let w = has-without t slot (small_slots old small) g in
       let z : standing_at old t ≡ Young place = sym (standing_now t w.1) ∙ y in
       let p = m.placed t place w.0 z in
-      let k : place_at mid place ≡ Some t = ap (λ q. get_or q place None) removed.rest.places ∙ p.1 in
-      (rw window_now p.0,
-       ap (λ l. place_at l place) e ∙ place_kept standing mid place t k (λ q s c.
-         let o = (m.placed slot q h (sym was ∙ s)).1 in
-         let f : place_at old place ≡ Some slot = ap (λ r. place_at old r) c ∙ o in
-         let x : t ≡ slot = let a = p.1 in cc in
-         both_ways (eqb t slot) w.1 (eq-eqb t slot x)))
+      let k : place_at mid place ≡ Some t = ap (λ q. get_or q place None) removed.rest.places ∙ p.1 in (
+        rw window_now p.0,
+        ap (λ l. place_at l place) e ∙ place_kept standing mid place t k (λ q s c.
+            let o = (m.placed slot q h (sym was ∙ s)).1 in
+            let f : place_at old place ≡ Some slot = ap (λ r. place_at old r) c ∙ o in
+            let x : t ≡ slot = let a = p.1 in cc in
+            both_ways (eqb t slot) w.1 (eq-eqb t slot x)),
+      )
 
   occupied_now : (place t : ℕ) → place_at new place ≡ Some t → (has t (without slot (small_slots old small)) ≡ true) × (standing_at new t ≡ Young place)
   occupied_now place t g =
       let w = place_was standing mid place t (sym (ap (λ l. place_at l place) e) ∙ g) in
       let p = m.occupied place t (sym (ap (λ q. get_or q place None) removed.rest.places) ∙ w.0) in
       let n : eqb t slot ≡ false = elim (cases_Bool (eqb t slot)) [
-          inl q ↦ absurd (w.1 place (was ∙ ap (λ z. standing_at old z) (sym (eqb-true t slot q)) ∙ p.1) refl)
-        | inr q ↦ q ] in
+        | inl q ↦ absurd (w.1 place (was ∙ ap (λ z. standing_at old z) (sym (eqb-true t slot q)) ∙ p.1) refl)
+        | inr q ↦ q
+      ] in
       (has-without-back t slot (small_slots old small) p.0 n, standing_now t n ∙ p.1)
 
   module _ (small' : Small) (len : small'.len ≡ small.len - 1) (cursor : small'.cursor ≡ small.cursor)
-    (newest : small'.newest ≡ end_after small.newest slot (small.len - 1) (next_at old slot))
-    (oldest : small'.oldest ≡ end_after small.oldest slot (small.len - 1) (previous_at old slot)) where
+      (newest : small'.newest ≡ end_after small.newest slot (small.len - 1) (next_at old slot))
+      (oldest : small'.oldest ≡ end_after small.oldest slot (small.len - 1) (previous_at old slot)) where
     newest_is : small'.newest ≡ slice_get (without slot (small_slots old small)) 0
     newest_is = elim (cases_end small.newest slot) [
-        inl f ↦ newest ∙ end_gone small.newest slot (small.len - 1) (next_at old slot) f ∙ first_gone old small.newest small.len (small_slots old small) slot m.queue f
-      | inr f ↦ newest ∙ end_stays small.newest slot (small.len - 1) (next_at old slot) f ∙ first_stays old small.newest small.len (small_slots old small) slot m.queue f ]
+      | inl f ↦ newest ∙ end_gone small.newest slot (small.len - 1) (next_at old slot) f ∙ first_gone old small.newest small.len (small_slots old small) slot m.queue f
+      | inr f ↦ newest ∙ end_stays small.newest slot (small.len - 1) (next_at old slot) f ∙ first_stays old small.newest small.len (small_slots old small) slot m.queue f
+    ]
 
     oldest_is : small'.oldest ≡ last_or None (without slot (small_slots old small))
     oldest_is = elim (cases_end small.oldest slot) [
-        inl f ↦ oldest ∙ end_gone small.oldest slot (small.len - 1) (previous_at old slot) f ∙ last_gone old small.len (small_slots old small) slot m.queue.linked m.queue.counted (sym m.ends ∙ f)
-      | inr f ↦ oldest ∙ end_stays small.oldest slot (small.len - 1) (previous_at old slot) f ∙ m.ends ∙ last_stays (small_slots old small) slot (λ g. f (m.ends ∙ g)) ]
+      | inl f ↦ oldest ∙ end_gone small.oldest slot (small.len - 1) (previous_at old slot) f ∙ last_gone old small.len (small_slots old small) slot m.queue.linked m.queue.counted (sym m.ends ∙ f)
+      | inr f ↦ oldest ∙ end_stays small.oldest slot (small.len - 1) (previous_at old slot) f ∙ m.ends ∙ last_stays (small_slots old small) slot (λ g. f (m.ends ∙ g))
+    ]
 
     whole_now : IsSmall new small' (without slot (small_slots old small))
     whole_now = record {
@@ -174,10 +183,10 @@ module _ (slot : ℕ) (old : LinkState) (small : Small) (mid new : LinkState) (m
     UnlinksSmall-from = record {
       whole = IsSmallQueue-from new small' (without slot (small_slots old small)) whole_now;
       entries =
-        ap (λ z. map {B = ℕ × Age} (λ s. (s, age_at new small'.cursor s)) z) (small_slots-is new small' (without slot (small_slots old small)) whole_now)
-        ∙ map-agree {X = ℕ × Age} (λ s. (s, age_at new small'.cursor s)) (λ s. (s, age_at old small.cursor s)) (without slot (small_slots old small))
-            (λ t g. ap (λ z. (t, z)) (let w = has-without t slot (small_slots old small) g in rw (window_now, cursor, standing_now t w.1, bit_now t) refl))
-        ∙ sym (filter-entries slot (λ s. age_at old small.cursor s) (small_slots old small));
+          ap (λ z. map {B = ℕ × Age} (λ s. (s, age_at new small'.cursor s)) z) (small_slots-is new small' (without slot (small_slots old small)) whole_now)
+          ∙ map-agree {X = ℕ × Age} (λ s. (s, age_at new small'.cursor s)) (λ s. (s, age_at old small.cursor s)) (without slot (small_slots old small))
+          (λ t g. ap (λ z. (t, z)) (let w = has-without t slot (small_slots old small) g in rw (window_now, cursor, standing_now t w.1, bit_now t) refl))
+          ∙ sym (filter-entries slot (λ s. age_at old small.cursor s) (small_slots old small));
       freed = ap (λ z. z.0.standing) (slot_now slot) ∙ ap (λ r. r.standing) removed.freed;
       others = record { others = λ t g. slot_now t ∙ removed.same.others t g; as_many = as_many };
       window = window_now;

@@ -1,5 +1,5 @@
 -- Setting back the slots and the places, one after the other.
-use Rattle.std.proofs.Common.{◌≡◌, ℕ, zero, ◌+◌, ◌<◌, ◌≤◌, Bool, false, Option, None, List, [], ◌∷◌, ◌++◌, length, take, set, get_or, replicate, refl, sym, ap, ◌∙◌, subst, arith}
+use Rattle.std.proofs.Common.{◌≡◌, ℕ, ◌+◌, ◌<◌, ◌≤◌, Bool, false, Option, None, List, [], ◌∷◌, ◌++◌, length, take, set, get_or, replicate, refl, sym, ap, ◌∙◌, arith}
 use Rattle.std.proofs.lemmas.List.{length-set, get_or-set_same, set-set, take_all, take_more_set, replicate_more}
 use Rattle.clock2q.specs.declared.links.Record.{Record}
 use Rattle.clock2q.specs.Links.{LinkState, vacant, record_at, bit_at, accessed, with_record, with_bit, with_place}
@@ -16,13 +16,13 @@ pub SetsBackSlots-none : (old : LinkState) → SetsBackSlots old old 0
 SetsBackSlots-none old = record { front = refl; as_many = refl; places = refl; looks = refl; accesses = omega arith }
 
 pub SetsBackSlots-more : (old now mid next : LinkState) (n : ℕ) → SetsBackSlots old now n → n < length now.slots
-  → mid ≡ accessed (with_record n vacant now) → next ≡ with_bit n false mid → SetsBackSlots old next (n + 1)
+    → mid ≡ accessed (with_record n vacant now) → next ≡ with_bit n false mid → SetsBackSlots old next (n + 1)
 SetsBackSlots-more old now mid next n s h e f =
     let b : bit_at now n ≡ bit_at now n = refl in
     let m : mid.slots ≡ set now.slots n (vacant, bit_at now n) = ap (λ (l : LinkState). l.slots) e in
     let r : record_at mid n ≡ vacant = ap (λ (z : List (Record × Bool)). (get_or z n (vacant, false)).0) m ∙ ap (λ p. p.0) (get_or-set_same now.slots n (vacant, bit_at now n) (vacant, false) h) in
     let q : next.slots ≡ set now.slots n (vacant, false) =
-      ap (λ (l : LinkState). l.slots) f ∙ ap (λ z. set mid.slots n (z, false)) r ∙ ap (λ z. set z n (vacant, false)) m ∙ set-set now.slots n (vacant, bit_at now n) (vacant, false) in
+    ap (λ (l : LinkState). l.slots) f ∙ ap (λ z. set mid.slots n (z, false)) r ∙ ap (λ z. set z n (vacant, false)) m ∙ set-set now.slots n (vacant, bit_at now n) (vacant, false) in
     record {
       front = ap (λ z. take (n + 1) z) q ∙ take_more_set now.slots n (vacant, false) h ∙ ap (λ z. z ++ (vacant, false) ∷ []) s.front ∙ replicate_more n (vacant, false);
       as_many = ap (λ (z : List (Record × Bool)). length z) q ∙ length-set now.slots n (vacant, false) ∙ s.as_many;
@@ -46,7 +46,7 @@ pub SetsBackPlaces-none : (old : LinkState) → SetsBackPlaces old old 0
 SetsBackPlaces-none old = record { front = refl; as_many = refl; slots = refl; looks = refl; accesses = omega arith }
 
 pub SetsBackPlaces-more : (old now next : LinkState) (n : ℕ) → SetsBackPlaces old now n → n < length now.places
-  → next ≡ accessed (with_place n None now) → SetsBackPlaces old next (n + 1)
+    → next ≡ accessed (with_place n None now) → SetsBackPlaces old next (n + 1)
 SetsBackPlaces-more old now next n s h e =
     let q : next.places ≡ set now.places n None = ap (λ (l : LinkState). l.places) e in
     record {

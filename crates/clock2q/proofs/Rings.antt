@@ -1,9 +1,8 @@
 -- What becomes of a ring when a slot is put in, taken out, or when it is met from another slot on.
-use Rattle.std.proofs.Common.{◌≡◌, ℕ, zero, suc, ◌+◌, ◌<◌, Bool, true, false, not, cond, ◌||◌, nat_eq, eqb, List, [], ◌∷◌, ◌++◌, length, inl, inr, refl, sym, ap, ◌∙◌, subst, arith}
+use Rattle.std.proofs.Common.{◌≡◌, ℕ, suc, ◌<◌, Bool, true, false, not, cond, ◌||◌, eqb, List, [], ◌∷◌, ◌++◌, length, inl, inr, refl, sym, ap, ◌∙◌, subst}
 use Rattle.std.specs.List.{filter}
 use Rattle.std.proofs.lemmas.Bool.{eqb-true, eq-eqb, both_ways, cases_Bool, or_cases}
-use Rattle.std.proofs.lemmas.List.{append-nil, append_assoc}
-use Rattle.std.proofs.lemmas.List.Elements.{filter-append}
+use Rattle.std.proofs.lemmas.List.{append-nil}
 use Rattle.clock2q.specs.Rings.{has, AllApart, AllBelow, Joins, IsRing, around}
 
 -- Tests
@@ -57,8 +56,9 @@ AllApart-right (x ∷ xs) ys a = AllApart-right xs ys a.1
 pub apart_from : (xs ys : List ℕ) → AllApart (xs ++ ys) → (t : ℕ) → has t xs ≡ true → has t ys ≡ false
 apart_from [] ys a t h = absurd (both_ways false refl h)
 apart_from (x ∷ xs) ys a t h = elim (or_cases (eqb t x) (has t xs) h) [
-    inl e ↦ subst (λ z. has z ys ≡ false) (sym (eqb-true t x e)) (or_parts _ _ (sym (has-append x xs ys) ∙ a.0)).1
-  | inr g ↦ apart_from xs ys a.1 t g ]
+  | inl e ↦ subst (λ z. has z ys ≡ false) (sym (eqb-true t x e)) (or_parts _ _ (sym (has-append x xs ys) ∙ a.0)).1
+  | inr g ↦ apart_from xs ys a.1 t g
+]
 
 pub AllApart-append : (xs ys : List ℕ) → AllApart xs → AllApart ys → ((t : ℕ) → has t xs ≡ true → has t ys ≡ false) → AllApart (xs ++ ys)
 AllApart-append [] ys a b d = b
@@ -92,8 +92,9 @@ below_of n (s ∷ ss) a t h = elim (or_cases (eqb t s) (has t ss) h) [ inl e ↦
 pub parted : (s : ℕ) (ss : List ℕ) → has s ss ≡ true → (xs : List ℕ) × ((ys : List ℕ) × (ss ≡ xs ++ s ∷ ys))
 parted s [] h = absurd (both_ways false refl h)
 parted s (x ∷ ss) h = elim (or_cases (eqb s x) (has s ss) h) [
-    inl e ↦ ([], (ss, ap (λ z. z ∷ ss) (sym (eqb-true s x e))))
-  | inr g ↦ let p = parted s ss g in (x ∷ p.0, (p.1.0, ap (λ zs. x ∷ zs) p.1.1)) ]
+  | inl e ↦ ([], (ss, ap (λ z. z ∷ ss) (sym (eqb-true s x e))))
+  | inr g ↦ let p = parted s ss g in (x ∷ p.0, (p.1.0, ap (λ zs. x ∷ zs) p.1.1))
+]
 
 -- Rings
 
@@ -123,34 +124,37 @@ module _ (next previous : ℕ → ℕ) where
 
 -- the same steps lead to another end, where the last one does
 pub Joins-redirected : (next previous next' previous' : ℕ → ℕ) (from : ℕ) (ss : List ℕ) (to end : ℕ)
-  → Joins next previous from ss to → AllApart (from ∷ ss)
-  → ((t : ℕ) → has t (from ∷ ss) ≡ true → eqb t (previous to) ≡ false → next' t ≡ next t)
-  → ((t : ℕ) → has t ss ≡ true → previous' t ≡ previous t)
-  → next' (previous to) ≡ end → previous' end ≡ previous to
-  → Joins next' previous' from ss end
+    → Joins next previous from ss to → AllApart (from ∷ ss)
+    → ((t : ℕ) → has t (from ∷ ss) ≡ true → eqb t (previous to) ≡ false → next' t ≡ next t)
+    → ((t : ℕ) → has t ss ≡ true → previous' t ≡ previous t)
+    → next' (previous to) ≡ end → previous' end ≡ previous to
+    → Joins next' previous' from ss end
 Joins-redirected next previous next' previous' from [] to end j a n p e b = (ap next' (sym j.1) ∙ e, b ∙ j.1)
-Joins-redirected next previous next' previous' from (s ∷ ss) to end j a n p e b =
-    ( n from (has_first from (s ∷ ss)) (eqb_swap _ _ (differs (previous to) from (s ∷ ss) (before_end next previous s ss to j.2) a.0)) ∙ j.0
-    , p s (has_first s ss) ∙ j.1
-    , Joins-redirected next previous next' previous' s ss to end j.2 a.1 (λ t h. n t (has_later t from (s ∷ ss) h)) (λ t h. p t (has_later t s ss h)) e b )
+Joins-redirected next previous next' previous' from (s ∷ ss) to end j a n p e b = (
+  n from (has_first from (s ∷ ss)) (eqb_swap _ _ (differs (previous to) from (s ∷ ss) (before_end next previous s ss to j.2) a.0)) ∙ j.0,
+  p s (has_first s ss) ∙ j.1,
+  Joins-redirected next previous next' previous' s ss to end j.2 a.1 (λ t h. n t (has_later t from (s ∷ ss) h)) (λ t h. p t (has_later t s ss h)) e b,
+)
 
 -- steps that agree at the slots of a ring leave it as it was
 pub Joins-kept : (next previous next' previous' : ℕ → ℕ) (from : ℕ) (ss : List ℕ) (to : ℕ)
-  → Joins next previous from ss to
-  → ((t : ℕ) → has t (from ∷ ss) ≡ true → next' t ≡ next t)
-  → ((t : ℕ) → has t ss ≡ true → previous' t ≡ previous t)
-  → previous' to ≡ previous to
-  → Joins next' previous' from ss to
+    → Joins next previous from ss to
+    → ((t : ℕ) → has t (from ∷ ss) ≡ true → next' t ≡ next t)
+    → ((t : ℕ) → has t ss ≡ true → previous' t ≡ previous t)
+    → previous' to ≡ previous to
+    → Joins next' previous' from ss to
 Joins-kept next previous next' previous' from [] to j n p b = (n from (has_first from []) ∙ j.0, b ∙ j.1)
-Joins-kept next previous next' previous' from (s ∷ ss) to j n p b =
-    ( n from (has_first from (s ∷ ss)) ∙ j.0, p s (has_first s ss) ∙ j.1
-    , Joins-kept next previous next' previous' s ss to j.2 (λ t h. n t (has_later t from (s ∷ ss) h)) (λ t h. p t (has_later t s ss h)) b )
+Joins-kept next previous next' previous' from (s ∷ ss) to j n p b = (
+  n from (has_first from (s ∷ ss)) ∙ j.0,
+  p s (has_first s ss) ∙ j.1,
+  Joins-kept next previous next' previous' s ss to j.2 (λ t h. n t (has_later t from (s ∷ ss) h)) (λ t h. p t (has_later t s ss h)) b,
+)
 
 pub IsRing-kept : (next previous next' previous' : ℕ → ℕ) (ss : List ℕ)
-  → IsRing next previous ss
-  → ((t : ℕ) → has t ss ≡ true → next' t ≡ next t)
-  → ((t : ℕ) → has t ss ≡ true → previous' t ≡ previous t)
-  → IsRing next' previous' ss
+    → IsRing next previous ss
+    → ((t : ℕ) → has t ss ≡ true → next' t ≡ next t)
+    → ((t : ℕ) → has t ss ≡ true → previous' t ≡ previous t)
+    → IsRing next' previous' ss
 IsRing-kept next previous next' previous' [] r n p = tt
 IsRing-kept next previous next' previous' (s ∷ ss) r n p =
     Joins-kept next previous next' previous' s ss s r n (λ t h. p t (has_later t s ss h)) (p s (has_first s ss))
@@ -161,47 +165,47 @@ around-ring next previous first ss r = around-is next previous first ss first r
 
 -- a slot put in before the first one stands last
 pub IsRing-put : (next previous next' previous' : ℕ → ℕ) (first : ℕ) (ss : List ℕ) (slot : ℕ)
-  → IsRing next previous (first ∷ ss) → AllApart (first ∷ ss) → has slot (first ∷ ss) ≡ false
-  → ((t : ℕ) → next' t ≡ cond (eqb t (previous first)) slot (cond (eqb t slot) first (next t)))
-  → ((t : ℕ) → previous' t ≡ cond (eqb t first) slot (cond (eqb t slot) (previous first) (previous t)))
-  → IsRing next' previous' (first ∷ ss ++ slot ∷ [])
+    → IsRing next previous (first ∷ ss) → AllApart (first ∷ ss) → has slot (first ∷ ss) ≡ false
+    → ((t : ℕ) → next' t ≡ cond (eqb t (previous first)) slot (cond (eqb t slot) first (next t)))
+    → ((t : ℕ) → previous' t ≡ cond (eqb t first) slot (cond (eqb t slot) (previous first) (previous t)))
+    → IsRing next' previous' (first ∷ ss ++ slot ∷ [])
 IsRing-put next previous next' previous' first ss slot r a absent n p =
     let last_in = before_end next previous first ss first r in
     let last_differs : eqb slot (previous first) ≡ false = eqb_swap (previous first) slot (differs (previous first) slot (first ∷ ss) last_in absent) in
     let first_differs : eqb slot first ≡ false = (or_parts (eqb slot first) (has slot ss) absent).0 in
     Joins-append next' previous' first ss slot [] first
-      (Joins-redirected next previous next' previous' first ss first slot r a
-        (λ t h e. n t ∙ (rw e (rw (differs t slot (first ∷ ss) h absent) refl)))
-        (λ t h. p t ∙ (rw (differs t first ss h a.0) (rw (differs t slot (first ∷ ss) (has_later t first ss h) absent) refl)))
-        (n (previous first) ∙ rw (eqb_self (previous first)) refl)
-        (p slot ∙ rw first_differs (rw (eqb_self slot) refl)))
-      (n slot ∙ rw last_differs (rw (eqb_self slot) refl), p first ∙ rw (eqb_self first) refl)
+    (Joins-redirected next previous next' previous' first ss first slot r a
+    (λ t h e. n t ∙ (rw e (rw (differs t slot (first ∷ ss) h absent) refl)))
+    (λ t h. p t ∙ (rw (differs t first ss h a.0) (rw (differs t slot (first ∷ ss) (has_later t first ss h) absent) refl)))
+    (n (previous first) ∙ rw (eqb_self (previous first)) refl)
+    (p slot ∙ rw first_differs (rw (eqb_self slot) refl)))
+    (n slot ∙ rw last_differs (rw (eqb_self slot) refl), p first ∙ rw (eqb_self first) refl)
 
 -- without its first slot, the others close the ring
 pub IsRing-first_taken : (next previous next' previous' : ℕ → ℕ) (slot : ℕ) (ss : List ℕ)
-  → IsRing next previous (slot ∷ ss) → AllApart (slot ∷ ss)
-  → ((t : ℕ) → eqb t slot ≡ false → next' t ≡ cond (eqb t (previous slot)) (next slot) (next t))
-  → ((t : ℕ) → eqb t slot ≡ false → previous' t ≡ cond (eqb t (next slot)) (previous slot) (previous t))
-  → IsRing next' previous' ss
+    → IsRing next previous (slot ∷ ss) → AllApart (slot ∷ ss)
+    → ((t : ℕ) → eqb t slot ≡ false → next' t ≡ cond (eqb t (previous slot)) (next slot) (next t))
+    → ((t : ℕ) → eqb t slot ≡ false → previous' t ≡ cond (eqb t (next slot)) (previous slot) (previous t))
+    → IsRing next' previous' ss
 IsRing-first_taken next previous next' previous' slot [] r a n p = tt
 IsRing-first_taken next previous next' previous' slot (first ∷ ss) r a n p =
     let last_in = before_end next previous first ss slot r.2 in
     let apart = (λ (t : ℕ) (h : has t (first ∷ ss) ≡ true). differs t slot (first ∷ ss) h a.0) in
     Joins-redirected next previous next' previous' first ss slot first r.2 a.1
-      (λ t h e. n t (apart t h) ∙ rw e refl)
-      (λ t h. p t (apart t (has_later t first ss h)) ∙ rw r.0 (rw (differs t first ss h a.1.0) refl))
-      (n (previous slot) (apart (previous slot) last_in) ∙ rw (eqb_self (previous slot)) r.0)
-      (p first (apart first (has_first first ss)) ∙ rw r.0 (rw (eqb_self first) refl))
+    (λ t h e. n t (apart t h) ∙ rw e refl)
+    (λ t h. p t (apart t (has_later t first ss h)) ∙ rw r.0 (rw (differs t first ss h a.1.0) refl))
+    (n (previous slot) (apart (previous slot) last_in) ∙ rw (eqb_self (previous slot)) r.0)
+    (p first (apart first (has_first first ss)) ∙ rw r.0 (rw (eqb_self first) refl))
 
 pub IsRing-taken : (next previous next' previous' : ℕ → ℕ) (xs : List ℕ) (slot : ℕ) (ys : List ℕ)
-  → IsRing next previous (xs ++ slot ∷ ys) → AllApart (xs ++ slot ∷ ys)
-  → ((t : ℕ) → eqb t slot ≡ false → next' t ≡ cond (eqb t (previous slot)) (next slot) (next t))
-  → ((t : ℕ) → eqb t slot ≡ false → previous' t ≡ cond (eqb t (next slot)) (previous slot) (previous t))
-  → IsRing next' previous' (xs ++ ys)
+    → IsRing next previous (xs ++ slot ∷ ys) → AllApart (xs ++ slot ∷ ys)
+    → ((t : ℕ) → eqb t slot ≡ false → next' t ≡ cond (eqb t (previous slot)) (next slot) (next t))
+    → ((t : ℕ) → eqb t slot ≡ false → previous' t ≡ cond (eqb t (next slot)) (previous slot) (previous t))
+    → IsRing next' previous' (xs ++ ys)
 IsRing-taken next previous next' previous' xs slot ys r a n p =
     IsRing-turned next' previous' ys xs
-      (IsRing-first_taken next previous next' previous' slot (ys ++ xs)
-        (IsRing-turned next previous xs (slot ∷ ys) r) (AllApart-turned xs (slot ∷ ys) a) n p)
+    (IsRing-first_taken next previous next' previous' slot (ys ++ xs)
+    (IsRing-turned next previous xs (slot ∷ ys) r) (AllApart-turned xs (slot ∷ ys) a) n p)
 
 -- A slot taken out of a list
 

@@ -1,5 +1,5 @@
 -- The records and the bits as one list of pairs: what is read from it, and what writes make of it.
-use Rattle.std.proofs.Common.{◌≡◌, ℕ, zero, suc, ◌+◌, ◌<◌, Bool, true, false, cond, eqb, Option, None, List, [], ◌∷◌, length, get_or, set, replicate, refl, sym, ap, ◌∙◌, inl, inr, subst, arith}
+use Rattle.std.proofs.Common.{◌≡◌, ℕ, zero, suc, ◌+◌, ◌<◌, Bool, false, cond, eqb, Option, None, List, [], ◌∷◌, length, get_or, set, replicate, refl, sym, ap, ◌∙◌, inl, inr, subst, arith}
 use Rattle.std.specs.List.{zip}
 use Rattle.std.proofs.lemmas.Bool.{cases_Bool, eqb-true, eqb-false}
 use Rattle.std.proofs.lemmas.List.{get_or-set_same, get_or-set_other}
@@ -26,8 +26,9 @@ module _ {X Y : Type 0} where
 -- what is read at t after a write at i
 pub changed : {A X : Type 0} (f : A → X) (xs : List A) (i : ℕ) (x d : A) (t : ℕ) → i < length xs → f (get_or (set xs i x) t d) ≡ cond (eqb t i) (f x) (f (get_or xs t d))
 changed f xs i x d t h = elim (cases_Bool (eqb t i)) [
-    inl e ↦ rw e (ap f (subst (λ z. get_or (set xs i x) z d ≡ x) (sym (eqb-true t i e)) (get_or-set_same xs i x d h)))
-  | inr e ↦ rw e (ap f (get_or-set_other xs i t x d (eqb-false t i e))) ]
+  | inl e ↦ rw e (ap f (subst (λ z. get_or (set xs i x) z d ≡ x) (sym (eqb-true t i e)) (get_or-set_same xs i x d h)))
+  | inr e ↦ rw e (ap f (get_or-set_other xs i t x d (eqb-false t i e)))
+]
 
 -- a part that a write leaves is read as before
 pub kept : {A X : Type 0} (f : A → X) (xs : List A) (i : ℕ) (x d : A) (t : ℕ) → f x ≡ f (get_or xs i d) → f (get_or (set xs i x) t d) ≡ f (get_or xs t d)
@@ -76,6 +77,6 @@ zip-replicate zero x y = refl
 zip-replicate (suc n) x y = ap (λ zs. (x, y) ∷ zs) (zip-replicate n x y)
 
 pub shown-fresh : (rs : List Record) (bs : List Bool) (ps : List (Option ℕ)) (a i slots window : ℕ)
-  → rs ≡ replicate slots vacant → bs ≡ replicate slots false → ps ≡ replicate window None → a ≡ 0 → i ≡ 0
-  → shown rs bs ps a i ≡ fresh slots window
+    → rs ≡ replicate slots vacant → bs ≡ replicate slots false → ps ≡ replicate window None → a ≡ 0 → i ≡ 0
+    → shown rs bs ps a i ≡ fresh slots window
 shown-fresh rs bs ps a i slots window r b p e f = rw (r, b, p, e, f) (ap (λ zs. record { slots = zs; places = replicate window None; accesses = 0; inspections = 0 }) (zip-replicate slots vacant false))

@@ -1,5 +1,5 @@
 -- Small and Main over one set of links, as the two lists that they are.
-use Rattle.std.specs.Prelude.{◌≡◌, ℕ, ◌<◌, Bool, true, false, not, ◌&&◌, ◌==◌, if◌then◌else◌, List, [], ◌∷◌, map, length, Option, Some, None}
+use Rattle.std.specs.Prelude.{◌≡◌, ℕ, Bool, true, false, not, ◌&&◌, ◌==◌, List, map, length, Option, Some, None}
 use Rattle.std.specs.List.{filter, list_any}
 use Rattle.clock2q.specs.Entries.{Age, is_promoted}
 use Rattle.clock2q.specs.Rings.{has}
@@ -28,7 +28,8 @@ queues_shown l small main = record {
   slots = length l.slots;
   window = length l.places;
   accesses = l.accesses;
-  inspections = l.inspections }
+  inspections = l.inspections;
+}
 
 -- the links hold both queues, and any other slot stands nowhere
 pub record AreQueues (l : LinkState) (s : Small) (m : MainRing) : Type 0 where

@@ -192,7 +192,14 @@ impl<A: Allocator> Links<A> {
         ensures { Attaches slot before standing self.old self.new }
     {
         let previous = self.read(before).previous;
-        self.write(slot, Record { previous, next: before, standing });
+        self.write(
+            slot,
+            Record {
+                previous,
+                next: before,
+                standing,
+            },
+        );
         self.set_next(previous, slot);
         self.set_previous(before, slot);
     }

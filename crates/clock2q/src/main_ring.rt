@@ -48,7 +48,11 @@ impl MainRing {
         links.set_bit(slot, false);
         match self.hand {
             None => {
-                let alone = Record { previous: slot, next: slot, standing: Standing::Main };
+                let alone = Record {
+                    previous: slot,
+                    next: slot,
+                    standing: Standing::Main,
+                };
                 links.write(slot, alone);
                 self.hand = Some(slot);
             }

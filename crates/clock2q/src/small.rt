@@ -72,7 +72,11 @@ impl Small {
         requires { self.now.cursor < window }
         ensures { result ≡ moved_on window self.now.cursor }
     {
-        if self.cursor + 1 < window { self.cursor + 1 } else { 0 }
+        if self.cursor + 1 < window {
+            self.cursor + 1
+        } else {
+            0
+        }
     }
 
     /// Admits a slot: it stands in front, young, and all other young ones grow older.
@@ -94,7 +98,11 @@ impl Small {
         let standing = Standing::Young(self.cursor as u32);
         match self.newest {
             None => {
-                let alone = Record { previous: slot, next: slot, standing };
+                let alone = Record {
+                    previous: slot,
+                    next: slot,
+                    standing,
+                };
                 links.write(slot, alone);
                 self.oldest = Some(slot);
             }
@@ -179,5 +187,9 @@ fn leave_place<A: Allocator>(links: &mut Links<A>, standing: Standing)
 fn end_after(end: Option<usize>, slot: usize, others: usize, neighbour: usize) -> Option<usize>
     ensures { result ≡ end_after end slot others neighbour }
 {
-    if end == Some(slot) { (others > 0).then_some(neighbour) } else { end }
+    if end == Some(slot) {
+        (others > 0).then_some(neighbour)
+    } else {
+        end
+    }
 }

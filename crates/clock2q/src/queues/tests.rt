@@ -69,7 +69,11 @@ fn an_emptied_place_makes_no_slot_old(rt: HostRuntime) -> Result<(), Fail> {
     assert_eq!(rt; queues.standing(0), Standing::Young(0));
     assert_eq!(rt; queues.standing(3), Standing::Young(1));
     assert_eq!(rt; queues.standing(1), Standing::Old);
-    let Queues { mut links, small, main } = queues;
+    let Queues {
+        mut links,
+        small,
+        main,
+    } = queues;
     assert_eq!(rt; links.window(), 2);
     assert_eq!(rt; links.place(0), Some(0));
     assert_eq!(rt; links.place(1), Some(3));
@@ -149,7 +153,11 @@ impl Lists {
                 entry.bit = false;
             }
         }
-        self.small.push(Entry { slot, age: 0, bit: false })?;
+        self.small.push(Entry {
+            slot,
+            age: 0,
+            bit: false,
+        })?;
         Ok(())
     }
 
@@ -181,15 +189,24 @@ impl Lists {
                     return Ok(Some(first.slot));
                 }
                 self.main.retain(|entry| entry.slot != first.slot);
-                self.main.push(Entry { bit: false, ..first })?;
+                self.main.push(Entry {
+                    bit: false,
+                    ..first
+                })?;
             }
         }
         Ok(self.main.first().map(|entry| entry.slot))
     }
 
     fn standing(&self, slot: usize) -> (bool, bool, bool) {
-        let young = self.small.iter().any(|entry| entry.slot == slot && entry.age < self.window);
-        let old = self.small.iter().any(|entry| entry.slot == slot && entry.age >= self.window);
+        let young = self
+            .small
+            .iter()
+            .any(|entry| entry.slot == slot && entry.age < self.window);
+        let old = self
+            .small
+            .iter()
+            .any(|entry| entry.slot == slot && entry.age >= self.window);
         (young, old, self.main.iter().any(|entry| entry.slot == slot))
     }
 }
@@ -243,7 +260,11 @@ fn step(
         }
         4 if free => {
             append(rt, queues, slot);
-            lists.main.push(Entry { slot, age: 0, bit: false })?;
+            lists.main.push(Entry {
+                slot,
+                age: 0,
+                bit: false,
+            })?;
         }
         5 => {
             queues.leave(slot);
@@ -272,7 +293,9 @@ fn seeded_run(rt: &impl Abort, alloc: Global, small: usize, window: u32) -> Resu
     };
     let mut seed: u64 = 1;
     for _ in 0..2000 {
-        seed = seed.wrapping_mul(6364136223846793005).wrapping_add(1442695040888963407);
+        seed = seed
+            .wrapping_mul(6364136223846793005)
+            .wrapping_add(1442695040888963407);
         step(rt, &mut queues, &mut lists, small, (seed >> 33) as usize)?;
         compare(rt, &mut queues, &lists);
     }

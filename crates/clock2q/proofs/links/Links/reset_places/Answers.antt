@@ -1,5 +1,5 @@
-use Rattle.std.proofs.Common.{◌≡◌, ◌<◌, false, None, length, replicate, ap, ◌∙◌, arith}
-use Rattle.clock2q.proofs.Resetting.{SetsBackPlaces, SetsBackPlaces-none, SetsBackPlaces-more, places-set_back}
+use Rattle.std.proofs.Common.{◌≡◌, None, length, replicate, ap, ◌∙◌, arith}
+use Rattle.clock2q.proofs.Resetting.{SetsBackPlaces-none, SetsBackPlaces-more, places-set_back}
 use Rattle.clock2q.proofs.links.Links.reset_places.Goals as goal
 
 pub loop-place-init : goal.loop-place-init
@@ -9,7 +9,7 @@ pub loop-place-preserved : goal.loop-place-preserved
 loop-place-preserved g c =
     let s = c.loop-place.invariant in
     SetsBackPlaces-more c.args.self.now c.loop-place.self c.set_place.new.self c.loop-place.place s
-      (omega (arith, s.as_many)) c.set_place.ensures
+    (omega (arith, s.as_many)) c.set_place.ensures
 
 pub returns : goal.returns
 returns g c =

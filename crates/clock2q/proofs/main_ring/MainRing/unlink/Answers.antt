@@ -1,10 +1,9 @@
-use Rattle.std.proofs.Common.{◌≡◌, ltb, ◌-◌, refl, sym, ap, ◌∙◌, rules}
-use Rattle.clock2q.specs.declared.main_ring.MainRing.{MainRing}
+use Rattle.std.proofs.Common.{◌≡◌, ltb, ◌-◌, refl, ap, ◌∙◌, rules}
 use Rattle.std.specs.Bool.{then_some}
 use Rattle.clock2q.specs.declared.links.Record.{Record}
 use Rattle.clock2q.specs.MainRing.{main_slots}
 use Rattle.clock2q.proofs.Joining.{is_first, not_first, first_gone, first_stays}
-use Rattle.clock2q.proofs.Main.{UnlinksMain, UnlinksMain-from, neighbours_fit}
+use Rattle.clock2q.proofs.Main.{UnlinksMain-from, neighbours_fit}
 use Rattle.clock2q.proofs.main_ring.MainRing.unlink.Goals as goal
 
 pub detach-was-requires : goal.detach-was-requires
@@ -20,7 +19,7 @@ returns-then-eq g c =
     let hand : c.then_some-self.result ≡ then_some (ltb 0 (main.len - 1)) c.detach-was.result.next = c.then_some-self.ensures in
     let next = ap (λ (r : Record). then_some (ltb 0 (main.len - 1)) r.next) c.detach-was.ensures.value in
     let u = UnlinksMain-from c.args.slot old main c.detach-was.new.self (record { hand = c.then_some-self.result; len = main.len - 1 })
-      c.requires.whole c.requires.present c.detach-was.ensures.detached (hand ∙ next ∙ gone) refl in
+    c.requires.whole c.requires.present c.detach-was.ensures.detached (hand ∙ next ∙ gone) refl in
     record { whole = u.whole; entries = u.entries; freed = u.freed; others = u.others; places = search rules; looks = search rules; accesses = search rules }
 
 pub returns-else-eq : goal.returns-else-eq
@@ -29,5 +28,5 @@ returns-else-eq g c =
     let main = c.args.self.now in
     let stays = first_stays old main.hand main.len (main_slots old main) c.args.slot c.requires.whole.queue (not_first main.hand c.args.slot c.if-eq.ensures) in
     let u = UnlinksMain-from c.args.slot old main c.detach-was.new.self (record { hand = main.hand; len = main.len - 1 })
-      c.requires.whole c.requires.present c.detach-was.ensures.detached stays refl in
+    c.requires.whole c.requires.present c.detach-was.ensures.detached stays refl in
     record { whole = u.whole; entries = u.entries; freed = u.freed; others = u.others; places = search rules; looks = search rules; accesses = search rules }

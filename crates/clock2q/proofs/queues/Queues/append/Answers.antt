@@ -1,4 +1,4 @@
-use Rattle.std.proofs.Common.{◌≡◌, false, ap, ◌∙◌, rules}
+use Rattle.std.proofs.Common.{false, ap, ◌∙◌}
 use Rattle.clock2q.specs.Queues.{QueueState}
 use Rattle.clock2q.proofs.Sharing.{after_append, in_small, in_main}
 use Rattle.clock2q.proofs.queues.Queues.append.Goals as goal
@@ -10,11 +10,11 @@ pub invariant_of-self : goal.invariant_of-self
 invariant_of-self g c =
     let i = c.self.inside in
     (after_append i.links i.small i.main c.self.invariant c.push.new.links c.push.new.self c.args.slot
-      (in_small c.self.inside.links c.self.inside.small c.self.inside.main c.args.self.now c.args.slot false c.self.view_is c.requires.not_in_small) c.push.ensures.whole c.push.ensures.entries c.push.ensures.others c.push.ensures.places).0
+    (in_small c.self.inside.links c.self.inside.small c.self.inside.main c.args.self.now c.args.slot false c.self.view_is c.requires.not_in_small) c.push.ensures.whole c.push.ensures.entries c.push.ensures.others c.push.ensures.places).0
 
 pub returns-clause-small : goal.returns-clause-small
 returns-clause-small g c =
     let i = c.self.inside in
     (after_append i.links i.small i.main c.self.invariant c.push.new.links c.push.new.self c.args.slot
-      (in_small c.self.inside.links c.self.inside.small c.self.inside.main c.args.self.now c.args.slot false c.self.view_is c.requires.not_in_small) c.push.ensures.whole c.push.ensures.entries c.push.ensures.others c.push.ensures.places).1
+    (in_small c.self.inside.links c.self.inside.small c.self.inside.main c.args.self.now c.args.slot false c.self.view_is c.requires.not_in_small) c.push.ensures.whole c.push.ensures.entries c.push.ensures.others c.push.ensures.places).1
     ∙ ap (λ (q : QueueState). q.small) c.self.view_is

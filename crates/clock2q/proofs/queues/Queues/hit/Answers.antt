@@ -1,4 +1,4 @@
-use Rattle.std.proofs.Common.{◌≡◌, ◌∙◌, ap}
+use Rattle.std.proofs.Common.{◌∙◌}
 use Rattle.clock2q.proofs.Sharing.{small_hit_at-absent, main_hit_at-absent, sets_bit-absent, main_absent}
 use Rattle.clock2q.proofs.queues.Queues.hit.Goals as goal
 
@@ -18,7 +18,7 @@ returns-in-Young-clause-value g c =
 pub returns-in-Young-clause-main : goal.returns-in-Young-clause-main
 returns-in-Young-clause-main g c =
     c.hit_small.ensures.main ∙ c.standing.ensures.main ∙ main_hit_at-absent c.args.slot c.args.self.now.main
-      (main_absent c.standing.result c.args.slot c.args.self.now c.standing.ensures.value c.in-Young.is)
+    (main_absent c.standing.result c.args.slot c.args.self.now c.standing.ensures.value c.in-Young.is)
 
 pub returns-in-Main-clause-small : goal.returns-in-Main-clause-small
 returns-in-Main-clause-small g c = c.hit_main.ensures.small ∙ c.in-Main.ensures.small ∙ small_hit_at-absent c.args.slot c.args.self.now.small c.in-Main.ensures.value.0

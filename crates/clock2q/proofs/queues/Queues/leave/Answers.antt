@@ -1,5 +1,4 @@
-use Rattle.std.proofs.Common.{◌≡◌, ◌∙◌, ap}
-use Rattle.clock2q.specs.Queues.{without_slot}
+use Rattle.std.proofs.Common.{◌∙◌}
 use Rattle.clock2q.proofs.Sharing.{without_slot-absent, main_absent}
 use Rattle.clock2q.proofs.queues.Queues.leave.Goals as goal
 
@@ -12,7 +11,7 @@ returns-in-Free-clause-main g c = c.in-Free.ensures.main ∙ without_slot-absent
 pub returns-in-Young-clause-main : goal.returns-in-Young-clause-main
 returns-in-Young-clause-main g c =
     c.leave_small.ensures.main ∙ c.standing.ensures.main ∙ without_slot-absent c.args.slot c.args.self.now.main
-      (main_absent c.standing.result c.args.slot c.args.self.now c.standing.ensures.value c.in-Young.is)
+    (main_absent c.standing.result c.args.slot c.args.self.now c.standing.ensures.value c.in-Young.is)
 
 pub returns-in-Main-clause-small : goal.returns-in-Main-clause-small
 returns-in-Main-clause-small g c = c.leave_main.ensures.small ∙ c.in-Main.ensures.small ∙ without_slot-absent c.args.slot c.args.self.now.small c.in-Main.ensures.value.0

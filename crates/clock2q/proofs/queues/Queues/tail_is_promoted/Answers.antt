@@ -1,4 +1,4 @@
-use Rattle.std.proofs.Common.{◌≡◌, None, sym, ap, ◌∙◌}
+use Rattle.std.proofs.Common.{None, sym, ap, ◌∙◌}
 use Rattle.std.specs.List.{last_or}
 use Rattle.clock2q.specs.Small.{small_slots}
 use Rattle.clock2q.specs.Queues.{QueueState, tail_promoted}

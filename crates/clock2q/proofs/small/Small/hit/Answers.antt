@@ -1,7 +1,7 @@
 use Rattle.std.proofs.Common.{◌≡◌, ◌≢◌, sym, ap, ◌∙◌, subst, rules}
 use Rattle.clock2q.specs.declared.links.Record.{Record}
 use Rattle.clock2q.specs.declared.links.Standing.TheVariants.{Old}
-use Rattle.clock2q.specs.Links.{LinkState, record_at, standing_at}
+use Rattle.clock2q.specs.Links.{LinkState, standing_at}
 use Rattle.clock2q.proofs.Hits.{HitsSmall, HitsSmall-old, HitsSmall-young, HitsSmall-after, reads_in_bounds}
 use Rattle.clock2q.proofs.small.Small.hit.Goals as goal
 
@@ -14,7 +14,7 @@ returns-in-Old g c =
     let old : standing_at mid c.args.slot ≡ Old = ap (λ (z : LinkState). standing_at z c.args.slot) e ∙ ap (λ (r : Record). r.standing) (sym c.read.ensures.value) ∙ c.in-Old.is in
     let fits = reads_in_bounds l small mid c.args.slot c.requires.whole c.requires.present e in
     let hit = HitsSmall-after c.args.slot l small mid c.set_bit.new.self c.requires.whole e
-      (λ q. subst (λ (z : LinkState). HitsSmall c.args.slot mid small z) (sym c.set_bit.ensures) (HitsSmall-old c.args.slot mid small q fits old)) in
+    (λ q. subst (λ (z : LinkState). HitsSmall c.args.slot mid small z) (sym c.set_bit.ensures) (HitsSmall-old c.args.slot mid small q fits old)) in
     record { whole = hit.whole; entries = hit.entries; others = search rules; standings = search rules; places = search rules; looks = search rules; accesses = search rules }
 
 pub returns-in_default : goal.returns-in_default

@@ -1,9 +1,8 @@
-use Rattle.std.proofs.Common.{◌≡◌, ◌<◌, ◌-◌, Some, length, refl, sym, ap, ◌∙◌, subst, rules}
+use Rattle.std.proofs.Common.{◌-◌, refl, sym, ap, ◌∙◌, rules}
 use Rattle.clock2q.specs.declared.links.Record.{Record}
-use Rattle.clock2q.specs.declared.links.Standing.TheVariants.{Young}
 use Rattle.clock2q.specs.declared.small.Small.{Small}
 use Rattle.clock2q.specs.Ends.{end_after}
-use Rattle.clock2q.proofs.Leaving.{UnlinksSmall, UnlinksSmall-from, neighbours_fit}
+use Rattle.clock2q.proofs.Leaving.{UnlinksSmall-from, neighbours_fit}
 use Rattle.clock2q.proofs.small.Small.unlink.Goals as goal
 
 pub detach-was-requires : goal.detach-was-requires
@@ -23,8 +22,8 @@ returns g c =
     let small' : Small = record { newest = c.end_after-self.result; oldest = c.end_after-self-2.result; len = small.len - 1; cursor = small.cursor } in
     let was = c.detach-was.ensures.value in
     let u = UnlinksSmall-from c.args.slot old small c.detach-was.new.self c.leave_place.new.links c.requires.whole c.requires.present
-      c.detach-was.ensures.detached c.detach-was.result.standing (ap (λ (r : Record). r.standing) was) c.leave_place.ensures
-      small' refl refl
-      (c.end_after-self.ensures ∙ ap (λ (r : Record). end_after small.newest c.args.slot (small.len - 1) r.next) was)
-      (c.end_after-self-2.ensures ∙ ap (λ (r : Record). end_after small.oldest c.args.slot (small.len - 1) r.previous) was) in
+    c.detach-was.ensures.detached c.detach-was.result.standing (ap (λ (r : Record). r.standing) was) c.leave_place.ensures
+    small' refl refl
+    (c.end_after-self.ensures ∙ ap (λ (r : Record). end_after small.newest c.args.slot (small.len - 1) r.next) was)
+    (c.end_after-self-2.ensures ∙ ap (λ (r : Record). end_after small.oldest c.args.slot (small.len - 1) r.previous) was) in
     record { whole = u.whole; entries = u.entries; freed = u.freed; others = u.others; window = u.window; looks = search rules; accesses = search rules }
