@@ -1,17 +1,15 @@
 -- The hand's sweep over Main, one look after the other.
-use Rattle.std.proofs.Common.{◌≡◌, ℕ, zero, suc, ◌+◌, ◌-◌, ◌^◌, ◌<◌, ◌≤◌, Bool, true, false, cond, ◌||◌, eqb, Option, Some, None, slice_get, List, [], ◌∷◌, ◌++◌, length, map, take, drop, inl, inr, refl, sym, ap, ◌∙◌, subst, arith}
-use Rattle.std.specs.List.{prefix_len}
-use Rattle.std.proofs.lemmas.Bool.{eq-eqb, both_ways, or_cases}
-use Rattle.std.proofs.lemmas.List.{append-nil, append_assoc, length-append, map-append, take-append-le, drop-append-le, length_push}
+use Rattle.std.proofs.Common.{◌≡◌, ℕ, suc, ◌+◌, ◌<◌, Bool, true, false, ◌||◌, eqb, Some, slice_get, List, [], ◌∷◌, ◌++◌, length, map, take, drop, inl, inr, refl, sym, ap, ◌∙◌, subst, arith}
+use Rattle.std.proofs.lemmas.Bool.{both_ways, or_cases}
+use Rattle.std.proofs.lemmas.List.{append-nil, append_assoc, map-append, take-append-le, drop-append-le, length_push}
 use Rattle.std.proofs.lemmas.List.Sums.{prefix_len-le-length}
 use Rattle.clock2q.specs.declared.links.Record.{Record}
 use Rattle.clock2q.specs.declared.main_ring.MainRing.{MainRing}
-use Rattle.clock2q.specs.declared.links.Standing.TheVariants.{Main}
 use Rattle.clock2q.specs.Rings.{has, IsRing}
-use Rattle.clock2q.specs.Links.{LinkState, IsLinked, IsQueue, IsSameBut, slot_at, record_at, next_at, previous_at, standing_at, bit_at, accessed, inspected, with_bit}
+use Rattle.clock2q.specs.Links.{LinkState, IsLinked, IsSameBut, record_at, next_at, previous_at, bit_at, accessed, inspected, with_bit}
 use Rattle.clock2q.specs.MainRing.{IsMain, IsMainRing, main_slots, main_entries, passed, inspections, from_victim}
-use Rattle.clock2q.proofs.Rings.{eqb_self, eqb_swap, or_left, or_right, or_parts, or_neither, has-append, has_first, has_later, differs}
-use Rattle.clock2q.proofs.Joining.{map-agree, in_bounds, IsLinked-with_bit, IsLinked-kept, IsLinked-turned, record_at-with_bit, bit_at-with_bit, slot_at-with_bit, length-with_bit}
+use Rattle.clock2q.proofs.Rings.{eqb_self, or_left, or_parts, or_neither, has-append, has_later, differs}
+use Rattle.clock2q.proofs.Joining.{map-agree, IsLinked-kept, IsLinked-turned, record_at-with_bit, bit_at-with_bit, slot_at-with_bit, length-with_bit}
 use Rattle.clock2q.proofs.Main.{main_slots-is, IsMainRing-from}
 
 -- one entry more, whose bit is clear, ends no front that ended before

@@ -1,15 +1,13 @@
 -- A hit on a slot: its bit is set, and nothing else changes.
-use Rattle.std.proofs.Common.{◌≡◌, ℕ, ◌+◌, ◌<◌, ◌≢◌, Bool, true, false, not, cond, ◌||◌, eqb, Option, List, [], ◌∷◌, length, map, inl, inr, refl, sym, ap, ◌∙◌, subst, arith}
-use Rattle.std.proofs.lemmas.Bool.{eqb-true, both_ways, cases_Bool}
-use Rattle.clock2q.specs.Entries as machine
+use Rattle.std.proofs.Common.{◌≡◌, ℕ, ◌<◌, ◌≢◌, Bool, true, false, cond, eqb, List, [], ◌∷◌, length, map, inl, inr, refl, sym, ap, ◌∙◌, subst}
+use Rattle.std.proofs.lemmas.Bool.{eqb-true, cases_Bool}
 use Rattle.clock2q.specs.Entries.{Age, touched}
-use Rattle.clock2q.specs.declared.links.Record.{Record}
 use Rattle.clock2q.specs.declared.links.Standing.{Standing}
 use Rattle.clock2q.specs.declared.links.Standing.TheVariants.{Free, Young, Old, Main}
 use Rattle.clock2q.specs.declared.main_ring.MainRing.{MainRing}
 use Rattle.clock2q.specs.declared.small.Small.{Small}
 use Rattle.clock2q.specs.Rings.{has}
-use Rattle.clock2q.specs.Links.{LinkState, IsSameBut, slot_at, record_at, standing_at, bit_at, accessed, with_bit}
+use Rattle.clock2q.specs.Links.{LinkState, IsSameBut, standing_at, bit_at, accessed, with_bit}
 use Rattle.clock2q.specs.MainRing.{IsMain, IsMainRing, main_slots, main_entries, main_hit_at}
 use Rattle.clock2q.specs.Small.{IsSmall, IsSmallQueue, IsInSmall, small_slots, small_entries, small_hit_at, age_of, age_at}
 use Rattle.clock2q.proofs.Rings.{has_first, has_later, or_parts}

@@ -1,15 +1,15 @@
 -- What putting a slot into the links, and taking one out, makes of the queue that it joins or leaves, and of the rest.
-use Rattle.std.proofs.Common.{◌≡◌, ℕ, zero, suc, ◌+◌, ◌-◌, ◌^◌, ◌<◌, ◌≤◌, ◌≢◌, ltb, Bool, true, false, not, cond, ◌||◌, eqb, Option, Some, None, slice_get, List, [], ◌∷◌, ◌++◌, length, map, inl, inr, refl, sym, ap, ◌∙◌, subst, arith, rules}
+use Rattle.std.proofs.Common.{◌≡◌, ℕ, ◌+◌, ◌-◌, ◌<◌, ◌≤◌, ◌≢◌, ltb, Bool, true, false, not, cond, ◌||◌, eqb, Option, Some, None, slice_get, List, [], ◌∷◌, ◌++◌, length, map, inl, inr, refl, sym, ap, ◌∙◌, subst, arith}
 use Rattle.std.specs.Bool.{then_some}
 use Rattle.std.specs.Option.{option_eq}
 use Rattle.std.specs.List.{filter, list_any, AllByRecursion, IsDistinct, last_or}
 use Rattle.std.proofs.lemmas.Bool.{eqb-true, eq-eqb, lt-ltb, both_ways, cases_Bool, or_cases}
-use Rattle.std.proofs.lemmas.List.{append-nil, append_assoc, length-append, length-set, map-append}
+use Rattle.std.proofs.lemmas.List.{append-nil, length-append, length-set}
 use Rattle.std.proofs.lemmas.List.Elements.{filter-append}
 use Rattle.std.proofs.lemmas.Map.Steps.{length-le_from_distinct_below}
 use Rattle.clock2q.specs.declared.links.Record.{Record}
 use Rattle.clock2q.specs.declared.links.Standing.{Standing}
-use Rattle.clock2q.specs.Rings.{has, without, AllApart, AllBelow, Joins, IsRing, around}
+use Rattle.clock2q.specs.Rings.{has, without, AllApart, AllBelow, Joins, IsRing}
 use Rattle.clock2q.specs.Links.{LinkState, IsLinked, IsQueue, IsSameBut, IsSameElsewhere, Attaches, Detaches, slots_from, slot_at, record_at, next_at, previous_at, standing_at, bit_at, accessed, with_record, with_bit, vacant}
 use Rattle.clock2q.proofs.Rings.{eqb_self, eqb_swap, or_left, or_right, or_parts, or_neither, has-append, has_first, has_later, differs, AllApart-append, AllApart-left, AllApart-right, apart_from, AllApart-turned, AllBelow-append, AllBelow-left, AllBelow-right, below_of, parted, IsRing-kept, IsRing-put, IsRing-taken, IsRing-turned, before_end, Joins_parts, around-ring, without-parted}
 use Rattle.clock2q.proofs.Records.{changed, kept}
@@ -335,7 +335,7 @@ last_gone l count (s ∷ ss) slot k n e =
     let m : count ≡ length xs + 1 = n ∙ ap (λ (z : List ℕ). length z) p.1 ∙ length-append xs (slot ∷ []) in
     ap (λ z. then_some (ltb 0 (z - 1)) (previous_at l slot)) m ∙ last_of_front l xs slot k'.ring ∙ ap (λ z. last_or None z) (sym w)
 
-last_some : (ss : List ℕ) (s : ℕ) → (x : ℕ) × (last_or None (s ∷ ss) ≡ Some x)
+pub last_some : (ss : List ℕ) (s : ℕ) → (x : ℕ) × (last_or None (s ∷ ss) ≡ Some x)
 last_some [] s = (s, refl)
 last_some (t ∷ ss) s = last_some ss t
 

@@ -1,7 +1,6 @@
 -- Small after a slot left it.
-use Rattle.std.proofs.Common.{◌≡◌, ℕ, ◌+◌, ◌-◌, ◌^◌, ◌<◌, ◌≤◌, ◌≢◌, ◌⊎◌, Bool, true, false, not, cond, ◌||◌, eqb, ltb, Option, Some, None, slice_get, List, [], ◌∷◌, length, map, set, get_or, inl, inr, refl, sym, ap, ◌∙◌, subst, arith}
+use Rattle.std.proofs.Common.{◌≡◌, ℕ, ◌-◌, ◌<◌, ◌≢◌, ◌⊎◌, Bool, true, false, not, eqb, ltb, Option, Some, None, slice_get, List, length, map, get_or, inl, inr, refl, sym, ap, ◌∙◌, subst, arith}
 use Rattle.std.specs.Bool.{then_some}
-use Rattle.std.specs.Option.{option_eq}
 use Rattle.std.specs.List.{filter, last_or}
 use Rattle.std.proofs.lemmas.Bool.{eqb-true, eq-eqb, ne_eqb, both_ways, cases_Bool, cases_lt}
 use Rattle.std.proofs.lemmas.List.{length-set, get_or_past, set_past}
@@ -11,12 +10,12 @@ use Rattle.clock2q.specs.declared.links.Standing.{Standing}
 use Rattle.clock2q.specs.declared.links.Standing.TheVariants.{Free, Young, Old, Main}
 use Rattle.clock2q.specs.declared.small.Small.{Small}
 use Rattle.clock2q.specs.Rings.{has, without, AllBelow}
-use Rattle.clock2q.specs.Links.{LinkState, IsLinked, IsQueue, IsSameBut, IsSameElsewhere, Detaches, slot_at, record_at, next_at, previous_at, standing_at, bit_at, place_at, accessed, with_place}
+use Rattle.clock2q.specs.Links.{LinkState, IsLinked, IsSameBut, Detaches, slot_at, next_at, previous_at, standing_at, bit_at, place_at}
 use Rattle.clock2q.specs.Ends.{place_freed, end_after}
-use Rattle.clock2q.specs.Small.{IsSmall, IsSmallQueue, IsInSmall, small_slots, small_entries, age_of, age_at}
+use Rattle.clock2q.specs.Small.{IsSmall, IsSmallQueue, small_slots, small_entries, age_at}
 use Rattle.clock2q.proofs.Records.{changed}
 use Rattle.clock2q.proofs.Rings.{IsRing-kept, eqb_self}
-use Rattle.clock2q.proofs.Joining.{Removes, Removes-detached, map-agree, is_first, not_first, first_gone, first_stays, last_gone, last_stays, in_bounds, previous_in, next_in, filter-entries, has-without, has-without-back, length-without}
+use Rattle.clock2q.proofs.Joining.{Removes, Removes-detached, map-agree, first_gone, first_stays, last_gone, last_stays, in_bounds, previous_in, next_in, filter-entries, has-without, has-without-back, length-without}
 use Rattle.clock2q.proofs.Window.{small_slots-is, IsSmallQueue-from}
 
 -- the neighbours of a slot of Small are there

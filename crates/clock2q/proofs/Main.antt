@@ -1,15 +1,15 @@
 -- Main: what a slot put in or taken out, and the hand's choice, make of its list.
-use Rattle.std.proofs.Common.{◌≡◌, ℕ, zero, suc, ◌+◌, ◌-◌, ◌^◌, ◌<◌, ◌≤◌, Bool, true, false, not, cond, ◌||◌, eqb, Option, Some, None, slice_get, List, [], ◌∷◌, ◌++◌, length, map, take, drop, inl, inr, refl, sym, ap, ◌∙◌, subst, arith}
-use Rattle.std.specs.List.{filter, prefix_len}
-use Rattle.std.proofs.lemmas.Bool.{eqb-true, eqb-false, eq-eqb, both_ways, cases_Bool, or_cases}
-use Rattle.std.proofs.lemmas.List.{append-nil, append_assoc, length-append, map-append, length_push}
+use Rattle.std.proofs.Common.{◌≡◌, ℕ, ◌+◌, ◌-◌, ◌^◌, ◌<◌, true, false, not, eqb, Some, None, slice_get, List, [], ◌∷◌, ◌++◌, length, map, inl, inr, refl, sym, ap, ◌∙◌, subst, arith}
+use Rattle.std.specs.List.{filter}
+use Rattle.std.proofs.lemmas.Bool.{eq-eqb, both_ways, or_cases}
+use Rattle.std.proofs.lemmas.List.{map-append, length_push}
 use Rattle.clock2q.specs.declared.main_ring.MainRing.{MainRing}
 use Rattle.clock2q.specs.declared.links.Standing.TheVariants.{Free, Main}
-use Rattle.clock2q.specs.Rings.{has, without, AllApart}
-use Rattle.clock2q.specs.Links.{LinkState, IsLinked, IsQueue, IsSameBut, Attaches, Detaches, with_record, slots_from, slot_at, record_at, next_at, previous_at, standing_at, bit_at, accessed, inspected, with_bit}
-use Rattle.clock2q.specs.MainRing.{IsMain, IsMainRing, main_slots, main_entries, passed, inspections, from_victim}
-use Rattle.clock2q.proofs.Rings.{eqb_self, eqb_swap, or_left, or_right, or_parts, or_neither, has-append, has_first, has_later, differs}
-use Rattle.clock2q.proofs.Joining.{Inserts, Inserts-before, Inserts-first, previous_in, next_in, in_bounds, Removes-detached, length-without, map-agree, slots_from-is, IsLinked-with_bit, IsLinked-turned, record_at-with_bit, bit_at-with_bit, slot_at-with_bit, length-with_bit, room, filter-entries, has-without}
+use Rattle.clock2q.specs.Rings.{has, without}
+use Rattle.clock2q.specs.Links.{LinkState, IsLinked, IsSameBut, Attaches, Detaches, with_record, slot_at, record_at, next_at, previous_at, standing_at, bit_at, accessed, with_bit}
+use Rattle.clock2q.specs.MainRing.{IsMain, IsMainRing, main_slots, main_entries}
+use Rattle.clock2q.proofs.Rings.{eqb_self, or_left, or_parts, has-append, differs}
+use Rattle.clock2q.proofs.Joining.{Inserts, Inserts-before, Inserts-first, previous_in, next_in, in_bounds, Removes-detached, length-without, map-agree, slots_from-is, IsLinked-with_bit, record_at-with_bit, bit_at-with_bit, slot_at-with_bit, length-with_bit, room, filter-entries, has-without}
 
 has_slice_get-first : (ss : List ℕ) (first : ℕ) → Some first ≡ slice_get ss 0 → has first ss ≡ true
 has_slice_get-first [] first e = absurd (cc)

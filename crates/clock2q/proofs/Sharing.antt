@@ -1,21 +1,21 @@
 -- Small and Main share the links: what changes one of them leaves the other.
-use Rattle.std.proofs.Common.{◌≡◌, ℕ, zero, suc, ◌+◌, ◌^◌, ◌<◌, ◌≤◌, ◌≢◌, ◌⊎◌, Bool, true, false, not, cond, ◌||◌, eqb, Option, Some, None, List, [], ◌∷◌, ◌++◌, length, map, take, drop, get_or, replicate, inl, inr, refl, sym, ap, ◌∙◌, subst, arith}
-use Rattle.std.specs.List.{filter}
-use Rattle.std.proofs.lemmas.Bool.{eqb-true, both_ways, cases_Bool, or_cases}
+use Rattle.std.proofs.Common.{◌≡◌, ℕ, zero, suc, ◌^◌, ◌<◌, ◌≢◌, ◌⊎◌, Bool, true, false, not, cond, eqb, Option, Some, None, List, [], ◌∷◌, ◌++◌, length, map, take, drop, get_or, replicate, inl, inr, refl, sym, ap, ◌∙◌, subst, arith}
+use Rattle.std.specs.List.{filter, last_or}
+use Rattle.std.proofs.lemmas.Bool.{eqb-true, eq-eqb, both_ways, cases_Bool, or_cases}
 use Rattle.std.proofs.lemmas.List.{map-append, length-replicate, take-append-drop}
-use Rattle.clock2q.specs.Entries.{Age, grown, touched}
+use Rattle.clock2q.specs.Entries.{Age, grown, touched, is_promoted}
 use Rattle.clock2q.specs.declared.links.Record.{Record}
 use Rattle.clock2q.specs.declared.links.Standing.{Standing}
 use Rattle.clock2q.specs.declared.links.Standing.TheVariants.{Free, Young, Old, Main}
 use Rattle.clock2q.specs.declared.main_ring.MainRing.{MainRing}
 use Rattle.clock2q.specs.declared.small.Small.{Small}
 use Rattle.clock2q.specs.Rings.{has, without}
-use Rattle.clock2q.specs.Links.{LinkState, IsBlank, vacant, IsLinked, IsQueue, IsSameBut, slot_at, record_at, standing_at, bit_at, place_at, accessed}
+use Rattle.clock2q.specs.Links.{LinkState, IsBlank, vacant, IsSameBut, record_at, standing_at, bit_at, accessed}
 use Rattle.clock2q.specs.MainRing.{IsMain, IsMainRing, main_slots, main_entries, passed, from_victim, main_hit_at}
 use Rattle.clock2q.specs.Small.{IsSmall, IsSmallQueue, IsInSmall, small_slots, small_entries, age_of, age_at, admitted, small_hit_at}
-use Rattle.clock2q.specs.Queues.{AreQueues, QueueState, IsStanding, slots_of, without_slot, sets_bit, queues_shown}
-use Rattle.clock2q.proofs.Rings.{eqb_swap, or_parts, or_neither, has-append, differs}
-use Rattle.clock2q.proofs.Joining.{IsLinked-kept, map-agree, has-without-back}
+use Rattle.clock2q.specs.Queues.{AreQueues, QueueState, IsStanding, slots_of, without_slot, sets_bit, tail_promoted, queues_shown}
+use Rattle.clock2q.proofs.Rings.{eqb_swap, or_left, has_later, or_parts, or_neither, has-append, differs}
+use Rattle.clock2q.proofs.Joining.{IsLinked-kept, map-agree, has-without-back, last_some}
 use Rattle.clock2q.proofs.Main.{main_slots-is, IsMainRing-from}
 use Rattle.clock2q.proofs.Window.{small_slots-is, IsSmallQueue-from}
 
@@ -419,3 +419,34 @@ after_main_hit l new small main slot q h w e s f p =
     let k = KeepsSmall-from l small new (slot ∷ []) q.small s p (λ t g. or_neither (eqb t slot) false (differs t slot (small_slots l small) g (main_apart l small main q.small q.main slot h)) refl) in
     let slots : main_slots new main ≡ main_slots l main = sym (main_slots-of new main) ∙ ap (λ (z : List (ℕ × Bool)). slots_of z) e ∙ slots_of-hit (λ b. true) slot (main_entries l main) ∙ main_slots-of l main in
     (record { small = k.whole; main = w; elsewhere = λ t a b. f t ∙ q.elsewhere t (subst (λ z. has t z ≡ false) k.slots a) (subst (λ z. has t z ≡ false) slots b) }, k.entries)
+
+-- Small's oldest slot
+
+last_in : (ss : List ℕ) (s x : ℕ) → last_or None (s ∷ ss) ≡ Some x → has x (s ∷ ss) ≡ true
+last_in [] s x e = let q : x ≡ s = cc in or_left (eqb x s) false (eq-eqb x s q)
+last_in (t ∷ ss) s x e = has_later x s (t ∷ ss) (last_in ss t x e)
+
+tail_among : (ss : List ℕ) (x : ℕ) → last_or None ss ≡ Some x → has x ss ≡ true
+tail_among [] x e = absurd (cc)
+tail_among (s ∷ ss) x e = last_in ss s x e
+
+pub tail_in : (l : LinkState) (small : Small) (x : ℕ) → last_or None (small_slots l small) ≡ Some x → has x (small_slots l small) ≡ true
+tail_in l small x e = tail_among (small_slots l small) x e
+
+last-entry : {X : Type 0} (f : ℕ → X) (ss : List ℕ) (s x : ℕ) → last_or None (s ∷ ss) ≡ Some x → last_or None (map {B = ℕ × X} (λ t. (t, f t)) (s ∷ ss)) ≡ Some (x, f x)
+last-entry f [] s x e = let q : s ≡ x = cc in ap (λ z. Some (z, f z)) q
+last-entry f (t ∷ ss) s x e = last-entry f ss t x e
+
+no_entry : {X : Type 0} (f : ℕ → X) (ss : List ℕ) → last_or None ss ≡ None → last_or None (map {B = ℕ × X} (λ t. (t, f t)) ss) ≡ None
+no_entry f [] e = refl
+no_entry f (s ∷ ss) e = absurd (let x = last_some ss s in let y = x.1 in cc)
+
+tail_entry : {X : Type 0} (f : ℕ → X) (ss : List ℕ) (x : ℕ) → last_or None ss ≡ Some x → last_or None (map {B = ℕ × X} (λ t. (t, f t)) ss) ≡ Some (x, f x)
+tail_entry f [] x e = absurd (cc)
+tail_entry f (s ∷ ss) x e = last-entry f ss s x e
+
+pub tail_promoted-some : (l : LinkState) (small : Small) (x : ℕ) → last_or None (small_slots l small) ≡ Some x → tail_promoted (last_or None (small_entries l small)) ≡ is_promoted (age_at l small.cursor x)
+tail_promoted-some l small x e = ap tail_promoted (tail_entry (λ s. age_at l small.cursor s) (small_slots l small) x e)
+
+pub tail_promoted-none : (l : LinkState) (small : Small) → last_or None (small_slots l small) ≡ None → tail_promoted (last_or None (small_entries l small)) ≡ false
+tail_promoted-none l small e = ap tail_promoted (no_entry (λ s. age_at l small.cursor s) (small_slots l small) e)

@@ -1,20 +1,19 @@
 -- Small: what an admission, and a slot that leaves, make of its list and of the window.
-use Rattle.std.proofs.Common.{◌≡◌, ℕ, zero, suc, ◌+◌, ◌-◌, ◌^◌, ◌<◌, ◌≤◌, ◌≢◌, Bool, true, false, not, cond, ◌||◌, eqb, ltb, Option, Some, None, slice_get, List, [], ◌∷◌, ◌++◌, length, map, set, get_or, inl, inr, refl, sym, ap, ◌∙◌, subst, arith}
-use Rattle.std.specs.List.{filter, last_or}
+use Rattle.std.proofs.Common.{◌≡◌, ℕ, ◌+◌, ◌^◌, ◌<◌, ◌≢◌, Bool, true, false, cond, eqb, Option, Some, None, slice_get, List, [], ◌∷◌, length, map, set, get_or, inl, inr, refl, sym, ap, ◌∙◌, subst, arith}
+use Rattle.std.specs.List.{last_or}
 use Rattle.std.proofs.lemmas.Bool.{eqb-true, eq-eqb, ne_eqb, both_ways, cases_Bool, or_cases, lt-ltb, le-ltb, cases_lt}
-use Rattle.std.proofs.lemmas.List.{append-nil, append_assoc, length-append, map-append, length_push, length-set, get_or-set_same, get_or-set_other}
+use Rattle.std.proofs.lemmas.List.{length-set}
 use Rattle.clock2q.specs.Entries as machine
 use Rattle.clock2q.specs.Entries.{Age, grown}
-use Rattle.clock2q.specs.declared.links.Record.{Record}
 use Rattle.clock2q.specs.declared.links.Standing.{Standing}
 use Rattle.clock2q.specs.declared.links.Standing.TheVariants.{Free, Young, Old, Main}
 use Rattle.clock2q.specs.declared.small.Small.{Small}
-use Rattle.clock2q.specs.Rings.{has, without, AllApart, AllBelow}
-use Rattle.clock2q.specs.Links.{LinkState, IsBlank, IsLinked, IsQueue, IsSameBut, IsSameElsewhere, Attaches, Detaches, slots_from, slot_at, record_at, next_at, previous_at, standing_at, bit_at, place_at, accessed, with_record, with_place}
+use Rattle.clock2q.specs.Rings.{has, AllBelow}
+use Rattle.clock2q.specs.Links.{LinkState, IsBlank, IsLinked, IsSameBut, Attaches, slot_at, next_at, previous_at, standing_at, bit_at, place_at, accessed, with_record, with_place}
 use Rattle.clock2q.specs.Small.{IsSmall, IsSmallQueue, IsInSmall, GrowsOld, small_slots, small_entries, admissions_since, moved_on, age_of, age_at, admitted, is_there}
 use Rattle.clock2q.proofs.Records.{changed}
-use Rattle.clock2q.proofs.Rings.{IsRing-kept, eqb_self, eqb_swap, or_left, or_right, or_parts, or_neither, has-append, has_first, has_later, differs}
-use Rattle.clock2q.proofs.Joining.{Inserts, Inserts-before, Inserts-first, Removes, Removes-detached, map-agree, slots_from-is, IsLinked-kept, IsLinked-turned, room, in_bounds, previous_in, next_in, filter-entries, has-without, length-without, same_slot}
+use Rattle.clock2q.proofs.Rings.{IsRing-kept, eqb_self, or_left, or_parts, has_first, has_later, differs}
+use Rattle.clock2q.proofs.Joining.{Inserts, Inserts-before, Inserts-first, slots_from-is, IsLinked-turned, room, in_bounds, previous_in, same_slot}
 
 -- Ages
 

@@ -1,5 +1,5 @@
 -- What a slot leaves behind when it goes out of Small: its place in the window, and the ends of the queue.
-use Rattle.std.specs.Prelude.{◌≡◌, ℕ, nat_lt, nat_eq, Option, Some, None, if◌then◌else◌}
+use Rattle.std.specs.Prelude.{ℕ, nat_lt, nat_eq, Option, Some, None, if◌then◌else◌}
 use Rattle.std.specs.Bool.{then_some}
 use Rattle.std.specs.Option.{option_eq}
 use Rattle.clock2q.specs.Links.{LinkState, accessed, with_place}

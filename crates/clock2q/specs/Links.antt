@@ -1,5 +1,5 @@
 -- What the links hold, and what becomes of it.
-use Rattle.std.specs.Prelude.{◌≡◌, ℕ, ◌+◌, ◌^◌, ◌<◌, ◌==◌, Bool, true, false, List, [], length, Option, Some, None, slice_get, slice_index_or, slice_set, replicate, if◌then◌else◌}
+use Rattle.std.specs.Prelude.{◌≡◌, ℕ, ◌+◌, ◌^◌, ◌<◌, ◌==◌, Bool, false, List, [], length, Option, Some, None, slice_get, slice_index_or, slice_set, replicate, if◌then◌else◌}
 use Rattle.clock2q.specs.Rings.{has, AllApart, AllBelow, IsRing, around}
 use Rattle.clock2q.specs.declared.links.Record.{Record}
 use Rattle.clock2q.specs.declared.links.Standing.{Standing}

@@ -1,5 +1,5 @@
 -- Main as a list from the hand, and what the hand's choice makes of it.
-use Rattle.std.specs.Prelude.{◌≡◌, ℕ, ◌+◌, Bool, true, false, List, [], ◌∷◌, ◌++◌, map, take, drop, ◌==◌, if◌then◌else◌}
+use Rattle.std.specs.Prelude.{◌≡◌, ℕ, ◌+◌, Bool, true, false, List, ◌++◌, map, take, drop, ◌==◌, if◌then◌else◌}
 use Rattle.std.specs.List.{prefix_len}
 use Rattle.clock2q.specs.Rings.{has}
 use Rattle.clock2q.specs.Links.{LinkState, IsQueue, slots_from, standing_at, bit_at}

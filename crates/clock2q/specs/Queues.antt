@@ -1,7 +1,7 @@
 -- Small and Main over one set of links, as the two lists that they are.
-use Rattle.std.specs.Prelude.{◌≡◌, ℕ, ◌<◌, Bool, true, false, not, ◌&&◌, ◌==◌, if◌then◌else◌, List, [], ◌∷◌, map, length}
+use Rattle.std.specs.Prelude.{◌≡◌, ℕ, Bool, true, false, not, ◌&&◌, ◌==◌, List, map, length, Option, Some, None}
 use Rattle.std.specs.List.{filter, list_any}
-use Rattle.clock2q.specs.Entries.{Age}
+use Rattle.clock2q.specs.Entries.{Age, is_promoted}
 use Rattle.clock2q.specs.Rings.{has}
 use Rattle.clock2q.specs.Links.{LinkState, standing_at}
 use Rattle.clock2q.specs.Small.{IsSmallQueue, small_slots, small_entries}
@@ -55,3 +55,8 @@ IsStanding Free slot q = (has slot (slots_of q.small) ≡ false) × (has slot (s
 IsStanding (Young place) slot q = (has slot (slots_of q.small) ≡ true) × (has slot (slots_of q.main) ≡ false)
 IsStanding Old slot q = (has slot (slots_of q.small) ≡ true) × (has slot (slots_of q.main) ≡ false)
 IsStanding Main slot q = (has slot (slots_of q.small) ≡ false) × (has slot (slots_of q.main) ≡ true)
+
+-- whether Small's oldest slot goes on to Main rather than out
+abbrev pub tail_promoted : Option (ℕ × Age) → Bool
+tail_promoted None = false
+tail_promoted (Some e) = is_promoted e.1

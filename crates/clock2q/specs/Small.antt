@@ -1,5 +1,5 @@
 -- Small as a list, newest first, of slots with their ages, and what an admission makes of it.
-use Rattle.std.specs.Prelude.{◌≡◌, ℕ, ◌+◌, ◌-◌, ◌^◌, ◌<◌, Bool, true, false, nat_lt, ◌==◌, if◌then◌else◌, List, [], ◌∷◌, map, length, Option, Some, None}
+use Rattle.std.specs.Prelude.{◌≡◌, ℕ, ◌+◌, ◌-◌, ◌^◌, ◌<◌, Bool, true, false, nat_lt, ◌==◌, if◌then◌else◌, List, ◌∷◌, map, length, Option, Some, None}
 use Rattle.std.specs.List.{last_or}
 use Rattle.clock2q.specs.Entries as machine
 use Rattle.clock2q.specs.Entries.{Age, grown, touched}

@@ -4,7 +4,7 @@ ghost use Rattle.std.specs.List.{last_or};
 ghost use Rattle.clock2q.specs.Rings.{has};
 ghost use Rattle.clock2q.specs.Small.{admitted, small_hit_at};
 ghost use Rattle.clock2q.specs.MainRing.{inspections, from_victim, main_hit_at};
-ghost use Rattle.clock2q.specs.Queues.{slots_of, without_slot, IsStanding, sets_bit};
+ghost use Rattle.clock2q.specs.Queues.{slots_of, without_slot, IsStanding, sets_bit, tail_promoted};
 
 use crate::links::{Links, Standing};
 use crate::main_ring::MainRing;
@@ -71,6 +71,23 @@ impl<A: Allocator> Queues<A> {
         ensures { result ≡ last_or None (slots_of self.now.small) }
     {
         self.small.tail()
+    }
+
+    /// Whether the oldest slot of Small goes on to Main rather than out: it is old, and its bit
+    /// is set.
+    pub fn tail_is_promoted(&mut self) -> bool
+        ensures value { result ≡ tail_promoted (last_or None self.old.small) }
+        ensures small { self.new.small ≡ self.old.small }
+        ensures main { self.new.main ≡ self.old.main }
+        ensures slots { self.new.slots ≡ self.old.slots }
+        ensures window { self.new.window ≡ self.old.window }
+        ensures looks { self.new.inspections ≡ self.old.inspections }
+        ensures accesses { self.new.accesses ≤ self.old.accesses + 1 }
+    {
+        match self.small.tail() {
+            None => false,
+            Some(tail) => self.small.is_promoted(&mut self.links, tail),
+        }
     }
 
     /// Admits a slot to Small.

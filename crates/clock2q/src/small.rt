@@ -1,9 +1,10 @@
 //! Small: the queue of the newest residents, of which the last admitted ones are young.
 ghost use Rattle.std.specs.Prelude.{◌≡◌, ℕ, ◌+◌, ◌^◌, ◌<◌, ◌≤◌, ◌==◌, false, true, not, [], ◌∷◌, length, None};
 ghost use Rattle.std.specs.List.{filter, last_or};
+ghost use Rattle.clock2q.specs.Entries.{is_promoted};
 ghost use Rattle.clock2q.specs.Rings.{has};
 ghost use Rattle.clock2q.specs.Ends.{end_after, place_freed};
-ghost use Rattle.clock2q.specs.Links.{LinkState, IsBlank, IsSameBut, standing_at};
+ghost use Rattle.clock2q.specs.Links.{LinkState, IsBlank, IsSameBut, accessed, standing_at};
 
 use crate::links::{Links, Record, Standing};
 use std::alloc::Allocator;
@@ -19,7 +20,7 @@ pub struct Small {
 }
 
 impl Small {
-    ghost use Rattle.clock2q.specs.Small.{IsSmallQueue, GrowsOld, small_slots, small_entries, small_hit_at, moved_on, admitted};
+    ghost use Rattle.clock2q.specs.Small.{IsSmallQueue, IsInSmall, GrowsOld, age_at, small_slots, small_entries, small_hit_at, moved_on, admitted};
 
     /// A queue with no slot.
     pub fn new() -> Self
@@ -130,6 +131,19 @@ impl Small {
         self.len -= 1;
         self.newest = end_after(self.newest, slot, self.len, was.next);
         self.oldest = end_after(self.oldest, slot, self.len, was.previous);
+    }
+
+    /// Whether a slot goes on to Main rather than out: it is old, and its bit is set.
+    pub fn is_promoted<A: Allocator>(&self, links: &mut Links<A>, slot: usize) -> bool
+        requires slot_in { slot < length links.old.slots }
+        requires in_small { IsInSmall (standing_at links.old slot) }
+        ensures value { result ≡ is_promoted (age_at links.old self.now.cursor slot) }
+        ensures counted { links.new ≡ accessed links.old }
+    {
+        match links.read(slot).standing {
+            Standing::Old => links.bit(slot),
+            _ => false,
+        }
     }
 
     /// Records a hit: sets the slot's bit, if it is old.

@@ -1,5 +1,4 @@
-use Rattle.std.proofs.Common.{◌≡◌, ℕ, List, Option, None, Bool, false, replicate, rules}
-use Rattle.clock2q.specs.declared.links.Record.{Record}
+use Rattle.std.proofs.Common.{◌≡◌, None, false, replicate, rules}
 use Rattle.clock2q.specs.Links.{vacant}
 use Rattle.clock2q.proofs.Records.{shown-fresh}
 use Rattle.clock2q.proofs.links.Links.new.Goals as goal

@@ -1,5 +1,5 @@
-use Rattle.std.proofs.Common.{◌≡◌, ◌<◌, false, None, length, replicate, ap, ◌∙◌, arith}
-use Rattle.clock2q.proofs.Resetting.{SetsBackPlaces, SetsBackPlaces-none, SetsBackPlaces-more, places-set_back}
+use Rattle.std.proofs.Common.{◌≡◌, None, length, replicate, ap, ◌∙◌, arith}
+use Rattle.clock2q.proofs.Resetting.{SetsBackPlaces-none, SetsBackPlaces-more, places-set_back}
 use Rattle.clock2q.proofs.links.Links.reset_places.Goals as goal
 
 pub loop-place-init : goal.loop-place-init

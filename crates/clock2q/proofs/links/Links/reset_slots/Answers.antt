@@ -1,7 +1,6 @@
-use Rattle.std.proofs.Common.{◌≡◌, ◌<◌, false, None, length, replicate, ap, ◌∙◌, arith}
-use Rattle.std.proofs.lemmas.List.{length-set}
-use Rattle.clock2q.specs.Links.{LinkState, vacant, bit_at}
-use Rattle.clock2q.proofs.Resetting.{SetsBackSlots, SetsBackSlots-none, SetsBackSlots-more, slots-set_back}
+use Rattle.std.proofs.Common.{◌≡◌, false, length, replicate, ap, ◌∙◌, arith}
+use Rattle.clock2q.specs.Links.{vacant}
+use Rattle.clock2q.proofs.Resetting.{SetsBackSlots-none, SetsBackSlots-more, slots-set_back}
 use Rattle.clock2q.proofs.links.Links.reset_slots.Goals as goal
 
 pub loop-slot-init : goal.loop-slot-init

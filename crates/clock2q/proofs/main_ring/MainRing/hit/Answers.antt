@@ -1,4 +1,4 @@
-use Rattle.std.proofs.Common.{◌≡◌, sym, subst}
+use Rattle.std.proofs.Common.{sym, subst}
 use Rattle.clock2q.specs.Links.{LinkState}
 use Rattle.clock2q.specs.MainRing.{main_slots}
 use Rattle.clock2q.proofs.Joining.{in_bounds}

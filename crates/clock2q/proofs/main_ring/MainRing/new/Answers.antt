@@ -1,5 +1,3 @@
-use Rattle.std.proofs.Common.{false, []}
-use Rattle.std.proofs.lemmas.Bool.{both_ways}
 use Rattle.clock2q.proofs.Main.{IsMainRing-empty}
 use Rattle.clock2q.proofs.main_ring.MainRing.new.Goals as goal
 

@@ -1,4 +1,4 @@
-use Rattle.std.proofs.Common.{◌≡◌, ◌+◌, ◌<◌, ◌^◌, refl, sym, ap, ◌∙◌, rules, arith}
+use Rattle.std.proofs.Common.{◌+◌, ap, ◌∙◌, rules, arith}
 use Rattle.clock2q.specs.declared.main_ring.MainRing.{MainRing}
 use Rattle.clock2q.proofs.Main.{PushesMain, PushesMain-attached, PushesMain-alone, previous_fits, count_fits}
 use Rattle.clock2q.proofs.main_ring.MainRing.push.Goals as goal

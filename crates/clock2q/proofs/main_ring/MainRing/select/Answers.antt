@@ -1,5 +1,4 @@
-use Rattle.std.proofs.Common.{◌≡◌, Some, true, false, refl, sym, ap, subst, ◌∙◌, rules}
-use Rattle.clock2q.specs.declared.main_ring.MainRing.{MainRing}
+use Rattle.std.proofs.Common.{◌≡◌, false, refl, sym, ap, subst, ◌∙◌}
 use Rattle.clock2q.specs.Links.{inspected, with_bit}
 use Rattle.clock2q.specs.MainRing.{IsMainRing}
 use Rattle.clock2q.proofs.Hand.{Swept, Swept-start, Swept-step, Selects-at, fewer_left, hand_fits, hand_fits_still, with_hand}

@@ -1,10 +1,9 @@
-use Rattle.std.proofs.Common.{◌≡◌, ltb, ◌-◌, refl, sym, ap, ◌∙◌, rules}
-use Rattle.clock2q.specs.declared.main_ring.MainRing.{MainRing}
+use Rattle.std.proofs.Common.{◌≡◌, ltb, ◌-◌, refl, ap, ◌∙◌, rules}
 use Rattle.std.specs.Bool.{then_some}
 use Rattle.clock2q.specs.declared.links.Record.{Record}
 use Rattle.clock2q.specs.MainRing.{main_slots}
 use Rattle.clock2q.proofs.Joining.{is_first, not_first, first_gone, first_stays}
-use Rattle.clock2q.proofs.Main.{UnlinksMain, UnlinksMain-from, neighbours_fit}
+use Rattle.clock2q.proofs.Main.{UnlinksMain-from, neighbours_fit}
 use Rattle.clock2q.proofs.main_ring.MainRing.unlink.Goals as goal
 
 pub detach-was-requires : goal.detach-was-requires

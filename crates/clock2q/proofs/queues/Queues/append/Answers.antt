@@ -1,4 +1,4 @@
-use Rattle.std.proofs.Common.{◌≡◌, false, ap, ◌∙◌, rules}
+use Rattle.std.proofs.Common.{false, ap, ◌∙◌}
 use Rattle.clock2q.specs.Queues.{QueueState}
 use Rattle.clock2q.proofs.Sharing.{after_append, in_small, in_main}
 use Rattle.clock2q.proofs.queues.Queues.append.Goals as goal

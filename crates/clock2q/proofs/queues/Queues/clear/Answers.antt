@@ -1,4 +1,4 @@
-use Rattle.std.proofs.Common.{◌≡◌, length, ap, ◌∙◌, rules}
+use Rattle.std.proofs.Common.{length}
 use Rattle.clock2q.proofs.Sharing.{AreQueues-blank, IsBlank-from}
 use Rattle.clock2q.proofs.queues.Queues.clear.Goals as goal
 

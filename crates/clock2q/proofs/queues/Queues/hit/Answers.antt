@@ -1,4 +1,4 @@
-use Rattle.std.proofs.Common.{◌≡◌, ◌∙◌, ap}
+use Rattle.std.proofs.Common.{◌∙◌}
 use Rattle.clock2q.proofs.Sharing.{small_hit_at-absent, main_hit_at-absent, sets_bit-absent, main_absent}
 use Rattle.clock2q.proofs.queues.Queues.hit.Goals as goal
 

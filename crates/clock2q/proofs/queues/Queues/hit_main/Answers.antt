@@ -1,4 +1,4 @@
-use Rattle.std.proofs.Common.{◌≡◌, true, sym, ◌∙◌, ap}
+use Rattle.std.proofs.Common.{true, sym, ◌∙◌, ap}
 use Rattle.clock2q.specs.Queues.{QueueState, sets_bit}
 use Rattle.clock2q.proofs.Sharing.{after_main_hit, sets_bit-entries, in_main}
 use Rattle.clock2q.proofs.queues.Queues.hit_main.Goals as goal

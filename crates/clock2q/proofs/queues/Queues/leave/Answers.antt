@@ -1,5 +1,4 @@
-use Rattle.std.proofs.Common.{◌≡◌, ◌∙◌, ap}
-use Rattle.clock2q.specs.Queues.{without_slot}
+use Rattle.std.proofs.Common.{◌∙◌}
 use Rattle.clock2q.proofs.Sharing.{without_slot-absent, main_absent}
 use Rattle.clock2q.proofs.queues.Queues.leave.Goals as goal
 

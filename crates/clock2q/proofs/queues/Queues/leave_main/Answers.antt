@@ -1,4 +1,4 @@
-use Rattle.std.proofs.Common.{◌≡◌, true, ◌∙◌, ap}
+use Rattle.std.proofs.Common.{true, ◌∙◌, ap}
 use Rattle.clock2q.specs.Queues.{QueueState}
 use Rattle.clock2q.proofs.Sharing.{after_main_left, in_main}
 use Rattle.clock2q.proofs.queues.Queues.leave_main.Goals as goal

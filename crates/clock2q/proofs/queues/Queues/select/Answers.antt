@@ -1,4 +1,4 @@
-use Rattle.std.proofs.Common.{◌≡◌, ◌∙◌, ap}
+use Rattle.std.proofs.Common.{◌∙◌, ap}
 use Rattle.clock2q.specs.Queues.{QueueState}
 use Rattle.clock2q.proofs.Sharing.{after_choice, chosen_from}
 use Rattle.clock2q.proofs.queues.Queues.select.Goals as goal

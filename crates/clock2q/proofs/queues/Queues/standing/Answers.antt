@@ -1,4 +1,4 @@
-use Rattle.std.proofs.Common.{◌≡◌, ◌∙◌, ap}
+use Rattle.std.proofs.Common.{◌∙◌, ap}
 use Rattle.clock2q.specs.Queues.{QueueState}
 use Rattle.clock2q.proofs.Sharing.{after_reading, IsStanding-read}
 use Rattle.clock2q.proofs.queues.Queues.standing.Goals as goal

@@ -1,4 +1,4 @@
-use Rattle.std.proofs.Common.{◌≡◌, None, sym, ap, ◌∙◌}
+use Rattle.std.proofs.Common.{None, sym, ap, ◌∙◌}
 use Rattle.std.specs.List.{last_or}
 use Rattle.clock2q.specs.Queues.{QueueState, slots_of}
 use Rattle.clock2q.proofs.Sharing.{small_slots-of}

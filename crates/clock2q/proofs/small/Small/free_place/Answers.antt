@@ -1,4 +1,4 @@
-use Rattle.std.proofs.Common.{◌≡◌, Some, sym, ◌∙◌, rules}
+use Rattle.std.proofs.Common.{◌≡◌, Some, sym, rules}
 use Rattle.clock2q.proofs.Joining.{in_bounds}
 use Rattle.clock2q.specs.Links.{place_at}
 use Rattle.clock2q.specs.Small.{small_slots}

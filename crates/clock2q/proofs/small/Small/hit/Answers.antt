@@ -1,7 +1,7 @@
 use Rattle.std.proofs.Common.{◌≡◌, ◌≢◌, sym, ap, ◌∙◌, subst, rules}
 use Rattle.clock2q.specs.declared.links.Record.{Record}
 use Rattle.clock2q.specs.declared.links.Standing.TheVariants.{Old}
-use Rattle.clock2q.specs.Links.{LinkState, record_at, standing_at}
+use Rattle.clock2q.specs.Links.{LinkState, standing_at}
 use Rattle.clock2q.proofs.Hits.{HitsSmall, HitsSmall-old, HitsSmall-young, HitsSmall-after, reads_in_bounds}
 use Rattle.clock2q.proofs.small.Small.hit.Goals as goal
 

@@ -1,9 +1,8 @@
-use Rattle.std.proofs.Common.{◌≡◌, ◌<◌, ◌-◌, Some, length, refl, sym, ap, ◌∙◌, subst, rules}
+use Rattle.std.proofs.Common.{◌-◌, refl, sym, ap, ◌∙◌, rules}
 use Rattle.clock2q.specs.declared.links.Record.{Record}
-use Rattle.clock2q.specs.declared.links.Standing.TheVariants.{Young}
 use Rattle.clock2q.specs.declared.small.Small.{Small}
 use Rattle.clock2q.specs.Ends.{end_after}
-use Rattle.clock2q.proofs.Leaving.{UnlinksSmall, UnlinksSmall-from, neighbours_fit}
+use Rattle.clock2q.proofs.Leaving.{UnlinksSmall-from, neighbours_fit}
 use Rattle.clock2q.proofs.small.Small.unlink.Goals as goal
 
 pub detach-was-requires : goal.detach-was-requires
