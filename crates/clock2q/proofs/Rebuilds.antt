@@ -76,7 +76,7 @@ module _ {H : Type 0} (slots : List (Option (Placed (ℕ × H)))) (len : ℕ) (t
         let room : total homes < length homes = omega (arith, tidy-room slots table.tidy, capacity-lt (length homes) (omega (arith, within, length-homes_of slots))) in
         let some : 0 < k * length homes = omega (arith, few, fits, multiple) in
         rebuilding-short key homes k (suc i) room some hashes (table-short slots len table)
-          (subst (λ hs. IsTooLong hs) (put_next hashes ∙ ap made e ∙ ap (λ n. put_all key (no_entries n) (entries (take (suc i) slots))) multiple ∙ ap (λ ss. put_all key (no_entries (k * length homes)) (entries (take (suc i) ss))) (tidy-layout slots table.tidy)) long)
+        (subst (λ hs. IsTooLong hs) (put_next hashes ∙ ap made e ∙ ap (λ n. put_all key (no_entries n) (entries (take (suc i) slots))) multiple ∙ ap (λ ss. put_all key (no_entries (k * length homes)) (entries (take (suc i) ss))) (tidy-layout slots table.tidy)) long)
 
 -- what stands in a slot that isn't empty
 some_of : {E : Type 0} (o : Option (Placed E)) → 0 < reach o → (s : Placed E) × (o ≡ Some s)

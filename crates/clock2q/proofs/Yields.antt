@@ -57,11 +57,13 @@ module _ {E : Type 0} (slots : List (Option (Placed E))) (tidy : IsTidy slots) w
   walk-beyond h n some on =
       let v = tidy-vacant slots tidy some in
       let s = stop (slot_at slots) tidy.ordered (length slots) (slot-again slots) some v.0 v.1 h 0 in
-      let w : walk (homes_of slots) h ≡ s.0 + 1 = walk-at h s.0 some (λ j l. omega (arith, s.2.before j l)) (omega (arith, s.2.stop)) in
-      (elim (cases_lt n s.0) [
-        | inl below ↦ omega (arith, w, below)
-        | inr from ↦ absurd (omega (arith, on, after (slot_at slots) tidy.ordered h 0 s.0 s.2.stop n from))
-      ], omega (arith, w, s.1))
+      let w : walk (homes_of slots) h ≡ s.0 + 1 = walk-at h s.0 some (λ j l. omega (arith, s.2.before j l)) (omega (arith, s.2.stop)) in (
+        elim (cases_lt n s.0) [
+          | inl below ↦ omega (arith, w, below)
+          | inr from ↦ absurd (omega (arith, on, after (slot_at slots) tidy.ordered h 0 s.0 s.2.stop n from))
+        ],
+        omega (arith, w, s.1),
+      )
 
   -- no walk reads more slots than there are
   pub walk-le : (h : ℕ) → walk (homes_of slots) h ≤ length slots
@@ -133,11 +135,11 @@ module _ {H : Type 0} (slots : List (Option (Placed (ℕ × H)))) (x : ℕ) wher
       let k : n + 1 - n ≡ suc 0 = omega arith in
       let z : n + 0 ≡ n = omega arith in
       let one : matching x (met A g n (n + 1 - n)) ≡ (top x, next.handle) ∷ [] =
-          ap (matching x) (met-next A g n n (omega arith) ∙ ap (λ i. met A g n i ++ at_home (A (g + n)) n) (let s : n - n ≡ 0 = omega arith in s)) ∙ matching-here x (A (g + n)) n next.handle next.here in
+      ap (matching x) (met-next A g n n (omega arith) ∙ ap (λ i. met A g n i ++ at_home (A (g + n)) n) (let s : n - n ≡ 0 = omega arith in s)) ∙ matching-here x (A (g + n)) n next.handle next.here in
       let split : met A g d (m - d) ≡ met A g d (n - d) ++ (met A g n (n + 1 - n) ++ rest) =
-          met-split A g d n m next.from (omega (arith, next.within)) ∙ ap (λ xs. met A g d (n - d) ++ xs) (met-split A g n (n + 1) m (omega arith) (omega (arith, next.within))) in
+      met-split A g d n m next.from (omega (arith, next.within)) ∙ ap (λ xs. met A g d (n - d) ++ xs) (met-split A g n (n + 1) m (omega arith) (omega (arith, next.within))) in
       ap (λ h. map (λ e. e.1) (matching x (met A h d (m - d)))) (sym at) ∙ ap (λ es. map (λ e. e.1) es) (ap (matching x) split ∙ filter-append (λ e. e.0 == top x) (met A g d (n - d)) (met A g n (n + 1 - n) ++ rest) ∙ ap (λ xs. xs ++ matching x (met A g n (n + 1 - n) ++ rest)) next.none_before
-        ∙ filter-append (λ e. e.0 == top x) (met A g n (n + 1 - n)) rest ∙ ap (λ xs. xs ++ matching x rest) one)
+      ∙ filter-append (λ e. e.0 == top x) (met A g n (n + 1 - n)) rest ∙ ap (λ xs. xs ++ matching x rest) one)
       ∙ ap (λ h. next.handle ∷ map (λ e. e.1) (matching x (met A h (n + 1) (m - (n + 1))))) at
 
   -- past all slots nothing is left

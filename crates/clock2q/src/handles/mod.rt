@@ -16,7 +16,6 @@ mod tests;
 
 pub use candidates::Candidates;
 pub use partitions::partition;
-
 use slots::Slots;
 use std::alloc::{Allocator, Global};
 use std::fmt;
@@ -115,7 +114,13 @@ impl<H: Copy + Eq + Default, A: Allocator + Copy> Table<H, A> {
     }
 
     /// Puts an entry in where the walk for it ended.
-    fn place(&mut self, home: usize, distance: usize, hash: u64, handle: H) -> Result<(), TableError>
+    fn place(
+        &mut self,
+        home: usize,
+        distance: usize,
+        hash: u64,
+        handle: H,
+    ) -> Result<(), TableError>
         requires room { total self.old.homes < capacity (length self.old.homes) }
         requires home { home ≡ hash % length self.old.slots }
         requires within { distance < length self.old.slots }
@@ -156,15 +161,17 @@ impl<H: Copy + Eq + Default, A: Allocator + Copy> Table<H, A> {
 
     /// The same entries in another count of slots, each under the hash that `rehash` gives its
     /// handle.
-    fn rebuilt<F: FnMut(H) -> u64>(&self, count: usize, mut rehash: F) -> Result<Table<H, A>, TableError>
+    fn rebuilt<F: FnMut(H) -> u64>(
+        &self,
+        count: usize,
+        mut rehash: F,
+    ) -> Result<Table<H, A>, TableError>
         requires count { IsSlotCount count }
         requires fits { total self.now.homes ≤ capacity count }
         requires multiple { 0 < length self.now.homes → (k : ℕ) × (count ≡ k * length self.now.homes) }
         requires asked { (key : H → ℕ) × GivesHashes F.FnMut key self.now.homes rehash }
         ensures made { IfOk result (λ t. (key : H → ℕ) → GivesHashes F.FnMut key self.now.homes rehash → t.homes ≡ rebuilt key count self.now.homes) }
-        ensures asks {
-            OnOk result ((key : H → ℕ) → GivesHashes F.FnMut key self.now.homes rehash → (last : F) × Asks F.FnMut key rehash (held_handles self.now.homes) last)
-        }
+        ensures asks { OnOk result ((key : H → ℕ) → GivesHashes F.FnMut key self.now.homes rehash → (last : F) × Asks F.FnMut key rehash (held_handles self.now.homes) last) }
         ensures only { IsOkUnless result TableError.Memory }
     {
         let Ok(slots) = Slots::with_count(self.slots.allocator(), count) else {
@@ -187,9 +194,7 @@ impl<H: Copy + Eq + Default, A: Allocator + Copy> Table<H, A> {
         requires asked { (key : H → ℕ) × GivesHashes F.FnMut key self.old.homes rehash }
         ensures grown { OnOk result ((key : H → ℕ) → GivesHashes F.FnMut key self.old.homes rehash → self.new.homes ≡ rebuilt key (doubled (length self.old.homes)) self.old.homes) }
         ensures room { OnOk result (total self.new.homes < capacity (length self.new.homes)) }
-        ensures asks {
-            OnOk result ((key : H → ℕ) → GivesHashes F.FnMut key self.old.homes rehash → (last : F) × Asks F.FnMut key rehash (held_handles self.old.homes) last)
-        }
+        ensures asks { OnOk result ((key : H → ℕ) → GivesHashes F.FnMut key self.old.homes rehash → (last : F) × Asks F.FnMut key rehash (held_handles self.old.homes) last) }
         ensures err { OnErr result (self.new ≡ self.old) }
         ensures only { IsOkUnless result TableError.Memory }
         ensures best { IsBestPlaced self.new.homes }
@@ -204,9 +209,7 @@ impl<H: Copy + Eq + Default, A: Allocator + Copy> Table<H, A> {
         requires { IsFull self.old.homes → (key : H → ℕ) × GivesHashes F.FnMut key self.old.homes rehash }
         ensures grown { OnOk result ((key : H → ℕ) → (IsFull self.old.homes → GivesHashes F.FnMut key self.old.homes rehash) → self.new.homes ≡ grown key self.old.homes) }
         ensures room { OnOk result (total self.new.homes < capacity (length self.new.homes)) }
-        ensures asks {
-            OnOk result (IsFull self.old.homes → (key : H → ℕ) → GivesHashes F.FnMut key self.old.homes rehash → (last : F) × Asks F.FnMut key rehash (held_handles self.old.homes) last)
-        }
+        ensures asks { OnOk result (IsFull self.old.homes → (key : H → ℕ) → GivesHashes F.FnMut key self.old.homes rehash → (last : F) × Asks F.FnMut key rehash (held_handles self.old.homes) last) }
         ensures kept { total self.old.homes < capacity (length self.old.homes) → IsOk result × (self.new ≡ self.old) }
         ensures full { OnErr result (IsFull self.old.homes) }
         ensures err { OnErr result (self.new ≡ self.old) }
@@ -226,14 +229,14 @@ impl<H: Copy + Eq + Default, A: Allocator + Copy> Table<H, A> {
     ///
     /// `Size` where the entries or their slots are too many to count, and `Memory` where the slots
     /// can't be had. The table is unchanged.
-    pub fn reserve<F: FnMut(H) -> u64>(&mut self, additional: usize, rehash: F) -> Result<(), TableError>
+    pub fn reserve<F: FnMut(H) -> u64>(
+        &mut self,
+        additional: usize,
+        rehash: F,
+    ) -> Result<(), TableError>
         requires { IsShortOf self.old.homes additional → (key : H → ℕ) × GivesHashes F.FnMut key self.old.homes rehash }
-        ensures reserved {
-            OnOk result ((key : H → ℕ) → (IsShortOf self.old.homes additional → GivesHashes F.FnMut key self.old.homes rehash) → self.new.homes ≡ reserved key self.old.homes additional)
-        }
-        ensures asks {
-            OnOk result (IsShortOf self.old.homes additional → (key : H → ℕ) → GivesHashes F.FnMut key self.old.homes rehash → (last : F) × Asks F.FnMut key rehash (held_handles self.old.homes) last)
-        }
+        ensures reserved { OnOk result ((key : H → ℕ) → (IsShortOf self.old.homes additional → GivesHashes F.FnMut key self.old.homes rehash) → self.new.homes ≡ reserved key self.old.homes additional) }
+        ensures asks { OnOk result (IsShortOf self.old.homes additional → (key : H → ℕ) → GivesHashes F.FnMut key self.old.homes rehash → (last : F) × Asks F.FnMut key rehash (held_handles self.old.homes) last) }
         ensures kept { total self.old.homes + additional ≤ capacity (length self.old.homes) → total self.old.homes + additional < 2 ^ 64 → IsOk result × (self.new ≡ self.old) }
         ensures size { result ≡ Err TableError.Size → IsPastSize self.old.homes additional }
         ensures past { IsPastSize self.old.homes additional → result ≡ Err TableError.Size }
@@ -268,26 +271,23 @@ impl<H: Copy + Eq + Default, A: Allocator + Copy> Table<H, A> {
     /// `Memory` where the table was full and can't grow: it is unchanged. `RunTooLong` where an
     /// entry would stand more than 2^24 - 2 slots past its home: the entries are the same, in twice
     /// the slots where the table was full. It takes 2^24 entries with the new one.
-    pub fn insert<F: FnMut(H) -> u64>(&mut self, hash: u64, handle: H, rehash: F) -> Result<(), TableError>
+    pub fn insert<F: FnMut(H) -> u64>(
+        &mut self,
+        hash: u64,
+        handle: H,
+        rehash: F,
+    ) -> Result<(), TableError>
         requires { IsFull self.old.homes → (key : H → ℕ) × GivesHashes F.FnMut key self.old.homes rehash }
-        ensures ok {
-            OnOk result ((key : H → ℕ) → (IsFull self.old.homes → GivesHashes F.FnMut key self.old.homes rehash) → self.new.homes ≡ inserted (grown key self.old.homes) hash handle)
-        }
-        ensures short {
-            OnOk result ((key : H → ℕ) → (IsFull self.old.homes → GivesHashes F.FnMut key self.old.homes rehash) → IsTooLong (inserted (grown key self.old.homes) hash handle) → ⊥)
-        }
-        ensures long {
-            result ≡ Err TableError.RunTooLong → (key : H → ℕ) → (IsFull self.old.homes → GivesHashes F.FnMut key self.old.homes rehash) →
-                IsTooLong (inserted (grown key self.old.homes) hash handle) × (self.new.homes ≡ grown key self.old.homes)
-        }
+        ensures ok { OnOk result ((key : H → ℕ) → (IsFull self.old.homes → GivesHashes F.FnMut key self.old.homes rehash) → self.new.homes ≡ inserted (grown key self.old.homes) hash handle) }
+        ensures short { OnOk result ((key : H → ℕ) → (IsFull self.old.homes → GivesHashes F.FnMut key self.old.homes rehash) → IsTooLong (inserted (grown key self.old.homes) hash handle) → ⊥) }
+        ensures long { result ≡ Err TableError.RunTooLong → (key : H → ℕ) → (IsFull self.old.homes → GivesHashes F.FnMut key self.old.homes rehash) →
+            IsTooLong (inserted (grown key self.old.homes) hash handle) × (self.new.homes ≡ grown key self.old.homes) }
         ensures memory { result ≡ Err TableError.Memory → IsFull self.old.homes × (self.new ≡ self.old) }
         ensures only { result ≢ Err TableError.Size }
 
         // Where there is room, it takes no memory, and writes one slot more than the run at most.
         ensures room { total self.old.homes < capacity (length self.old.homes) → IsOkUnless result TableError.RunTooLong × IfOk result (λ _. self.new.homes ≡ inserted self.old.homes hash handle) }
-        ensures writes {
-            total self.old.homes < capacity (length self.old.homes) → (self.old.writes ≤ self.new.writes) × (self.new.writes ≤ self.old.writes + run self.old.slots hash + 1)
-        }
+        ensures writes { total self.old.homes < capacity (length self.old.homes) → (self.old.writes ≤ self.new.writes) × (self.new.writes ≤ self.old.writes + run self.old.slots hash + 1) }
 
         // No placement of the entries does better.
         ensures best { IsBestPlaced self.new.homes }
@@ -303,18 +303,20 @@ impl<H: Copy + Eq + Default, A: Allocator + Copy> Table<H, A> {
     /// # Errors
     ///
     /// As [Table::insert]; `RunTooLong` only where every candidate was rejected.
-    pub fn find_or_insert<M: FnMut(H) -> bool, F: FnMut(H) -> u64>(&mut self, hash: u64, matches: M, handle: H, rehash: F) -> Result<(H, bool), TableError>
+    pub fn find_or_insert<M: FnMut(H) -> bool, F: FnMut(H) -> u64>(
+        &mut self,
+        hash: u64,
+        matches: M,
+        handle: H,
+        rehash: F,
+    ) -> Result<(H, bool), TableError>
         requires rehash { IsFull self.old.homes → (key : H → ℕ) × GivesHashes F.FnMut key self.old.homes rehash }
         requires callable { M.IsAlwaysCallable matches }
-        ensures settles {
-            (result ≢ Err TableError.Memory) → (key : H → ℕ) → (IsFull self.old.homes → GivesHashes F.FnMut key self.old.homes rehash) →
-                (found : Option H) × (last : M) × Offers M.FnMut matches (candidates (grown key self.old.homes) hash) found last
-                × Settles (grown key self.old.homes) hash handle found result self.new.homes
-        }
+        ensures settles { (result ≢ Err TableError.Memory) → (key : H → ℕ) → (IsFull self.old.homes → GivesHashes F.FnMut key self.old.homes rehash) →
+            (found : Option H) × (last : M) × Offers M.FnMut matches (candidates (grown key self.old.homes) hash) found last
+            × Settles (grown key self.old.homes) hash handle found result self.new.homes }
         ensures memory { result ≡ Err TableError.Memory → IsFull self.old.homes × (self.new ≡ self.old) }
-        ensures writes {
-            total self.old.homes < capacity (length self.old.homes) → (self.old.writes ≤ self.new.writes) × (self.new.writes ≤ self.old.writes + run self.old.slots hash + 1)
-        }
+        ensures writes { total self.old.homes < capacity (length self.old.homes) → (self.old.writes ≤ self.new.writes) × (self.new.writes ≤ self.old.writes + run self.old.slots hash + 1) }
         ensures best { IsBestPlaced self.new.homes }
     {
         self.make_room(rehash)?;
@@ -322,12 +324,15 @@ impl<H: Copy + Eq + Default, A: Allocator + Copy> Table<H, A> {
     }
 
     /// Offers the candidates, and puts the handle in where none is accepted.
-    fn find_or_put<M: FnMut(H) -> bool>(&mut self, hash: u64, matches: M, handle: H) -> Result<(H, bool), TableError>
+    fn find_or_put<M: FnMut(H) -> bool>(
+        &mut self,
+        hash: u64,
+        matches: M,
+        handle: H,
+    ) -> Result<(H, bool), TableError>
         requires room { total self.old.homes < capacity (length self.old.homes) }
         requires callable { M.IsAlwaysCallable matches }
-        ensures settles {
-            (found : Option H) × (last : M) × Offers M.FnMut matches (candidates self.old.homes hash) found last × Settles self.old.homes hash handle found result self.new.homes
-        }
+        ensures settles { (found : Option H) × (last : M) × Offers M.FnMut matches (candidates self.old.homes hash) found last × Settles self.old.homes hash handle found result self.new.homes }
         ensures only { result ≢ Err TableError.Memory }
         ensures counted { self.old.writes ≤ self.new.writes }
         ensures writes { self.new.writes ≤ self.old.writes + run self.old.slots hash + 1 }

@@ -57,7 +57,13 @@ impl<H: Copy + Default, A: Allocator> Slots<H, A> {
 
     /// How far from the home the next candidate of `hash` stands, for a walk that has come to a
     /// distance already. Each slot that is read is counted.
-    pub(super) fn candidate(&self, home: usize, hash: u64, from: usize, reads: &mut Count) -> Option<usize>
+    pub(super) fn candidate(
+        &self,
+        home: usize,
+        hash: u64,
+        from: usize,
+        reads: &mut Count,
+    ) -> Option<usize>
         requires tidy { IsTidy self.now.slots }
         requires home { 0 < length self.now.slots → home < length self.now.slots }
         requires near { (n : ℕ) → reach (slot_at self.now.slots n) ≤ 16777215 }
@@ -83,7 +89,12 @@ impl<H: Copy + Default, A: Allocator> Slots<H, A> {
 
     /// Offers the candidates of `hash` up to the first that is accepted. Answers it, or else how
     /// far from the home the walk ended.
-    pub(super) fn offer<F: FnMut(H) -> bool>(&self, home: usize, hash: u64, mut matches: F) -> Result<H, usize>
+    pub(super) fn offer<F: FnMut(H) -> bool>(
+        &self,
+        home: usize,
+        hash: u64,
+        mut matches: F,
+    ) -> Result<H, usize>
         requires tidy { IsTidy self.now.slots }
         requires near { (n : ℕ) → reach (slot_at self.now.slots n) ≤ 16777215 }
         requires some { 0 < length self.now.slots }
@@ -145,19 +156,11 @@ impl<H: Copy + Default, A: Allocator> Slots<H, A> {
         requires home { home < length self.old.slots }
         requires within { distance < length self.old.slots }
         requires walked { (j : ℕ) → j < distance → 0 < reach (slot_at self.old.slots (home + j)) }
-        ensures put {
-            OnTrue result ((v : ℕ) → IsVacancy (slot_at self.old.slots) home v →
-                Opens (slot_at self.old.slots) (slot_at self.new.slots) (length self.old.slots) home distance v (top hash, handle))
-        }
-        ensures room {
-            OnTrue result ((v : ℕ) → IsVacancy (slot_at self.old.slots) home v → HasRoom (slot_at self.old.slots) MAX_DISPLACEMENT home distance v)
-        }
-        ensures writes {
-            OnTrue result ((v : ℕ) → IsVacancy (slot_at self.old.slots) home v → self.new.writes + distance ≡ self.old.writes + v + 1)
-        }
-        ensures far {
-            OnFalse result ((v : ℕ) → IsVacancy (slot_at self.old.slots) home v → HasRoom (slot_at self.old.slots) MAX_DISPLACEMENT home distance v → ⊥)
-        }
+        ensures put { OnTrue result ((v : ℕ) → IsVacancy (slot_at self.old.slots) home v →
+            Opens (slot_at self.old.slots) (slot_at self.new.slots) (length self.old.slots) home distance v (top hash, handle)) }
+        ensures room { OnTrue result ((v : ℕ) → IsVacancy (slot_at self.old.slots) home v → HasRoom (slot_at self.old.slots) MAX_DISPLACEMENT home distance v) }
+        ensures writes { OnTrue result ((v : ℕ) → IsVacancy (slot_at self.old.slots) home v → self.new.writes + distance ≡ self.old.writes + v + 1) }
+        ensures far { OnFalse result ((v : ℕ) → IsVacancy (slot_at self.old.slots) home v → HasRoom (slot_at self.old.slots) MAX_DISPLACEMENT home distance v → ⊥) }
         ensures small { OnTrue result (length self.old.slots < 2 ^ 63) }
         ensures refused { OnFalse result (self.new ≡ self.old) }
         ensures len { length self.new.slots ≡ length self.old.slots }
@@ -203,11 +206,9 @@ impl<H: Copy + Default, A: Allocator> Slots<H, A> {
         requires home { home < length self.old.slots }
         requires within { distance < length self.old.slots }
         requires walked { (j : ℕ) → j ≤ distance → 0 < reach (slot_at self.old.slots (home + j)) }
-        ensures closes {
-            (e : ℕ × H) → slot_at self.old.slots (home + distance) ≡ Some (placed distance e) →
-                (v : ℕ) × Closes (slot_at self.old.slots) (slot_at self.new.slots) (length self.old.slots) home distance v e
-                × (self.new.writes + distance ≡ self.old.writes + v + 1)
-        }
+        ensures closes { (e : ℕ × H) → slot_at self.old.slots (home + distance) ≡ Some (placed distance e) →
+            (v : ℕ) × Closes (slot_at self.old.slots) (slot_at self.new.slots) (length self.old.slots) home distance v e
+            × (self.new.writes + distance ≡ self.old.writes + v + 1) }
         ensures len { length self.new.slots ≡ length self.old.slots }
     {
         let mut hole = distance;

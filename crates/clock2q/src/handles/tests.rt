@@ -5,6 +5,7 @@ use std::process::Abort;
 use std::test::Fail;
 
 const A: u64 = 0xAB00_0000_0000_000F;
+
 const B: u64 = 0xAB00_0000_0000_001F;
 
 fn key_zero(_handle: usize) -> u64 {
@@ -27,8 +28,14 @@ fn cells_are(rt: &impl Abort, table: &Table<usize>, wanted: &[(usize, usize, usi
             Some(&(_, wanted_handle, displacement)) => {
                 assert!(rt; !metadata.is_empty(), "{shown}: slot {slot} is empty");
                 assert_eq!(rt; handle, wanted_handle, "{shown}: handle in slot {slot}");
-                assert!(rt; metadata.ends_walk(displacement + 1), "{shown}: slot {slot} is too far");
-                assert!(rt; !metadata.ends_walk(displacement), "{shown}: slot {slot} is too near");
+                assert!(rt;
+                    metadata.ends_walk(displacement + 1),
+                    "{shown}: slot {slot} is too far"
+                );
+                assert!(rt;
+                    !metadata.ends_walk(displacement),
+                    "{shown}: slot {slot} is too near"
+                );
                 seen = seen.saturating_add(1);
             }
             None => assert!(rt; metadata.is_empty(), "{shown}: slot {slot} is not empty"),
@@ -96,10 +103,20 @@ fn figure(rt: HostRuntime) -> Result<(), Fail> {
     for (handle, hash) in [(0, 4), (1, 4), (2, 5), (3, 7), (4, 7)] {
         table.insert(hash, handle, key_zero)?;
     }
-    cells_are(&rt, &table, &[(4, 0, 0), (5, 1, 1), (6, 2, 1), (7, 3, 0), (8, 4, 1)], "figure");
+    cells_are(
+        &rt,
+        &table,
+        &[(4, 0, 0), (5, 1, 1), (6, 2, 1), (7, 3, 0), (8, 4, 1)],
+        "figure",
+    );
     assert_eq!(rt; slots_read(&table, 5), 3);
     assert!(rt; table.remove(4, 1));
-    cells_are(&rt, &table, &[(4, 0, 0), (5, 2, 0), (7, 3, 0), (8, 4, 1)], "after");
+    cells_are(
+        &rt,
+        &table,
+        &[(4, 0, 0), (5, 2, 0), (7, 3, 0), (8, 4, 1)],
+        "after",
+    );
     assert_eq!(rt; slots_read(&table, 5), 2);
     yields(&rt, &table, 5, &[2], "figure");
     Ok(())
@@ -117,7 +134,12 @@ fn wrapped(rt: HostRuntime) -> Result<(), Fail> {
         assert_eq!(rt; slots_read(&table, home), read);
     }
     assert!(rt; table.remove(14, 0));
-    cells_are(&rt, &table, &[(14, 1, 0), (15, 2, 0), (0, 3, 0), (1, 4, 1)], "after");
+    cells_are(
+        &rt,
+        &table,
+        &[(14, 1, 0), (15, 2, 0), (0, 3, 0), (1, 4, 1)],
+        "after",
+    );
     for (home, read) in [(14, 2), (15, 2), (0, 3)] {
         assert_eq!(rt; slots_read(&table, home), read);
     }
@@ -171,10 +193,22 @@ fn full_table(rt: HostRuntime) -> Result<(), Fail> {
         assert_eq!(rt; slots_read(&table, home), read);
     }
     assert!(rt; table.remove(B, 5));
-    yields(&rt, &table, A, &[0, 1, 2, 3, 4, 6, 7, 8, 9, 10, 11], "one less");
+    yields(
+        &rt,
+        &table,
+        A,
+        &[0, 1, 2, 3, 4, 6, 7, 8, 9, 10, 11],
+        "one less",
+    );
     assert_eq!(rt; slots_read(&table, 15), 12);
     table.insert(A, 12, key_zero)?;
-    yields(&rt, &table, A, &[0, 1, 2, 3, 4, 6, 7, 8, 9, 10, 11, 12], "one more");
+    yields(
+        &rt,
+        &table,
+        A,
+        &[0, 1, 2, 3, 4, 6, 7, 8, 9, 10, 11, 12],
+        "one more",
+    );
     assert_eq!(rt; slots_read(&table, 15), 13);
     assert_eq!(rt; table.capacity(), 12);
     Ok(())
@@ -184,15 +218,35 @@ fn full_table(rt: HostRuntime) -> Result<(), Fail> {
 fn full_table_grows(rt: HostRuntime) -> Result<(), Fail> {
     let mut table = full(&rt)?;
     table.reserve(1, alternating)?;
-    let cells = [(15, 2, 0), (16, 4, 1), (17, 6, 2), (18, 8, 3), (19, 10, 4), (20, 0, 5),
-        (31, 1, 0), (0, 3, 1), (1, 5, 2), (2, 7, 3), (3, 9, 4), (4, 11, 5)];
+    let cells = [
+        (15, 2, 0),
+        (16, 4, 1),
+        (17, 6, 2),
+        (18, 8, 3),
+        (19, 10, 4),
+        (20, 0, 5),
+        (31, 1, 0),
+        (0, 3, 1),
+        (1, 5, 2),
+        (2, 7, 3),
+        (3, 9, 4),
+        (4, 11, 5),
+    ];
     cells_are(&rt, &table, &cells, "grown");
     yields(&rt, &table, A, &[2, 4, 6, 8, 10, 0], "A");
     yields(&rt, &table, B, &[1, 3, 5, 7, 9, 11], "B");
     assert_eq!(rt; slots_read(&table, 15), 7);
     let mut odd = full(&rt)?;
     let mut offered = 0usize;
-    let found = odd.find_or_insert(A, |handle| { offered |= handle; handle == 1 }, 12, alternating)?;
+    let found = odd.find_or_insert(
+        A,
+        |handle| {
+            offered |= handle;
+            handle == 1
+        },
+        12,
+        alternating,
+    )?;
     assert_eq!(rt; found, (12, true));
     assert_eq!(rt; offered % 2, 0);
     assert_eq!(rt; odd.capacity(), 24);
@@ -211,10 +265,19 @@ fn finds_or_inserts(rt: HostRuntime) -> Result<(), Fail> {
     yields(&rt, &table, 5, &[], "unallocated");
     assert!(rt; !table.remove(5, 0));
     assert_eq!(rt; table.find_or_insert(5, |_| false, 0, key_zero)?, (0, true));
-    assert_eq!(rt; table.find_or_insert(5, |handle| handle == 0, 7, key_zero)?, (0, false));
-    assert_eq!(rt; table.find_or_insert(5, |handle| handle == 1, 1, key_zero)?, (1, true));
+    assert_eq!(rt;
+        table.find_or_insert(5, |handle| handle == 0, 7, key_zero)?,
+        (0, false)
+    );
+    assert_eq!(rt;
+        table.find_or_insert(5, |handle| handle == 1, 1, key_zero)?,
+        (1, true)
+    );
     yields(&rt, &table, 5, &[0, 1], "two");
-    assert_eq!(rt; table.find_or_insert(6, |handle| handle == 2, 2, key_zero)?, (2, true));
+    assert_eq!(rt;
+        table.find_or_insert(6, |handle| handle == 2, 2, key_zero)?,
+        (2, true)
+    );
     assert_eq!(rt; table.len(), 3);
     Ok(())
 }
@@ -226,7 +289,11 @@ fn capacities(rt: HostRuntime) -> Result<(), Fail> {
         assert_eq!(rt; table.capacity(), capacity, "for {entries}");
     }
     let most = 3usize << 61;
-    for (entries, error) in [(usize::MAX, TableError::Size), (most, TableError::Memory), (most + 1, TableError::Size)] {
+    for (entries, error) in [
+        (usize::MAX, TableError::Size),
+        (most, TableError::Memory),
+        (most + 1, TableError::Size),
+    ] {
         match Table::<usize>::with_capacity(rt.alloc(), entries) {
             Ok(_) => assert!(rt; false, "{entries} fit"),
             Err(refusal) => assert_eq!(rt; refusal, error, "for {entries}"),
@@ -251,7 +318,10 @@ fn many(rt: HostRuntime) -> Result<(), Fail> {
     let mut asked = 0usize;
     for handle in 0..5000 {
         let before = table.capacity();
-        table.insert(spread(handle), handle, |held| { asked = asked.wrapping_add(1); spread(held) })?;
+        table.insert(spread(handle), handle, |held| {
+            asked = asked.wrapping_add(1);
+            spread(held)
+        })?;
         if table.capacity() != before {
             growths = growths.saturating_add(1);
         }
@@ -288,7 +358,11 @@ fn groups(rt: HostRuntime) {
 
 #[test]
 fn refusals_show(rt: HostRuntime) -> Result<(), Fail> {
-    for (refusal, text) in [(TableError::Memory, "no memory"), (TableError::Size, "size refused"), (TableError::RunTooLong, "run too long")] {
+    for (refusal, text) in [
+        (TableError::Memory, "no memory"),
+        (TableError::Size, "size refused"),
+        (TableError::RunTooLong, "run too long"),
+    ] {
         let shown = format!(in rt.alloc(); "{refusal}")?;
         assert_eq!(rt; shown.as_str(), text);
     }

@@ -17,6 +17,7 @@ returns-clause-short g c =
     on_ok c.put.result (λ short. λ key gives long. short (subst (λ hs. IsTooLong (inserted hs c.args.hash c.args.handle)) (sym (c.in_ok-make_room.ensures.grown key gives)) long)) c.put.ensures.short
 
 pub returns-clause-long : goal.returns-clause-long
-returns-clause-long g c is key gives =
-    (subst (λ hs. IsTooLong (inserted hs c.args.hash c.args.handle)) (c.in_ok-make_room.ensures.grown key gives) (on_err c.put.result _ is c.put.ensures.long),
-     ap (λ t. t.homes) (on_err c.put.result _ is c.put.ensures.err) ∙ c.in_ok-make_room.ensures.grown key gives)
+returns-clause-long g c is key gives = (
+  subst (λ hs. IsTooLong (inserted hs c.args.hash c.args.handle)) (c.in_ok-make_room.ensures.grown key gives) (on_err c.put.result _ is c.put.ensures.long),
+  ap (λ t. t.homes) (on_err c.put.result _ is c.put.ensures.err) ∙ c.in_ok-make_room.ensures.grown key gives,
+)

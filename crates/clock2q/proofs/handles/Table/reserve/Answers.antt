@@ -20,7 +20,7 @@ returns-in_default-slots_for-clause-best g c = best-placed _ c.len.ensures.whole
 pub rebuilt-requires-clause-multiple : goal.rebuilt-requires-clause-multiple
 rebuilt-requires-clause-multiple g c =
     larger_multiple c.args.self.now.homes _ refl c.len.ensures.whole.slot_count c.in-Some-slots_for.count c.in-Some-slots_for.ensures.power
-      (omega (arith, c.in-Some-slots_for.ensures.enough, c.if-entries-capacity.false, c.capacity.ensures))
+    (omega (arith, c.in-Some-slots_for.ensures.enough, c.if-entries-capacity.false, c.capacity.ensures))
 
 pub returns-in_err-self-clause-best : goal.returns-in_err-self-clause-best
 returns-in_err-self-clause-best g c = best-placed _ c.len.ensures.whole.room
@@ -45,4 +45,4 @@ returns-clause-nearer g c x =
     let some : 0 < m = omega (arith, c.in-Some-slots_for.ensures.enough, c.if-entries-capacity.false, c.capacity.ensures) in
     let multiple = larger_multiple homes _ refl c.len.ensures.whole.slot_count m c.in-Some-slots_for.ensures.power (omega (arith, c.in-Some-slots_for.ensures.enough, c.if-entries-capacity.false, c.capacity.ensures)) in
     subst (λ hs. spill_of hs x + count hs x ≤ spill_of homes x + count homes x) (sym (c.in_ok-self.ensures.made asked.0 asked.1))
-      (rebuilt-reach asked.0 homes m c.len.ensures.whole.room (omega (arith, fits, capacity-lt m some)) multiple asked.1.hashes x)
+    (rebuilt-reach asked.0 homes m c.len.ensures.whole.room (omega (arith, fits, capacity-lt m some)) multiple asked.1.hashes x)

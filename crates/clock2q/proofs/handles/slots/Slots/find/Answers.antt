@@ -14,7 +14,7 @@ returns-then-ends_walk-clause-none g c =
     let d : ℕ = c.loop-distance.distance in
     let o = slot_at c.args.self.now.slots (c.args.home + d) in
     let list = met_all c.args.self.now.slots c.requires.tidy c.args.home d (omega (arith, c.loop-distance-test.true, c.count-distance-end.ensures.count)) c.loop-distance.invariant.passed
-      (omega (arith, c.ends_walk.ensures.0 c.if-ends_walk.true, reach_told _ o c.metadata-metadata.ensures.told)) in
+    (omega (arith, c.ends_walk.ensures.0 c.if-ends_walk.true, reach_told _ o c.metadata-metadata.ensures.told)) in
     ap (list_any (is_entry_of g.H.PartialEq.eq c.args.hash c.args.handle)) list ∙ c.loop-distance.invariant.none
 
 pub returns-then-eq-clause-found : goal.returns-then-eq-clause-found

@@ -20,4 +20,4 @@ returns g c =
     let counted = c.self.inside.metadata.ok.0 in
     subst (λ s. IfSome (slot_at s.slots (c.args.home + c.args.distance)) (λ p. c.index.result.now ≡ p.entry.1)) c.self.view_is
     (handle_read c.self.inside.metadata.items c.self.inside.handles.items (c.args.home + c.args.distance) c.slot.result (record { word = 0 }) c.index.result.now c.self.invariant.0
-      (c.slot.ensures.slot ∙ ap (λ m. (c.args.home + c.args.distance) % m) (sym ends)) (omega (arith, made, ends, c.slot.ensures.within)) c.index.ensures)
+    (c.slot.ensures.slot ∙ ap (λ m. (c.args.home + c.args.distance) % m) (sym ends)) (omega (arith, made, ends, c.slot.ensures.within)) c.index.ensures)

@@ -20,7 +20,7 @@ returns-clause-told g c =
     let counted = c.self.inside.metadata.ok.0 in
     subst (λ s. told c.index.result.now ≡ mark_of (slot_at s.slots (c.args.home + c.args.distance))) c.self.view_is
     (mark_read c.self.inside.metadata.items c.self.inside.handles.items (c.args.home + c.args.distance) c.slot.result c.index.result.now c.self.invariant.0
-      (c.slot.ensures.slot ∙ ap (λ m. (c.args.home + c.args.distance) % m) (sym ends)) (omega (arith, made, ends, c.slot.ensures.within)) c.index.ensures)
+    (c.slot.ensures.slot ∙ ap (λ m. (c.args.home + c.args.distance) % m) (sym ends)) (omega (arith, made, ends, c.slot.ensures.within)) c.index.ensures)
 
 pub returns-clause-small : goal.returns-clause-small
 returns-clause-small g c =

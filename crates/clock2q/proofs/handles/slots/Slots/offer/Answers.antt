@@ -46,7 +46,7 @@ loop-metadata-preserved g c =
             within = within;
             passed = passed;
             offers = λ found last rest. c.loop-metadata.invariant.offers found last (subst (λ hs. Offers g.F.FnMut c.loop-metadata.matches hs found last) (sym first)
-              (false, next, called, subst (λ f. Offers g.F.FnMut f (left_from slots c.args.hash (d + 1)) found last) w.matches-is rest));
+                (false, next, called, subst (λ f. Offers g.F.FnMut f (left_from slots c.args.hash (d + 1)) found last) w.matches-is rest));
           }
       | else-is_candidate w ↦
           let skipped = left_skip slots c.requires.tidy c.args.hash c.args.home (λ _. c.requires.home) d c.loop-metadata.invariant.within (λ e. refused c.is_candidate.result c.is_candidate.ensures w.if-is_candidate.false (c.metadata-metadata.ensures.told ∙ e)) in
@@ -55,6 +55,6 @@ loop-metadata-preserved g c =
             within = within;
             passed = passed;
             offers = λ found last rest. c.loop-metadata.invariant.offers found last (subst (λ hs. Offers g.F.FnMut c.loop-metadata.matches hs found last) (sym skipped)
-              (subst (λ f. Offers g.F.FnMut f (left_from slots c.args.hash (d + 1)) found last) w.matches-is rest));
+                (subst (λ f. Offers g.F.FnMut f (left_from slots c.args.hash (d + 1)) found last) w.matches-is rest));
           }
     ]
