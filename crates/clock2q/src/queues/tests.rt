@@ -31,8 +31,8 @@ fn append(rt: &impl Abort, queues: &mut Queues, slot: usize)
     }
 }
 
-// Ten slots were admitted in order, one left and its slot was admitted again: with a window of two
-// admissions, the one before it is old by then, though three stand in the queue.
+// Slots 0 to 3 were admitted in order, slot 3 left and was admitted again. With a window of two
+// admissions slot 2 is old by then, though only one slot stands before it.
 #[test]
 fn admissions_count_after_a_removal(rt: HostRuntime) -> Result<(), Fail> {
     let mut queues = Queues::new(rt.alloc(), 4, 2)?;
