@@ -1,10 +1,10 @@
 -- The slot counts that a table grows to, and what a rebuild at one leaves.
-use Rattle.std.proofs.Common.{◌≡◌, ℕ, zero, suc, ◌+◌, ◌-◌, ◌*◌, ◌/◌, ◌^◌, ◌<◌, ◌≤◌, ◌⊎◌, inl, inr, max, refl, ap, sym, ◌∙◌, subst, arith, List, length}
+use Rattle.std.proofs.Common.{◌≡◌, ℕ, suc, ◌*◌, ◌<◌, ◌≤◌, inl, inr, max, ap, sym, ◌∙◌, arith, List, length}
 use Rattle.std.proofs.lemmas.Bool.{cases_lt}
 use Rattle.std.proofs.Math.Nat.{two-pow-succ}
-use Rattle.clock2q.specs.Homes.{capacity, total, count}
-use Rattle.clock2q.specs.Layout.{spill_of, IsBestPlaced, IsTooLong}
-use Rattle.clock2q.specs.TableStep.{rebuilt, doubled, IsHashOf}
+use Rattle.clock2q.specs.Homes.{capacity, total}
+use Rattle.clock2q.specs.Layout.{IsBestPlaced}
+use Rattle.clock2q.specs.TableStep.{rebuilt, doubled}
 use Rattle.clock2q.specs.Slots.{IsSlotCount}
 use Rattle.clock2q.proofs.Laps.{powers-divide}
 use Rattle.clock2q.proofs.Hashes.{rebuilt-length, rebuilt-total}

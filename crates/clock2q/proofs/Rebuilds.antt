@@ -1,11 +1,11 @@
 -- A rebuild, entry by entry: the calls of the closure, and the table that has been made so far.
-use Rattle.std.proofs.Common.{◌≡◌, ℕ, zero, suc, ◌+◌, ◌-◌, ◌*◌, ◌%◌, ◌<◌, ◌≤◌, refl, ap, sym, ◌∙◌, subst, arith, List, [], ◌∷◌, ◌++◌, map, take, length, get_or, Option, Some, None, IfSome, mod-eq_of_lt, length-append}
+use Rattle.std.proofs.Common.{◌≡◌, ℕ, suc, ◌+◌, ◌*◌, ◌%◌, ◌<◌, ◌≤◌, refl, ap, sym, ◌∙◌, subst, arith, List, [], ◌∷◌, ◌++◌, map, take, length, get_or, Option, Some, None, IfSome, mod-eq_of_lt, length-append}
 use Rattle.std.proofs.lemmas.List.{map-append}
 use Rattle.std.specs.Fn.{Called, Mut}
-use Rattle.clock2q.specs.Homes.{top, capacity, total, no_entries, inserted, put_last}
-use Rattle.clock2q.specs.Layout.{Placed, placed, slot_at, reach, layout, entries, homes_of, IsTidy, IsTooLong}
+use Rattle.clock2q.specs.Homes.{capacity, total, no_entries, inserted, put_last}
+use Rattle.clock2q.specs.Layout.{Placed, slot_at, reach, entries, homes_of, IsTooLong}
 use Rattle.clock2q.specs.TableStep.{put_all, IsHashOf}
-use Rattle.clock2q.specs.Rehash.{IsHeld, held_handles, Reaches, Asks, AnswersBy}
+use Rattle.clock2q.specs.Rehash.{IsHeld, Reaches, Asks}
 use Rattle.clock2q.specs.Table.{IsTable}
 use Rattle.clock2q.proofs.Tidy.{length-homes_of, tidy-layout, tidy-total, tidy-room, capacity-lt, layout-only}
 use Rattle.clock2q.proofs.Rebuild.{length-put_all, total-put_all, put_all-push, total-no_entries}

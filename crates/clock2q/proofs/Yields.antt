@@ -1,12 +1,12 @@
 -- Lookups: the candidates that a walk has passed, those that are left, and the slots that it reads.
-use Rattle.std.proofs.Common.{◌≡◌, ◌≢◌, ℕ, zero, suc, ◌+◌, ◌-◌, ◌%◌, ◌<◌, ◌≤◌, ◌⊎◌, inl, inr, refl, ap, sym, ◌∙◌, subst, arith, Bool, true, false, cond, ◌==◌, eqb, eq-eqb, List, [], ◌∷◌, ◌++◌, map, filter, length, Option, Some, None, IfSome}
+use Rattle.std.proofs.Common.{◌≡◌, ◌≢◌, ℕ, zero, suc, ◌+◌, ◌-◌, ◌%◌, ◌<◌, ◌≤◌, inl, inr, refl, ap, sym, ◌∙◌, subst, arith, cond, ◌==◌, eq-eqb, List, [], ◌∷◌, ◌++◌, map, length, Option, Some, None, IfSome}
 use Rattle.std.proofs.lemmas.Bool.{cases_lt}
 use Rattle.std.proofs.lemmas.Bool.Decides.{eqb_tells}
 use Rattle.std.proofs.lemmas.List.Elements.{filter-append}
-use Rattle.clock2q.specs.Homes.{top, listed, count, candidates}
-use Rattle.clock2q.specs.Layout.{Placed, placed, slot_at, reach, at_home, met, homes_of, walk, spill_of, IsOrdered, IsTidy}
-use Rattle.clock2q.specs.Candidates.{matching, left_from, unread_from, IsLookup, IsNextCandidate}
-use Rattle.clock2q.specs.Slots.{Mark, mark_of}
+use Rattle.clock2q.specs.Homes.{top, candidates}
+use Rattle.clock2q.specs.Layout.{Placed, placed, slot_at, reach, at_home, met, homes_of, walk, IsOrdered, IsTidy}
+use Rattle.clock2q.specs.Candidates.{matching, left_from, IsLookup, IsNextCandidate}
+use Rattle.clock2q.specs.Slots.{mark_of}
 use Rattle.clock2q.specs.Table.{IsTable}
 use Rattle.clock2q.proofs.Laid.{at_home-other, met-last, met-add}
 use Rattle.clock2q.proofs.Walk.{Stops, after, stop}

@@ -1,5 +1,5 @@
 -- Candidates offered to a closure, up to the first that it accepts.
-use Rattle.std.specs.Prelude.{◌≡◌, ℕ, Bool, true, false, List, [], ◌∷◌, Option, Some, None, Result, Ok, Err, MatchBool, MatchOption, MatchResult}
+use Rattle.std.specs.Prelude.{◌≡◌, ℕ, Bool, true, false, List, [], ◌∷◌, Option, Some, None, Result, Ok, MatchBool, MatchResult}
 use Rattle.std.specs.Fn.{Called, Mut}
 use Rattle.clock2q.specs.Homes.{inserted}
 use Rattle.clock2q.specs.Layout.{IsTooLong}

@@ -1,8 +1,8 @@
 -- A closure that gives held handles their hashes again.
-use Rattle.std.specs.Prelude.{◌≡◌, ℕ, ◌<◌, List, [], ◌∷◌, length, slice_get, Some, map}
+use Rattle.std.specs.Prelude.{◌≡◌, ℕ, List, [], ◌∷◌, slice_get, Some, map}
 use Rattle.std.specs.Fn.{Called, Takes, Mut}
 use Rattle.clock2q.specs.Homes.{listed}
-use Rattle.clock2q.specs.Layout.{Placed, entries, layout}
+use Rattle.clock2q.specs.Layout.{entries, layout}
 use Rattle.clock2q.specs.TableStep.{IsHashOf}
 
 -- some entry holds the handle

@@ -1,4 +1,4 @@
-use Rattle.std.proofs.Common.{◌≡◌, ◌<◌, ◌≤◌, ◌%◌, ℕ, length, Some, None, refl, sym, ap, ◌∙◌, subst, arith}
+use Rattle.std.proofs.Common.{◌<◌, length, Some, None, refl, sym, ap, ◌∙◌, subst, arith}
 use Rattle.clock2q.specs.Homes.{total, capacity, candidates}
 use Rattle.clock2q.specs.Layout.{homes_of, IsBestPlaced}
 use Rattle.clock2q.specs.Offers.{Offers}

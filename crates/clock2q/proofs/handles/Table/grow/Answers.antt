@@ -1,7 +1,7 @@
-use Rattle.std.proofs.Common.{◌≡◌, ◌<◌, ◌≤◌, ◌*◌, ℕ, length, max, sym, ap, ◌∙◌, subst, arith}
+use Rattle.std.proofs.Common.{◌≡◌, ◌<◌, ◌≤◌, ℕ, length, sym, ap, ◌∙◌, subst, arith}
 use Rattle.clock2q.specs.Homes.{total, capacity}
-use Rattle.clock2q.specs.Layout.{homes_of, IsBestPlaced}
-use Rattle.clock2q.specs.TableStep.{rebuilt, doubled}
+use Rattle.clock2q.specs.Layout.{IsBestPlaced}
+use Rattle.clock2q.specs.TableStep.{rebuilt}
 use Rattle.clock2q.specs.Slots.{IsSlotCount}
 use Rattle.clock2q.proofs.Tidy.{length-homes_of, tidy-room}
 use Rattle.clock2q.proofs.Steps.{table-best}

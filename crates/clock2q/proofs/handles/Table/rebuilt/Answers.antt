@@ -1,9 +1,9 @@
-use Rattle.std.proofs.Common.{◌≡◌, ◌+◌, ◌<◌, ◌≤◌, ◌*◌, ℕ, [], ◌∷◌, ◌++◌, List, map, take, length, refl, sym, ap, ◌∙◌, subst, arith}
+use Rattle.std.proofs.Common.{◌≡◌, ◌+◌, ◌<◌, [], ◌∷◌, ◌++◌, map, take, length, refl, sym, ap, ◌∙◌, subst, arith}
 use Rattle.std.specs.Fn.{Called}
-use Rattle.clock2q.specs.Homes.{total, capacity, no_entries, inserted}
-use Rattle.clock2q.specs.Layout.{homes_of, entries, reach, slot_at, layout, IsTooLong}
-use Rattle.clock2q.specs.TableStep.{put_all, IsHashOf}
-use Rattle.clock2q.specs.Rehash.{AnswersBy, Asks, Reaches, IsHeld, held_handles}
+use Rattle.clock2q.specs.Homes.{no_entries}
+use Rattle.clock2q.specs.Layout.{homes_of, entries, slot_at, layout}
+use Rattle.clock2q.specs.TableStep.{put_all}
+use Rattle.clock2q.specs.Rehash.{Asks, Reaches, IsHeld, held_handles}
 use Rattle.clock2q.specs.Table.{IsTable}
 use Rattle.clock2q.proofs.Tidy.{tidy-layout}
 use Rattle.clock2q.proofs.Hashes.{entries-all}

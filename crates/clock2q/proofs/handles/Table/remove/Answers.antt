@@ -1,10 +1,8 @@
-use Rattle.std.proofs.Common.{◌≡◌, ◌<◌, ◌≤◌, ◌+◌, ◌-◌, ◌%◌, false, true, refl, sym, ap, ◌∙◌, subst, arith, ℕ, length}
+use Rattle.std.proofs.Common.{◌≡◌, ◌≤◌, ◌+◌, ◌-◌, false, true, sym, ap, ◌∙◌, subst, arith}
 use Rattle.std.specs.List.{list_any}
-use Rattle.clock2q.specs.Homes.{total, capacity, listed, removed, is_entry_of}
+use Rattle.clock2q.specs.Homes.{listed, removed, is_entry_of}
 use Rattle.clock2q.specs.Layout.{homes_of, reach, slot_at, walk, run, IsBestPlaced}
-use Rattle.clock2q.specs.TableStep.{table_value}
-use Rattle.clock2q.specs.Table.{IsTable}
-use Rattle.clock2q.proofs.Tidy.{length-homes_of, tidy-room}
+use Rattle.clock2q.proofs.Tidy.{tidy-room}
 use Rattle.clock2q.proofs.Walk.{passed}
 use Rattle.clock2q.proofs.Removals.{removed-none, removed-walk}
 use Rattle.clock2q.proofs.Steps.{listed-home, table-best, removal}

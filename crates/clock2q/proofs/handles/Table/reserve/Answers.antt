@@ -1,7 +1,6 @@
-use Rattle.std.proofs.Common.{◌≡◌, ◌<◌, ◌≤◌, ◌+◌, ◌*◌, ℕ, length, refl, sym, ap, ◌∙◌, subst, arith}
+use Rattle.std.proofs.Common.{◌≡◌, ◌<◌, ◌≤◌, ◌+◌, ℕ, refl, sym, subst, arith}
 use Rattle.clock2q.specs.Homes.{total, capacity, count}
 use Rattle.clock2q.specs.Layout.{spill_of, IsBestPlaced}
-use Rattle.clock2q.specs.TableStep.{rebuilt, IsShortOf}
 use Rattle.clock2q.proofs.Placement.{best-placed}
 use Rattle.clock2q.proofs.Tidy.{capacity-lt}
 use Rattle.clock2q.proofs.TooLong.{rebuilt-reach}

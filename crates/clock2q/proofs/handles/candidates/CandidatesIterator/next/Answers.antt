@@ -1,6 +1,6 @@
-use Rattle.std.proofs.Common.{◌≡◌, ℕ, ◌+◌, ◌-◌, ◌%◌, ◌<◌, ◌≤◌, ◌⊎◌, inl, inr, length, [], ◌∷◌, arith, sym, ap, ◌∙◌, subst, IfSome, below_more}
-use Rattle.clock2q.specs.Layout.{homes_of, reach, slot_at, walk}
-use Rattle.clock2q.specs.Candidates.{IsLookup, IsNextCandidate, left_from, unread_from}
+use Rattle.std.proofs.Common.{◌≡◌, ℕ, ◌+◌, ◌<◌, length, arith, sym, ap, ◌∙◌, subst, below_more}
+use Rattle.clock2q.specs.Layout.{reach, slot_at}
+use Rattle.clock2q.specs.Candidates.{left_from, unread_from}
 use Rattle.clock2q.proofs.Yields.{left_none, left_past, walk-home, walk-le, yielded, yielded-read, yields_progress}
 use Rattle.clock2q.proofs.handles.candidates.CandidatesIterator.next.Goals as goal
 

@@ -1,7 +1,6 @@
-use Rattle.std.proofs.Common.{◌≡◌, ◌+◌, ◌-◌, ◌<◌, ◌≤◌, ◌⊎◌, inl, inr, ℕ, [], length, arith, sym, ap, ◌∙◌, below_more}
+use Rattle.std.proofs.Common.{◌≡◌, ◌+◌, ◌<◌, ◌≤◌, inl, inr, ℕ, length, arith, sym, ◌∙◌, below_more}
 use Rattle.std.proofs.lemmas.Bool.{cases_lt}
-use Rattle.clock2q.specs.Candidates.{IsNextCandidate, matching}
-use Rattle.clock2q.specs.Layout.{reach, slot_at, met, homes_of, walk}
+use Rattle.clock2q.specs.Layout.{reach, slot_at}
 use Rattle.clock2q.proofs.Moves.{reach_told, walk_goes_on, refused, less_than_lap}
 use Rattle.clock2q.proofs.Yields.{candidate_entry, matching-other, matching-more, matching-end, walk-at, walk-le}
 use Rattle.clock2q.proofs.handles.slots.Slots.candidate.Goals as goal

@@ -1,8 +1,7 @@
-use Rattle.std.proofs.Common.{◌≡◌, ◌+◌, ◌<◌, ◌≤◌, ℕ, false, length, arith, sym, ap, ◌∙◌, refl, below_more}
+use Rattle.std.proofs.Common.{◌≡◌, ◌+◌, ℕ, length, arith, sym, ap, ◌∙◌, below_more}
 use Rattle.std.specs.List.{list_any}
-use Rattle.clock2q.specs.Homes.{top, is_entry_of, listed}
-use Rattle.clock2q.specs.Found.{Finds}
-use Rattle.clock2q.specs.Layout.{reach, slot_at, met, homes_of}
+use Rattle.clock2q.specs.Homes.{top, is_entry_of}
+use Rattle.clock2q.specs.Layout.{slot_at, met}
 use Rattle.clock2q.proofs.Tidy.{listed-homes_of}
 use Rattle.clock2q.proofs.Finding.{met_all, none_more, candidate, is_entry_of-candidate, any-other, any-failed}
 use Rattle.clock2q.proofs.Moves.{reach_told, walk_goes_on, refused}

@@ -1,4 +1,4 @@
-use Rattle.std.proofs.Common.{◌≡◌, ℕ, ◌+◌, ◌<◌, false, length}
+use Rattle.std.proofs.Common.{◌≡◌, ℕ, ◌+◌, ◌<◌, false}
 use Rattle.std.specs.List.{list_any}
 use Rattle.clock2q.specs.Homes.{is_entry_of}
 use Rattle.clock2q.specs.Layout.{met, reach, slot_at}

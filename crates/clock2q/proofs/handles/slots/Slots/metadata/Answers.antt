@@ -1,9 +1,7 @@
-use Rattle.std.proofs.Common.{◌≡◌, ◌+◌, ◌%◌, ◌<◌, ◌≤◌, ℕ, None, length, ◌-◌, bit_and, arith, sym, ap, ◌∙◌, refl, subst}
-use Rattle.std.proofs.Math.ListN.{set, replicate}
-use Rattle.std.proofs.lemmas.Nat.{mod_below}
+use Rattle.std.proofs.Common.{◌≡◌, ◌+◌, ◌%◌, length, arith, sym, ap, ◌∙◌, subst}
 use Rattle.clock2q.specs.Layout.{slot_at}
-use Rattle.clock2q.specs.Slots.{slots_value, cell, cells, told, mark_of, IsSlotCount}
-use Rattle.clock2q.proofs.Cells.{slot_mask, length-cells, get_or-cells, set-cells, cells-replicate, mark_read, handle_read}
+use Rattle.clock2q.specs.Slots.{told, mark_of}
+use Rattle.clock2q.proofs.Cells.{length-cells, mark_read}
 use Rattle.clock2q.proofs.handles.slots.Slots.metadata.Goals as goal
 
 pub index-requires : goal.index-requires

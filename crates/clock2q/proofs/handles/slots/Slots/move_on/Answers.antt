@@ -1,6 +1,6 @@
-use Rattle.std.proofs.Common.{◌≡◌, ◌+◌, ◌-◌, ◌%◌, ◌<◌, ◌≤◌, ℕ, length, set, arith, ap, ◌∙◌, sym, subst}
+use Rattle.std.proofs.Common.{◌≡◌, ◌+◌, ◌-◌, ◌%◌, ℕ, length, arith, ap, ◌∙◌, sym, subst}
 use Rattle.std.proofs.Math.ListN.{length-set}
-use Rattle.clock2q.specs.Layout.{reach, slot_at}
+use Rattle.clock2q.specs.Layout.{slot_at}
 use Rattle.clock2q.specs.Slots.{cell, told}
 use Rattle.clock2q.proofs.Moves.{Moving, moving_more, cell-mark_on}
 use Rattle.clock2q.proofs.handles.slots.Slots.move_on.Goals as goal

@@ -1,4 +1,4 @@
-use Rattle.std.proofs.Common.{◌≡◌, ℕ, suc, ◌+◌, ◌-◌, ◌<◌, ◌≤◌, length}
+use Rattle.std.proofs.Common.{◌≡◌, ◌+◌, ◌-◌, ◌≤◌, length}
 use Rattle.clock2q.specs.Layout.{slot_at}
 use Rattle.clock2q.proofs.Moves.{Moving}
 use Rattle.clock2q.proofs.handles.slots.Slots.move_on.Given as goal

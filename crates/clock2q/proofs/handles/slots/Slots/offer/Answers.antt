@@ -1,4 +1,4 @@
-use Rattle.std.proofs.Common.{◌≡◌, ◌+◌, ◌<◌, ◌≤◌, ℕ, length, true, false, Some, None, refl, sym, ap, ◌∙◌, subst, arith, below_more}
+use Rattle.std.proofs.Common.{◌+◌, ◌<◌, ◌≤◌, ℕ, length, true, false, Some, None, refl, sym, ◌∙◌, subst, arith, below_more}
 use Rattle.std.specs.Fn.{Called}
 use denote.Param.Always.{always_mut, mut_next}
 use Rattle.clock2q.specs.Layout.{reach, slot_at}

@@ -1,6 +1,6 @@
-use Rattle.std.proofs.Common.{◌≡◌, ◌+◌, ◌<◌, ◌≤◌, ℕ, length, arith, ap, sym, subst}
+use Rattle.std.proofs.Common.{◌≡◌, ℕ, length, arith, ap, sym, subst}
 use Rattle.clock2q.specs.Homes.{top}
-use Rattle.clock2q.specs.Layout.{reach, slot_at}
+use Rattle.clock2q.specs.Layout.{slot_at}
 use Rattle.clock2q.specs.Slots.{cell, told}
 use Rattle.clock2q.specs.Shifts.{Opens}
 use Rattle.clock2q.proofs.Moves.{Moving, opened, vacancy_same}

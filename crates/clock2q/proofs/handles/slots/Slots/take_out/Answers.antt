@@ -1,8 +1,8 @@
-use Rattle.std.proofs.Common.{◌≡◌, ◌+◌, ◌%◌, ◌<◌, ◌≤◌, ℕ, suc, length, set, arith, ap, ◌∙◌, sym, subst, below_more}
+use Rattle.std.proofs.Common.{◌≡◌, ◌+◌, ◌%◌, ◌<◌, ℕ, suc, length, arith, ap, ◌∙◌, sym, subst, below_more}
 use Rattle.std.proofs.Math.ListN.{length-set}
 use Rattle.clock2q.specs.Layout.{reach, slot_at}
 use Rattle.clock2q.specs.Slots.{cell, told}
-use Rattle.clock2q.specs.Shifts.{Closes, Opens}
+use Rattle.clock2q.specs.Shifts.{Opens}
 use Rattle.clock2q.proofs.Moves.{MovingBack, moving_back_more, closed, cell-mark_back, reach_told, near_told, less_than_lap}
 use Rattle.clock2q.proofs.handles.slots.Slots.take_out.Goals as goal
 

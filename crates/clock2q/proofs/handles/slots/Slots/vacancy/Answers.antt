@@ -1,4 +1,4 @@
-use Rattle.std.proofs.Common.{◌≡◌, ◌+◌, ◌<◌, ◌≤◌, ℕ, length, arith, below_more}
+use Rattle.std.proofs.Common.{◌+◌, ◌<◌, ◌≤◌, ℕ, arith, below_more}
 use Rattle.clock2q.specs.Layout.{reach, slot_at}
 use Rattle.clock2q.proofs.Moves.{occupied_told, reach_told, less_than_lap}
 use Rattle.clock2q.proofs.handles.slots.Slots.vacancy.Goals as goal
