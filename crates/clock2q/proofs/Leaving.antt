@@ -14,7 +14,7 @@ use Rattle.clock2q.specs.Rings.{has, without, AllBelow}
 use Rattle.clock2q.specs.Links.{LinkState, IsLinked, IsQueue, IsSameBut, IsSameElsewhere, Detaches, slot_at, record_at, next_at, previous_at, standing_at, bit_at, place_at, accessed, with_place}
 use Rattle.clock2q.specs.Ends.{place_freed, end_after}
 use Rattle.clock2q.specs.Small.{IsSmall, IsSmallQueue, IsInSmall, small_slots, small_entries, age_of, age_at}
-use Rattle.clock2q.proofs.Slots.{changed}
+use Rattle.clock2q.proofs.Records.{changed}
 use Rattle.clock2q.proofs.Rings.{IsRing-kept, eqb_self}
 use Rattle.clock2q.proofs.Queues.{Removes, Removes-detached, map-agree, is_first, not_first, first_gone, first_stays, last_gone, last_stays, in_bounds, previous_in, next_in, filter-entries, has-without, has-without-back, length-without}
 use Rattle.clock2q.proofs.Window.{small_slots-is, IsSmallQueue-from}

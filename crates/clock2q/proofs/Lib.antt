@@ -8,5 +8,5 @@ pub mod Main
 pub mod Queues
 pub mod Resetting
 pub mod Rings
-pub mod Slots
+pub mod Records
 pub mod Window

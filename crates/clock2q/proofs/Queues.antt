@@ -12,7 +12,7 @@ use Rattle.clock2q.specs.declared.links.Standing.{Standing}
 use Rattle.clock2q.specs.Rings.{has, without, AllApart, AllBelow, Joins, IsRing, around}
 use Rattle.clock2q.specs.Links.{LinkState, IsLinked, IsQueue, IsSameBut, IsSameElsewhere, Attaches, Detaches, slots_from, slot_at, record_at, next_at, previous_at, standing_at, bit_at, accessed, with_record, with_bit, vacant}
 use Rattle.clock2q.proofs.Rings.{eqb_self, eqb_swap, or_left, or_right, or_parts, or_neither, has-append, has_first, has_later, differs, AllApart-append, AllApart-left, AllApart-right, apart_from, AllApart-turned, AllBelow-append, AllBelow-left, AllBelow-right, below_of, parted, IsRing-kept, IsRing-put, IsRing-taken, IsRing-turned, before_end, Joins_parts, around-ring, without-parted}
-use Rattle.clock2q.proofs.Slots.{changed, kept}
+use Rattle.clock2q.proofs.Records.{changed, kept}
 
 -- Slots
 

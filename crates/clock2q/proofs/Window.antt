@@ -12,7 +12,7 @@ use Rattle.clock2q.specs.declared.small.Small.{Small}
 use Rattle.clock2q.specs.Rings.{has, without, AllApart, AllBelow}
 use Rattle.clock2q.specs.Links.{LinkState, IsBlank, IsLinked, IsQueue, IsSameBut, IsSameElsewhere, Attaches, Detaches, slots_from, slot_at, record_at, next_at, previous_at, standing_at, bit_at, place_at, accessed, with_record, with_place}
 use Rattle.clock2q.specs.Small.{IsSmall, IsSmallQueue, IsInSmall, GrowsOld, small_slots, small_entries, admissions_since, moved_on, age_of, age_at, admitted, is_there}
-use Rattle.clock2q.proofs.Slots.{changed}
+use Rattle.clock2q.proofs.Records.{changed}
 use Rattle.clock2q.proofs.Rings.{IsRing-kept, eqb_self, eqb_swap, or_left, or_right, or_parts, or_neither, has-append, has_first, has_later, differs}
 use Rattle.clock2q.proofs.Queues.{Inserts, Inserts-before, Inserts-first, Removes, Removes-detached, map-agree, slots_from-is, IsLinked-kept, IsLinked-turned, room, in_bounds, previous_in, next_in, filter-entries, has-without, length-without, same_slot}
 

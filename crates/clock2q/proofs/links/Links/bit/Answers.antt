@@ -1,6 +1,6 @@
 use Rattle.std.proofs.Common.{◌≡◌, length, false, sym, ◌∙◌, arith}
 use Rattle.std.proofs.lemmas.List.{get_or_read}
-use Rattle.clock2q.proofs.Slots.{within_bits, bit_read}
+use Rattle.clock2q.proofs.Records.{within_bits, bit_read}
 use Rattle.clock2q.proofs.links.Links.bit.Goals as goal
 
 pub index-requires : goal.index-requires

@@ -1,6 +1,6 @@
 use Rattle.std.proofs.Common.{◌≡◌, length, false, sym, ap, ◌∙◌, arith}
 use Rattle.std.proofs.lemmas.List.{get_or_read}
-use Rattle.clock2q.proofs.Slots.{within_bits, bit_read, bit_inspected}
+use Rattle.clock2q.proofs.Records.{within_bits, bit_read, bit_inspected}
 use Rattle.clock2q.proofs.links.Links.inspect.Goals as goal
 
 pub index-was_set-requires : goal.index-was_set-requires

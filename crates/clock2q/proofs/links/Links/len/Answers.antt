@@ -1,6 +1,6 @@
 use Rattle.std.proofs.Common.{◌≡◌, length, sym, ap, ◌∙◌}
 use Rattle.clock2q.specs.Links.{LinkState}
-use Rattle.clock2q.proofs.Slots.{length_pairs}
+use Rattle.clock2q.proofs.Records.{length_pairs}
 use Rattle.clock2q.proofs.links.Links.len.Goals as goal
 
 pub returns : goal.returns

@@ -1,7 +1,7 @@
 use Rattle.std.proofs.Common.{◌≡◌, ℕ, List, Option, None, Bool, false, replicate, rules}
 use Rattle.clock2q.specs.declared.links.Record.{Record}
 use Rattle.clock2q.specs.Links.{vacant}
-use Rattle.clock2q.proofs.Slots.{shown-fresh}
+use Rattle.clock2q.proofs.Records.{shown-fresh}
 use Rattle.clock2q.proofs.links.Links.new.Goals as goal
 
 pub returns : goal.returns

@@ -1,7 +1,7 @@
 use Rattle.std.proofs.Common.{◌≡◌, length, sym, ◌∙◌, arith}
 use Rattle.std.proofs.lemmas.List.{get_or_read}
 use Rattle.clock2q.specs.Links.{vacant}
-use Rattle.clock2q.proofs.Slots.{within, record_read}
+use Rattle.clock2q.proofs.Records.{within, record_read}
 use Rattle.clock2q.proofs.links.Links.read.Goals as goal
 
 pub index-requires : goal.index-requires

@@ -1,5 +1,5 @@
 use Rattle.std.proofs.Common.{◌≡◌, length, sym, ◌∙◌, arith}
-use Rattle.clock2q.proofs.Slots.{within_bits, bit_written}
+use Rattle.clock2q.proofs.Records.{within_bits, bit_written}
 use Rattle.clock2q.proofs.links.Links.set_bit.Goals as goal
 
 pub index_mut-requires : goal.index_mut-requires

@@ -1,5 +1,5 @@
 use Rattle.std.proofs.Common.{◌≡◌, length, sym, ◌∙◌, arith}
-use Rattle.clock2q.proofs.Slots.{within, record_written}
+use Rattle.clock2q.proofs.Records.{within, record_written}
 use Rattle.clock2q.proofs.links.Links.write.Goals as goal
 
 pub index_mut-requires : goal.index_mut-requires
