@@ -13,3 +13,11 @@ pub mod Links
 pub mod MainRing
 pub mod Rings
 pub mod Small
+pub mod Homes
+pub mod Layout
+pub mod TableStep
+pub mod Slots
+pub mod Table
+pub mod Shifts
+pub mod Found
+pub mod Partition

@@ -4,6 +4,9 @@
 pub mod cache;
 pub mod command;
 mod count;
+mod handles;
 mod links;
 mod main_ring;
 mod small;
+
+pub use handles::{Candidates, Table, TableError, partition};

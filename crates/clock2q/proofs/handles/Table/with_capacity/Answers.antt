@@ -1,0 +1,22 @@
+use Rattle.std.proofs.Common.{◌≡◌, ◌<◌, ◌≤◌, ◌+◌, ◌-◌, ◌*◌, ◌/◌, ◌^◌, [], refl, sym, ap, ◌∙◌, subst, arith, ℕ, length}
+use Rattle.clock2q.specs.Homes.{total, capacity, no_entries}
+use Rattle.clock2q.specs.Layout.{homes_of, layout}
+use Rattle.clock2q.specs.TableStep.{fit, table_value, made_for}
+use Rattle.clock2q.specs.Slots.{IsSlotCount}
+use Rattle.clock2q.specs.Table.{IsTable, IsWhole}
+use Rattle.clock2q.proofs.Tidy.{length-homes_of}
+use Rattle.clock2q.proofs.Tables.{table-empty, view-empty, layout-nothing, made_for-some, table-whole, capacity_quarters}
+use Rattle.clock2q.proofs.handles.Table.with_capacity.Goals as goal
+
+pub returns-then-entries-eq0-clause-made : goal.returns-then-entries-eq0-clause-made
+returns-then-entries-eq0-clause-made g c =
+    let none : c.args.entries ≡ 0 = c.if-entries-eq0.true in
+    c.new.ensures ∙ ap (λ s. table_value [] s 0) (sym (layout-nothing _ 0)) ∙ ap (λ n. table_value (made_for n) (layout (made_for n)) 0) (sym none)
+
+pub invariant_of-result : goal.invariant_of-result
+invariant_of-result g c = subst (λ s. IsTable s.slots 0) (sym c.in-Ok.ensures) (table-empty _ c.in-Some.count c.in-Some.ensures.power)
+
+pub returns-clause-made : goal.returns-clause-made
+returns-clause-made g c =
+    let lists = made_for-some _ c.args.entries (omega (arith, c.if-entries-eq0.false)) in
+    ap (λ s. table_value (homes_of s.slots) s.slots s.writes) c.in-Ok.ensures ∙ view-empty _ c.in-Some.count ∙ ap (λ n. table_value (no_entries n) (layout (no_entries n)) 0) c.in-Some.ensures.count ∙ ap (λ hs. table_value hs (layout hs) 0) (sym lists)

@@ -1,0 +1,287 @@
+//! A multimap from hashes of 64 bits to handles that its caller owns.
+
+ghost use Rattle.clock2q.specs.Slots.{IsSlotCount};
+ghost use Rattle.clock2q.specs.TableStep.{fit};
+ghost use Rattle.std.specs.Prelude.{◌≡◌, ◌≢◌, ◌%◌, ◌^◌, ◌<◌, ◌≤◌, ◌+◌, ◌↔◌, ℕ, [], IsTrue, IsOk, IsOkUnless, IsErrOf, OnOk, OnErr, IfOk, IfSome, MatchOption, length};
+ghost use Rattle.std.specs.Bool.{OnFalse};
+
+mod candidates;
+mod metadata;
+mod partitions;
+mod runs;
+mod slots;
+#[cfg(test)]
+mod tests;
+
+pub use candidates::Candidates;
+pub use partitions::partition;
+
+use slots::Slots;
+use std::alloc::{Allocator, Global};
+use std::fmt;
+use std::marker::Model;
+use thiserror::Error;
+
+/// Why a call of a [Table] was refused.
+#[derive(Debug, Clone, Copy, PartialEq, Eq, Error)]
+pub enum TableError {
+    /// Memory for the slots can't be had.
+    #[error("no memory")]
+    Memory,
+    /// The entries, or the slots for them, are too many to count.
+    #[error("size refused")]
+    Size,
+    /// An entry would stand more than 2^24 - 2 slots past its home.
+    #[error("run too long")]
+    RunTooLong,
+}
+
+/// The least number of slots.
+const MIN_SLOTS: usize = 16;
+
+/// A multimap from hashes of 64 bits to handles. See the [module documentation](self).
+#[derive(Drop)]
+pub struct Table<H: Copy + Eq + Default, A: Allocator = Global> {
+    slots: Slots<H, A>,
+    len: usize,
+}
+
+impl<H: Copy + Eq + Default, A: Allocator> Model for Table<H, A> {
+    ghost use Rattle.clock2q.specs.Layout.{homes_of};
+    ghost use Rattle.clock2q.specs.Table.{IsTable};
+    ghost use Rattle.clock2q.specs.TableStep.{TableValue, table_code, table_value};
+
+    ghost Value = { TableValue H };
+
+    ghost coded = { table_code H.code };
+
+    ghost view = { λ t. table_value (homes_of t.slots.slots) t.slots.slots t.slots.writes };
+
+    ghost invariant = { λ t. IsTable t.slots.slots t.len };
+}
+
+/// The least slot count in which `entries` entries fit, if it can be counted.
+fn slots_for(entries: usize) -> Option<usize>
+    ensures count { MatchOption result (2 ^ 64 ≤ fit entries) (λ count. count ≡ fit entries) }
+    ensures power { IfSome result IsSlotCount }
+{
+    let quarter = entries.div_ceil(3).checked_next_power_of_two()?;
+    let Some(count) = quarter.checked_mul(4) else {
+        return None;
+    };
+    Some(count.max(MIN_SLOTS))
+}
+
+impl<H: Copy + Eq + Default, A: Allocator + Copy> Table<H, A> {
+    ghost use Rattle.clock2q.specs.Homes.{total, capacity, inserted};
+    ghost use Rattle.clock2q.specs.Layout.{layout, slot_at, reach, run, IsTooLong, IsBestPlaced};
+    ghost use Rattle.clock2q.specs.TableStep.{table_value, made_for};
+
+    /// An empty table with no slots, which takes no memory.
+    pub fn new(alloc: A) -> Table<H, A>
+        ensures { result ≡ table_value [] [] 0 }
+    {
+        Table {
+            slots: Slots::new(alloc),
+            len: 0,
+        }
+    }
+
+    /// An empty table that takes `entries` entries without growing.
+    ///
+    /// # Errors
+    ///
+    /// `Size` where the slots are too many to count, and `Memory` where they can't be had.
+    pub fn with_capacity(alloc: A, entries: usize) -> Result<Table<H, A>, TableError>
+        ensures made { IfOk result (λ t. t ≡ table_value (made_for entries) (layout (made_for entries)) 0) }
+        ensures size { IsErrOf result TableError.Size ↔ ((0 < entries) × (2 ^ 64 ≤ fit entries)) }
+        ensures only { result ≢ Err TableError.RunTooLong }
+        ensures none { entries ≡ 0 → IsOk result }
+    {
+        if entries == 0 {
+            return Ok(Table::new(alloc));
+        }
+        let Some(count) = slots_for(entries) else {
+            return Err(TableError::Size);
+        };
+        let Ok(slots) = Slots::with_count(alloc, count) else {
+            return Err(TableError::Memory);
+        };
+        Ok(Table { slots, len: 0 })
+    }
+
+    /// Makes room for `additional` entries more, so that putting them in doesn't grow the table.
+    pub fn reserve<F: FnMut(H) -> u64>(
+        &mut self,
+        additional: usize,
+        rehash: F,
+    ) -> Result<(), TableError> {
+        let entries = self.len.checked_add(additional).ok_or(TableError::Size)?;
+        if entries > self.capacity() {
+            let count = slots_for(entries).ok_or(TableError::Size)?;
+            self.rebuild(count, rehash)?;
+        }
+        Ok(())
+    }
+
+    /// Puts `handle` in under `hash`.
+    pub fn insert<F: FnMut(H) -> u64>(
+        &mut self,
+        hash: u64,
+        handle: H,
+        rehash: F,
+    ) -> Result<(), TableError> {
+        if self.len == self.capacity() {
+            self.grow(rehash)?;
+        }
+        let home = self.slots.home(hash);
+        let distance = self.slots.end(home);
+        self.place(home, distance, hash, handle)
+    }
+
+    /// The first candidate of `hash` that `matches` accepts, and false; or, where it accepts none,
+    /// `handle`, which is put in under `hash`, and true.
+    pub fn find_or_insert<M: FnMut(H) -> bool, F: FnMut(H) -> u64>(
+        &mut self,
+        hash: u64,
+        matches: M,
+        handle: H,
+        rehash: F,
+    ) -> Result<(H, bool), TableError> {
+        if self.len == self.capacity() {
+            self.grow(rehash)?;
+        }
+        let home = self.slots.home(hash);
+        match self.slots.offer(hash, matches) {
+            Ok(found) => Ok((found, false)),
+            Err(distance) => {
+                self.place(home, distance, hash, handle)?;
+                Ok((handle, true))
+            }
+        }
+    }
+
+    /// Puts an entry in where the walk for it ended.
+    fn place(&mut self, home: usize, distance: usize, hash: u64, handle: H) -> Result<(), TableError>
+        requires room { total self.old.homes < capacity (length self.old.homes) }
+        requires home { home ≡ hash % length self.old.slots }
+        requires within { distance < length self.old.slots }
+        requires passed { (j : ℕ) → j < distance → j < reach (slot_at self.old.slots (home + j)) }
+        requires stop { reach (slot_at self.old.slots (home + distance)) ≤ distance }
+        ensures ok { OnOk result (self.new.homes ≡ inserted self.old.homes hash handle) }
+        ensures short { OnOk result (IsTooLong (inserted self.old.homes hash handle) → ⊥) }
+        ensures long { OnErr result (IsTooLong (inserted self.old.homes hash handle)) }
+        ensures err { OnErr result (self.new ≡ self.old) }
+        ensures only { IsOkUnless result TableError.RunTooLong }
+        ensures counted { self.old.writes ≤ self.new.writes }
+        ensures writes { self.new.writes ≤ self.old.writes + run self.old.slots hash + 1 }
+        ensures best { IsBestPlaced self.new.homes }
+    {
+        if !self.slots.put_in(home, distance, hash, handle) {
+            return Err(TableError::RunTooLong);
+        }
+        self.len += 1;
+        Ok(())
+    }
+
+    fn grow<F: FnMut(H) -> u64>(&mut self, rehash: F) -> Result<(), TableError> {
+        let count = (self.slots.count() * 2).max(MIN_SLOTS);
+        self.rebuild(count, rehash)
+    }
+
+    fn rebuild<F: FnMut(H) -> u64>(
+        &mut self,
+        count: usize,
+        mut rehash: F,
+    ) -> Result<(), TableError> {
+        let alloc = self.slots.allocator();
+        let made = Slots::with_count(alloc, count).map_err(|_| TableError::Memory)?;
+        let mut table = Table {
+            slots: made,
+            len: 0,
+        };
+        for slot in 0..self.slots.count() {
+            if !self.slots.metadata(0, slot).is_empty() {
+                let handle = self.slots.handle(0, slot);
+                let hash = rehash(handle);
+                let home = table.slots.home(hash);
+                let distance = table.slots.end(home);
+                table.place(home, distance, hash, handle)?;
+            }
+        }
+        *self = table;
+        Ok(())
+    }
+}
+
+impl<H: Copy + Eq + Default, A: Allocator> Table<H, A> {
+    ghost use Rattle.clock2q.specs.Homes.{total, capacity, listed, removed, is_entry_of};
+    ghost use Rattle.clock2q.specs.Layout.{run, walk, IsBestPlaced};
+    ghost use Rattle.std.specs.List.{list_any};
+    ghost use Rattle.clock2q.specs.Table.{IsWhole};
+
+    /// How many entries there are.
+    pub fn len(&self) -> usize
+        ensures len { result ≡ total self.now.homes }
+        ensures whole { IsWhole self.now }
+    {
+        self.len
+    }
+
+    /// Whether there is no entry.
+    pub fn is_empty(&self) -> bool
+        ensures { IsTrue result ↔ (total self.now.homes ≡ 0) }
+    {
+        self.len() == 0
+    }
+
+    /// How many entries fit before the table grows.
+    pub fn capacity(&self) -> usize
+        ensures { result ≡ capacity (length self.now.homes) }
+    {
+        self.slots.count() / 4 * 3
+    }
+
+    /// The handles whose home and fingerprint are those of `hash`, in the order of their slots.
+    pub fn get(&self, hash: u64) -> Candidates<'_, H, A> {
+        Candidates::new(&self.slots, hash)
+    }
+
+    /// Says that `hash` is looked up next. It changes nothing.
+    pub fn prefetch(&self, hash: u64) {
+        let _ = hash;
+    }
+
+    /// Takes the first candidate of `hash` that equals `handle` out, and answers whether there was
+    /// one.
+    pub fn remove(&mut self, hash: u64, handle: H) -> bool
+        ensures removed { self.new.homes ≡ removed H.PartialEq.eq self.old.homes hash handle }
+        ensures found { result ≡ list_any (is_entry_of H.PartialEq.eq hash handle) (listed self.old.homes hash) }
+        ensures none { OnFalse result (self.new ≡ self.old) }
+
+        // It writes no more slots than the run of `hash` has.
+        ensures counted { self.old.writes ≤ self.new.writes }
+        ensures writes { self.new.writes ≤ self.old.writes + run self.old.slots hash }
+
+        // No placement of the entries that are left does better, and no walk is longer.
+        ensures best { IsBestPlaced self.new.homes }
+        ensures shorter { (x : ℕ) → walk self.new.homes x ≤ walk self.old.homes x }
+    {
+        let home = self.slots.home(hash);
+        let Some(distance) = self.slots.find(home, hash, handle) else {
+            return false;
+        };
+        self.slots.take_out(home, distance);
+        self.len -= 1;
+        true
+    }
+}
+
+impl<H: Copy + Eq + Default, A: Allocator> fmt::Debug for Table<H, A> {
+    fn fmt<W: fmt::Write>(&self, f: &mut fmt::Formatter<W>) -> fmt::Result {
+        f.debug_struct("Table")
+            .field("len", &self.len)
+            .field("slots", &self.slots.count())
+            .finish()
+    }
+}
