@@ -6,6 +6,7 @@ pub mod Hand
 pub mod Leaving
 pub mod Main
 pub mod Queues
+pub mod Orders
 pub mod Resetting
 pub mod Rings
 pub mod Records

@@ -13,6 +13,7 @@ pub mod Links
 pub mod MainRing
 pub mod Rings
 pub mod Small
+pub mod Order
 pub mod Homes
 pub mod Layout
 pub mod TableStep
