@@ -36,7 +36,7 @@ module _ {E : Type 0} where
       ap (λ s. list_any test (at_home s d)) is ∙ ap (λ b. list_any test (cond b (e ∷ []) [])) (eq-eqb d d refl) ∙ ap (λ b. b || false) fails
 
 -- marks that are the same have the same parts
-mark_parts : (s t : ℕ × ℕ) → ◌≡◌ {A = Mark} (Some s) (Some t) → (s.0 ≡ t.0) × (s.1 ≡ t.1)
+pub mark_parts : (s t : ℕ × ℕ) → ◌≡◌ {A = Mark} (Some s) (Some t) → (s.0 ≡ t.0) × (s.1 ≡ t.1)
 mark_parts s t e = (cc, cc)
 
 module _ {H : Type 0} (x : ℕ) where

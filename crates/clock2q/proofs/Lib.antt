@@ -37,4 +37,6 @@ pub mod Removals
 pub mod Hashes
 pub mod Steps
 pub mod Insertions
+pub mod Yields
+pub mod Rebuilds
 pub mod Lookups

@@ -21,4 +21,6 @@ pub mod Slots
 pub mod Table
 pub mod Shifts
 pub mod Found
+pub mod Rehash
+pub mod Candidates
 pub mod Partition

@@ -2,7 +2,7 @@
 
 ghost use Rattle.clock2q.specs.Slots.{IsSlotCount};
 ghost use Rattle.clock2q.specs.TableStep.{fit};
-ghost use Rattle.std.specs.Prelude.{◌≡◌, ◌≢◌, ◌%◌, ◌^◌, ◌<◌, ◌≤◌, ◌+◌, ◌↔◌, ℕ, [], IsTrue, IsOk, IsOkUnless, IsErrOf, OnOk, OnErr, IfOk, IfSome, MatchOption, length};
+ghost use Rattle.std.specs.Prelude.{◌≡◌, ◌≢◌, ◌*◌, ◌%◌, ◌^◌, ◌<◌, ◌≤◌, ◌+◌, ◌↔◌, ℕ, [], IsTrue, IsOk, IsOkUnless, IsErrOf, OnOk, OnErr, IfOk, IfSome, MatchOption, length};
 ghost use Rattle.std.specs.Bool.{OnFalse};
 
 mod candidates;
@@ -75,7 +75,8 @@ fn slots_for(entries: usize) -> Option<usize>
 impl<H: Copy + Eq + Default, A: Allocator + Copy> Table<H, A> {
     ghost use Rattle.clock2q.specs.Homes.{total, capacity, inserted};
     ghost use Rattle.clock2q.specs.Layout.{layout, slot_at, reach, run, IsTooLong, IsBestPlaced};
-    ghost use Rattle.clock2q.specs.TableStep.{table_value, made_for};
+    ghost use Rattle.clock2q.specs.Rehash.{AnswersBy, Asks, IsHeld, held_handles};
+    ghost use Rattle.clock2q.specs.TableStep.{table_value, made_for, rebuilt, IsHashOf};
 
     /// An empty table with no slots, which takes no memory.
     pub fn new(alloc: A) -> Table<H, A>
@@ -110,57 +111,6 @@ impl<H: Copy + Eq + Default, A: Allocator + Copy> Table<H, A> {
         Ok(Table { slots, len: 0 })
     }
 
-    /// Makes room for `additional` entries more, so that putting them in doesn't grow the table.
-    pub fn reserve<F: FnMut(H) -> u64>(
-        &mut self,
-        additional: usize,
-        rehash: F,
-    ) -> Result<(), TableError> {
-        let entries = self.len.checked_add(additional).ok_or(TableError::Size)?;
-        if entries > self.capacity() {
-            let count = slots_for(entries).ok_or(TableError::Size)?;
-            self.rebuild(count, rehash)?;
-        }
-        Ok(())
-    }
-
-    /// Puts `handle` in under `hash`.
-    pub fn insert<F: FnMut(H) -> u64>(
-        &mut self,
-        hash: u64,
-        handle: H,
-        rehash: F,
-    ) -> Result<(), TableError> {
-        if self.len == self.capacity() {
-            self.grow(rehash)?;
-        }
-        let home = self.slots.home(hash);
-        let distance = self.slots.end(home);
-        self.place(home, distance, hash, handle)
-    }
-
-    /// The first candidate of `hash` that `matches` accepts, and false; or, where it accepts none,
-    /// `handle`, which is put in under `hash`, and true.
-    pub fn find_or_insert<M: FnMut(H) -> bool, F: FnMut(H) -> u64>(
-        &mut self,
-        hash: u64,
-        matches: M,
-        handle: H,
-        rehash: F,
-    ) -> Result<(H, bool), TableError> {
-        if self.len == self.capacity() {
-            self.grow(rehash)?;
-        }
-        let home = self.slots.home(hash);
-        match self.slots.offer(hash, matches) {
-            Ok(found) => Ok((found, false)),
-            Err(distance) => {
-                self.place(home, distance, hash, handle)?;
-                Ok((handle, true))
-            }
-        }
-    }
-
     /// Puts an entry in where the walk for it ended.
     fn place(&mut self, home: usize, distance: usize, hash: u64, handle: H) -> Result<(), TableError>
         requires room { total self.old.homes < capacity (length self.old.homes) }
@@ -184,38 +134,55 @@ impl<H: Copy + Eq + Default, A: Allocator + Copy> Table<H, A> {
         Ok(())
     }
 
-    fn grow<F: FnMut(H) -> u64>(&mut self, rehash: F) -> Result<(), TableError> {
-        let count = (self.slots.count() * 2).max(MIN_SLOTS);
-        self.rebuild(count, rehash)
+    /// Puts an entry in, in a table that has room for it.
+    fn put(&mut self, hash: u64, handle: H) -> Result<(), TableError>
+        requires { total self.old.homes < capacity (length self.old.homes) }
+        ensures ok { OnOk result (self.new.homes ≡ inserted self.old.homes hash handle) }
+        ensures short { OnOk result (IsTooLong (inserted self.old.homes hash handle) → ⊥) }
+        ensures long { OnErr result (IsTooLong (inserted self.old.homes hash handle)) }
+        ensures err { OnErr result (self.new ≡ self.old) }
+        ensures only { IsOkUnless result TableError.RunTooLong }
+        ensures counted { self.old.writes ≤ self.new.writes }
+        ensures writes { self.new.writes ≤ self.old.writes + run self.old.slots hash + 1 }
+        ensures best { IsBestPlaced self.new.homes }
+    {
+        let home = self.slots.home(hash);
+        let distance = self.slots.end(home);
+        self.place(home, distance, hash, handle)
     }
 
-    fn rebuild<F: FnMut(H) -> u64>(
-        &mut self,
-        count: usize,
-        mut rehash: F,
-    ) -> Result<(), TableError> {
-        let alloc = self.slots.allocator();
-        let made = Slots::with_count(alloc, count).map_err(|_| TableError::Memory)?;
-        let mut table = Table {
-            slots: made,
-            len: 0,
+    /// The same entries in another count of slots, each under the hash that `rehash` gives its
+    /// handle.
+    fn rebuilt<F: FnMut(H) -> u64>(&self, count: usize, mut rehash: F) -> Result<Table<H, A>, TableError>
+        requires count { IsSlotCount count }
+        requires fits { total self.now.homes ≤ capacity count }
+        requires multiple { 0 < length self.now.homes → (k : ℕ) × (count ≡ k * length self.now.homes) }
+        requires asked { (key : H → ℕ) × AnswersBy F.FnMut key (IsHeld self.now.homes) rehash × IsHashOf key self.now.homes }
+        ensures made {
+            IfOk result (λ t. (key : H → ℕ) → AnswersBy F.FnMut key (IsHeld self.now.homes) rehash → IsHashOf key self.now.homes → t.homes ≡ rebuilt key count self.now.homes)
+        }
+        ensures asks {
+            OnOk result ((key : H → ℕ) → AnswersBy F.FnMut key (IsHeld self.now.homes) rehash → IsHashOf key self.now.homes → (last : F) × Asks F.FnMut key rehash (held_handles self.now.homes) last)
+        }
+        ensures only { IsOkUnless result TableError.Memory }
+    {
+        let Ok(slots) = Slots::with_count(self.slots.allocator(), count) else {
+            return Err(TableError::Memory);
         };
+        let mut table = Table { slots, len: 0 };
         for slot in 0..self.slots.count() {
             if !self.slots.metadata(0, slot).is_empty() {
                 let handle = self.slots.handle(0, slot);
                 let hash = rehash(handle);
-                let home = table.slots.home(hash);
-                let distance = table.slots.end(home);
-                table.place(home, distance, hash, handle)?;
+                table.put(hash, handle)?;
             }
         }
-        *self = table;
-        Ok(())
+        Ok(table)
     }
 }
 
 impl<H: Copy + Eq + Default, A: Allocator> Table<H, A> {
-    ghost use Rattle.clock2q.specs.Homes.{total, capacity, listed, removed, is_entry_of};
+    ghost use Rattle.clock2q.specs.Homes.{total, capacity, listed, candidates, removed, is_entry_of};
     ghost use Rattle.clock2q.specs.Layout.{run, walk, IsBestPlaced};
     ghost use Rattle.std.specs.List.{list_any};
     ghost use Rattle.clock2q.specs.Table.{IsWhole};
@@ -243,7 +210,13 @@ impl<H: Copy + Eq + Default, A: Allocator> Table<H, A> {
     }
 
     /// The handles whose home and fingerprint are those of `hash`, in the order of their slots.
-    pub fn get(&self, hash: u64) -> Candidates<'_, H, A> {
+    pub fn get(&self, hash: u64) -> Candidates<'_, H, A>
+        ensures candidates { result.left ≡ candidates self.now.homes hash }
+
+        // A lookup that is drained reads all of its walk, and none of it is read yet.
+        ensures reads { result.reads ≡ 0 }
+        ensures unread { result.unread ≡ walk self.now.homes hash }
+    {
         Candidates::new(&self.slots, hash)
     }
 

@@ -1,0 +1,20 @@
+use Rattle.std.proofs.Common.{◌≡◌, ◌<◌, ◌≤◌, ◌+◌, ◌-◌, ◌%◌, ℕ, length, sym, ap, ◌∙◌, subst, arith, refl}
+use Rattle.clock2q.specs.Homes.{listed, candidates}
+use Rattle.clock2q.specs.Layout.{homes_of, met, reach, slot_at, walk}
+use Rattle.clock2q.specs.Candidates.{IsLookup, left_from, unread_from}
+use Rattle.clock2q.proofs.Yields.{lookup_start, left_at_start}
+use Rattle.clock2q.proofs.handles.Table.get.Goals as goal
+
+pub new-requires : goal.new-requires
+new-requires g c = lookup_start c.self.inside.slots.slots c.args.hash c.self.inside.len c.self.invariant
+
+pub returns-clause-candidates : goal.returns-clause-candidates
+returns-clause-candidates g c = ap (λ t. t.left) c.new.ensures ∙ left_at_start c.self.inside.slots.slots c.args.hash ∙ ap (λ t. candidates t.homes c.args.hash) c.self.view_is
+
+pub returns-clause-reads : goal.returns-clause-reads
+returns-clause-reads g c = ap (λ t. t.reads) c.new.ensures
+
+pub returns-clause-unread : goal.returns-clause-unread
+returns-clause-unread g c =
+    let whole : walk (homes_of c.self.inside.slots.slots) c.args.hash - 0 ≡ walk (homes_of c.self.inside.slots.slots) c.args.hash = omega arith in
+    ap (λ t. t.unread) c.new.ensures ∙ whole ∙ ap (λ t. walk t.homes c.args.hash) c.self.view_is
