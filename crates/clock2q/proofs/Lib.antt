@@ -7,6 +7,7 @@ pub mod Leaving
 pub mod Main
 pub mod Queues
 pub mod Orders
+pub mod Places
 pub mod Resetting
 pub mod Rings
 pub mod Records

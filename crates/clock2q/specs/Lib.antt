@@ -14,6 +14,8 @@ pub mod MainRing
 pub mod Rings
 pub mod Small
 pub mod Order
+pub mod Keys
+pub mod History
 pub mod Homes
 pub mod Layout
 pub mod TableStep

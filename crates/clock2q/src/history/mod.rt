@@ -44,7 +44,7 @@ impl<K: Drop, A: Allocator + Copy> History<K, A> {
         }
         let place = self.make_place();
         self.keys.write(place, hash, key);
-        let _ = self.index.insert(hash, place, |_| hash);
+        let _ = self.index.put(hash, place);
     }
 
     // Puts a place in front, in a full history that of the oldest key.
