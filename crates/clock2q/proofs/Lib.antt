@@ -8,6 +8,7 @@ pub mod Main
 pub mod Queues
 pub mod Orders
 pub mod Places
+pub mod Indexes
 pub mod Resetting
 pub mod Rings
 pub mod Records

@@ -97,10 +97,7 @@ IsOrder-from l newest len chain ps fs o =
 
 pub IsWholeOrder-from : (l : LinkState) (newest : Option ℕ) (len : ℕ) (chain : Chain) → IsOrder l newest len chain
   → IsWholeOrder (record { places = slots_from l newest len; free = free_places l chain; limit = length l.slots; accesses = l.accesses })
-IsWholeOrder-from l newest len chain o =
-    let ps = slots_from l newest len in
-    let fs = free_places l chain in
-    record { apart = AllApart-left ps fs o.apart; below = AllBelow-left (length ps + length fs) ps fs o.below; within = o.within; countable = o.queue.countable }
+IsWholeOrder-from l newest len chain o = record { apart = o.apart; below = o.below; within = o.within; countable = o.queue.countable }
 
 -- The chain
 

@@ -45,7 +45,7 @@ IsOrder l newest len chain = IsOrderOf l newest len chain (slots_from l newest l
 
 -- what callers may rely on: no place stands twice, each was used, and no more were used than there are
 pub record IsWholeOrder (o : PlaceOrder) : Type 0 where
-  pub apart : AllApart o.places
-  pub below : AllBelow (used o) o.places
+  pub apart : AllApart (o.places ++ o.free)
+  pub below : AllBelow (used o) (o.places ++ o.free)
   pub within : used o ≤ o.limit
   pub countable : o.limit < 2 ^ 64

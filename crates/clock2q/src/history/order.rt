@@ -77,7 +77,8 @@ impl<A: Allocator> Order<A> {
     pub fn new(alloc: A, limit: usize) -> Result<Self, AllocError>
     where
         A: Clone,
-        ensures { IfOk result (λ o. o ≡ unused limit) }
+        ensures made { IfOk result (λ o. o ≡ unused limit) }
+        ensures whole { IfOk result IsWholeOrder }
     {
         Ok(Order {
             links: Links::new(alloc, limit, 0)?,
@@ -105,6 +106,7 @@ impl<A: Allocator> Order<A> {
     /// Puts a place in front: the head of the chain, or else the next one that was not used yet.
     pub fn push(&mut self) -> usize
         requires { length self.old.places < self.old.limit }
+        ensures whole { IsWholeOrder self.new }
         ensures place { result ≡ next_place self.old }
         ensures places { self.new.places ≡ result ∷ self.old.places }
         ensures free { self.new.free ≡ drop 1 self.old.free }
@@ -127,6 +129,7 @@ impl<A: Allocator> Order<A> {
     /// Moves the last place to the front, for a new key instead of the oldest.
     pub fn reuse_oldest(&mut self) -> usize
         requires { 0 < length self.old.places }
+        ensures whole { IsWholeOrder self.new }
         ensures oldest { last_or None self.old.places ≡ Some result }
         ensures places { self.new.places ≡ result ∷ take (length self.old.places - 1) self.old.places }
         ensures free { self.new.free ≡ self.old.free }
@@ -142,6 +145,7 @@ impl<A: Allocator> Order<A> {
     /// Takes a place out, to the head of the chain.
     pub fn unlink(&mut self, place: usize)
         requires { has place self.old.places ≡ true }
+        ensures whole { IsWholeOrder self.new }
         ensures places { self.new.places ≡ without place self.old.places }
         ensures free { self.new.free ≡ place ∷ self.old.free }
         ensures limit { self.new.limit ≡ self.old.limit }
@@ -157,6 +161,7 @@ impl<A: Allocator> Order<A> {
 
     /// Leaves no place in the order, and none used.
     pub fn clear(&mut self)
+        ensures whole { IsWholeOrder self.new }
         ensures places { self.new.places ≡ [] }
         ensures free { self.new.free ≡ [] }
         ensures limit { self.new.limit ≡ self.old.limit }
