@@ -26,7 +26,7 @@ swap_tests true false true = refl
 swap_tests true false false = refl
 swap_tests false b n = refl
 
-has-without_test : (t p : ℕ) (ss : List ℕ) → has t (without p ss) ≡ (has t ss && not (eqb t p))
+pub has-without_test : (t p : ℕ) (ss : List ℕ) → has t (without p ss) ≡ (has t ss && not (eqb t p))
 has-without_test t p [] = refl
 has-without_test t p (s ∷ ss) = elim (cases_Bool (eqb s p)) [
     inl e ↦ elim (cases_Bool (eqb t s)) [
@@ -97,6 +97,9 @@ any-candidate x p (e ∷ es) = elim (cases_Bool (eqb e.0 (top x))) [
         | inr f ↦ e ∙ sym f ] ]
 
 -- The index
+
+pub length-taken : (index : List (List (ℕ × ℕ))) (hash place : ℕ) → length (removed eqb index hash place) ≡ length index
+length-taken index hash place = length-with_list index hash (without_first (is_entry_of eqb hash place) (listed index hash))
 
 alike_parts : (index : List (List (ℕ × ℕ))) (x y : ℕ) → is_alike index x y ≡ true → (home index x ≡ home index y) × (top x ≡ top y)
 alike_parts index x y h =
@@ -171,11 +174,8 @@ module _ {K : Type 0} where
   -- a place is taken out, if it was there
   module _ (index : List (List (ℕ × ℕ))) (keys : List (ℕ × K)) (places : List ℕ) (place hash : ℕ) (i : IsIndex index keys places) (some : 0 < length index)
     (apart : AllApart places) (at : hash_at keys place ≡ Some hash) where
-    length-taken : length (removed eqb index hash place) ≡ length index
-    length-taken = length-with_list index hash (without_first (is_entry_of eqb hash place) (listed index hash))
-
     named-taken : (x q : ℕ) → is_named (removed eqb index hash place) keys x q ≡ is_named index keys x q
-    named-taken x q = named-length index (removed eqb index hash place) keys x q length-taken
+    named-taken x q = named-length index (removed eqb index hash place) keys x q (length-taken index hash place)
 
     listed-taken : (x q : ℕ) → has q (candidates (removed eqb index hash place) x) ≡ (has q (without place places) && is_named (removed eqb index hash place) keys x q)
     listed-taken x q =

@@ -9,6 +9,7 @@ pub mod Queues
 pub mod Orders
 pub mod Places
 pub mod Indexes
+pub mod Histories
 pub mod Resetting
 pub mod Rings
 pub mod Records

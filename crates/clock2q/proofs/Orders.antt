@@ -27,6 +27,15 @@ pub length-around : (next : ℕ → ℕ) (first count : ℕ) → length (around 
 length-around next first zero = refl
 length-around next first (suc count) = ap (λ n. suc n) (length-around next (next first) count)
 
+pub take_front : (xs : List ℕ) (x : ℕ) → take (length (xs ++ x ∷ []) - 1) (xs ++ x ∷ []) ≡ xs
+take_front xs x =
+    let n : length (xs ++ x ∷ []) - 1 ≡ length xs = omega (arith, length-append xs (x ∷ [])) in
+    ap (λ z. take z (xs ++ x ∷ [])) n ∙ take_of xs
+  where
+    take_of : (ys : List ℕ) → take (length ys) (ys ++ x ∷ []) ≡ ys
+    take_of [] = refl
+    take_of (y ∷ ys) = ap (λ zs. y ∷ zs) (take_of ys)
+
 AllBelow-from : (n : ℕ) (ss : List ℕ) → ((t : ℕ) → has t ss ≡ true → t < n) → AllBelow n ss
 AllBelow-from n [] h = tt
 AllBelow-from n (s ∷ ss) h = (h s (has_first s ss), AllBelow-from n ss (λ t g. h t (has_later t s ss g)))
@@ -215,15 +224,6 @@ module _ (l : LinkState) (newest : Option ℕ) (len : ℕ) (chain : Chain) (o : 
   ends_in : (ss : List ℕ) (x : ℕ) → last_or None ss ≡ Some x → (xs : List ℕ) × (ss ≡ xs ++ x ∷ [])
   ends_in [] x e = absurd (cc)
   ends_in (s ∷ ss) x e = split_last ss s x e
-
-  take_front : (xs : List ℕ) (x : ℕ) → take (length (xs ++ x ∷ []) - 1) (xs ++ x ∷ []) ≡ xs
-  take_front xs x =
-      let n : length (xs ++ x ∷ []) - 1 ≡ length xs = omega (arith, length-append xs (x ∷ [])) in
-      ap (λ z. take z (xs ++ x ∷ [])) n ∙ take_of xs
-    where
-      take_of : (ys : List ℕ) → take (length ys) (ys ++ x ∷ []) ≡ ys
-      take_of [] = refl
-      take_of (y ∷ ys) = ap (λ zs. y ∷ zs) (take_of ys)
 
   pub reuses : (new : LinkState) (first oldest : ℕ) → new ≡ accessed l → newest ≡ Some first → oldest ≡ previous_at l first → Reuses new oldest
   reuses new first oldest w is e =

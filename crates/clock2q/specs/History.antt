@@ -1,11 +1,11 @@
 -- The history as a list of keys, newest first, and the index that has each key's place under its hash.
-use Rattle.std.specs.Prelude.{◌≡◌, ℕ, ◌+◌, ◌*◌, ◌^◌, ◌<◌, ◌≤◌, Bool, true, false, not, ◌&&◌, ◌==◌, List, [], ◌∷◌, map, length, take, slice_get, Option, Some, None}
+use Rattle.std.specs.Prelude.{◌≡◌, ℕ, ◌+◌, ◌-◌, ◌^◌, max, ◌<◌, ◌≤◌, Bool, true, false, not, ◌&&◌, ◌==◌, List, [], ◌∷◌, map, length, take, slice_get, Option, Some, None}
 use Rattle.std.specs.List.{filter, filter_map, list_any, AllByRecursion}
 use Rattle.std.specs.Coded.{Coded, code_by, coded×, coded_ℕ, coded_list}
-use Rattle.clock2q.specs.Rings.{has, AllApart, AllBelow}
+use Rattle.clock2q.specs.Rings.{has, AllApart}
 use Rattle.clock2q.specs.Homes.{top, home, capacity, candidates, total}
 use Rattle.clock2q.specs.Keys.{KeyPlaces, hash_at}
-use Rattle.clock2q.specs.Order.{PlaceOrder, used}
+use Rattle.clock2q.specs.Order.{PlaceOrder, IsWholeOrder, used}
 use mathlib.Core.Path.{refl}
 
 -- the keys, newest first, each with its hash; how many there may be; the index's lists by home; and how often links were accessed and keys were asked about
@@ -58,13 +58,33 @@ module _ {K : Type 0} (eq : K → K → Bool) where
 abbrev pub entries_of : {K : Type 0} → List (ℕ × K) → List ℕ → List (ℕ × K)
 entries_of keys places = filter_map (λ place. slice_get keys place) places
 
--- what a history keeps: a key at each place that was used, the index of those in order, and room for as many as there may be
-pub record IsHistory {K : Type 0} (index : List (List (ℕ × ℕ))) (order : PlaceOrder) (keys : KeyPlaces K) : Type 0 where
+-- what a history keeps: the keys are distinct, one stands at each place that was used, the index has those in order, and there is room for as many as there may be
+pub record IsHistory {K : Type 0} (eq : K → K → Bool) (index : List (List (ℕ × ℕ))) (order : PlaceOrder) (keys : KeyPlaces K) : Type 0 where
+  pub whole : IsWholeOrder order
   pub indexed : IsIndex index keys.remembered order.places
+  pub distinct : AllDistinct eq (entries_of keys.remembered order.places)
   pub as_many : length keys.remembered ≡ used order
   pub room : order.limit ≤ keys.room
   pub fits : order.limit ≤ capacity (length index)
   pub short : order.limit < 2 ^ 24
+
+-- what callers may rely on: the keys are distinct and no more than there may be, and each of them stands at a place that the index has under its hash, with nothing else
+pub record IsWholeHistory {K : Type 0} (eq : K → K → Bool) (h : Remembered K) : Type 0 where
+  pub distinct : AllDistinct eq h.entries
+  pub within : length h.entries ≤ h.limit
+  pub indexed : (keys : List (ℕ × K)) × (places : List ℕ) × (h.entries ≡ entries_of keys places) × (length h.entries ≡ length places) × IsIndex h.index keys places
+
+-- a place was put in front for a new key: an order that was full lost its last place, and the index that place's key
+pub record MakesPlace {K : Type 0} (index index' : List (List (ℕ × ℕ))) (order order' : PlaceOrder) (keys : List (ℕ × K)) (place : ℕ) : Type 0 where
+  pub places : order'.places ≡ place ∷ take (order.limit - 1) order.places
+  pub absent : has place (take (order.limit - 1) order.places) ≡ false
+  pub indexed : IsIndex index' keys (take (order.limit - 1) order.places)
+  pub as_many : length index' ≡ length index
+  pub next : place ≤ length keys
+  pub below : place < order.limit
+  pub used_now : used order' ≡ max (length keys) (place + 1)
+  pub limit : order'.limit ≡ order.limit
+  pub accesses : order'.accesses ≤ order.accesses + 7
 
 -- how often links were accessed: the records, and each key that was written to a place
 abbrev pub accesses_of : {K : Type 0} → PlaceOrder → KeyPlaces K → ℕ
