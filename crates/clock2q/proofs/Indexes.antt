@@ -14,7 +14,7 @@ use Rattle.clock2q.proofs.Lookups.{candidates-inserted, candidates-inserted_othe
 
 -- Lists
 
-and_parts : (x y : Bool) → (x && y) ≡ true → (x ≡ true) × (y ≡ true)
+pub and_parts : (x y : Bool) → (x && y) ≡ true → (x ≡ true) × (y ≡ true)
 and_parts true true h = (refl, refl)
 and_parts true false h = absurd (both_ways false refl h)
 and_parts false y h = absurd (both_ways false refl h)
@@ -98,6 +98,12 @@ any-candidate x p (e ∷ es) = elim (cases_Bool (eqb e.0 (top x))) [
 
 -- The index
 
+pub length-put : (index : List (List (ℕ × ℕ))) (hash place : ℕ) → length (inserted index hash place) ≡ length index
+length-put index hash place = length-with_list index hash (listed index hash ++ (top hash, place) ∷ [])
+
+pub total-put : (index : List (List (ℕ × ℕ))) (hash place : ℕ) → 0 < length index → total (inserted index hash place) ≡ total index + 1
+total-put index hash place some = omega (arith, total-with_list index hash (listed index hash ++ (top hash, place) ∷ []) some, length-append (listed index hash) ((top hash, place) ∷ []))
+
 pub length-taken : (index : List (List (ℕ × ℕ))) (hash place : ℕ) → length (removed eqb index hash place) ≡ length index
 length-taken index hash place = length-with_list index hash (without_first (is_entry_of eqb hash place) (listed index hash))
 
@@ -116,18 +122,18 @@ module _ {K : Type 0} where
   named-as : (index : List (List (ℕ × ℕ))) (keys : List (ℕ × K)) (x place hash : ℕ) → hash_at keys place ≡ Some hash → is_named index keys x place ≡ is_alike index x hash
   named-as index keys x place hash at = ap (λ z. elim z [ None ↦ false | Some y ↦ is_alike index x y ]) at
 
+  pub named-own : (index : List (List (ℕ × ℕ))) (keys : List (ℕ × K)) (hash place : ℕ) → hash_at keys place ≡ Some hash → is_named index keys hash place ≡ true
+  named-own index keys hash place at = named-as index keys hash place hash at ∙ rw (eqb_self (home index hash), eqb_self (top hash)) refl
+
   named-kept : (index : List (List (ℕ × ℕ))) (keys keys' : List (ℕ × K)) (x place : ℕ) → hash_at keys' place ≡ hash_at keys place → is_named index keys' x place ≡ is_named index keys x place
   named-kept index keys keys' x place e = ap (λ z. elim z [ None ↦ false | Some y ↦ is_alike index x y ]) e
 
   -- a place that wasn't there is put in under a hash, which is that of the key that now stands there
   module _ (index : List (List (ℕ × ℕ))) (keys keys' : List (ℕ × K)) (places : List ℕ) (place hash : ℕ) (i : IsIndex index keys places) (some : 0 < length index)
     (absent : has place places ≡ false) (same : (q : ℕ) → has q places ≡ true → hash_at keys' q ≡ hash_at keys q) (at : hash_at keys' place ≡ Some hash) where
-    length-put : length (inserted index hash place) ≡ length index
-    length-put = length-with_list index hash (listed index hash ++ (top hash, place) ∷ [])
-
     still_named : (x q : ℕ) → (has q places && is_named index keys x q) ≡ (has q places && is_named (inserted index hash place) keys' x q)
     still_named x q = elim (cases_Bool (has q places)) [
-        inl h ↦ rw h (sym (named-length index (inserted index hash place) keys' x q length-put ∙ named-kept index keys keys' x q (same q h)))
+        inl h ↦ rw h (sym (named-length index (inserted index hash place) keys' x q (length-put index hash place) ∙ named-kept index keys keys' x q (same q h)))
       | inr h ↦ rw h refl ]
 
     listed-put : (x q : ℕ) → has q (candidates (inserted index hash place) x) ≡ (has q (place ∷ places) && is_named (inserted index hash place) keys' x q)
@@ -138,14 +144,14 @@ module _ {K : Type 0} where
           let met : has q (candidates (inserted index hash place) x) ≡ (has q (candidates index x) || (eqb q place || false)) = ap (λ z. has q z) cs ∙ has-append q (candidates index x) (place ∷ []) in
           elim (cases_Bool (eqb q place)) [
               inl e ↦
-                let n : is_named (inserted index hash place) keys' x q ≡ true = ap (λ z. is_named (inserted index hash place) keys' x z) (eqb-true q place e) ∙ named-length index (inserted index hash place) keys' x place length-put ∙ named-as index keys' x place hash at ∙ a in
+                let n : is_named (inserted index hash place) keys' x q ≡ true = ap (λ z. is_named (inserted index hash place) keys' x z) (eqb-true q place e) ∙ named-length index (inserted index hash place) keys' x place (length-put index hash place) ∙ named-as index keys' x place hash at ∙ a in
                 met ∙ rw (e, n) (or_true (has q (candidates index x)))
             | inr e ↦ met ∙ rw e (or_none (has q (candidates index x)) ∙ i.listed x q ∙ still_named x q) ]
       | inr a ↦
           let cs = candidates-inserted_other index hash x place some (not_alike index x hash a) in
           ap (λ z. has q z) cs ∙ i.listed x q ∙ elim (cases_Bool (eqb q place)) [
               inl e ↦
-                let n : is_named (inserted index hash place) keys' x q ≡ false = ap (λ z. is_named (inserted index hash place) keys' x z) (eqb-true q place e) ∙ named-length index (inserted index hash place) keys' x place length-put ∙ named-as index keys' x place hash at ∙ a in
+                let n : is_named (inserted index hash place) keys' x q ≡ false = ap (λ z. is_named (inserted index hash place) keys' x z) (eqb-true q place e) ∙ named-length index (inserted index hash place) keys' x place (length-put index hash place) ∙ named-as index keys' x place hash at ∙ a in
                 let h : has q places ≡ false = subst (λ z. has z places ≡ false) (sym (eqb-true q place e)) absent in
                 rw (e, n, h) refl
             | inr e ↦ still_named x q ∙ rw e refl ] ]
