@@ -1,18 +1,21 @@
 -- What each call makes of the history's list.
-use Rattle.std.proofs.Common.{◌≡◌, ℕ, zero, suc, ◌+◌, ◌-◌, ◌<◌, ◌≤◌, max, Bool, true, false, not, cond, ◌||◌, ◌&&◌, eqb, Option, Some, None, slice_get, List, [], ◌∷◌, ◌++◌, length, take, drop, take_all, inl, inr, refl, sym, ap, ◌∙◌, subst, arith, eqb-true}
+use Rattle.std.proofs.Common.{◌≡◌, ℕ, zero, suc, ◌+◌, ◌-◌, ◌*◌, ◌^◌, ◌<◌, ◌≤◌, max, Bool, true, false, not, cond, ◌||◌, ◌&&◌, ◌==◌, eqb, ◌⊎◌, Option, Some, None, slice_get, get_or, List, [], ◌∷◌, ◌++◌, map, length, take, drop, take_all, inl, inr, refl, sym, ap, ◌∙◌, subst, arith, eqb-true}
 use Rattle.std.specs.List.{filter, filter_map, cons_option, find, list_any, last_or, AllByRecursion}
 use Rattle.std.specs.Prelude.{Result, Ok, Err, OnOk, OnErr}
 use Rattle.std.specs.Cmp.{IsEquivalence}
-use Rattle.std.proofs.lemmas.Bool.{both_ways, cases_Bool, eq-eqb, or_cases}
-use Rattle.std.proofs.lemmas.List.{length-append, length-take, append-nil}
+use Rattle.std.proofs.lemmas.Bool.{both_ways, cases_Bool, eq-eqb, eqb-false, or_cases}
+use Rattle.std.proofs.lemmas.Bool.Decides.{leb_tells}
+use Rattle.std.proofs.lemmas.List.{length-append, length-take, length-replicate, append-nil}
 use Rattle.clock2q.specs.Rings.{has, without, AllApart, AllBelow}
-use Rattle.clock2q.specs.Homes.{candidates, total, capacity, inserted, removed}
-use Rattle.clock2q.specs.Order.{PlaceOrder, IsWholeOrder, used, next_place, place_for}
+use Rattle.clock2q.specs.Homes.{top, home, no_entries, candidates, total, capacity, inserted, removed}
+use Rattle.clock2q.specs.Order.{PlaceOrder, IsWholeOrder, unused, used, next_place, place_for}
 use Rattle.clock2q.specs.Keys.{KeyPlaces, key_places, written, is_key_at, hash_at}
-use Rattle.clock2q.specs.History.{IsIndex, IsHistory, MakesPlace, entries_of, is_remembered, forgotten, AllDistinct, HasHash, is_named, is_alike}
+use Rattle.clock2q.specs.History.{IsIndex, IsHistory, MakesPlace, entries_of, is_remembered, forgotten, IsWholeHistory, Empties, remembered, from_place, AllDistinct, HasHash, is_named}
 use Rattle.clock2q.proofs.Rings.{eqb_self, differs, or_left, or_right, or_neither, eqb_swap, has_first, has_later, or_parts, AllApart-left, AllBelow-left, below_of, without-parted, has-append}
-use Rattle.clock2q.proofs.Queues.{split_last, length-without}
+use Rattle.clock2q.proofs.Queues.{split_last, has-without, length-without}
 use Rattle.clock2q.specs.Layout.{IsTooLong}
+use Rattle.clock2q.specs.TableStep.{fit, doubled_until, made_for}
+use Rattle.clock2q.proofs.Rebuild.{total-no_entries}
 use Rattle.clock2q.proofs.TooLong.{too-long-total}
 use Rattle.clock2q.proofs.Orders.{FitsNext, FitsNext-from, take_front}
 use Rattle.clock2q.proofs.Indexes.{and_parts, named-own, total-put, length-put, length-taken, has-without_test, IsIndex-put, IsIndex-taken}
@@ -430,3 +433,122 @@ module _ {K : Type 0} (eq : K → K → Bool) where
           entries = entries;
           found = any_entry key keys.remembered order.places place e.0 place_there e.1 e.2;
         }
+
+-- A new history
+
+none_read : {E : Type 0} (m i : ℕ) → get_or (no_entries {E = E} m) i [] ≡ []
+none_read zero i = refl
+none_read (suc m) zero = refl
+none_read (suc m) (suc i) = none_read m i
+
+enough : (e k m : ℕ) → 16 ≤ m → e ≤ capacity m + k → e ≤ capacity (doubled_until e m k)
+enough e zero m l h = omega (arith, h)
+enough e (suc k) m l h = elim (leb_tells e (capacity m)) [
+    inl q ↦ rw (q.0, doubled_until) q.1
+  | inr q ↦ rw (q.0, doubled_until) (enough e k (2 * m) (omega (arith, l)) (omega (arith, l, h, q.1))) ]
+
+fits_new : (limit : ℕ) → limit ≤ capacity (length (made_for {H = ℕ} limit))
+unfolding fit
+fits_new zero = omega arith
+fits_new (suc k) =
+    let e : length (made_for {H = ℕ} (suc k)) ≡ doubled_until (suc k) 16 (suc k) = length-replicate {A = List (ℕ × ℕ)} (fit (suc k)) [] in
+    rw e (enough (suc k) (suc k) 16 (omega arith) (omega arith))
+
+none_new : (limit x : ℕ) → candidates (made_for {H = ℕ} limit) x ≡ []
+none_new zero x = refl
+none_new (suc k) x = ap (λ es. map {A = ℕ × ℕ} (λ e. e.1) (filter (λ e. e.0 == top x) es)) (none_read (fit (suc k)) (home (made_for {H = ℕ} (suc k)) x))
+
+total_new : (limit : ℕ) → total (made_for {H = ℕ} limit) ≡ 0
+total_new zero = refl
+total_new (suc k) = total-no_entries (λ (h : ℕ). h) (fit (suc k))
+
+module _ {K : Type 0} where
+  pub IsHistory-new : (eq : K → K → Bool) (limit : ℕ) (keys : KeyPlaces K) → limit < 2 ^ 24 → IsWholeOrder (unused limit) → keys.remembered ≡ [] → limit ≤ keys.room → IsHistory eq (made_for limit) (unused limit) keys
+  IsHistory-new eq limit keys short w none room = record {
+    whole = w;
+    indexed = record {
+      listed = λ x p. ap (λ z. has p z) (none_new limit x);
+      once = λ x. subst (λ z. AllApart z) (sym (none_new limit x)) tt;
+      counted = total_new limit;
+    };
+    distinct = tt;
+    as_many = ap (λ (z : List (ℕ × K)). length z) none;
+    room = room;
+    fits = fits_new limit;
+    short = short;
+  }
+
+  -- What callers see
+
+  pub entries_counted : (eq : K → K → Bool) (index : List (List (ℕ × ℕ))) (order : PlaceOrder) (keys : KeyPlaces K) → IsHistory eq index order keys → length (entries_of keys.remembered order.places) ≡ length order.places
+  entries_counted eq index order keys h = length-entries keys.remembered (used order) order.places (omega (arith, h.as_many)) (AllBelow-left (used order) order.places order.free h.whole.below)
+
+  pub IsWholeHistory-from : (eq : K → K → Bool) (index : List (List (ℕ × ℕ))) (order : PlaceOrder) (keys : KeyPlaces K) (accesses questions : ℕ) → IsHistory eq index order keys
+    → IsWholeHistory eq (remembered (entries_of keys.remembered order.places) order.limit index accesses questions)
+  IsWholeHistory-from eq index order keys accesses questions h =
+      let n = entries_counted eq index order keys h in
+      record {
+        distinct = h.distinct;
+        within = omega (arith, n, h.whole.within);
+        indexed = (keys.remembered, order.places, refl, n, h.indexed);
+      }
+
+-- Every key forgotten
+
+AllApart-without : (p : ℕ) (ss : List ℕ) → AllApart ss → AllApart (without p ss)
+AllApart-without p [] a = tt
+AllApart-without p (s ∷ ss) a = elim (cases_Bool (eqb s p)) [
+    inl e ↦ rw e (AllApart-without p ss a.1)
+  | inr e ↦ rw e ((has-without_test s p ss ∙ rw a.0 refl, AllApart-without p ss a.1)) ]
+
+apart_from_place : (n : ℕ) (ss : List ℕ) → AllApart ss → AllApart (from_place n ss)
+apart_from_place zero ss a = a
+apart_from_place (suc n) ss a = AllApart-without n (from_place n ss) (apart_from_place n ss a)
+
+has_from_place : (n t : ℕ) (ss : List ℕ) → has t (from_place n ss) ≡ true → (n ≤ t) × (has t ss ≡ true)
+has_from_place zero t ss h = (omega arith, h)
+has_from_place (suc n) t ss h =
+    let p = has-without t n (from_place n ss) h in
+    let q = has_from_place n t ss p.0 in
+    (omega (arith, q.0, eqb-false t n p.1), q.1)
+
+from_place-past : (n : ℕ) (ss : List ℕ) → AllBelow n ss → from_place n ss ≡ []
+from_place-past n ss b = none (from_place n ss) (λ t h. let p = has_from_place n t ss h in let l = below_of n ss b t p.1 in omega (arith, p.0, l))
+  where
+    none : (zs : List ℕ) → ((t : ℕ) → has t zs ≡ true → ⊥) → zs ≡ []
+    none [] f = refl
+    none (z ∷ zs) f = absurd (f z (has_first z zs))
+
+module _ {K : Type 0} where
+  pub empties-none : (index : List (List (ℕ × ℕ))) (keys : List (ℕ × K)) → Empties index index keys 0
+  empties-none index keys = record { as_many = refl; left = λ places apart i. i }
+
+  pub empties-more : (index0 index index' : List (List (ℕ × ℕ))) (keys : List (ℕ × K)) (place hash : ℕ) → Empties index0 index keys place → 0 < length index0 → hash_at keys place ≡ Some hash → index' ≡ removed eqb index hash place
+    → Empties index0 index' keys (place + 1)
+  empties-more index0 index index' keys place hash e some at is =
+      let n : place + 1 ≡ suc place = omega arith in
+      record {
+        as_many = ap (λ (z : List (List (ℕ × ℕ))). length z) is ∙ length-taken index hash place ∙ e.as_many;
+        left = λ places apart i. subst (λ z. IsIndex index' keys (from_place z places)) (sym n) (subst (λ z. IsIndex z keys (without place (from_place place places))) (sym is)
+          (IsIndex-taken index keys (from_place place places) place hash (e.left places apart i) (rw e.as_many some) (apart_from_place place places apart) at));
+      }
+
+  pub IsHistory-cleared : (eq : K → K → Bool) (index index' : List (List (ℕ × ℕ))) (order order' : PlaceOrder) (keys keys' : KeyPlaces K) → IsHistory eq index order keys
+    → Empties index index' keys.remembered (length keys.remembered) → IsWholeOrder order' → order'.places ≡ [] → order'.free ≡ [] → order'.limit ≡ order.limit
+    → keys'.remembered ≡ [] → keys'.room ≡ keys.room → IsHistory eq index' order' keys'
+  IsHistory-cleared eq index index' order order' keys keys' h e w places free limit none room =
+      let below : AllBelow (length keys.remembered) order.places = subst (λ n. AllBelow n order.places) (sym h.as_many) (AllBelow-left (used order) order.places order.free h.whole.below) in
+      let i : IsIndex index' keys.remembered [] = subst (λ z. IsIndex index' keys.remembered z) (from_place-past (length keys.remembered) order.places below) (e.left order.places (AllApart-left order.places order.free h.whole.apart) h.indexed) in
+      let j : IsIndex index' keys'.remembered [] = record { listed = i.listed; once = i.once; counted = i.counted } in
+      record {
+        whole = w;
+        indexed = subst (λ z. IsIndex index' keys'.remembered z) (sym places) j;
+        distinct = subst (λ z. AllDistinct eq (entries_of keys'.remembered z)) (sym places) tt;
+        as_many = omega (arith, ap (λ (z : List (ℕ × K)). length z) none, ap (λ (z : List ℕ). length z) places, ap (λ (z : List ℕ). length z) free);
+        room = rw (limit, room) h.room;
+        fits = rw (limit, e.as_many) h.fits;
+        short = rw limit h.short;
+      }
+
+  pub slots_there : (eq : K → K → Bool) (index : List (List (ℕ × ℕ))) (order : PlaceOrder) (keys : KeyPlaces K) → IsHistory eq index order keys → 0 < length keys.remembered → 0 < length index
+  slots_there eq index order keys h some = some_slots (length index) (omega (arith, some, h.as_many, h.whole.within, h.fits))

@@ -1,8 +1,8 @@
 -- The history as a list of keys, newest first, and the index that has each key's place under its hash.
-use Rattle.std.specs.Prelude.{◌≡◌, ℕ, ◌+◌, ◌-◌, ◌^◌, max, ◌<◌, ◌≤◌, Bool, true, false, not, ◌&&◌, ◌==◌, List, [], ◌∷◌, map, length, take, slice_get, Option, Some, None}
+use Rattle.std.specs.Prelude.{◌≡◌, ℕ, zero, suc, ◌+◌, ◌-◌, ◌^◌, max, ◌<◌, ◌≤◌, Bool, true, false, not, ◌&&◌, ◌==◌, List, [], ◌∷◌, map, length, take, slice_get, Option, Some, None}
 use Rattle.std.specs.List.{filter, filter_map, list_any, AllByRecursion}
 use Rattle.std.specs.Coded.{Coded, code_by, coded×, coded_ℕ, coded_list}
-use Rattle.clock2q.specs.Rings.{has, AllApart}
+use Rattle.clock2q.specs.Rings.{has, without, AllApart}
 use Rattle.clock2q.specs.Homes.{top, home, capacity, candidates, total}
 use Rattle.clock2q.specs.Keys.{KeyPlaces, hash_at}
 use Rattle.clock2q.specs.Order.{PlaceOrder, IsWholeOrder, used}
@@ -85,6 +85,16 @@ pub record MakesPlace {K : Type 0} (index index' : List (List (ℕ × ℕ))) (or
   pub used_now : used order' ≡ max (length keys) (place + 1)
   pub limit : order'.limit ≡ order.limit
   pub accesses : order'.accesses ≤ order.accesses + 7
+
+-- the places from the n-th on
+abbrev pub from_place : ℕ → List ℕ → List ℕ
+from_place zero places = places
+from_place (suc n) places = without n (from_place n places)
+
+-- the keys at the first n places were taken out of an index, whatever places it had
+pub record Empties {K : Type 0} (index index' : List (List (ℕ × ℕ))) (keys : List (ℕ × K)) (n : ℕ) : Type 0 where
+  pub as_many : length index' ≡ length index
+  pub left : (places : List ℕ) → AllApart places → IsIndex index keys places → IsIndex index' keys (from_place n places)
 
 -- how often links were accessed: the records, and each key that was written to a place
 abbrev pub accesses_of : {K : Type 0} → PlaceOrder → KeyPlaces K → ℕ

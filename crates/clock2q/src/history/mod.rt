@@ -3,7 +3,7 @@ ghost use Rattle.std.specs.Prelude.{◌≡◌, ℕ, ◌+◌, ◌^◌, ◌<◌, �
 ghost use Rattle.clock2q.specs.Homes.{candidates};
 ghost use Rattle.clock2q.specs.TableStep.{made_for};
 ghost use Rattle.clock2q.specs.Order.{IsWholeOrder, used};
-ghost use Rattle.clock2q.specs.History.{IsIndex, IsWholeHistory, MakesPlace, remembered, is_remembered, forgotten, HasHash};
+ghost use Rattle.clock2q.specs.History.{IsIndex, IsWholeHistory, MakesPlace, Empties, remembered, is_remembered, forgotten, HasHash};
 
 mod keys;
 mod order;
@@ -132,7 +132,10 @@ fn make_place<K: Drop, A: Allocator>(
 }
 
 // Takes every key out of the index.
-fn empty<K: Drop, A: Allocator>(index: &mut Table<usize, A>, keys: &Keys<K, A>) {
+fn empty<K: Drop, A: Allocator>(index: &mut Table<usize, A>, keys: &Keys<K, A>)
+    requires slots { 0 < length keys.now.remembered → 0 < length index.old.homes }
+    ensures emptied { Empties index.old.homes index.new.homes keys.now.remembered (length keys.now.remembered) }
+{
     for place in 0..keys.len() {
         index.remove(keys.hash(place), place);
     }
