@@ -1,10 +1,10 @@
 -- Two vectors side by side, read and written as one list of slots.
-use Rattle.std.proofs.Common.{◌≡◌, ℕ, zero, suc, ◌+◌, ◌-◌, ◌%◌, ◌^◌, ◌<◌, ◌≤◌, Bool, true, false, cond, List, [], ◌∷◌, length, get_or, take, ◌++◌, refl, sym, ap, ◌∙◌, subst, arith, Option, Some, None, IfSome}
+use Rattle.std.proofs.Common.{◌≡◌, ℕ, zero, suc, ◌+◌, ◌-◌, ◌%◌, ◌<◌, List, [], ◌∷◌, length, get_or, take, ◌++◌, refl, sym, ap, ◌∙◌, subst, arith, Some, None, IfSome}
 use Rattle.std.proofs.Math.ListN.{set, replicate}
 use Rattle.std.proofs.Math.Nat.{sub-zero}
 use Rattle.std.proofs.lemmas.Nat.{and_mask}
 use Rattle.std.specs.Int.Bits.{bit_and}
-use Rattle.clock2q.specs.Layout.{Placed, placed, slot_at}
+use Rattle.clock2q.specs.Layout.{slot_at}
 use Rattle.clock2q.specs.Slots.{Mark, told, cell, mark_of, cells, slots_value, IsSlotCount}
 use Rattle.clock2q.specs.declared.handles.metadata.Metadata.{Metadata}
 

@@ -1,14 +1,12 @@
 -- Walks that look for an entry of a home.
-use Rattle.std.proofs.Common.{◌≡◌, ◌≢◌, ℕ, zero, suc, ◌+◌, ◌-◌, ◌%◌, ◌<◌, ◌≤◌, ◌⊎◌, inl, inr, ◌↔◌, refl, ap, sym, ◌∙◌, subst, arith, Bool, true, false, IsTrue, cond, ◌&&◌, ◌||◌, eqb, eq-eqb, List, [], ◌∷◌, ◌++◌, length, Option, Some, None, IfSome}
-use Rattle.std.proofs.lemmas.Bool.{cases_lt}
+use Rattle.std.proofs.Common.{◌≡◌, ◌≢◌, ℕ, suc, ◌+◌, ◌<◌, ◌≤◌, inl, inr, refl, ap, sym, ◌∙◌, arith, Bool, false, cond, ◌&&◌, ◌||◌, eq-eqb, List, [], ◌∷◌, ◌++◌, length, Option, Some, None, IfSome}
 use Rattle.std.proofs.lemmas.Bool.Decides.{eqb_tells}
 use Rattle.std.proofs.lemmas.List.Folds.{list_any-append}
 use Rattle.std.specs.List.{list_any}
 use Rattle.clock2q.specs.Homes.{top, is_entry_of, listed}
 use Rattle.clock2q.specs.Layout.{Placed, placed, slot_at, reach, at_home, met, homes_of, IsTidy}
 use Rattle.clock2q.specs.Slots.{Mark, mark_of}
-use Rattle.clock2q.proofs.Laid.{at_home-other, met-last}
-use Rattle.clock2q.proofs.Walk.{Stops}
+use Rattle.clock2q.proofs.Laid.{met-last}
 use Rattle.clock2q.proofs.Changes.{read-met}
 
 module _ {E : Type 0} where

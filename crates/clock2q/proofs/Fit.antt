@@ -1,5 +1,5 @@
 -- The slot count for a number of entries, as it is computed.
-use Rattle.std.proofs.Common.{◌≡◌, ℕ, zero, suc, ◌+◌, ◌-◌, ◌*◌, ◌/◌, ◌%◌, ◌^◌, ◌<◌, ◌≤◌, ◌⊎◌, inl, inr, min, max, Bool, true, false, nat_le, refl, ap, sym, ◌∙◌, subst, arith}
+use Rattle.std.proofs.Common.{◌≡◌, ℕ, zero, suc, ◌+◌, ◌-◌, ◌*◌, ◌/◌, ◌^◌, ◌<◌, ◌≤◌, inl, inr, max, ap, sym, ◌∙◌, subst, arith}
 use Rattle.std.proofs.lemmas.Bool.{cases_lt}
 use Rattle.std.proofs.lemmas.Bool.Decides.{leb_tells}
 use Rattle.std.proofs.lemmas.Nat.{pow_below, pow-add, pow_pos}
@@ -77,3 +77,7 @@ slot_count_from_power p k is = record {
   ];
   least = λ _. omega arith;
 }
+
+-- and takes the entries
+pub fit_enough : (e p m : ℕ) → IsNextPowerOfTwo (div_ceil e 3) p → m ≡ max (p * 4) 16 → e ≤ capacity m
+fit_enough e p m next is = omega (arith, next.1, is)

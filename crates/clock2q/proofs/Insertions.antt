@@ -1,12 +1,11 @@
 -- What putting an entry in makes of a table, and where it is refused.
-use Rattle.std.proofs.Common.{◌≡◌, ℕ, zero, suc, ◌+◌, ◌-◌, ◌%◌, ◌^◌, ◌<◌, ◌≤◌, ◌⊎◌, inl, inr, refl, ap, sym, ◌∙◌, subst, arith, List, length, Option, Some, None}
+use Rattle.std.proofs.Common.{◌≡◌, ℕ, zero, suc, ◌+◌, ◌-◌, ◌%◌, ◌<◌, ◌≤◌, ◌⊎◌, inl, inr, refl, ap, sym, ◌∙◌, subst, arith, List, length, Option}
 use Rattle.std.proofs.lemmas.Bool.{cases_lt}
 use Rattle.clock2q.specs.Homes.{top, capacity, total, inserted}
-use Rattle.clock2q.specs.Layout.{Placed, placed, slot_at, reach, homes_of, run, IsTidy, IsTooLong}
-use Rattle.clock2q.specs.Shifts.{Opens, HasRoom, IsVacancy, moved_on}
+use Rattle.clock2q.specs.Layout.{Placed, slot_at, reach, homes_of, run, IsTooLong}
+use Rattle.clock2q.specs.Shifts.{Opens, HasRoom, IsVacancy}
 use Rattle.clock2q.specs.Slots.{IsSlotCount}
 use Rattle.clock2q.specs.Table.{IsTable}
-use Rattle.clock2q.proofs.Tidy.{length-homes_of, tidy-total}
 use Rattle.clock2q.proofs.Walk.{Stops}
 use Rattle.clock2q.proofs.Changes.{IsMovedOn, inserted-run, inserted-total, inserted-tidy, inserted-homes}
 use Rattle.clock2q.proofs.TooLong.{first-vacant, long-by-new, long-by-moved}

@@ -42,4 +42,5 @@ pub mod Steps
 pub mod Insertions
 pub mod Yields
 pub mod Rebuilds
+pub mod Growth
 pub mod Lookups

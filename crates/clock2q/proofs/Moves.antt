@@ -1,10 +1,10 @@
 -- What one write leaves in each slot, what the tests of a slot's mark say, and the loops that walk and move a run's entries.
-use Rattle.std.proofs.Common.{◌≡◌, ◌≢◌, ℕ, zero, suc, pred, ◌+◌, ◌-◌, ◌%◌, ◌<◌, ◌≤◌, ◌⊎◌, ◌↔◌, inl, inr, refl, ap, sym, ◌∙◌, subst, arith, Bool, true, false, IsTrue, List, length, set, get_or, get_or-set_same, get_or-set_other, length-set, Option, Some, None, IfSome}
+use Rattle.std.proofs.Common.{◌≡◌, ◌≢◌, ℕ, suc, pred, ◌+◌, ◌-◌, ◌%◌, ◌<◌, ◌≤◌, ◌↔◌, inl, inr, refl, ap, sym, ◌∙◌, arith, Bool, true, false, IsTrue, List, length, set, get_or, get_or-set_same, get_or-set_other, length-set, Option, Some, None, IfSome}
 use Rattle.std.proofs.lemmas.Bool.{cases_lt}
 use Rattle.std.proofs.lemmas.Nat.{mod_below}
 use Rattle.clock2q.specs.Layout.{Placed, placed, slot_at, reach, IsTidy}
-use Rattle.clock2q.specs.Shifts.{Opens, Closes, IsVacancy, moved_on}
-use Rattle.clock2q.specs.Slots.{Mark, cell, mark_of, mark_on, mark_back, mark_reach, told}
+use Rattle.clock2q.specs.Shifts.{Opens, IsVacancy, moved_on}
+use Rattle.clock2q.specs.Slots.{Mark, cell, mark_of, mark_on, mark_back, mark_reach}
 use Rattle.clock2q.proofs.Laps.{lap, lap-lt, lap-same, rems-differ}
 use Rattle.clock2q.proofs.Slots.{slot-again}
 use Rattle.clock2q.proofs.Tidy.{tidy-vacant}

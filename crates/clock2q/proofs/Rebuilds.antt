@@ -1,11 +1,11 @@
 -- A rebuild, entry by entry: the calls of the closure, and the table that has been made so far.
-use Rattle.std.proofs.Common.{◌≡◌, ℕ, zero, suc, ◌+◌, ◌-◌, ◌*◌, ◌%◌, ◌<◌, ◌≤◌, refl, ap, sym, ◌∙◌, subst, arith, List, [], ◌∷◌, ◌++◌, map, take, length, get_or, Option, Some, None, IfSome, mod-eq_of_lt, length-append}
+use Rattle.std.proofs.Common.{◌≡◌, ℕ, suc, ◌+◌, ◌*◌, ◌%◌, ◌<◌, ◌≤◌, refl, ap, sym, ◌∙◌, subst, arith, List, [], ◌∷◌, ◌++◌, map, take, length, get_or, Option, Some, None, IfSome, mod-eq_of_lt, length-append}
 use Rattle.std.proofs.lemmas.List.{map-append}
 use Rattle.std.specs.Fn.{Called, Mut}
-use Rattle.clock2q.specs.Homes.{top, capacity, total, no_entries, inserted, put_last}
-use Rattle.clock2q.specs.Layout.{Placed, placed, slot_at, reach, layout, entries, homes_of, IsTidy, IsTooLong}
+use Rattle.clock2q.specs.Homes.{capacity, total, no_entries, inserted, put_last}
+use Rattle.clock2q.specs.Layout.{Placed, slot_at, reach, entries, homes_of, IsTooLong}
 use Rattle.clock2q.specs.TableStep.{put_all, IsHashOf}
-use Rattle.clock2q.specs.Rehash.{IsHeld, held_handles, Reaches, Asks, AnswersBy}
+use Rattle.clock2q.specs.Rehash.{IsHeld, Reaches, Asks}
 use Rattle.clock2q.specs.Table.{IsTable}
 use Rattle.clock2q.proofs.Tidy.{length-homes_of, tidy-layout, tidy-total, tidy-room, capacity-lt, layout-only}
 use Rattle.clock2q.proofs.Rebuild.{length-put_all, total-put_all, put_all-push, total-no_entries}
@@ -76,7 +76,7 @@ module _ {H : Type 0} (slots : List (Option (Placed (ℕ × H)))) (len : ℕ) (t
         let room : total homes < length homes = omega (arith, tidy-room slots table.tidy, capacity-lt (length homes) (omega (arith, within, length-homes_of slots))) in
         let some : 0 < k * length homes = omega (arith, few, fits, multiple) in
         rebuilding-short key homes k (suc i) room some hashes (table-short slots len table)
-          (subst (λ hs. IsTooLong hs) (put_next hashes ∙ ap made e ∙ ap (λ n. put_all key (no_entries n) (entries (take (suc i) slots))) multiple ∙ ap (λ ss. put_all key (no_entries (k * length homes)) (entries (take (suc i) ss))) (tidy-layout slots table.tidy)) long)
+        (subst (λ hs. IsTooLong hs) (put_next hashes ∙ ap made e ∙ ap (λ n. put_all key (no_entries n) (entries (take (suc i) slots))) multiple ∙ ap (λ ss. put_all key (no_entries (k * length homes)) (entries (take (suc i) ss))) (tidy-layout slots table.tidy)) long)
 
 -- what stands in a slot that isn't empty
 some_of : {E : Type 0} (o : Option (Placed E)) → 0 < reach o → (s : Placed E) × (o ≡ Some s)

@@ -1,11 +1,11 @@
 -- What putting an entry in and taking one out make of a table.
-use Rattle.std.proofs.Common.{◌≡◌, ℕ, zero, suc, ◌+◌, ◌-◌, ◌%◌, ◌<◌, ◌≤◌, ◌⊎◌, inl, inr, refl, ap, sym, ◌∙◌, subst, arith, Bool, true, false, ◌||◌, List, [], ◌∷◌, ◌++◌, length, get_or, Option, Some, None}
+use Rattle.std.proofs.Common.{◌≡◌, ℕ, suc, ◌+◌, ◌-◌, ◌%◌, ◌<◌, ◌≤◌, inl, inr, refl, ap, sym, ◌∙◌, subst, arith, Bool, true, false, ◌||◌, List, [], ◌∷◌, ◌++◌, length, get_or, Option, Some, None}
 use Rattle.std.proofs.lemmas.List.{get_or_past}
 use Rattle.std.proofs.Math.Nat.{mod-mod}
 use Rattle.std.proofs.lemmas.Bool.{cases_lt}
 use Rattle.std.specs.List.{list_any}
-use Rattle.clock2q.specs.Homes.{top, capacity, listed, total, is_entry_of, removed, with_list}
-use Rattle.clock2q.specs.Layout.{Placed, placed, slot_at, reach, homes_of, met, run, IsTidy, IsBestPlaced}
+use Rattle.clock2q.specs.Homes.{listed, total, is_entry_of, removed, with_list}
+use Rattle.clock2q.specs.Layout.{Placed, placed, slot_at, reach, homes_of, met, run, IsBestPlaced}
 use Rattle.clock2q.specs.Shifts.{Opens, Closes, moved_on}
 use Rattle.clock2q.specs.Slots.{IsSlotCount}
 use Rattle.clock2q.specs.Table.{IsTable}

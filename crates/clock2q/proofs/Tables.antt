@@ -1,12 +1,12 @@
 -- What holds of every table, at the start and as callers see it.
-use Rattle.std.proofs.Common.{◌≡◌, ℕ, zero, suc, ◌+◌, ◌-◌, ◌*◌, ◌/◌, ◌%◌, ◌^◌, ◌<◌, ◌≤◌, ◌⊎◌, inl, inr, refl, ap, sym, ◌∙◌, subst, arith, List, [], ◌∷◌, length, get_or, replicate, Option, Some, None}
+use Rattle.std.proofs.Common.{◌≡◌, ℕ, zero, suc, ◌+◌, ◌-◌, ◌*◌, ◌/◌, ◌%◌, ◌^◌, ◌<◌, ◌≤◌, inl, inr, refl, ap, sym, ◌∙◌, subst, arith, List, [], length, get_or, replicate, Option, None}
 use Rattle.std.proofs.lemmas.Bool.{cases_lt}
 use Rattle.std.proofs.lemmas.List.{length-replicate}
 use Rattle.std.proofs.lemmas.Nat.{pow-add}
 use Rattle.std.proofs.Math.Pow.{pow_mono}
 use Rattle.clock2q.specs.Homes.{capacity, listed, count, total, no_entries}
-use Rattle.clock2q.specs.Layout.{Placed, placed, slot_at, put_from, reach, layout, layout_upto, homes_of, spill, spill_of, IsTidy, IsTooLong}
-use Rattle.clock2q.specs.TableStep.{TableValue, table_value, made_for, fit}
+use Rattle.clock2q.specs.Layout.{Placed, put_from, reach, layout, layout_upto, homes_of, spill_of, IsTidy, IsTooLong}
+use Rattle.clock2q.specs.TableStep.{table_value, made_for, fit}
 use Rattle.clock2q.specs.Slots.{IsSlotCount}
 use Rattle.clock2q.specs.Table.{IsTable, IsWhole}
 use Rattle.clock2q.proofs.Laid.{get_some}

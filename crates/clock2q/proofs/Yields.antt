@@ -1,12 +1,12 @@
 -- Lookups: the candidates that a walk has passed, those that are left, and the slots that it reads.
-use Rattle.std.proofs.Common.{◌≡◌, ◌≢◌, ℕ, zero, suc, ◌+◌, ◌-◌, ◌%◌, ◌<◌, ◌≤◌, ◌⊎◌, inl, inr, refl, ap, sym, ◌∙◌, subst, arith, Bool, true, false, cond, ◌==◌, eqb, eq-eqb, List, [], ◌∷◌, ◌++◌, map, filter, length, Option, Some, None, IfSome}
+use Rattle.std.proofs.Common.{◌≡◌, ◌≢◌, ℕ, zero, suc, ◌+◌, ◌-◌, ◌%◌, ◌<◌, ◌≤◌, inl, inr, refl, ap, sym, ◌∙◌, subst, arith, cond, ◌==◌, eq-eqb, List, [], ◌∷◌, ◌++◌, map, length, Option, Some, None, IfSome}
 use Rattle.std.proofs.lemmas.Bool.{cases_lt}
 use Rattle.std.proofs.lemmas.Bool.Decides.{eqb_tells}
 use Rattle.std.proofs.lemmas.List.Elements.{filter-append}
-use Rattle.clock2q.specs.Homes.{top, listed, count, candidates}
-use Rattle.clock2q.specs.Layout.{Placed, placed, slot_at, reach, at_home, met, homes_of, walk, spill_of, IsOrdered, IsTidy}
-use Rattle.clock2q.specs.Candidates.{matching, left_from, unread_from, IsLookup, IsNextCandidate}
-use Rattle.clock2q.specs.Slots.{Mark, mark_of}
+use Rattle.clock2q.specs.Homes.{top, candidates}
+use Rattle.clock2q.specs.Layout.{Placed, placed, slot_at, reach, at_home, met, homes_of, walk, IsOrdered, IsTidy}
+use Rattle.clock2q.specs.Candidates.{matching, left_from, IsLookup, IsNextCandidate}
+use Rattle.clock2q.specs.Slots.{mark_of}
 use Rattle.clock2q.specs.Table.{IsTable}
 use Rattle.clock2q.proofs.Laid.{at_home-other, met-last, met-add}
 use Rattle.clock2q.proofs.Walk.{Stops, after, stop}
@@ -57,11 +57,13 @@ module _ {E : Type 0} (slots : List (Option (Placed E))) (tidy : IsTidy slots) w
   walk-beyond h n some on =
       let v = tidy-vacant slots tidy some in
       let s = stop (slot_at slots) tidy.ordered (length slots) (slot-again slots) some v.0 v.1 h 0 in
-      let w : walk (homes_of slots) h ≡ s.0 + 1 = walk-at h s.0 some (λ j l. omega (arith, s.2.before j l)) (omega (arith, s.2.stop)) in
-      (elim (cases_lt n s.0) [
-        | inl below ↦ omega (arith, w, below)
-        | inr from ↦ absurd (omega (arith, on, after (slot_at slots) tidy.ordered h 0 s.0 s.2.stop n from))
-      ], omega (arith, w, s.1))
+      let w : walk (homes_of slots) h ≡ s.0 + 1 = walk-at h s.0 some (λ j l. omega (arith, s.2.before j l)) (omega (arith, s.2.stop)) in (
+        elim (cases_lt n s.0) [
+          | inl below ↦ omega (arith, w, below)
+          | inr from ↦ absurd (omega (arith, on, after (slot_at slots) tidy.ordered h 0 s.0 s.2.stop n from))
+        ],
+        omega (arith, w, s.1),
+      )
 
   -- no walk reads more slots than there are
   pub walk-le : (h : ℕ) → walk (homes_of slots) h ≤ length slots
@@ -133,11 +135,11 @@ module _ {H : Type 0} (slots : List (Option (Placed (ℕ × H)))) (x : ℕ) wher
       let k : n + 1 - n ≡ suc 0 = omega arith in
       let z : n + 0 ≡ n = omega arith in
       let one : matching x (met A g n (n + 1 - n)) ≡ (top x, next.handle) ∷ [] =
-          ap (matching x) (met-next A g n n (omega arith) ∙ ap (λ i. met A g n i ++ at_home (A (g + n)) n) (let s : n - n ≡ 0 = omega arith in s)) ∙ matching-here x (A (g + n)) n next.handle next.here in
+      ap (matching x) (met-next A g n n (omega arith) ∙ ap (λ i. met A g n i ++ at_home (A (g + n)) n) (let s : n - n ≡ 0 = omega arith in s)) ∙ matching-here x (A (g + n)) n next.handle next.here in
       let split : met A g d (m - d) ≡ met A g d (n - d) ++ (met A g n (n + 1 - n) ++ rest) =
-          met-split A g d n m next.from (omega (arith, next.within)) ∙ ap (λ xs. met A g d (n - d) ++ xs) (met-split A g n (n + 1) m (omega arith) (omega (arith, next.within))) in
+      met-split A g d n m next.from (omega (arith, next.within)) ∙ ap (λ xs. met A g d (n - d) ++ xs) (met-split A g n (n + 1) m (omega arith) (omega (arith, next.within))) in
       ap (λ h. map (λ e. e.1) (matching x (met A h d (m - d)))) (sym at) ∙ ap (λ es. map (λ e. e.1) es) (ap (matching x) split ∙ filter-append (λ e. e.0 == top x) (met A g d (n - d)) (met A g n (n + 1 - n) ++ rest) ∙ ap (λ xs. xs ++ matching x (met A g n (n + 1 - n) ++ rest)) next.none_before
-        ∙ filter-append (λ e. e.0 == top x) (met A g n (n + 1 - n)) rest ∙ ap (λ xs. xs ++ matching x rest) one)
+      ∙ filter-append (λ e. e.0 == top x) (met A g n (n + 1 - n)) rest ∙ ap (λ xs. xs ++ matching x rest) one)
       ∙ ap (λ h. next.handle ∷ map (λ e. e.1) (matching x (met A h (n + 1) (m - (n + 1))))) at
 
   -- past all slots nothing is left
@@ -177,6 +179,31 @@ module _ {H : Type 0} (slots : List (Option (Placed (ℕ × H)))) (tidy : IsTidy
   -- and its slot was one of the walk, with more to come
   pub yielded-read : (d n : ℕ) → IsNextCandidate slots g x d n → n + 1 < walk (homes_of slots) x
   yielded-read d n next = omega (arith, (walk-beyond slots tidy g n (omega (arith, next.within)) (omega (arith, ap reach next.here))).0, walk-home)
+
+  -- at the end of the walk nothing is left
+  pub left_end : (d : ℕ) → d < length slots → reach (slot_at slots (g + d)) ≤ d → left_from slots x d ≡ []
+  left_end d within near =
+      let z : d - d ≡ 0 = omega arith in
+      left_none d (matching-end x (slot_at slots) tidy.ordered g d d (length slots) (omega arith) (omega (arith, within)) near (ap (λ k. matching x (met (slot_at slots) g d k)) z))
+
+  -- a slot that holds no candidate is passed
+  pub left_skip : (d : ℕ) → d < length slots → mark_of (slot_at slots (g + d)) ≢ Some (d, top x) → left_from slots x d ≡ left_from slots x (d + 1)
+  left_skip d within other =
+      let A = slot_at slots in
+      let m : ℕ = length slots in
+      let base = at (omega (arith, within)) in
+      let z : d - d ≡ 0 = omega arith in
+      let first : matching x (met A g d (d + 1 - d)) ≡ [] = matching-more x A g d d (omega arith) (ap (λ k. matching x (met A g d k)) z) (matching-other x (A (g + d)) d other) in
+      ap (λ h. map (λ e. e.1) (matching x (met A h d (m - d)))) (sym base)
+      ∙ ap (λ es. map (λ e. e.1) es) (ap (matching x) (met-split A g d (d + 1) m (omega arith) (omega (arith, within))) ∙ filter-append (λ e. e.0 == top x) (met A g d (d + 1 - d)) (met A g (d + 1) (m - (d + 1))) ∙ ap (λ xs. xs ++ matching x (met A g (d + 1) (m - (d + 1)))) first)
+      ∙ ap (λ h. map (λ e. e.1) (matching x (met A h (d + 1) (m - (d + 1))))) base
+
+  -- a candidate is the first that is left
+  pub left_take : (d : ℕ) (r : H) → d < length slots → ((j : ℕ) → j < d → j < reach (slot_at slots (g + j))) → mark_of (slot_at slots (g + d)) ≡ Some (d, top x) → IfSome (slot_at slots (g + d)) (λ p. r ≡ p.entry.1) → left_from slots x d ≡ r ∷ left_from slots x (d + 1)
+  left_take d r within passed is handle =
+      let z : d - d ≡ 0 = omega arith in
+      let entry = candidate_entry x (slot_at slots (g + d)) d is in
+      yielded d d r (record { handle = entry.0; here = entry.1; from = omega arith; within = within; none_before = ap (λ k. matching x (met (slot_at slots) g d k)) z; passed = passed }) handle
 
 -- a call that yields a handle comes nearer the end
 pub yields_progress : {S A : Type 0} (rest : S → List A) (can : S → Type 0) (s t : S) (a : A) → rest s ≡ a ∷ rest t → can t → MakesProgress can (item_count rest) s (Some a) t

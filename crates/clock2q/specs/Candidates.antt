@@ -1,5 +1,5 @@
 -- What a lookup yields, and how many slots it reads.
-use Rattle.std.specs.Prelude.{◌≡◌, ℕ, suc, ◌+◌, ◌-◌, ◌%◌, ◌<◌, ◌≤◌, ◌==◌, List, [], map, filter, length, Option, Some, IfNone}
+use Rattle.std.specs.Prelude.{◌≡◌, ℕ, ◌+◌, ◌-◌, ◌%◌, ◌<◌, ◌≤◌, ◌==◌, List, [], map, filter, length, Option, Some, IfNone}
 use Rattle.std.specs.Iterator.{YieldsFirst}
 use Rattle.std.specs.Coded.{Coded, code_by, coded×, coded_ℕ, coded_list}
 use Rattle.clock2q.specs.Homes.{top}

@@ -24,5 +24,6 @@ pub mod Table
 pub mod Shifts
 pub mod Found
 pub mod Rehash
+pub mod Offers
 pub mod Candidates
 pub mod Partition

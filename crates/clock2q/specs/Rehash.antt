@@ -1,8 +1,9 @@
 -- A closure that gives held handles their hashes again.
-use Rattle.std.specs.Prelude.{◌≡◌, ℕ, ◌<◌, List, [], ◌∷◌, length, slice_get, Some, map}
+use Rattle.std.specs.Prelude.{◌≡◌, ℕ, List, [], ◌∷◌, slice_get, Some, map}
 use Rattle.std.specs.Fn.{Called, Takes, Mut}
 use Rattle.clock2q.specs.Homes.{listed}
-use Rattle.clock2q.specs.Layout.{Placed, entries, layout}
+use Rattle.clock2q.specs.Layout.{entries, layout}
+use Rattle.clock2q.specs.TableStep.{IsHashOf}
 
 -- some entry holds the handle
 abbrev pub IsHeld : {H : Type 0} → List (List (ℕ × H)) → H → Type 0
@@ -27,3 +28,8 @@ module _ {F H : Type 0} (g : Mut F (H × Unit {0}) ℕ) where
   abbrev pub Asks : (H → ℕ) → F → List H → F → Type 0
   Asks key f [] f' = f' ≡ f
   Asks key f (h ∷ hs) f' = (next : F) × Called g f (h, tt) (key h) next × Asks key next hs f'
+
+-- f gives the handles that are held the hashes of a function, key, which has each entry's home and fingerprint
+pub record GivesHashes {F H : Type 0} (g : Mut F (H × Unit {0}) ℕ) (key : H → ℕ) (homes : List (List (ℕ × H))) (f : F) : Type 0 where
+  pub answers : AnswersBy g key (IsHeld homes) f
+  pub hashes : IsHashOf key homes

@@ -1,5 +1,5 @@
 -- What holds of every table.
-use Rattle.std.specs.Prelude.{◌≡◌, ℕ, ◌+◌, ◌<◌, ◌≤◌, List, length, Option}
+use Rattle.std.specs.Prelude.{◌≡◌, ℕ, ◌≤◌, List, length, Option}
 use Rattle.clock2q.specs.Homes.{total, capacity}
 use Rattle.clock2q.specs.Layout.{Placed, layout, homes_of, slot_at, reach, IsTidy, IsTooLong}
 use Rattle.clock2q.specs.TableStep.{TableValue}

@@ -1,8 +1,9 @@
 //! A multimap from hashes of 64 bits to handles that its caller owns.
 
+ghost use Rattle.clock2q.specs.Homes.{capacity};
 ghost use Rattle.clock2q.specs.Slots.{IsSlotCount};
 ghost use Rattle.clock2q.specs.TableStep.{fit};
-ghost use Rattle.std.specs.Prelude.{◌≡◌, ◌≢◌, ◌*◌, ◌%◌, ◌^◌, ◌<◌, ◌≤◌, ◌+◌, ◌↔◌, ℕ, [], IsTrue, IsOk, IsOkUnless, IsErrOf, OnOk, OnErr, IfOk, IfSome, MatchOption, length};
+ghost use Rattle.std.specs.Prelude.{◌≡◌, ◌≢◌, Option, Err, ◌*◌, ◌%◌, ◌^◌, ◌<◌, ◌≤◌, ◌+◌, ◌↔◌, ℕ, [], IsTrue, IsOk, IsOkUnless, IsErrOf, OnOk, OnErr, IfOk, IfSome, MatchOption, length};
 ghost use Rattle.std.specs.Bool.{OnFalse};
 
 mod candidates;
@@ -15,7 +16,6 @@ mod tests;
 
 pub use candidates::Candidates;
 pub use partitions::partition;
-
 use slots::Slots;
 use std::alloc::{Allocator, Global};
 use std::fmt;
@@ -64,6 +64,7 @@ impl<H: Copy + Eq + Default, A: Allocator> Model for Table<H, A> {
 fn slots_for(entries: usize) -> Option<usize>
     ensures count { MatchOption result (2 ^ 64 ≤ fit entries) (λ count. count ≡ fit entries) }
     ensures power { IfSome result IsSlotCount }
+    ensures enough { IfSome result (λ count. entries ≤ capacity count) }
 {
     let quarter = entries.div_ceil(3).checked_next_power_of_two()?;
     let Some(count) = quarter.checked_mul(4) else {
@@ -73,10 +74,11 @@ fn slots_for(entries: usize) -> Option<usize>
 }
 
 impl<H: Copy + Eq + Default, A: Allocator + Copy> Table<H, A> {
-    ghost use Rattle.clock2q.specs.Homes.{total, capacity, inserted};
-    ghost use Rattle.clock2q.specs.Layout.{layout, slot_at, reach, run, IsTooLong, IsBestPlaced};
-    ghost use Rattle.clock2q.specs.Rehash.{AnswersBy, Asks, IsHeld, held_handles};
-    ghost use Rattle.clock2q.specs.TableStep.{table_value, made_for, rebuilt, IsHashOf};
+    ghost use Rattle.clock2q.specs.Homes.{total, count, candidates, inserted};
+    ghost use Rattle.clock2q.specs.Offers.{Offers, Settles};
+    ghost use Rattle.clock2q.specs.Layout.{layout, slot_at, reach, run, spill_of, IsTooLong, IsBestPlaced};
+    ghost use Rattle.clock2q.specs.Rehash.{Asks, GivesHashes, held_handles};
+    ghost use Rattle.clock2q.specs.TableStep.{table_value, made_for, rebuilt, grown, doubled, reserved, IsFull, IsShortOf, IsPastSize};
 
     /// An empty table with no slots, which takes no memory.
     pub fn new(alloc: A) -> Table<H, A>
@@ -112,7 +114,13 @@ impl<H: Copy + Eq + Default, A: Allocator + Copy> Table<H, A> {
     }
 
     /// Puts an entry in where the walk for it ended.
-    fn place(&mut self, home: usize, distance: usize, hash: u64, handle: H) -> Result<(), TableError>
+    fn place(
+        &mut self,
+        home: usize,
+        distance: usize,
+        hash: u64,
+        handle: H,
+    ) -> Result<(), TableError>
         requires room { total self.old.homes < capacity (length self.old.homes) }
         requires home { home ≡ hash % length self.old.slots }
         requires within { distance < length self.old.slots }
@@ -153,17 +161,17 @@ impl<H: Copy + Eq + Default, A: Allocator + Copy> Table<H, A> {
 
     /// The same entries in another count of slots, each under the hash that `rehash` gives its
     /// handle.
-    fn rebuilt<F: FnMut(H) -> u64>(&self, count: usize, mut rehash: F) -> Result<Table<H, A>, TableError>
+    fn rebuilt<F: FnMut(H) -> u64>(
+        &self,
+        count: usize,
+        mut rehash: F,
+    ) -> Result<Table<H, A>, TableError>
         requires count { IsSlotCount count }
         requires fits { total self.now.homes ≤ capacity count }
         requires multiple { 0 < length self.now.homes → (k : ℕ) × (count ≡ k * length self.now.homes) }
-        requires asked { (key : H → ℕ) × AnswersBy F.FnMut key (IsHeld self.now.homes) rehash × IsHashOf key self.now.homes }
-        ensures made {
-            IfOk result (λ t. (key : H → ℕ) → AnswersBy F.FnMut key (IsHeld self.now.homes) rehash → IsHashOf key self.now.homes → t.homes ≡ rebuilt key count self.now.homes)
-        }
-        ensures asks {
-            OnOk result ((key : H → ℕ) → AnswersBy F.FnMut key (IsHeld self.now.homes) rehash → IsHashOf key self.now.homes → (last : F) × Asks F.FnMut key rehash (held_handles self.now.homes) last)
-        }
+        requires asked { (key : H → ℕ) × GivesHashes F.FnMut key self.now.homes rehash }
+        ensures made { IfOk result (λ t. (key : H → ℕ) → GivesHashes F.FnMut key self.now.homes rehash → t.homes ≡ rebuilt key count self.now.homes) }
+        ensures asks { OnOk result ((key : H → ℕ) → GivesHashes F.FnMut key self.now.homes rehash → (last : F) × Asks F.FnMut key rehash (held_handles self.now.homes) last) }
         ensures only { IsOkUnless result TableError.Memory }
     {
         let Ok(slots) = Slots::with_count(self.slots.allocator(), count) else {
@@ -179,10 +187,170 @@ impl<H: Copy + Eq + Default, A: Allocator + Copy> Table<H, A> {
         }
         Ok(table)
     }
+
+    /// Rebuilds a full table in twice the slots, or in the least count of them.
+    fn grow<F: FnMut(H) -> u64>(&mut self, rehash: F) -> Result<(), TableError>
+        requires full { IsFull self.old.homes }
+        requires asked { (key : H → ℕ) × GivesHashes F.FnMut key self.old.homes rehash }
+        ensures grown { OnOk result ((key : H → ℕ) → GivesHashes F.FnMut key self.old.homes rehash → self.new.homes ≡ rebuilt key (doubled (length self.old.homes)) self.old.homes) }
+        ensures room { OnOk result (total self.new.homes < capacity (length self.new.homes)) }
+        ensures asks { OnOk result ((key : H → ℕ) → GivesHashes F.FnMut key self.old.homes rehash → (last : F) × Asks F.FnMut key rehash (held_handles self.old.homes) last) }
+        ensures err { OnErr result (self.new ≡ self.old) }
+        ensures only { IsOkUnless result TableError.Memory }
+        ensures best { IsBestPlaced self.new.homes }
+    {
+        let count = (self.slots.count() * 2).max(MIN_SLOTS);
+        *self = self.rebuilt(count, rehash)?;
+        Ok(())
+    }
+
+    /// Makes room for one entry more in a table that is full.
+    fn make_room<F: FnMut(H) -> u64>(&mut self, rehash: F) -> Result<(), TableError>
+        requires { IsFull self.old.homes → (key : H → ℕ) × GivesHashes F.FnMut key self.old.homes rehash }
+        ensures grown { OnOk result ((key : H → ℕ) → (IsFull self.old.homes → GivesHashes F.FnMut key self.old.homes rehash) → self.new.homes ≡ grown key self.old.homes) }
+        ensures room { OnOk result (total self.new.homes < capacity (length self.new.homes)) }
+        ensures asks { OnOk result (IsFull self.old.homes → (key : H → ℕ) → GivesHashes F.FnMut key self.old.homes rehash → (last : F) × Asks F.FnMut key rehash (held_handles self.old.homes) last) }
+        ensures kept { total self.old.homes < capacity (length self.old.homes) → IsOk result × (self.new ≡ self.old) }
+        ensures full { OnErr result (IsFull self.old.homes) }
+        ensures err { OnErr result (self.new ≡ self.old) }
+        ensures only { IsOkUnless result TableError.Memory }
+        ensures best { IsBestPlaced self.new.homes }
+    {
+        if self.len() == self.capacity() {
+            return self.grow(rehash);
+        }
+        Ok(())
+    }
+
+    /// Makes room for `additional` entries more, so that putting them in doesn't grow the table.
+    /// Where it has to grow for that, `rehash` is asked for the hash of each held handle.
+    ///
+    /// # Errors
+    ///
+    /// `Size` where the entries or their slots are too many to count, and `Memory` where the slots
+    /// can't be had. The table is unchanged.
+    pub fn reserve<F: FnMut(H) -> u64>(
+        &mut self,
+        additional: usize,
+        rehash: F,
+    ) -> Result<(), TableError>
+        requires { IsShortOf self.old.homes additional → (key : H → ℕ) × GivesHashes F.FnMut key self.old.homes rehash }
+        ensures reserved { OnOk result ((key : H → ℕ) → (IsShortOf self.old.homes additional → GivesHashes F.FnMut key self.old.homes rehash) → self.new.homes ≡ reserved key self.old.homes additional) }
+        ensures asks { OnOk result (IsShortOf self.old.homes additional → (key : H → ℕ) → GivesHashes F.FnMut key self.old.homes rehash → (last : F) × Asks F.FnMut key rehash (held_handles self.old.homes) last) }
+        ensures kept { total self.old.homes + additional ≤ capacity (length self.old.homes) → total self.old.homes + additional < 2 ^ 64 → IsOk result × (self.new ≡ self.old) }
+        ensures size { result ≡ Err TableError.Size → IsPastSize self.old.homes additional }
+        ensures past { IsPastSize self.old.homes additional → result ≡ Err TableError.Size }
+        ensures memory { result ≡ Err TableError.Memory → IsShortOf self.old.homes additional }
+        ensures only { result ≢ Err TableError.RunTooLong }
+        ensures err { OnErr result (self.new ≡ self.old) }
+
+        // No placement of the entries does better, and no home reaches further than the home that
+        // its entries came from.
+        ensures best { IsBestPlaced self.new.homes }
+        ensures nearer { (x : ℕ) → spill_of self.new.homes x + count self.new.homes x ≤ spill_of self.old.homes x + count self.old.homes x }
+    {
+        let Some(entries) = self.len().checked_add(additional) else {
+            return Err(TableError::Size);
+        };
+        if entries <= self.capacity() {
+            return Ok(());
+        }
+        let Some(count) = slots_for(entries) else {
+            return Err(TableError::Size);
+        };
+        *self = self.rebuilt(count, rehash)?;
+        Ok(())
+    }
+
+    /// Puts `handle` in under `hash`, last among the entries of its home. Handles and hashes may
+    /// repeat. A full table is rebuilt in twice the slots first, and only then is `rehash` asked
+    /// for the hash that each held handle was put in under.
+    ///
+    /// # Errors
+    ///
+    /// `Memory` where the table was full and can't grow: it is unchanged. `RunTooLong` where an
+    /// entry would stand more than 2^24 - 2 slots past its home: the entries are the same, in twice
+    /// the slots where the table was full. It takes 2^24 entries with the new one.
+    pub fn insert<F: FnMut(H) -> u64>(
+        &mut self,
+        hash: u64,
+        handle: H,
+        rehash: F,
+    ) -> Result<(), TableError>
+        requires { IsFull self.old.homes → (key : H → ℕ) × GivesHashes F.FnMut key self.old.homes rehash }
+        ensures ok { OnOk result ((key : H → ℕ) → (IsFull self.old.homes → GivesHashes F.FnMut key self.old.homes rehash) → self.new.homes ≡ inserted (grown key self.old.homes) hash handle) }
+        ensures short { OnOk result ((key : H → ℕ) → (IsFull self.old.homes → GivesHashes F.FnMut key self.old.homes rehash) → IsTooLong (inserted (grown key self.old.homes) hash handle) → ⊥) }
+        ensures long { result ≡ Err TableError.RunTooLong → (key : H → ℕ) → (IsFull self.old.homes → GivesHashes F.FnMut key self.old.homes rehash) →
+            IsTooLong (inserted (grown key self.old.homes) hash handle) × (self.new.homes ≡ grown key self.old.homes) }
+        ensures memory { result ≡ Err TableError.Memory → IsFull self.old.homes × (self.new ≡ self.old) }
+        ensures only { result ≢ Err TableError.Size }
+
+        // Where there is room, it takes no memory, and writes one slot more than the run at most.
+        ensures room { total self.old.homes < capacity (length self.old.homes) → IsOkUnless result TableError.RunTooLong × IfOk result (λ _. self.new.homes ≡ inserted self.old.homes hash handle) }
+        ensures writes { total self.old.homes < capacity (length self.old.homes) → (self.old.writes ≤ self.new.writes) × (self.new.writes ≤ self.old.writes + run self.old.slots hash + 1) }
+
+        // No placement of the entries does better.
+        ensures best { IsBestPlaced self.new.homes }
+    {
+        self.make_room(rehash)?;
+        self.put(hash, handle)
+    }
+
+    /// Offers the candidates of `hash` to `matches` in order. Answers the first that it accepts,
+    /// and false; or puts `handle` in under `hash` as [Table::insert] does, and answers it, and
+    /// true. A full table grows first, even if a candidate is then accepted.
+    ///
+    /// # Errors
+    ///
+    /// As [Table::insert]; `RunTooLong` only where every candidate was rejected.
+    pub fn find_or_insert<M: FnMut(H) -> bool, F: FnMut(H) -> u64>(
+        &mut self,
+        hash: u64,
+        matches: M,
+        handle: H,
+        rehash: F,
+    ) -> Result<(H, bool), TableError>
+        requires rehash { IsFull self.old.homes → (key : H → ℕ) × GivesHashes F.FnMut key self.old.homes rehash }
+        requires callable { M.IsAlwaysCallable matches }
+        ensures settles { (result ≢ Err TableError.Memory) → (key : H → ℕ) → (IsFull self.old.homes → GivesHashes F.FnMut key self.old.homes rehash) →
+            (found : Option H) × (last : M) × Offers M.FnMut matches (candidates (grown key self.old.homes) hash) found last
+            × Settles (grown key self.old.homes) hash handle found result self.new.homes }
+        ensures memory { result ≡ Err TableError.Memory → IsFull self.old.homes × (self.new ≡ self.old) }
+        ensures writes { total self.old.homes < capacity (length self.old.homes) → (self.old.writes ≤ self.new.writes) × (self.new.writes ≤ self.old.writes + run self.old.slots hash + 1) }
+        ensures best { IsBestPlaced self.new.homes }
+    {
+        self.make_room(rehash)?;
+        self.find_or_put(hash, matches, handle)
+    }
+
+    /// Offers the candidates, and puts the handle in where none is accepted.
+    fn find_or_put<M: FnMut(H) -> bool>(
+        &mut self,
+        hash: u64,
+        matches: M,
+        handle: H,
+    ) -> Result<(H, bool), TableError>
+        requires room { total self.old.homes < capacity (length self.old.homes) }
+        requires callable { M.IsAlwaysCallable matches }
+        ensures settles { (found : Option H) × (last : M) × Offers M.FnMut matches (candidates self.old.homes hash) found last × Settles self.old.homes hash handle found result self.new.homes }
+        ensures only { result ≢ Err TableError.Memory }
+        ensures counted { self.old.writes ≤ self.new.writes }
+        ensures writes { self.new.writes ≤ self.old.writes + run self.old.slots hash + 1 }
+        ensures best { IsBestPlaced self.new.homes }
+    {
+        let home = self.slots.home(hash);
+        match self.slots.offer(home, hash, matches) {
+            Ok(found) => Ok((found, false)),
+            Err(distance) => match self.place(home, distance, hash, handle) {
+                Ok(()) => Ok((handle, true)),
+                Err(refusal) => Err(refusal),
+            },
+        }
+    }
 }
 
 impl<H: Copy + Eq + Default, A: Allocator> Table<H, A> {
-    ghost use Rattle.clock2q.specs.Homes.{total, capacity, listed, candidates, removed, is_entry_of};
+    ghost use Rattle.clock2q.specs.Homes.{total, listed, candidates, removed, is_entry_of};
     ghost use Rattle.clock2q.specs.Layout.{run, walk, IsBestPlaced};
     ghost use Rattle.std.specs.List.{list_any};
     ghost use Rattle.clock2q.specs.Table.{IsWhole};

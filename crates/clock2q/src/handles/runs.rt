@@ -1,12 +1,14 @@
 //! Walks along a table's slots, and what moves entries within a run.
 ghost use Rattle.clock2q.specs.Homes.{top, is_entry_of, listed};
-ghost use Rattle.clock2q.specs.Candidates.{IsNextCandidate, matching};
+ghost use Rattle.clock2q.specs.Candidates.{IsNextCandidate, left_from, matching};
 ghost use Rattle.clock2q.specs.Found.{Finds};
 ghost use Rattle.clock2q.specs.Layout.{IsTidy, reach, slot_at, placed, homes_of, met, walk};
 ghost use Rattle.clock2q.specs.Shifts.{Opens, Closes, HasRoom, IsVacancy, moved_on};
+ghost use Rattle.clock2q.specs.Offers.{Offers};
 ghost use Rattle.std.specs.Bool.{OnTrue, OnFalse};
+ghost use Rattle.std.specs.Result.{result_ok};
 ghost use Rattle.std.specs.List.{list_any};
-ghost use Rattle.std.specs.Prelude.{◌≡◌, ◌+◌, ◌-◌, ◌^◌, ◌<◌, ◌≤◌, ℕ, suc, [], false, Some, None, IfSome, IfNone, length};
+ghost use Rattle.std.specs.Prelude.{◌≡◌, ◌+◌, ◌-◌, ◌%◌, ◌^◌, ◌<◌, ◌≤◌, ℕ, suc, [], false, Some, None, IfSome, IfNone, IfErr, length};
 
 use super::metadata::{MAX_DISPLACEMENT, Metadata};
 use super::slots::Slots;
@@ -55,7 +57,13 @@ impl<H: Copy + Default, A: Allocator> Slots<H, A> {
 
     /// How far from the home the next candidate of `hash` stands, for a walk that has come to a
     /// distance already. Each slot that is read is counted.
-    pub(super) fn candidate(&self, home: usize, hash: u64, from: usize, reads: &mut Count) -> Option<usize>
+    pub(super) fn candidate(
+        &self,
+        home: usize,
+        hash: u64,
+        from: usize,
+        reads: &mut Count,
+    ) -> Option<usize>
         requires tidy { IsTidy self.now.slots }
         requires home { 0 < length self.now.slots → home < length self.now.slots }
         requires near { (n : ℕ) → reach (slot_at self.now.slots n) ≤ 16777215 }
@@ -81,8 +89,22 @@ impl<H: Copy + Default, A: Allocator> Slots<H, A> {
 
     /// Offers the candidates of `hash` up to the first that is accepted. Answers it, or else how
     /// far from the home the walk ended.
-    pub(super) fn offer<F: FnMut(H) -> bool>(&self, hash: u64, mut matches: F) -> Result<H, usize> {
-        let home = self.home(hash);
+    pub(super) fn offer<F: FnMut(H) -> bool>(
+        &self,
+        home: usize,
+        hash: u64,
+        mut matches: F,
+    ) -> Result<H, usize>
+        requires tidy { IsTidy self.now.slots }
+        requires near { (n : ℕ) → reach (slot_at self.now.slots n) ≤ 16777215 }
+        requires some { 0 < length self.now.slots }
+        requires home { home ≡ hash % length self.now.slots }
+        requires callable { F.IsAlwaysCallable matches }
+        ensures offers { (last : F) × Offers F.FnMut matches (left_from self.now.slots hash 0) (result_ok result) last }
+        ensures within { IfErr result (λ d. d < length self.now.slots) }
+        ensures passed { IfErr result (λ d. (j : ℕ) → j < d → j < reach (slot_at self.now.slots (home + j))) }
+        ensures stop { IfErr result (λ d. reach (slot_at self.now.slots (home + d)) ≤ d) }
+    {
         let mut distance = 0;
         loop {
             let metadata = self.metadata(home, distance);
@@ -134,19 +156,11 @@ impl<H: Copy + Default, A: Allocator> Slots<H, A> {
         requires home { home < length self.old.slots }
         requires within { distance < length self.old.slots }
         requires walked { (j : ℕ) → j < distance → 0 < reach (slot_at self.old.slots (home + j)) }
-        ensures put {
-            OnTrue result ((v : ℕ) → IsVacancy (slot_at self.old.slots) home v →
-                Opens (slot_at self.old.slots) (slot_at self.new.slots) (length self.old.slots) home distance v (top hash, handle))
-        }
-        ensures room {
-            OnTrue result ((v : ℕ) → IsVacancy (slot_at self.old.slots) home v → HasRoom (slot_at self.old.slots) MAX_DISPLACEMENT home distance v)
-        }
-        ensures writes {
-            OnTrue result ((v : ℕ) → IsVacancy (slot_at self.old.slots) home v → self.new.writes + distance ≡ self.old.writes + v + 1)
-        }
-        ensures far {
-            OnFalse result ((v : ℕ) → IsVacancy (slot_at self.old.slots) home v → HasRoom (slot_at self.old.slots) MAX_DISPLACEMENT home distance v → ⊥)
-        }
+        ensures put { OnTrue result ((v : ℕ) → IsVacancy (slot_at self.old.slots) home v →
+            Opens (slot_at self.old.slots) (slot_at self.new.slots) (length self.old.slots) home distance v (top hash, handle)) }
+        ensures room { OnTrue result ((v : ℕ) → IsVacancy (slot_at self.old.slots) home v → HasRoom (slot_at self.old.slots) MAX_DISPLACEMENT home distance v) }
+        ensures writes { OnTrue result ((v : ℕ) → IsVacancy (slot_at self.old.slots) home v → self.new.writes + distance ≡ self.old.writes + v + 1) }
+        ensures far { OnFalse result ((v : ℕ) → IsVacancy (slot_at self.old.slots) home v → HasRoom (slot_at self.old.slots) MAX_DISPLACEMENT home distance v → ⊥) }
         ensures small { OnTrue result (length self.old.slots < 2 ^ 63) }
         ensures refused { OnFalse result (self.new ≡ self.old) }
         ensures len { length self.new.slots ≡ length self.old.slots }
@@ -192,11 +206,9 @@ impl<H: Copy + Default, A: Allocator> Slots<H, A> {
         requires home { home < length self.old.slots }
         requires within { distance < length self.old.slots }
         requires walked { (j : ℕ) → j ≤ distance → 0 < reach (slot_at self.old.slots (home + j)) }
-        ensures closes {
-            (e : ℕ × H) → slot_at self.old.slots (home + distance) ≡ Some (placed distance e) →
-                (v : ℕ) × Closes (slot_at self.old.slots) (slot_at self.new.slots) (length self.old.slots) home distance v e
-                × (self.new.writes + distance ≡ self.old.writes + v + 1)
-        }
+        ensures closes { (e : ℕ × H) → slot_at self.old.slots (home + distance) ≡ Some (placed distance e) →
+            (v : ℕ) × Closes (slot_at self.old.slots) (slot_at self.new.slots) (length self.old.slots) home distance v e
+            × (self.new.writes + distance ≡ self.old.writes + v + 1) }
         ensures len { length self.new.slots ≡ length self.old.slots }
     {
         let mut hole = distance;

@@ -120,9 +120,7 @@ impl<H: Copy + Default, A: Allocator> Slots<H, A> {
     pub(super) fn write(&mut self, home: usize, distance: usize, metadata: Metadata, handle: H)
         requires home { home < length self.old.slots }
         requires distance { distance ≤ length self.old.slots }
-        ensures {
-            self.new ≡ slots_value (set self.old.slots ((home + distance) % length self.old.slots) (cell (told metadata) handle)) (self.old.writes + 1)
-        }
+        ensures { self.new ≡ slots_value (set self.old.slots ((home + distance) % length self.old.slots) (cell (told metadata) handle)) (self.old.writes + 1) }
     {
         let slot = self.slot(home, distance);
         self.metadata[slot] = metadata;

@@ -1,7 +1,6 @@
-use Rattle.std.proofs.Common.{◌≡◌, ◌<◌, ◌≤◌, ◌+◌, ◌-◌, ◌%◌, ℕ, length, sym, ap, ◌∙◌, subst, arith, refl}
-use Rattle.clock2q.specs.Homes.{listed, candidates}
-use Rattle.clock2q.specs.Layout.{homes_of, met, reach, slot_at, walk}
-use Rattle.clock2q.specs.Candidates.{IsLookup, left_from, unread_from}
+use Rattle.std.proofs.Common.{◌≡◌, ◌-◌, ap, ◌∙◌, arith}
+use Rattle.clock2q.specs.Homes.{candidates}
+use Rattle.clock2q.specs.Layout.{homes_of, walk}
 use Rattle.clock2q.proofs.Yields.{lookup_start, left_at_start}
 use Rattle.clock2q.proofs.handles.Table.get.Goals as goal
 

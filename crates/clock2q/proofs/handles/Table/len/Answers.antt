@@ -1,11 +1,7 @@
-use Rattle.std.proofs.Common.{◌≡◌, ◌<◌, ◌≤◌, ◌+◌, ◌-◌, ◌*◌, ◌/◌, ◌^◌, [], refl, sym, ap, ◌∙◌, subst, arith, ℕ, length}
-use Rattle.clock2q.specs.Homes.{total, capacity}
-use Rattle.clock2q.specs.Layout.{homes_of, layout}
-use Rattle.clock2q.specs.TableStep.{fit, table_value, made_for}
-use Rattle.clock2q.specs.Slots.{IsSlotCount}
-use Rattle.clock2q.specs.Table.{IsTable, IsWhole}
-use Rattle.clock2q.proofs.Tidy.{length-homes_of}
-use Rattle.clock2q.proofs.Tables.{table-empty, view-empty, layout-nothing, made_for-some, table-whole, capacity_quarters}
+use Rattle.std.proofs.Common.{ap, ◌∙◌, subst}
+use Rattle.clock2q.specs.Homes.{total}
+use Rattle.clock2q.specs.Table.{IsWhole}
+use Rattle.clock2q.proofs.Tables.{table-whole}
 use Rattle.clock2q.proofs.handles.Table.len.Goals as goal
 
 pub returns-clause-len : goal.returns-clause-len

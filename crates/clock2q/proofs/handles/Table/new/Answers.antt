@@ -1,5 +1,5 @@
-use Rattle.std.proofs.Common.{◌≡◌, [], refl, sym, ap, ◌∙◌, subst, ℕ}
-use Rattle.clock2q.specs.Layout.{homes_of, layout}
+use Rattle.std.proofs.Common.{[], sym, ap, ◌∙◌, subst}
+use Rattle.clock2q.specs.Layout.{homes_of}
 use Rattle.clock2q.specs.TableStep.{table_value}
 use Rattle.clock2q.specs.Table.{IsTable}
 use Rattle.clock2q.proofs.Tables.{no_slots, table-empty, view-empty, layout-nothing}

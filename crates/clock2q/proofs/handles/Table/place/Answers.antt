@@ -17,7 +17,7 @@ returns-then-not-put_in-clause-long g c =
     let passed : (j : ℕ) → j < c.args.distance → j < reach (slot_at slots (c.args.home + j)) = subst (λ t. (j : ℕ) → j < c.args.distance → j < reach (slot_at t.slots (c.args.home + j))) back c.requires.passed in
     let stop : reach (slot_at slots (c.args.home + c.args.distance)) ≤ c.args.distance = subst (λ t. reach (slot_at t.slots (c.args.home + c.args.distance)) ≤ c.args.distance) back c.requires.stop in
     subst (λ t. IsTooLong (inserted t.homes c.args.hash c.args.handle)) c.self.view_is
-      (refusal c.args.hash c.args.handle slots slots c.args.home c.args.distance c.self.inside.len c.self.invariant fits at passed stop c.if-not-put_in.ensures.far)
+    (refusal c.args.hash c.args.handle slots slots c.args.home c.args.distance c.self.inside.len c.self.invariant fits at passed stop c.if-not-put_in.ensures.far)
 
 pub returns-then-not-put_in-clause-best : goal.returns-then-not-put_in-clause-best
 returns-then-not-put_in-clause-best g c =
@@ -44,7 +44,7 @@ invariant_of-self-2 g c =
     let passed : (j : ℕ) → j < c.args.distance → j < reach (slot_at slots (c.args.home + j)) = subst (λ t. (j : ℕ) → j < c.args.distance → j < reach (slot_at t.slots (c.args.home + j))) back c.requires.passed in
     let stop : reach (slot_at slots (c.args.home + c.args.distance)) ≤ c.args.distance = subst (λ t. reach (slot_at t.slots (c.args.home + c.args.distance)) ≤ c.args.distance) back c.requires.stop in
     let step = insertion c.args.hash c.args.handle slots c.put_in.new.self.slots c.args.home c.args.distance c.self.inside.len c.self.invariant fits at passed stop c.self.inside.slots.writes c.put_in.new.self.writes
-      c.if-not-put_in.ensures.put c.if-not-put_in.ensures.room c.if-not-put_in.ensures.writes c.put_in.ensures.len in
+    c.if-not-put_in.ensures.put c.if-not-put_in.ensures.room c.if-not-put_in.ensures.writes c.put_in.ensures.len in
     let one : suc c.self.inside.len ≡ c.self.inside.len + 1 = omega arith in
     subst (IsTable c.put_in.new.self.slots) one step.table
 
@@ -58,7 +58,7 @@ returns-clause-ok g c =
     let passed : (j : ℕ) → j < c.args.distance → j < reach (slot_at slots (c.args.home + j)) = subst (λ t. (j : ℕ) → j < c.args.distance → j < reach (slot_at t.slots (c.args.home + j))) back c.requires.passed in
     let stop : reach (slot_at slots (c.args.home + c.args.distance)) ≤ c.args.distance = subst (λ t. reach (slot_at t.slots (c.args.home + c.args.distance)) ≤ c.args.distance) back c.requires.stop in
     let step = insertion c.args.hash c.args.handle slots c.put_in.new.self.slots c.args.home c.args.distance c.self.inside.len c.self.invariant fits at passed stop c.self.inside.slots.writes c.put_in.new.self.writes
-      c.if-not-put_in.ensures.put c.if-not-put_in.ensures.room c.if-not-put_in.ensures.writes c.put_in.ensures.len in
+    c.if-not-put_in.ensures.put c.if-not-put_in.ensures.room c.if-not-put_in.ensures.writes c.put_in.ensures.len in
     step.homes ∙ ap (λ t. inserted t.homes c.args.hash c.args.handle) c.self.view_is
 
 pub returns-clause-short : goal.returns-clause-short
@@ -71,7 +71,7 @@ returns-clause-short g c =
     let passed : (j : ℕ) → j < c.args.distance → j < reach (slot_at slots (c.args.home + j)) = subst (λ t. (j : ℕ) → j < c.args.distance → j < reach (slot_at t.slots (c.args.home + j))) back c.requires.passed in
     let stop : reach (slot_at slots (c.args.home + c.args.distance)) ≤ c.args.distance = subst (λ t. reach (slot_at t.slots (c.args.home + c.args.distance)) ≤ c.args.distance) back c.requires.stop in
     let step = insertion c.args.hash c.args.handle slots c.put_in.new.self.slots c.args.home c.args.distance c.self.inside.len c.self.invariant fits at passed stop c.self.inside.slots.writes c.put_in.new.self.writes
-      c.if-not-put_in.ensures.put c.if-not-put_in.ensures.room c.if-not-put_in.ensures.writes c.put_in.ensures.len in
+    c.if-not-put_in.ensures.put c.if-not-put_in.ensures.room c.if-not-put_in.ensures.writes c.put_in.ensures.len in
     subst (λ t. IsTooLong (inserted t.homes c.args.hash c.args.handle) → ⊥) c.self.view_is step.short
 
 pub returns-clause-counted : goal.returns-clause-counted
@@ -84,7 +84,7 @@ returns-clause-counted g c =
     let passed : (j : ℕ) → j < c.args.distance → j < reach (slot_at slots (c.args.home + j)) = subst (λ t. (j : ℕ) → j < c.args.distance → j < reach (slot_at t.slots (c.args.home + j))) back c.requires.passed in
     let stop : reach (slot_at slots (c.args.home + c.args.distance)) ≤ c.args.distance = subst (λ t. reach (slot_at t.slots (c.args.home + c.args.distance)) ≤ c.args.distance) back c.requires.stop in
     let step = insertion c.args.hash c.args.handle slots c.put_in.new.self.slots c.args.home c.args.distance c.self.inside.len c.self.invariant fits at passed stop c.self.inside.slots.writes c.put_in.new.self.writes
-      c.if-not-put_in.ensures.put c.if-not-put_in.ensures.room c.if-not-put_in.ensures.writes c.put_in.ensures.len in
+    c.if-not-put_in.ensures.put c.if-not-put_in.ensures.room c.if-not-put_in.ensures.writes c.put_in.ensures.len in
     subst (λ t. t.writes ≤ c.put_in.new.self.writes) c.self.view_is step.counted
 
 pub returns-clause-writes : goal.returns-clause-writes
@@ -97,7 +97,7 @@ returns-clause-writes g c =
     let passed : (j : ℕ) → j < c.args.distance → j < reach (slot_at slots (c.args.home + j)) = subst (λ t. (j : ℕ) → j < c.args.distance → j < reach (slot_at t.slots (c.args.home + j))) back c.requires.passed in
     let stop : reach (slot_at slots (c.args.home + c.args.distance)) ≤ c.args.distance = subst (λ t. reach (slot_at t.slots (c.args.home + c.args.distance)) ≤ c.args.distance) back c.requires.stop in
     let step = insertion c.args.hash c.args.handle slots c.put_in.new.self.slots c.args.home c.args.distance c.self.inside.len c.self.invariant fits at passed stop c.self.inside.slots.writes c.put_in.new.self.writes
-      c.if-not-put_in.ensures.put c.if-not-put_in.ensures.room c.if-not-put_in.ensures.writes c.put_in.ensures.len in
+    c.if-not-put_in.ensures.put c.if-not-put_in.ensures.room c.if-not-put_in.ensures.writes c.put_in.ensures.len in
     subst (λ t. c.put_in.new.self.writes ≤ t.writes + run t.slots c.args.hash + 1) c.self.view_is step.writes
 
 pub returns-clause-best : goal.returns-clause-best
@@ -110,5 +110,5 @@ returns-clause-best g c =
     let passed : (j : ℕ) → j < c.args.distance → j < reach (slot_at slots (c.args.home + j)) = subst (λ t. (j : ℕ) → j < c.args.distance → j < reach (slot_at t.slots (c.args.home + j))) back c.requires.passed in
     let stop : reach (slot_at slots (c.args.home + c.args.distance)) ≤ c.args.distance = subst (λ t. reach (slot_at t.slots (c.args.home + c.args.distance)) ≤ c.args.distance) back c.requires.stop in
     let step = insertion c.args.hash c.args.handle slots c.put_in.new.self.slots c.args.home c.args.distance c.self.inside.len c.self.invariant fits at passed stop c.self.inside.slots.writes c.put_in.new.self.writes
-      c.if-not-put_in.ensures.put c.if-not-put_in.ensures.room c.if-not-put_in.ensures.writes c.put_in.ensures.len in
+    c.if-not-put_in.ensures.put c.if-not-put_in.ensures.room c.if-not-put_in.ensures.writes c.put_in.ensures.len in
     table-best c.put_in.new.self.slots (suc c.self.inside.len) step.table

@@ -1,11 +1,9 @@
-use Rattle.std.proofs.Common.{◌≡◌, ◌<◌, ◌≤◌, ◌+◌, ◌-◌, ◌*◌, ◌/◌, ◌^◌, [], refl, sym, ap, ◌∙◌, subst, arith, ℕ, length}
-use Rattle.clock2q.specs.Homes.{total, capacity, no_entries}
+use Rattle.std.proofs.Common.{◌≡◌, [], sym, ap, ◌∙◌, subst, arith}
+use Rattle.clock2q.specs.Homes.{no_entries}
 use Rattle.clock2q.specs.Layout.{homes_of, layout}
-use Rattle.clock2q.specs.TableStep.{fit, table_value, made_for}
-use Rattle.clock2q.specs.Slots.{IsSlotCount}
-use Rattle.clock2q.specs.Table.{IsTable, IsWhole}
-use Rattle.clock2q.proofs.Tidy.{length-homes_of}
-use Rattle.clock2q.proofs.Tables.{table-empty, view-empty, layout-nothing, made_for-some, table-whole, capacity_quarters}
+use Rattle.clock2q.specs.TableStep.{table_value, made_for}
+use Rattle.clock2q.specs.Table.{IsTable}
+use Rattle.clock2q.proofs.Tables.{table-empty, view-empty, layout-nothing, made_for-some}
 use Rattle.clock2q.proofs.handles.Table.with_capacity.Goals as goal
 
 pub returns-then-entries-eq0-clause-made : goal.returns-then-entries-eq0-clause-made

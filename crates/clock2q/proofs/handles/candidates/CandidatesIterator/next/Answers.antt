@@ -1,6 +1,6 @@
-use Rattle.std.proofs.Common.{◌≡◌, ℕ, ◌+◌, ◌-◌, ◌%◌, ◌<◌, ◌≤◌, ◌⊎◌, inl, inr, length, [], ◌∷◌, arith, sym, ap, ◌∙◌, subst, IfSome, below_more}
-use Rattle.clock2q.specs.Layout.{homes_of, reach, slot_at, walk}
-use Rattle.clock2q.specs.Candidates.{IsLookup, IsNextCandidate, left_from, unread_from}
+use Rattle.std.proofs.Common.{◌≡◌, ℕ, ◌+◌, ◌<◌, length, arith, sym, ap, ◌∙◌, subst, below_more}
+use Rattle.clock2q.specs.Layout.{reach, slot_at}
+use Rattle.clock2q.specs.Candidates.{left_from, unread_from}
 use Rattle.clock2q.proofs.Yields.{left_none, left_past, walk-home, walk-le, yielded, yielded-read, yields_progress}
 use Rattle.clock2q.proofs.handles.candidates.CandidatesIterator.next.Goals as goal
 
@@ -12,10 +12,11 @@ returns-in_default-clause-steps g c =
     let all : c.count-self-inside.result ≡ length slots = c.count-self-inside.ensures.count in
     let same = walk-home slots c.self.invariant.tidy x c.home-home.result c.home-home.ensures.home in
     let most = walk-le slots c.self.invariant.tidy x in
-    let unread : unread_from slots x c.count-self-inside.result ≡ 0 = omega (arith, all, most) in
-    ((ap (λ t. t.left) (sym c.self.view_is) ∙ left_none slots c.self.invariant.tidy x c.home-home.result c.home-home.ensures.home d c.in_default.ensures.none, ap (left_from slots x) all ∙ left_past slots x),
-     omega (arith, unread, c.in_default.ensures.read_all, same, ap (λ t. t.reads) c.self.view_is, ap (λ t. t.unread) c.self.view_is),
-     unread)
+    let unread : unread_from slots x c.count-self-inside.result ≡ 0 = omega (arith, all, most) in (
+      (ap (λ t. t.left) (sym c.self.view_is) ∙ left_none slots c.self.invariant.tidy x c.home-home.result c.home-home.ensures.home d c.in_default.ensures.none, ap (left_from slots x) all ∙ left_past slots x),
+      omega (arith, unread, c.in_default.ensures.read_all, same, ap (λ t. t.reads) c.self.view_is, ap (λ t. t.unread) c.self.view_is),
+      unread,
+    )
 
 pub invariant_of-self-2 : goal.invariant_of-self-2
 invariant_of-self-2 g c =
@@ -37,10 +38,11 @@ returns-clause-steps g c =
     let d : ℕ = c.self.inside.distance in
     let n : ℕ = c.in-Some.distance in
     let left = yielded slots c.self.invariant.tidy x c.home-home.result c.home-home.ensures.home d n c.handle.result c.in-Some.ensures.found c.handle.ensures in
-    let more = yielded-read slots c.self.invariant.tidy x c.home-home.result c.home-home.ensures.home d n c.in-Some.ensures.found in
-    (ap (λ t. t.left) (sym c.self.view_is) ∙ left,
-     omega (arith, c.in-Some.ensures.read, more, c.in-Some.ensures.found.from, ap (λ t. t.reads) c.self.view_is, ap (λ t. t.unread) c.self.view_is),
-     tt)
+    let more = yielded-read slots c.self.invariant.tidy x c.home-home.result c.home-home.ensures.home d n c.in-Some.ensures.found in (
+      ap (λ t. t.left) (sym c.self.view_is) ∙ left,
+      omega (arith, c.in-Some.ensures.read, more, c.in-Some.ensures.found.from, ap (λ t. t.reads) c.self.view_is, ap (λ t. t.unread) c.self.view_is),
+      tt,
+    )
 
 pub returns-clause-goes : goal.returns-clause-goes
 returns-clause-goes g c = yields_progress (λ v. v.left) _ c.args.self.now _ c.handle.result (returns-clause-steps g c).0 tt

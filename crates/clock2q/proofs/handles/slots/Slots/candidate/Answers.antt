@@ -1,7 +1,6 @@
-use Rattle.std.proofs.Common.{◌≡◌, ◌+◌, ◌-◌, ◌<◌, ◌≤◌, ◌⊎◌, inl, inr, ℕ, [], length, arith, sym, ap, ◌∙◌, below_more}
+use Rattle.std.proofs.Common.{◌≡◌, ◌+◌, ◌<◌, ◌≤◌, inl, inr, ℕ, length, arith, sym, ◌∙◌, below_more}
 use Rattle.std.proofs.lemmas.Bool.{cases_lt}
-use Rattle.clock2q.specs.Candidates.{IsNextCandidate, matching}
-use Rattle.clock2q.specs.Layout.{reach, slot_at, met, homes_of, walk}
+use Rattle.clock2q.specs.Layout.{reach, slot_at}
 use Rattle.clock2q.proofs.Moves.{reach_told, walk_goes_on, refused, less_than_lap}
 use Rattle.clock2q.proofs.Yields.{candidate_entry, matching-other, matching-more, matching-end, walk-at, walk-le}
 use Rattle.clock2q.proofs.handles.slots.Slots.candidate.Goals as goal
@@ -12,7 +11,7 @@ returns-then-ends_walk-clause-none g c =
     let A = slot_at c.args.self.now.slots in
     let near : reach (A (c.args.home + d)) ≤ d = omega (arith, c.ends_walk.ensures.0 c.if-ends_walk.true, reach_told _ (A (c.args.home + d)) c.metadata-metadata.ensures.told) in
     matching-end c.args.hash A c.requires.tidy.ordered c.args.home c.args.from d (length c.args.self.now.slots) (omega (arith, c.loop-distance.auto.distance, c.requires.from, c.count-distance-end.ensures.count))
-      (omega (arith, c.loop-distance-test.true, c.count-distance-end.ensures.count)) near c.loop-distance.invariant.none
+    (omega (arith, c.loop-distance-test.true, c.count-distance-end.ensures.count)) near c.loop-distance.invariant.none
 
 pub returns-then-ends_walk-clause-read_all : goal.returns-then-ends_walk-clause-read_all
 returns-then-ends_walk-clause-read_all g c =
@@ -47,7 +46,7 @@ loop-distance-preserved g c =
     record {
       passed = λ some. below_more _ _ (c.loop-distance.invariant.passed some) here;
       none = matching-more c.args.hash A c.args.home c.args.from d (omega (arith, c.loop-distance.auto.distance, c.requires.from, c.count-distance-end.ensures.count)) c.loop-distance.invariant.none
-        (matching-other c.args.hash (A (c.args.home + d)) d (λ e. refused c.is_candidate.result c.is_candidate.ensures c.if-is_candidate.false (c.metadata-metadata.ensures.told ∙ e)));
+          (matching-other c.args.hash (A (c.args.home + d)) d (λ e. refused c.is_candidate.result c.is_candidate.ensures c.if-is_candidate.false (c.metadata-metadata.ensures.told ∙ e)));
       read = omega (arith, c.tick.ensures, c.loop-distance.invariant.read);
     }
 

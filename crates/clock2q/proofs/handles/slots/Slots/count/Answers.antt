@@ -1,9 +1,6 @@
-use Rattle.std.proofs.Common.{◌≡◌, ◌+◌, ◌%◌, ◌<◌, ◌≤◌, ℕ, None, length, ◌-◌, bit_and, arith, sym, ap, ◌∙◌, refl, subst}
-use Rattle.std.proofs.Math.ListN.{set, replicate}
-use Rattle.std.proofs.lemmas.Nat.{mod_below}
-use Rattle.clock2q.specs.Layout.{slot_at}
-use Rattle.clock2q.specs.Slots.{slots_value, cell, cells, told, mark_of, IsSlotCount}
-use Rattle.clock2q.proofs.Cells.{slot_mask, length-cells, get_or-cells, set-cells, cells-replicate, mark_read, handle_read}
+use Rattle.std.proofs.Common.{length, arith, sym, ap, ◌∙◌, subst}
+use Rattle.clock2q.specs.Slots.{IsSlotCount}
+use Rattle.clock2q.proofs.Cells.{length-cells}
 use Rattle.clock2q.proofs.handles.slots.Slots.count.Goals as goal
 
 pub returns-clause-count : goal.returns-clause-count

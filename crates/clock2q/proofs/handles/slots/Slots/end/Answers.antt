@@ -1,6 +1,6 @@
-use Rattle.std.proofs.Common.{◌≡◌, ◌+◌, ◌<◌, ◌≤◌, ℕ, suc, length, arith}
+use Rattle.std.proofs.Common.{◌+◌, ◌<◌, ℕ, arith}
 use Rattle.std.proofs.Common.{below_more}
-use Rattle.clock2q.specs.Layout.{IsTidy, reach, slot_at}
+use Rattle.clock2q.specs.Layout.{reach, slot_at}
 use Rattle.clock2q.proofs.Moves.{walk_goes_on, less_than_lap}
 use Rattle.clock2q.proofs.handles.slots.Slots.end.Goals as goal
 

@@ -5,7 +5,7 @@ use Rattle.clock2q.proofs.handles.slots.Slots.end.Given as goal
 abbrev pub invariant-loop-distance : goal.invariant-loop-distance
 invariant-loop-distance g l = record {
   within : l.distance < length l.self.slots;
-  passed : (j : ℕ) → j < l.distance → j < reach (slot_at l.self.slots (l.home + j))
+  passed : (j : ℕ) → j < l.distance → j < reach (slot_at l.self.slots (l.home + j));
 }
 
 abbrev pub decreases-loop-distance : goal.decreases-loop-distance

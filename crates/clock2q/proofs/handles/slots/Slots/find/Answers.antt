@@ -1,8 +1,7 @@
-use Rattle.std.proofs.Common.{◌≡◌, ◌+◌, ◌<◌, ◌≤◌, ℕ, false, length, arith, sym, ap, ◌∙◌, refl, below_more}
+use Rattle.std.proofs.Common.{◌≡◌, ◌+◌, ℕ, length, arith, sym, ap, ◌∙◌, below_more}
 use Rattle.std.specs.List.{list_any}
-use Rattle.clock2q.specs.Homes.{top, is_entry_of, listed}
-use Rattle.clock2q.specs.Found.{Finds}
-use Rattle.clock2q.specs.Layout.{reach, slot_at, met, homes_of}
+use Rattle.clock2q.specs.Homes.{top, is_entry_of}
+use Rattle.clock2q.specs.Layout.{slot_at, met}
 use Rattle.clock2q.proofs.Tidy.{listed-homes_of}
 use Rattle.clock2q.proofs.Finding.{met_all, none_more, candidate, is_entry_of-candidate, any-other, any-failed}
 use Rattle.clock2q.proofs.Moves.{reach_told, walk_goes_on, refused}
@@ -14,7 +13,7 @@ returns-then-ends_walk-clause-none g c =
     let d : ℕ = c.loop-distance.distance in
     let o = slot_at c.args.self.now.slots (c.args.home + d) in
     let list = met_all c.args.self.now.slots c.requires.tidy c.args.home d (omega (arith, c.loop-distance-test.true, c.count-distance-end.ensures.count)) c.loop-distance.invariant.passed
-      (omega (arith, c.ends_walk.ensures.0 c.if-ends_walk.true, reach_told _ o c.metadata-metadata.ensures.told)) in
+    (omega (arith, c.ends_walk.ensures.0 c.if-ends_walk.true, reach_told _ o c.metadata-metadata.ensures.told)) in
     ap (list_any (is_entry_of g.H.PartialEq.eq c.args.hash c.args.handle)) list ∙ c.loop-distance.invariant.none
 
 pub returns-then-eq-clause-found : goal.returns-then-eq-clause-found

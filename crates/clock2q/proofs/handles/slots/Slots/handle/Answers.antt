@@ -1,9 +1,6 @@
-use Rattle.std.proofs.Common.{◌≡◌, ◌+◌, ◌%◌, ◌<◌, ◌≤◌, ℕ, None, IfSome, length, ◌-◌, bit_and, arith, sym, ap, ◌∙◌, refl, subst}
-use Rattle.std.proofs.Math.ListN.{set, replicate}
-use Rattle.std.proofs.lemmas.Nat.{mod_below}
+use Rattle.std.proofs.Common.{◌≡◌, ◌+◌, ◌%◌, IfSome, length, arith, sym, ap, ◌∙◌, subst}
 use Rattle.clock2q.specs.Layout.{slot_at}
-use Rattle.clock2q.specs.Slots.{slots_value, cell, cells, told, mark_of, IsSlotCount}
-use Rattle.clock2q.proofs.Cells.{slot_mask, length-cells, filled_cells, written_cells, mark_read, handle_read}
+use Rattle.clock2q.proofs.Cells.{length-cells, handle_read}
 use Rattle.clock2q.proofs.handles.slots.Slots.handle.Goals as goal
 
 pub index-requires : goal.index-requires
@@ -20,4 +17,4 @@ returns g c =
     let counted = c.self.inside.metadata.ok.0 in
     subst (λ s. IfSome (slot_at s.slots (c.args.home + c.args.distance)) (λ p. c.index.result.now ≡ p.entry.1)) c.self.view_is
     (handle_read c.self.inside.metadata.items c.self.inside.handles.items (c.args.home + c.args.distance) c.slot.result (record { word = 0 }) c.index.result.now c.self.invariant.0
-      (c.slot.ensures.slot ∙ ap (λ m. (c.args.home + c.args.distance) % m) (sym ends)) (omega (arith, made, ends, c.slot.ensures.within)) c.index.ensures)
+    (c.slot.ensures.slot ∙ ap (λ m. (c.args.home + c.args.distance) % m) (sym ends)) (omega (arith, made, ends, c.slot.ensures.within)) c.index.ensures)

@@ -1,9 +1,6 @@
-use Rattle.std.proofs.Common.{◌≡◌, ◌+◌, ◌%◌, ◌<◌, ◌≤◌, ℕ, None, IfSome, length, ◌-◌, bit_and, arith, sym, ap, ◌∙◌, refl, subst}
-use Rattle.std.proofs.Math.ListN.{set, replicate}
+use Rattle.std.proofs.Common.{◌≡◌, ◌+◌, ◌%◌, length, ◌-◌, bit_and, arith, ap, ◌∙◌}
 use Rattle.std.proofs.lemmas.Nat.{mod_below}
-use Rattle.clock2q.specs.Layout.{slot_at}
-use Rattle.clock2q.specs.Slots.{slots_value, cell, cells, told, mark_of, IsSlotCount}
-use Rattle.clock2q.proofs.Cells.{slot_mask, length-cells, filled_cells, written_cells, mark_read, handle_read}
+use Rattle.clock2q.proofs.Cells.{slot_mask}
 use Rattle.clock2q.proofs.handles.slots.Slots.home.Goals as goal
 
 pub returns-clause-home : goal.returns-clause-home

@@ -1,9 +1,7 @@
-use Rattle.std.proofs.Common.{◌≡◌, ◌+◌, ◌%◌, ◌<◌, ◌≤◌, ℕ, None, length, ◌-◌, bit_and, arith, sym, ap, ◌∙◌, refl, subst}
-use Rattle.std.proofs.Math.ListN.{set, replicate}
-use Rattle.std.proofs.lemmas.Nat.{mod_below}
+use Rattle.std.proofs.Common.{◌≡◌, ◌+◌, ◌%◌, length, arith, sym, ap, ◌∙◌, subst}
 use Rattle.clock2q.specs.Layout.{slot_at}
-use Rattle.clock2q.specs.Slots.{slots_value, cell, cells, told, mark_of, IsSlotCount}
-use Rattle.clock2q.proofs.Cells.{slot_mask, length-cells, get_or-cells, set-cells, cells-replicate, mark_read, handle_read}
+use Rattle.clock2q.specs.Slots.{told, mark_of}
+use Rattle.clock2q.proofs.Cells.{length-cells, mark_read}
 use Rattle.clock2q.proofs.handles.slots.Slots.metadata.Goals as goal
 
 pub index-requires : goal.index-requires
@@ -20,7 +18,7 @@ returns-clause-told g c =
     let counted = c.self.inside.metadata.ok.0 in
     subst (λ s. told c.index.result.now ≡ mark_of (slot_at s.slots (c.args.home + c.args.distance))) c.self.view_is
     (mark_read c.self.inside.metadata.items c.self.inside.handles.items (c.args.home + c.args.distance) c.slot.result c.index.result.now c.self.invariant.0
-      (c.slot.ensures.slot ∙ ap (λ m. (c.args.home + c.args.distance) % m) (sym ends)) (omega (arith, made, ends, c.slot.ensures.within)) c.index.ensures)
+    (c.slot.ensures.slot ∙ ap (λ m. (c.args.home + c.args.distance) % m) (sym ends)) (omega (arith, made, ends, c.slot.ensures.within)) c.index.ensures)
 
 pub returns-clause-small : goal.returns-clause-small
 returns-clause-small g c =

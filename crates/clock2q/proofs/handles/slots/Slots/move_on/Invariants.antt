@@ -1,4 +1,4 @@
-use Rattle.std.proofs.Common.{◌≡◌, ℕ, suc, ◌+◌, ◌-◌, ◌<◌, ◌≤◌, length}
+use Rattle.std.proofs.Common.{◌≡◌, ◌+◌, ◌-◌, ◌≤◌, length}
 use Rattle.clock2q.specs.Layout.{slot_at}
 use Rattle.clock2q.proofs.Moves.{Moving}
 use Rattle.clock2q.proofs.handles.slots.Slots.move_on.Given as goal
@@ -9,7 +9,7 @@ invariant-loop-distance g l = record {
   upto : l.distance ≤ l.vacancy;
   len : length l.self.slots ≡ length l.initial.self.slots;
   moving : Moving (slot_at l.initial.self.slots) (slot_at l.self.slots) (length l.self.slots) l.home l.distance l.vacancy;
-  writes : l.self.writes + l.distance ≡ l.initial.self.writes + l.vacancy
+  writes : l.self.writes + l.distance ≡ l.initial.self.writes + l.vacancy;
 }
 
 abbrev pub decreases-loop-distance : goal.decreases-loop-distance

@@ -1,8 +1,8 @@
-use Rattle.std.proofs.Common.{◌≡◌, ◌+◌, ◌%◌, ◌<◌, ◌≤◌, ℕ, suc, length, set, arith, ap, ◌∙◌, sym, subst, below_more}
+use Rattle.std.proofs.Common.{◌≡◌, ◌+◌, ◌%◌, ◌<◌, ℕ, suc, length, arith, ap, ◌∙◌, sym, subst, below_more}
 use Rattle.std.proofs.Math.ListN.{length-set}
 use Rattle.clock2q.specs.Layout.{reach, slot_at}
 use Rattle.clock2q.specs.Slots.{cell, told}
-use Rattle.clock2q.specs.Shifts.{Closes, Opens}
+use Rattle.clock2q.specs.Shifts.{Opens}
 use Rattle.clock2q.proofs.Moves.{MovingBack, moving_back_more, closed, cell-mark_back, reach_told, near_told, less_than_lap}
 use Rattle.clock2q.proofs.handles.slots.Slots.take_out.Goals as goal
 
@@ -29,7 +29,7 @@ loop-metadata-preserved g c =
     let was : o ≡ A (h + (d + 1)) = c.loop-metadata.invariant.moving.after (d + 1) (omega arith) (omega (arith, within, c.loop-metadata.invariant.len)) in
     let len : length c.write.new.self.slots ≡ length now = ap length e ∙ length-set now ((h + d) % length now) x in
     let more = moving_back_more A now c.write.new.self.slots x h c.args.distance d (d + 1) (omega arith) c.loop-metadata.invariant.from (omega (arith, within, c.loop-metadata.invariant.len)) c.loop-metadata.invariant.moving
-      (cell-mark_back _ _ o c.handle-handle.result far c.metadata-metadata.ensures.told c.moved_back.ensures c.handle-handle.ensures) e in
+    (cell-mark_back _ _ o c.handle-handle.result far c.metadata-metadata.ensures.told c.moved_back.ensures c.handle-handle.ensures) e in
     record {
       from = omega (arith, c.loop-metadata.invariant.from);
       within = within;
@@ -51,9 +51,12 @@ returns-clause-closes g c entry was =
     let near = near_told c.can_move_back.result _ o c.can_move_back.ensures c.if-not-can_move_back.true c.metadata-metadata.ensures.told in
     let s : d + 1 ≡ suc d = omega arith in
     let opens = closed A now c.write-2.new.self.slots (cell (told c.empty.result) c.default.result) h c.args.distance d entry c.loop-metadata.invariant.from (omega (arith, within, c.loop-metadata.invariant.len)) was c.loop-metadata.invariant.moving
-      (ap (λ m. cell m c.default.result) c.empty.ensures) (ap (λ s. s.slots) c.write-2.ensures) in
-    (d, record {
-      opens = subst (λ m. Opens (slot_at c.write-2.new.self.slots) A m h c.args.distance d entry) c.loop-metadata.invariant.len opens;
-      ends = omega (arith, near, ap reach there, ap (λ i. reach (A (h + i))) s);
-      occupied = c.loop-metadata.invariant.occupied;
-    }, omega (arith, c.loop-metadata.invariant.writes, ap (λ s. s.writes) c.write-2.ensures))
+    (ap (λ m. cell m c.default.result) c.empty.ensures) (ap (λ s. s.slots) c.write-2.ensures) in (
+      d,
+      record {
+        opens = subst (λ m. Opens (slot_at c.write-2.new.self.slots) A m h c.args.distance d entry) c.loop-metadata.invariant.len opens;
+        ends = omega (arith, near, ap reach there, ap (λ i. reach (A (h + i))) s);
+        occupied = c.loop-metadata.invariant.occupied;
+      },
+      omega (arith, c.loop-metadata.invariant.writes, ap (λ s. s.writes) c.write-2.ensures),
+    )

@@ -10,7 +10,7 @@ invariant-loop-metadata g l = record {
   len : length l.self.slots ≡ length l.initial.self.slots;
   occupied : (j : ℕ) → j ≤ l.hole → 0 < reach (slot_at l.initial.self.slots (l.home + j));
   moving : MovingBack (slot_at l.initial.self.slots) (slot_at l.self.slots) (length l.self.slots) l.home l.distance l.hole;
-  writes : l.self.writes + l.distance ≡ l.initial.self.writes + l.hole
+  writes : l.self.writes + l.distance ≡ l.initial.self.writes + l.hole;
 }
 
 abbrev pub decreases-loop-metadata : goal.decreases-loop-metadata

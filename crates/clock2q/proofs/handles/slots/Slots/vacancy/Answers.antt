@@ -1,4 +1,4 @@
-use Rattle.std.proofs.Common.{◌≡◌, ◌+◌, ◌<◌, ◌≤◌, ℕ, length, arith, below_more}
+use Rattle.std.proofs.Common.{◌+◌, ◌<◌, ◌≤◌, ℕ, arith, below_more}
 use Rattle.clock2q.specs.Layout.{reach, slot_at}
 use Rattle.clock2q.proofs.Moves.{occupied_told, reach_told, less_than_lap}
 use Rattle.clock2q.proofs.handles.slots.Slots.vacancy.Goals as goal
@@ -17,5 +17,5 @@ loop-metadata-preserved g c =
       within = less_than_lap c.args.self.now.slots c.args.home (d + 1) c.requires.tidy (omega (arith, c.requires.home)) occupied;
       occupied = occupied;
       near = λ j f u. below_more (λ i. c.args.from ≤ i → reach (slot_at c.args.self.now.slots (c.args.home + i)) ≤ 16777214) d (λ i u f. c.loop-metadata.invariant.near i f u)
-        (λ f. omega (arith, near, reach_told _ (slot_at c.args.self.now.slots (c.args.home + d)) c.metadata-metadata.ensures.told)) j u f;
+          (λ f. omega (arith, near, reach_told _ (slot_at c.args.self.now.slots (c.args.home + d)) c.metadata-metadata.ensures.told)) j u f;
     }

@@ -7,7 +7,7 @@ invariant-loop-metadata g l = record {
   from : l.from ≤ l.distance;
   within : l.distance < length l.self.slots;
   occupied : (j : ℕ) → j < l.distance → 0 < reach (slot_at l.self.slots (l.home + j));
-  near : (j : ℕ) → l.from ≤ j → j < l.distance → reach (slot_at l.self.slots (l.home + j)) ≤ 16777214
+  near : (j : ℕ) → l.from ≤ j → j < l.distance → reach (slot_at l.self.slots (l.home + j)) ≤ 16777214;
 }
 
 abbrev pub decreases-loop-metadata : goal.decreases-loop-metadata

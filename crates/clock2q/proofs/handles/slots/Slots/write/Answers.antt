@@ -1,9 +1,5 @@
-use Rattle.std.proofs.Common.{◌≡◌, ◌+◌, ◌%◌, ◌<◌, ◌≤◌, ℕ, None, IfSome, length, ◌-◌, bit_and, arith, sym, ap, ◌∙◌, refl, subst}
-use Rattle.std.proofs.Math.ListN.{set, replicate}
-use Rattle.std.proofs.lemmas.Nat.{mod_below}
-use Rattle.clock2q.specs.Layout.{slot_at}
-use Rattle.clock2q.specs.Slots.{slots_value, cell, cells, told, mark_of, IsSlotCount}
-use Rattle.clock2q.proofs.Cells.{slot_mask, length-cells, filled_cells, written_cells, mark_read, handle_read}
+use Rattle.std.proofs.Common.{◌+◌, ◌%◌, length, arith, sym, ap, ◌∙◌}
+use Rattle.clock2q.proofs.Cells.{length-cells, written_cells}
 use Rattle.clock2q.proofs.handles.slots.Slots.write.Goals as goal
 
 pub index_mut-requires : goal.index_mut-requires
@@ -24,4 +20,4 @@ pub returns : goal.returns
 returns g c =
     let ends = ap (λ s. length s.slots) c.self.view_is in
     rw (← c.self.view_is) (written_cells c.self.inside.metadata.items c.self.inside.handles.items (c.args.home + c.args.distance) c.slot-slot.result c.self.inside.writes.total c.tick.new.self.total c.args.metadata c.args.handle c.self.invariant.0
-      (c.slot-slot.ensures.slot ∙ ap (λ m. (c.args.home + c.args.distance) % m) (sym ends)) c.tick.ensures)
+    (c.slot-slot.ensures.slot ∙ ap (λ m. (c.args.home + c.args.distance) % m) (sym ends)) c.tick.ensures)
