@@ -304,11 +304,11 @@ first_gone l first count ss slot q e = first_after l count ss slot (subst (λ z.
 
 -- The last slot
 
-split_last : (ss : List ℕ) (s x : ℕ) → last_or None (s ∷ ss) ≡ Some x → (xs : List ℕ) × (s ∷ ss ≡ xs ++ x ∷ [])
+pub split_last : (ss : List ℕ) (s x : ℕ) → last_or None (s ∷ ss) ≡ Some x → (xs : List ℕ) × (s ∷ ss ≡ xs ++ x ∷ [])
 split_last [] s x e = let q : s ≡ x = cc in ([], ap (λ z. z ∷ []) q)
 split_last (t ∷ ss) s x e = let p = split_last ss t x e in (s ∷ p.0, ap (λ zs. s ∷ zs) p.1)
 
-last_before : (next previous : ℕ → ℕ) (from : ℕ) (ss : List ℕ) (to : ℕ) → Joins next previous from ss to → last_or None (from ∷ ss) ≡ Some (previous to)
+pub last_before : (next previous : ℕ → ℕ) (from : ℕ) (ss : List ℕ) (to : ℕ) → Joins next previous from ss to → last_or None (from ∷ ss) ≡ Some (previous to)
 last_before next previous from [] to j = ap (λ z. Some z) (sym j.1)
 last_before next previous from (s ∷ ss) to j = last_before next previous s ss to j.2
 

@@ -1,54 +1,58 @@
-mod Residents
-mod WorkedRuns
-mod Kept
-mod Placed
-mod WorkedTexts
-mod Cutting
-mod Numbers
-mod Calling
-mod Spelling
 mod Answering
-mod Transferring
+mod Calling
+mod Cutting
+mod Kept
+mod LayoutVectors
+mod Numbers
+mod Placed
+mod Residents
 mod Serving
+mod Spelling
+mod Transferring
+mod WorkedRuns
+mod WorkedTexts
+pub mod Cells
+pub mod Changes
+pub mod Finding
+pub mod Fit
+pub mod Gaps
+pub mod Groups
+pub mod Growth
 pub mod Hand
-pub mod Leaving
-pub mod Main
+pub mod Hashes
+pub mod Histories
+pub mod Hits
+pub mod Indexes
+pub mod Insertions
 pub mod Joining
+pub mod Keyed
+pub mod Laid
+pub mod Laps
+pub mod Leaving
+pub mod Lookups
+pub mod Main
+pub mod Moves
+pub mod Orders
+pub mod Placement
+pub mod Places
+pub mod Promises
+pub mod Rebuild
+pub mod Rebuilds
+pub mod Records
+pub mod Removals
 pub mod Resetting
 pub mod Rings
-pub mod Records
-pub mod Window
-pub mod Sharing
-pub mod Hits
-pub mod Keyed
-mod LayoutVectors
-pub mod Groups
-pub mod Cells
-pub mod Fit
-pub mod Tables
-pub mod Finding
-pub mod Moves
-pub mod Spill
-pub mod Tiles
-pub mod Laps
-pub mod Laid
-pub mod Walk
-pub mod Sums
-pub mod Slots
-pub mod Tidy
-pub mod Gaps
-pub mod Shifts
-pub mod Changes
-pub mod Placement
-pub mod Rebuild
-pub mod TooLong
 pub mod Runs
-pub mod Removals
-pub mod Hashes
+pub mod Sharing
+pub mod Shifts
+pub mod Slots
+pub mod Spill
 pub mod Steps
-pub mod Insertions
+pub mod Sums
+pub mod Tables
+pub mod Tidy
+pub mod Tiles
+pub mod TooLong
+pub mod Walk
+pub mod Window
 pub mod Yields
-pub mod Rebuilds
-pub mod Growth
-pub mod Lookups
-pub mod Promises

@@ -22,6 +22,9 @@ pub mod Rings
 pub mod Small
 pub mod Queues
 pub mod Keyed
+pub mod Order
+pub mod Keys
+pub mod History
 pub mod Homes
 pub mod Layout
 pub mod TableStep

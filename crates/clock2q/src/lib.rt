@@ -5,6 +5,7 @@ pub mod cache;
 pub mod command;
 mod count;
 pub mod handles;
+mod history;
 mod links;
 mod main_ring;
 mod queues;

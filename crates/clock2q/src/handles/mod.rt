@@ -143,7 +143,7 @@ impl<H: Copy + Eq + Default, A: Allocator + Copy> Table<H, A> {
     }
 
     /// Puts an entry in, in a table that has room for it.
-    fn put(&mut self, hash: u64, handle: H) -> Result<(), TableError>
+    pub(crate) fn put(&mut self, hash: u64, handle: H) -> Result<(), TableError>
         requires { total self.old.homes < capacity (length self.old.homes) }
         ensures ok { OnOk result (self.new.homes ≡ inserted self.old.homes hash handle) }
         ensures short { OnOk result (IsTooLong (inserted self.old.homes hash handle) → ⊥) }
