@@ -12,7 +12,7 @@ use Rattle.clock2q.specs.Order.{PlaceOrder, IsWholeOrder, unused, used, next_pla
 use Rattle.clock2q.specs.Keys.{KeyPlaces, key_places, written, is_key_at, hash_at}
 use Rattle.clock2q.specs.History.{IsIndex, IsHistory, MakesPlace, entries_of, is_remembered, forgotten, IsWholeHistory, Empties, remembered, from_place, AllDistinct, HasHash, is_named}
 use Rattle.clock2q.proofs.Rings.{eqb_self, differs, or_left, or_right, or_neither, eqb_swap, has_first, has_later, or_parts, AllApart-left, AllBelow-left, below_of, without-parted, has-append}
-use Rattle.clock2q.proofs.Queues.{split_last, has-without, length-without}
+use Rattle.clock2q.proofs.Joining.{split_last, has-without, length-without}
 use Rattle.clock2q.specs.Layout.{IsTooLong}
 use Rattle.clock2q.specs.TableStep.{fit, doubled_until, made_for}
 use Rattle.clock2q.proofs.Rebuild.{total-no_entries}

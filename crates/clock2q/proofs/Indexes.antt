@@ -8,7 +8,7 @@ use Rattle.clock2q.specs.Homes.{top, home, listed, count, total, candidates, ins
 use Rattle.clock2q.specs.Keys.{hash_at}
 use Rattle.clock2q.specs.History.{IsIndex, is_alike, is_named}
 use Rattle.clock2q.proofs.Rings.{eqb_self, or_neither, has-append, differs, AllApart-append, without_absent}
-use Rattle.clock2q.proofs.Queues.{length-without}
+use Rattle.clock2q.proofs.Joining.{length-without}
 use Rattle.clock2q.proofs.Changes.{length-with_list, total-with_list}
 use Rattle.clock2q.proofs.Lookups.{candidates-inserted, candidates-inserted_other, candidates-removed, candidates-removed_other}
 

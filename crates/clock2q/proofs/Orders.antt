@@ -12,7 +12,7 @@ use Rattle.clock2q.specs.Links.{LinkState, IsLinked, IsQueue, Attaches, Detaches
 use Rattle.clock2q.specs.Order.{PlaceOrder, IsOrderOf, IsOrder, IsWholeOrder, free_places, place_for}
 use Rattle.clock2q.proofs.Records.{changed}
 use Rattle.clock2q.proofs.Rings.{eqb_self, or_left, or_right, or_parts, or_neither, has-append, has_first, has_later, AllApart-left, AllApart-right, AllApart-append, AllApart-turned, AllBelow-append, AllBelow-left, AllBelow-right, apart_from, apart_back, below_of}
-use Rattle.clock2q.proofs.Queues.{Inserts, Inserts-before, Inserts-first, Removes, Removes-detached, IsLinked-kept, IsLinked-turned, slots_from-is, previous_in, next_in, in_bounds, length-without, has-without, split_last, last_before}
+use Rattle.clock2q.proofs.Joining.{Inserts, Inserts-before, Inserts-first, Removes, Removes-detached, IsLinked-kept, IsLinked-turned, slots_from-is, previous_in, next_in, in_bounds, length-without, has-without, split_last, last_before}
 
 -- Lists of places
 

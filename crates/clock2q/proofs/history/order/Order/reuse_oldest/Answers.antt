@@ -3,7 +3,7 @@ use Rattle.std.specs.List.{last_or}
 use Rattle.clock2q.specs.declared.links.Record.{Record}
 use Rattle.clock2q.specs.Order.{PlaceOrder}
 use Rattle.clock2q.proofs.Orders.{IsOrder-from, IsWholeOrder-from, Reuses, reuses}
-use Rattle.clock2q.proofs.Queues.{slots_from-is}
+use Rattle.clock2q.proofs.Joining.{slots_from-is}
 use Rattle.clock2q.proofs.history.order.Order.reuse_oldest.Goals as goal
 
 pub invariant_of-self : goal.invariant_of-self

@@ -5,7 +5,7 @@ use Rattle.clock2q.specs.Rings.{has, without}
 use Rattle.clock2q.specs.Links.{slots_from}
 use Rattle.clock2q.specs.Order.{PlaceOrder}
 use Rattle.clock2q.proofs.Orders.{IsOrder-from, IsWholeOrder-from, neighbours_fit, not_free, count_fits, Unlinks}
-use Rattle.clock2q.proofs.Queues.{slots_from-is, is_first, not_first, first_gone, first_stays}
+use Rattle.clock2q.proofs.Joining.{slots_from-is, is_first, not_first, first_gone, first_stays}
 use Rattle.clock2q.proofs.history.order.Order.unlink.Goals as goal
 
 pub detach-was-requires-clause-slot_in : goal.detach-was-requires-clause-slot_in
