@@ -7,6 +7,8 @@ mod caches;
 mod devices;
 #[cfg(test)]
 mod refused;
+#[cfg(test)]
+mod refused_tables;
 pub mod refusing;
 #[cfg(test)]
 mod texts;
