@@ -44,14 +44,14 @@ gone p ps = has-without_test p p ps ∙ rw (eqb_self p) (none (has p ps))
     none false = refl
 
 used_next : (ps fs : List ℕ) → place_for (length ps) fs < suc (length ps) + length (drop 1 fs)
-  → (place_for (length ps) fs ≤ length ps + length fs) × (suc (length ps) + length (drop 1 fs) ≡ max (length ps + length fs) (place_for (length ps) fs + 1))
+    → (place_for (length ps) fs ≤ length ps + length fs) × (suc (length ps) + length (drop 1 fs) ≡ max (length ps + length fs) (place_for (length ps) fs + 1))
 used_next ps [] h = (omega arith, omega arith)
 used_next ps (f ∷ fs) h = (omega (arith, h), omega (arith, h))
 
 module _ {K : Type 0} (index : List (List (ℕ × ℕ))) (order order' : PlaceOrder) (keys : List (ℕ × K)) (place : ℕ)
-  (i : IsIndex index keys order.places) (as_many : length keys ≡ used order) (w : IsWholeOrder order) where
+    (i : IsIndex index keys order.places) (as_many : length keys ≡ used order) (w : IsWholeOrder order) where
   pub MakesPlace-new : length order.places < order.limit → place ≡ next_place order → order'.places ≡ place ∷ order.places → order'.free ≡ drop 1 order.free → order'.limit ≡ order.limit
-    → order'.accesses ≤ order.accesses + 7 → MakesPlace index index order order' keys place
+      → order'.accesses ≤ order.accesses + 7 → MakesPlace index index order order' keys place
   MakesPlace-new room is places free limit accesses =
       let n : FitsNext order.limit place order.places order.free = subst (λ z. FitsNext order.limit z order.places order.free) (sym is) (FitsNext-from order.limit order.places order.free w.apart w.below w.within room) in
       let u = used_next order.places order.free (subst (λ z. z < suc (length order.places) + length (drop 1 order.free)) is n.below.0) in
@@ -75,8 +75,8 @@ module _ {K : Type 0} (index : List (List (ℕ × ℕ))) (order order' : PlaceOr
       rw as_many (below_of (used order) order.places (AllBelow-left (used order) order.places order.free w.below) place there)
 
   pub MakesPlace-oldest : (index' : List (List (ℕ × ℕ))) (hash : ℕ) → order.limit ≤ length order.places → 0 < length index → last_or None order.places ≡ Some place
-    → order'.places ≡ place ∷ take (length order.places - 1) order.places → order'.free ≡ order.free → order'.limit ≡ order.limit → order'.accesses ≡ order.accesses + 1
-    → hash_at keys place ≡ Some hash → index' ≡ removed eqb index hash place → MakesPlace index index' order order' keys place
+      → order'.places ≡ place ∷ take (length order.places - 1) order.places → order'.free ≡ order.free → order'.limit ≡ order.limit → order'.accesses ≡ order.accesses + 1
+      → hash_at keys place ≡ Some hash → index' ≡ removed eqb index hash place → MakesPlace index index' order order' keys place
   MakesPlace-oldest index' hash full some last places free limit accesses at is =
       let apart = AllApart-left order.places order.free w.apart in
       let l = last_taken order.places place last apart in
@@ -170,7 +170,7 @@ module _ {K : Type 0} where
     pub entries : entries_of keys'.remembered order'.places ≡ take order.limit ((hash, key) ∷ entries_of keys.remembered order.places)
 
   module _ (eq : K → K → Bool) (hash : ℕ) (key : K) (index index1 index' : List (List (ℕ × ℕ))) (order order' : PlaceOrder) (keys keys' : KeyPlaces K) (place : ℕ)
-    (h : IsHistory eq index order keys) (some : 0 < order.limit) (m : MakesPlace index index1 order order' keys.remembered place) where
+      (h : IsHistory eq index order keys) (some : 0 < order.limit) (m : MakesPlace index index1 order order' keys.remembered place) where
     abbrev pub fewer : List ℕ
     fewer = take (order.limit - 1) order.places
 
@@ -191,7 +191,7 @@ module _ {K : Type 0} where
         absurd (omega (arith, too-long-total (inserted index1 hash place) (rw (n, m') (omega (arith, put_fits))) long, n, few, h.short))
 
     module _ (write : keys' ≡ key_places (written place (hash, key) keys.remembered) keys.room (keys.writes + 1) keys.questions) (put : index' ≡ inserted index1 hash place) (w : IsWholeOrder order')
-      (absent : is_remembered eq key (entries_of keys.remembered order.places) ≡ false) where
+        (absent : is_remembered eq key (entries_of keys.remembered order.places) ≡ false) where
       wrote : keys'.remembered ≡ written place (hash, key) keys.remembered
       wrote = ap (λ (z : KeyPlaces K). z.remembered) write
 
@@ -249,10 +249,11 @@ all_from n (c ∷ cs) h = (h c (has_first c cs), all_from n cs (λ t g. h t (has
 found_there : (test : ℕ → Bool) (cs : List ℕ) (p : ℕ) → Some p ≡ find test cs → (has p cs ≡ true) × (test p ≡ true)
 found_there test [] p e = absurd (cc)
 found_there test (c ∷ cs) p e = elim (cases_Bool (test c)) [
-    inl h ↦
+  | inl h ↦
       let q : p ≡ c = some_same p c (e ∙ rw h refl) in
       (subst (λ z. has z (c ∷ cs) ≡ true) (sym q) (has_first c cs), subst (λ z. test z ≡ true) (sym q) h)
-  | inr h ↦ let r = found_there test cs p (e ∙ rw h refl) in (has_later p c cs r.0, r.1) ]
+  | inr h ↦ let r = found_there test cs p (e ∙ rw h refl) in (has_later p c cs r.0, r.1)
+]
   where
     some_same : (x y : ℕ) → Some x ≡ Some y → x ≡ y
     some_same x y e = cc
@@ -260,10 +261,12 @@ found_there test (c ∷ cs) p e = elim (cases_Bool (test c)) [
 not_found : (test : ℕ → Bool) (cs : List ℕ) → None ≡ find test cs → (t : ℕ) → has t cs ≡ true → test t ≡ false
 not_found test [] e t g = absurd (both_ways false refl g)
 not_found test (c ∷ cs) e t g = elim (cases_Bool (test c)) [
-    inl h ↦ absurd (none_some c (e ∙ rw h refl))
+  | inl h ↦ absurd (none_some c (e ∙ rw h refl))
   | inr h ↦ elim (or_cases (eqb t c) (has t cs) g) [
-      inl q ↦ subst (λ z. test z ≡ false) (sym (eqb-true t c q)) h
-    | inr q ↦ not_found test cs (e ∙ rw h refl) t q ] ]
+    | inl q ↦ subst (λ z. test z ≡ false) (sym (eqb-true t c q)) h
+    | inr q ↦ not_found test cs (e ∙ rw h refl) t q
+  ]
+]
   where
     none_some : (x : ℕ) → None ≡ Some x → ⊥
     none_some x e = cc
@@ -284,8 +287,9 @@ module _ {K : Type 0} (eq : K → K → Bool) where
   all_entry : (P : ℕ × K → Type 0) (keys : List (ℕ × K)) (ps : List ℕ) (t : ℕ) (e : ℕ × K) → AllByRecursion P (entries_of keys ps) → has t ps ≡ true → slice_get keys t ≡ Some e → P e
   all_entry P keys [] t e a h s = absurd (both_ways false refl h)
   all_entry P keys (p ∷ ps) t e a h s = elim (or_cases (eqb t p) (has t ps) h) [
-      inl q ↦ (subst (λ z. AllByRecursion P (cons_option z (entries_of keys ps))) (subst (λ z. slice_get keys z ≡ Some e) (eqb-true t p q) s) a).0
-    | inr q ↦ all_entry P keys ps t e (all_tail P (slice_get keys p) (entries_of keys ps) a) q s ]
+    | inl q ↦ (subst (λ z. AllByRecursion P (cons_option z (entries_of keys ps))) (subst (λ z. slice_get keys z ≡ Some e) (eqb-true t p q) s) a).0
+    | inr q ↦ all_entry P keys ps t e (all_tail P (slice_get keys p) (entries_of keys ps) a) q s
+  ]
 
   any_tail : (key : K) (o : Option (ℕ × K)) (es : List (ℕ × K)) → is_remembered eq key es ≡ true → is_remembered eq key (cons_option o es) ≡ true
   any_tail key None es a = a
@@ -294,8 +298,9 @@ module _ {K : Type 0} (eq : K → K → Bool) where
   any_entry : (key : K) (keys : List (ℕ × K)) (ps : List ℕ) (t : ℕ) (e : ℕ × K) → has t ps ≡ true → slice_get keys t ≡ Some e → eq key e.1 ≡ true → is_remembered eq key (entries_of keys ps) ≡ true
   any_entry key keys [] t e h s k = absurd (both_ways false refl h)
   any_entry key keys (p ∷ ps) t e h s k = elim (or_cases (eqb t p) (has t ps) h) [
-      inl q ↦ subst (λ z. is_remembered eq key (cons_option z (entries_of keys ps)) ≡ true) (sym (subst (λ z. slice_get keys z ≡ Some e) (eqb-true t p q) s)) (or_left (eq key e.1) (is_remembered eq key (entries_of keys ps)) k)
-    | inr q ↦ any_tail key (slice_get keys p) (entries_of keys ps) (any_entry key keys ps t e q s k) ]
+    | inl q ↦ subst (λ z. is_remembered eq key (cons_option z (entries_of keys ps)) ≡ true) (sym (subst (λ z. slice_get keys z ≡ Some e) (eqb-true t p q) s)) (or_left (eq key e.1) (is_remembered eq key (entries_of keys ps)) k)
+    | inr q ↦ any_tail key (slice_get keys p) (entries_of keys ps) (any_entry key keys ps t e q s k)
+  ]
 
   distinct_tail : (o : Option (ℕ × K)) (es : List (ℕ × K)) → AllDistinct eq (cons_option o es) → AllDistinct eq es
   distinct_tail None es d = d
@@ -303,19 +308,22 @@ module _ {K : Type 0} (eq : K → K → Bool) where
 
   -- two places don't have the same key
   same_place : IsEquivalence eq → (key : K) (keys : List (ℕ × K)) (ps : List ℕ) → AllDistinct eq (entries_of keys ps) → (t u : ℕ) (e f : ℕ × K) → has t ps ≡ true → has u ps ≡ true → slice_get keys t ≡ Some e → slice_get keys u ≡ Some f
-    → eq key e.1 ≡ true → eq key f.1 ≡ true → eqb t u ≡ true
+      → eq key e.1 ≡ true → eq key f.1 ≡ true → eqb t u ≡ true
   same_place laws key keys [] d t u e f ht hu st su kt ku = absurd (both_ways false refl ht)
   same_place laws key keys (p ∷ ps) d t u e f ht hu st su kt ku = elim (or_cases (eqb t p) (has t ps) ht) [
-      inl q ↦ elim (or_cases (eqb u p) (has u ps) hu) [
-          inl r ↦ eq-eqb t u (eqb-true t p q ∙ sym (eqb-true u p r))
-        | inr r ↦
-            let d' : AllDistinct eq (e ∷ entries_of keys ps) = subst (λ z. AllDistinct eq (cons_option z (entries_of keys ps))) (subst (λ z. slice_get keys z ≡ Some e) (eqb-true t p q) st) d in
-            absurd (both_ways (is_remembered eq e.1 (entries_of keys ps)) d'.0 (any_entry e.1 keys ps u f r su (sym (laws.congr key e.1 f.1 kt) ∙ ku))) ]
+    | inl q ↦ elim (or_cases (eqb u p) (has u ps) hu) [
+      | inl r ↦ eq-eqb t u (eqb-true t p q ∙ sym (eqb-true u p r))
+      | inr r ↦
+          let d' : AllDistinct eq (e ∷ entries_of keys ps) = subst (λ z. AllDistinct eq (cons_option z (entries_of keys ps))) (subst (λ z. slice_get keys z ≡ Some e) (eqb-true t p q) st) d in
+          absurd (both_ways (is_remembered eq e.1 (entries_of keys ps)) d'.0 (any_entry e.1 keys ps u f r su (sym (laws.congr key e.1 f.1 kt) ∙ ku)))
+    ]
     | inr q ↦ elim (or_cases (eqb u p) (has u ps) hu) [
-          inl r ↦
-            let d' : AllDistinct eq (f ∷ entries_of keys ps) = subst (λ z. AllDistinct eq (cons_option z (entries_of keys ps))) (subst (λ z. slice_get keys z ≡ Some f) (eqb-true u p r) su) d in
-            absurd (both_ways (is_remembered eq f.1 (entries_of keys ps)) d'.0 (any_entry f.1 keys ps t e q st (sym (laws.congr key f.1 e.1 ku) ∙ kt)))
-        | inr r ↦ same_place laws key keys ps (distinct_tail (slice_get keys p) (entries_of keys ps) d) t u e f q r st su kt ku ] ]
+      | inl r ↦
+          let d' : AllDistinct eq (f ∷ entries_of keys ps) = subst (λ z. AllDistinct eq (cons_option z (entries_of keys ps))) (subst (λ z. slice_get keys z ≡ Some f) (eqb-true u p r) su) d in
+          absurd (both_ways (is_remembered eq f.1 (entries_of keys ps)) d'.0 (any_entry f.1 keys ps t e q st (sym (laws.congr key f.1 e.1 ku) ∙ kt)))
+      | inr r ↦ same_place laws key keys ps (distinct_tail (slice_get keys p) (entries_of keys ps) d) t u e f q r st su kt ku
+    ]
+  ]
 
   forgotten_kept : (key : K) (o : Option (ℕ × K)) (es : List (ℕ × K)) → has_key key o ≡ false → forgotten eq key (cons_option o es) ≡ cons_option o (forgotten eq key es)
   forgotten_kept key None es h = refl
@@ -327,13 +335,14 @@ module _ {K : Type 0} (eq : K → K → Bool) where
 
   -- the one place that has the key is taken out
   forgets_one : (key : K) (keys : List (ℕ × K)) (p : ℕ) (ps : List ℕ) → is_key_at eq key keys p ≡ true → ((t : ℕ) → has t ps ≡ true → eqb t p ≡ false → is_key_at eq key keys t ≡ false)
-    → entries_of keys (without p ps) ≡ forgotten eq key (entries_of keys ps)
+      → entries_of keys (without p ps) ≡ forgotten eq key (entries_of keys ps)
   forgets_one key keys p [] k h = refl
   forgets_one key keys p (q ∷ ps) k h =
       let rest = forgets_one key keys p ps k (λ t g d. h t (has_later t q ps g) d) in
       elim (cases_Bool (eqb q p)) [
-          inl e ↦ rw e (rest ∙ sym (forgotten_gone key (slice_get keys q) (entries_of keys ps) (subst (λ z. is_key_at eq key keys z ≡ true) (sym (eqb-true q p e)) k)))
-        | inr e ↦ rw e (ap (λ z. cons_option (slice_get keys q) z) rest ∙ sym (forgotten_kept key (slice_get keys q) (entries_of keys ps) (h q (has_first q ps) e))) ]
+        | inl e ↦ rw e (rest ∙ sym (forgotten_gone key (slice_get keys q) (entries_of keys ps) (subst (λ z. is_key_at eq key keys z ≡ true) (sym (eqb-true q p e)) k)))
+        | inr e ↦ rw e (ap (λ z. cons_option (slice_get keys q) z) rest ∙ sym (forgotten_kept key (slice_get keys q) (entries_of keys ps) (h q (has_first q ps) e)))
+      ]
 
   any_none : (key : K) (o : Option (ℕ × K)) (es : List (ℕ × K)) → has_key key o ≡ false → is_remembered eq key es ≡ false → is_remembered eq key (cons_option o es) ≡ false
   any_none key None es h r = r
@@ -341,7 +350,7 @@ module _ {K : Type 0} (eq : K → K → Bool) where
 
   -- no place has the key
   forgets_none : (key : K) (keys : List (ℕ × K)) (ps : List ℕ) → ((t : ℕ) → has t ps ≡ true → is_key_at eq key keys t ≡ false)
-    → (is_remembered eq key (entries_of keys ps) ≡ false) × (forgotten eq key (entries_of keys ps) ≡ entries_of keys ps)
+      → (is_remembered eq key (entries_of keys ps) ≡ false) × (forgotten eq key (entries_of keys ps) ≡ entries_of keys ps)
   forgets_none key keys [] h = (refl, refl)
   forgets_none key keys (p ∷ ps) h =
       let rest = forgets_none key keys ps (λ t g. h t (has_later t p ps g)) in
@@ -353,20 +362,22 @@ module _ {K : Type 0} (eq : K → K → Bool) where
   remembered-forgotten x key (e ∷ es) h =
       let p = or_parts (eq x e.1) (is_remembered eq x es) h in
       elim (cases_Bool (eq key e.1)) [
-          inl k ↦ rw k (remembered-forgotten x key es p.1)
-        | inr k ↦ rw k (or_neither (eq x e.1) (is_remembered eq x (forgotten eq key es)) p.0 (remembered-forgotten x key es p.1)) ]
+        | inl k ↦ rw k (remembered-forgotten x key es p.1)
+        | inr k ↦ rw k (or_neither (eq x e.1) (is_remembered eq x (forgotten eq key es)) p.0 (remembered-forgotten x key es p.1))
+      ]
 
   distinct-forgotten : (key : K) (es : List (ℕ × K)) → AllDistinct eq es → AllDistinct eq (forgotten eq key es)
   distinct-forgotten key [] d = tt
   distinct-forgotten key (e ∷ es) d = elim (cases_Bool (eq key e.1)) [
-      inl k ↦ rw k (distinct-forgotten key es d.1)
-    | inr k ↦ rw k ((remembered-forgotten e.1 key es d.0, distinct-forgotten key es d.1)) ]
+    | inl k ↦ rw k (distinct-forgotten key es d.1)
+    | inr k ↦ rw k ((remembered-forgotten e.1 key es d.0, distinct-forgotten key es d.1))
+  ]
 
   module _ (hash : ℕ) (key : K) (index : List (List (ℕ × ℕ))) (order : PlaceOrder) (keys : KeyPlaces K) (h : IsHistory eq index order keys) where
     pub candidates_there : AllByRecursion (λ place. place < length keys.remembered) (candidates index hash)
     candidates_there = all_from (length keys.remembered) (candidates index hash) (λ t g.
-      let p : has t order.places ≡ true = (and_parts (has t order.places) (is_named index keys.remembered hash t) (sym (h.indexed.listed hash t) ∙ g)).0 in
-      rw h.as_many (below_of (used order) order.places (AllBelow-left (used order) order.places order.free h.whole.below) t p))
+        let p : has t order.places ≡ true = (and_parts (has t order.places) (is_named index keys.remembered hash t) (sym (h.indexed.listed hash t) ∙ g)).0 in
+        rw h.as_many (below_of (used order) order.places (AllBelow-left (used order) order.places order.free h.whole.below) t p))
 
     module _ (hashed : HasHash eq hash key (entries_of keys.remembered order.places)) where
       hash_there : (t : ℕ) → has t order.places ≡ true → is_key_at eq key keys.remembered t ≡ true → hash_at keys.remembered t ≡ Some hash
@@ -377,13 +388,14 @@ module _ {K : Type 0} (eq : K → K → Bool) where
 
       -- a key that isn't found isn't remembered
       pub missed : None ≡ find (is_key_at eq key keys.remembered) (candidates index hash)
-        → (is_remembered eq key (entries_of keys.remembered order.places) ≡ false) × (forgotten eq key (entries_of keys.remembered order.places) ≡ entries_of keys.remembered order.places)
+          → (is_remembered eq key (entries_of keys.remembered order.places) ≡ false) × (forgotten eq key (entries_of keys.remembered order.places) ≡ entries_of keys.remembered order.places)
       missed none = forgets_none key keys.remembered order.places (λ t g. elim (cases_Bool (is_key_at eq key keys.remembered t)) [
-          inl k ↦
+        | inl k ↦
             let named : is_named index keys.remembered hash t ≡ true = named-own index keys.remembered hash t (hash_there t g k) in
             let c : has t (candidates index hash) ≡ true = h.indexed.listed hash t ∙ rw (g, named) refl in
             absurd (both_ways (is_key_at eq key keys.remembered t) (not_found (is_key_at eq key keys.remembered) (candidates index hash) none t c) k)
-        | inr k ↦ k ])
+        | inr k ↦ k
+      ])
 
   -- a key was forgotten, if it was there
   pub record Forgets (key : K) (order : PlaceOrder) (keys : KeyPlaces K) (index' : List (List (ℕ × ℕ))) (order' : PlaceOrder) (keys' : KeyPlaces K) : Type 0 where
@@ -392,7 +404,7 @@ module _ {K : Type 0} (eq : K → K → Bool) where
     pub found : is_remembered eq key (entries_of keys.remembered order.places) ≡ true
 
   module _ (laws : IsEquivalence eq) (hash : ℕ) (key : K) (index index' : List (List (ℕ × ℕ))) (order order' : PlaceOrder) (keys keys' : KeyPlaces K) (place : ℕ) (h : IsHistory eq index order keys)
-    (hashed : HasHash eq hash key (entries_of keys.remembered order.places)) (found : Some place ≡ find (is_key_at eq key keys.remembered) (candidates index hash)) where
+      (hashed : HasHash eq hash key (entries_of keys.remembered order.places)) (found : Some place ≡ find (is_key_at eq key keys.remembered) (candidates index hash)) where
     place_has : is_key_at eq key keys.remembered place ≡ true
     place_has = (found_there (is_key_at eq key keys.remembered) (candidates index hash) place found).1
 
@@ -403,21 +415,22 @@ module _ {K : Type 0} (eq : K → K → Bool) where
 
     others_differ : (t : ℕ) → has t order.places ≡ true → eqb t place ≡ false → is_key_at eq key keys.remembered t ≡ false
     others_differ t g d = elim (cases_Bool (is_key_at eq key keys.remembered t)) [
-        inl k ↦
+      | inl k ↦
           let e = key_there key (slice_get keys.remembered t) k in
           let f = key_there key (slice_get keys.remembered place) place_has in
           absurd (both_ways (eqb t place) d (same_place laws key keys.remembered order.places h.distinct t place e.0 f.0 g place_there e.1 f.1 e.2 f.2))
-      | inr k ↦ k ]
+      | inr k ↦ k
+    ]
 
     pub forgets : index' ≡ removed eqb index hash place → IsWholeOrder order' → order'.places ≡ without place order.places → order'.free ≡ place ∷ order.free → order'.limit ≡ order.limit
-      → keys'.remembered ≡ keys.remembered → keys'.room ≡ keys.room → Forgets key order keys index' order' keys'
+        → keys'.remembered ≡ keys.remembered → keys'.room ≡ keys.room → Forgets key order keys index' order' keys'
     forgets is w places free limit same room =
         let apart = AllApart-left order.places order.free h.whole.apart in
         let slots : 0 < length index = some_slots (length index) (omega (arith, length-without place order.places apart place_there, h.whole.within, h.fits)) in
         let at = hash_there hash key index order keys h hashed place place_there place_has in
         let taken = IsIndex-taken index keys.remembered order.places place hash h.indexed slots apart at in
         let entries : entries_of keys'.remembered order'.places ≡ forgotten eq key (entries_of keys.remembered order.places) =
-          ap (λ z. entries_of z order'.places) same ∙ ap (λ z. entries_of keys.remembered z) places ∙ forgets_one key keys.remembered place order.places place_has others_differ in
+        ap (λ z. entries_of z order'.places) same ∙ ap (λ z. entries_of keys.remembered z) places ∙ forgets_one key keys.remembered place order.places place_has others_differ in
         let e = key_there key (slice_get keys.remembered place) place_has in
         let count : used order' ≡ used order = omega (arith, ap (λ (z : List ℕ). length z) places, ap (λ (z : List ℕ). length z) free, length-without place order.places apart place_there) in
         record {
@@ -444,8 +457,9 @@ none_read (suc m) (suc i) = none_read m i
 enough : (e k m : ℕ) → 16 ≤ m → e ≤ capacity m + k → e ≤ capacity (doubled_until e m k)
 enough e zero m l h = omega (arith, h)
 enough e (suc k) m l h = elim (leb_tells e (capacity m)) [
-    inl q ↦ rw (q.0, doubled_until) q.1
-  | inr q ↦ rw (q.0, doubled_until) (enough e k (2 * m) (omega (arith, l)) (omega (arith, l, h, q.1))) ]
+  | inl q ↦ rw (q.0, doubled_until) q.1
+  | inr q ↦ rw (q.0, doubled_until) (enough e k (2 * m) (omega (arith, l)) (omega (arith, l, h, q.1)))
+]
 
 fits_new : (limit : ℕ) → limit ≤ capacity (length (made_for {H = ℕ} limit))
 unfolding fit
@@ -484,7 +498,7 @@ module _ {K : Type 0} where
   entries_counted eq index order keys h = length-entries keys.remembered (used order) order.places (omega (arith, h.as_many)) (AllBelow-left (used order) order.places order.free h.whole.below)
 
   pub IsWholeHistory-from : (eq : K → K → Bool) (index : List (List (ℕ × ℕ))) (order : PlaceOrder) (keys : KeyPlaces K) (accesses questions : ℕ) → IsHistory eq index order keys
-    → IsWholeHistory eq (remembered (entries_of keys.remembered order.places) order.limit index accesses questions)
+      → IsWholeHistory eq (remembered (entries_of keys.remembered order.places) order.limit index accesses questions)
   IsWholeHistory-from eq index order keys accesses questions h =
       let n = entries_counted eq index order keys h in
       record {
@@ -498,8 +512,9 @@ module _ {K : Type 0} where
 AllApart-without : (p : ℕ) (ss : List ℕ) → AllApart ss → AllApart (without p ss)
 AllApart-without p [] a = tt
 AllApart-without p (s ∷ ss) a = elim (cases_Bool (eqb s p)) [
-    inl e ↦ rw e (AllApart-without p ss a.1)
-  | inr e ↦ rw e ((has-without_test s p ss ∙ rw a.0 refl, AllApart-without p ss a.1)) ]
+  | inl e ↦ rw e (AllApart-without p ss a.1)
+  | inr e ↦ rw e ((has-without_test s p ss ∙ rw a.0 refl, AllApart-without p ss a.1))
+]
 
 apart_from_place : (n : ℕ) (ss : List ℕ) → AllApart ss → AllApart (from_place n ss)
 apart_from_place zero ss a = a
@@ -524,18 +539,18 @@ module _ {K : Type 0} where
   empties-none index keys = record { as_many = refl; left = λ places apart i. i }
 
   pub empties-more : (index0 index index' : List (List (ℕ × ℕ))) (keys : List (ℕ × K)) (place hash : ℕ) → Empties index0 index keys place → 0 < length index0 → hash_at keys place ≡ Some hash → index' ≡ removed eqb index hash place
-    → Empties index0 index' keys (place + 1)
+      → Empties index0 index' keys (place + 1)
   empties-more index0 index index' keys place hash e some at is =
       let n : place + 1 ≡ suc place = omega arith in
       record {
         as_many = ap (λ (z : List (List (ℕ × ℕ))). length z) is ∙ length-taken index hash place ∙ e.as_many;
         left = λ places apart i. subst (λ z. IsIndex index' keys (from_place z places)) (sym n) (subst (λ z. IsIndex z keys (without place (from_place place places))) (sym is)
-          (IsIndex-taken index keys (from_place place places) place hash (e.left places apart i) (rw e.as_many some) (apart_from_place place places apart) at));
+            (IsIndex-taken index keys (from_place place places) place hash (e.left places apart i) (rw e.as_many some) (apart_from_place place places apart) at));
       }
 
   pub IsHistory-cleared : (eq : K → K → Bool) (index index' : List (List (ℕ × ℕ))) (order order' : PlaceOrder) (keys keys' : KeyPlaces K) → IsHistory eq index order keys
-    → Empties index index' keys.remembered (length keys.remembered) → IsWholeOrder order' → order'.places ≡ [] → order'.free ≡ [] → order'.limit ≡ order.limit
-    → keys'.remembered ≡ [] → keys'.room ≡ keys.room → IsHistory eq index' order' keys'
+      → Empties index index' keys.remembered (length keys.remembered) → IsWholeOrder order' → order'.places ≡ [] → order'.free ≡ [] → order'.limit ≡ order.limit
+      → keys'.remembered ≡ [] → keys'.room ≡ keys.room → IsHistory eq index' order' keys'
   IsHistory-cleared eq index index' order order' keys keys' h e w places free limit none room =
       let below : AllBelow (length keys.remembered) order.places = subst (λ n. AllBelow n order.places) (sym h.as_many) (AllBelow-left (used order) order.places order.free h.whole.below) in
       let i : IsIndex index' keys.remembered [] = subst (λ z. IsIndex index' keys.remembered z) (from_place-past (length keys.remembered) order.places below) (e.left order.places (AllApart-left order.places order.free h.whole.apart) h.indexed) in

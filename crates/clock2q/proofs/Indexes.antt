@@ -29,16 +29,19 @@ swap_tests false b n = refl
 pub has-without_test : (t p : ℕ) (ss : List ℕ) → has t (without p ss) ≡ (has t ss && not (eqb t p))
 has-without_test t p [] = refl
 has-without_test t p (s ∷ ss) = elim (cases_Bool (eqb s p)) [
-    inl e ↦ elim (cases_Bool (eqb t s)) [
-        inl f ↦
-          let g : eqb t p ≡ true = subst (λ z. eqb z p ≡ true) (sym (eqb-true t s f)) e in
-          rw (e, f, g) (has-without_test t p ss ∙ rw g (false_and (has t ss)))
-      | inr f ↦ rw (e, f) (has-without_test t p ss) ]
+  | inl e ↦ elim (cases_Bool (eqb t s)) [
+    | inl f ↦
+        let g : eqb t p ≡ true = subst (λ z. eqb z p ≡ true) (sym (eqb-true t s f)) e in
+        rw (e, f, g) (has-without_test t p ss ∙ rw g (false_and (has t ss)))
+    | inr f ↦ rw (e, f) (has-without_test t p ss)
+  ]
   | inr e ↦ elim (cases_Bool (eqb t s)) [
-        inl f ↦
-          let g : eqb t p ≡ false = subst (λ z. eqb z p ≡ false) (sym (eqb-true t s f)) e in
-          rw (e, f, g) refl
-      | inr f ↦ rw (e, f) (has-without_test t p ss) ] ]
+    | inl f ↦
+        let g : eqb t p ≡ false = subst (λ z. eqb z p ≡ false) (sym (eqb-true t s f)) e in
+        rw (e, f, g) refl
+    | inr f ↦ rw (e, f) (has-without_test t p ss)
+  ]
+]
   where
     false_and : (b : Bool) → (b && false) ≡ false
     false_and true = refl
@@ -47,19 +50,22 @@ has-without_test t p (s ∷ ss) = elim (cases_Bool (eqb s p)) [
 has-without_first : (t p : ℕ) (cs : List ℕ) → AllApart cs → has t (without_first (λ w. eqb w p) cs) ≡ (has t cs && not (eqb t p))
 has-without_first t p [] a = refl
 has-without_first t p (c ∷ cs) a = elim (cases_Bool (eqb c p)) [
-    inl e ↦ elim (cases_Bool (eqb t c)) [
-        inl f ↦
-          let g : eqb t p ≡ true = subst (λ z. eqb z p ≡ true) (sym (eqb-true t c f)) e in
-          let h : has t cs ≡ false = subst (λ z. has z cs ≡ false) (sym (eqb-true t c f)) a.0 in
-          rw (e, f, g, h) refl
-      | inr f ↦
-          let g : eqb t p ≡ false = subst (λ z. eqb t z ≡ false) (eqb-true c p e) f in
-          rw (e, f, g) (sym (true_and (has t cs))) ]
+  | inl e ↦ elim (cases_Bool (eqb t c)) [
+    | inl f ↦
+        let g : eqb t p ≡ true = subst (λ z. eqb z p ≡ true) (sym (eqb-true t c f)) e in
+        let h : has t cs ≡ false = subst (λ z. has z cs ≡ false) (sym (eqb-true t c f)) a.0 in
+        rw (e, f, g, h) refl
+    | inr f ↦
+        let g : eqb t p ≡ false = subst (λ z. eqb t z ≡ false) (eqb-true c p e) f in
+        rw (e, f, g) (sym (true_and (has t cs)))
+  ]
   | inr e ↦ elim (cases_Bool (eqb t c)) [
-        inl f ↦
-          let g : eqb t p ≡ false = subst (λ z. eqb z p ≡ false) (sym (eqb-true t c f)) e in
-          rw (e, f, g) refl
-      | inr f ↦ rw (e, f) (has-without_first t p cs a.1) ] ]
+    | inl f ↦
+        let g : eqb t p ≡ false = subst (λ z. eqb z p ≡ false) (sym (eqb-true t c f)) e in
+        rw (e, f, g) refl
+    | inr f ↦ rw (e, f) (has-without_first t p cs a.1)
+  ]
+]
   where
     true_and : (b : Bool) → (b && true) ≡ b
     true_and true = refl
@@ -68,8 +74,9 @@ has-without_first t p (c ∷ cs) a = elim (cases_Bool (eqb c p)) [
 AllApart-without_first : (p : ℕ) (cs : List ℕ) → AllApart cs → AllApart (without_first (λ w. eqb w p) cs)
 AllApart-without_first p [] a = tt
 AllApart-without_first p (c ∷ cs) a = elim (cases_Bool (eqb c p)) [
-    inl e ↦ rw e a.1
-  | inr e ↦ rw e ((has-without_first c p cs a.1 ∙ rw a.0 refl, AllApart-without_first p cs a.1)) ]
+  | inl e ↦ rw e a.1
+  | inr e ↦ rw e ((has-without_first c p cs a.1 ∙ rw a.0 refl, AllApart-without_first p cs a.1))
+]
 
 -- how many entries the removal takes: one where the place is a candidate of the hash, else none
 abbrev pub one_if : Bool → ℕ
@@ -79,22 +86,26 @@ one_if false = 0
 length-without_first : {E : Type 0} (test : E → Bool) (es : List E) → length (without_first test es) + one_if (list_any test es) ≡ length es
 length-without_first test [] = refl
 length-without_first test (e ∷ es) = elim (cases_Bool (test e)) [
-    inl h ↦ rw h (let n : length es + 1 ≡ suc (length es) = omega arith in n)
-  | inr h ↦ rw h (omega (arith, length-without_first test es)) ]
+  | inl h ↦ rw h (let n : length es + 1 ≡ suc (length es) = omega arith in n)
+  | inr h ↦ rw h (omega (arith, length-without_first test es))
+]
 
 -- an entry of the hash is a candidate
 pub any-candidate : (x p : ℕ) (es : List (ℕ × ℕ)) → list_any (is_entry_of eqb x p) es ≡ has p (map (λ e. e.1) (filter (λ e. e.0 == top x) es))
 any-candidate x p [] = refl
 any-candidate x p (e ∷ es) = elim (cases_Bool (eqb e.0 (top x))) [
-    inl h ↦ rw (h, swapped e.1 p) (ap (λ z. eqb p e.1 || z) (any-candidate x p es))
-  | inr h ↦ rw h (any-candidate x p es) ]
+  | inl h ↦ rw (h, swapped e.1 p) (ap (λ z. eqb p e.1 || z) (any-candidate x p es))
+  | inr h ↦ rw h (any-candidate x p es)
+]
   where
     swapped : (a b : ℕ) → eqb a b ≡ eqb b a
     swapped a b = elim (cases_Bool (eqb a b)) [
-        inl e ↦ let q : a ≡ b = eqb-true a b e in e ∙ sym (subst (λ z. eqb z a ≡ true) q (eqb_self a))
+      | inl e ↦ let q : a ≡ b = eqb-true a b e in e ∙ sym (subst (λ z. eqb z a ≡ true) q (eqb_self a))
       | inr e ↦ elim (cases_Bool (eqb b a)) [
-          inl f ↦ absurd (both_ways (eqb a b) e (subst (λ z. eqb z b ≡ true) (eqb-true b a f) (eqb_self b)))
-        | inr f ↦ e ∙ sym f ] ]
+        | inl f ↦ absurd (both_ways (eqb a b) e (subst (λ z. eqb z b ≡ true) (eqb-true b a f) (eqb_self b)))
+        | inr f ↦ e ∙ sym f
+      ]
+    ]
 
 -- The index
 
@@ -130,31 +141,35 @@ module _ {K : Type 0} where
 
   -- a place that wasn't there is put in under a hash, which is that of the key that now stands there
   module _ (index : List (List (ℕ × ℕ))) (keys keys' : List (ℕ × K)) (places : List ℕ) (place hash : ℕ) (i : IsIndex index keys places) (some : 0 < length index)
-    (absent : has place places ≡ false) (same : (q : ℕ) → has q places ≡ true → hash_at keys' q ≡ hash_at keys q) (at : hash_at keys' place ≡ Some hash) where
+      (absent : has place places ≡ false) (same : (q : ℕ) → has q places ≡ true → hash_at keys' q ≡ hash_at keys q) (at : hash_at keys' place ≡ Some hash) where
     still_named : (x q : ℕ) → (has q places && is_named index keys x q) ≡ (has q places && is_named (inserted index hash place) keys' x q)
     still_named x q = elim (cases_Bool (has q places)) [
-        inl h ↦ rw h (sym (named-length index (inserted index hash place) keys' x q (length-put index hash place) ∙ named-kept index keys keys' x q (same q h)))
-      | inr h ↦ rw h refl ]
+      | inl h ↦ rw h (sym (named-length index (inserted index hash place) keys' x q (length-put index hash place) ∙ named-kept index keys keys' x q (same q h)))
+      | inr h ↦ rw h refl
+    ]
 
     listed-put : (x q : ℕ) → has q (candidates (inserted index hash place) x) ≡ (has q (place ∷ places) && is_named (inserted index hash place) keys' x q)
     listed-put x q = elim (cases_Bool (is_alike index x hash)) [
-        inl a ↦
+      | inl a ↦
           let p = alike_parts index x hash a in
           let cs = candidates-inserted index hash x place some p.0 p.1 in
           let met : has q (candidates (inserted index hash place) x) ≡ (has q (candidates index x) || (eqb q place || false)) = ap (λ z. has q z) cs ∙ has-append q (candidates index x) (place ∷ []) in
           elim (cases_Bool (eqb q place)) [
-              inl e ↦
+            | inl e ↦
                 let n : is_named (inserted index hash place) keys' x q ≡ true = ap (λ z. is_named (inserted index hash place) keys' x z) (eqb-true q place e) ∙ named-length index (inserted index hash place) keys' x place (length-put index hash place) ∙ named-as index keys' x place hash at ∙ a in
                 met ∙ rw (e, n) (or_true (has q (candidates index x)))
-            | inr e ↦ met ∙ rw e (or_none (has q (candidates index x)) ∙ i.listed x q ∙ still_named x q) ]
+            | inr e ↦ met ∙ rw e (or_none (has q (candidates index x)) ∙ i.listed x q ∙ still_named x q)
+          ]
       | inr a ↦
           let cs = candidates-inserted_other index hash x place some (not_alike index x hash a) in
           ap (λ z. has q z) cs ∙ i.listed x q ∙ elim (cases_Bool (eqb q place)) [
-              inl e ↦
+            | inl e ↦
                 let n : is_named (inserted index hash place) keys' x q ≡ false = ap (λ z. is_named (inserted index hash place) keys' x z) (eqb-true q place e) ∙ named-length index (inserted index hash place) keys' x place (length-put index hash place) ∙ named-as index keys' x place hash at ∙ a in
                 let h : has q places ≡ false = subst (λ z. has z places ≡ false) (sym (eqb-true q place e)) absent in
                 rw (e, n, h) refl
-            | inr e ↦ still_named x q ∙ rw e refl ] ]
+            | inr e ↦ still_named x q ∙ rw e refl
+          ]
+    ]
       where
         or_true : (b : Bool) → (b || true) ≡ true
         or_true true = refl
@@ -168,18 +183,19 @@ module _ {K : Type 0} where
     IsIndex-put = record {
       listed = listed-put;
       once = λ x. elim (cases_Bool (is_alike index x hash)) [
-          inl a ↦
+        | inl a ↦
             let p = alike_parts index x hash a in
             let none : has place (candidates index x) ≡ false = i.listed x place ∙ rw absent refl in
             subst (λ z. AllApart z) (sym (candidates-inserted index hash x place some p.0 p.1))
-              (AllApart-append (candidates index x) (place ∷ []) (i.once x) (refl, tt) (λ t h. or_neither (eqb t place) false (differs t place (candidates index x) h none) refl))
-        | inr a ↦ subst (λ z. AllApart z) (sym (candidates-inserted_other index hash x place some (not_alike index x hash a))) (i.once x) ];
+            (AllApart-append (candidates index x) (place ∷ []) (i.once x) (refl, tt) (λ t h. or_neither (eqb t place) false (differs t place (candidates index x) h none) refl))
+        | inr a ↦ subst (λ z. AllApart z) (sym (candidates-inserted_other index hash x place some (not_alike index x hash a))) (i.once x)
+      ];
       counted = omega (arith, total-with_list index hash (listed index hash ++ (top hash, place) ∷ []) some, length-append (listed index hash) ((top hash, place) ∷ []), i.counted);
     }
 
   -- a place is taken out, if it was there
   module _ (index : List (List (ℕ × ℕ))) (keys : List (ℕ × K)) (places : List ℕ) (place hash : ℕ) (i : IsIndex index keys places) (some : 0 < length index)
-    (apart : AllApart places) (at : hash_at keys place ≡ Some hash) where
+      (apart : AllApart places) (at : hash_at keys place ≡ Some hash) where
     named-taken : (x q : ℕ) → is_named (removed eqb index hash place) keys x q ≡ is_named index keys x q
     named-taken x q = named-length index (removed eqb index hash place) keys x q (length-taken index hash place)
 
@@ -187,16 +203,18 @@ module _ {K : Type 0} where
     listed-taken x q =
         let right : (has q (without place places) && is_named (removed eqb index hash place) keys x q) ≡ ((has q places && not (eqb q place)) && is_named index keys x q) = ap (λ z. z && is_named (removed eqb index hash place) keys x q) (has-without_test q place places) ∙ ap (λ z. (has q places && not (eqb q place)) && z) (named-taken x q) in
         elim (cases_Bool (is_alike index x hash)) [
-            inl a ↦
+          | inl a ↦
               let p = alike_parts index x hash a in
               ap (λ z. has q z) (candidates-removed eqb index hash x place some p.0 p.1) ∙ has-without_first q place (candidates index x) (i.once x)
               ∙ ap (λ z. z && not (eqb q place)) (i.listed x q) ∙ swap_tests (has q places) (not (eqb q place)) (is_named index keys x q) ∙ sym right
           | inr a ↦
               ap (λ z. has q z) (candidates-removed_other eqb index hash x place some (not_alike index x hash a)) ∙ i.listed x q ∙ elim (cases_Bool (eqb q place)) [
-                  inl e ↦
+                | inl e ↦
                     let n : is_named index keys x q ≡ false = ap (λ z. is_named index keys x z) (eqb-true q place e) ∙ named-as index keys x place hash at ∙ a in
                     rw (e, n) (both_none (has q places) (has q places && false)) ∙ sym right
-                | inr e ↦ rw e (ap (λ z. z && is_named index keys x q) (sym (and_true (has q places)))) ∙ sym right ] ]
+                | inr e ↦ rw e (ap (λ z. z && is_named index keys x q) (sym (and_true (has q places)))) ∙ sym right
+              ]
+        ]
       where
         both_none : (b d : Bool) → (b && false) ≡ (d && false)
         both_none true true = refl
@@ -222,16 +240,18 @@ module _ {K : Type 0} where
 
     length-left : length (without place places) + one_if (has place places) ≡ length places
     length-left = elim (cases_Bool (has place places)) [
-        inl h ↦ rw h (length-without place places apart h)
-      | inr h ↦ rw h (let e = ap (λ (z : List ℕ). length z) (without_absent place places h) in omega (arith, e)) ]
+      | inl h ↦ rw h (length-without place places apart h)
+      | inr h ↦ rw h (let e = ap (λ (z : List ℕ). length z) (without_absent place places h) in omega (arith, e))
+    ]
 
     pub IsIndex-taken : IsIndex (removed eqb index hash place) keys (without place places)
     IsIndex-taken = record {
       listed = listed-taken;
       once = λ x. elim (cases_Bool (is_alike index x hash)) [
-          inl a ↦
+        | inl a ↦
             let p = alike_parts index x hash a in
             subst (λ z. AllApart z) (sym (candidates-removed eqb index hash x place some p.0 p.1)) (AllApart-without_first place (candidates index x) (i.once x))
-        | inr a ↦ subst (λ z. AllApart z) (sym (candidates-removed_other eqb index hash x place some (not_alike index x hash a))) (i.once x) ];
+        | inr a ↦ subst (λ z. AllApart z) (sym (candidates-removed_other eqb index hash x place some (not_alike index x hash a))) (i.once x)
+      ];
       counted = omega (arith, taken-counted, length-left);
     }

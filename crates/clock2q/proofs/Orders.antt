@@ -20,8 +20,8 @@ pub around-kept : (next next' : ℕ → ℕ) (first count : ℕ) → ((t : ℕ) 
 around-kept next next' first zero h = refl
 around-kept next next' first (suc count) h =
     ap (λ zs. first ∷ zs)
-      (ap (λ z. around next' z count) (h first (has_first first (around next (next first) count)))
-      ∙ around-kept next next' (next first) count (λ t g. h t (has_later t first (around next (next first) count) g)))
+    (ap (λ z. around next' z count) (h first (has_first first (around next (next first) count)))
+    ∙ around-kept next next' (next first) count (λ t g. h t (has_later t first (around next (next first) count) g)))
 
 pub length-around : (next : ℕ → ℕ) (first count : ℕ) → length (around next first count) ≡ count
 length-around next first zero = refl
@@ -59,7 +59,7 @@ pub record FitsNext (limit place : ℕ) (ps fs : List ℕ) : Type 0 where
   pub within : suc (length ps) + length (drop 1 fs) ≤ limit
 
 pub FitsNext-from : (limit : ℕ) (ps fs : List ℕ) → AllApart (ps ++ fs) → AllBelow (length ps + length fs) (ps ++ fs) → length ps + length fs ≤ limit → length ps < limit
-  → FitsNext limit (place_for (length ps) fs) ps fs
+    → FitsNext limit (place_for (length ps) fs) ps fs
 FitsNext-from limit ps [] a b w h =
     let b' : AllBelow (length ps) (ps ++ []) = subst (λ n. AllBelow n (ps ++ [])) (let e : length ps + 0 ≡ length ps = omega arith in e) b in
     record {
@@ -78,8 +78,10 @@ FitsNext-from limit ps (f ∷ fs) a b w h =
     record {
       fits = omega (arith, f_below, w);
       absent = absent;
-      apart = (has-append f ps fs ∙ or_neither (has f ps) (has f fs) absent right.0,
-        AllApart-append ps fs (AllApart-left ps (f ∷ fs) a) right.1 (λ t g. (or_parts (eqb t f) (has t fs) (apart_from ps (f ∷ fs) a t g)).1));
+      apart = (
+        has-append f ps fs ∙ or_neither (has f ps) (has f fs) absent right.0,
+        AllApart-append ps fs (AllApart-left ps (f ∷ fs) a) right.1 (λ t g. (or_parts (eqb t f) (has t fs) (apart_from ps (f ∷ fs) a t g)).1),
+      );
       below = (omega (arith, f_below), AllBelow-more n (suc (length ps) + length fs) (ps ++ fs) (omega arith) rest);
       within = omega (arith, w);
     }
@@ -102,25 +104,26 @@ or_swap false false h = h
 pub IsOrder-from : (l : LinkState) (newest : Option ℕ) (len : ℕ) (chain : Chain) (ps fs : List ℕ) → IsOrderOf l newest len chain ps fs → IsOrder l newest len chain
 IsOrder-from l newest len chain ps fs o =
     subst (λ z. IsOrderOf l newest len chain z (free_places l chain)) (sym (slots_from-is l newest len ps o.queue))
-      (subst (λ z. IsOrderOf l newest len chain ps z) (sym o.chained) o)
+    (subst (λ z. IsOrderOf l newest len chain ps z) (sym o.chained) o)
 
 pub IsWholeOrder-from : (l : LinkState) (newest : Option ℕ) (len : ℕ) (chain : Chain) → IsOrder l newest len chain
-  → IsWholeOrder (record { places = slots_from l newest len; free = free_places l chain; limit = length l.slots; accesses = l.accesses })
+    → IsWholeOrder (record { places = slots_from l newest len; free = free_places l chain; limit = length l.slots; accesses = l.accesses })
 IsWholeOrder-from l newest len chain o = record { apart = o.apart; below = o.below; within = o.within; countable = o.queue.countable }
 
 -- The chain
 
 pub chain-put : (old new : LinkState) (chain : Chain) (place : ℕ) (r : Record) → new ≡ accessed (with_record place r old) → r.next ≡ chain.head → place < length old.slots → has place (free_places old chain) ≡ false
-  → free_places new (record { head = place; len = chain.len + 1 }) ≡ place ∷ free_places old chain
+    → free_places new (record { head = place; len = chain.len + 1 }) ≡ place ∷ free_places old chain
 chain-put old new chain place r e next fits absent =
     let nexts = (λ (t : ℕ). ap (λ l. next_at l t) e ∙ changed (λ p. p.0.next) old.slots place (r, bit_at old place) (vacant, false) t fits) in
     let to_head : next_at new place ≡ chain.head = nexts place ∙ rw (eqb_self place) next in
     let n : chain.len + 1 ≡ suc chain.len = omega arith in
     let other = (λ (t : ℕ) (h : has t (free_places old chain) ≡ true).
-      let q : eqb t place ≡ false = elim (cases_Bool (eqb t place)) [
-          inl q ↦ absurd (both_ways (has place (free_places old chain)) absent (subst (λ z. has z (free_places old chain) ≡ true) (eqb-true t place q) h))
-        | inr q ↦ q ] in
-      nexts t ∙ rw q refl) in
+    let q : eqb t place ≡ false = elim (cases_Bool (eqb t place)) [
+      | inl q ↦ absurd (both_ways (has place (free_places old chain)) absent (subst (λ z. has z (free_places old chain) ≡ true) (eqb-true t place q) h))
+      | inr q ↦ q
+    ] in
+    nexts t ∙ rw q refl) in
     ap (λ z. around (next_at new) place z) n
     ∙ ap (λ z. place ∷ around (next_at new) z chain.len) to_head
     ∙ ap (λ zs. place ∷ zs) (around-kept (next_at old) (next_at new) chain.head chain.len other)
@@ -175,13 +178,13 @@ module _ (l : LinkState) (newest : Option ℕ) (len : ℕ) (chain : Chain) (o : 
         (in_bounds mid places_now first linked_mid h, in_bounds mid places_now (previous_at mid first) linked_mid (previous_in mid places_now first linked_mid h))
 
     pub Pushes : (new : LinkState) (place : ℕ) → place ≡ place_for (length places_now) free_now → length places_now < length l.slots → Inserts place Free places_now mid new
-      → IsOrderOf new (Some place) (len + 1) chain' (place ∷ places_now) (drop 1 free_now)
+        → IsOrderOf new (Some place) (len + 1) chain' (place ∷ places_now) (drop 1 free_now)
     Pushes new place e h i =
         let as_many : length new.slots ≡ length l.slots = i.rest.as_many ∙ ap (λ (z : List (Record × Bool)). length z) slots in
         let n : FitsNext (length l.slots) place places_now free_now = subst (λ z. FitsNext (length l.slots) z places_now free_now) (sym e) (next_fits h) in
         let elsewhere = (λ (t : ℕ) (g : has t (free_places mid chain') ≡ true).
-          let apart : has t (place ∷ places_now) ≡ false = apart_back (place ∷ places_now) (drop 1 free_now) n.apart t (subst (λ zs. has t zs ≡ true) rest g) in
-          ap (λ (z : Record × Bool). z.0.next) (i.same.others t apart)) in
+        let apart : has t (place ∷ places_now) ≡ false = apart_back (place ∷ places_now) (drop 1 free_now) n.apart t (subst (λ zs. has t zs ≡ true) rest g) in
+        ap (λ (z : Record × Bool). z.0.next) (i.same.others t apart)) in
         record {
           queue = record {
             linked = IsLinked-turned new places_now (place ∷ []) i.linked;
@@ -196,14 +199,14 @@ module _ (l : LinkState) (newest : Option ℕ) (len : ℕ) (chain : Chain) (o : 
         }
 
     pub Pushes-attached : (new : LinkState) (place first : ℕ) → place ≡ place_for (length places_now) free_now → length places_now < length l.slots → newest ≡ Some first → Attaches place first Free mid new
-      → IsOrderOf new (Some place) (len + 1) chain' (place ∷ places_now) (drop 1 free_now)
+        → IsOrderOf new (Some place) (len + 1) chain' (place ∷ places_now) (drop 1 free_now)
     Pushes-attached new place first e h is a =
         let n : FitsNext (length l.slots) place places_now free_now = subst (λ z. FitsNext (length l.slots) z places_now free_now) (sym e) (next_fits h) in
         Pushes new place e h (Inserts-before mid new places_now place Free first linked_mid (sym is ∙ o.queue.starts) n.absent (rw slots n.fits) a)
 
     pub Pushes-alone : (new : LinkState) (place : ℕ) → place ≡ place_for (length places_now) free_now → length places_now < length l.slots → newest ≡ None
-      → new ≡ accessed (with_record place (record { previous = place; next = place; standing = Free }) mid)
-      → IsOrderOf new (Some place) (len + 1) chain' (place ∷ places_now) (drop 1 free_now)
+        → new ≡ accessed (with_record place (record { previous = place; next = place; standing = Free }) mid)
+        → IsOrderOf new (Some place) (len + 1) chain' (place ∷ places_now) (drop 1 free_now)
     Pushes-alone new place e h is w =
         let n : FitsNext (length l.slots) place places_now free_now = subst (λ z. FitsNext (length l.slots) z places_now free_now) (sym e) (next_fits h) in
         Pushes new place e h (Inserts-first mid new places_now place Free (sym is ∙ o.queue.starts) (rw slots n.fits) w)
@@ -233,7 +236,7 @@ module _ (l : LinkState) (newest : Option ℕ) (len : ℕ) (chain : Chain) (o : 
       let front : take (length places_now - 1) places_now ≡ xs = ap (λ (z : List ℕ). take (length z - 1) z) p.1 ∙ take_front xs oldest in
       let linked : IsLinked l (oldest ∷ xs) = IsLinked-turned l xs (oldest ∷ []) (subst (λ z. IsLinked l z) p.1 o.queue.linked) in
       let same = (λ (t : ℕ) (h : has t (oldest ∷ xs) ≡ true).
-        subst (λ zs. has t zs ≡ true) (sym p.1) (has-append t xs (oldest ∷ []) ∙ or_swap (eqb t oldest) (has t xs) h)) in
+      subst (λ zs. has t zs ≡ true) (sym p.1) (has-append t xs (oldest ∷ []) ∙ or_swap (eqb t oldest) (has t xs) h)) in
       let count : length places_now ≡ suc (length xs) = omega (arith, ap (λ (z : List ℕ). length z) p.1, length-append xs (oldest ∷ [])) in
       record {
         oldest_was = was;
@@ -271,20 +274,20 @@ module _ (l : LinkState) (newest : Option ℕ) (len : ℕ) (chain : Chain) (o : 
           omega (arith, some, o.within, chain_counted, o.queue.countable)
 
       pub Unlinks : (new : LinkState) (r : Record) (newest' : Option ℕ) (chain' : Chain) → new ≡ accessed (with_record place r mid) → free_places new chain' ≡ place ∷ free_places mid chain
-        → newest' ≡ slice_get (without place places_now) 0 → IsOrderOf new newest' (len - 1) chain' (without place places_now) (place ∷ free_now)
+          → newest' ≡ slice_get (without place places_now) 0 → IsOrderOf new newest' (len - 1) chain' (without place places_now) (place ∷ free_now)
       Unlinks new r newest' chain' w c starts =
           let as_many : length new.slots ≡ length l.slots = ap (λ (z : LinkState). length z.slots) w ∙ length-set mid.slots place (r, bit_at mid place) ∙ removed.rest.as_many in
           let fits : place < length mid.slots = rw removed.rest.as_many neighbours_fit.0 in
           let count = length-without place places_now o.queue.linked.apart there in
           let total : length places_now + length free_now ≡ length (without place places_now) + length (place ∷ free_now) = omega (arith, count) in
           let records : (t : ℕ) → has t (without place places_now) ≡ true → record_at new t ≡ record_at mid t = (λ t h.
-            ap (λ (z : LinkState). record_at z t) w ∙ changed (λ p. p.0) mid.slots place (r, bit_at mid place) (vacant, false) t fits ∙ rw ((has-without t place places_now h).1) refl) in
+          ap (λ (z : LinkState). record_at z t) w ∙ changed (λ p. p.0) mid.slots place (r, bit_at mid place) (vacant, false) t fits ∙ rw ((has-without t place places_now h).1) refl) in
           let apart = AllApart-append (without place places_now) (place ∷ free_now) removed.linked.apart (apart_from places_now free_now o.apart place there, AllApart-right places_now free_now o.apart)
-            (λ t h. let g = has-without t place places_now h in or_neither (eqb t place) (has t free_now) g.1 (apart_from places_now free_now o.apart t g.0)) in
+          (λ t h. let g = has-without t place places_now h in or_neither (eqb t place) (has t free_now) g.1 (apart_from places_now free_now o.apart t g.0)) in
           let n = length places_now + length free_now in
           let below = AllBelow-append n (without place places_now) (place ∷ free_now)
-            (AllBelow-from n (without place places_now) (λ t h. below_of n places_now (AllBelow-left n places_now free_now o.below) t (has-without t place places_now h).0))
-            (below_of n places_now (AllBelow-left n places_now free_now o.below) place there, AllBelow-right n places_now free_now o.below) in
+          (AllBelow-from n (without place places_now) (λ t h. below_of n places_now (AllBelow-left n places_now free_now o.below) t (has-without t place places_now h).0))
+          (below_of n places_now (AllBelow-left n places_now free_now o.below) place there, AllBelow-right n places_now free_now o.below) in
           record {
             queue = record {
               linked = IsLinked-kept mid new (without place places_now) removed.linked (as_many ∙ sym removed.rest.as_many) records;

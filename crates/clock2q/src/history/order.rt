@@ -42,7 +42,13 @@ impl Chain {
         ensures chain { free_places links.new self.new ≡ place ∷ free_places links.old self.old }
         ensures written { (next : ℕ) × (links.new ≡ accessed (with_record place (record { previous = 0; next = next; standing = Standing.Free }) links.old)) }
     {
-        links.write(place, Record { next: self.head, ..VACANT });
+        links.write(
+            place,
+            Record {
+                next: self.head,
+                ..VACANT
+            },
+        );
         self.head = place;
         self.len += 1;
     }
@@ -116,7 +122,11 @@ impl<A: Allocator> Order<A> {
         let place = self.chain.take(&mut self.links).unwrap_or(self.len);
         match self.newest {
             None => {
-                let alone = Record { previous: place, next: place, standing: Standing::Free };
+                let alone = Record {
+                    previous: place,
+                    next: place,
+                    standing: Standing::Free,
+                };
                 self.links.write(place, alone);
             }
             Some(newest) => self.links.attach(place, newest, Standing::Free),

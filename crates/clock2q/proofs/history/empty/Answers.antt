@@ -10,4 +10,4 @@ pub loop-place-preserved : goal.loop-place-preserved
 loop-place-preserved g c =
     let fits : c.loop-place.place < length c.args.keys.now.remembered = omega (arith, c.loop-place-test.true, c.loop-place.auto.place-end, c.len-place-end.ensures) in
     empties-more c.args.index.now.homes c.loop-place.index.homes c.remove.new.self.homes c.args.keys.now.remembered c.loop-place.place c.hash.result c.loop-place.invariant (c.requires.slots (omega (arith, fits)))
-      c.hash.ensures c.remove.ensures.removed
+    c.hash.ensures c.remove.ensures.removed

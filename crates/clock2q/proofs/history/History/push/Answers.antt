@@ -10,7 +10,7 @@ invariant_of-self g c =
     let absent : is_remembered g.K.PartialEq.eq c.args.key (entries_of i.keys.remembered i.order.places) ≡ false = ap (λ (z : Remembered _). is_remembered g.K.PartialEq.eq c.args.key z.entries) c.self.view_is ∙ c.requires.absent in
     let put = put_done g.K.PartialEq.eq c.args.hash c.args.key i.index.homes c.make_place-place.new.index.homes c.put.new.self.homes i.order c.make_place-place.new.order i.keys c.write.new.self c.make_place-place.result c.self.invariant some c.make_place-place.ensures.made c.put.result c.put.ensures.ok c.put.ensures.long in
     (remembers g.K.PartialEq.eq c.args.hash c.args.key i.index.homes c.make_place-place.new.index.homes c.put.new.self.homes i.order c.make_place-place.new.order i.keys c.write.new.self c.make_place-place.result c.self.invariant some c.make_place-place.ensures.made
-      c.write.ensures put c.make_place-place.ensures.whole absent).whole
+    c.write.ensures put c.make_place-place.ensures.whole absent).whole
 
 pub returns-clause-entries : goal.returns-clause-entries
 returns-clause-entries g c =
@@ -19,5 +19,5 @@ returns-clause-entries g c =
     let absent : is_remembered g.K.PartialEq.eq c.args.key (entries_of i.keys.remembered i.order.places) ≡ false = ap (λ (z : Remembered _). is_remembered g.K.PartialEq.eq c.args.key z.entries) c.self.view_is ∙ c.requires.absent in
     let put = put_done g.K.PartialEq.eq c.args.hash c.args.key i.index.homes c.make_place-place.new.index.homes c.put.new.self.homes i.order c.make_place-place.new.order i.keys c.write.new.self c.make_place-place.result c.self.invariant some c.make_place-place.ensures.made c.put.result c.put.ensures.ok c.put.ensures.long in
     (remembers g.K.PartialEq.eq c.args.hash c.args.key i.index.homes c.make_place-place.new.index.homes c.put.new.self.homes i.order c.make_place-place.new.order i.keys c.write.new.self c.make_place-place.result c.self.invariant some c.make_place-place.ensures.made
-      c.write.ensures put c.make_place-place.ensures.whole absent).entries
+    c.write.ensures put c.make_place-place.ensures.whole absent).entries
     ∙ ap (λ (z : Remembered _). take z.limit ((c.args.hash, c.args.key) ∷ z.entries)) c.self.view_is

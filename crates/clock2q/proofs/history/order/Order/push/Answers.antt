@@ -32,9 +32,10 @@ invariant_of-self g c =
     let is = chosen i.links i.newest i.len i.chain c.self.invariant place (c.unwrap_or-place.ensures ∙ ap (λ z. unwrap_or z i.len) c.take.ensures.taken) in
     let room : length (slots_from i.links i.newest i.len) < length i.links.slots = subst (λ (z : PlaceOrder). length z.places < z.limit) (sym c.self.view_is) c.requires in
     let pushed : IsOrderOf c.match-self.self-inside.links (Some place) (c.match-self.self-inside.len + 1) c.match-self.self-inside.chain (place ∷ slots_from i.links i.newest i.len) (drop 1 (free_places i.links i.chain)) =
-      elim c.match-self.branch [
-          in-None w ↦ rw w.self-inside-is (Pushes-alone i.links i.newest i.len i.chain c.self.invariant c.take.new.links c.take.new.self c.take.ensures.slots c.take.ensures.rest w.write.new.self place is room w.in-None.is w.write.ensures)
-        | in-Some w ↦ rw w.self-inside-is (Pushes-attached i.links i.newest i.len i.chain c.self.invariant c.take.new.links c.take.new.self c.take.ensures.slots c.take.ensures.rest w.attach.new.self place w.in-Some.newest is room w.in-Some.is w.attach.ensures) ] in
+    elim c.match-self.branch [
+      | in-None w ↦ rw w.self-inside-is (Pushes-alone i.links i.newest i.len i.chain c.self.invariant c.take.new.links c.take.new.self c.take.ensures.slots c.take.ensures.rest w.write.new.self place is room w.in-None.is w.write.ensures)
+      | in-Some w ↦ rw w.self-inside-is (Pushes-attached i.links i.newest i.len i.chain c.self.invariant c.take.new.links c.take.new.self c.take.ensures.slots c.take.ensures.rest w.attach.new.self place w.in-Some.newest is room w.in-Some.is w.attach.ensures)
+    ] in
     IsOrder-from _ _ _ _ _ _ pushed
 
 pub returns-clause-places : goal.returns-clause-places
@@ -44,9 +45,10 @@ returns-clause-places g c =
     let is = chosen i.links i.newest i.len i.chain c.self.invariant place (c.unwrap_or-place.ensures ∙ ap (λ z. unwrap_or z i.len) c.take.ensures.taken) in
     let room : length (slots_from i.links i.newest i.len) < length i.links.slots = subst (λ (z : PlaceOrder). length z.places < z.limit) (sym c.self.view_is) c.requires in
     let pushed : IsOrderOf c.match-self.self-inside.links (Some place) (c.match-self.self-inside.len + 1) c.match-self.self-inside.chain (place ∷ slots_from i.links i.newest i.len) (drop 1 (free_places i.links i.chain)) =
-      elim c.match-self.branch [
-          in-None w ↦ rw w.self-inside-is (Pushes-alone i.links i.newest i.len i.chain c.self.invariant c.take.new.links c.take.new.self c.take.ensures.slots c.take.ensures.rest w.write.new.self place is room w.in-None.is w.write.ensures)
-        | in-Some w ↦ rw w.self-inside-is (Pushes-attached i.links i.newest i.len i.chain c.self.invariant c.take.new.links c.take.new.self c.take.ensures.slots c.take.ensures.rest w.attach.new.self place w.in-Some.newest is room w.in-Some.is w.attach.ensures) ] in
+    elim c.match-self.branch [
+      | in-None w ↦ rw w.self-inside-is (Pushes-alone i.links i.newest i.len i.chain c.self.invariant c.take.new.links c.take.new.self c.take.ensures.slots c.take.ensures.rest w.write.new.self place is room w.in-None.is w.write.ensures)
+      | in-Some w ↦ rw w.self-inside-is (Pushes-attached i.links i.newest i.len i.chain c.self.invariant c.take.new.links c.take.new.self c.take.ensures.slots c.take.ensures.rest w.attach.new.self place w.in-Some.newest is room w.in-Some.is w.attach.ensures)
+    ] in
     slots_from-is _ _ _ _ pushed.queue ∙ ap (λ (z : PlaceOrder). place ∷ z.places) c.self.view_is
 
 pub returns-clause-free : goal.returns-clause-free
@@ -56,9 +58,10 @@ returns-clause-free g c =
     let is = chosen i.links i.newest i.len i.chain c.self.invariant place (c.unwrap_or-place.ensures ∙ ap (λ z. unwrap_or z i.len) c.take.ensures.taken) in
     let room : length (slots_from i.links i.newest i.len) < length i.links.slots = subst (λ (z : PlaceOrder). length z.places < z.limit) (sym c.self.view_is) c.requires in
     let pushed : IsOrderOf c.match-self.self-inside.links (Some place) (c.match-self.self-inside.len + 1) c.match-self.self-inside.chain (place ∷ slots_from i.links i.newest i.len) (drop 1 (free_places i.links i.chain)) =
-      elim c.match-self.branch [
-          in-None w ↦ rw w.self-inside-is (Pushes-alone i.links i.newest i.len i.chain c.self.invariant c.take.new.links c.take.new.self c.take.ensures.slots c.take.ensures.rest w.write.new.self place is room w.in-None.is w.write.ensures)
-        | in-Some w ↦ rw w.self-inside-is (Pushes-attached i.links i.newest i.len i.chain c.self.invariant c.take.new.links c.take.new.self c.take.ensures.slots c.take.ensures.rest w.attach.new.self place w.in-Some.newest is room w.in-Some.is w.attach.ensures) ] in
+    elim c.match-self.branch [
+      | in-None w ↦ rw w.self-inside-is (Pushes-alone i.links i.newest i.len i.chain c.self.invariant c.take.new.links c.take.new.self c.take.ensures.slots c.take.ensures.rest w.write.new.self place is room w.in-None.is w.write.ensures)
+      | in-Some w ↦ rw w.self-inside-is (Pushes-attached i.links i.newest i.len i.chain c.self.invariant c.take.new.links c.take.new.self c.take.ensures.slots c.take.ensures.rest w.attach.new.self place w.in-Some.newest is room w.in-Some.is w.attach.ensures)
+    ] in
     pushed.chained ∙ ap (λ (z : PlaceOrder). drop 1 z.free) c.self.view_is
 
 pub returns-clause-whole : goal.returns-clause-whole
@@ -68,7 +71,8 @@ returns-clause-whole g c =
     let is = chosen i.links i.newest i.len i.chain c.self.invariant place (c.unwrap_or-place.ensures ∙ ap (λ z. unwrap_or z i.len) c.take.ensures.taken) in
     let room : length (slots_from i.links i.newest i.len) < length i.links.slots = subst (λ (z : PlaceOrder). length z.places < z.limit) (sym c.self.view_is) c.requires in
     let pushed : IsOrderOf c.match-self.self-inside.links (Some place) (c.match-self.self-inside.len + 1) c.match-self.self-inside.chain (place ∷ slots_from i.links i.newest i.len) (drop 1 (free_places i.links i.chain)) =
-      elim c.match-self.branch [
-          in-None w ↦ rw w.self-inside-is (Pushes-alone i.links i.newest i.len i.chain c.self.invariant c.take.new.links c.take.new.self c.take.ensures.slots c.take.ensures.rest w.write.new.self place is room w.in-None.is w.write.ensures)
-        | in-Some w ↦ rw w.self-inside-is (Pushes-attached i.links i.newest i.len i.chain c.self.invariant c.take.new.links c.take.new.self c.take.ensures.slots c.take.ensures.rest w.attach.new.self place w.in-Some.newest is room w.in-Some.is w.attach.ensures) ] in
+    elim c.match-self.branch [
+      | in-None w ↦ rw w.self-inside-is (Pushes-alone i.links i.newest i.len i.chain c.self.invariant c.take.new.links c.take.new.self c.take.ensures.slots c.take.ensures.rest w.write.new.self place is room w.in-None.is w.write.ensures)
+      | in-Some w ↦ rw w.self-inside-is (Pushes-attached i.links i.newest i.len i.chain c.self.invariant c.take.new.links c.take.new.self c.take.ensures.slots c.take.ensures.rest w.attach.new.self place w.in-Some.newest is room w.in-Some.is w.attach.ensures)
+    ] in
     IsWholeOrder-from _ _ _ _ (IsOrder-from _ _ _ _ _ _ pushed)
