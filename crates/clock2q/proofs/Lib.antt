@@ -10,6 +10,7 @@ pub mod Orders
 pub mod Places
 pub mod Indexes
 pub mod Histories
+pub mod Hashed
 pub mod Resetting
 pub mod Rings
 pub mod Records
