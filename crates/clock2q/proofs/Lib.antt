@@ -21,6 +21,7 @@ pub mod Growth
 pub mod Hand
 pub mod Hashes
 pub mod Histories
+<<<<<<< HEAD
 pub mod Hits
 pub mod Indexes
 pub mod Insertions
@@ -40,6 +41,9 @@ pub mod Rebuild
 pub mod Rebuilds
 pub mod Records
 pub mod Removals
+=======
+pub mod Hashed
+>>>>>>> ghost
 pub mod Resetting
 pub mod Rings
 pub mod Runs

@@ -7,6 +7,8 @@ ghost use Rattle.clock2q.specs.History.{IsIndex, IsWholeHistory, MakesPlace, Emp
 
 mod keys;
 mod order;
+#[cfg(test)]
+mod tests;
 
 use crate::handles::Table;
 use keys::Keys;
