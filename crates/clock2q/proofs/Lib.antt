@@ -19,9 +19,9 @@ pub mod Gaps
 pub mod Groups
 pub mod Growth
 pub mod Hand
+pub mod Hashed
 pub mod Hashes
 pub mod Histories
-<<<<<<< HEAD
 pub mod Hits
 pub mod Indexes
 pub mod Insertions
@@ -41,9 +41,6 @@ pub mod Rebuild
 pub mod Rebuilds
 pub mod Records
 pub mod Removals
-=======
-pub mod Hashed
->>>>>>> ghost
 pub mod Resetting
 pub mod Rings
 pub mod Runs
