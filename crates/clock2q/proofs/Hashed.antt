@@ -1,5 +1,5 @@
 -- Histories whose hashes are their keys' remainders.
-use Rattle.std.proofs.Common.{◌≡◌, ℕ, zero, suc, ◌%◌, Bool, true, false, eqb, List, [], ◌∷◌, take, inl, inr, refl, sym, ap, ◌∙◌, eqb-true}
+use Rattle.std.proofs.Common.{◌≡◌, ℕ, zero, suc, ◌%◌, false, eqb, List, [], ◌∷◌, take, inl, inr, refl, sym, ap, ◌∙◌, eqb-true}
 use Rattle.std.specs.List.{AllByRecursion}
 use Rattle.std.proofs.lemmas.Bool.{cases_Bool}
 use Rattle.clock2q.specs.History.{HasHash, is_remembered, forgotten}
@@ -11,8 +11,9 @@ has_hash key hashes (e ∷ es) a = ((λ q. a.0 ∙ ap (λ z. z % hashes) (sym (e
 pub all-forgotten : (P : ℕ × ℕ → Type 0) (key : ℕ) (es : List (ℕ × ℕ)) → AllByRecursion P es → AllByRecursion P (forgotten eqb key es)
 all-forgotten P key [] a = tt
 all-forgotten P key (e ∷ es) a = elim (cases_Bool (eqb key e.1)) [
-    inl k ↦ rw k (all-forgotten P key es a.1)
-  | inr k ↦ rw k ((a.0, all-forgotten P key es a.1)) ]
+  | inl k ↦ rw k (all-forgotten P key es a.1)
+  | inr k ↦ rw k ((a.0, all-forgotten P key es a.1))
+]
 
 pub all-take : (P : ℕ × ℕ → Type 0) (k : ℕ) (es : List (ℕ × ℕ)) → AllByRecursion P es → AllByRecursion P (take k es)
 all-take P zero es a = tt
@@ -22,5 +23,6 @@ all-take P (suc k) (e ∷ es) a = (a.0, all-take P k es a.1)
 pub absent-forgotten : (key : ℕ) (es : List (ℕ × ℕ)) → is_remembered eqb key (forgotten eqb key es) ≡ false
 absent-forgotten key [] = refl
 absent-forgotten key (e ∷ es) = elim (cases_Bool (eqb key e.1)) [
-    inl k ↦ rw k (absent-forgotten key es)
-  | inr k ↦ rw (k, k) (absent-forgotten key es) ]
+  | inl k ↦ rw k (absent-forgotten key es)
+  | inr k ↦ rw (k, k) (absent-forgotten key es)
+]

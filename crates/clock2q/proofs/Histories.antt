@@ -1,17 +1,17 @@
 -- What each call makes of the history's list.
-use Rattle.std.proofs.Common.{◌≡◌, ℕ, zero, suc, ◌+◌, ◌-◌, ◌*◌, ◌^◌, ◌<◌, ◌≤◌, max, Bool, true, false, not, cond, ◌||◌, ◌&&◌, ◌==◌, eqb, ◌⊎◌, Option, Some, None, slice_get, get_or, List, [], ◌∷◌, ◌++◌, map, length, take, drop, take_all, inl, inr, refl, sym, ap, ◌∙◌, subst, arith, eqb-true}
-use Rattle.std.specs.List.{filter, filter_map, cons_option, find, list_any, last_or, AllByRecursion}
+use Rattle.std.proofs.Common.{◌≡◌, ℕ, zero, suc, ◌+◌, ◌-◌, ◌*◌, ◌^◌, ◌<◌, ◌≤◌, max, Bool, true, false, ◌||◌, ◌&&◌, ◌==◌, eqb, Option, Some, None, slice_get, get_or, List, [], ◌∷◌, ◌++◌, map, length, take, drop, take_all, inl, inr, refl, sym, ap, ◌∙◌, subst, arith, eqb-true}
+use Rattle.std.specs.List.{filter, cons_option, find, last_or, AllByRecursion}
 use Rattle.std.specs.Prelude.{Result, Ok, Err, OnOk, OnErr}
 use Rattle.std.specs.Cmp.{IsEquivalence}
 use Rattle.std.proofs.lemmas.Bool.{both_ways, cases_Bool, eq-eqb, eqb-false, or_cases}
 use Rattle.std.proofs.lemmas.Bool.Decides.{leb_tells}
-use Rattle.std.proofs.lemmas.List.{length-append, length-take, length-replicate, append-nil}
+use Rattle.std.proofs.lemmas.List.{length-take, length-replicate, append-nil}
 use Rattle.clock2q.specs.Rings.{has, without, AllApart, AllBelow}
 use Rattle.clock2q.specs.Homes.{top, home, no_entries, candidates, total, capacity, inserted, removed}
 use Rattle.clock2q.specs.Order.{PlaceOrder, IsWholeOrder, unused, used, next_place, place_for}
 use Rattle.clock2q.specs.Keys.{KeyPlaces, key_places, written, is_key_at, hash_at}
 use Rattle.clock2q.specs.History.{IsIndex, IsHistory, MakesPlace, entries_of, is_remembered, forgotten, IsWholeHistory, Empties, remembered, from_place, AllDistinct, HasHash, is_named}
-use Rattle.clock2q.proofs.Rings.{eqb_self, differs, or_left, or_right, or_neither, eqb_swap, has_first, has_later, or_parts, AllApart-left, AllBelow-left, below_of, without-parted, has-append}
+use Rattle.clock2q.proofs.Rings.{eqb_self, differs, or_left, or_right, or_neither, has_first, has_later, or_parts, AllApart-left, AllBelow-left, below_of, without-parted, has-append}
 use Rattle.clock2q.proofs.Joining.{split_last, has-without, length-without}
 use Rattle.clock2q.specs.Layout.{IsTooLong}
 use Rattle.clock2q.specs.TableStep.{fit, doubled_until, made_for}

@@ -1,10 +1,10 @@
 -- What putting a place into the index, and taking one out, makes of it.
-use Rattle.std.proofs.Common.{◌≡◌, ℕ, zero, suc, ◌+◌, ◌-◌, ◌%◌, ◌<◌, ◌≤◌, Bool, true, false, not, cond, ◌||◌, ◌&&◌, ◌==◌, eqb, Option, Some, None, slice_get, List, [], ◌∷◌, ◌++◌, length, map, filter, get_or, inl, inr, refl, sym, ap, ◌∙◌, subst, arith, eqb-true}
+use Rattle.std.proofs.Common.{◌≡◌, ℕ, suc, ◌+◌, ◌%◌, ◌<◌, Bool, true, false, not, ◌||◌, ◌&&◌, ◌==◌, eqb, Some, None, List, [], ◌∷◌, ◌++◌, length, map, filter, inl, inr, refl, sym, ap, ◌∙◌, subst, arith, eqb-true}
 use Rattle.std.specs.List.{list_any}
-use Rattle.std.proofs.lemmas.Bool.{both_ways, cases_Bool, and_cases}
+use Rattle.std.proofs.lemmas.Bool.{both_ways, cases_Bool}
 use Rattle.std.proofs.lemmas.List.{length-append}
 use Rattle.clock2q.specs.Rings.{has, without, AllApart}
-use Rattle.clock2q.specs.Homes.{top, home, listed, count, total, candidates, inserted, removed, is_entry_of, without_first, with_list, no_entries}
+use Rattle.clock2q.specs.Homes.{top, home, listed, count, total, candidates, inserted, removed, is_entry_of, without_first}
 use Rattle.clock2q.specs.Keys.{hash_at}
 use Rattle.clock2q.specs.History.{IsIndex, is_alike, is_named}
 use Rattle.clock2q.proofs.Rings.{eqb_self, or_neither, has-append, differs, AllApart-append, without_absent}

@@ -1,14 +1,13 @@
 -- What holds of a cache's fields goes on to hold after each change of its machine.
-use Rattle.std.proofs.Common.{◌≡◌, ℕ, zero, suc, ◌+◌, ◌-◌, ◌<◌, ◌≤◌, Bool, true, false, not, List, [], ◌∷◌, ◌++◌, map, length, take, drop, refl, sym, ◌∙◌, ap, subst, arith, length-append, length-drop}
+use Rattle.std.proofs.Common.{◌≡◌, ℕ, zero, suc, ◌+◌, ◌<◌, ◌≤◌, Bool, true, false, not, List, [], ◌∷◌, ◌++◌, map, length, take, drop, sym, ◌∙◌, ap, subst, arith, length-append, length-drop}
 use Rattle.std.specs.Prelude.{if◌then◌else◌}
 use Rattle.std.specs.List.{AllByRecursion, filter}
 use Rattle.std.proofs.lemmas.List.{length-map, length-take}
 use Rattle.std.proofs.lemmas.List.Sums.{prefix_len-le-length, length-filter, count_by-le-length}
 use Rattle.std.proofs.Math.ListN.{set, length-set}
-use Rattle.clock2q.specs.Shares.{Shares, main_share, ghost_share}
-use Rattle.clock2q.specs.Entries.{SmallEntry, MainEntry, small_hit, main_hit, small_admitted, from_victim, behind_hand, passed, with_age, with_bit, touched, grown}
+use Rattle.clock2q.specs.Shares.{Shares, ghost_share}
+use Rattle.clock2q.specs.Entries.{SmallEntry, MainEntry, small_hit, main_hit, small_admitted, from_victim, behind_hand, passed, with_age, with_bit, touched}
 use Rattle.clock2q.specs.Machine.{Machine, hit, forgotten}
-use Rattle.clock2q.specs.Cache.{IsWhole}
 use Rattle.clock2q.specs.CacheFields.{IsKept, machine_of}
 
 -- what holds of each element of a list holds of those of the lists made of it

@@ -2,16 +2,16 @@
 use Rattle.std.proofs.Common.{◌≡◌, ℕ, zero, suc, ◌+◌, ◌-◌, ◌^◌, ◌<◌, ◌≤◌, Bool, true, false, ◌||◌, eqb, Option, Some, None, slice_get, List, [], ◌∷◌, ◌++◌, length, get_or, take, drop, inl, inr, refl, sym, ap, ◌∙◌, subst, arith}
 use Rattle.std.specs.Option.{unwrap_or}
 use Rattle.std.specs.List.{last_or}
-use Rattle.std.proofs.lemmas.Bool.{eqb-true, eq-eqb, both_ways, cases_Bool, or_cases}
-use Rattle.std.proofs.lemmas.List.{append-nil, length-append, length-set}
+use Rattle.std.proofs.lemmas.Bool.{eqb-true, eq-eqb, both_ways, cases_Bool}
+use Rattle.std.proofs.lemmas.List.{length-append, length-set}
 use Rattle.clock2q.specs.declared.links.Record.{Record}
 use Rattle.clock2q.specs.declared.links.Standing.TheVariants.{Free}
 use Rattle.clock2q.specs.declared.history.order.Chain.{Chain}
 use Rattle.clock2q.specs.Rings.{has, without, AllApart, AllBelow, around}
-use Rattle.clock2q.specs.Links.{LinkState, IsLinked, IsQueue, Attaches, Detaches, slots_from, slot_at, record_at, next_at, previous_at, bit_at, vacant, accessed, with_record}
-use Rattle.clock2q.specs.Order.{PlaceOrder, IsOrderOf, IsOrder, IsWholeOrder, free_places, place_for}
+use Rattle.clock2q.specs.Links.{LinkState, IsLinked, Attaches, Detaches, slots_from, record_at, next_at, previous_at, bit_at, vacant, accessed, with_record}
+use Rattle.clock2q.specs.Order.{IsOrderOf, IsOrder, IsWholeOrder, free_places, place_for}
 use Rattle.clock2q.proofs.Records.{changed}
-use Rattle.clock2q.proofs.Rings.{eqb_self, or_left, or_right, or_parts, or_neither, has-append, has_first, has_later, AllApart-left, AllApart-right, AllApart-append, AllApart-turned, AllBelow-append, AllBelow-left, AllBelow-right, apart_from, apart_back, below_of}
+use Rattle.clock2q.proofs.Rings.{eqb_self, or_left, or_parts, or_neither, has-append, has_first, has_later, AllApart-left, AllApart-right, AllApart-append, AllBelow-append, AllBelow-left, AllBelow-right, apart_from, apart_back, below_of}
 use Rattle.clock2q.proofs.Joining.{Inserts, Inserts-before, Inserts-first, Removes, Removes-detached, IsLinked-kept, IsLinked-turned, slots_from-is, previous_in, next_in, in_bounds, length-without, has-without, split_last, last_before}
 
 -- Lists of places

@@ -1,12 +1,12 @@
 -- What the cache does to its vectors at an insertion is what the machine says.
-use Rattle.std.proofs.Common.{◌≡◌, ℕ, zero, suc, ◌+◌, ◌-◌, ◌<◌, ◌≤◌, Bool, true, false, eqb, ltb, leb, List, [], ◌∷◌, ◌++◌, length, take, get_or, refl, sym, ap, subst, arith, eq-eqb}
-use Rattle.std.specs.Prelude.{Option, Some, None, IfSome, is_some, ◌||◌, ◌&&◌}
+use Rattle.std.proofs.Common.{◌≡◌, suc, ◌-◌, ◌<◌, ◌≤◌, Bool, true, false, List, [], ◌∷◌, ◌++◌, length, take, get_or, refl, sym, ap, subst, arith, eq-eqb}
+use Rattle.std.specs.Prelude.{Option, Some, None, IfSome}
 use Rattle.std.specs.List.{last_or}
-use Rattle.std.proofs.lemmas.Bool.{lt-ltb, le-ltb, leb-false, eqb-false, ne_eqb, or_parts}
+use Rattle.std.proofs.lemmas.Bool.{lt-ltb, le-ltb}
 use Rattle.std.proofs.Math.ListN.{set}
 use Rattle.clock2q.specs.Shares.{Shares, main_share, ghost_share}
 use Rattle.clock2q.specs.Entries.{SmallEntry, MainEntry, from_victim, behind_hand, small_admitted, is_promoted}
-use Rattle.clock2q.specs.Machine.{Machine, into_main, into_small, goes_to_main, vacancy, stored}
+use Rattle.clock2q.specs.Machine.{into_main, into_small, stored}
 use Rattle.clock2q.specs.CacheFields.{machine_of}
 
 module _ {X : Type 0} where

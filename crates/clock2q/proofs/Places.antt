@@ -1,7 +1,7 @@
 -- What becomes of the keys by place.
-use Rattle.std.proofs.Common.{◌≡◌, ℕ, zero, suc, ◌+◌, ◌<◌, ◌≤◌, Bool, true, false, cond, eqb, Option, Some, None, slice_get, List, [], ◌∷◌, ◌++◌, length, set, refl, sym, ap, ◌∙◌, subst, arith, rules}
+use Rattle.std.proofs.Common.{◌≡◌, ℕ, zero, suc, ◌+◌, ◌<◌, ◌≤◌, Bool, true, false, Some, List, [], ◌∷◌, ◌++◌, length, set, refl, sym, ap, ◌∙◌, subst, arith}
 use Rattle.std.specs.List.{find, AllByRecursion}
-use Rattle.clock2q.specs.Keys.{KeyPlaces, key_places, written, is_key_at, hash_at}
+use Rattle.clock2q.specs.Keys.{KeyPlaces, key_places, written, is_key_at}
 
 module _ {E : Type 0} where
   pub written-set : (place : ℕ) (e : E) (xs : List E) → place < length xs → written place e xs ≡ set xs place e

@@ -1,9 +1,9 @@
 -- What users of a table rely on over single insertions: few entries are never refused, and taking an entry out again restores the slots.
-use Rattle.std.proofs.Common.{◌≡◌, ℕ, suc, ◌+◌, ◌*◌, ◌^◌, ◌<◌, ◌≤◌, refl, sym, ap, ◌∙◌, subst, arith, Bool, true, false, List, [], ◌∷◌, length, Option}
+use Rattle.std.proofs.Common.{◌≡◌, ℕ, suc, ◌+◌, ◌^◌, ◌<◌, refl, sym, ap, ◌∙◌, subst, arith, Bool, true, List, length, Option}
 use Rattle.std.specs.Prelude.{Result, Ok, Err, IsOk, OnOk, OnErr}
 use Rattle.clock2q.specs.Homes.{total, capacity, inserted, top, removed, IsNew}
 use Rattle.clock2q.specs.Layout.{Placed, layout, homes_of, IsTidy, IsTooLong}
-use Rattle.clock2q.proofs.Tidy.{capacity-lt, length-homes_of}
+use Rattle.clock2q.proofs.Tidy.{length-homes_of}
 use Rattle.clock2q.proofs.Changes.{length-with_list}
 use Rattle.clock2q.proofs.Rebuild.{total-put_last}
 use Rattle.clock2q.proofs.TooLong.{too-long-total}

@@ -1,9 +1,9 @@
 -- The machine on runs worked out by hand: replies, and the state after each call of one run.
-use Rattle.std.proofs.Common.{◌≡◌, ℕ, zero, suc, ◌+◌, Bool, true, false, eqb, List, [], ◌∷◌, ◌++◌, map, refl}
-use Rattle.std.specs.Prelude.{Option, Some, None}
+use Rattle.std.proofs.Common.{◌≡◌, ℕ, ◌+◌, Bool, true, false, eqb, List, [], ◌∷◌, ◌++◌, map, refl}
+use Rattle.std.specs.Prelude.{Some, None}
 use Rattle.std.specs.List.{range_with_len}
-use Rattle.clock2q.specs.Shares.{Shares, usual_shares, main_share, ghost_share}
-use Rattle.clock2q.specs.Entries.{Age, Young, Old, MainEntry, inspections}
+use Rattle.clock2q.specs.Shares.{usual_shares, main_share, ghost_share}
+use Rattle.clock2q.specs.Entries.{Age, Young, Old, inspections}
 use Rattle.clock2q.specs.Machine.{Machine, empty}
 use Rattle.clock2q.specs.Calls.{Call, Answer, Put, Get, Peek, Contains, GetAt, Set, With, Try, SlotFor, Remove, Retain, Clear, Prefill, Len, IsEmpty, Capacity, Value, Stored, Tried, Slot, Flag, Number, Done}
 use Rattle.clock2q.specs.Steps.{answers, after_all}

@@ -1,5 +1,5 @@
 -- What contracts see of a cache, and what holds of every one.
-use Rattle.std.specs.Prelude.{◌≡◌, ℕ, ◌+◌, ◌<◌, ◌≤◌, length, refl}
+use Rattle.std.specs.Prelude.{◌≡◌, ◌+◌, ◌<◌, ◌≤◌, length, refl}
 use Rattle.std.specs.List.{AllByRecursion}
 use Rattle.std.specs.Coded.{Coded, code_by}
 use Rattle.clock2q.specs.Shares.{main_share, ghost_share}

@@ -1,5 +1,5 @@
 -- The places of the history in the order of their keys, and the chain of the free ones.
-use Rattle.std.specs.Prelude.{◌≡◌, ℕ, ◌+◌, ◌^◌, ◌<◌, ◌≤◌, List, [], ◌∷◌, ◌++◌, length, Option, None}
+use Rattle.std.specs.Prelude.{◌≡◌, ℕ, ◌+◌, ◌^◌, ◌<◌, ◌≤◌, List, [], ◌∷◌, ◌++◌, length, Option}
 use Rattle.clock2q.specs.Rings.{AllApart, AllBelow, around}
 use Rattle.clock2q.specs.Links.{LinkState, IsQueue, slots_from, next_at}
 use Rattle.clock2q.specs.declared.history.order.Chain.{Chain}

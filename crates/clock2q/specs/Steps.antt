@@ -1,8 +1,7 @@
 -- What each call answers and makes of the machine, and what a list of calls does.
-use Rattle.std.specs.Prelude.{ℕ, zero, suc, ◌-◌, Bool, true, false, ◌==◌, nat_lt, if◌then◌else◌, List, [], ◌∷◌, map, length, slice_get, Option, Some, None, is_some}
-use Rattle.std.specs.Option.{option_and_then, option_map}
+use Rattle.std.specs.Prelude.{ℕ, zero, suc, ◌-◌, Bool, true, false, ◌==◌, if◌then◌else◌, List, [], ◌∷◌, map, length, slice_get, Option, Some, None, is_some}
 use Rattle.clock2q.specs.Calls.{Call, Answer, Put, Get, Peek, Contains, GetAt, Set, With, Try, SlotFor, Remove, Retain, Clear, Prefill, Len, IsEmpty, Capacity, Value, Stored, Tried, Slot, Flag, Number, Done}
-use Rattle.clock2q.specs.Machine.{Machine, Placement, resident_count, slot_of, value_of, hit, placement, stored, inserted, reused, removed, by_slot, vacated_all, cleared, prefilled}
+use Rattle.clock2q.specs.Machine.{Machine, resident_count, slot_of, value_of, hit, placement, stored, inserted, reused, removed, by_slot, vacated_all, cleared, prefilled}
 
 -- the slots whose question was answered with false; past the end every answer is true
 abbrev pub refused_slots : List Bool → List ℕ → List ℕ

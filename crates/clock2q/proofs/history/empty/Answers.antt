@@ -1,5 +1,4 @@
-use Rattle.std.proofs.Common.{◌≡◌, ◌<◌, length, sym, ap, subst, ◌∙◌, arith}
-use Rattle.clock2q.specs.History.{Empties}
+use Rattle.std.proofs.Common.{◌<◌, length, arith}
 use Rattle.clock2q.proofs.Histories.{empties-none, empties-more}
 use Rattle.clock2q.proofs.history.empty.Goals as goal
 

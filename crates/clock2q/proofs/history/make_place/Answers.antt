@@ -1,4 +1,4 @@
-use Rattle.std.proofs.Common.{◌≡◌, ◌<◌, ◌≤◌, length, arith}
+use Rattle.std.proofs.Common.{◌<◌, ◌≤◌, length, arith}
 use Rattle.clock2q.proofs.Histories.{MakesPlace-new, MakesPlace-oldest}
 use Rattle.clock2q.proofs.history.make_place.Goals as goal
 

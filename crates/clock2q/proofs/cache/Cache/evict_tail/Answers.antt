@@ -1,5 +1,4 @@
 -- The tail's key goes into the history, and its slot to the new key.
-use Rattle.std.proofs.Common.{arith, length, ◌<◌}
 use Rattle.clock2q.proofs.Kept.{tail_made, kept_evicted}
 use Rattle.clock2q.proofs.Placed.{placed_for_tail, promotion_of_tail}
 use Rattle.clock2q.proofs.cache.Cache.evict_tail.Goals as goal

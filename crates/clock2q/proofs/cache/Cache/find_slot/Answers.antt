@@ -1,8 +1,7 @@
 -- What the search of the two queues finds is the slot of the resident.
-use Rattle.std.proofs.Common.{◌≡◌, ◌<◌, length, ◌∙◌, ap}
-use Rattle.std.specs.Prelude.{Option, Some, None}
-use Rattle.clock2q.specs.Machine.{slot_of}
-use Rattle.clock2q.proofs.Residents.{in_small_first, then_in_main, found_slot, slot_in_small, slot_in_main}
+use Rattle.std.proofs.Common.{◌<◌, length}
+use Rattle.std.specs.Prelude.{Some}
+use Rattle.clock2q.proofs.Residents.{in_small_first, then_in_main, found_slot}
 use Rattle.clock2q.proofs.cache.Cache.find_slot.Goals as goal
 
 pub returns-in-Some-clause-slot : goal.returns-in-Some-clause-slot

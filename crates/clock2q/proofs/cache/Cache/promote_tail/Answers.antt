@@ -1,5 +1,5 @@
 -- The tail goes on to Main, and the slot of Main's victim to the new key.
-use Rattle.std.proofs.Common.{arith, length, ◌<◌}
+use Rattle.std.proofs.Common.{arith}
 use Rattle.clock2q.proofs.Kept.{victim_made, kept_promoted}
 use Rattle.clock2q.proofs.Placed.{placed_by_promotion, promotion_of_tail}
 use Rattle.clock2q.proofs.cache.Cache.promote_tail.Goals as goal

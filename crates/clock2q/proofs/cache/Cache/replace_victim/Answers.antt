@@ -1,6 +1,5 @@
 -- The victim's slot has been made, and the new key has its place.
-use Rattle.std.proofs.Common.{◌≡◌, length, arith, sym, ap}
-use Rattle.clock2q.specs.Shares.{main_share}
+use Rattle.std.proofs.Common.{arith}
 use Rattle.clock2q.proofs.Kept.{victim_made, kept_in_place_of_victim}
 use Rattle.clock2q.proofs.Placed.{placed_for_victim}
 use Rattle.clock2q.proofs.cache.Cache.replace_victim.Goals as goal

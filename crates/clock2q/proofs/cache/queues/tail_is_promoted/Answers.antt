@@ -1,5 +1,4 @@
 -- The entry read is the last.
-use Rattle.std.proofs.Common.{arith, length, ◌<◌, ◌-◌}
 use Rattle.std.specs.Prelude.{None}
 use Rattle.clock2q.proofs.Placed.{last_at}
 use Rattle.clock2q.proofs.cache.queues.tail_is_promoted.Goals as goal

@@ -1,4 +1,4 @@
-use Rattle.std.proofs.Common.{◌≡◌, sym, subst, ap, ◌∙◌, OnOk, OnErr, Ok, Err, Result, arith}
+use Rattle.std.proofs.Common.{◌≡◌, sym, subst, ap, ◌∙◌, OnOk, OnErr, Err, Result, arith}
 use Rattle.clock2q.specs.Homes.{inserted, removed, IsNew}
 use Rattle.clock2q.specs.Layout.{layout, IsTooLong}
 use Rattle.clock2q.proofs.Promises.{on_ok, no_error}

@@ -1,4 +1,4 @@
-use Rattle.std.proofs.Common.{◌≡◌, ◌<◌, ◌≤◌, ℕ, length, sym, ap, ◌∙◌, subst, arith}
+use Rattle.std.proofs.Common.{◌<◌, length, sym, ap, ◌∙◌, subst, arith}
 use Rattle.clock2q.specs.Homes.{total, capacity}
 use Rattle.clock2q.specs.Layout.{homes_of}
 use Rattle.clock2q.proofs.Tidy.{length-homes_of}

@@ -1,9 +1,9 @@
-use Rattle.std.proofs.Common.{◌≡◌, None, Some, sym, ap, ◌∙◌, subst, length, ◌<◌}
-use Rattle.std.specs.List.{find, AllByRecursion}
+use Rattle.std.proofs.Common.{◌≡◌, None, Some, sym, ap, ◌∙◌, subst}
+use Rattle.std.specs.List.{find}
 use Rattle.clock2q.specs.Homes.{candidates}
 use Rattle.clock2q.specs.Keys.{KeyPlaces, is_key_at}
 use Rattle.clock2q.specs.History.{Remembered, HasHash, entries_of, is_remembered, forgotten}
-use Rattle.clock2q.proofs.Histories.{Forgets, forgets, missed, place_there, candidates_there}
+use Rattle.clock2q.proofs.Histories.{forgets, missed, place_there, candidates_there}
 use Rattle.clock2q.proofs.history.History.discard.Goals as goal
 
 pub find-requires : goal.find-requires

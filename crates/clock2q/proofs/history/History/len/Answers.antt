@@ -1,4 +1,4 @@
-use Rattle.std.proofs.Common.{◌≡◌, length, sym, ap, ◌∙◌}
+use Rattle.std.proofs.Common.{length, sym, ap, ◌∙◌}
 use Rattle.clock2q.specs.History.{Remembered}
 use Rattle.clock2q.proofs.Histories.{entries_counted, IsWholeHistory-from}
 use Rattle.clock2q.proofs.history.History.len.Goals as goal

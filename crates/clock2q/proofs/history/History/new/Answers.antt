@@ -1,4 +1,4 @@
-use Rattle.std.proofs.Common.{◌≡◌, ℕ, refl, sym, ap, subst, ◌∙◌, arith}
+use Rattle.std.proofs.Common.{ℕ, sym, ap, subst, arith}
 use Rattle.clock2q.specs.TableStep.{TableValue, made_for}
 use Rattle.clock2q.specs.Order.{IsWholeOrder}
 use Rattle.clock2q.specs.Keys.{KeyPlaces}

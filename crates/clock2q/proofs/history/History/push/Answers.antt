@@ -1,6 +1,6 @@
-use Rattle.std.proofs.Common.{◌≡◌, ◌<◌, ◌≤◌, ◌∷◌, false, take, refl, sym, ap, ◌∙◌, subst, arith}
+use Rattle.std.proofs.Common.{◌≡◌, ◌<◌, ◌∷◌, false, take, ap, ◌∙◌, arith}
 use Rattle.clock2q.specs.History.{Remembered, is_remembered, entries_of}
-use Rattle.clock2q.proofs.Histories.{Remembers, remembers, none_fit, put_done}
+use Rattle.clock2q.proofs.Histories.{remembers, put_done}
 use Rattle.clock2q.proofs.history.History.push.Goals as goal
 
 pub invariant_of-self : goal.invariant_of-self

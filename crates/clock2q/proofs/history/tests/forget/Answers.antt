@@ -1,5 +1,3 @@
-use Rattle.std.proofs.Common.{◌≡◌, ◌%◌, sym, ap, ◌∙◌}
-use Rattle.clock2q.specs.History.{is_remembered}
 use Rattle.clock2q.proofs.Hashed.{has_hash, all-forgotten, absent-forgotten}
 use Rattle.clock2q.proofs.history.tests.forget.Goals as goal
 

@@ -1,4 +1,4 @@
-use Rattle.std.proofs.Common.{◌≡◌, ◌%◌, ◌∷◌, refl, sym, ap, ◌∙◌}
+use Rattle.std.proofs.Common.{◌%◌, ◌∷◌, refl}
 use Rattle.clock2q.proofs.Hashed.{all-take}
 use Rattle.clock2q.proofs.history.tests.renew.Goals as goal
 

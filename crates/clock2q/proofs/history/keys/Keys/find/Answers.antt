@@ -1,5 +1,5 @@
-use Rattle.std.proofs.Common.{◌≡◌, ◌+◌, ◌≤◌, List, ℕ, length, refl, ap, sym, ◌∙◌, subst, arith}
-use Rattle.clock2q.specs.Keys.{KeyPlaces, key_places}
+use Rattle.std.proofs.Common.{List, ℕ, length, refl, ap, sym, ◌∙◌, subst, arith}
+use Rattle.clock2q.specs.Keys.{KeyPlaces}
 use Rattle.clock2q.proofs.Places.{Asked, asked-next, asked-place, asked-found, asked-still}
 use Rattle.clock2q.proofs.history.keys.Keys.find.Goals as goal
 

@@ -1,5 +1,5 @@
-use Rattle.std.proofs.Common.{◌≡◌, ◌<◌, length, refl, ap, sym, ◌∙◌, subst, arith}
-use Rattle.clock2q.specs.Keys.{KeyPlaces, key_places}
+use Rattle.std.proofs.Common.{length, refl, ap, sym, ◌∙◌, arith}
+use Rattle.clock2q.specs.Keys.{KeyPlaces}
 use Rattle.clock2q.proofs.Places.{written-set, written-push, shows-written}
 use Rattle.clock2q.proofs.history.keys.Keys.write.Goals as goal
 

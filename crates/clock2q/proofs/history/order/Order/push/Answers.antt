@@ -1,8 +1,8 @@
-use Rattle.std.proofs.Common.{◌≡◌, ◌+◌, ◌<◌, ◌∷◌, List, ℕ, Some, length, drop, ap, sym, subst, ◌∙◌}
+use Rattle.std.proofs.Common.{◌+◌, ◌<◌, ◌∷◌, Some, length, drop, ap, sym, subst, ◌∙◌}
 use Rattle.std.specs.Option.{unwrap_or}
 use Rattle.clock2q.specs.Links.{slots_from}
 use Rattle.clock2q.specs.Order.{PlaceOrder, IsOrderOf, free_places}
-use Rattle.clock2q.proofs.Orders.{IsOrder-from, IsWholeOrder-from, FitsNext, head_fits, next_fits, chosen, first_fits, Pushes-attached, Pushes-alone}
+use Rattle.clock2q.proofs.Orders.{IsOrder-from, IsWholeOrder-from, head_fits, next_fits, chosen, first_fits, Pushes-attached, Pushes-alone}
 use Rattle.clock2q.proofs.Joining.{slots_from-is}
 use Rattle.clock2q.proofs.history.order.Order.push.Goals as goal
 use Rattle.clock2q.proofs.history.order.Order.push.Goals.{in-None, in-Some}

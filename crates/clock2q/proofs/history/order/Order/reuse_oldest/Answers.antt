@@ -1,8 +1,8 @@
-use Rattle.std.proofs.Common.{◌≡◌, ◌∷◌, ◌-◌, None, Some, length, take, ap, sym, ◌∙◌}
+use Rattle.std.proofs.Common.{◌∷◌, ◌-◌, None, length, take, ap, sym, ◌∙◌}
 use Rattle.std.specs.List.{last_or}
 use Rattle.clock2q.specs.declared.links.Record.{Record}
 use Rattle.clock2q.specs.Order.{PlaceOrder}
-use Rattle.clock2q.proofs.Orders.{IsOrder-from, IsWholeOrder-from, Reuses, reuses}
+use Rattle.clock2q.proofs.Orders.{IsOrder-from, IsWholeOrder-from, reuses}
 use Rattle.clock2q.proofs.Joining.{slots_from-is}
 use Rattle.clock2q.proofs.history.order.Order.reuse_oldest.Goals as goal
 

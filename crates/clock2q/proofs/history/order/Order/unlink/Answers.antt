@@ -1,4 +1,4 @@
-use Rattle.std.proofs.Common.{◌≡◌, ltb, ◌-◌, ◌∷◌, true, refl, sym, ap, ◌∙◌, subst}
+use Rattle.std.proofs.Common.{◌≡◌, ltb, ◌-◌, ◌∷◌, true, ap, ◌∙◌}
 use Rattle.std.specs.Bool.{then_some}
 use Rattle.clock2q.specs.declared.links.Record.{Record}
 use Rattle.clock2q.specs.Rings.{has, without}
