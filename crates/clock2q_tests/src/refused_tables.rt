@@ -129,3 +129,45 @@ fn reservations(rt: HostRuntime) -> Result<(), Fail> {
     assert_eq!(rt; table.capacity(), 24);
     Ok(())
 }
+
+
+#[test]
+fn finds(rt: HostRuntime) -> Result<(), Fail> {
+    let alloc = Refusing::new(rt.alloc());
+    let mut table = full(&rt, &alloc)?;
+    let before = held(&table);
+    let mut enough = 0;
+    for granted in 0..MANY {
+        let offered = Cell::new(0u64);
+        let asked = Cell::new(0u64);
+        alloc.refuse_after(granted);
+        let outcome = table.find_or_insert(
+            5,
+            |found: u64| {
+                offered.set(offered.get().saturating_add(1));
+                found == 5
+            },
+            20,
+            |handle| -> u64
+                ensures { result ≡ handle }
+            {
+                asked.set(asked.get().saturating_add(1));
+                handle
+            },
+        );
+        assert_eq!(rt; table.len(), 12, "{granted} granted");
+        assert_eq!(rt; held(&table), before, "{granted} granted");
+        if outcome.is_ok() {
+            assert_eq!(rt; outcome, Ok((5, false)));
+            assert_eq!(rt; (offered.get(), asked.get()), (1, 12));
+            enough = granted;
+            break;
+        }
+        assert_eq!(rt; outcome, Err(TableError::Memory), "{granted} granted");
+        assert_eq!(rt; (offered.get(), asked.get()), (0, 0), "{granted} granted");
+        assert_eq!(rt; table.capacity(), 12, "{granted} granted");
+    }
+    assert_ne!(rt; enough, 0);
+    assert_eq!(rt; table.capacity(), 24);
+    Ok(())
+}

@@ -1,0 +1,13 @@
+use Rattle.std.proofs.Common.{rules, ◌≡◌, ℕ, sym, subst}
+use Rattle.clock2q.specs.TableStep.{IsHashOf}
+use Rattle.clock2q.specs.Rehash.{GivesHashes}
+use Rattle.clock2q_tests.proofs.Own.{own_given}
+use Rattle.clock2q_tests.proofs.refused_tables.finds.Goals as goal
+
+pub find_or_insert-outcome-requires-clause-rehash : goal.find_or_insert-outcome-requires-clause-rehash
+find_or_insert-outcome-requires-clause-rehash g c = λ _. ((λ handle. handle), own_given _ c.loop-granted.table.homes _ c.loop-granted.invariant (λ _ _. tt) (λ f h r next called. search rules))
+
+pub loop-granted-preserved : goal.loop-granted-preserved
+loop-granted-preserved g c =
+    let same : c.find_or_insert-outcome.new.self ≡ c.loop-granted.table = search rules in
+    subst (λ table. IsHashOf (λ handle. handle) table.homes) (sym same) c.loop-granted.invariant
