@@ -11,4 +11,6 @@ mod refused;
 mod refused_tables;
 pub mod refusing;
 #[cfg(test)]
+mod tables;
+#[cfg(test)]
 mod texts;

@@ -1,0 +1,112 @@
+-- Tables in which each handle was put in under the hash that one function gives it.
+use Rattle.std.proofs.Common.{◌≡◌, ◌≢◌, ℕ, ◌<◌, ◌≤◌, ◌==◌, nat_le, zero, suc, Bool, true, false, cond, List, [], ◌∷◌, Option, Some, None, Result, Ok, Err, refl, sym, ap, ◌∙◌, subst, arith, length}
+use Rattle.std.specs.Prelude.{OnOk, OnErr, ◌+◌, ◌*◌, ◌/◌}
+use Rattle.clock2q.specs.declared.handles.TableError.{TableError}
+use Rattle.clock2q.specs.declared.handles.TableError.TheVariants.{Memory, Size, RunTooLong}
+use Rattle.clock2q.specs.Offers.{Offers, Settles}
+use lib.Dec.{T, eqb→eq}
+use Rattle.std.specs.Fn.{Called, Takes, Mut}
+use Rattle.clock2q.specs.Homes.{top, capacity, total, candidates, inserted, removed, no_entries}
+use Rattle.clock2q.specs.TableStep.{TableValue, IsHashOf, IsFull, IsShortOf, doubled_until, grown, reserved, rebuilt, doubled, made_for, fit}
+use Rattle.clock2q.specs.Layout.{IsTooLong}
+use Rattle.clock2q.specs.Rehash.{GivesHashes}
+use Rattle.clock2q.proofs.Hashes.{hashes-none, hashes-put_last, hashes-rebuilt, hashes-removed, rebuilt-length}
+
+one_of : (m x : ℕ) (b : Bool) → 0 < m → 0 < x → 0 < elim b [ true ↦ m | false ↦ x ]
+one_of m x true some other = some
+one_of m x false some other = other
+
+-- doubling leaves a count of slots that isn't 0
+until_some : (e m k : ℕ) → 0 < m → 0 < doubled_until e m k
+until_some e m zero some = some
+until_some e m (suc k) some = one_of m (doubled_until e (2 * m) k) (nat_le e (capacity m)) some (until_some e (2 * m) k (omega (arith, some)))
+
+fit_some : (e : ℕ) → 0 < fit e
+unfolding fit
+fit_some e = until_some e 16 e (omega arith)
+
+module _ {H : Type 0} (key : H → ℕ) where
+  -- a new table
+  pub keyed_made : (n : ℕ) → IsHashOf key (made_for {H = H} n)
+  keyed_made zero = hashes-none key 0
+  keyed_made (suc k) = hashes-none key (fit (suc k))
+
+  -- a table with no slots is full
+  some_slots : (homes : List (List (ℕ × H))) → (total homes == capacity (length homes)) ≡ false → 0 < length homes
+  some_slots [] q = absurd (cc)
+  some_slots (es ∷ homes) q = omega arith
+
+  grown_by : (homes : List (List (ℕ × H))) (b : Bool) → (total homes == capacity (length homes)) ≡ b → IsHashOf key homes → (0 < length (cond b (rebuilt key (doubled (length homes)) homes) homes)) × IsHashOf key (cond b (rebuilt key (doubled (length homes)) homes) homes)
+  grown_by homes true q hashes =
+      (omega (arith, rebuilt-length key homes (doubled (length homes))), hashes-rebuilt key homes (doubled (length homes)) (omega (arith, eqb→eq (total homes) (capacity (length homes)) (subst T (sym q) tt))) (omega arith) hashes)
+  grown_by homes false q hashes = (some_slots homes q, hashes)
+
+  -- a table that grew where it was full
+  pub keyed_grown : (homes : List (List (ℕ × H))) → IsHashOf key homes → (0 < length (grown key homes)) × IsHashOf key (grown key homes)
+  keyed_grown homes hashes = grown_by homes (total homes == capacity (length homes)) refl hashes
+
+  -- one handle more
+  pub keyed_inserted : (homes : List (List (ℕ × H))) (v : H) → IsHashOf key homes → IsHashOf key (inserted (grown key homes) (key v) v)
+  keyed_inserted homes v hashes =
+      let g = keyed_grown homes hashes in
+      hashes-put_last key (grown key homes) (key v) (top (key v), v) g.0 g.1 refl refl
+
+  reserved_by : (homes : List (List (ℕ × H))) (m : ℕ) (b : Bool) → total homes ≤ capacity (length homes) → 0 < m → IsHashOf key homes → IsHashOf key (cond b homes (rebuilt key m homes))
+  reserved_by homes m true room some hashes = hashes
+  reserved_by homes m false room some hashes = hashes-rebuilt key homes m room some hashes
+
+  keyed_inserted_under : (homes : List (List (ℕ × H))) (h : ℕ) (v : H) → h ≡ key v → IsHashOf key homes → IsHashOf key (inserted (grown key homes) h v)
+  keyed_inserted_under homes h v is hashes = subst (λ x. IsHashOf key (inserted (grown key homes) x v)) (sym is) (keyed_inserted homes v hashes)
+
+  keyed_settled : (homes new : List (List (ℕ × H))) (h : ℕ) (v : H) (found : Option H) (result : Result (H × Bool) TableError) → h ≡ key v → Settles (grown key homes) h v found result new → IsHashOf key homes → IsHashOf key new
+  keyed_settled homes new h v (Some c) result is s hashes = subst (IsHashOf key) (sym s.1) (keyed_grown homes hashes).1
+  keyed_settled homes new h v None (Ok r) is s hashes = subst (IsHashOf key) (sym s.1) (keyed_inserted_under homes h v is hashes)
+  keyed_settled homes new h v None (Err e) is s hashes = subst (IsHashOf key) (sym s.1) (keyed_grown homes hashes).1
+
+  module _ {F : Type 0} (g : Mut F (H × Unit {0}) ℕ) (f : F) (homes new : List (List (ℕ × H))) (h : ℕ) (v : H) where
+    -- what an insertion leaves, however it ends
+    pub keyed_put : (result : Result (Unit {0}) TableError)
+        → OnOk result ((k : H → ℕ) → (IsFull homes → GivesHashes g k homes f) → new ≡ inserted (grown k homes) h v)
+        → (result ≡ Err RunTooLong → (k : H → ℕ) → (IsFull homes → GivesHashes g k homes f) → IsTooLong (inserted (grown k homes) h v) × (new ≡ grown k homes))
+        → (result ≡ Err Memory → new ≡ homes) → (result ≢ Err Size) → h ≡ key v → IsHashOf key homes → GivesHashes g key homes f → IsHashOf key new
+    keyed_put (Ok r) ok long memory size is hashes gives = subst (IsHashOf key) (sym (ok key (λ _. gives))) (keyed_inserted_under homes h v is hashes)
+    keyed_put (Err Memory) ok long memory size is hashes gives = subst (IsHashOf key) (sym (memory refl)) hashes
+    keyed_put (Err Size) ok long memory size is hashes gives = absurd (size refl)
+    keyed_put (Err RunTooLong) ok long memory size is hashes gives = subst (IsHashOf key) (sym (long refl key (λ _. gives)).1) (keyed_grown homes hashes).1
+
+    -- what a handle that is found or put in leaves
+    pub keyed_found : {M : Type 0} (m : Mut M (H × Unit {0}) Bool) (matches : M) (result : Result (H × Bool) TableError)
+        → ((result ≢ Err Memory) → (k : H → ℕ) → (IsFull homes → GivesHashes g k homes f) → (found : Option H) × (last : M) × Offers m matches (candidates (grown k homes) h) found last × Settles (grown k homes) h v found result new)
+        → (result ≡ Err Memory → new ≡ homes) → h ≡ key v → IsHashOf key homes → GivesHashes g key homes f → IsHashOf key new
+    keyed_found m matches (Ok r) settles memory is hashes gives =
+        let s = settles (λ e. absurd (cc)) key (λ _. gives) in
+        keyed_settled homes new h v s.0 (Ok r) is s.3 hashes
+    keyed_found m matches (Err Memory) settles memory is hashes gives = subst (IsHashOf key) (sym (memory refl)) hashes
+    keyed_found m matches (Err Size) settles memory is hashes gives =
+        let s = settles (λ e. absurd (cc)) key (λ _. gives) in
+        keyed_settled homes new h v s.0 (Err Size) is s.3 hashes
+    keyed_found m matches (Err RunTooLong) settles memory is hashes gives =
+        let s = settles (λ e. absurd (cc)) key (λ _. gives) in
+        keyed_settled homes new h v s.0 (Err RunTooLong) is s.3 hashes
+
+    -- what a reservation leaves
+    pub keyed_reserved : (before after : TableValue H) (n : ℕ) (result : Result (Unit {0}) TableError)
+        → OnOk result ((k : H → ℕ) → (IsShortOf homes n → GivesHashes g k homes f) → new ≡ reserved k homes n)
+        → OnErr result (after ≡ before) → new ≡ after.homes → before.homes ≡ homes → total homes ≤ capacity (length homes) → IsHashOf key homes → GivesHashes g key homes f → IsHashOf key new
+    keyed_reserved before after n (Ok r) ok err to from room hashes gives = subst (IsHashOf key) (sym (ok key (λ _. gives))) (reserved_by homes (fit (total homes + n)) (nat_le (total homes + n) (capacity (length homes))) room (fit_some (total homes + n)) hashes)
+    keyed_reserved before after n (Err e) ok err to from room hashes gives = subst (IsHashOf key) (sym (to ∙ ap (λ t. t.homes) err ∙ from)) hashes
+
+  -- one handle less
+  pub keyed_removed : (eq : H → H → Bool) (homes : List (List (ℕ × H))) (x : ℕ) (v : H) → IsHashOf key homes → IsHashOf key (removed eq homes x v)
+  keyed_removed eq [] x v hashes = hashes
+  keyed_removed eq (es ∷ homes) x v hashes = hashes-removed key eq (es ∷ homes) x v (omega arith) hashes
+
+  -- a closure that answers what its key says gives each held handle its hash
+  pub keyed_given : {F : Type 0} (g : Mut F (H × Unit {0}) ℕ) (homes : List (List (ℕ × H))) (f : F) → IsHashOf key homes → ((f' : F) (h : H) → Takes g f' (h, tt)) → ((f' : F) (h : H) (r : ℕ) (next : F) → Called g f' (h, tt) r next → r ≡ key h) → GivesHashes g key homes f
+  keyed_given g homes f hashes takes answers = record {
+    answers = record {
+      takes = λ _ f' h _ _. takes f' h;
+      answers = λ _ f' h r next _ _ called. answers f' h r next called;
+    };
+    hashes = hashes;
+  }
