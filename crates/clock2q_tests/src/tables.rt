@@ -237,8 +237,20 @@ fn found_after_growth(rt: HostRuntime) -> Result<(), Fail> {
         let asked = Seen::new();
         let offered = Seen::new();
         let mut tested = alternating(rt.alloc(), &asked)?;
-        let outcome = tested.find_or_insert(Handle { hash: A, number: 12 }, accepted, &offered, &asked)?;
-        assert_eq!(rt; (outcome.0.number, outcome.1), reply, "accepting {accepted}");
+        let outcome = tested.find_or_insert(
+            Handle {
+                hash: A,
+                number: 12,
+            },
+            accepted,
+            &offered,
+            &asked,
+        )?;
+        assert_eq!(rt;
+            (outcome.0.number, outcome.1),
+            reply,
+            "accepting {accepted}"
+        );
         assert_eq!(rt; offered.count.get(), offers, "accepting {accepted}");
         assert_eq!(rt; offered.first.get()[0], 2, "accepting {accepted}");
         assert_eq!(rt; asked.count.get(), 12, "accepting {accepted}");
