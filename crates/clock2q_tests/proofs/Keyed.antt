@@ -1,12 +1,12 @@
 -- Tables in which each handle was put in under the hash that one function gives it.
 use Rattle.std.proofs.Common.{◌≡◌, ◌≢◌, ℕ, ◌<◌, ◌≤◌, ◌==◌, nat_le, zero, suc, Bool, true, false, cond, List, [], ◌∷◌, Option, Some, None, Result, Ok, Err, refl, sym, ap, ◌∙◌, subst, arith, length}
-use Rattle.std.specs.Prelude.{OnOk, OnErr, ◌+◌, ◌*◌, ◌/◌}
+use Rattle.std.specs.Prelude.{OnOk, OnErr, ◌+◌, ◌*◌}
 use Rattle.clock2q.specs.declared.handles.TableError.{TableError}
 use Rattle.clock2q.specs.declared.handles.TableError.TheVariants.{Memory, Size, RunTooLong}
 use Rattle.clock2q.specs.Offers.{Offers, Settles}
 use lib.Dec.{T, eqb→eq}
 use Rattle.std.specs.Fn.{Called, Takes, Mut}
-use Rattle.clock2q.specs.Homes.{top, capacity, total, candidates, inserted, removed, no_entries}
+use Rattle.clock2q.specs.Homes.{top, capacity, total, candidates, inserted, removed}
 use Rattle.clock2q.specs.TableStep.{TableValue, IsHashOf, IsFull, IsShortOf, doubled_until, grown, reserved, rebuilt, doubled, made_for, fit}
 use Rattle.clock2q.specs.Layout.{IsTooLong}
 use Rattle.clock2q.specs.Rehash.{GivesHashes}

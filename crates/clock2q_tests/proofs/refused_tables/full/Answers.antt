@@ -1,4 +1,4 @@
-use Rattle.std.proofs.Common.{rules, ◌<◌, ℕ, length, sym, subst}
+use Rattle.std.proofs.Common.{rules, ◌<◌, length, sym, subst}
 use Rattle.clock2q.specs.Homes.{total, capacity}
 use Rattle.clock2q.specs.TableStep.{IsHashOf}
 use Rattle.clock2q_tests.proofs.Own.{own_inserted}

@@ -1,4 +1,4 @@
-use Rattle.std.proofs.Common.{rules, ◌≡◌, ℕ, ap, refl}
+use Rattle.std.proofs.Common.{rules, ap, refl}
 use Rattle.clock2q_tests.proofs.Keyed.{keyed_put, keyed_given}
 use Rattle.clock2q_tests.proofs.tables.Hashed.insert.Goals as goal
 

@@ -1,4 +1,4 @@
-use Rattle.std.proofs.Common.{rules, ◌≡◌, ℕ, sym, subst}
+use Rattle.std.proofs.Common.{sym, subst}
 use Rattle.clock2q.specs.TableStep.{IsHashOf}
 use Rattle.clock2q_tests.specs.contracts.tables.HandlePartialEq.TheImpl as equals
 use Rattle.clock2q_tests.proofs.Keyed.{keyed_removed}

@@ -1,4 +1,4 @@
-use Rattle.std.proofs.Common.{rules, ◌≡◌, ℕ, refl}
+use Rattle.std.proofs.Common.{rules, refl}
 use Rattle.clock2q_tests.proofs.Keyed.{keyed_reserved, keyed_given}
 use Rattle.clock2q_tests.proofs.tables.Hashed.reserve.Goals as goal
 
