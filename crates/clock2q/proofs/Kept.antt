@@ -6,7 +6,8 @@ use Rattle.std.proofs.lemmas.List.{length-map, length-take}
 use Rattle.std.proofs.lemmas.List.Sums.{prefix_len-le-length, length-filter, count_by-le-length}
 use Rattle.std.proofs.Math.ListN.{set, length-set}
 use Rattle.clock2q.specs.Shares.{Shares, ghost_share}
-use Rattle.clock2q.specs.Entries.{SmallEntry, MainEntry, small_hit, main_hit, small_admitted, from_victim, behind_hand, passed, with_age, with_bit, touched}
+use Rattle.clock2q_queues.specs.Ages.{touched}
+use Rattle.clock2q.specs.Entries.{SmallEntry, MainEntry, small_hit, main_hit, small_admitted, from_victim, behind_hand, passed, with_age, with_bit}
 use Rattle.clock2q.specs.Machine.{Machine, hit, forgotten}
 use Rattle.clock2q.specs.CacheFields.{IsKept, machine_of}
 

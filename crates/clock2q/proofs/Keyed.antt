@@ -3,14 +3,16 @@ use Rattle.std.proofs.Common.{◌≡◌, ℕ, zero, suc, ◌+◌, Bool, true, fa
 use Rattle.std.specs.List.{filter}
 use Rattle.std.proofs.lemmas.Bool.{cases_Bool}
 use Rattle.std.proofs.lemmas.List.{map-append}
+use Rattle.clock2q_queues.specs.Ages as ages
 use Rattle.clock2q.specs.Entries as machine
-use Rattle.clock2q.specs.Entries.{Age, SmallEntry, MainEntry, grown, touched}
-use Rattle.clock2q.specs.Rings.{has}
-use Rattle.clock2q.specs.Small.{admitted, small_hit_at}
-use Rattle.clock2q.specs.MainRing.{passed, inspections, from_victim, main_hit_at}
-use Rattle.clock2q.specs.Queues.{slots_of, without_slot}
+use Rattle.clock2q_queues.specs.Ages.{Age, grown, touched}
+use Rattle.clock2q.specs.Entries.{SmallEntry, MainEntry}
+use Rattle.clock2q_queues.specs.Rings.{has}
+use Rattle.clock2q_queues.specs.Small.{admitted, small_hit_at}
+use Rattle.clock2q_queues.specs.MainRing.{passed, inspections, from_victim, main_hit_at}
+use Rattle.clock2q_queues.specs.Queues.{slots_of, without_slot}
 use Rattle.clock2q.specs.Keyed.{keyed_small, keyed_main}
-use Rattle.clock2q.proofs.Rings.{has_first, has_later}
+use Rattle.clock2q_queues.proofs.Rings.{has_first, has_later}
 
 module _ {K : Type 0} (key : ℕ → K) where
   keyed-grown : (window : ℕ) (es : List (ℕ × Age))
@@ -20,7 +22,7 @@ module _ {K : Type 0} (key : ℕ → K) where
 
   -- an admission
   pub keyed-admitted : (window slot : ℕ) (es : List (ℕ × Age)) → machine.small_admitted window (key slot) slot (keyed_small key es) ≡ keyed_small key (admitted window slot es)
-  keyed-admitted window slot es = ap (λ zs. record { key = key slot; slot = slot; age = machine.Young 0 } ∷ zs) (keyed-grown window es)
+  keyed-admitted window slot es = ap (λ zs. record { key = key slot; slot = slot; age = ages.Young 0 } ∷ zs) (keyed-grown window es)
 
   -- a slot that is put behind the hand
   pub keyed-behind : (slot : ℕ) (es : List (ℕ × Bool)) → machine.behind_hand (key slot) slot (keyed_main key es) ≡ keyed_main key (es ++ (slot, false) ∷ [])

@@ -5,7 +5,8 @@ use Rattle.std.specs.List.{last_or}
 use Rattle.std.proofs.lemmas.Bool.{lt-ltb, le-ltb}
 use Rattle.std.proofs.Math.ListN.{set}
 use Rattle.clock2q.specs.Shares.{Shares, main_share, ghost_share}
-use Rattle.clock2q.specs.Entries.{SmallEntry, MainEntry, from_victim, behind_hand, small_admitted, is_promoted}
+use Rattle.clock2q_queues.specs.Ages.{is_promoted}
+use Rattle.clock2q.specs.Entries.{SmallEntry, MainEntry, from_victim, behind_hand, small_admitted}
 use Rattle.clock2q.specs.Machine.{into_main, into_small, stored}
 use Rattle.clock2q.specs.CacheFields.{machine_of}
 

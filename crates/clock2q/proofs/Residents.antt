@@ -3,7 +3,8 @@ use Rattle.std.proofs.Common.{◌≡◌, ℕ, Bool, true, false, cond, List, [],
 use Rattle.std.specs.Prelude.{Option, Some, None, IfSome, if◌then◌else◌}
 use Rattle.std.specs.List.{find, AllByRecursion}
 use Rattle.std.specs.Option.{option_map, option_or}
-use Rattle.clock2q.specs.Entries.{SmallEntry, MainEntry, small_hit, main_hit, with_age, with_bit, touched}
+use Rattle.clock2q_queues.specs.Ages.{touched}
+use Rattle.clock2q.specs.Entries.{SmallEntry, MainEntry, small_hit, main_hit, with_age, with_bit}
 use Rattle.clock2q.specs.Machine.{Machine, slot_of, hit}
 
 module _ {K : Type 0} (is : K → Bool) where

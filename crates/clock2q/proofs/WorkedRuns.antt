@@ -3,7 +3,8 @@ use Rattle.std.proofs.Common.{◌≡◌, ℕ, ◌+◌, Bool, true, false, eqb, L
 use Rattle.std.specs.Prelude.{Some, None}
 use Rattle.std.specs.List.{range_with_len}
 use Rattle.clock2q.specs.Shares.{usual_shares, main_share, ghost_share}
-use Rattle.clock2q.specs.Entries.{Age, Young, Old, inspections}
+use Rattle.clock2q_queues.specs.Ages.{Age, Young, Old}
+use Rattle.clock2q.specs.Entries.{inspections}
 use Rattle.clock2q.specs.Machine.{Machine, empty}
 use Rattle.clock2q.specs.Calls.{Call, Answer, Put, Get, Peek, Contains, GetAt, Set, With, Try, SlotFor, Remove, Retain, Clear, Prefill, Len, IsEmpty, Capacity, Value, Stored, Tried, Slot, Flag, Number, Done}
 use Rattle.clock2q.specs.Steps.{answers, after_all}

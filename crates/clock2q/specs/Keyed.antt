@@ -1,6 +1,7 @@
 -- The queues' lists of slots, with the key that stands at each slot: the machine's lists.
 use Rattle.std.specs.Prelude.{ℕ, Bool, List, map}
-use Rattle.clock2q.specs.Entries.{Age, SmallEntry, MainEntry}
+use Rattle.clock2q_queues.specs.Ages.{Age}
+use Rattle.clock2q.specs.Entries.{SmallEntry, MainEntry}
 
 module _ {K : Type 0} where
   -- Small with its keys

@@ -4,7 +4,8 @@ use Rattle.std.specs.List.{filter, find, list_any, last_or, filter_map, fold, ra
 use Rattle.std.specs.Option.{option_map, option_and_then}
 use Rattle.std.specs.Coded.{Coded, code_by, coded×, coded_list, coded_ℕ}
 use Rattle.clock2q.specs.Shares.{Shares, main_share, ghost_share, shares_code}
-use Rattle.clock2q.specs.Entries.{SmallEntry, MainEntry, is_promoted, small_hit, main_hit, small_admitted, from_victim, behind_hand, small_entry_code, main_entry_code}
+use Rattle.clock2q_queues.specs.Ages.{is_promoted}
+use Rattle.clock2q.specs.Entries.{SmallEntry, MainEntry, small_hit, main_hit, small_admitted, from_victim, behind_hand, small_entry_code, main_entry_code}
 
 -- Small and the history newest first, Main from the hand, the free slots from the top; slot `s` has the `s`-th value
 pub record Machine (K V : Type 0) : Type 0 where

@@ -3,10 +3,5 @@
 
 pub mod cache;
 pub mod command;
-mod count;
-pub mod handles;
-mod history;
-mod links;
-mod main_ring;
-mod queues;
-mod small;
+
+pub use clock2q_handles as handles;

@@ -1,16 +1,16 @@
 -- Tables in which each handle was put in under the hash that one function gives it.
 use Rattle.std.proofs.Common.{◌≡◌, ◌≢◌, ℕ, ◌<◌, ◌≤◌, ◌==◌, nat_le, zero, suc, Bool, true, false, cond, List, [], ◌∷◌, Option, Some, None, Result, Ok, Err, refl, sym, ap, ◌∙◌, subst, arith, length}
 use Rattle.std.specs.Prelude.{OnOk, OnErr, ◌+◌, ◌*◌}
-use Rattle.clock2q.specs.declared.handles.TableError.{TableError}
-use Rattle.clock2q.specs.declared.handles.TableError.TheVariants.{Memory, Size, RunTooLong}
-use Rattle.clock2q.specs.Offers.{Offers, Settles}
+use Rattle.clock2q_handles.specs.declared.error.TableError.{TableError}
+use Rattle.clock2q_handles.specs.declared.error.TableError.TheVariants.{Memory, Size, RunTooLong}
+use Rattle.clock2q_handles.specs.Offers.{Offers, Settles}
 use lib.Dec.{T, eqb→eq}
 use Rattle.std.specs.Fn.{Called, Takes, Mut}
-use Rattle.clock2q.specs.Homes.{top, capacity, total, candidates, inserted, removed}
-use Rattle.clock2q.specs.TableStep.{TableValue, IsHashOf, IsFull, IsShortOf, doubled_until, grown, reserved, rebuilt, doubled, made_for, fit}
-use Rattle.clock2q.specs.Layout.{IsTooLong}
-use Rattle.clock2q.specs.Rehash.{GivesHashes}
-use Rattle.clock2q.proofs.Hashes.{hashes-none, hashes-put_last, hashes-rebuilt, hashes-removed, rebuilt-length}
+use Rattle.clock2q_handles.specs.Homes.{top, capacity, total, candidates, inserted, removed}
+use Rattle.clock2q_handles.specs.TableStep.{TableValue, IsHashOf, IsFull, IsShortOf, doubled_until, grown, reserved, rebuilt, doubled, made_for, fit}
+use Rattle.clock2q_handles.specs.Layout.{IsTooLong}
+use Rattle.clock2q_handles.specs.Rehash.{GivesHashes}
+use Rattle.clock2q_handles.proofs.Hashes.{hashes-none, hashes-put_last, hashes-rebuilt, hashes-removed, rebuilt-length}
 
 one_of : (m x : ℕ) (b : Bool) → 0 < m → 0 < x → 0 < elim b [ true ↦ m | false ↦ x ]
 one_of m x true some other = some

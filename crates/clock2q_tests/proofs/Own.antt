@@ -1,10 +1,10 @@
 -- Tables in which each handle was put in under itself as its hash.
 use Rattle.std.proofs.Common.{◌≡◌, ℕ, ◌<◌, zero, suc, List, refl, arith, length}
 use Rattle.std.specs.Fn.{Called, Takes, Mut}
-use Rattle.clock2q.specs.Homes.{top, capacity, total, inserted}
-use Rattle.clock2q.specs.TableStep.{IsHashOf, made_for, fit}
-use Rattle.clock2q.specs.Rehash.{GivesHashes}
-use Rattle.clock2q.proofs.Hashes.{hashes-none, hashes-put_last}
+use Rattle.clock2q_handles.specs.Homes.{top, capacity, total, inserted}
+use Rattle.clock2q_handles.specs.TableStep.{IsHashOf, made_for, fit}
+use Rattle.clock2q_handles.specs.Rehash.{GivesHashes}
+use Rattle.clock2q_handles.proofs.Hashes.{hashes-none, hashes-put_last}
 
 -- a new table
 pub own_made : (n : ℕ) → IsHashOf (λ h. h) (made_for {H = ℕ} n)

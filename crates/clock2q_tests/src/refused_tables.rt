@@ -1,6 +1,6 @@
 //! Tables whose requests for memory are refused.
 ghost use Rattle.std.specs.Prelude.{◌≡◌, IfOk};
-ghost use Rattle.clock2q.specs.TableStep.{IsHashOf};
+ghost use Rattle.clock2q_handles.specs.TableStep.{IsHashOf};
 
 use crate::refusing::Refusing;
 use clock2q::handles::{Table, TableError};

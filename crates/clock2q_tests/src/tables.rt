@@ -52,8 +52,8 @@ struct Hashed {
 }
 
 impl Model for Hashed {
-    ghost use Rattle.clock2q.specs.Homes.{total};
-    ghost use Rattle.clock2q.specs.TableStep.{IsHashOf};
+    ghost use Rattle.clock2q_handles.specs.Homes.{total};
+    ghost use Rattle.clock2q_handles.specs.TableStep.{IsHashOf};
     ghost use Rattle.std.specs.Prelude.{ℕ};
 
     ghost Value = { ℕ };

@@ -1,6 +1,7 @@
 //! The entries of the two resident queues.
 ghost use Rattle.std.specs.Prelude.{◌≡◌, true, false, if◌then◌else◌};
-ghost use Rattle.clock2q.specs.Entries.{Young as young, touched, grown, is_promoted, with_age, with_bit};
+ghost use Rattle.clock2q_queues.specs.Ages.{Young as young, touched, grown, is_promoted};
+ghost use Rattle.clock2q.specs.Entries.{with_age, with_bit};
 
 use std::marker::Model;
 

@@ -9,7 +9,7 @@ impl<K: Hash + Eq + Drop, V: Drop, S: BuildHasher, A: Allocator> Cache<K, V, S, 
     ghost use Rattle.std.specs.Prelude.{◌≡◌, ◌==◌, ◌<◌, ◌≤◌, length, true, false, None, IfSome};
     ghost use Rattle.std.specs.List.{list_any, last_or};
     ghost use Rattle.clock2q.specs.Shares.{main_share};
-    ghost use Rattle.clock2q.specs.Entries.{is_promoted};
+    ghost use Rattle.clock2q_queues.specs.Ages.{is_promoted};
     ghost use Rattle.clock2q.specs.Machine.{goes_to_main, into_main, into_small, forgotten, inserted, stored};
 
     /// Inserts a key that is not resident.

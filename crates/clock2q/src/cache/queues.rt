@@ -2,7 +2,8 @@
 ghost use Rattle.std.specs.Prelude.{◌≡◌, ◌≢◌, ◌+◌, ◌-◌, ◌<◌, ◌≤◌, not, [], ◌∷◌, ◌++◌, length, map, take, drop, false, filter, find, vec_len, vec_capacity, None, IfSome};
 ghost use Rattle.std.specs.List.{list_any, last_or};
 ghost use Rattle.std.specs.Option.{option_map};
-ghost use Rattle.clock2q.specs.Entries.{small_hit, main_hit, small_admitted, from_victim, passed, with_bit, is_promoted};
+ghost use Rattle.clock2q_queues.specs.Ages.{is_promoted};
+ghost use Rattle.clock2q.specs.Entries.{small_hit, main_hit, small_admitted, from_victim, passed, with_bit};
 
 use crate::cache::entries::{MainEntry, SmallEntry};
 use std::alloc::Allocator;

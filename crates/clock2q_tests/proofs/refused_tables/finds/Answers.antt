@@ -1,5 +1,5 @@
 use Rattle.std.proofs.Common.{rules, ◌≡◌, sym, subst}
-use Rattle.clock2q.specs.TableStep.{IsHashOf}
+use Rattle.clock2q_handles.specs.TableStep.{IsHashOf}
 use Rattle.clock2q_tests.proofs.Own.{own_given}
 use Rattle.clock2q_tests.proofs.refused_tables.finds.Goals as goal
 

@@ -1,6 +1,6 @@
 use Rattle.std.proofs.Common.{rules, ◌<◌, length, sym, subst}
-use Rattle.clock2q.specs.Homes.{total, capacity}
-use Rattle.clock2q.specs.TableStep.{IsHashOf}
+use Rattle.clock2q_handles.specs.Homes.{total, capacity}
+use Rattle.clock2q_handles.specs.TableStep.{IsHashOf}
 use Rattle.clock2q_tests.proofs.Own.{own_inserted}
 use Rattle.clock2q_tests.proofs.refused_tables.full.Goals as goal
 

@@ -1,4 +1,4 @@
-use Rattle.clock2q.specs.TableStep.{IsHashOf}
+use Rattle.clock2q_handles.specs.TableStep.{IsHashOf}
 use Rattle.clock2q_tests.proofs.refused_tables.insertions.Given as goal
 
 abbrev pub invariant-loop-granted : goal.invariant-loop-granted

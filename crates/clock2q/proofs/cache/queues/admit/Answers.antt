@@ -1,7 +1,8 @@
 -- One entry more has grown.
 use Rattle.std.proofs.Common.{arith}
 use Rattle.std.proofs.lemmas.List.Edits.{map_over_more}
-use Rattle.clock2q.specs.Entries.{grown, with_age}
+use Rattle.clock2q_queues.specs.Ages.{grown}
+use Rattle.clock2q.specs.Entries.{with_age}
 use Rattle.clock2q.proofs.cache.queues.admit.Goals as goal
 
 pub loop-entry-preserved : goal.loop-entry-preserved

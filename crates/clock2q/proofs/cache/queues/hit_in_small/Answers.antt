@@ -2,7 +2,8 @@
 use Rattle.std.proofs.Common.{arith}
 use Rattle.std.proofs.lemmas.List.Edits.{map_over_more}
 use Rattle.std.specs.Prelude.{if◌then◌else◌}
-use Rattle.clock2q.specs.Entries.{touched, with_age}
+use Rattle.clock2q_queues.specs.Ages.{touched}
+use Rattle.clock2q.specs.Entries.{with_age}
 use Rattle.clock2q.proofs.cache.queues.hit_in_small.Goals as goal
 
 pub loop-entry-preserved : goal.loop-entry-preserved

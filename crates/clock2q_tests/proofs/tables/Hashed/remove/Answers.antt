@@ -1,5 +1,5 @@
 use Rattle.std.proofs.Common.{sym, subst}
-use Rattle.clock2q.specs.TableStep.{IsHashOf}
+use Rattle.clock2q_handles.specs.TableStep.{IsHashOf}
 use Rattle.clock2q_tests.specs.contracts.tables.HandlePartialEq.TheImpl as equals
 use Rattle.clock2q_tests.proofs.Keyed.{keyed_removed}
 use Rattle.clock2q_tests.proofs.tables.Hashed.remove.Goals as goal

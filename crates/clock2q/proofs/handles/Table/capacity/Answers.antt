@@ -1,9 +1,0 @@
-use Rattle.std.proofs.Common.{◌*◌, ◌/◌, sym, ap, ◌∙◌, length}
-use Rattle.clock2q.specs.Homes.{capacity}
-use Rattle.clock2q.proofs.Tidy.{length-homes_of}
-use Rattle.clock2q.proofs.Tables.{capacity_quarters}
-use Rattle.clock2q.proofs.handles.Table.capacity.Goals as goal
-
-pub returns : goal.returns
-returns g c =
-    ap (λ m. m / 4 * 3) c.count.ensures.count ∙ capacity_quarters (length c.self.inside.slots.slots) c.count.ensures.power ∙ ap capacity (sym (length-homes_of c.self.inside.slots.slots) ∙ ap (λ t. length t.homes) c.self.view_is)

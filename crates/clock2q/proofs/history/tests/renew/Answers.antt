@@ -1,6 +1,0 @@
-use Rattle.std.proofs.Common.{◌%◌, ◌∷◌, refl}
-use Rattle.clock2q.proofs.Hashed.{all-take}
-use Rattle.clock2q.proofs.history.tests.renew.Goals as goal
-
-pub returns : goal.returns
-returns c = record { hashed = rw c.push.ensures.entries (all-take _ c.forget-known.new.history.limit ((c.args.key % c.args.hashes, c.args.key) ∷ c.forget-known.new.history.entries) (refl, c.forget-known.ensures.hashed)) }

@@ -1,0 +1,76 @@
+-- Two vectors side by side, read and written as one list of slots.
+use Rattle.std.proofs.Common.{◌≡◌, ℕ, zero, suc, ◌+◌, ◌-◌, ◌%◌, ◌<◌, List, [], ◌∷◌, length, get_or, take, ◌++◌, refl, sym, ap, ◌∙◌, subst, arith, Some, None, IfSome}
+use Rattle.std.proofs.Math.ListN.{set, replicate}
+use Rattle.std.proofs.Math.Nat.{sub-zero}
+use Rattle.std.proofs.lemmas.Nat.{and_mask}
+use Rattle.std.specs.Int.Bits.{bit_and}
+use Rattle.clock2q_handles.specs.Layout.{slot_at}
+use Rattle.clock2q_handles.specs.Slots.{Mark, told, cell, mark_of, cells, slots_value, IsSlotCount}
+use Rattle.clock2q_handles.specs.declared.metadata.Metadata.{Metadata}
+
+-- a mask of a slot count is a remainder
+pub slot_mask : (n m : ℕ) → IsSlotCount m → 0 < m → bit_and n (m - 1) ≡ n % m
+slot_mask n m is_count some =
+    let p = is_count.power some in
+    ap (λ q. bit_and n (q - 1)) p.1 ∙ and_mask n p.0 ∙ ap (λ q. n % q) (sym p.1)
+
+-- an empty vector that is filled up
+filled : {X : Type 0} (n k : ℕ) (xs : List X) (x : X) → xs ≡ [] → k ≡ 0 → take n xs ++ replicate (n - k) x ≡ replicate n x
+filled n k xs x e ek = rw (e, ek, sub-zero) (elim n as (λ i. take i [] ++ replicate i x ≡ replicate i x) [ zero ↦ refl | suc i ↦ refl ])
+
+module _ {H : Type 0} where
+  -- a cell has the mark that it was made with
+  pub mark_of-cell : (s : Mark) (v : H) → mark_of (cell s v) ≡ s
+  mark_of-cell None v = refl
+  mark_of-cell (Some s) v = refl
+
+  -- a cell has the handle that it was made with
+  pub handle_of_cell : (s : Mark) (v : H) → IfSome (cell s v) (λ p. v ≡ p.entry.1)
+  handle_of_cell None v = tt
+  handle_of_cell (Some s) v = refl
+
+  pub length-cells : (ms : List Metadata) (vs : List H) → length vs ≡ length ms → length (cells ms vs) ≡ length ms
+  length-cells [] vs e = refl
+  length-cells (m ∷ ms) [] e = e
+  length-cells (m ∷ ms) (v ∷ vs) e = ap suc (length-cells ms vs (omega (arith, e)))
+
+  -- what stands in a slot, read off the two vectors
+  pub get_or-cells : (ms : List Metadata) (vs : List H) (n : ℕ) (m : Metadata) (v : H) → length vs ≡ length ms → n < length ms → get_or (cells ms vs) n None ≡ cell (told (get_or ms n m)) (get_or vs n v)
+  get_or-cells [] vs n m v e h = absurd (omega (arith, h))
+  get_or-cells (x ∷ ms) [] n m v e h = absurd (omega (arith, e))
+  get_or-cells (x ∷ ms) (y ∷ vs) zero m v e h = refl
+  get_or-cells (x ∷ ms) (y ∷ vs) (suc n) m v e h = get_or-cells ms vs n m v (omega (arith, e)) (omega (arith, h))
+
+  -- a slot written in both vectors is written in the list
+  pub set-cells : (ms : List Metadata) (vs : List H) (n : ℕ) (m : Metadata) (v : H) → length vs ≡ length ms → cells (set ms n m) (set vs n v) ≡ set (cells ms vs) n (cell (told m) v)
+  set-cells [] vs n m v e = refl
+  set-cells (x ∷ ms) [] n m v e = absurd (omega (arith, e))
+  set-cells (x ∷ ms) (y ∷ vs) zero m v e = refl
+  set-cells (x ∷ ms) (y ∷ vs) (suc n) m v e = ap (λ c. cell (told x) y ∷ c) (set-cells ms vs n m v (omega (arith, e)))
+
+  -- empty marks make empty slots
+  pub cells-replicate : (n : ℕ) (m : Metadata) (v : H) → told m ≡ None → cells (replicate n m) (replicate n v) ≡ replicate n None
+  cells-replicate zero m v e = refl
+  cells-replicate (suc n) m v e = ap (λ s. cell s v ∷ cells (replicate n m) (replicate n v)) e ∙ ap (λ c. None ∷ c) (cells-replicate n m v e)
+
+  -- vectors that are filled up with empty marks make empty slots
+  pub filled_cells : (n i j : ℕ) (ms ms' : List Metadata) (vs vs' : List H) (m : Metadata) (v : H) → told m ≡ None → ms ≡ [] → vs ≡ [] → i ≡ 0 → j ≡ 0 → ms' ≡ take n ms ++ replicate (n - i) m → vs' ≡ take n vs ++ replicate (n - j) v → cells ms' vs' ≡ replicate n None
+  filled_cells n i j ms ms' vs vs' m v e none-ms none-vs ei ej er es =
+      ap (λ x. cells x vs') (er ∙ filled n i ms m none-ms ei) ∙ ap (λ x. cells (replicate n m) x) (es ∙ filled n j vs v none-vs ej) ∙ cells-replicate n m v e
+
+  -- a slot that is written in both vectors, counted
+  pub written_cells : (ms : List Metadata) (vs : List H) (n k w w' : ℕ) (m : Metadata) (v : H) → length vs ≡ length ms → k ≡ n % length (cells ms vs) → w' ≡ w + 1
+      → slots_value (cells (set ms k m) (set vs k v)) w' ≡ slots_value (set (cells ms vs) (n % length (cells ms vs)) (cell (told m) v)) (w + 1)
+  written_cells ms vs n k w w' m v same at more =
+      ap (λ c. slots_value c w') (set-cells ms vs k m v same ∙ ap (λ j. set (cells ms vs) j (cell (told m) v)) at) ∙ ap (λ x. slots_value (set (cells ms vs) (n % length (cells ms vs)) (cell (told m) v)) x) more
+
+  -- the mark of a slot that is read
+  pub mark_read : (ms : List Metadata) (vs : List H) (n k : ℕ) (m : Metadata) → length vs ≡ length ms → k ≡ n % length (cells ms vs) → k < length ms → m ≡ get_or ms k m → told m ≡ mark_of (slot_at (cells ms vs) n)
+  mark_read ms [] n k m same at within is = absurd (omega (arith, same, within))
+  mark_read ms (v ∷ vs) n k m same at within is =
+      ap told is ∙ sym (mark_of-cell (told (get_or ms k m)) (get_or (v ∷ vs) k v)) ∙ ap mark_of (sym (get_or-cells ms (v ∷ vs) k m v same within) ∙ ap (λ j. get_or (cells ms (v ∷ vs)) j None) at)
+
+  -- the handle of a slot that is read
+  pub handle_read : (ms : List Metadata) (vs : List H) (n k : ℕ) (m : Metadata) (v : H) → length vs ≡ length ms → k ≡ n % length (cells ms vs) → k < length ms → v ≡ get_or vs k v → IfSome (slot_at (cells ms vs) n) (λ p. v ≡ p.entry.1)
+  handle_read ms vs n k m v same at within is =
+      subst (λ s. IfSome s (λ p. v ≡ p.entry.1)) (ap (λ w. cell (told (get_or ms k m)) w) is ∙ sym (get_or-cells ms vs k m v same within) ∙ ap (λ j. get_or (cells ms vs) j None) at) (handle_of_cell (told (get_or ms k m)) v)

@@ -1,0 +1,70 @@
+-- The group of a hash: a field of its bits.
+use Rattle.std.proofs.Common.{◌≡◌, ℕ, ◌+◌, ◌-◌, ◌/◌, ◌%◌, ◌^◌, ◌<◌, ◌≤◌, inl, inr, sym, ap, ◌∙◌, subst, arith}
+use Rattle.std.proofs.lemmas.Bool.{cases_lt}
+use Rattle.std.proofs.lemmas.Nat.{field_of, and_mask, pow_below, shr-shr, pow_pos, mod_below}
+use Rattle.std.proofs.lemmas.Nat.Bits.{bit_at-trailing_zeros, bit_at-pow_other}
+use Rattle.std.specs.Int.{trailing_zeros, w64}
+use Rattle.std.specs.Int.Bits.{bit_and}
+use Rattle.clock2q_handles.specs.Partition.{IsPartitionCount, IsGroupOf, SameMiddle}
+
+-- 2^j is at most 2^16 only where j is at most 16
+exponent_le : (j : ℕ) → 2 ^ j ≤ 2 ^ 16 → j ≤ 16
+exponent_le j h =
+    elim (cases_lt 16 j) [ inl above ↦ absurd (let p : 2 ^ 16 < 2 ^ j = pow_below 16 j above in omega (arith, p)) | inr below ↦ below ]
+
+-- a number is neither below nor above its equal
+same_from_order : (i j : ℕ) → (i < j → ⊥) → (j < i → ⊥) → i ≡ j
+same_from_order i j f g =
+    elim (cases_lt i j) [ inl a ↦ absurd (f a) | inr b ↦ elim (cases_lt j i) [ inl c ↦ absurd (g c) | inr d ↦ omega arith ] ]
+
+-- a power of two has one exponent
+pub exponent_same : (i j : ℕ) → 2 ^ i ≡ 2 ^ j → i ≡ j
+exponent_same i j e =
+    same_from_order i j (λ h. let p : 2 ^ i < 2 ^ j = pow_below i j h in omega (arith, p, e)) (λ h. let p : 2 ^ j < 2 ^ i = pow_below j i h in omega (arith, p, e))
+
+-- 2^k ends in k zeros
+trailing_zeros-pow : (k : ℕ) → k ≤ 16 → trailing_zeros w64 (2 ^ k) ≡ k
+trailing_zeros-pow k h =
+    let small : 2 ^ k < 2 ^ 64 = pow_below k 64 (omega arith) in
+    let found = bit_at-trailing_zeros w64 (2 ^ k) (pow_pos k) small in
+    let other : (trailing_zeros w64 (2 ^ k) ≡ k → ⊥) → ⊥ = λ ne. (let z = bit_at-pow_other k (trailing_zeros w64 (2 ^ k)) ne in omega (arith, z, found.1)) in
+    same_from_order _ _ (λ a. other (λ e. omega arith)) (λ a. other (λ e. omega arith))
+
+-- a field of a hash, of the bits below the top byte, read off its middle
+middle_field : (x k : ℕ) → k ≤ 16 → x / 2 ^ (56 - k) % 2 ^ k ≡ x / 2 ^ 40 % 2 ^ 16 / 2 ^ (16 - k)
+middle_field x k h =
+    let low : 40 + (16 - k) ≡ 56 - k = omega arith in
+    let all : k + (16 - k) ≡ 16 = omega arith in
+    sym (ap (λ n. x / 2 ^ 40 % 2 ^ n / 2 ^ (16 - k)) (sym all) ∙ field_of (x / 2 ^ 40) k (16 - k) ∙ ap (λ n. n % 2 ^ k) (shr-shr x 40 (16 - k)) ∙ ap (λ n. x / 2 ^ n % 2 ^ k) low)
+
+-- the group is what is shifted and masked
+pub group_of : (x p t r : ℕ) → IsPartitionCount p → t ≡ trailing_zeros w64 p → r ≡ bit_and (x / 2 ^ (56 - t)) (p - 1) → IsGroupOf x p r
+group_of x p t r is_count et er k ek =
+    let small : k ≤ 16 = exponent_le k (subst (λ q. q ≤ 2 ^ 16) ek is_count.most) in
+    let tk : t ≡ k = et ∙ ap (trailing_zeros w64) ek ∙ trailing_zeros-pow k small in
+    er ∙ ap (λ n. bit_and (x / 2 ^ (56 - n)) (p - 1)) tk
+
+-- the group is below the number of groups
+pub group_below : (x p r : ℕ) → IsPartitionCount p → IsGroupOf x p r → r < p
+group_below x p r is_count is_group =
+    let k : ℕ = is_count.power.0 in
+    let ek : p ≡ 2 ^ k = is_count.power.1 in
+    let er : r ≡ x / 2 ^ (56 - k) % 2 ^ k = is_group k ek ∙ ap (λ q. bit_and (x / 2 ^ (56 - k)) (q - 1)) ek ∙ and_mask (x / 2 ^ (56 - k)) k in
+    let below : x / 2 ^ (56 - k) % 2 ^ k < 2 ^ k = mod_below _ _ (pow_pos k) in
+    omega (arith, er, ek, below)
+
+-- hashes with the same middle have the same group
+pub group_from_middle : (x y p r : ℕ) → IsPartitionCount p → IsGroupOf x p r → SameMiddle x y → IsGroupOf y p r
+group_from_middle x y p r is_count is_group same k ek =
+    let small : k ≤ 16 = exponent_le k (subst (λ q. q ≤ 2 ^ 16) ek is_count.most) in
+    let masked : (z : ℕ) → bit_and (z / 2 ^ (56 - k)) (p - 1) ≡ z / 2 ^ 40 % 2 ^ 16 / 2 ^ (16 - k) = λ z. ap (λ q. bit_and (z / 2 ^ (56 - k)) (q - 1)) ek ∙ and_mask (z / 2 ^ (56 - k)) k ∙ middle_field z k small in
+    is_group k ek ∙ masked x ∙ ap (λ n. n / 2 ^ (16 - k)) same ∙ sym (masked y)
+
+-- 2^k ends in fewer zeros than there are bits below the top byte
+pub trailing_zeros_le : (p : ℕ) → IsPartitionCount p → trailing_zeros w64 p ≤ 16
+trailing_zeros_le p is_count =
+    let k : ℕ = is_count.power.0 in
+    let ek : p ≡ 2 ^ k = is_count.power.1 in
+    let small : k ≤ 16 = exponent_le k (subst (λ q. q ≤ 2 ^ 16) ek is_count.most) in
+    let e : trailing_zeros w64 p ≡ k = ap (trailing_zeros w64) ek ∙ trailing_zeros-pow k small in
+    omega (arith, e, small)

@@ -1,0 +1,43 @@
+-- What users of a table rely on over single insertions: few entries are never refused, and taking an entry out again restores the slots.
+use Rattle.std.proofs.Common.{◌≡◌, ℕ, suc, ◌+◌, ◌^◌, ◌<◌, refl, sym, ap, ◌∙◌, subst, arith, Bool, true, List, length, Option}
+use Rattle.std.specs.Prelude.{Result, Ok, Err, IsOk, OnOk, OnErr}
+use Rattle.clock2q_handles.specs.Homes.{total, capacity, inserted, top, removed, IsNew}
+use Rattle.clock2q_handles.specs.Layout.{Placed, layout, homes_of, IsTidy, IsTooLong}
+use Rattle.clock2q_handles.proofs.Tidy.{length-homes_of}
+use Rattle.clock2q_handles.proofs.Changes.{length-with_list}
+use Rattle.clock2q_handles.proofs.Rebuild.{total-put_last}
+use Rattle.clock2q_handles.proofs.TooLong.{too-long-total}
+use Rattle.clock2q_handles.proofs.Removals.{restored-slots}
+
+-- a call whose every error is ruled out answered `Ok`
+pub ok_where_no_error : {T E P : Type 0} (r : Result T E) → OnErr r P → (P → ⊥) → IsOk r
+ok_where_no_error (Ok x) err none = refl
+ok_where_no_error (Err e) err none = absurd (none err)
+
+-- what follows where a call answered `Ok`
+pub on_ok : {T E P Q : Type 0} (r : Result T E) → (P → Q) → OnOk r P → OnOk r Q
+on_ok (Ok x) gives p = gives p
+on_ok (Err e) gives p = p
+
+-- a call that answered `Ok` answered no error
+pub no_error : {T E : Type 0} (r : Result T E) (e : E) → IsOk r → r ≡ Err e → ⊥
+no_error r e ok is = let no = subst IsOk is ok in cc
+
+module _ {H : Type 0} where
+  -- a table of fewer than 2^24 - 1 entries takes one more
+  pub few_fit : (homes : List (List (ℕ × H))) (x : ℕ) (v : H) → total homes < capacity (length homes) → total homes + 1 < 2 ^ 24 → IsTooLong (inserted homes x v) → ⊥
+  few_fit homes x v room few long =
+      let some : 0 < length homes = omega (arith, room) in
+      let more : total (inserted homes x v) ≡ suc (total homes) = total-put_last (λ _. 0) homes x (top x, v) some in
+      let as_long : length (inserted homes x v) ≡ length homes = length-with_list homes x _ in
+      omega (arith, few, more, too-long-total (inserted homes x v) (omega (arith, room, more, ap capacity as_long)) long)
+
+  -- with the lists that an insertion leaves, taking the entry out again gives the slots of before
+  pub restored_by : (eq : H → H → Bool) (slots : List (Option (Placed (ℕ × H)))) (homes new : List (List (ℕ × H))) (x : ℕ) (v : H) → homes_of slots ≡ homes → IsTidy slots → total homes < capacity (length homes)
+      → eq v v ≡ true → new ≡ inserted homes x v → IsNew eq homes x v → layout (removed eq new x v) ≡ slots
+  restored_by eq slots homes new x v are tidy room same is fresh =
+      let some : 0 < length slots = omega (arith, room, length-homes_of slots, ap length are) in
+      let first = subst (λ hs. IsNew eq hs x v) (sym are) fresh in
+      let restored : layout (removed eq (inserted (homes_of slots) x v) x v) ≡ slots = restored-slots eq slots x v tidy some same first in
+      let lists : new ≡ inserted (homes_of slots) x v = is ∙ ap (λ hs. inserted hs x v) (sym are) in
+      ap (λ hs. layout (removed eq hs x v)) lists ∙ restored

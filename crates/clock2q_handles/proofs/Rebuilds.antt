@@ -1,0 +1,133 @@
+-- A rebuild, entry by entry: the calls of the closure, and the table that has been made so far.
+use Rattle.std.proofs.Common.{◌≡◌, ℕ, suc, ◌+◌, ◌*◌, ◌%◌, ◌<◌, ◌≤◌, refl, ap, sym, ◌∙◌, subst, arith, List, [], ◌∷◌, ◌++◌, map, take, length, get_or, Option, Some, None, IfSome, mod-eq_of_lt, length-append}
+use Rattle.std.proofs.lemmas.List.{map-append}
+use Rattle.std.specs.Fn.{Called, Mut}
+use Rattle.clock2q_handles.specs.Homes.{capacity, total, no_entries, inserted, put_last}
+use Rattle.clock2q_handles.specs.Layout.{Placed, slot_at, reach, entries, homes_of, IsTooLong}
+use Rattle.clock2q_handles.specs.TableStep.{put_all, IsHashOf}
+use Rattle.clock2q_handles.specs.Rehash.{IsHeld, Reaches, Asks}
+use Rattle.clock2q_handles.specs.Table.{IsTable}
+use Rattle.clock2q_handles.proofs.Tidy.{length-homes_of, tidy-layout, tidy-total, tidy-room, capacity-lt, layout-only}
+use Rattle.clock2q_handles.proofs.Rebuild.{length-put_all, total-put_all, put_all-push, total-no_entries}
+use Rattle.clock2q_handles.proofs.TooLong.{rebuilding-short}
+use Rattle.clock2q_handles.proofs.Hashes.{entries-none, entries-some, entries-front, hash-slot}
+use Rattle.clock2q_handles.proofs.Tables.{table-short, length-nothing}
+
+module _ {F H : Type 0} (g : Mut F (H × Unit {0}) ℕ) where
+  -- one call more
+  pub Reaches-push : (held : H → Type 0) (f : F) (hs : List H) (f' : F) (h : H) (r : ℕ) (next : F) → Reaches g held f hs f' → held h → Called g f' (h, tt) r next → Reaches g held f (hs ++ h ∷ []) next
+  Reaches-push held f [] f' h r next so_far is called = (r, next, is, subst (λ s. Called g s (h, tt) r next) so_far called, refl)
+  Reaches-push held f (x ∷ hs) f' h r next so_far is called = (so_far.0, so_far.1, so_far.2, so_far.3, Reaches-push held so_far.1 hs f' h r next so_far.4 is called)
+
+  pub Asks-push : (key : H → ℕ) (f : F) (hs : List H) (f' : F) (h : H) (next : F) → Asks g key f hs f' → Called g f' (h, tt) (key h) next → Asks g key f (hs ++ h ∷ []) next
+  Asks-push key f [] f' h next so_far called = (next, subst (λ s. Called g s (h, tt) (key h) next) so_far called, refl)
+  Asks-push key f (x ∷ hs) f' h next so_far called = (so_far.0, so_far.1, Asks-push key so_far.0 hs f' h next so_far.2 called)
+
+module _ {H : Type 0} (slots : List (Option (Placed (ℕ × H)))) (len : ℕ) (table : IsTable slots len) (key : H → ℕ) (m i : ℕ) (within : i < length slots) where
+  abbrev made : ℕ → List (List (ℕ × H))
+  made n = put_all key (no_entries m) (entries (take n slots))
+
+  here : slot_at slots (0 + i) ≡ get_or slots i None
+  here =
+      let z : 0 + i ≡ i = omega arith in
+      ap (λ n. get_or slots (n % length slots) None) z ∙ ap (λ n. get_or slots n None) (mod-eq_of_lt within)
+
+  -- an empty slot adds nothing
+  pub passed_empty : slot_at slots (0 + i) ≡ None → made (i + 1) ≡ made i
+  passed_empty empty =
+      let e : i + 1 ≡ suc i = omega arith in
+      ap made e ∙ ap (put_all key (no_entries m)) (entries-none slots i within (sym here ∙ empty))
+
+  module _ (s : Placed (ℕ × H)) (is : slot_at slots (0 + i) ≡ Some s) where
+    more : entries (take (suc i) slots) ≡ entries (take i slots) ++ s ∷ []
+    more = entries-some slots i s within (sym here ∙ is)
+
+    -- an entry is one that is held
+    pub entry_held : IsHeld (homes_of slots) s.entry.1
+    entry_held =
+        let homes = homes_of slots in
+        let room : total homes < length homes = omega (arith, tidy-room slots table.tidy, capacity-lt (length homes) (omega (arith, within, length-homes_of slots))) in
+        let r = layout-only homes room (0 + i) s (ap (λ x. slot_at x (0 + i)) (sym (tidy-layout slots table.tidy)) ∙ is) in
+        (r.0, r.1, s.entry, r.2, refl)
+
+    -- the entries that were put in and this one are no more than there are
+    few : length (entries (take i slots)) < len
+    few = omega (arith, ap length more, length-append (entries (take i slots)) (s ∷ []), entries-front slots (suc i), tidy-total slots table.tidy, table.counted)
+
+    -- it is put in last
+    pub put_next : IsHashOf key (homes_of slots) → inserted (made i) (key s.entry.1) s.entry.1 ≡ made (i + 1)
+    put_next hashes =
+        let e : i + 1 ≡ suc i = omega arith in
+        ap (λ t. put_last (made i) (key s.entry.1) (t, s.entry.1)) (hash-slot key slots table.tidy hashes (0 + i) s is) ∙ sym (ap made e ∙ ap (put_all key (no_entries m)) more ∙ put_all-push key (no_entries m) (entries (take i slots)) s)
+
+    -- there is room for it
+    pub room_for : len ≤ capacity m → total (made i) < capacity (length (made i))
+    room_for fits =
+        let some : 0 < m = omega (arith, few, fits) in
+        let whole : length (made i) ≡ m = length-put_all key (no_entries m) (entries (take i slots)) ∙ length-nothing (ℕ × H) m in
+        let sum = total-put_all key (no_entries m) (entries (take i slots)) (omega (arith, some, length-nothing (ℕ × H) m)) in
+        omega (arith, sum, total-no_entries {H = H} key m, few, fits, ap capacity whole)
+
+    -- and no run becomes too long
+    pub no_refusal : (k : ℕ) → m ≡ k * length (homes_of slots) → len ≤ capacity m → IsHashOf key (homes_of slots) → IsTooLong (inserted (made i) (key s.entry.1) s.entry.1) → ⊥
+    no_refusal k multiple fits hashes long =
+        let homes = homes_of slots in
+        let e : i + 1 ≡ suc i = omega arith in
+        let room : total homes < length homes = omega (arith, tidy-room slots table.tidy, capacity-lt (length homes) (omega (arith, within, length-homes_of slots))) in
+        let some : 0 < k * length homes = omega (arith, few, fits, multiple) in
+        rebuilding-short key homes k (suc i) room some hashes (table-short slots len table)
+        (subst (λ hs. IsTooLong hs) (put_next hashes ∙ ap made e ∙ ap (λ n. put_all key (no_entries n) (entries (take (suc i) slots))) multiple ∙ ap (λ ss. put_all key (no_entries (k * length homes)) (entries (take (suc i) ss))) (tidy-layout slots table.tidy)) long)
+
+-- what stands in a slot that isn't empty
+some_of : {E : Type 0} (o : Option (Placed E)) → 0 < reach o → (s : Placed E) × (o ≡ Some s)
+some_of None some = absurd (omega (arith, some))
+some_of (Some s) some = (s, refl)
+
+-- a table as a rebuild reads it: its slots, and its lists
+module _ {H : Type 0} (homes : List (List (ℕ × H))) (slots : List (Option (Placed (ℕ × H)))) (len : ℕ) (table : IsTable slots len) (is : homes ≡ homes_of slots) (m i : ℕ) (within : i < length slots) where
+  -- a slot that is empty
+  pub step_empty : (key : H → ℕ) (made_so : List (List (ℕ × H))) → slot_at slots (0 + i) ≡ None → made_so ≡ put_all key (no_entries m) (entries (take i slots)) → made_so ≡ put_all key (no_entries m) (entries (take (i + 1) slots))
+  step_empty key made_so empty so_far = so_far ∙ sym (passed_empty slots len table key m i within empty)
+
+  -- and adds no handle
+  pub handles_empty : slot_at slots (0 + i) ≡ None → map (λ s. s.entry.1) (entries (take (i + 1) slots)) ≡ map (λ s. s.entry.1) (entries (take i slots))
+  handles_empty empty =
+      let e : i + 1 ≡ suc i = omega arith in
+      ap (λ n. map (λ s. s.entry.1) (entries (take n slots))) e ∙ ap (map (λ s. s.entry.1)) (entries-none slots i within (sym (here slots len table (λ _. 0) m i within) ∙ empty))
+
+  module _ (v : H) (occupied : 0 < reach (slot_at slots (0 + i))) (handle : IfSome (slot_at slots (0 + i)) (λ p. v ≡ p.entry.1)) where
+    found : (s : Placed (ℕ × H)) × (slot_at slots (0 + i) ≡ Some s)
+    found = some_of (slot_at slots (0 + i)) occupied
+
+    same : v ≡ found.0.entry.1
+    same = subst (λ o. IfSome o (λ p. v ≡ p.entry.1)) found.1 handle
+
+    pub step_held : IsHeld homes v
+    step_held = subst (λ hs. IsHeld hs v) (sym is) (subst (λ w. IsHeld (homes_of slots) w) (sym same) (entry_held slots len table (λ _. 0) m i within found.0 found.1))
+
+    pub handles_more : map (λ s. s.entry.1) (entries (take (i + 1) slots)) ≡ map (λ s. s.entry.1) (entries (take i slots)) ++ v ∷ []
+    handles_more =
+        let e : i + 1 ≡ suc i = omega arith in
+        ap (λ n. map (λ s. s.entry.1) (entries (take n slots))) e ∙ ap (map (λ s. s.entry.1)) (more slots len table (λ _. 0) m i within found.0 found.1) ∙ map-append (λ s. s.entry.1) (entries (take i slots)) (found.0 ∷ [])
+        ∙ ap (λ w. map (λ s. s.entry.1) (entries (take i slots)) ++ w ∷ []) (sym same)
+
+    module _ (key : H → ℕ) (hashes : IsHashOf key homes) (made_so : List (List (ℕ × H))) (so_far : made_so ≡ put_all key (no_entries m) (entries (take i slots))) (r : ℕ) (answered : r ≡ key v) where
+      hashes_read : IsHashOf key (homes_of slots)
+      hashes_read = subst (IsHashOf key) is hashes
+
+      as_put : inserted made_so r v ≡ inserted (put_all key (no_entries m) (entries (take i slots))) (key found.0.entry.1) found.0.entry.1
+      as_put = ap (λ hs. inserted hs r v) so_far ∙ ap (λ x. inserted (put_all key (no_entries m) (entries (take i slots))) x v) answered ∙ ap (λ w. inserted (put_all key (no_entries m) (entries (take i slots))) (key w) w) same
+
+      pub step_made : inserted made_so r v ≡ put_all key (no_entries m) (entries (take (i + 1) slots))
+      step_made = as_put ∙ put_next slots len table key m i within found.0 found.1 hashes_read
+
+      pub step_room : total homes ≤ capacity m → total made_so < capacity (length made_so)
+      step_room fits =
+          let bound : len ≤ capacity m = omega (arith, fits, table.counted, ap total is) in
+          subst (λ hs. total hs < capacity (length hs)) (sym so_far) (room_for slots len table key m i within found.0 found.1 bound)
+
+      pub step_short : total homes ≤ capacity m → (0 < length homes → (k : ℕ) × (m ≡ k * length homes)) → IsTooLong (inserted made_so r v) → ⊥
+      step_short fits multiple long =
+          let bound : len ≤ capacity m = omega (arith, fits, table.counted, ap total is) in
+          let k = multiple (omega (arith, within, length-homes_of slots, ap length is)) in
+          no_refusal slots len table key m i within found.0 found.1 k.0 (k.1 ∙ ap (λ hs. k.0 * length hs) is) bound hashes_read (subst IsTooLong as_put long)

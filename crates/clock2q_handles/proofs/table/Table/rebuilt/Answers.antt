@@ -1,0 +1,123 @@
+use Rattle.std.proofs.Common.{◌≡◌, ◌+◌, ◌<◌, [], ◌∷◌, ◌++◌, map, take, length, refl, sym, ap, ◌∙◌, subst, arith}
+use Rattle.std.specs.Fn.{Called}
+use Rattle.clock2q_handles.specs.Homes.{no_entries}
+use Rattle.clock2q_handles.specs.Layout.{homes_of, entries, slot_at, layout}
+use Rattle.clock2q_handles.specs.TableStep.{put_all}
+use Rattle.clock2q_handles.specs.Rehash.{Asks, Reaches, IsHeld, held_handles}
+use Rattle.clock2q_handles.specs.Table.{IsTable}
+use Rattle.clock2q_handles.proofs.Tidy.{tidy-layout}
+use Rattle.clock2q_handles.proofs.Hashes.{entries-all}
+use Rattle.clock2q_handles.proofs.Moves.{occupied_told, vacant_told}
+use Rattle.clock2q_handles.proofs.Tables.{table-empty, homes_of-empty}
+use Rattle.clock2q_handles.proofs.Rebuilds.{Reaches-push, Asks-push, step_empty, handles_empty, step_held, handles_more, step_made, step_room, step_short}
+use Rattle.clock2q_handles.proofs.table.Table.rebuilt.Goals as goal
+use Rattle.clock2q_handles.proofs.table.Table.rebuilt.Goals.{then-not-is_empty+in_ok-put, else-not-is_empty}
+
+pub invariant_of-table : goal.invariant_of-table
+invariant_of-table g c = subst (λ s. IsTable s.slots 0) (sym c.in-Ok.ensures) (table-empty _ c.args.count c.requires.count)
+
+pub loop-slot-init : goal.loop-slot-init
+loop-slot-init g c = record {
+  reached = ([], refl);
+  built = λ key answers hashes. ap (λ s. homes_of s.slots) c.in-Ok.ensures ∙ homes_of-empty _ c.args.count;
+  asked = λ key answers hashes. refl;
+}
+
+pub rehash-hash-requires : goal.rehash-hash-requires
+rehash-hash-requires g c =
+    let slots = c.self.inside.slots.slots in
+    let is : c.args.self.now.homes ≡ homes_of slots = ap (λ t. t.homes) (sym c.self.view_is) in
+    let within : c.loop-slot.slot < length slots = omega (arith, c.loop-slot-test.true, c.count-slot-end.ensures.count) in
+    let occupied = occupied_told c.is_empty.result _ (slot_at slots (0 + c.loop-slot.slot)) c.is_empty.ensures c.if-not-is_empty.true c.metadata.ensures.told in
+    let held = step_held c.args.self.now.homes slots c.self.inside.len c.self.invariant is c.args.count c.loop-slot.slot within c.handle-handle.result occupied c.handle-handle.ensures in
+    let reached = c.loop-slot.invariant.reached in
+    c.requires.asked.1.answers.takes reached.0 c.loop-slot.rehash c.handle-handle.result reached.1 held
+
+pub put-requires : goal.put-requires
+put-requires g c =
+    let slots = c.self.inside.slots.slots in
+    let is : c.args.self.now.homes ≡ homes_of slots = ap (λ t. t.homes) (sym c.self.view_is) in
+    let within : c.loop-slot.slot < length slots = omega (arith, c.loop-slot-test.true, c.count-slot-end.ensures.count) in
+    let occupied = occupied_told c.is_empty.result _ (slot_at slots (0 + c.loop-slot.slot)) c.is_empty.ensures c.if-not-is_empty.true c.metadata.ensures.told in
+    let held = step_held c.args.self.now.homes slots c.self.inside.len c.self.invariant is c.args.count c.loop-slot.slot within c.handle-handle.result occupied c.handle-handle.ensures in
+    let key = c.requires.asked.0 in
+    let answers = c.requires.asked.1.answers in
+    let hashes = c.requires.asked.1.hashes in
+    let reached = c.loop-slot.invariant.reached in
+    let answered = answers.answers reached.0 c.loop-slot.rehash c.handle-handle.result c.rehash-hash.result _ reached.1 held c.rehash-hash.ensures in
+    let so_far = c.loop-slot.invariant.built key answers hashes in
+    step_room c.args.self.now.homes slots c.self.inside.len c.self.invariant is c.args.count c.loop-slot.slot within c.handle-handle.result occupied c.handle-handle.ensures key hashes c.loop-slot.table.homes so_far c.rehash-hash.result answered c.requires.fits
+
+pub returns-in_err-put-clause-only : goal.returns-in_err-put-clause-only
+returns-in_err-put-clause-only g c =
+    let slots = c.self.inside.slots.slots in
+    let is : c.args.self.now.homes ≡ homes_of slots = ap (λ t. t.homes) (sym c.self.view_is) in
+    let within : c.loop-slot.slot < length slots = omega (arith, c.loop-slot-test.true, c.count-slot-end.ensures.count) in
+    let occupied = occupied_told c.is_empty.result _ (slot_at slots (0 + c.loop-slot.slot)) c.is_empty.ensures c.if-not-is_empty.true c.metadata.ensures.told in
+    let held = step_held c.args.self.now.homes slots c.self.inside.len c.self.invariant is c.args.count c.loop-slot.slot within c.handle-handle.result occupied c.handle-handle.ensures in
+    let key = c.requires.asked.0 in
+    let answers = c.requires.asked.1.answers in
+    let hashes = c.requires.asked.1.hashes in
+    let reached = c.loop-slot.invariant.reached in
+    let answered = answers.answers reached.0 c.loop-slot.rehash c.handle-handle.result c.rehash-hash.result _ reached.1 held c.rehash-hash.ensures in
+    let so_far = c.loop-slot.invariant.built key answers hashes in
+    absurd (step_short c.args.self.now.homes slots c.self.inside.len c.self.invariant is c.args.count c.loop-slot.slot within c.handle-handle.result occupied c.handle-handle.ensures key hashes c.loop-slot.table.homes so_far c.rehash-hash.result answered
+    c.requires.fits c.requires.multiple c.in_err-put.ensures.long)
+
+pub loop-slot-preserved : goal.loop-slot-preserved
+loop-slot-preserved g c =
+    let slots = c.self.inside.slots.slots in
+    let is : c.args.self.now.homes ≡ homes_of slots = ap (λ t. t.homes) (sym c.self.view_is) in
+    let within : c.loop-slot.slot < length slots = omega (arith, c.loop-slot-test.true, c.count-slot-end.ensures.count) in
+    elim c.if-not-is_empty.branch [
+      | then-not-is_empty+in_ok-put w ↦
+          let v = w.handle-handle.result in
+          let reached = c.loop-slot.invariant.reached in
+          let occupied = occupied_told c.is_empty.result _ (slot_at slots (0 + c.loop-slot.slot)) c.is_empty.ensures w.if-not-is_empty.true c.metadata.ensures.told in
+          let held = step_held c.args.self.now.homes slots c.self.inside.len c.self.invariant is c.args.count c.loop-slot.slot within v occupied w.handle-handle.ensures in
+          let held_is = IsHeld c.args.self.now.homes in
+          record {
+            reached = (
+              reached.0 ++ v ∷ [],
+              subst (λ f. Reaches g.F.FnMut held_is c.args.rehash (reached.0 ++ v ∷ []) f) (sym w.rehash-is)
+                  (Reaches-push g.F.FnMut held_is c.args.rehash reached.0 c.loop-slot.rehash v w.rehash-hash.result w.rehash-hash.new.self reached.1 held w.rehash-hash.ensures),
+            );
+            built = λ key answers hashes.
+                let answered = answers.answers reached.0 c.loop-slot.rehash v w.rehash-hash.result _ reached.1 held w.rehash-hash.ensures in
+                ap (λ t. t.homes) w.table-is ∙ w.in_ok-put.ensures.ok ∙ step_made c.args.self.now.homes slots c.self.inside.len c.self.invariant is c.args.count c.loop-slot.slot within v occupied w.handle-handle.ensures
+                key hashes c.loop-slot.table.homes (c.loop-slot.invariant.built key answers hashes) w.rehash-hash.result answered;
+            asked = λ key answers hashes.
+                let answered = answers.answers reached.0 c.loop-slot.rehash v w.rehash-hash.result _ reached.1 held w.rehash-hash.ensures in
+                let called = subst (λ r. Called g.F.FnMut c.loop-slot.rehash (v, tt) r w.rehash-hash.new.self) answered w.rehash-hash.ensures in
+                let more = handles_more c.args.self.now.homes slots c.self.inside.len c.self.invariant is c.args.count c.loop-slot.slot within v occupied w.handle-handle.ensures in
+                let pushed = Asks-push g.F.FnMut key c.args.rehash _ c.loop-slot.rehash v w.rehash-hash.new.self (c.loop-slot.invariant.asked key answers hashes) called in
+                subst (λ f. Asks g.F.FnMut key c.args.rehash (map (λ s. s.entry.1) (entries (take (c.loop-slot.slot + 1) slots))) f) (sym w.rehash-is)
+                (subst (λ hs. Asks g.F.FnMut key c.args.rehash hs w.rehash-hash.new.self) (sym more) pushed);
+          }
+      | else-not-is_empty w ↦
+          let empty = vacant_told _ (slot_at slots (0 + c.loop-slot.slot)) (c.is_empty.ensures.0 w.if-not-is_empty.false) c.metadata.ensures.told in
+          let none = handles_empty c.args.self.now.homes slots c.self.inside.len c.self.invariant is c.args.count c.loop-slot.slot within empty in
+          record {
+            reached = (c.loop-slot.invariant.reached.0, subst (λ f. Reaches g.F.FnMut (IsHeld c.args.self.now.homes) c.args.rehash c.loop-slot.invariant.reached.0 f) (sym w.rehash-is) c.loop-slot.invariant.reached.1);
+            built = λ key answers hashes. ap (λ t. t.homes) w.table-is ∙ step_empty c.args.self.now.homes slots c.self.inside.len c.self.invariant is c.args.count c.loop-slot.slot within key c.loop-slot.table.homes empty (c.loop-slot.invariant.built key answers hashes);
+            asked = λ key answers hashes.
+                subst (λ f. Asks g.F.FnMut key c.args.rehash (map (λ s. s.entry.1) (entries (take (c.loop-slot.slot + 1) slots))) f) (sym w.rehash-is)
+                (subst (λ hs. Asks g.F.FnMut key c.args.rehash hs c.loop-slot.rehash) (sym none) (c.loop-slot.invariant.asked key answers hashes));
+          }
+    ]
+
+pub returns-clause-made : goal.returns-clause-made
+returns-clause-made g c key gives =
+    let slots = c.self.inside.slots.slots in
+    let V = c.args.self.now in
+    let all : c.loop-slot.slot ≡ length slots = omega (arith, c.loop-slot-test.false, c.loop-slot.auto.slot-end, c.count-slot-end.ensures.count) in
+    c.loop-slot.invariant.built key gives.answers gives.hashes ∙ ap (λ n. put_all key (no_entries c.args.count) (entries (take n slots))) all ∙ ap (put_all key (no_entries c.args.count)) (entries-all slots)
+    ∙ ap (λ s. put_all key (no_entries c.args.count) (entries s)) (tidy-layout slots c.self.invariant.tidy) ∙ ap (λ t. put_all key (no_entries c.args.count) (entries (layout t.homes))) c.self.view_is
+
+pub returns-clause-asks : goal.returns-clause-asks
+returns-clause-asks g c key gives =
+    let slots = c.self.inside.slots.slots in
+    let all : c.loop-slot.slot ≡ length slots = omega (arith, c.loop-slot-test.false, c.loop-slot.auto.slot-end, c.count-slot-end.ensures.count) in
+    let list : map (λ s. s.entry.1) (entries (take c.loop-slot.slot slots)) ≡ held_handles c.args.self.now.homes =
+    ap (λ n. map (λ s. s.entry.1) (entries (take n slots))) all ∙ ap (map (λ s. s.entry.1)) (entries-all slots) ∙ ap (λ s. map (λ s. s.entry.1) (entries s)) (tidy-layout slots c.self.invariant.tidy) ∙ ap (λ t. held_handles t.homes) c.self.view_is in
+    (c.loop-slot.rehash, subst (λ hs. Asks g.F.FnMut key c.args.rehash hs c.loop-slot.rehash) list (c.loop-slot.invariant.asked key gives.answers gives.hashes))

@@ -1,0 +1,77 @@
+use Rattle.std.proofs.Common.{◌≡◌, ◌≤◌, ◌+◌, ◌-◌, false, true, sym, ap, ◌∙◌, subst, arith}
+use Rattle.std.specs.List.{list_any}
+use Rattle.clock2q_handles.specs.Homes.{listed, removed, is_entry_of}
+use Rattle.clock2q_handles.specs.Layout.{homes_of, reach, slot_at, walk, run, IsBestPlaced}
+use Rattle.clock2q_handles.proofs.Tidy.{tidy-room}
+use Rattle.clock2q_handles.proofs.Walk.{passed}
+use Rattle.clock2q_handles.proofs.Removals.{removed-none, removed-walk}
+use Rattle.clock2q_handles.proofs.Steps.{listed-home, table-best, removal}
+use Rattle.clock2q_handles.proofs.table.Table.remove.Goals as goal
+
+pub returns-in_default-clause-removed : goal.returns-in_default-clause-removed
+returns-in_default-clause-removed g c =
+    let slots = c.self.inside.slots.slots in
+    let e = g.H.PartialEq.eq in
+    let new : list_any (is_entry_of e c.args.hash c.args.handle) (listed (homes_of slots) c.args.hash) ≡ false =
+    ap (list_any (is_entry_of e c.args.hash c.args.handle)) (sym (listed-home slots c.home-home.result c.args.hash c.home-home.ensures.home)) ∙ c.in_default.ensures.none in
+    subst (λ t. t.homes ≡ removed e t.homes c.args.hash c.args.handle) c.self.view_is (sym (removed-none e (homes_of slots) c.args.hash c.args.handle new))
+
+pub returns-in_default-clause-found : goal.returns-in_default-clause-found
+returns-in_default-clause-found g c =
+    let slots = c.self.inside.slots.slots in
+    let e = g.H.PartialEq.eq in
+    subst (λ t. false ≡ list_any (is_entry_of e c.args.hash c.args.handle) (listed t.homes c.args.hash)) c.self.view_is
+    (sym (ap (list_any (is_entry_of e c.args.hash c.args.handle)) (sym (listed-home slots c.home-home.result c.args.hash c.home-home.ensures.home)) ∙ c.in_default.ensures.none))
+
+pub returns-in_default-clause-best : goal.returns-in_default-clause-best
+returns-in_default-clause-best g c = subst (λ t. IsBestPlaced t.homes) c.self.view_is (table-best c.self.inside.slots.slots c.self.inside.len c.self.invariant)
+
+pub take_out-requires-clause-walked : goal.take_out-requires-clause-walked
+take_out-requires-clause-walked g c j l =
+    let found = c.in-Some.ensures.found in
+    let far = passed (slot_at c.self.inside.slots.slots) c.self.invariant.tidy.ordered c.home-home.result 0 c.in-Some.distance (omega (arith, ap reach found.here)) j l in
+    omega (arith, far)
+
+pub overflow_sub-self : goal.overflow_sub-self
+overflow_sub-self g c =
+    let step = removal g.H.PartialEq.eq c.args.hash c.args.handle c.self.inside.slots.slots c.take_out.new.self.slots c.home-home.result c.in-Some.distance c.self.inside.len c.self.inside.slots.writes c.take_out.new.self.writes c.self.invariant
+    (c.home-home.ensures.home (omega (arith, c.in-Some.ensures.within))) c.in-Some.ensures.within c.in-Some.ensures.found c.take_out.ensures.closes c.take_out.ensures.len in
+    omega (arith, step.total_less)
+
+pub invariant_of-self : goal.invariant_of-self
+invariant_of-self g c =
+    let step = removal g.H.PartialEq.eq c.args.hash c.args.handle c.self.inside.slots.slots c.take_out.new.self.slots c.home-home.result c.in-Some.distance c.self.inside.len c.self.inside.slots.writes c.take_out.new.self.writes c.self.invariant
+    (c.home-home.ensures.home (omega (arith, c.in-Some.ensures.within))) c.in-Some.ensures.within c.in-Some.ensures.found c.take_out.ensures.closes c.take_out.ensures.len in
+    step.table
+
+pub returns-clause-removed : goal.returns-clause-removed
+returns-clause-removed g c =
+    let step = removal g.H.PartialEq.eq c.args.hash c.args.handle c.self.inside.slots.slots c.take_out.new.self.slots c.home-home.result c.in-Some.distance c.self.inside.len c.self.inside.slots.writes c.take_out.new.self.writes c.self.invariant
+    (c.home-home.ensures.home (omega (arith, c.in-Some.ensures.within))) c.in-Some.ensures.within c.in-Some.ensures.found c.take_out.ensures.closes c.take_out.ensures.len in
+    step.homes ∙ ap (λ t. removed g.H.PartialEq.eq t.homes c.args.hash c.args.handle) c.self.view_is
+
+pub returns-clause-found : goal.returns-clause-found
+returns-clause-found g c =
+    let step = removal g.H.PartialEq.eq c.args.hash c.args.handle c.self.inside.slots.slots c.take_out.new.self.slots c.home-home.result c.in-Some.distance c.self.inside.len c.self.inside.slots.writes c.take_out.new.self.writes c.self.invariant
+    (c.home-home.ensures.home (omega (arith, c.in-Some.ensures.within))) c.in-Some.ensures.within c.in-Some.ensures.found c.take_out.ensures.closes c.take_out.ensures.len in
+    subst (λ t. true ≡ list_any (is_entry_of g.H.PartialEq.eq c.args.hash c.args.handle) (listed t.homes c.args.hash)) c.self.view_is (sym step.found)
+
+pub returns-clause-writes : goal.returns-clause-writes
+returns-clause-writes g c =
+    let step = removal g.H.PartialEq.eq c.args.hash c.args.handle c.self.inside.slots.slots c.take_out.new.self.slots c.home-home.result c.in-Some.distance c.self.inside.len c.self.inside.slots.writes c.take_out.new.self.writes c.self.invariant
+    (c.home-home.ensures.home (omega (arith, c.in-Some.ensures.within))) c.in-Some.ensures.within c.in-Some.ensures.found c.take_out.ensures.closes c.take_out.ensures.len in
+    subst (λ t. c.take_out.new.self.writes ≤ t.writes + run t.slots c.args.hash) c.self.view_is step.writes
+
+pub returns-clause-best : goal.returns-clause-best
+returns-clause-best g c =
+    let step = removal g.H.PartialEq.eq c.args.hash c.args.handle c.self.inside.slots.slots c.take_out.new.self.slots c.home-home.result c.in-Some.distance c.self.inside.len c.self.inside.slots.writes c.take_out.new.self.writes c.self.invariant
+    (c.home-home.ensures.home (omega (arith, c.in-Some.ensures.within))) c.in-Some.ensures.within c.in-Some.ensures.found c.take_out.ensures.closes c.take_out.ensures.len in
+    table-best c.take_out.new.self.slots (c.self.inside.len - 1) step.table
+
+pub returns-clause-shorter : goal.returns-clause-shorter
+returns-clause-shorter g c x =
+    let step = removal g.H.PartialEq.eq c.args.hash c.args.handle c.self.inside.slots.slots c.take_out.new.self.slots c.home-home.result c.in-Some.distance c.self.inside.len c.self.inside.slots.writes c.take_out.new.self.writes c.self.invariant
+    (c.home-home.ensures.home (omega (arith, c.in-Some.ensures.within))) c.in-Some.ensures.within c.in-Some.ensures.found c.take_out.ensures.closes c.take_out.ensures.len in
+    let homes = homes_of c.self.inside.slots.slots in
+    subst (λ t. walk (homes_of c.take_out.new.self.slots) x ≤ walk t.homes x) c.self.view_is
+    (subst (λ hs. walk hs x ≤ walk homes x) (sym step.homes) (removed-walk g.H.PartialEq.eq homes c.args.hash c.args.handle (tidy-room c.self.inside.slots.slots c.self.invariant.tidy) x))

@@ -1,0 +1,33 @@
+use Rattle.std.proofs.Common.{◌≡◌, ◌*◌, ℕ, max, arith, sym, subst, inl, inr}
+use Rattle.std.proofs.lemmas.Bool.{cases_lt}
+use Rattle.std.specs.Int.{IsNextPowerOfTwo}
+use Rattle.clock2q_handles.specs.TableStep.{fit}
+use Rattle.clock2q_handles.specs.Slots.{IsSlotCount}
+use Rattle.clock2q_handles.proofs.Fit.{fit_from_power, fit_enough, slot_count_from_power}
+use Rattle.clock2q_handles.proofs.table.slots_for.Goals as goal
+
+pub returns-in_default-clause-count : goal.returns-in_default-clause-count
+returns-in_default-clause-count c =
+    let quarter : ℕ = c.in_ok-quarter.quarter in
+    let is : fit c.args.entries ≡ max (quarter * 4) 16 = fit_from_power c.args.entries quarter (subst (λ n. IsNextPowerOfTwo n quarter) c.div_ceil.ensures c.in_ok-quarter.ensures) in
+    elim (cases_lt (quarter * 4) 18446744073709551616) [
+      | inl fits ↦ absurd (c.in_default.ensures fits)
+      | inr past ↦ omega (arith, is, past)
+    ]
+
+pub returns-clause-count : goal.returns-clause-count
+returns-clause-count c =
+    let quarter : ℕ = c.in_ok-quarter.quarter in
+    let is : fit c.args.entries ≡ max (quarter * 4) 16 = fit_from_power c.args.entries quarter (subst (λ n. IsNextPowerOfTwo n quarter) c.div_ceil.ensures c.in_ok-quarter.ensures) in
+    omega (arith, is, c.max.ensures, c.in-Some.ensures.1)
+
+pub returns-clause-power : goal.returns-clause-power
+returns-clause-power c =
+    let quarter : ℕ = c.in_ok-quarter.quarter in
+    let is : c.max.result ≡ max (quarter * 4) 16 = omega (arith, c.max.ensures, c.in-Some.ensures.1) in
+    subst IsSlotCount (sym is) (slot_count_from_power quarter c.in_ok-quarter.ensures.0.0 c.in_ok-quarter.ensures.0.1)
+
+pub returns-clause-enough : goal.returns-clause-enough
+returns-clause-enough c =
+    let quarter : ℕ = c.in_ok-quarter.quarter in
+    fit_enough c.args.entries quarter c.max.result (subst (λ n. IsNextPowerOfTwo n quarter) c.div_ceil.ensures c.in_ok-quarter.ensures) (omega (arith, c.max.ensures, c.in-Some.ensures.1))

@@ -1,0 +1,52 @@
+-- What a lookup yields, and how many slots it reads.
+use Rattle.std.specs.Prelude.{◌≡◌, ℕ, ◌+◌, ◌-◌, ◌%◌, ◌<◌, ◌≤◌, ◌==◌, List, [], map, filter, length, Option, Some, IfNone}
+use Rattle.std.specs.Iterator.{YieldsFirst}
+use Rattle.std.specs.Coded.{Coded, code_by, coded×, coded_ℕ, coded_list}
+use Rattle.clock2q_handles.specs.Homes.{top}
+use Rattle.clock2q_handles.specs.Layout.{Placed, placed, slot_at, reach, met, homes_of, walk, IsTidy}
+use mathlib.Core.Path.{refl}
+
+-- what contracts see of a lookup: the handles that are left to yield, how many slots it has read, and how many it has still to read
+pub record CandidatesValue (H : Type 0) : Type 0 where
+  pub left : List H
+  pub reads : ℕ
+  pub unread : ℕ
+
+abbrev pub candidates_value : {H : Type 0} → List H → ℕ → ℕ → CandidatesValue H
+candidates_value left reads unread = record { left = left; reads = reads; unread = unread }
+
+abbrev pub candidates_code : {H : Type 0} → Coded H → Coded (CandidatesValue H)
+candidates_code {H} h = code_by (List H × (ℕ × ℕ)) (coded× (coded_list h) (coded× coded_ℕ coded_ℕ)) (λ c. (c.left, (c.reads, c.unread))) (λ p. candidates_value p.0 p.1.0 p.1.1) (λ _. refl)
+
+-- a call yields the first handle that is left; what is read and still to be read stays the same in sum, and at the end nothing is left to read
+abbrev pub YieldsCandidate : {H : Type 0} → CandidatesValue H → Option H → CandidatesValue H → Type 0
+YieldsCandidate s r t = YieldsFirst (λ c. c.left) s r t × (t.reads + t.unread ≡ s.reads + s.unread) × IfNone r (t.unread ≡ 0)
+
+module _ {H : Type 0} where
+  -- the entries of x's home with its fingerprint in the slots from d past it on
+  abbrev pub matching : ℕ → List (ℕ × H) → List (ℕ × H)
+  matching x es = filter (λ e. e.0 == top x) es
+
+  -- the handles that a walk for x which has come d slots has still to yield
+  abbrev pub left_from : List (Option (Placed (ℕ × H))) → ℕ → ℕ → List H
+  left_from slots x d = map (λ e. e.1) (matching x (met (slot_at slots) (x % length slots) d (length slots - d)))
+
+  -- and how many slots it has still to read
+  abbrev pub unread_from : List (Option (Placed (ℕ × H))) → ℕ → ℕ → ℕ
+  unread_from slots x d = walk (homes_of slots) x - d
+
+  -- what a lookup keeps: the slots are tidy, and it is on its walk or past all slots
+  pub record IsLookup (slots : List (Option (Placed (ℕ × H)))) (x d : ℕ) : Type 0 where
+    pub tidy : IsTidy slots
+    pub near : (n : ℕ) → reach (slot_at slots n) ≤ 16777215
+    pub within : d ≤ length slots
+    pub passed : d < length slots → (j : ℕ) → j < d → j < reach (slot_at slots (x % length slots + j))
+
+  -- n slots past the home g of x stands its next candidate from d on
+  pub record IsNextCandidate (slots : List (Option (Placed (ℕ × H)))) (g x d n : ℕ) : Type 0 where
+    pub handle : H
+    pub here : slot_at slots (g + n) ≡ Some (placed n (top x, handle))
+    pub from : d ≤ n
+    pub within : n < length slots
+    pub none_before : matching x (met (slot_at slots) g d (n - d)) ≡ []
+    pub passed : (j : ℕ) → j < n → j < reach (slot_at slots (g + j))

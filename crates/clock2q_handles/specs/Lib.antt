@@ -1,0 +1,11 @@
+pub mod Homes
+pub mod Layout
+pub mod TableStep
+pub mod Slots
+pub mod Table
+pub mod Shifts
+pub mod Found
+pub mod Rehash
+pub mod Offers
+pub mod Candidates
+pub mod Partition

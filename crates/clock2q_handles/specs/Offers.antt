@@ -1,0 +1,17 @@
+-- Candidates offered to a closure, up to the first that it accepts.
+use Rattle.std.specs.Prelude.{◌≡◌, ℕ, Bool, true, false, List, [], ◌∷◌, Option, Some, None, Result, Ok, MatchBool, MatchResult}
+use Rattle.std.specs.Fn.{Called, Mut}
+use Rattle.clock2q_handles.specs.Homes.{inserted}
+use Rattle.clock2q_handles.specs.Layout.{IsTooLong}
+use Rattle.clock2q_handles.specs.declared.error.TableError.{TableError}
+use Rattle.clock2q_handles.specs.declared.error.TableError.TheVariants.{RunTooLong}
+
+-- f was asked of the candidates in turn; found is the first that it accepted, and f' what it is afterwards
+abbrev pub Offers : {F H : Type 0} → Mut F (H × Unit {0}) Bool → F → List H → Option H → F → Type 0
+Offers g f [] found f' = (found ≡ None) × (f' ≡ f)
+Offers {F} g f (h ∷ hs) found f' = (b : Bool) × (next : F) × Called g f (h, tt) b next × MatchBool b ((found ≡ Some h) × (f' ≡ next)) (Offers g next hs found f')
+
+-- the one that was accepted is answered, and nothing changes; or v is put in under x, where no run becomes too long
+abbrev pub Settles : {H : Type 0} → List (List (ℕ × H)) → ℕ → H → Option H → Result (H × Bool) TableError → List (List (ℕ × H)) → Type 0
+Settles old x v (Some c) result new = (result ≡ Ok (c, false)) × (new ≡ old)
+Settles old x v None result new = MatchResult result (λ r. (r ≡ (v, true)) × (new ≡ inserted old x v) × (IsTooLong (inserted old x v) → ⊥)) (λ e. (e ≡ RunTooLong) × (new ≡ old) × IsTooLong (inserted old x v))

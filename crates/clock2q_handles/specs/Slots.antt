@@ -1,0 +1,62 @@
+-- What the two vectors of a table say of its slots.
+use Rattle.std.specs.Prelude.{◌≡◌, ℕ, suc, pred, ◌/◌, ◌%◌, ◌^◌, ◌<◌, ◌≤◌, cond, ◌==◌, List, [], ◌∷◌, Option, Some, None}
+use Rattle.std.specs.Coded.{Coded, code_by, coded×, coded_ℕ, coded_list, coded_option}
+use Rattle.clock2q_handles.specs.Layout.{Placed, placed, placed_code}
+use Rattle.clock2q_handles.specs.declared.metadata.Metadata.{Metadata}
+use mathlib.Core.Path.{refl}
+
+-- a slot's displacement and fingerprint, or None of an empty slot
+abbrev pub Mark : Type 0
+Mark = Option (ℕ × ℕ)
+
+-- what a word of metadata says
+abbrev pub told : Metadata → Mark
+told m = cond (m.word == 4294967295) None (Some (m.word / 256, m.word % 256))
+
+-- what a mark leaves room for in the next slot
+abbrev pub mark_reach : Mark → ℕ
+mark_reach None = 0
+mark_reach (Some s) = suc s.0
+
+-- the same entry one slot further past its home
+abbrev pub mark_on : Mark → Mark
+mark_on None = None
+mark_on (Some s) = Some (suc s.0, s.1)
+
+-- the same entry one slot nearer to its home
+abbrev pub mark_back : Mark → Mark
+mark_back None = None
+mark_back (Some s) = Some (pred s.0, s.1)
+
+module _ {H : Type 0} where
+  -- what stands in a slot with that mark and that handle
+  abbrev pub cell : Mark → H → Option (Placed (ℕ × H))
+  cell None v = None
+  cell (Some s) v = Some (placed s.0 (s.1, v))
+
+  -- the mark of what stands in a slot
+  abbrev pub mark_of : Option (Placed (ℕ × H)) → Mark
+  mark_of None = None
+  mark_of (Some p) = Some (p.displacement, p.entry.0)
+
+  -- what stands in each slot
+  abbrev pub cells : List Metadata → List H → List (Option (Placed (ℕ × H)))
+  cells [] vs = []
+  cells (m ∷ ms) [] = []
+  cells (m ∷ ms) (v ∷ vs) = cell (told m) v ∷ cells ms vs
+
+-- what contracts see of the two vectors: what stands in each slot, and how often a slot was written
+pub record SlotsValue (H : Type 0) : Type 0 where
+  pub slots : List (Option (Placed (ℕ × H)))
+  pub writes : ℕ
+
+abbrev pub slots_value : {H : Type 0} → List (Option (Placed (ℕ × H))) → ℕ → SlotsValue H
+slots_value slots writes = record { slots = slots; writes = writes }
+
+abbrev pub slots_code : {H : Type 0} → Coded H → Coded (SlotsValue H)
+slots_code {H} h = code_by (List (Option (Placed (ℕ × H))) × ℕ) (coded× (coded_list (coded_option (placed_code (coded× coded_ℕ h)))) coded_ℕ) (λ s. (s.slots, s.writes)) (λ p. slots_value p.0 p.1) (λ _. refl)
+
+-- there are no slots, or a power of two of them, from 16 up
+pub record IsSlotCount (m : ℕ) : Type 0 where
+  pub power : 0 < m → (k : ℕ) × (m ≡ 2 ^ k)
+  pub least : 0 < m → 16 ≤ m

@@ -1,0 +1,20 @@
+-- What holds of every table.
+use Rattle.std.specs.Prelude.{◌≡◌, ℕ, ◌≤◌, List, length, Option}
+use Rattle.clock2q_handles.specs.Homes.{total, capacity}
+use Rattle.clock2q_handles.specs.Layout.{Placed, layout, homes_of, slot_at, reach, IsTidy, IsTooLong}
+use Rattle.clock2q_handles.specs.TableStep.{TableValue}
+use Rattle.clock2q_handles.specs.Slots.{IsSlotCount}
+
+-- what a table keeps of its slots and its number of entries: the slots are tidy, a power of two of them or none, and no entry stands more than 2^24 - 2 past its home
+pub record IsTable {H : Type 0} (slots : List (Option (Placed (ℕ × H)))) (len : ℕ) : Type 0 where
+  pub tidy : IsTidy slots
+  pub counted : len ≡ total (homes_of slots)
+  pub slot_count : IsSlotCount (length slots)
+  pub near : (n : ℕ) → reach (slot_at slots n) ≤ 16777215
+
+-- what callers may rely on of every table: its slots are the layout of its lists, they are a power of two or none, a quarter of them is empty, and no run is too long
+pub record IsWhole {H : Type 0} (t : TableValue H) : Type 0 where
+  pub laid : t.slots ≡ layout t.homes
+  pub slot_count : IsSlotCount (length t.homes)
+  pub room : total t.homes ≤ capacity (length t.homes)
+  pub short : IsTooLong t.homes → ⊥

@@ -1,0 +1,30 @@
+//! Which of several tables a hash belongs to.
+ghost use Rattle.clock2q_handles.specs.Partition.{IsPartitionCount, IsGroupOf, SameMiddle};
+ghost use Rattle.std.specs.Prelude.{◌≡◌, ◌<◌, ℕ};
+
+/// Which of `partitions` groups `hash` falls in. The group comes from the bits just below the top
+/// byte, of which a table of fewer than 2^40 slots reads none, so keys that are split among tables
+/// by group stay spread over every home and fingerprint of their own table.
+pub fn partition(hash: u64, partitions: usize) -> usize
+    requires { IsPartitionCount partitions }
+    ensures group { IsGroupOf hash partitions result }
+    ensures within { result < partitions }
+
+    // Neither the top byte nor the low 40 bits change the group.
+    ensures middle { (other : ℕ) → SameMiddle hash other → IsGroupOf other partitions result }
+{
+    let shift = 56 - partitions.trailing_zeros();
+    (hash >> shift) as usize & (partitions - 1)
+}
+
+#[cfg(test)]
+mod tests {
+    use super::*;
+
+    #[test]
+    fn groups(rt: HostRuntime) {
+        assert_eq!(rt; partition(0xAB << 48, 256), 171);
+        assert_eq!(rt; partition(u64::MAX, 1), 0);
+        assert_eq!(rt; partition(u64::MAX, 65536), 65535);
+    }
+}

@@ -1,0 +1,226 @@
+//! Walks along a table's slots, and what moves entries within a run.
+ghost use Rattle.clock2q_handles.specs.Homes.{top, is_entry_of, listed};
+ghost use Rattle.clock2q_handles.specs.Candidates.{IsNextCandidate, left_from, matching};
+ghost use Rattle.clock2q_handles.specs.Found.{Finds};
+ghost use Rattle.clock2q_handles.specs.Layout.{IsTidy, reach, slot_at, placed, homes_of, met, walk};
+ghost use Rattle.clock2q_handles.specs.Shifts.{Opens, Closes, HasRoom, IsVacancy, moved_on};
+ghost use Rattle.clock2q_handles.specs.Offers.{Offers};
+ghost use Rattle.std.specs.Bool.{OnTrue, OnFalse};
+ghost use Rattle.std.specs.Result.{result_ok};
+ghost use Rattle.std.specs.List.{list_any};
+ghost use Rattle.std.specs.Prelude.{◌≡◌, ◌+◌, ◌-◌, ◌%◌, ◌^◌, ◌<◌, ◌≤◌, ℕ, suc, [], false, Some, None, IfSome, IfNone, IfErr, length};
+
+use crate::metadata::{MAX_DISPLACEMENT, Metadata};
+use crate::slots::Slots;
+use clock2q_count::Count;
+use std::alloc::Allocator;
+
+impl<H: Copy + Default, A: Allocator> Slots<H, A> {
+    /// How far from the home a walk ends: at the first empty slot or entry that is nearer to its
+    /// own home.
+    pub(super) fn end(&self, home: usize) -> usize
+        requires tidy { IsTidy self.now.slots }
+        requires home { home < length self.now.slots }
+        ensures passed { (j : ℕ) → j < result → j < reach (slot_at self.now.slots (home + j)) }
+        ensures stop { reach (slot_at self.now.slots (home + result)) ≤ result }
+        ensures within { result < length self.now.slots }
+    {
+        let mut distance = 0;
+        while !self.metadata(home, distance).ends_walk(distance) {
+            distance += 1;
+        }
+        distance
+    }
+
+    /// How far from the home of `hash` its first candidate that equals `handle` stands.
+    pub(super) fn find(&self, home: usize, hash: u64, handle: H) -> Option<usize>
+    where
+        H: PartialEq,
+        requires tidy { IsTidy self.now.slots }
+        requires home { 0 < length self.now.slots → home < length self.now.slots }
+        requires near { (n : ℕ) → reach (slot_at self.now.slots n) ≤ 16777215 }
+        ensures found { IfSome result (Finds (is_entry_of H.PartialEq.eq hash handle) (slot_at self.now.slots) home) }
+        ensures within { IfSome result (λ n. n < length self.now.slots) }
+        ensures none { IfNone result (list_any (is_entry_of H.PartialEq.eq hash handle) (listed (homes_of self.now.slots) home) ≡ false) }
+    {
+        for distance in 0..self.count() {
+            let metadata = self.metadata(home, distance);
+            if metadata.ends_walk(distance) {
+                return None;
+            }
+            if metadata.is_candidate(hash, distance) && self.handle(home, distance) == handle {
+                return Some(distance);
+            }
+        }
+        None
+    }
+
+    /// How far from the home the next candidate of `hash` stands, for a walk that has come to a
+    /// distance already. Each slot that is read is counted.
+    pub(super) fn candidate(
+        &self,
+        home: usize,
+        hash: u64,
+        from: usize,
+        reads: &mut Count,
+    ) -> Option<usize>
+        requires tidy { IsTidy self.now.slots }
+        requires home { 0 < length self.now.slots → home < length self.now.slots }
+        requires near { (n : ℕ) → reach (slot_at self.now.slots n) ≤ 16777215 }
+        requires from { from ≤ length self.now.slots }
+        requires passed { from < length self.now.slots → (j : ℕ) → j < from → j < reach (slot_at self.now.slots (home + j)) }
+        ensures found { IfSome result (IsNextCandidate self.now.slots home hash from) }
+        ensures read { IfSome result (λ n. reads.new.total + from ≡ reads.old.total + n + 1) }
+        ensures none { IfNone result (matching hash (met (slot_at self.now.slots) home from (length self.now.slots - from)) ≡ []) }
+        ensures read_all { IfNone result (reads.new.total ≡ reads.old.total + (walk (homes_of self.now.slots) home - from)) }
+    {
+        for distance in from..self.count() {
+            let metadata = self.metadata(home, distance);
+            reads.tick();
+            if metadata.ends_walk(distance) {
+                return None;
+            }
+            if metadata.is_candidate(hash, distance) {
+                return Some(distance);
+            }
+        }
+        None
+    }
+
+    /// Offers the candidates of `hash` up to the first that is accepted. Answers it, or else how
+    /// far from the home the walk ended.
+    pub(super) fn offer<F: FnMut(H) -> bool>(
+        &self,
+        home: usize,
+        hash: u64,
+        mut matches: F,
+    ) -> Result<H, usize>
+        requires tidy { IsTidy self.now.slots }
+        requires near { (n : ℕ) → reach (slot_at self.now.slots n) ≤ 16777215 }
+        requires some { 0 < length self.now.slots }
+        requires home { home ≡ hash % length self.now.slots }
+        requires callable { F.IsAlwaysCallable matches }
+        ensures offers { (last : F) × Offers F.FnMut matches (left_from self.now.slots hash 0) (result_ok result) last }
+        ensures within { IfErr result (λ d. d < length self.now.slots) }
+        ensures passed { IfErr result (λ d. (j : ℕ) → j < d → j < reach (slot_at self.now.slots (home + j))) }
+        ensures stop { IfErr result (λ d. reach (slot_at self.now.slots (home + d)) ≤ d) }
+    {
+        let mut distance = 0;
+        loop {
+            let metadata = self.metadata(home, distance);
+            if metadata.ends_walk(distance) {
+                return Err(distance);
+            }
+            if metadata.is_candidate(hash, distance) {
+                let handle = self.handle(home, distance);
+                if matches(handle) {
+                    return Ok(handle);
+                }
+            }
+            distance += 1;
+        }
+    }
+
+    /// How far from the home the first empty slot is, from where a walk ended on, or None where an
+    /// entry on the way stands as far past its home as one may.
+    fn vacancy(&self, home: usize, from: usize) -> Option<usize>
+        requires tidy { IsTidy self.now.slots }
+        requires home { home < length self.now.slots }
+        requires from { from < length self.now.slots }
+        requires walked { (j : ℕ) → j < from → 0 < reach (slot_at self.now.slots (home + j)) }
+        requires near { from ≤ MAX_DISPLACEMENT }
+        ensures room { IfSome result (HasRoom (slot_at self.now.slots) MAX_DISPLACEMENT home from) }
+        ensures vacancy { IfSome result (IsVacancy (slot_at self.now.slots) home) }
+        ensures within { IfSome result (λ v. (from ≤ v) × (v < length self.now.slots)) }
+        ensures small { length self.now.slots < 2 ^ 63 }
+        ensures far { IfNone result ((v : ℕ) → IsVacancy (slot_at self.now.slots) home v → HasRoom (slot_at self.now.slots) MAX_DISPLACEMENT home from v → ⊥) }
+    {
+        let mut distance = from;
+        loop {
+            let metadata = self.metadata(home, distance);
+            if metadata.is_empty() {
+                return Some(distance);
+            }
+            if !metadata.can_move_on() {
+                return None;
+            }
+            distance += 1;
+        }
+    }
+
+    /// Puts an entry in at a distance from the home of its hash, where the walk for it ended. The
+    /// rest of the run moves on one slot. Answers whether no entry would come to stand too far
+    /// past its home; if one would, nothing changes.
+    pub(super) fn put_in(&mut self, home: usize, distance: usize, hash: u64, handle: H) -> bool
+        requires tidy { IsTidy self.old.slots }
+        requires home { home < length self.old.slots }
+        requires within { distance < length self.old.slots }
+        requires walked { (j : ℕ) → j < distance → 0 < reach (slot_at self.old.slots (home + j)) }
+        ensures put { OnTrue result ((v : ℕ) → IsVacancy (slot_at self.old.slots) home v →
+            Opens (slot_at self.old.slots) (slot_at self.new.slots) (length self.old.slots) home distance v (top hash, handle)) }
+        ensures room { OnTrue result ((v : ℕ) → IsVacancy (slot_at self.old.slots) home v → HasRoom (slot_at self.old.slots) MAX_DISPLACEMENT home distance v) }
+        ensures writes { OnTrue result ((v : ℕ) → IsVacancy (slot_at self.old.slots) home v → self.new.writes + distance ≡ self.old.writes + v + 1) }
+        ensures far { OnFalse result ((v : ℕ) → IsVacancy (slot_at self.old.slots) home v → HasRoom (slot_at self.old.slots) MAX_DISPLACEMENT home distance v → ⊥) }
+        ensures small { OnTrue result (length self.old.slots < 2 ^ 63) }
+        ensures refused { OnFalse result (self.new ≡ self.old) }
+        ensures len { length self.new.slots ≡ length self.old.slots }
+    {
+        if distance > MAX_DISPLACEMENT {
+            return false;
+        }
+        let Some(vacancy) = self.vacancy(home, distance) else {
+            return false;
+        };
+        self.move_on(home, distance, vacancy);
+        self.write(home, distance, Metadata::new(hash, distance), handle);
+        true
+    }
+
+    /// Moves the entries from one distance up to another, where the slot is empty, on by one slot.
+    fn move_on(&mut self, home: usize, from: usize, vacancy: usize)
+        requires home { home < length self.old.slots }
+        requires from { from ≤ vacancy }
+        requires upto { vacancy < length self.old.slots }
+        requires occupied { (j : ℕ) → from ≤ j → j < vacancy → 0 < reach (slot_at self.old.slots (home + j)) }
+        requires near { (j : ℕ) → from ≤ j → j < vacancy → reach (slot_at self.old.slots (home + j)) ≤ MAX_DISPLACEMENT }
+        ensures moved { (j : ℕ) → from ≤ j → j < vacancy → slot_at self.new.slots (home + suc j) ≡ moved_on (slot_at self.old.slots (home + j)) }
+        ensures before { (j : ℕ) → j ≤ from → slot_at self.new.slots (home + j) ≡ slot_at self.old.slots (home + j) }
+        ensures after { (j : ℕ) → vacancy < j → j < length self.old.slots → slot_at self.new.slots (home + j) ≡ slot_at self.old.slots (home + j) }
+        ensures len { length self.new.slots ≡ length self.old.slots }
+        ensures writes { self.new.writes + from ≡ self.old.writes + vacancy }
+    {
+        let mut distance = vacancy;
+        while from < distance {
+            let metadata = self.metadata(home, distance - 1);
+            let handle = self.handle(home, distance - 1);
+            self.write(home, distance, metadata.moved_on(), handle);
+            distance -= 1;
+        }
+    }
+
+    /// Takes the entry at a distance from the home out. Those that follow it move back one slot,
+    /// up to an empty slot or an entry at its home.
+    pub(super) fn take_out(&mut self, home: usize, distance: usize)
+        requires small { length self.old.slots < 2 ^ 63 }
+        requires tidy { IsTidy self.old.slots }
+        requires home { home < length self.old.slots }
+        requires within { distance < length self.old.slots }
+        requires walked { (j : ℕ) → j ≤ distance → 0 < reach (slot_at self.old.slots (home + j)) }
+        ensures closes { (e : ℕ × H) → slot_at self.old.slots (home + distance) ≡ Some (placed distance e) →
+            (v : ℕ) × Closes (slot_at self.old.slots) (slot_at self.new.slots) (length self.old.slots) home distance v e
+            × (self.new.writes + distance ≡ self.old.writes + v + 1) }
+        ensures len { length self.new.slots ≡ length self.old.slots }
+    {
+        let mut hole = distance;
+        loop {
+            let metadata = self.metadata(home, hole + 1);
+            if !metadata.can_move_back() {
+                break;
+            }
+            let handle = self.handle(home, hole + 1);
+            self.write(home, hole, metadata.moved_back(), handle);
+            hole += 1;
+        }
+        self.write(home, hole, Metadata::empty(), H::default());
+    }
+}

@@ -1,0 +1,11 @@
+use Rattle.std.proofs.Common.{ap}
+use Rattle.clock2q_queues.specs.Keys.{KeyPlaces}
+use Rattle.clock2q_queues.proofs.Histories.{IsHistory-cleared}
+use Rattle.clock2q_queues.proofs.history.History.clear.Goals as goal
+
+pub invariant_of-self : goal.invariant_of-self
+invariant_of-self g c =
+    let i = c.self.inside in
+    let e = c.clear.ensures in
+    IsHistory-cleared g.K.PartialEq.eq i.index.homes c.empty.new.index.homes i.order c.clear.new.self i.keys c.clear-2.new.self c.self.invariant c.empty.ensures.emptied
+    e.whole e.places e.free e.limit (ap (λ (z : KeyPlaces _). z.remembered) c.clear-2.ensures) (ap (λ (z : KeyPlaces _). z.room) c.clear-2.ensures)

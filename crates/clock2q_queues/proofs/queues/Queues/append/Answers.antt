@@ -1,0 +1,20 @@
+use Rattle.std.proofs.Common.{false, ap, ◌∙◌}
+use Rattle.clock2q_queues.specs.Queues.{QueueState}
+use Rattle.clock2q_queues.proofs.Sharing.{after_append, in_small, in_main}
+use Rattle.clock2q_queues.proofs.queues.Queues.append.Goals as goal
+
+pub push-requires-clause-absent : goal.push-requires-clause-absent
+push-requires-clause-absent g c = in_main c.self.inside.links c.self.inside.small c.self.inside.main c.args.self.now c.args.slot false c.self.view_is c.requires.not_in_main
+
+pub invariant_of-self : goal.invariant_of-self
+invariant_of-self g c =
+    let i = c.self.inside in
+    (after_append i.links i.small i.main c.self.invariant c.push.new.links c.push.new.self c.args.slot
+    (in_small c.self.inside.links c.self.inside.small c.self.inside.main c.args.self.now c.args.slot false c.self.view_is c.requires.not_in_small) c.push.ensures.whole c.push.ensures.entries c.push.ensures.others c.push.ensures.places).0
+
+pub returns-clause-small : goal.returns-clause-small
+returns-clause-small g c =
+    let i = c.self.inside in
+    (after_append i.links i.small i.main c.self.invariant c.push.new.links c.push.new.self c.args.slot
+    (in_small c.self.inside.links c.self.inside.small c.self.inside.main c.args.self.now c.args.slot false c.self.view_is c.requires.not_in_small) c.push.ensures.whole c.push.ensures.entries c.push.ensures.others c.push.ensures.places).1
+    ∙ ap (λ (q : QueueState). q.small) c.self.view_is

@@ -1,0 +1,17 @@
+use Rattle.std.proofs.Common.{◌∙◌}
+use Rattle.clock2q_queues.proofs.Sharing.{without_slot-absent, main_absent}
+use Rattle.clock2q_queues.proofs.queues.Queues.leave.Goals as goal
+
+pub returns-in-Free-clause-small : goal.returns-in-Free-clause-small
+returns-in-Free-clause-small g c = c.in-Free.ensures.small ∙ without_slot-absent c.args.slot c.args.self.now.small c.in-Free.ensures.value.0
+
+pub returns-in-Free-clause-main : goal.returns-in-Free-clause-main
+returns-in-Free-clause-main g c = c.in-Free.ensures.main ∙ without_slot-absent c.args.slot c.args.self.now.main c.in-Free.ensures.value.1
+
+pub returns-in-Young-clause-main : goal.returns-in-Young-clause-main
+returns-in-Young-clause-main g c =
+    c.leave_small.ensures.main ∙ c.standing.ensures.main ∙ without_slot-absent c.args.slot c.args.self.now.main
+    (main_absent c.standing.result c.args.slot c.args.self.now c.standing.ensures.value c.in-Young.is)
+
+pub returns-in-Main-clause-small : goal.returns-in-Main-clause-small
+returns-in-Main-clause-small g c = c.leave_main.ensures.small ∙ c.in-Main.ensures.small ∙ without_slot-absent c.args.slot c.args.self.now.small c.in-Main.ensures.value.0

@@ -1,0 +1,10 @@
+pub mod Ages
+pub mod Ends
+pub mod Links
+pub mod MainRing
+pub mod Rings
+pub mod Small
+pub mod Queues
+pub mod Order
+pub mod Keys
+pub mod History

@@ -1,0 +1,40 @@
+-- Main as a list from the hand, and what the hand's choice makes of it.
+use Rattle.std.specs.Prelude.{◌≡◌, ℕ, ◌+◌, Bool, true, false, List, ◌++◌, map, take, drop, ◌==◌, if◌then◌else◌}
+use Rattle.std.specs.List.{prefix_len}
+use Rattle.clock2q_queues.specs.Rings.{has}
+use Rattle.clock2q_queues.specs.Links.{LinkState, IsQueue, slots_from, standing_at, bit_at}
+use Rattle.clock2q_queues.specs.declared.links.Standing.TheVariants.{Main}
+use Rattle.clock2q_queues.specs.declared.main_ring.MainRing.{MainRing}
+
+-- the slots of Main, from the hand
+abbrev pub main_slots : LinkState → MainRing → List ℕ
+main_slots l main = slots_from l main.hand main.len
+
+-- each with its hit bit
+abbrev pub main_entries : LinkState → MainRing → List (ℕ × Bool)
+main_entries l main = map (λ s. (s, bit_at l s)) (main_slots l main)
+
+-- these slots are Main's, and stand there
+pub record IsMain (l : LinkState) (main : MainRing) (slots : List ℕ) : Type 0 where
+  pub queue : IsQueue l main.hand main.len slots
+  pub standing : (t : ℕ) → has t slots ≡ true → standing_at l t ≡ Main
+
+-- the links hold Main as they should
+abbrev pub IsMainRing : LinkState → MainRing → Type 0
+IsMainRing l main = IsMain l main (main_slots l main)
+
+-- how many entries the hand passes: the longest front of set bits
+abbrev pub passed : List (ℕ × Bool) → ℕ
+passed main = prefix_len (λ e. e.1) main
+
+-- the hand looks at each entry that it passes, and at the victim
+abbrev pub inspections : List (ℕ × Bool) → ℕ
+inspections main = passed main + 1
+
+-- what the hand passed goes behind the rest, with clear bits: the victim is then the first entry, and what follows it is what Main becomes
+abbrev pub from_victim : List (ℕ × Bool) → List (ℕ × Bool)
+from_victim main = drop (passed main) main ++ map (λ e. (e.0, false)) (take (passed main) main)
+
+-- after a hit on a slot
+abbrev pub main_hit_at : ℕ → List (ℕ × Bool) → List (ℕ × Bool)
+main_hit_at slot main = map (λ e. if e.0 == slot then (e.0, true) else e) main

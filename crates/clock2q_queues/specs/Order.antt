@@ -1,0 +1,51 @@
+-- The places of the history in the order of their keys, and the chain of the free ones.
+use Rattle.std.specs.Prelude.{◌≡◌, ℕ, ◌+◌, ◌^◌, ◌<◌, ◌≤◌, List, [], ◌∷◌, ◌++◌, length, Option}
+use Rattle.clock2q_queues.specs.Rings.{AllApart, AllBelow, around}
+use Rattle.clock2q_queues.specs.Links.{LinkState, IsQueue, slots_from, next_at}
+use Rattle.clock2q_queues.specs.declared.history.order.Chain.{Chain}
+
+-- the places that hold a key, the newest key's first, the free ones that were used before, how many there are in all, and how often links were accessed
+pub record PlaceOrder : Type 0 where
+  pub places : List ℕ
+  pub free : List ℕ
+  pub limit : ℕ
+  pub accesses : ℕ
+
+-- no place was used yet
+abbrev pub unused : ℕ → PlaceOrder
+unused limit = record { places = []; free = []; limit = limit; accesses = 0 }
+
+-- how many places were used
+abbrev pub used : PlaceOrder → ℕ
+used o = length o.places + length o.free
+
+-- the place for the next key, with so many in order: the head of the chain, else the first one that was not used yet
+abbrev pub place_for : ℕ → List ℕ → ℕ
+place_for len [] = len
+place_for len (place ∷ free) = place
+
+abbrev pub next_place : PlaceOrder → ℕ
+next_place o = place_for (length o.places) o.free
+
+-- the free places, from the head of the chain
+abbrev pub free_places : LinkState → Chain → List ℕ
+free_places l chain = around (next_at l) chain.head chain.len
+
+-- the places in order are these, and those in the chain are those: the ones that were used, each of them once
+pub record IsOrderOf (l : LinkState) (newest : Option ℕ) (len : ℕ) (chain : Chain) (places free : List ℕ) : Type 0 where
+  pub queue : IsQueue l newest len places
+  pub chained : free_places l chain ≡ free
+  pub apart : AllApart (places ++ free)
+  pub below : AllBelow (length places + length free) (places ++ free)
+  pub within : length places + length free ≤ length l.slots
+
+-- the links hold the order and the chain as they should
+abbrev pub IsOrder : LinkState → Option ℕ → ℕ → Chain → Type 0
+IsOrder l newest len chain = IsOrderOf l newest len chain (slots_from l newest len) (free_places l chain)
+
+-- what callers may rely on: no place stands twice, each was used, and no more were used than there are
+pub record IsWholeOrder (o : PlaceOrder) : Type 0 where
+  pub apart : AllApart (o.places ++ o.free)
+  pub below : AllBelow (used o) (o.places ++ o.free)
+  pub within : used o ≤ o.limit
+  pub countable : o.limit < 2 ^ 64

@@ -1,0 +1,62 @@
+-- Small and Main over one set of links, as the two lists that they are.
+use Rattle.std.specs.Prelude.{◌≡◌, ℕ, Bool, true, false, not, ◌&&◌, ◌==◌, List, map, length, Option, Some, None}
+use Rattle.std.specs.List.{filter, list_any}
+use Rattle.clock2q_queues.specs.Ages.{Age, is_promoted}
+use Rattle.clock2q_queues.specs.Rings.{has}
+use Rattle.clock2q_queues.specs.Links.{LinkState, standing_at}
+use Rattle.clock2q_queues.specs.Small.{IsSmallQueue, small_slots, small_entries}
+use Rattle.clock2q_queues.specs.MainRing.{IsMainRing, main_slots, main_entries}
+use Rattle.clock2q_queues.specs.declared.links.Standing.{Standing}
+use Rattle.clock2q_queues.specs.declared.links.Standing.TheVariants.{Free, Young, Old, Main}
+use Rattle.clock2q_queues.specs.declared.main_ring.MainRing.{MainRing}
+use Rattle.clock2q_queues.specs.declared.small.Small.{Small}
+
+-- Small newest first and Main from the hand, each slot with its age or its bit; how many slots and window places there are, how often links were accessed, and how often the hand looked
+pub record QueueState : Type 0 where
+  pub small : List (ℕ × Age)
+  pub main : List (ℕ × Bool)
+  pub slots : ℕ
+  pub window : ℕ
+  pub accesses : ℕ
+  pub inspections : ℕ
+
+-- both queues, as the links hold them
+abbrev pub queues_shown : LinkState → Small → MainRing → QueueState
+queues_shown l small main = record {
+  small = small_entries l small;
+  main = main_entries l main;
+  slots = length l.slots;
+  window = length l.places;
+  accesses = l.accesses;
+  inspections = l.inspections;
+}
+
+-- the links hold both queues, and any other slot stands nowhere
+pub record AreQueues (l : LinkState) (s : Small) (m : MainRing) : Type 0 where
+  pub small : IsSmallQueue l s
+  pub main : IsMainRing l m
+  pub elsewhere : (t : ℕ) → has t (small_slots l s) ≡ false → has t (main_slots l m) ≡ false → standing_at l t ≡ Free
+
+-- the slots of a queue's entries
+abbrev pub slots_of : {X : Type 0} → List (ℕ × X) → List ℕ
+slots_of entries = map (λ e. e.0) entries
+
+-- a queue without a slot
+abbrev pub without_slot : {X : Type 0} → ℕ → List (ℕ × X) → List (ℕ × X)
+without_slot slot entries = filter (λ e. not (e.0 == slot)) entries
+
+-- whether a hit on a slot sets a bit of Main that was clear
+abbrev pub sets_bit : ℕ → List (ℕ × Bool) → Bool
+sets_bit slot main = list_any (λ e. (e.0 == slot) && not e.1) main
+
+-- where a slot stands tells which queue has it: at most one does
+abbrev pub IsStanding : Standing → ℕ → QueueState → Type 0
+IsStanding Free slot q = (has slot (slots_of q.small) ≡ false) × (has slot (slots_of q.main) ≡ false)
+IsStanding (Young place) slot q = (has slot (slots_of q.small) ≡ true) × (has slot (slots_of q.main) ≡ false)
+IsStanding Old slot q = (has slot (slots_of q.small) ≡ true) × (has slot (slots_of q.main) ≡ false)
+IsStanding Main slot q = (has slot (slots_of q.small) ≡ false) × (has slot (slots_of q.main) ≡ true)
+
+-- whether Small's oldest slot goes on to Main rather than out
+abbrev pub tail_promoted : Option (ℕ × Age) → Bool
+tail_promoted None = false
+tail_promoted (Some e) = is_promoted e.1

@@ -1,0 +1,78 @@
+-- Small as a list, newest first, of slots with their ages, and what an admission makes of it.
+use Rattle.std.specs.Prelude.{◌≡◌, ℕ, ◌+◌, ◌-◌, ◌^◌, ◌<◌, Bool, true, false, nat_lt, ◌==◌, if◌then◌else◌, List, ◌∷◌, map, length, Option, Some, None}
+use Rattle.std.specs.List.{last_or}
+use Rattle.clock2q_queues.specs.Ages as ages
+use Rattle.clock2q_queues.specs.Ages.{Age, grown, touched}
+use Rattle.clock2q_queues.specs.Rings.{has}
+use Rattle.clock2q_queues.specs.Links.{LinkState, IsQueue, IsSameElsewhere, slots_from, next_at, previous_at, standing_at, bit_at, place_at}
+use Rattle.clock2q_queues.specs.declared.links.Standing.{Standing}
+use Rattle.clock2q_queues.specs.declared.links.Standing.TheVariants.{Free, Young, Old, Main}
+use Rattle.clock2q_queues.specs.declared.small.Small.{Small}
+
+-- where the cursor goes from a place: to the next one, and from the last to the first
+abbrev pub moved_on : ℕ → ℕ → ℕ
+moved_on window cursor = if nat_lt (cursor + 1) window then cursor + 1 else 0
+
+-- how many admissions the cursor made since it stood on a place: each moved it on by one
+abbrev pub admissions_since : ℕ → ℕ → ℕ → ℕ
+admissions_since window cursor place = if nat_lt place cursor then cursor - 1 - place else cursor + window - 1 - place
+
+-- the age of a slot that stands in Small, with its bit
+abbrev pub age_of : ℕ → ℕ → Standing → Bool → Age
+age_of window cursor (Young place) bit = ages.Young (admissions_since window cursor place)
+age_of window cursor Old bit = ages.Old bit
+age_of window cursor Free bit = ages.Old bit
+age_of window cursor Main bit = ages.Old bit
+
+abbrev pub age_at : LinkState → ℕ → ℕ → Age
+age_at l cursor slot = age_of (length l.places) cursor (standing_at l slot) (bit_at l slot)
+
+-- the slots of Small, newest first
+abbrev pub small_slots : LinkState → Small → List ℕ
+small_slots l small = slots_from l small.newest small.len
+
+-- each with its age
+abbrev pub small_entries : LinkState → Small → List (ℕ × Age)
+small_entries l small = map (λ s. (s, age_at l small.cursor s)) (small_slots l small)
+
+-- a slot stands in Small
+abbrev pub IsInSmall : Standing → Type 0
+IsInSmall (Young place) = Unit {0}
+IsInSmall Old = Unit {0}
+IsInSmall Free = ⊥
+IsInSmall Main = ⊥
+
+-- these slots are Small's and stand there, and the window's places hold its young ones
+pub record IsSmall (l : LinkState) (small : Small) (slots : List ℕ) : Type 0 where
+  pub queue : IsQueue l small.newest small.len slots
+  pub ends : small.oldest ≡ last_or None slots
+  pub standing : (t : ℕ) → has t slots ≡ true → IsInSmall (standing_at l t)
+  pub placed : (t place : ℕ) → has t slots ≡ true → standing_at l t ≡ Young place → (place < length l.places) × (place_at l place ≡ Some t)
+  pub occupied : (place t : ℕ) → place_at l place ≡ Some t → (has t slots ≡ true) × (standing_at l t ≡ Young place)
+  pub cursor_in : 0 < length l.places → small.cursor < length l.places
+  pub countable_places : length l.places < 2 ^ 32
+
+-- the links hold Small as they should
+abbrev pub IsSmallQueue : LinkState → Small → Type 0
+IsSmallQueue l small = IsSmall l small (small_slots l small)
+
+-- a new slot stands in front, and all young ones grow older
+abbrev pub admitted : ℕ → ℕ → List (ℕ × Age) → List (ℕ × Age)
+admitted window slot small = (slot, ages.Young 0) ∷ map (λ e. (e.0, grown window e.1)) small
+
+-- after a hit on a slot
+abbrev pub small_hit_at : ℕ → List (ℕ × Age) → List (ℕ × Age)
+small_hit_at slot small = map (λ e. if e.0 == slot then (e.0, touched e.1) else e) small
+
+-- whether it is this slot that is there
+abbrev pub is_there : Option ℕ → ℕ → Bool
+is_there None slot = false
+is_there (Some there) slot = slot == there
+
+-- the slot at the cursor, if there is one, became old with a clear bit
+pub record GrowsOld (cursor : ℕ) (old new : LinkState) : Type 0 where
+  pub nexts : (t : ℕ) → next_at new t ≡ next_at old t
+  pub previouses : (t : ℕ) → previous_at new t ≡ previous_at old t
+  pub standings : (t : ℕ) → standing_at new t ≡ (if is_there (place_at old cursor) t then Old else standing_at old t)
+  pub bits : (t : ℕ) → bit_at new t ≡ (if is_there (place_at old cursor) t then false else bit_at old t)
+  pub rest : IsSameElsewhere old new

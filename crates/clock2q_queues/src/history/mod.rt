@@ -1,0 +1,143 @@
+//! The history of the keys that went out of Small, which is called Ghost.
+ghost use Rattle.std.specs.Prelude.{◌≡◌, ℕ, ◌+◌, ◌^◌, ◌<◌, ◌≤◌, false, [], ◌∷◌, take, length, IfOk};
+ghost use Rattle.clock2q_handles.specs.Homes.{candidates};
+ghost use Rattle.clock2q_handles.specs.TableStep.{made_for};
+ghost use Rattle.clock2q_queues.specs.Order.{IsWholeOrder, used};
+ghost use Rattle.clock2q_queues.specs.History.{IsIndex, IsWholeHistory, MakesPlace, Empties, remembered, is_remembered, forgotten, HasHash};
+
+mod keys;
+mod order;
+#[cfg(test)]
+mod tests;
+
+use clock2q_handles::Table;
+use keys::Keys;
+use order::Order;
+use std::alloc::{AllocError, Allocator, Global};
+use std::marker::Model;
+
+/// A history of keys, the newest in front, of a limited length. Each key stands at a place with
+/// its hash, and an index has that place under the hash.
+#[derive(Drop)]
+pub struct History<K: Eq + Drop, A: Allocator = Global> {
+    index: Table<usize, A>,
+    order: Order<A>,
+    keys: Keys<K, A>,
+}
+
+impl<K: Eq + Drop, A: Allocator> Model for History<K, A> {
+    ghost use Rattle.clock2q_queues.specs.History.{Remembered, remembered_code, remembered, entries_of, accesses_of, IsHistory};
+
+    ghost Value = { Remembered K };
+
+    ghost coded = { remembered_code K.code };
+
+    ghost view = { λ h. remembered (entries_of h.keys.remembered h.order.places) h.order.limit h.index.homes (accesses_of h.order h.keys) h.keys.questions };
+
+    ghost invariant = { λ h. IsHistory K.eq h.index.homes h.order h.keys };
+}
+
+impl<K: Eq + Drop, A: Allocator + Copy> History<K, A> {
+    /// A history with no key, for so many. It takes all the memory that it will ever have.
+    pub fn new(alloc: A, limit: usize) -> Result<Self, AllocError>
+        requires { limit < 2 ^ 24 }
+        ensures { IfOk result (λ h. h ≡ remembered [] limit (made_for limit) 0 0) }
+    {
+        let Ok(index) = Table::with_capacity(alloc, limit) else {
+            return Err(AllocError);
+        };
+        Ok(History {
+            index,
+            order: Order::new(alloc, limit)?,
+            keys: Keys::new(alloc, limit)?,
+        })
+    }
+
+    /// Puts a key in front. Where the history is full, the oldest key is forgotten.
+    pub fn push(&mut self, hash: u64, key: K)
+        requires absent { is_remembered K.eq key self.old.entries ≡ false }
+        ensures entries { self.new.entries ≡ take self.old.limit ((hash, key) ∷ self.old.entries) }
+        ensures limit { self.new.limit ≡ self.old.limit }
+        ensures accesses { self.new.accesses ≤ self.old.accesses + 12 }
+        ensures questions { self.new.questions ≡ self.old.questions }
+    {
+        if self.order.limit() == 0 {
+            return;
+        }
+        let place = make_place(&mut self.index, &mut self.order, &self.keys);
+        self.keys.write(place, hash, key);
+        // (the index has room for every place, so it asks for no hash)
+        let _ = self.index.insert(hash, place, |_| unreachable!());
+    }
+}
+
+impl<K: Eq + Drop, A: Allocator> History<K, A> {
+    /// How many keys are remembered.
+    pub fn len(&self) -> usize
+        ensures len { result ≡ length self.now.entries }
+        ensures whole { IsWholeHistory K.eq self.now }
+    {
+        self.order.len()
+    }
+
+    /// Forgets a key, and tells whether it was remembered.
+    pub fn discard(&mut self, hash: u64, key: &K) -> bool
+        requires { HasHash K.eq hash key.now self.old.entries }
+        ensures found { result ≡ is_remembered K.eq key.now self.old.entries }
+        ensures entries { self.new.entries ≡ forgotten K.eq key.now self.old.entries }
+        ensures limit { self.new.limit ≡ self.old.limit }
+        ensures accesses { self.new.accesses ≤ self.old.accesses + 12 }
+        ensures questions { self.new.questions ≤ self.old.questions + length (candidates self.old.index hash) }
+    {
+        let Some(place) = self.keys.find(self.index.get(hash), key) else {
+            return false;
+        };
+        self.index.remove(hash, place);
+        self.order.unlink(place);
+        true
+    }
+
+    /// Forgets every key.
+    pub fn clear(&mut self)
+        ensures entries { self.new.entries ≡ [] }
+        ensures limit { self.new.limit ≡ self.old.limit }
+        ensures accesses { self.new.accesses ≡ self.old.accesses }
+        ensures questions { self.new.questions ≡ self.old.questions }
+    {
+        empty(&mut self.index, &self.keys);
+        self.order.clear();
+        self.keys.clear();
+    }
+}
+
+// Puts a place in front for a new key: where every place has one, that of the oldest key, which
+// goes out of the index.
+fn make_place<K: Drop, A: Allocator>(
+    index: &mut Table<usize, A>,
+    order: &mut Order<A>,
+    keys: &Keys<K, A>,
+) -> usize
+    requires indexed { IsIndex index.old.homes keys.now.remembered order.old.places }
+    requires as_many { length keys.now.remembered ≡ used order.old }
+    requires some { 0 < order.old.limit }
+    requires slots { 0 < length index.old.homes }
+    ensures made { MakesPlace index.old.homes index.new.homes order.old order.new keys.now.remembered result }
+    ensures whole { IsWholeOrder order.new }
+{
+    if order.len() < order.limit() {
+        return order.push();
+    }
+    let place = order.reuse_oldest();
+    index.remove(keys.hash(place), place);
+    place
+}
+
+// Takes every key out of the index.
+fn empty<K: Drop, A: Allocator>(index: &mut Table<usize, A>, keys: &Keys<K, A>)
+    requires slots { 0 < length keys.now.remembered → 0 < length index.old.homes }
+    ensures emptied { Empties index.old.homes index.new.homes keys.now.remembered (length keys.now.remembered) }
+{
+    for place in 0..keys.len() {
+        index.remove(keys.hash(place), place);
+    }
+}

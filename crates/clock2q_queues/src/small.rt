@@ -1,0 +1,195 @@
+//! Small: the queue of the newest residents, of which the last admitted ones are young.
+ghost use Rattle.std.specs.Prelude.{◌≡◌, ℕ, ◌+◌, ◌^◌, ◌<◌, ◌≤◌, ◌==◌, false, true, not, [], ◌∷◌, length, None};
+ghost use Rattle.std.specs.List.{filter, last_or};
+ghost use Rattle.clock2q_queues.specs.Ages.{is_promoted};
+ghost use Rattle.clock2q_queues.specs.Rings.{has};
+ghost use Rattle.clock2q_queues.specs.Ends.{end_after, place_freed};
+ghost use Rattle.clock2q_queues.specs.Links.{LinkState, IsBlank, IsSameBut, accessed, standing_at};
+
+use crate::links::{Links, Record, Standing};
+use std::alloc::Allocator;
+
+/// A queue of slots, the newest in front. The window's places hold the slots that are young, and
+/// the cursor stands on the place of the next admission.
+#[derive(Drop)]
+pub struct Small {
+    newest: Option<usize>,
+    oldest: Option<usize>,
+    len: usize,
+    cursor: usize,
+}
+
+impl Small {
+    ghost use Rattle.clock2q_queues.specs.Small.{IsSmallQueue, IsInSmall, GrowsOld, age_at, small_slots, small_entries, small_hit_at, moved_on, admitted};
+
+    /// A queue with no slot.
+    pub fn new() -> Self
+        ensures empty { (l : LinkState) → small_entries l result ≡ [] }
+        ensures whole { (l : LinkState) → IsBlank l → IsSmallQueue l result }
+    {
+        Small {
+            newest: None,
+            oldest: None,
+            len: 0,
+            cursor: 0,
+        }
+    }
+
+    /// How many slots there are.
+    pub fn len(&self) -> usize
+        ensures { (l : LinkState) → IsSmallQueue l self.now → result ≡ length (small_slots l self.now) }
+    {
+        self.len
+    }
+
+    #[cfg(test)]
+    pub(crate) fn cursor(&self) -> usize {
+        self.cursor
+    }
+
+    /// The oldest slot.
+    pub fn tail(&self) -> Option<usize>
+        ensures { (l : LinkState) → IsSmallQueue l self.now → result ≡ last_or None (small_slots l self.now) }
+    {
+        self.oldest
+    }
+
+    // Makes old, with a clear bit, the slot whose place is used next.
+    fn free_place<A: Allocator>(&self, links: &mut Links<A>)
+        requires whole { IsSmallQueue links.old self.now }
+        requires window { 0 < length links.old.places }
+        ensures older { GrowsOld self.now.cursor links.old links.new }
+        ensures accesses { links.new.accesses ≤ links.old.accesses + 3 }
+    {
+        if let Some(slot) = links.place(self.cursor) {
+            links.set_standing(slot, Standing::Old);
+            links.set_bit(slot, false);
+        }
+    }
+
+    // The place after the cursor's.
+    fn next_place(&self, window: usize) -> usize
+        requires { self.now.cursor < window }
+        ensures { result ≡ moved_on window self.now.cursor }
+    {
+        if self.cursor + 1 < window {
+            self.cursor + 1
+        } else {
+            0
+        }
+    }
+
+    /// Admits a slot: it stands in front, young, and all other young ones grow older.
+    pub fn push<A: Allocator>(&mut self, links: &mut Links<A>, slot: usize)
+        requires whole { IsSmallQueue links.old self.old }
+        requires slot_in { slot < length links.old.slots }
+        requires absent { has slot (small_slots links.old self.old) ≡ false }
+        requires window { 0 < length links.old.places }
+        ensures whole { IsSmallQueue links.new self.new }
+        ensures entries { small_entries links.new self.new
+            ≡ admitted (length links.old.places) slot (small_entries links.old self.old) }
+        ensures others { IsSameBut (slot ∷ small_slots links.old self.old) links.old links.new }
+        ensures window { length links.new.places ≡ length links.old.places }
+        ensures looks { links.new.inspections ≡ links.old.inspections }
+        ensures accesses { links.new.accesses ≤ links.old.accesses + 12 }
+    {
+        self.free_place(links);
+        links.set_place(self.cursor, Some(slot));
+        let standing = Standing::Young(self.cursor as u32);
+        match self.newest {
+            None => {
+                let alone = Record {
+                    previous: slot,
+                    next: slot,
+                    standing,
+                };
+                links.write(slot, alone);
+                self.oldest = Some(slot);
+            }
+            Some(newest) => links.attach(slot, newest, standing),
+        }
+        self.newest = Some(slot);
+        self.cursor = self.next_place(links.window());
+        self.len += 1;
+    }
+
+    /// Takes a slot out. If it was young, its place is free.
+    pub fn unlink<A: Allocator>(&mut self, links: &mut Links<A>, slot: usize)
+        requires whole { IsSmallQueue links.old self.old }
+        requires present { has slot (small_slots links.old self.old) ≡ true }
+        ensures whole { IsSmallQueue links.new self.new }
+        ensures entries { small_entries links.new self.new
+            ≡ filter (λ e. not (e.0 == slot)) (small_entries links.old self.old) }
+        ensures freed { standing_at links.new slot ≡ Standing.Free }
+        ensures others { IsSameBut (small_slots links.old self.old) links.old links.new }
+        ensures window { length links.new.places ≡ length links.old.places }
+        ensures looks { links.new.inspections ≡ links.old.inspections }
+        ensures accesses { links.new.accesses ≤ links.old.accesses + 12 }
+    {
+        let was = links.detach(slot);
+        leave_place(links, was.standing);
+        self.len -= 1;
+        self.newest = end_after(self.newest, slot, self.len, was.next);
+        self.oldest = end_after(self.oldest, slot, self.len, was.previous);
+    }
+
+    /// Whether a slot goes on to Main rather than out: it is old, and its bit is set.
+    pub fn is_promoted<A: Allocator>(&self, links: &mut Links<A>, slot: usize) -> bool
+        requires slot_in { slot < length links.old.slots }
+        requires in_small { IsInSmall (standing_at links.old slot) }
+        ensures value { result ≡ is_promoted (age_at links.old self.now.cursor slot) }
+        ensures counted { links.new ≡ accessed links.old }
+    {
+        match links.read(slot).standing {
+            Standing::Old => links.bit(slot),
+            _ => false,
+        }
+    }
+
+    /// Records a hit: sets the slot's bit, if it is old.
+    pub fn hit<A: Allocator>(&self, links: &mut Links<A>, slot: usize)
+        requires whole { IsSmallQueue links.old self.now }
+        requires present { has slot (small_slots links.old self.now) ≡ true }
+        ensures whole { IsSmallQueue links.new self.now }
+        ensures entries { small_entries links.new self.now ≡ small_hit_at slot (small_entries links.old self.now) }
+        ensures others { IsSameBut (slot ∷ []) links.old links.new }
+        ensures standings { (t : ℕ) → standing_at links.new t ≡ standing_at links.old t }
+        ensures places { links.new.places ≡ links.old.places }
+        ensures looks { links.new.inspections ≡ links.old.inspections }
+        ensures accesses { links.new.accesses ≡ links.old.accesses + 1 }
+    {
+        if let Standing::Old = links.read(slot).standing {
+            links.set_bit(slot, true);
+        }
+    }
+
+    /// Leaves no slot in the queue. The records and the places are reset by the links.
+    pub fn clear(&mut self)
+        ensures empty { (l : LinkState) → small_entries l self.new ≡ [] }
+        ensures whole { (l : LinkState) → IsBlank l → IsSmallQueue l self.new }
+    {
+        *self = Small::new();
+    }
+}
+
+// Empties the place of a slot that was young.
+fn leave_place<A: Allocator>(links: &mut Links<A>, standing: Standing)
+    requires { (place : ℕ) → standing ≡ Standing.Young place → place < length links.old.places }
+    ensures { links.new ≡ place_freed standing links.old }
+{
+    if let Standing::Young(place) = standing {
+        links.set_place(place as usize, None);
+    }
+}
+
+// An end of the queue after a slot left it: where the slot stood there, its neighbour, if there
+// is another slot.
+fn end_after(end: Option<usize>, slot: usize, others: usize, neighbour: usize) -> Option<usize>
+    ensures { result ≡ end_after end slot others neighbour }
+{
+    if end == Some(slot) {
+        (others > 0).then_some(neighbour)
+    } else {
+        end
+    }
+}
