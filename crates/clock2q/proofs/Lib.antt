@@ -9,5 +9,7 @@ pub mod Residents
 pub mod Serving
 pub mod Spelling
 pub mod Transferring
+pub mod Weights
+pub mod Whole
 pub mod WorkedRuns
 pub mod WorkedTexts

@@ -73,7 +73,7 @@ module _ {K : Type 0} (is : K → Bool) where
       (elim (is e.key) as (λ b. option_map (λ x. x.slot) (cond b (Some e) (find (λ x. is x.key) small)) ≡ None → (if b then with_age e (touched e.age) else e) ∷ small_hit is small ≡ e ∷ small)
       [ true ↦ λ some. cc | false ↦ λ none. ap (λ xs. e ∷ xs) (absent_in_small small none) ]) absent
 
-neither : (o p : Option ℕ) → option_or o p ≡ None → (o ≡ None) × (p ≡ None)
+pub neither : (o p : Option ℕ) → option_or o p ≡ None → (o ≡ None) × (p ≡ None)
 neither None p e = (refl, e)
 neither (Some x) p e = cc
 

@@ -335,7 +335,7 @@ last_gone l count (s ∷ ss) slot k n e =
     let m : count ≡ length xs + 1 = n ∙ ap (λ (z : List ℕ). length z) p.1 ∙ length-append xs (slot ∷ []) in
     ap (λ z. then_some (ltb 0 (z - 1)) (previous_at l slot)) m ∙ last_of_front l xs slot k'.ring ∙ ap (λ z. last_or None z) (sym w)
 
-pub last_some : (ss : List ℕ) (s : ℕ) → (x : ℕ) × (last_or None (s ∷ ss) ≡ Some x)
+pub last_some : {X : Type 0} (ss : List X) (s : X) → (x : X) × (last_or None (s ∷ ss) ≡ Some x)
 last_some [] s = (s, refl)
 last_some (t ∷ ss) s = last_some ss t
 

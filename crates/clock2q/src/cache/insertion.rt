@@ -10,10 +10,12 @@ impl<K: Hash + Eq + Drop, V: Drop, S: BuildHasher, A: Allocator> Cache<K, V, S, 
     ghost use Rattle.std.specs.List.{list_any, last_or};
     ghost use Rattle.clock2q.specs.Shares.{main_share};
     ghost use Rattle.clock2q_queues.specs.Ages.{is_promoted};
-    ghost use Rattle.clock2q.specs.Machine.{goes_to_main, into_main, into_small, forgotten, inserted, stored};
+    ghost use Rattle.clock2q.specs.Cache.{known_count};
+    ghost use Rattle.clock2q.specs.Machine.{slot_of, goes_to_main, into_main, into_small, forgotten, inserted, stored};
 
     /// Inserts a key that is not resident.
     pub(crate) fn insert(&mut self, key: K, value: V)
+        requires { slot_of (K.eq key) self.old.machine ≡ None }
         ensures { self.new.machine ≡ inserted (K.eq key) key value self.old.machine }
     {
         let known = self.forget(&key);
@@ -43,6 +45,7 @@ impl<K: Hash + Eq + Drop, V: Drop, S: BuildHasher, A: Allocator> Cache<K, V, S, 
 
     /// Inserts a key into Main: in the slot of its victim where it has its share, else in a new slot.
     fn insert_into_main(&mut self, key: K, value: V)
+        requires absent { known_count (K.eq key) self.old.machine ≡ 0 }
         ensures { self.new.machine ≡ (let p = into_main key self.old.machine in stored p.slot value p.machine) }
     {
         if self.main.len() == self.shares.main() {
@@ -54,7 +57,8 @@ impl<K: Hash + Eq + Drop, V: Drop, S: BuildHasher, A: Allocator> Cache<K, V, S, 
 
     /// Inserts a key into a full Main, in place of its victim.
     fn replace_victim(&mut self, key: K, value: V)
-        requires { length self.old.machine.main ≡ main_share self.old.machine.shares }
+        requires absent { known_count (K.eq key) self.old.machine ≡ 0 }
+        requires full { length self.old.machine.main ≡ main_share self.old.machine.shares }
         ensures { self.new.machine ≡ (let p = into_main key self.old.machine in stored p.slot value p.machine) }
     {
         let victim = queues::take_victim(&mut self.main);
@@ -65,7 +69,8 @@ impl<K: Hash + Eq + Drop, V: Drop, S: BuildHasher, A: Allocator> Cache<K, V, S, 
 
     /// Inserts a key into Main, which has room, in a new slot.
     fn join_main(&mut self, key: K, value: V)
-        requires { length self.old.machine.main < main_share self.old.machine.shares }
+        requires absent { known_count (K.eq key) self.old.machine ≡ 0 }
+        requires room { length self.old.machine.main < main_share self.old.machine.shares }
         ensures { self.new.machine ≡ (let p = into_main key self.old.machine in stored p.slot value p.machine) }
     {
         let slot = self.values.len();
@@ -75,7 +80,8 @@ impl<K: Hash + Eq + Drop, V: Drop, S: BuildHasher, A: Allocator> Cache<K, V, S, 
 
     /// Inserts a key into Small: in a new slot while there is one, else in that of its tail or of Main's victim.
     fn insert_into_small(&mut self, key: K, value: V)
-        requires { goes_to_main false self.old.machine ≡ false }
+        requires absent { known_count (K.eq key) self.old.machine ≡ 0 }
+        requires small { goes_to_main false self.old.machine ≡ false }
         ensures { self.new.machine ≡ (let p = into_small key self.old.machine in stored p.slot value p.machine) }
     {
         if self.values.len() < self.shares.capacity() {
@@ -89,6 +95,7 @@ impl<K: Hash + Eq + Drop, V: Drop, S: BuildHasher, A: Allocator> Cache<K, V, S, 
 
     /// Inserts a key into Small, which has room, in a new slot.
     fn join_small(&mut self, key: K, value: V)
+        requires absent { known_count (K.eq key) self.old.machine ≡ 0 }
         requires room { length self.old.machine.small < self.old.machine.shares.small }
         requires vacant { length self.old.machine.values < self.old.machine.shares.capacity }
         ensures { self.new.machine ≡ (let p = into_small key self.old.machine in stored p.slot value p.machine) }
@@ -108,6 +115,7 @@ impl<K: Hash + Eq + Drop, V: Drop, S: BuildHasher, A: Allocator> Cache<K, V, S, 
 
     /// Inserts a key into Small in the slot of its tail, which goes out into the history.
     fn evict_tail(&mut self, key: K, value: V)
+        requires absent { known_count (K.eq key) self.old.machine ≡ 0 }
         requires some { 0 < length self.old.machine.small }
         requires full { self.old.machine.shares.capacity ≤ length self.old.machine.values }
         requires out { IfSome (last_or None self.old.machine.small) (λ tail. is_promoted tail.age ≡ false) }
@@ -123,6 +131,7 @@ impl<K: Hash + Eq + Drop, V: Drop, S: BuildHasher, A: Allocator> Cache<K, V, S, 
 
     /// Inserts a key into Small in the slot of Main's victim, while Small's tail goes on to Main.
     fn promote_tail(&mut self, key: K, value: V)
+        requires absent { known_count (K.eq key) self.old.machine ≡ 0 }
         requires some { 0 < length self.old.machine.small }
         requires full { self.old.machine.shares.capacity ≤ length self.old.machine.values }
         requires on { IfSome (last_or None self.old.machine.small) (λ tail. is_promoted tail.age ≡ true) }

@@ -43,7 +43,7 @@ impl<K: Hash + Eq, V, S: BuildHasher, A: Allocator> Model for Cache<K, V, S, A> 
 
     ghost view = { λ c. record { machine = machine_of c.shares c.small.items c.main.items c.history.items c.values.items } };
 
-    ghost invariant = { λ c. IsKept (machine_of c.shares c.small.items c.main.items c.history.items c.values.items) (vec_capacity c.small) (vec_capacity c.main) (vec_capacity c.history) (vec_capacity c.values) };
+    ghost invariant = { λ c. IsKept K.eq (machine_of c.shares c.small.items c.main.items c.history.items c.values.items) (vec_capacity c.small) (vec_capacity c.main) (vec_capacity c.history) (vec_capacity c.values) };
 }
 
 impl<K: Hash + Eq + Drop, V: Drop, A: Allocator + Clone> Cache<K, V, DefaultHasher, A> {
@@ -110,7 +110,7 @@ impl<K: Hash + Eq, V, S: BuildHasher, A: Allocator> Cache<K, V, S, A> {
     /// How many keys the cache holds.
     pub fn len(&self) -> usize
         ensures count { result ≡ resident_count self.now.machine }
-        ensures whole { IsWhole self.now.machine }
+        ensures whole { IsWhole K.eq self.now.machine }
     {
         self.small.len() + self.main.len()
     }
