@@ -3,6 +3,7 @@ pub mod Calling
 pub mod Cutting
 pub mod Kept
 pub mod Keyed
+pub mod Lasting
 pub mod Numbers
 pub mod Placed
 pub mod Residents

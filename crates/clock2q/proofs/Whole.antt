@@ -17,7 +17,7 @@ use Rattle.clock2q_queues.proofs.Joining.{last_some}
 use Rattle.clock2q.proofs.Weights.{sum_by-same, sum_by-filter-le, count_by-filtered, count_by-not_found, weight-small_hit, weight-admitted, weight-main_hit, weight-from_victim, weight-behind, weight-last, length-admitted, length-from_victim}
 use Rattle.clock2q.proofs.Residents.{slot_in_small, slot_in_main, slot_among, neither}
 
-abbrev one_if : Bool → ℕ
+abbrev pub one_if : Bool → ℕ
 one_if b = cond b 1 0
 
 -- a slot that stands somewhere was made
@@ -41,10 +41,10 @@ once_more slot made n once =
       ]
     ]
 
-some_is : {X : Type 0} (x y : X) → Some x ≡ Some y → x ≡ y
+pub some_is : {X : Type 0} (x y : X) → Some x ≡ Some y → x ≡ y
 some_is x y e = cc
 
-none_is : {X : Type 0} (x : X) → None ≡ Some x → ⊥
+pub none_is : {X : Type 0} (x : X) → None ≡ Some x → ⊥
 none_is x e = cc
 
 no_vacancy : (free : List ℕ) (made capacity : ℕ) → vacant_slot free made capacity ≡ None → (length free ≡ 0) × (capacity ≤ made)
