@@ -55,6 +55,10 @@ fn runs(rt: HostRuntime) -> Result<(), Fail> {
 
 #[test]
 fn refusals(rt: HostRuntime) -> Result<(), Fail> {
+    let largest = NonZeroUsize::new(MAX_CAPACITY).ok_or("not zero")?;
+    let cache = Cache::<u64, u64, _, _>::new(rt.alloc(), largest)?;
+    assert_eq!(rt; cache.capacity(), 16_777_215);
+    assert!(rt; cache.is_empty());
     let too_large = NonZeroUsize::new(MAX_CAPACITY + 1).ok_or("not zero")?;
     match Cache::<u64, u64, _, _>::new(rt.alloc(), too_large) {
         Ok(_) => assert!(rt; false, "made"),

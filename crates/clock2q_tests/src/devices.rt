@@ -48,6 +48,7 @@ struct Writer {
     fails_at: usize,
     fault: Fault,
     calls: usize,
+    flushes: usize,
 }
 
 impl Write for Writer {
@@ -67,6 +68,7 @@ impl Write for Writer {
     }
 
     fn flush(&mut self) -> IoResult<()> {
+        self.flushes = self.flushes.saturating_add(1);
         match self.fault {
             Fault::NoFlush => Err(Error::from(ErrorKind::Other)),
             _ => Ok(()),
@@ -123,6 +125,7 @@ fn written(
         fails_at,
         fault,
         calls: 0,
+        flushes: 0,
     });
     let outcome = serve(alloc, &mut reader, &mut writer);
     (outcome, writer.into_inner())
@@ -148,15 +151,18 @@ fn failing_writes(rt: HostRuntime) {
                     "call {fails_at}"
                 );
                 assert_eq!(rt; writer.calls, fails_at + 1, "tried again");
+                assert_eq!(rt; writer.flushes, 0, "flushed after call {fails_at}");
             }
             let (outcome, writer) = written(rt.alloc(), step, calls, fault);
             assert_eq!(rt; outcome, Ok(()));
             assert_eq!(rt; writer.taken.as_slice(), REPLIES);
             assert_eq!(rt; writer.calls, calls);
+            assert_eq!(rt; writer.flushes, 1);
         }
         let (outcome, writer) = written(rt.alloc(), step, calls, Fault::NoFlush);
         assert_eq!(rt; outcome, Err(ServeError::Write), "flush");
         assert_eq!(rt; writer.taken.as_slice(), REPLIES, "flush");
+        assert_eq!(rt; writer.flushes, 1, "flushed again");
     }
 }
 
@@ -166,6 +172,7 @@ fn devices(rt: HostRuntime) -> Result<(), Fail> {
     let mut block = [0u8; 4];
     let mut source = Device::new(b"abc".as_slice());
     assert_eq!(rt; source.read(&mut block), Ok(3));
+    assert_eq!(rt; block.as_slice(), b"abc\0".as_slice());
     assert_eq!(rt; source.read(&mut block), Ok(0));
     let mut sink = Device::new(Vec::new(rt.alloc()));
     assert_eq!(rt; sink.write(b"abc"), Ok(3));
@@ -173,4 +180,41 @@ fn devices(rt: HostRuntime) -> Result<(), Fail> {
     assert_eq!(rt; sink.into_inner().as_slice(), b"abc".as_slice());
     assert_eq!(rt; Failed.to_string(rt.alloc())?.as_str(), "device failed");
     Ok(())
+}
+
+// After a failure a device goes on where it stood.
+#[test]
+fn failing_devices(rt: HostRuntime) {
+    for kind in KINDS {
+        let mut block = [0u8; 8];
+        let mut source = Device::new(Reader {
+            left: b"abc",
+            step: 2,
+            fails_at: 1,
+            kind,
+            calls: 0,
+        });
+        assert_eq!(rt; source.read(&mut block), Ok(2), "{kind:?}");
+        assert_eq!(rt; source.read(&mut block), Err(Failed), "{kind:?}");
+        assert_eq!(rt; source.read(&mut block), Ok(1), "{kind:?}");
+        assert_eq!(rt; source.read(&mut block), Ok(0), "{kind:?}");
+    }
+    let rows = [
+        (Fault::Error(ErrorKind::Interrupted), Err(Failed), Ok(())),
+        (Fault::NothingTaken, Ok(0), Ok(())),
+        (Fault::NoFlush, Ok(1), Err(Failed)),
+    ];
+    for (fault, written, flushed) in rows {
+        let mut sink = Device::new(Writer {
+            taken: Vec::new(rt.alloc()),
+            step: 2,
+            fails_at: 1,
+            fault,
+            calls: 0,
+            flushes: 0,
+        });
+        assert_eq!(rt; sink.write(b"abc"), Ok(2), "{fault:?}");
+        assert_eq!(rt; sink.write(b"c"), written, "{fault:?}");
+        assert_eq!(rt; sink.flush(), flushed, "{fault:?}");
+    }
 }

@@ -25,7 +25,7 @@ fn lines(alloc: Global, row: &str) -> Result<String, AllocError> {
 }
 
 // Commands, and what they are answered. `;` stands for a line end.
-const ANSWERED: [(&str, &str); 9] = [
+const ANSWERED: [(&str, &str); 11] = [
     (
         "new 2; put 1 10; put 1 11; get 1; len",
         "ok; none; some 10; some 11; 1",
@@ -62,6 +62,11 @@ const ANSWERED: [(&str, &str); 9] = [
         "ok; none; some 18446744073709551615",
     ),
     ("new 00000000000000000002", "ok"),
+    (
+        "new 1; put 0 0; put 00 00000000000000000000001; contains 000; peek 0; len",
+        "ok; none; some 0; true; some 1; 1",
+    ),
+    ("new 16777215; capacity; is_empty", "ok; 16777215; true"),
 ];
 
 #[test]
@@ -79,49 +84,113 @@ fn answered(rt: HostRuntime) -> Result<(), Fail> {
     Ok(())
 }
 
+// More lines than one block of the input holds.
+#[test]
+fn many_lines(rt: HostRuntime) -> Result<(), Fail> {
+    let mut text = String::from_str(rt.alloc(), "new 2\nput 1 10\n")?;
+    let mut want = String::from_str(rt.alloc(), "ok\nnone\n")?;
+    for _ in 0..20_000 {
+        text.push_str("get 1\nget 2\n")?;
+        want.push_str("some 10\nnone\n")?;
+    }
+    let (outcome, written) = served(rt.alloc(), text.as_bytes());
+    assert_eq!(rt; outcome, Ok(()));
+    assert!(rt; written.as_slice() == want.as_bytes(), "other replies");
+    text.push_str("get\n")?;
+    let (outcome, written) = served(rt.alloc(), text.as_bytes());
+    assert_eq!(rt; outcome, Err(ServeError::BadLine(40_003)));
+    assert_eq!(rt; written.len(), 0);
+    Ok(())
+}
+
 // Texts, and the number of the first line that isn't a command in its place.
-const BAD_LINES: [(&[u8], usize); 41] = [
+const BAD_LINES: [(&[u8], usize); 64] = [
     (b"", 1),
     (b"\n", 1),
+    (b"\nnew 2", 1),
     (b"new 0", 1),
+    (b"new 000", 1),
     (b"new", 1),
+    (b"new ", 1),
+    (b"NEW 2", 1),
     (b"new 2 1", 1),
     (b"new two", 1),
+    (b"new +2", 1),
+    (b"new -2", 1),
     (b"len", 1),
+    (b"put 1 10\nnew 2", 1),
     (b" new 2", 1),
     (b"new  2", 1),
     (b"new 2 ", 1),
+    (b"new\t2", 1),
+    (b"new 2\0", 1),
     (b"new 2\r", 1),
     (b"new 2\r\nlen\r\n", 1),
     (b"new 18446744073709551616", 1),
+    (b"new 340282366920938463463374607431768211457", 1),
+    (b"new 2\nput", 2),
     (b"new 2\nput 1", 2),
+    (b"new 2\nput 1 ", 2),
     (b"new 2\nput 1 2 3", 2),
+    (b"new 2\nput  1 2", 2),
+    (b"new 2\nput 18446744073709551616 1", 2),
+    (b"new 2\nput 1 18446744073709551616", 2),
     (b"new 2\nnew 2", 2),
     (b"new 2\n\n", 2),
     (b"new 2\n\nlen\n", 2),
+    (b"new 2\nlen\n\n", 3),
     (b"new 2\nLEN", 2),
     (b"new 2\nlen 1", 2),
+    (b"new 2\nlen ", 2),
+    (b"new 2\n len", 2),
+    (b"new 2\nlen\r\n", 2),
+    (b"new 2\nlen\0", 2),
+    (b"new 2\nis_empty 1", 2),
+    (b"new 2\ncapacity 2", 2),
+    (b"new 2\npeek", 2),
+    (b"new 2\npeek 1 2", 2),
+    (b"new 2\ncontains", 2),
+    (b"new 2\ncontains 1 2", 2),
     (b"new 2\nget", 2),
     (b"new 2\nget ", 2),
     (b"new 2\nget +1", 2),
     (b"new 2\nget -1", 2),
     (b"new 2\nget 1x", 2),
     (b"new 2\nget 0x1", 2),
+    (b"new 2\nget 1_0", 2),
+    (b"new 2\nget 1\0", 2),
     (b"new 2\nget \xFF", 2),
+    (b"new 2\nget \xD9\xA1", 2),
     (b"new 2\n\xFF", 2),
     (b"new 2\n\0", 2),
     (b"new 2\nget\t1", 2),
-    (b"new 2\nget_at 0", 2),
-    (b"new 2\nretain", 2),
-    (b"new 2\nretain 012", 2),
-    (b"new 2\nprefill", 2),
-    (b"new 2\nprefill 1  2", 2),
-    (b"new 2\ntry 1 FAIL", 2),
+    (b"new 2\nbogus\nworse\n", 2),
     (b"new 2\nlen\nget 18446744073709551616", 3),
+    (b"new 2\nlen\nget 18446744073709551616\nget", 3),
     (b"new 16777216\nbogus", 2),
-    (b"new 2\nclear", 2),
-    (b"new 2\nremove 1", 2),
-    (b"new 2\nget_at 0 1", 2),
+    (b"new 18446744073709551615\nlen\nbogus", 3),
+];
+
+// Lines of commands that the program does not have yet, well or badly written.
+const NOT_THERE: [&str; 18] = [
+    "get_at 0",
+    "get_at 0 1",
+    "set 1 2",
+    "with 1 2",
+    "try 1 2",
+    "try 1 fail",
+    "try 1 FAIL",
+    "slot 1 2",
+    "remove 1",
+    "retain",
+    "retain 01",
+    "retain 012",
+    "clear",
+    "prefill",
+    "prefill 1 2",
+    "prefill 1  2",
+    "new 2",
+    "new 2 1 1",
 ];
 
 #[test]
@@ -131,21 +200,47 @@ fn bad_lines(rt: HostRuntime) -> Result<(), Fail> {
         assert_eq!(rt; outcome, Err(ServeError::BadLine(line)), "{text:?}");
         assert_eq!(rt; written.len(), 0, "{text:?}");
     }
+    for line in NOT_THERE {
+        let text = format!(in rt.alloc(); "new 2\n{line}\nlen\n")?;
+        let (outcome, written) = served(rt.alloc(), text.as_bytes());
+        assert_eq!(rt; outcome, Err(ServeError::BadLine(2)), "{line}");
+        assert_eq!(rt; written.len(), 0, "{line}");
+    }
     Ok(())
 }
 
+// Refused texts, the line that says why, and the status.
+const REFUSED: [(&[u8], &str, u8); 10] = [
+    (b"", "line 1: bad command", 2),
+    (b"new 0", "line 1: bad command", 2),
+    (b"new 2\nput 1", "line 2: bad command", 2),
+    (b"new 2\nnew 2", "line 2: bad command", 2),
+    (
+        b"new 2\nlen\nget 18446744073709551616",
+        "line 3: bad command",
+        2,
+    ),
+    (b"new 16777216\nbogus", "line 2: bad command", 2),
+    (b"new 16777216", "capacity refused", 3),
+    (b"new 16777216\nput 1 10\nlen\n", "capacity refused", 3),
+    (b"new 18446744073709551615", "capacity refused", 3),
+    (b"new 018446744073709551615\n", "capacity refused", 3),
+];
+
 #[test]
-fn large_capacities(rt: HostRuntime) {
-    let rows: [&[u8]; 3] = [
-        b"new 16777216",
-        b"new 18446744073709551615",
-        b"new 16777216\nput 1 10\nlen\n",
-    ];
-    for text in rows {
+fn refused(rt: HostRuntime) -> Result<(), Fail> {
+    for (text, line, status) in REFUSED {
         let (outcome, written) = served(rt.alloc(), text);
-        assert_eq!(rt; outcome, Err(ServeError::Capacity), "{text:?}");
+        match outcome {
+            Ok(()) => assert!(rt; false, "{text:?} is answered"),
+            Err(refusal) => {
+                assert_eq!(rt; refusal.to_string(rt.alloc())?.as_str(), line, "{text:?}");
+                assert_eq!(rt; refusal.status(), status, "{text:?}");
+            }
+        }
         assert_eq!(rt; written.len(), 0, "{text:?}");
     }
+    Ok(())
 }
 
 // The line and the status of each refusal.
