@@ -1,4 +1,5 @@
-//! A fixed-capacity key-value cache with Clock2Q+ replacement, and what it stands on.
+//! A fixed-capacity key-value cache with Clock2Q+ replacement, its calls as data, and a command
+//! text for them.
 #![tactic(auto)]
 
 pub mod cache;

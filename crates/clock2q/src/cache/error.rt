@@ -5,13 +5,13 @@ ghost use Rattle.clock2q.specs.declared.cache.error.CacheError.TheVariants.{Memo
 use std::alloc::AllocError;
 use thiserror::Error;
 
-/// Why a cache could not be made, or a list of commands not be run.
+/// Why a cache could not be made, or a list of commands not be run. Nothing of it was done then.
 #[derive(Debug, Clone, Copy, PartialEq, Eq, Error)]
 pub enum CacheError {
     /// A request for memory was refused.
     #[error("no memory")]
     Memory,
-    /// The capacity is above [`MAX_CAPACITY`](crate::cache::MAX_CAPACITY).
+    /// The capacity is above [`MAX_CAPACITY`](crate::cache::MAX_CAPACITY). Only construction answers it.
     #[error("capacity refused")]
     Capacity,
 }

@@ -1,4 +1,10 @@
 //! A fixed-capacity key-value cache with Clock2Q+ replacement.
+//!
+//! New keys enter Small, a queue of a tenth of the capacity; those that come while the cache still
+//! fills and Small has its share enter Main. A key that reaches Small's end is evicted, unless it
+//! was hit when it was no longer among the newest there: then it goes on to Main, a ring in which
+//! each entry that was hit is passed over once before it is the victim. A key that Small evicts is
+//! remembered for a while without its value, and enters Main at once if it comes back.
 
 mod entries;
 mod error;
@@ -15,13 +21,17 @@ use std::marker::Model;
 use std::mem;
 use std::num::NonZeroUsize;
 
-/// The largest capacity that a cache can have.
+/// The largest capacity that a cache can have, in keys: 16,777,215.
 pub const MAX_CAPACITY: usize = (1 << 24) - 1;
 
 /// The hasher of [`Cache::new`]. Its seed is fixed, so keys that an attacker picks may collide.
 pub type DefaultHasher = BuildHasherDefault<FoldHasher>;
 
 /// A key-value cache of fixed capacity.
+///
+/// Keys are told apart by `Eq` alone; no answer depends on a hash. A call that takes a key
+/// compares it with the residents one after another, so its cost is linear in [`len`](Cache::len).
+/// All memory is taken by [`new`](Cache::new): no later call asks for any, and none can fail.
 #[derive(Drop)]
 pub struct Cache<K: Hash + Eq, V, S: BuildHasher, A: Allocator = Global> {
     shares: Shares,
@@ -52,7 +62,8 @@ impl<K: Hash + Eq + Drop, V: Drop, A: Allocator + Clone> Cache<K, V, DefaultHash
     ghost use Rattle.clock2q.specs.Shares.{usual_shares};
     ghost use Rattle.clock2q.specs.Machine.{empty};
 
-    /// Makes an empty cache, and takes all the memory that it will ever use itself.
+    /// Makes an empty cache for `capacity` keys, and takes all the memory that it will ever use
+    /// itself: room for so many keys and values, and for half as many keys that were evicted.
     ///
     /// `Capacity` comes above [`MAX_CAPACITY`], before any memory is taken. `Memory` comes where
     /// a request for memory is refused; what was taken before is given back.
@@ -100,14 +111,14 @@ impl<K: Hash + Eq, V, S: BuildHasher, A: Allocator> Cache<K, V, S, A> {
     ghost use Rattle.clock2q.specs.CacheLends.{LeavesMachine};
     ghost use Rattle.clock2q.specs.Machine.{resident_count, slot_of, value_of, hit};
 
-    /// How many keys the cache can hold.
+    /// How many keys the cache can hold: the number that it was made with.
     pub fn capacity(&self) -> usize
         ensures { result ≡ self.now.machine.shares.capacity }
     {
         self.shares.capacity()
     }
 
-    /// How many keys the cache holds.
+    /// How many keys the cache holds, at most its capacity. Keys that were evicted don't count.
     pub fn len(&self) -> usize
         ensures count { result ≡ resident_count self.now.machine }
         ensures whole { IsWhole K.eq self.now.machine }
@@ -122,14 +133,14 @@ impl<K: Hash + Eq, V, S: BuildHasher, A: Allocator> Cache<K, V, S, A> {
         self.len() == 0
     }
 
-    /// Whether the key is resident. This is no use of it.
+    /// Whether the key is resident. This is no use of it, and so changes no later eviction.
     pub fn contains(&self, key: &K) -> bool
         ensures { IsTrue result ↔ IsSome (slot_of (K.eq key.now) self.now.machine) }
     {
         self.find_slot(key).is_some()
     }
 
-    /// The value of a resident key. This is no use of it, and so changes no later eviction.
+    /// The value of a resident key, or `None`. This is no use of it, and so changes no later eviction.
     pub fn peek(&self, key: &K) -> Option<&V>
         ensures { option_copied result ≡ value_of (K.eq key.now) self.now.machine }
     {
@@ -138,6 +149,8 @@ impl<K: Hash + Eq, V, S: BuildHasher, A: Allocator> Cache<K, V, S, A> {
     }
 
     /// The value of a resident key, and records the hit: it may save the key from a later eviction.
+    ///
+    /// `None` says that the key isn't resident; then nothing changes.
     pub fn get(&mut self, key: &K) -> Option<&V>
         ensures* machine { sem 𝓛 (LeavesMachine K.row V.row S.row A.row S.Hasher.row K.Hash S.BuildHasher S.Hasher.Hasher A.Allocator self.entry (hit (K.eq key.now) self.old.machine)) }
         ensures value { option_copied result ≡ value_of (K.eq key.now) self.old.machine }
@@ -182,8 +195,10 @@ impl<K: Hash + Eq + Drop, V: Drop, S: BuildHasher, A: Allocator> Cache<K, V, S, 
 
     /// Stores a value for a key, and answers the one that it replaces.
     ///
-    /// A resident key is hit, and its stored key stays. Another key is inserted, for which one
-    /// resident leaves the cache where it is full, and in some cases where it has a free slot.
+    /// A resident key is hit, and its stored key stays; the key handed in is dropped. Another key
+    /// is inserted, and the answer is `None`. Where the cache is full one resident leaves for it,
+    /// and so does one where a key comes back to a full Main. An insertion moves the entries of the
+    /// queues that it changes, so it is linear in their lengths.
     pub fn put(&mut self, key: K, value: V) -> Option<V>
         ensures value { result ≡ value_of (K.eq key) self.old.machine }
         ensures machine { self.new.machine ≡ put (K.eq key) key value self.old.machine }

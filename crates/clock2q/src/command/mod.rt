@@ -16,40 +16,41 @@ pub use serve_error::ServeError;
 use std::alloc::Allocator;
 use std::hash::{BuildHasher, Hash};
 
-/// A call of a [`Cache`](crate::cache::Cache) as a value.
+/// A call of a [`Cache`](crate::cache::Cache) as a value, to be made by [`run`].
 #[derive(Clone, Debug, Drop, PartialEq)]
 pub enum Command<K, V> {
-    /// `put`.
+    /// Stores a value for a key. Answered `Value`, with the value that it replaces.
     Put(K, V),
-    /// `get`.
+    /// Asks for a key's value, and records the hit. Answered `Value`.
     Get(K),
-    /// `peek`.
+    /// Asks for a key's value, and changes nothing. Answered `Value`.
     Peek(K),
-    /// `contains`.
+    /// Asks whether a key is resident. Answered `Flag`.
     Contains(K),
-    /// `len`.
+    /// Asks how many keys are resident. Answered `Number`.
     Len,
-    /// `is_empty`.
+    /// Asks whether no key is. Answered `Flag`.
     IsEmpty,
-    /// `capacity`.
+    /// Asks how many keys the cache can hold. Answered `Number`.
     Capacity,
 }
 
-/// What a [`Command`] is answered.
+/// What a [`Command`] is answered. The command tells which of these it is.
 #[derive(Clone, Copy, Debug, PartialEq)]
 pub enum Reply<V> {
-    /// The value asked for, or the one replaced.
+    /// The value asked for, or the one replaced; `None` where the key wasn't resident.
     Value(Option<V>),
     /// Whether it is so.
     Flag(bool),
-    /// How many.
+    /// How many keys.
     Number(usize),
 }
 
-/// Runs the commands in order, and answers one reply to each.
+/// Runs the commands in order, and answers one reply to each, in the same order.
 ///
-/// The list of replies is reserved first. Where that is refused the answer is `Memory`, and no
-/// command has run. Nothing else is allocated.
+/// The list of replies is reserved first. Where that is refused the answer is `Memory`, no
+/// command has run and the cache is as it was. Nothing else is allocated. An empty list of
+/// commands has an empty list of replies.
 pub fn run<K, V, S, A>(
     alloc: A,
     cache: &mut Cache<K, V, S, A>,

@@ -21,7 +21,8 @@ pub trait Source {
     // What it has given.
     ghost given: { Self → Passed };
 
-    /// Moves bytes to the front of `into`, which isn't empty. 0 says that none is left.
+    /// Moves bytes to the front of `into`, which isn't empty, and says how many: at most its
+    /// length. 0 says that none is left. A call that fails has moved none.
     fn read(&mut self, into: &mut [u8]) -> Result<usize, Failed>
         requires { 0 < length into.old }
         ensures bound { IfOk result (λ n. n ≤ length into.new) }
@@ -37,19 +38,23 @@ pub trait Sink {
     // What it has taken.
     ghost taken: { Self → Passed };
 
-    /// Takes bytes from the front of `from`, and says how many. 0 of a text that isn't empty counts as a failure.
+    /// Takes bytes from the front of `from`, and says how many: at most its length. 0 of a text
+    /// that isn't empty counts as a failure. A call that fails has taken none.
     fn write(&mut self, from: &[u8]) -> Result<usize, Failed>
         ensures bound { IfOk result (λ n. n ≤ length from.now) }
         ensures bytes { WriteAppends (contents self.old) (contents self.new) result from.now }
         ensures taken { taken self.new ≡ after_write (taken self.old) result from.now };
 
-    /// Sends on what it has taken.
+    /// Sends on what it has taken. After a failure some of it may have gone.
     fn flush(&mut self) -> Result<(), Failed>
         ensures bytes { Keeps (contents self.old) (contents self.new) }
         ensures taken { taken self.new ≡ after_flush (taken self.old) result };
 }
 
-/// A source over a reader, or a sink over a writer. Each error of what it wraps, of any kind, is a failure.
+/// A source over a reader, or a sink over a writer.
+///
+/// Each call makes one call of what it wraps, and each error of that, of any kind, is a failure:
+/// an interrupted call is not made again. What the device counts takes no memory.
 #[derive(Drop)]
 pub struct Device<T> {
     inner: T,
@@ -76,7 +81,7 @@ impl<T> Device<T> {
         }
     }
 
-    /// What the device wraps.
+    /// What the device wraps, as the calls have left it.
     pub fn into_inner(self) -> T
         ensures { result ≡ self.inner }
     {

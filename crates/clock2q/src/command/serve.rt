@@ -52,10 +52,15 @@ fn send<W: Sink>(writer: &mut W, text: &[u8]) -> Result<(), ServeError>
 
 /// Reads a command text to its end, runs its commands on a new cache, and writes the replies.
 ///
-/// All lines are read before the cache is made, and the whole reply text is made before any of it
-/// is written, so a refusal other than `Write` has written nothing. `Write` may come after a
-/// beginning of the text. No failed read, write or flush is tried again. The memory that it takes
-/// at a time is in proportion to the input, the capacity and the replies.
+/// The first of these that applies is answered: `Read` where a read fails; `BadLine` where a line
+/// is no command in its place; `Capacity` where the cache would be too large; `Write` where a write
+/// or the flush fails. `Memory` comes at whatever step a request for memory is refused. All lines
+/// are read before the cache is made, and the whole reply text is made before any of it is written,
+/// so a refusal other than `Write` has written nothing. `Write` may come after a beginning of the
+/// text. No failed read, write or flush is tried again.
+///
+/// The memory that it takes at a time is in proportion to the input, the capacity and the replies.
+/// Reading, parsing and writing take time in proportion to the text.
 pub fn serve<R: Source, W: Sink, A: Allocator>(
     alloc: A,
     reader: &mut R,

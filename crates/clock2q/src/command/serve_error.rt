@@ -12,16 +12,17 @@ pub enum ServeError {
     /// In an input without lines it is line 1.
     #[error("line {0}: bad command")]
     BadLine(usize),
-    /// A growth was refused.
+    /// A request for memory was refused, at whatever step.
     #[error("no memory")]
     Memory,
-    /// The capacity is above what a cache may have.
+    /// All lines are good, and the capacity is above
+    /// [`MAX_CAPACITY`](crate::cache::MAX_CAPACITY).
     #[error("capacity refused")]
     Capacity,
-    /// The source failed.
+    /// The source failed, before its end was reached.
     #[error("read failed")]
     Read,
-    /// The sink failed. A beginning of the replies may have been written.
+    /// The sink failed. A beginning of the replies, or all of them, may have been written.
     #[error("write failed")]
     Write,
 }
@@ -29,7 +30,8 @@ pub enum ServeError {
 impl ServeError {
     ghost use Rattle.clock2q.specs.ServeError.{status_of};
 
-    /// The status with which the program ends.
+    /// The status with which the program ends: 2 for a bad line, 3 where the cache can't be had,
+    /// 4 where a device failed.
     pub fn status(&self) -> u8
         ensures { result ≡ status_of self.now }
     {
