@@ -1,6 +1,5 @@
-use Rattle.std.proofs.Common.{rules, ◌≡◌, ℕ, sym, subst}
+use Rattle.std.proofs.Common.{rules, sym, subst}
 use Rattle.clock2q_handles.specs.TableStep.{IsHashOf}
-use Rattle.clock2q_handles.specs.Rehash.{GivesHashes}
 use Rattle.clock2q_tests.proofs.Own.{own_given}
 use Rattle.clock2q_tests.proofs.refused_tables.insertions.Goals as goal
 
