@@ -171,7 +171,7 @@ const BAD_LINES: [(&[u8], usize); 64] = [
     (b"new 18446744073709551615\nlen\nbogus", 3),
 ];
 
-// Lines of commands that the program does not have yet, well or badly written.
+// Lines that are bad after the first one: of commands that the program does not have yet, well or badly written, and `new`.
 const NOT_THERE: [&str; 18] = [
     "get_at 0",
     "get_at 0 1",
