@@ -18,19 +18,6 @@ returns-in_default-clause-steps g c =
       unread,
     )
 
-pub invariant_of-self-2 : goal.invariant_of-self-2
-invariant_of-self-2 g c =
-    let next = c.in-Some.ensures.found in
-    let slots = c.self.inside.slots.now.slots in
-    let n : ℕ = c.in-Some.distance in
-    let home = c.home-home.ensures.home (omega (arith, next.within)) in
-    record {
-      tidy = c.self.invariant.tidy;
-      near = c.self.invariant.near;
-      within = omega (arith, next.within);
-      passed = λ _. subst (λ h. (j : ℕ) → j < n + 1 → j < reach (slot_at slots (h + j))) home (below_more (λ j. j < reach (slot_at slots (c.home-home.result + j))) n next.passed (omega (arith, ap reach next.here)));
-    }
-
 pub returns-clause-steps : goal.returns-clause-steps
 returns-clause-steps g c =
     let slots = c.self.inside.slots.now.slots in
@@ -46,3 +33,16 @@ returns-clause-steps g c =
 
 pub returns-clause-goes : goal.returns-clause-goes
 returns-clause-goes g c = yields_progress (λ v. v.left) _ c.args.self.now _ c.handle.result (returns-clause-steps g c).0 tt
+
+pub invariant_of-self-2 : goal.invariant_of-self-2
+invariant_of-self-2 g c =
+    let next = c.in-Some.ensures.found in
+    let slots = c.self.inside.slots.now.slots in
+    let n : ℕ = c.in-Some.distance in
+    let home = c.home-home.ensures.home (omega (arith, next.within)) in
+    record {
+      tidy = c.self.invariant.tidy;
+      near = c.self.invariant.near;
+      within = omega (arith, next.within);
+      passed = λ _. subst (λ h. (j : ℕ) → j < n + 1 → j < reach (slot_at slots (h + j))) home (below_more (λ j. j < reach (slot_at slots (c.home-home.result + j))) n next.passed (omega (arith, ap reach next.here)));
+    }
