@@ -7,6 +7,7 @@ pub mod Groups
 pub mod Growth
 pub mod Hashes
 pub mod Insertions
+pub mod Keyed
 pub mod Laid
 pub mod Laps
 pub mod LayoutVectors

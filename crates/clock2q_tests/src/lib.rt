@@ -11,6 +11,4 @@ mod refused;
 mod refused_tables;
 pub mod refusing;
 #[cfg(test)]
-mod tables;
-#[cfg(test)]
 mod texts;

@@ -26,10 +26,6 @@ unfolding fit
 fit_some e = until_some e 16 e (omega arith)
 
 module _ {H : Type 0} (key : H → ℕ) where
-  -- a new table
-  pub keyed_made : (n : ℕ) → IsHashOf key (made_for {H = H} n)
-  keyed_made zero = hashes-none key 0
-  keyed_made (suc k) = hashes-none key (fit (suc k))
 
   -- a table with no slots is full
   some_slots : (homes : List (List (ℕ × H))) → (total homes == capacity (length homes)) ≡ false → 0 < length homes

@@ -1,8 +1,8 @@
 use Rattle.std.proofs.Common.{sym, subst}
 use Rattle.clock2q_handles.specs.TableStep.{IsHashOf}
-use Rattle.clock2q_tests.specs.contracts.tables.HandlePartialEq.TheImpl as equals
-use Rattle.clock2q_tests.proofs.Keyed.{keyed_removed}
-use Rattle.clock2q_tests.proofs.tables.Hashed.remove.Goals as goal
+use Rattle.clock2q_handles.specs.contracts.table.tests.hashed.HandlePartialEq.TheImpl as equals
+use Rattle.clock2q_handles.proofs.Keyed.{keyed_removed}
+use Rattle.clock2q_handles.proofs.table.tests.hashed.Hashed.remove.Goals as goal
 
 pub invariant_of-self : goal.invariant_of-self
 invariant_of-self c = subst (IsHashOf (λ handle. handle.hash)) (sym c.remove.ensures.removed) (keyed_removed (λ handle. handle.hash) equals.ghosts.eq c.self.inside.table.homes c.args.hash (record { hash = c.args.hash; number = c.args.number }) c.self.invariant)

@@ -1,6 +1,6 @@
 use Rattle.std.proofs.Common.{rules, ap, refl}
-use Rattle.clock2q_tests.proofs.Keyed.{keyed_put, keyed_given}
-use Rattle.clock2q_tests.proofs.tables.Hashed.insert.Goals as goal
+use Rattle.clock2q_handles.proofs.Keyed.{keyed_put, keyed_given}
+use Rattle.clock2q_handles.proofs.table.tests.hashed.Hashed.insert.Goals as goal
 
 pub insert-requires : goal.insert-requires
 insert-requires c = λ _. ((λ handle. handle.hash), keyed_given (λ handle. handle.hash) _ c.self.inside.table.homes _ c.self.invariant (λ _ _. tt) (λ f h r next called. search rules))
