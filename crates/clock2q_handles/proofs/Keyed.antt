@@ -26,7 +26,6 @@ unfolding fit
 fit_some e = until_some e 16 e (omega arith)
 
 module _ {H : Type 0} (key : H → ℕ) where
-
   -- a table with no slots is full
   some_slots : (homes : List (List (ℕ × H))) → (total homes == capacity (length homes)) ≡ false → 0 < length homes
   some_slots [] q = absurd (cc)

@@ -4,6 +4,8 @@ ghost use Rattle.std.specs.Prelude.{◌≡◌};
 mod cells;
 mod growing;
 mod hashed;
+mod plain;
+mod seeded;
 
 use crate::candidates::Candidates;
 use std::fmt::Debug;

@@ -35,7 +35,11 @@ fn one_hash(rt: HostRuntime) -> Result<(), Fail> {
     assert_eq!(rt; tested.table.capacity(), 3072);
     assert_eq!(rt; tested.count(A), 2000);
     for half in 0..1000 {
-        assert!(rt; tested.remove(A, half * 2), "{half}");
+        let handle = Handle {
+            hash: A,
+            number: half * 2,
+        };
+        assert!(rt; tested.remove(A, handle), "{half}");
     }
     assert_eq!(rt; tested.count(A), 1000);
     assert_eq!(rt; tested.table.len(), 1000);

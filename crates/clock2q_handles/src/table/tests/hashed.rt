@@ -2,7 +2,9 @@
 ghost use Rattle.std.specs.Prelude.{◌≡◌};
 
 use crate::error::TableError;
+use crate::metadata::MAX_DISPLACEMENT;
 use crate::table::Table;
+use crate::table::tests::plain::Standing;
 use std::alloc::Global;
 use std::cell::Cell;
 use std::marker::Model;
@@ -38,6 +40,12 @@ impl Seen {
         }
         self.first.set(first);
         self.count.set(count.saturating_add(1));
+    }
+
+    /// The same handles were seen, as far as is told.
+    pub(super) fn is_same(&self, rt: &impl Abort, other: &Seen, shown: &str) {
+        assert_eq!(rt; self.count.get(), other.count.get(), "{shown}");
+        assert_eq!(rt; self.first.get(), other.first.get(), "{shown}");
     }
 }
 
@@ -132,8 +140,8 @@ impl Hashed {
         )
     }
 
-    pub(super) fn remove(&mut self, hash: u64, number: u64) -> bool {
-        self.table.remove(hash, Handle { hash, number })
+    pub(super) fn remove(&mut self, hash: u64, handle: Handle) -> bool {
+        self.table.remove(hash, handle)
     }
 
     pub(super) fn count(&self, hash: u64) -> usize {
@@ -151,5 +159,31 @@ impl Hashed {
             assert_eq!(rt; found, Some(*number));
         }
         assert_eq!(rt; walk.next(), None);
+    }
+
+    /// The slots hold just what is told of each.
+    pub(super) fn stands(&self, rt: &impl Abort, layout: &[Option<Standing>], shown: &str) {
+        let slots = &self.table.slots;
+        assert_eq!(rt; slots.count(), layout.len(), "{shown}");
+        for (slot, wanted) in layout.iter().enumerate() {
+            let metadata = slots.metadata(0, slot);
+            let Some(standing) = wanted else {
+                assert!(rt; metadata.is_empty(), "{shown}: slot {slot}");
+                continue;
+            };
+            assert!(rt;
+                standing.displacement <= MAX_DISPLACEMENT,
+                "{shown}: slot {slot}"
+            );
+            assert!(rt;
+                metadata.is_candidate(standing.handle.hash, standing.displacement),
+                "{shown}: slot {slot}"
+            );
+            assert_eq!(rt;
+                slots.handle(0, slot),
+                standing.handle,
+                "{shown}: slot {slot}"
+            );
+        }
     }
 }

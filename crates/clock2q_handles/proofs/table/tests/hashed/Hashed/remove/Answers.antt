@@ -5,4 +5,4 @@ use Rattle.clock2q_handles.proofs.Keyed.{keyed_removed}
 use Rattle.clock2q_handles.proofs.table.tests.hashed.Hashed.remove.Goals as goal
 
 pub invariant_of-self : goal.invariant_of-self
-invariant_of-self c = subst (IsHashOf (λ handle. handle.hash)) (sym c.remove.ensures.removed) (keyed_removed (λ handle. handle.hash) equals.ghosts.eq c.self.inside.table.homes c.args.hash (record { hash = c.args.hash; number = c.args.number }) c.self.invariant)
+invariant_of-self c = subst (IsHashOf (λ handle. handle.hash)) (sym c.remove.ensures.removed) (keyed_removed (λ handle. handle.hash) equals.ghosts.eq c.self.inside.table.homes c.args.hash c.args.handle c.self.invariant)
