@@ -8,6 +8,13 @@ use std::alloc::{AllocError, Global};
 use std::process::Abort;
 use std::test::Fail;
 
+const LISTS: u64 = 200;
+
+const CALLS: u64 = 500;
+
+/// A bit of a hash that no small table reads.
+const UNREAD: u32 = 40;
+
 /// Numbers that follow from a seed: a sum that grows by an odd step, its bits mixed.
 #[derive(Drop)]
 struct Draws {
@@ -49,7 +56,7 @@ impl Draws {
     /// slots, and have another home in larger tables.
     fn hash(&mut self) -> u64 {
         let top = self.below(3) * 0x7F << 56;
-        let unread = self.below(2) << 40;
+        let unread = self.below(2) << UNREAD;
         let home = self.below(self.homes).wrapping_sub(self.homes / 2) & 0xFFFF;
         let leaving = match self.below(2) {
             0 => 0,
@@ -58,50 +65,49 @@ impl Draws {
         top | unread | (home ^ leaving)
     }
 
-    /// A handle that is mostly a new one.
-    fn handle(&mut self, number: u64) -> Handle {
-        let hash = self.hash();
-        match self.below(4) {
-            0 => Handle {
-                hash,
-                number: self.below(8),
-            },
-            _ => Handle { hash, number },
-        }
-    }
-
-    /// An entry that is held, or one that is not.
-    fn held(&mut self, plain: &Plain) -> Handle {
-        let number = self.below((plain.len() as u64).saturating_add(2));
-        match plain.entry(number as usize) {
+    /// An entry that is held, or now and then one that is not.
+    fn held(&mut self, number: u64, plain: &Plain) -> Handle {
+        let place = self.below((plain.len() as u64).saturating_add(2));
+        match plain.entry(place as usize) {
             Some(handle) => handle,
-            None => self.handle(number),
+            None => Handle {
+                hash: self.hash(),
+                number,
+            },
         }
     }
 
-    /// The call of that number in a list, where a hundred calls that mostly put entries in take
-    /// turns with a hundred that mostly take them out.
+    /// A handle to put in: mostly a new one.
+    fn handle(&mut self, number: u64, plain: &Plain) -> Handle {
+        match self.below(8) {
+            0 => self.held(number, plain),
+            _ => Handle {
+                hash: self.hash(),
+                number,
+            },
+        }
+    }
+
+    /// The call of that number in a list: first they mostly put entries in, and from half way on
+    /// mostly take them out.
     fn call(&mut self, number: u64, plain: &Plain) -> Call {
-        let additions = if number / 100 % 2 == 0 { 10 } else { 4 };
+        let additions = if number < CALLS / 2 { 10 } else { 4 };
         match self.below(20) {
-            kind if kind < additions && kind % 2 == 0 => Call::Insert(self.handle(number)),
+            kind if kind < additions && kind % 2 == 0 => Call::Insert(self.handle(number, plain)),
             kind if kind < additions => {
-                let accepted = self.held(plain);
-                let handle = match self.below(2) {
-                    0 => self.handle(number),
-                    _ => Handle {
-                        hash: accepted.hash ^ (self.below(2) << 40),
-                        number,
-                    },
+                let accepted = self.held(number, plain);
+                let hash = match self.below(2) {
+                    0 => self.hash(),
+                    _ => accepted.hash ^ (self.below(2) << UNREAD),
                 };
-                Call::FindOrInsert(handle, accepted.number)
+                Call::FindOrInsert(Handle { hash, number }, accepted.number)
             }
             0..=12 => {
-                let handle = self.held(plain);
-                Call::Remove(handle.hash ^ (self.below(2) << 40), handle)
+                let handle = self.held(number, plain);
+                Call::Remove(handle.hash ^ (self.below(2) << UNREAD), handle)
             }
             13 | 14 => Call::Get(self.hash()),
-            15 => Call::Reserve(self.below(40) as usize),
+            15 => Call::Reserve(self.below(8) as usize),
             16 => Call::Reserve(usize::MAX - self.below(2) as usize),
             17 => Call::Len,
             18 => Call::Capacity,
@@ -175,22 +181,20 @@ impl Pair {
 
 #[test]
 fn plain_lists(rt: HostRuntime) -> Result<(), Fail> {
-    for seed in 0..200 {
+    for seed in 0..LISTS {
         let mut draws = Draws {
             sum: seed,
             homes: 1 << (seed % 4),
         };
         let mut pair = Pair::with_capacity(rt.alloc(), (seed % 3 * 10) as usize)?;
-        for number in 0..500 {
+        for number in 0..CALLS {
             let call = draws.call(number, &pair.plain);
             let shown = format!(in rt.alloc(); "list {seed}, call {number}: {call:?}")?;
             pair.call(&rt, call, shown.as_str())?;
-            if number % 4 == 3 {
-                pair.tested
-                    .stands(&rt, &pair.plain.layout()?, shown.as_str());
-                for _ in 0..4 {
-                    pair.lookup_is_same(&rt, draws.hash(), shown.as_str())?;
-                }
+            let layout = pair.plain.layout()?;
+            pair.tested.stands(&rt, &layout, shown.as_str());
+            for _ in 0..4 {
+                pair.lookup_is_same(&rt, draws.hash(), shown.as_str())?;
             }
         }
     }
