@@ -183,12 +183,12 @@ fn slots_for(entries: usize) -> Option<usize> {
         .find(|count| count / 4 * 3 >= entries)
 }
 
-/// A lookup of the hash is to yield the entry, which is at home where the hash is.
+/// Whether a lookup of the hash is to yield an entry of its home.
 fn is_candidate(held: &Handle, hash: u64) -> bool {
     held.hash >> 56 == hash >> 56
 }
 
-/// Puts a home's entries in the slots, one after another from so far past it.
+/// Puts a home's entries in the slots, one after another from `spill` slots past it on.
 fn stand(list: &[Handle], home: usize, spill: usize, slots: &mut [Option<Standing>]) {
     for (i, handle) in list.iter().enumerate() {
         let displacement = spill.saturating_add(i);
