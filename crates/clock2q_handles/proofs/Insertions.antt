@@ -6,6 +6,8 @@ use Rattle.clock2q_handles.specs.Layout.{Placed, slot_at, reach, homes_of, run, 
 use Rattle.clock2q_handles.specs.Shifts.{Opens, HasRoom, IsVacancy}
 use Rattle.clock2q_handles.specs.Slots.{IsSlotCount}
 use Rattle.clock2q_handles.specs.Table.{IsTable}
+use Rattle.clock2q_handles.specs.TableStep.{TableValue, table_value}
+use Rattle.clock2q_handles.proofs.Tidy.{length-homes_of}
 use Rattle.clock2q_handles.proofs.Walk.{Stops}
 use Rattle.clock2q_handles.proofs.Changes.{IsMovedOn, inserted-run, inserted-total, inserted-tidy, inserted-homes}
 use Rattle.clock2q_handles.proofs.TooLong.{first-vacant, long-by-new, long-by-moved}
@@ -47,24 +49,43 @@ module _ {E : Type 0} where
     ]
   ])
 
+-- the walk for x ended n slots past its home g, in a table that has room
+pub record HasEnded {E : Type 0} (slots : List (Option (Placed E))) (x g n : ℕ) : Type 0 where
+  pub fits : total (homes_of slots) < capacity (length slots)
+  pub home : g ≡ x % length slots
+  pub passed : (j : ℕ) → j < n → j < reach (slot_at slots (g + j))
+  pub stop : reach (slot_at slots (g + n)) ≤ n
+
+-- the same, of slots that are seen as a table's
+pub has_ended : {H : Type 0} (slots : List (Option (Placed (ℕ × H)))) (t : TableValue H) (x g n writes : ℕ) → table_value (homes_of slots) slots writes ≡ t → total t.homes < capacity (length t.homes) → g ≡ x % length t.slots
+    → ((j : ℕ) → j < n → j < reach (slot_at t.slots (g + j))) → reach (slot_at t.slots (g + n)) ≤ n → HasEnded slots x g n
+has_ended slots t x g n writes is room home passed stop =
+    let back = ap (λ u. u.slots) (sym is) in
+    let lists = ap (λ u. u.homes) (sym is) in
+    record {
+      fits = subst (λ m. total (homes_of slots) < capacity m) (length-homes_of slots) (subst (λ hs. total hs < capacity (length hs)) lists room);
+      home = subst (λ s. g ≡ x % length s) back home;
+      passed = subst (λ s. (j : ℕ) → j < n → j < reach (slot_at s (g + j))) back passed;
+      stop = subst (λ s. reach (slot_at s (g + n)) ≤ n) back stop;
+    }
+
 -- what an insertion comes to: the lists with the entry, none of which is too long, and the writes
 pub record Insertion {H : Type 0} (x : ℕ) (v : H) (slots others : List (Option (Placed (ℕ × H)))) (len before after : ℕ) : Type 0 where
   pub homes : homes_of others ≡ inserted (homes_of slots) x v
   pub short : IsTooLong (inserted (homes_of slots) x v) → ⊥
-  pub table : IsTable others (suc len)
+  pub table : IsTable others (len + 1)
   pub counted : before ≤ after
   pub writes : after ≤ before + run slots x + 1
 
-module _ {H : Type 0} (x : ℕ) (v : H) (slots others : List (Option (Placed (ℕ × H)))) (g n len : ℕ) (table : IsTable slots len) (fits : total (homes_of slots) < capacity (length slots))
-    (at : g ≡ x % length slots) (passed : (j : ℕ) → j < n → j < reach (slot_at slots (g + j))) (stop : reach (slot_at slots (g + n)) ≤ n) where
+module _ {H : Type 0} (x : ℕ) (v : H) (slots others : List (Option (Placed (ℕ × H)))) (g n len : ℕ) (table : IsTable slots len) (ended : HasEnded slots x g n) where
   past : (j : ℕ) → slot_at slots (g + j) ≡ slot_at slots (x + j)
-  past = past_home slots (length slots) g x refl at
+  past = past_home slots (length slots) g x refl ended.home
 
   stops : Stops (slot_at slots) x 0 n
-  stops = record { before = λ j l. omega (arith, passed j l, ap reach (past j)); stop = omega (arith, stop, ap reach (past n)) }
+  stops = record { before = λ j l. omega (arith, ended.passed j l, ap reach (past j)); stop = omega (arith, ended.stop, ap reach (past n)) }
 
   some : 0 < length slots
-  some = omega (arith, fits)
+  some = omega (arith, ended.fits)
 
   -- the first empty slot from the home on
   first : (w : ℕ) × (w < length slots) × IsVacancy (slot_at slots) g w
@@ -79,15 +100,15 @@ module _ {H : Type 0} (x : ℕ) (v : H) (slots others : List (Option (Placed (�
     opened = opens first.0 first.2
 
     moved : IsMovedOn (slot_at slots) (slot_at others) (length slots) x n first.0 (top x, v)
-    moved = opens-moved slots others (length slots) g x n first.0 (top x, v) refl same at opened (λ j from upto. first.2.occupied j upto)
+    moved = opens-moved slots others (length slots) g x n first.0 (top x, v) refl same ended.home opened (λ j from upto. first.2.occupied j upto)
 
     more_homes : homes_of others ≡ inserted (homes_of slots) x v
-    more_homes = inserted-homes slots others x n first.0 (top x, v) same opened.from moved table.tidy stops fits
+    more_homes = inserted-homes slots others x n first.0 (top x, v) same opened.from moved table.tidy stops ended.fits
 
     more_table : IsTable others (suc len)
     more_table = record {
-      tidy = inserted-tidy slots others x n first.0 (top x, v) same opened.from moved table.tidy stops fits;
-      counted = sym (ap total more_homes ∙ inserted-total slots others x n first.0 (top x, v) same opened.from moved table.tidy stops fits ∙ ap suc (sym table.counted));
+      tidy = inserted-tidy slots others x n first.0 (top x, v) same opened.from moved table.tidy stops ended.fits;
+      counted = sym (ap total more_homes ∙ inserted-total slots others x n first.0 (top x, v) same opened.from moved table.tidy stops ended.fits ∙ ap suc (sym table.counted));
       slot_count = subst IsSlotCount (sym same) table.slot_count;
       near = opened-near slots others g n first.0 (top x, v) same opened (room first.0 first.2) table.near;
     }
@@ -96,18 +117,18 @@ module _ {H : Type 0} (x : ℕ) (v : H) (slots others : List (Option (Placed (�
     insertion = record {
       homes = more_homes;
       short = λ long. table-short others (suc len) more_table (subst IsTooLong (sym more_homes) long);
-      table = more_table;
+      table = let one : suc len ≡ len + 1 = omega arith in subst (IsTable others) one more_table;
       counted = omega (arith, writes first.0 first.2, opened.from);
-      writes = omega (arith, writes first.0 first.2, inserted-run slots others x n first.0 (top x, v) same opened.from moved table.tidy stops fits);
+      writes = omega (arith, writes first.0 first.2, inserted-run slots others x n first.0 (top x, v) same opened.from moved table.tidy stops ended.fits);
     }
 
   -- where there is no room for it, some entry would stand too far
   pub refusal : ((w : ℕ) → IsVacancy (slot_at slots) g w → HasRoom (slot_at slots) 16777214 g n w → ⊥) → IsTooLong (inserted (homes_of slots) x v)
   refusal far = elim (cases_lt 16777214 n) [
-    | inl new ↦ long-by-new slots table.tidy x n (top x, v) stops fits (omega (arith, new))
+    | inl new ↦ long-by-new slots table.tidy x n (top x, v) stops ended.fits (omega (arith, new))
     | inr own ↦ elim (search_far (λ j. reach (slot_at slots (g + j))) n 16777214 first.0) [
       | inl near ↦ absurd (far first.0 first.2 (record { own = own; others = near }))
       | inr found ↦
-          long-by-moved slots table.tidy x n (top x, v) stops fits found.0 found.1 (λ i from upto. omega (arith, first.2.occupied i (omega (arith, upto, found.2)), ap reach (past i))) (omega (arith, found.3, ap reach (past found.0)))
+          long-by-moved slots table.tidy x n (top x, v) stops ended.fits found.0 found.1 (λ i from upto. omega (arith, first.2.occupied i (omega (arith, upto, found.2)), ap reach (past i))) (omega (arith, found.3, ap reach (past found.0)))
     ]
   ]
