@@ -83,51 +83,61 @@ some_of : {E : Type 0} (o : Option (Placed E)) → 0 < reach o → (s : Placed E
 some_of None some = absurd (omega (arith, some))
 some_of (Some s) some = (s, refl)
 
--- a table as a rebuild reads it: its slots, and its lists
-module _ {H : Type 0} (homes : List (List (ℕ × H))) (slots : List (Option (Placed (ℕ × H)))) (len : ℕ) (table : IsTable slots len) (is : homes ≡ homes_of slots) (m i : ℕ) (within : i < length slots) where
+-- a rebuild of a table with the lists homes has come to slot i
+pub record HasCome {H : Type 0} (homes : List (List (ℕ × H))) (slots : List (Option (Placed (ℕ × H)))) (len i : ℕ) : Type 0 where
+  pub table : IsTable slots len
+  pub lists : homes ≡ homes_of slots
+  pub within : i < length slots
+
+-- and there stands an entry, with the handle v
+pub record Holds {H : Type 0} (slots : List (Option (Placed (ℕ × H)))) (i : ℕ) (v : H) : Type 0 where
+  pub occupied : 0 < reach (slot_at slots (0 + i))
+  pub handle : IfSome (slot_at slots (0 + i)) (λ p. v ≡ p.entry.1)
+
+module _ {H : Type 0} (homes : List (List (ℕ × H))) (slots : List (Option (Placed (ℕ × H)))) (len m i : ℕ) (come : HasCome homes slots len i) where
   -- a slot that is empty
   pub step_empty : (key : H → ℕ) (made_so : List (List (ℕ × H))) → slot_at slots (0 + i) ≡ None → made_so ≡ put_all key (no_entries m) (entries (take i slots)) → made_so ≡ put_all key (no_entries m) (entries (take (i + 1) slots))
-  step_empty key made_so empty so_far = so_far ∙ sym (passed_empty slots len table key m i within empty)
+  step_empty key made_so empty so_far = so_far ∙ sym (passed_empty slots len come.table key m i come.within empty)
 
   -- and adds no handle
   pub handles_empty : slot_at slots (0 + i) ≡ None → map (λ s. s.entry.1) (entries (take (i + 1) slots)) ≡ map (λ s. s.entry.1) (entries (take i slots))
   handles_empty empty =
       let e : i + 1 ≡ suc i = omega arith in
-      ap (λ n. map (λ s. s.entry.1) (entries (take n slots))) e ∙ ap (map (λ s. s.entry.1)) (entries-none slots i within (sym (here slots len table (λ _. 0) m i within) ∙ empty))
+      ap (λ n. map (λ s. s.entry.1) (entries (take n slots))) e ∙ ap (map (λ s. s.entry.1)) (entries-none slots i come.within (sym (here slots len come.table (λ _. 0) m i come.within) ∙ empty))
 
-  module _ (v : H) (occupied : 0 < reach (slot_at slots (0 + i))) (handle : IfSome (slot_at slots (0 + i)) (λ p. v ≡ p.entry.1)) where
+  module _ (v : H) (holds : Holds slots i v) where
     found : (s : Placed (ℕ × H)) × (slot_at slots (0 + i) ≡ Some s)
-    found = some_of (slot_at slots (0 + i)) occupied
+    found = some_of (slot_at slots (0 + i)) holds.occupied
 
     same : v ≡ found.0.entry.1
-    same = subst (λ o. IfSome o (λ p. v ≡ p.entry.1)) found.1 handle
+    same = subst (λ o. IfSome o (λ p. v ≡ p.entry.1)) found.1 holds.handle
 
     pub step_held : IsHeld homes v
-    step_held = subst (λ hs. IsHeld hs v) (sym is) (subst (λ w. IsHeld (homes_of slots) w) (sym same) (entry_held slots len table (λ _. 0) m i within found.0 found.1))
+    step_held = subst (λ hs. IsHeld hs v) (sym come.lists) (subst (λ w. IsHeld (homes_of slots) w) (sym same) (entry_held slots len come.table (λ _. 0) m i come.within found.0 found.1))
 
     pub handles_more : map (λ s. s.entry.1) (entries (take (i + 1) slots)) ≡ map (λ s. s.entry.1) (entries (take i slots)) ++ v ∷ []
     handles_more =
         let e : i + 1 ≡ suc i = omega arith in
-        ap (λ n. map (λ s. s.entry.1) (entries (take n slots))) e ∙ ap (map (λ s. s.entry.1)) (more slots len table (λ _. 0) m i within found.0 found.1) ∙ map-append (λ s. s.entry.1) (entries (take i slots)) (found.0 ∷ [])
+        ap (λ n. map (λ s. s.entry.1) (entries (take n slots))) e ∙ ap (map (λ s. s.entry.1)) (more slots len come.table (λ _. 0) m i come.within found.0 found.1) ∙ map-append (λ s. s.entry.1) (entries (take i slots)) (found.0 ∷ [])
         ∙ ap (λ w. map (λ s. s.entry.1) (entries (take i slots)) ++ w ∷ []) (sym same)
 
     module _ (key : H → ℕ) (hashes : IsHashOf key homes) (made_so : List (List (ℕ × H))) (so_far : made_so ≡ put_all key (no_entries m) (entries (take i slots))) (r : ℕ) (answered : r ≡ key v) where
       hashes_read : IsHashOf key (homes_of slots)
-      hashes_read = subst (IsHashOf key) is hashes
+      hashes_read = subst (IsHashOf key) come.lists hashes
 
       as_put : inserted made_so r v ≡ inserted (put_all key (no_entries m) (entries (take i slots))) (key found.0.entry.1) found.0.entry.1
       as_put = ap (λ hs. inserted hs r v) so_far ∙ ap (λ x. inserted (put_all key (no_entries m) (entries (take i slots))) x v) answered ∙ ap (λ w. inserted (put_all key (no_entries m) (entries (take i slots))) (key w) w) same
 
       pub step_made : inserted made_so r v ≡ put_all key (no_entries m) (entries (take (i + 1) slots))
-      step_made = as_put ∙ put_next slots len table key m i within found.0 found.1 hashes_read
+      step_made = as_put ∙ put_next slots len come.table key m i come.within found.0 found.1 hashes_read
 
       pub step_room : total homes ≤ capacity m → total made_so < capacity (length made_so)
       step_room fits =
-          let bound : len ≤ capacity m = omega (arith, fits, table.counted, ap total is) in
-          subst (λ hs. total hs < capacity (length hs)) (sym so_far) (room_for slots len table key m i within found.0 found.1 bound)
+          let bound : len ≤ capacity m = omega (arith, fits, come.table.counted, ap total come.lists) in
+          subst (λ hs. total hs < capacity (length hs)) (sym so_far) (room_for slots len come.table key m i come.within found.0 found.1 bound)
 
       pub step_short : total homes ≤ capacity m → (0 < length homes → (k : ℕ) × (m ≡ k * length homes)) → IsTooLong (inserted made_so r v) → ⊥
       step_short fits multiple long =
-          let bound : len ≤ capacity m = omega (arith, fits, table.counted, ap total is) in
-          let k = multiple (omega (arith, within, length-homes_of slots, ap length is)) in
-          no_refusal slots len table key m i within found.0 found.1 k.0 (k.1 ∙ ap (λ hs. k.0 * length hs) is) bound hashes_read (subst IsTooLong as_put long)
+          let bound : len ≤ capacity m = omega (arith, fits, come.table.counted, ap total come.lists) in
+          let k = multiple (omega (arith, come.within, length-homes_of slots, ap length come.lists)) in
+          no_refusal slots len come.table key m i come.within found.0 found.1 k.0 (k.1 ∙ ap (λ hs. k.0 * length hs) come.lists) bound hashes_read (subst IsTooLong as_put long)

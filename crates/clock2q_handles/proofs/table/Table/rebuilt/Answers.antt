@@ -9,9 +9,10 @@ use Rattle.clock2q_handles.proofs.Tidy.{tidy-layout}
 use Rattle.clock2q_handles.proofs.Hashes.{entries-all}
 use Rattle.clock2q_handles.proofs.Moves.{occupied_told, vacant_told}
 use Rattle.clock2q_handles.proofs.Tables.{table-empty, homes_of-empty}
-use Rattle.clock2q_handles.proofs.Rebuilds.{Reaches-push, Asks-push, step_empty, handles_empty, step_held, handles_more, step_made, step_room, step_short}
+use Rattle.clock2q_handles.proofs.Rebuilds.{Reaches-push, Asks-push, step_empty, handles_empty, step_held, handles_more, step_made, step_room, step_short, HasCome, Holds}
+use Rattle.clock2q_handles.proofs.table.Table.rebuilt.Given.{Over}
 use Rattle.clock2q_handles.proofs.table.Table.rebuilt.Goals as goal
-use Rattle.clock2q_handles.proofs.table.Table.rebuilt.Goals.{then-not-is_empty+in_ok-put, else-not-is_empty}
+use Rattle.clock2q_handles.proofs.table.Table.rebuilt.Goals.{After-is_empty, After-handle-handle, After-rehash-hash, then-not-is_empty+in_ok-put, else-not-is_empty}
 
 pub invariant_of-table : goal.invariant_of-table
 invariant_of-table g c = subst (λ s. IsTable s.slots 0) (sym c.in-Ok.ensures) (table-empty _ c.args.count c.requires.count)
@@ -23,58 +24,67 @@ loop-slot-init g c = record {
   asked = λ key answers hashes. refl;
 }
 
+-- the slot that the loop has come to
+come : (g : Over) (c : After-is_empty g) → HasCome c.args.self.now.homes c.self.inside.slots.slots c.self.inside.len c.loop-slot.slot
+come g c = record {
+  table = c.self.invariant;
+  lists = ap (λ t. t.homes) (sym c.self.view_is);
+  within = omega (arith, c.loop-slot-test.true, c.count-slot-end.ensures.count);
+}
+
+-- the entry there
+holds : (g : Over) (c : After-handle-handle g) → Holds c.self.inside.slots.slots c.loop-slot.slot c.handle-handle.result
+holds g c = record {
+  occupied = occupied_told c.is_empty.result _ (slot_at c.self.inside.slots.slots (0 + c.loop-slot.slot)) c.is_empty.ensures c.if-not-is_empty.true c.metadata.ensures.told;
+  handle = c.handle-handle.ensures;
+}
+
+held : (g : Over) (c : After-handle-handle g) → HasCome c.args.self.now.homes c.self.inside.slots.slots c.self.inside.len c.loop-slot.slot → IsHeld c.args.self.now.homes c.handle-handle.result
+held g c at = step_held c.args.self.now.homes c.self.inside.slots.slots c.self.inside.len c.args.count c.loop-slot.slot at c.handle-handle.result (holds g c)
+
+-- the closure gave its hash
+answered : (g : Over) (c : After-rehash-hash g) → IsHeld c.args.self.now.homes c.handle-handle.result → c.rehash-hash.result ≡ c.requires.asked.0 c.handle-handle.result
+answered g c held =
+    let reached = c.loop-slot.invariant.reached in
+    c.requires.asked.1.answers.answers reached.0 c.loop-slot.rehash c.handle-handle.result c.rehash-hash.result _ reached.1 held c.rehash-hash.ensures
+
 pub rehash-hash-requires : goal.rehash-hash-requires
 rehash-hash-requires g c =
-    let slots = c.self.inside.slots.slots in
-    let is : c.args.self.now.homes ≡ homes_of slots = ap (λ t. t.homes) (sym c.self.view_is) in
-    let within : c.loop-slot.slot < length slots = omega (arith, c.loop-slot-test.true, c.count-slot-end.ensures.count) in
-    let occupied = occupied_told c.is_empty.result _ (slot_at slots (0 + c.loop-slot.slot)) c.is_empty.ensures c.if-not-is_empty.true c.metadata.ensures.told in
-    let held = step_held c.args.self.now.homes slots c.self.inside.len c.self.invariant is c.args.count c.loop-slot.slot within c.handle-handle.result occupied c.handle-handle.ensures in
+    let before = goal.at.rehash-hash-requires g c in
     let reached = c.loop-slot.invariant.reached in
-    c.requires.asked.1.answers.takes reached.0 c.loop-slot.rehash c.handle-handle.result reached.1 held
+    c.requires.asked.1.answers.takes reached.0 c.loop-slot.rehash c.handle-handle.result reached.1 (held g before.After-handle-handle (come g before.After-is_empty))
 
 pub put-requires : goal.put-requires
 put-requires g c =
-    let slots = c.self.inside.slots.slots in
-    let is : c.args.self.now.homes ≡ homes_of slots = ap (λ t. t.homes) (sym c.self.view_is) in
-    let within : c.loop-slot.slot < length slots = omega (arith, c.loop-slot-test.true, c.count-slot-end.ensures.count) in
-    let occupied = occupied_told c.is_empty.result _ (slot_at slots (0 + c.loop-slot.slot)) c.is_empty.ensures c.if-not-is_empty.true c.metadata.ensures.told in
-    let held = step_held c.args.self.now.homes slots c.self.inside.len c.self.invariant is c.args.count c.loop-slot.slot within c.handle-handle.result occupied c.handle-handle.ensures in
-    let key = c.requires.asked.0 in
-    let answers = c.requires.asked.1.answers in
-    let hashes = c.requires.asked.1.hashes in
-    let reached = c.loop-slot.invariant.reached in
-    let answered = answers.answers reached.0 c.loop-slot.rehash c.handle-handle.result c.rehash-hash.result _ reached.1 held c.rehash-hash.ensures in
-    let so_far = c.loop-slot.invariant.built key answers hashes in
-    step_room c.args.self.now.homes slots c.self.inside.len c.self.invariant is c.args.count c.loop-slot.slot within c.handle-handle.result occupied c.handle-handle.ensures key hashes c.loop-slot.table.homes so_far c.rehash-hash.result answered c.requires.fits
+    let before = goal.at.put-requires g c in
+    let at = come g before.After-is_empty in
+    let asked = c.requires.asked in
+    let given = answered g before.After-rehash-hash (held g before.After-handle-handle at) in
+    step_room c.args.self.now.homes c.self.inside.slots.slots c.self.inside.len c.args.count c.loop-slot.slot at c.handle-handle.result (holds g before.After-handle-handle)
+    asked.0 asked.1.hashes c.loop-slot.table.homes (c.loop-slot.invariant.built asked.0 asked.1.answers asked.1.hashes) c.rehash-hash.result given c.requires.fits
 
 pub returns-in_err-put-clause-only : goal.returns-in_err-put-clause-only
 returns-in_err-put-clause-only g c =
-    let slots = c.self.inside.slots.slots in
-    let is : c.args.self.now.homes ≡ homes_of slots = ap (λ t. t.homes) (sym c.self.view_is) in
-    let within : c.loop-slot.slot < length slots = omega (arith, c.loop-slot-test.true, c.count-slot-end.ensures.count) in
-    let occupied = occupied_told c.is_empty.result _ (slot_at slots (0 + c.loop-slot.slot)) c.is_empty.ensures c.if-not-is_empty.true c.metadata.ensures.told in
-    let held = step_held c.args.self.now.homes slots c.self.inside.len c.self.invariant is c.args.count c.loop-slot.slot within c.handle-handle.result occupied c.handle-handle.ensures in
-    let key = c.requires.asked.0 in
-    let answers = c.requires.asked.1.answers in
-    let hashes = c.requires.asked.1.hashes in
-    let reached = c.loop-slot.invariant.reached in
-    let answered = answers.answers reached.0 c.loop-slot.rehash c.handle-handle.result c.rehash-hash.result _ reached.1 held c.rehash-hash.ensures in
-    let so_far = c.loop-slot.invariant.built key answers hashes in
-    absurd (step_short c.args.self.now.homes slots c.self.inside.len c.self.invariant is c.args.count c.loop-slot.slot within c.handle-handle.result occupied c.handle-handle.ensures key hashes c.loop-slot.table.homes so_far c.rehash-hash.result answered
-    c.requires.fits c.requires.multiple c.in_err-put.ensures.long)
+    let before = goal.at.returns-in_err-put-clause-only g c in
+    let at = come g before.After-is_empty in
+    let asked = c.requires.asked in
+    let given = answered g before.After-rehash-hash (held g before.After-handle-handle at) in
+    absurd (step_short c.args.self.now.homes c.self.inside.slots.slots c.self.inside.len c.args.count c.loop-slot.slot at c.handle-handle.result (holds g before.After-handle-handle)
+    asked.0 asked.1.hashes c.loop-slot.table.homes (c.loop-slot.invariant.built asked.0 asked.1.answers asked.1.hashes) c.rehash-hash.result given c.requires.fits c.requires.multiple c.in_err-put.ensures.long)
 
 pub loop-slot-preserved : goal.loop-slot-preserved
 loop-slot-preserved g c =
     let slots = c.self.inside.slots.slots in
-    let is : c.args.self.now.homes ≡ homes_of slots = ap (λ t. t.homes) (sym c.self.view_is) in
-    let within : c.loop-slot.slot < length slots = omega (arith, c.loop-slot-test.true, c.count-slot-end.ensures.count) in
+    let at = come g (goal.at.loop-slot-preserved g c).After-is_empty in
     elim c.if-not-is_empty.branch [
       | then-not-is_empty+in_ok-put w ↦
           let v = w.handle-handle.result in
           let reached = c.loop-slot.invariant.reached in
-          let occupied = occupied_told c.is_empty.result _ (slot_at slots (0 + c.loop-slot.slot)) c.is_empty.ensures w.if-not-is_empty.true c.metadata.ensures.told in
-          let held = step_held c.args.self.now.homes slots c.self.inside.len c.self.invariant is c.args.count c.loop-slot.slot within v occupied w.handle-handle.ensures in
+          let entry : Holds slots c.loop-slot.slot v = record {
+            occupied = occupied_told c.is_empty.result _ (slot_at slots (0 + c.loop-slot.slot)) c.is_empty.ensures w.if-not-is_empty.true c.metadata.ensures.told;
+            handle = w.handle-handle.ensures;
+          } in
+          let held = step_held c.args.self.now.homes slots c.self.inside.len c.args.count c.loop-slot.slot at v entry in
           let held_is = IsHeld c.args.self.now.homes in
           record {
             reached = (
@@ -84,22 +94,22 @@ loop-slot-preserved g c =
             );
             built = λ key answers hashes.
                 let answered = answers.answers reached.0 c.loop-slot.rehash v w.rehash-hash.result _ reached.1 held w.rehash-hash.ensures in
-                ap (λ t. t.homes) w.table-is ∙ w.in_ok-put.ensures.ok ∙ step_made c.args.self.now.homes slots c.self.inside.len c.self.invariant is c.args.count c.loop-slot.slot within v occupied w.handle-handle.ensures
+                ap (λ t. t.homes) w.table-is ∙ w.in_ok-put.ensures.ok ∙ step_made c.args.self.now.homes slots c.self.inside.len c.args.count c.loop-slot.slot at v entry
                 key hashes c.loop-slot.table.homes (c.loop-slot.invariant.built key answers hashes) w.rehash-hash.result answered;
             asked = λ key answers hashes.
                 let answered = answers.answers reached.0 c.loop-slot.rehash v w.rehash-hash.result _ reached.1 held w.rehash-hash.ensures in
                 let called = subst (λ r. Called g.F.FnMut c.loop-slot.rehash (v, tt) r w.rehash-hash.new.self) answered w.rehash-hash.ensures in
-                let more = handles_more c.args.self.now.homes slots c.self.inside.len c.self.invariant is c.args.count c.loop-slot.slot within v occupied w.handle-handle.ensures in
+                let more = handles_more c.args.self.now.homes slots c.self.inside.len c.args.count c.loop-slot.slot at v entry in
                 let pushed = Asks-push g.F.FnMut key c.args.rehash _ c.loop-slot.rehash v w.rehash-hash.new.self (c.loop-slot.invariant.asked key answers hashes) called in
                 subst (λ f. Asks g.F.FnMut key c.args.rehash (map (λ s. s.entry.1) (entries (take (c.loop-slot.slot + 1) slots))) f) (sym w.rehash-is)
                 (subst (λ hs. Asks g.F.FnMut key c.args.rehash hs w.rehash-hash.new.self) (sym more) pushed);
           }
       | else-not-is_empty w ↦
           let empty = vacant_told _ (slot_at slots (0 + c.loop-slot.slot)) (c.is_empty.ensures.0 w.if-not-is_empty.false) c.metadata.ensures.told in
-          let none = handles_empty c.args.self.now.homes slots c.self.inside.len c.self.invariant is c.args.count c.loop-slot.slot within empty in
+          let none = handles_empty c.args.self.now.homes slots c.self.inside.len c.args.count c.loop-slot.slot at empty in
           record {
             reached = (c.loop-slot.invariant.reached.0, subst (λ f. Reaches g.F.FnMut (IsHeld c.args.self.now.homes) c.args.rehash c.loop-slot.invariant.reached.0 f) (sym w.rehash-is) c.loop-slot.invariant.reached.1);
-            built = λ key answers hashes. ap (λ t. t.homes) w.table-is ∙ step_empty c.args.self.now.homes slots c.self.inside.len c.self.invariant is c.args.count c.loop-slot.slot within key c.loop-slot.table.homes empty (c.loop-slot.invariant.built key answers hashes);
+            built = λ key answers hashes. ap (λ t. t.homes) w.table-is ∙ step_empty c.args.self.now.homes slots c.self.inside.len c.args.count c.loop-slot.slot at key c.loop-slot.table.homes empty (c.loop-slot.invariant.built key answers hashes);
             asked = λ key answers hashes.
                 subst (λ f. Asks g.F.FnMut key c.args.rehash (map (λ s. s.entry.1) (entries (take (c.loop-slot.slot + 1) slots))) f) (sym w.rehash-is)
                 (subst (λ hs. Asks g.F.FnMut key c.args.rehash hs c.loop-slot.rehash) (sym none) (c.loop-slot.invariant.asked key answers hashes));
