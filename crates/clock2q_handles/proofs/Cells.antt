@@ -5,7 +5,7 @@ use Rattle.std.proofs.Math.Nat.{sub-zero}
 use Rattle.std.proofs.lemmas.Nat.{and_mask}
 use Rattle.std.specs.Int.Bits.{bit_and}
 use Rattle.clock2q_handles.specs.Layout.{slot_at}
-use Rattle.clock2q_handles.specs.Slots.{Mark, told, cell, mark_of, cells, slots_value, IsSlotCount}
+use Rattle.clock2q_handles.specs.Slots.{Mark, told, cell, mark_of, cells, SlotsValue, slots_value, IsSlotCount}
 use Rattle.clock2q_handles.specs.declared.metadata.Metadata.{Metadata}
 
 -- a mask of a slot count is a remainder
@@ -33,6 +33,10 @@ module _ {H : Type 0} where
   length-cells [] vs e = refl
   length-cells (m ∷ ms) [] e = e
   length-cells (m ∷ ms) (v ∷ vs) e = ap suc (length-cells ms vs (omega (arith, e)))
+
+  -- there is a word of metadata for each slot that contracts see
+  pub words : (ms : List Metadata) (vs : List H) {w : ℕ} {s : SlotsValue H} → length vs ≡ length ms → slots_value (cells ms vs) w ≡ s → length ms ≡ length s.slots
+  words ms vs as_many is = sym (length-cells ms vs as_many) ∙ ap (λ t. length t.slots) is
 
   -- what stands in a slot, read off the two vectors
   pub get_or-cells : (ms : List Metadata) (vs : List H) (n : ℕ) (m : Metadata) (v : H) → length vs ≡ length ms → n < length ms → get_or (cells ms vs) n None ≡ cell (told (get_or ms n m)) (get_or vs n v)

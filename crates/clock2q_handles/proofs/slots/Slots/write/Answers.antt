@@ -1,20 +1,12 @@
-use Rattle.std.proofs.Common.{◌+◌, ◌%◌, length, arith, sym, ap, ◌∙◌}
-use Rattle.clock2q_handles.proofs.Cells.{length-cells, written_cells}
+use Rattle.std.proofs.Common.{◌≡◌, ◌+◌, ◌%◌, length, arith, sym, ap, ◌∙◌}
+use Rattle.clock2q_handles.proofs.Cells.{words, written_cells}
 use Rattle.clock2q_handles.proofs.slots.Slots.write.Goals as goal
 
 pub index_mut-requires : goal.index_mut-requires
-index_mut-requires g c =
-    let made = length-cells c.self.inside.metadata.items c.self.inside.handles.items c.self.invariant.0 in
-    let ends = ap (λ s. length s.slots) c.self.view_is in
-    let counted = c.self.inside.metadata.ok.0 in
-    omega (arith, made, ends, counted, c.slot-slot.ensures.within)
+index_mut-requires g c = omega (arith, words c.self.inside.metadata.items c.self.inside.handles.items c.self.invariant.0 c.self.view_is, c.self.inside.metadata.ok.0, c.slot-slot.ensures.within)
 
 pub index_mut-requires-2 : goal.index_mut-requires-2
-index_mut-requires-2 g c =
-    let made = length-cells c.self.inside.metadata.items c.self.inside.handles.items c.self.invariant.0 in
-    let ends = ap (λ s. length s.slots) c.self.view_is in
-    let counted = c.self.inside.metadata.ok.0 in
-    omega (arith, made, ends, c.self.inside.handles.ok.0, c.self.invariant.0, c.slot-slot.ensures.within)
+index_mut-requires-2 g c = omega (arith, words c.self.inside.metadata.items c.self.inside.handles.items c.self.invariant.0 c.self.view_is, c.self.inside.handles.ok.0, c.self.invariant.0, c.slot-slot.ensures.within)
 
 pub returns : goal.returns
 returns g c =

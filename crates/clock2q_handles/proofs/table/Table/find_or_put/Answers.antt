@@ -1,49 +1,54 @@
-use Rattle.std.proofs.Common.{◌<◌, length, Some, None, refl, sym, ap, ◌∙◌, subst, arith}
+use Rattle.std.proofs.Common.{◌<◌, length, Option, Some, None, refl, sym, ap, ◌∙◌, subst, arith}
 use Rattle.clock2q_handles.specs.Homes.{total, capacity, candidates}
 use Rattle.clock2q_handles.specs.Layout.{homes_of, IsBestPlaced}
 use Rattle.clock2q_handles.specs.Offers.{Offers}
+use Rattle.clock2q_handles.specs.Candidates.{left_from}
 use Rattle.clock2q_handles.proofs.Tidy.{length-homes_of}
 use Rattle.clock2q_handles.proofs.Steps.{table-best}
 use Rattle.clock2q_handles.proofs.Yields.{left_at_start}
 use Rattle.clock2q_handles.proofs.Promises.{few_fit, restored_by}
+use Rattle.clock2q_handles.proofs.table.Table.find_or_put.Given.{Over}
+use Rattle.clock2q_handles.proofs.table.Table.find_or_put.Goals.{After-home-home, After-offer}
 use Rattle.clock2q_handles.proofs.table.Table.find_or_put.Goals as goal
 
-pub offer-requires-clause-some : goal.offer-requires-clause-some
-offer-requires-clause-some g c =
+-- there are slots, since there is room
+some : (g : Over) (c : After-home-home g) → 0 < length c.self.inside.slots.slots
+some g c =
     let slots = c.self.inside.slots.slots in
     let room : total (homes_of slots) < capacity (length (homes_of slots)) = subst (λ t. total t.homes < capacity (length t.homes)) (sym c.self.view_is) c.requires.room in
     omega (arith, room, length-homes_of slots)
 
+-- the candidates were offered
+offered : (g : Over) (c : After-offer g) (found : Option g.row.H.Denot) (last : g.row.M.Denot) → Offers g.M.FnMut c.args.matches (left_from c.self.inside.slots.slots c.args.hash 0) found last
+    → Offers g.M.FnMut c.args.matches (candidates c.args.self.now.homes c.args.hash) found last
+offered g c found last offers =
+    let list = left_at_start c.self.inside.slots.slots c.args.hash ∙ ap (λ t. candidates t.homes c.args.hash) c.self.view_is in
+    subst (λ hs. Offers g.M.FnMut c.args.matches hs found last) list offers
+
+pub offer-requires-clause-some : goal.offer-requires-clause-some
+offer-requires-clause-some g c = some g (goal.at.offer-requires-clause-some g c).After-home-home
+
 pub offer-requires-clause-home : goal.offer-requires-clause-home
-offer-requires-clause-home g c =
-    let slots = c.self.inside.slots.slots in
-    let room : total (homes_of slots) < capacity (length (homes_of slots)) = subst (λ t. total t.homes < capacity (length t.homes)) (sym c.self.view_is) c.requires.room in
-    c.home-home.ensures.home (omega (arith, room, length-homes_of slots))
+offer-requires-clause-home g c = c.home-home.ensures.home (some g (goal.at.offer-requires-clause-home g c).After-home-home)
 
 pub returns-in-Ok-clause-settles : goal.returns-in-Ok-clause-settles
 returns-in-Ok-clause-settles g c =
-    let slots = c.self.inside.slots.slots in
-    let list = left_at_start slots c.args.hash ∙ ap (λ t. candidates t.homes c.args.hash) c.self.view_is in
-    let offered = c.in-Ok.ensures.offers in
-    (Some c.in-Ok.found, offered.0, subst (λ hs. Offers g.M.FnMut c.args.matches hs (Some c.in-Ok.found) offered.0) list offered.1, (refl, refl))
+    let offers = c.in-Ok.ensures.offers in
+    (Some c.in-Ok.found, offers.0, offered g (goal.at.returns-in-Ok-clause-settles g c).After-offer (Some c.in-Ok.found) offers.0 offers.1, (refl, refl))
 
 pub returns-in-Ok-clause-best : goal.returns-in-Ok-clause-best
 returns-in-Ok-clause-best g c = subst (λ t. IsBestPlaced t.homes) c.self.view_is (table-best c.self.inside.slots.slots c.self.inside.len c.self.invariant)
 
 pub returns-in-Ok-place-clause-settles : goal.returns-in-Ok-place-clause-settles
 returns-in-Ok-place-clause-settles g c =
-    let slots = c.self.inside.slots.slots in
-    let list = left_at_start slots c.args.hash ∙ ap (λ t. candidates t.homes c.args.hash) c.self.view_is in
-    let offered = c.in-Err.ensures.offers in
-    (None, offered.0, subst (λ hs. Offers g.M.FnMut c.args.matches hs None offered.0) list offered.1, (refl, c.in-Ok-place.ensures.ok, c.in-Ok-place.ensures.short))
+    let offers = c.in-Err.ensures.offers in
+    (None, offers.0, offered g (goal.at.returns-in-Ok-place-clause-settles g c).After-offer None offers.0 offers.1, (refl, c.in-Ok-place.ensures.ok, c.in-Ok-place.ensures.short))
 
 pub returns-in-Err-place-clause-settles : goal.returns-in-Err-place-clause-settles
 returns-in-Err-place-clause-settles g c =
-    let slots = c.self.inside.slots.slots in
-    let list = left_at_start slots c.args.hash ∙ ap (λ t. candidates t.homes c.args.hash) c.self.view_is in
-    let offered = c.in-Err.ensures.offers in
+    let offers = c.in-Err.ensures.offers in
     let only = c.in-Err-place.ensures.only in
-    (None, offered.0, subst (λ hs. Offers g.M.FnMut c.args.matches hs None offered.0) list offered.1, (only, ap (λ t. t.homes) c.in-Err-place.ensures.err, c.in-Err-place.ensures.long))
+    (None, offers.0, offered g (goal.at.returns-in-Err-place-clause-settles g c).After-offer None offers.0 offers.1, (only, ap (λ t. t.homes) c.in-Err-place.ensures.err, c.in-Err-place.ensures.long))
 
 pub returns-in-Ok-place-clause-restored : goal.returns-in-Ok-place-clause-restored
 returns-in-Ok-place-clause-restored g c _ fresh =
