@@ -7,10 +7,10 @@ use Rattle.clock2q_handles.specs.Offers.{Offers, Settles}
 use lib.Dec.{T, eqb→eq}
 use Rattle.std.specs.Fn.{Called, Takes, Mut}
 use Rattle.clock2q_handles.specs.Homes.{top, capacity, total, candidates, inserted, removed}
-use Rattle.clock2q_handles.specs.TableStep.{TableValue, IsHashOf, IsFull, IsShortOf, doubled_until, grown, reserved, rebuilt, doubled, made_for, fit}
+use Rattle.clock2q_handles.specs.TableStep.{TableValue, IsHashOf, IsFull, IsShortOf, doubled_until, grown, reserved, rebuilt, doubled, fit}
 use Rattle.clock2q_handles.specs.Layout.{IsTooLong}
 use Rattle.clock2q_handles.specs.Rehash.{GivesHashes}
-use Rattle.clock2q_handles.proofs.Hashes.{hashes-none, hashes-put_last, hashes-rebuilt, hashes-removed, rebuilt-length}
+use Rattle.clock2q_handles.proofs.Hashes.{hashes-put_last, hashes-rebuilt, hashes-removed, rebuilt-length}
 
 one_of : (m x : ℕ) (b : Bool) → 0 < m → 0 < x → 0 < elim b [ true ↦ m | false ↦ x ]
 one_of m x true some other = some

@@ -1,4 +1,4 @@
-use Rattle.std.proofs.Common.{◌≡◌, ◌+◌, ◌%◌, length, arith, sym, ap, ◌∙◌}
+use Rattle.std.proofs.Common.{◌+◌, ◌%◌, length, arith, sym, ap, ◌∙◌}
 use Rattle.clock2q_handles.proofs.Cells.{words, written_cells}
 use Rattle.clock2q_handles.proofs.slots.Slots.write.Goals as goal
 

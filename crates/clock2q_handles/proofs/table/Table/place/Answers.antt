@@ -1,4 +1,4 @@
-use Rattle.std.proofs.Common.{◌≡◌, ◌<◌, ◌≤◌, ◌+◌, ap, sym, ◌∙◌, subst, arith}
+use Rattle.std.proofs.Common.{◌≤◌, ◌+◌, ap, sym, ◌∙◌, subst, arith}
 use Rattle.clock2q_handles.specs.Homes.{inserted}
 use Rattle.clock2q_handles.specs.Layout.{homes_of, run, IsTooLong, IsBestPlaced}
 use Rattle.clock2q_handles.proofs.Steps.{table-best}
