@@ -13,13 +13,14 @@ use Rattle.clock2q_handles.proofs.table.Table.reserve.Goals as goal
 entries : (g : Over) (c : In-Some-slots_for g) → c.in-Some.entries ≡ total c.args.self.now.homes + c.args.additional
 entries g c = omega (arith, c.in-Some.ensures.1, c.len.ensures.len)
 
--- the slots for them are more, by a whole factor
-more : (g : Over) (c : In-Some-slots_for g) → (total c.args.self.now.homes ≤ capacity c.in-Some-slots_for.count) × (0 < c.in-Some-slots_for.count)
-more g c = (
+-- they fit in the slots for them
+fits : (g : Over) (c : In-Some-slots_for g) → (total c.args.self.now.homes ≤ capacity c.in-Some-slots_for.count) × (0 < c.in-Some-slots_for.count)
+fits g c = (
   omega (arith, c.in-Some-slots_for.ensures.enough, entries g c),
   omega (arith, c.in-Some-slots_for.ensures.enough, c.if-entries-capacity.false, c.capacity.ensures),
 )
 
+-- which are a multiple of those before
 multiple : (g : Over) (c : In-Some-slots_for g) → 0 < length c.args.self.now.homes → (k : ℕ) × (c.in-Some-slots_for.count ≡ k * length c.args.self.now.homes)
 multiple g c =
     larger_multiple c.args.self.now.homes _ refl c.len.ensures.whole.slot_count c.in-Some-slots_for.count c.in-Some-slots_for.ensures.power
@@ -43,16 +44,16 @@ returns-in_err-self-clause-best g c = best-placed _ c.len.ensures.whole.room
 pub returns-clause-best : goal.returns-clause-best
 returns-clause-best g c =
     let before = (goal.at.returns-clause-best g c).In-Some-slots_for in
-    let fits = more g before in
+    let room = fits g before in
     let asked = c.requires (omega (arith, c.if-entries-capacity.false, c.capacity.ensures, entries g before)) in
-    subst IsBestPlaced (sym (c.in_ok-self.ensures.made asked.0 asked.1)) (rebuilt_best asked.0 c.args.self.now.homes c.in-Some-slots_for.count c.len.ensures.whole.room fits.1 fits.0)
+    subst IsBestPlaced (sym (c.in_ok-self.ensures.made asked.0 asked.1)) (rebuilt_best asked.0 c.args.self.now.homes c.in-Some-slots_for.count c.len.ensures.whole.room room.1 room.0)
 
 pub returns-clause-nearer : goal.returns-clause-nearer
 returns-clause-nearer g c x =
     let homes = c.args.self.now.homes in
     let m : ℕ = c.in-Some-slots_for.count in
     let before = (goal.at.returns-clause-nearer g c).In-Some-slots_for in
-    let fits = more g before in
+    let room = fits g before in
     let asked = c.requires (omega (arith, c.if-entries-capacity.false, c.capacity.ensures, entries g before)) in
     subst (λ hs. spill_of hs x + count hs x ≤ spill_of homes x + count homes x) (sym (c.in_ok-self.ensures.made asked.0 asked.1))
-    (rebuilt-reach asked.0 homes m c.len.ensures.whole.room (omega (arith, fits.0, capacity-lt m fits.1)) (multiple g before) asked.1.hashes x)
+    (rebuilt-reach asked.0 homes m c.len.ensures.whole.room (omega (arith, room.0, capacity-lt m room.1)) (multiple g before) asked.1.hashes x)
