@@ -1,3 +1,4 @@
+pub mod Filling
 pub mod Hand
 pub mod Hashed
 pub mod Histories
@@ -13,3 +14,4 @@ pub mod Resetting
 pub mod Rings
 pub mod Sharing
 pub mod Window
+mod WorkedQueues

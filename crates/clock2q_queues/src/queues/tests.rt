@@ -1,4 +1,6 @@
-ghost use Rattle.std.specs.Prelude.{◌≡◌, ◌<◌};
+ghost use Rattle.std.specs.Prelude.{◌≡◌, ◌+◌, ◌<◌, true, false, [], ◌∷◌, map};
+ghost use Rattle.std.specs.List.{range_with_len};
+ghost use Rattle.clock2q_queues.specs.Ages.{Young, Old};
 
 use super::*;
 use std::process::Abort;
@@ -31,36 +33,53 @@ fn append(rt: &impl Abort, queues: &mut Queues, slot: usize)
     }
 }
 
-// Slots 0 to 3 were admitted in order, slot 3 left and was admitted again. With a window of two
-// admissions slot 2 is old by then, though only one slot stands before it.
+// Admits the slots from 0 to 3 to a window of two, and slot 3 once more after it left.
+fn admit_again(queues: &mut Queues)
+    requires slots { queues.old.slots ≡ 4 }
+    requires window { queues.old.window ≡ 2 }
+    requires small { queues.old.small ≡ [] }
+    requires main { queues.old.main ≡ [] }
+    ensures slots { queues.new.slots ≡ 4 }
+    ensures window { queues.new.window ≡ 2 }
+    ensures small { queues.new.small ≡ (3, Young 0) ∷ (2, Old false) ∷ (1, Old false) ∷ (0, Old false) ∷ [] }
+    ensures main { queues.new.main ≡ [] }
+{
+    queues.admit(0);
+    queues.admit(1);
+    queues.admit(2);
+    queues.admit(3);
+    queues.leave(3);
+    queues.admit(3);
+}
+
+// Slot 2 is old by the second admission of slot 3, though only one slot stands before it: a hit on
+// it counts, and it goes on to Main.
 #[test]
 fn admissions_count_after_a_removal(rt: HostRuntime) -> Result<(), Fail> {
     let mut queues = Queues::new(rt.alloc(), 4, 2)?;
-    admit(&rt, &mut queues, 0);
-    admit(&rt, &mut queues, 1);
-    admit(&rt, &mut queues, 2);
-    admit(&rt, &mut queues, 3);
-    assert_eq!(rt; queues.standing(2), Standing::Young(0));
-    queues.leave(3);
-    admit(&rt, &mut queues, 3);
+    admit_again(&mut queues);
+    assert_eq!(rt; queues.standing(3), Standing::Young(0));
     assert_eq!(rt; queues.standing(2), Standing::Old);
     assert!(rt; !queues.hit(2));
-    assert_eq!(rt; queues.tail(), Some(0));
     assert_eq!(rt; queues.small_len(), 4);
+    assert_eq!(rt; queues.tail(), Some(0));
+    assert!(rt; !queues.tail_is_promoted());
+    queues.leave(0);
+    assert_eq!(rt; queues.tail(), Some(1));
+    assert!(rt; !queues.tail_is_promoted());
+    queues.leave(1);
+    assert_eq!(rt; queues.tail(), Some(2));
+    assert!(rt; queues.tail_is_promoted());
     Ok(())
 }
 
 // Slot 3 is admitted, leaves, is admitted, leaves and is admitted again. The places of those that
-// left were emptied, so after one more admission it is still young.
+// left were emptied, so after one more admission it is still young, and a hit on it counts for
+// nothing.
 #[test]
 fn an_emptied_place_makes_no_slot_old(rt: HostRuntime) -> Result<(), Fail> {
     let mut queues = Queues::new(rt.alloc(), 4, 2)?;
-    admit(&rt, &mut queues, 0);
-    admit(&rt, &mut queues, 1);
-    admit(&rt, &mut queues, 2);
-    admit(&rt, &mut queues, 3);
-    queues.leave(3);
-    admit(&rt, &mut queues, 3);
+    admit_again(&mut queues);
     queues.leave(3);
     admit(&rt, &mut queues, 3);
     assert_eq!(rt; queues.tail(), Some(0));
@@ -69,6 +88,7 @@ fn an_emptied_place_makes_no_slot_old(rt: HostRuntime) -> Result<(), Fail> {
     assert_eq!(rt; queues.standing(0), Standing::Young(0));
     assert_eq!(rt; queues.standing(3), Standing::Young(1));
     assert_eq!(rt; queues.standing(1), Standing::Old);
+    assert!(rt; !queues.hit(3));
     let Queues {
         mut links,
         small,
@@ -77,30 +97,46 @@ fn an_emptied_place_makes_no_slot_old(rt: HostRuntime) -> Result<(), Fail> {
     assert_eq!(rt; links.window(), 2);
     assert_eq!(rt; links.place(0), Some(0));
     assert_eq!(rt; links.place(1), Some(3));
+    assert!(rt; !links.bit(3));
     assert_eq!(rt; small.cursor(), 1);
     assert_eq!(rt; main.len(), 0);
     Ok(())
 }
 
-// Appends the slots from 2 to 19, and hits each.
-fn fill_main(rt: &impl Abort, queues: &mut Queues)
-    requires { queues.old.slots ≡ 20 }
-    ensures { queues.new.slots ≡ 20 }
+// Puts the slots from 2 to 19 into Main, and hits each.
+fn fill_main(queues: &mut Queues)
+    requires slots { queues.old.slots ≡ 20 }
+    requires small { queues.old.small ≡ [] }
+    requires main { queues.old.main ≡ [] }
+    ensures slots { queues.new.slots ≡ 20 }
+    ensures main { queues.new.main ≡ map (λ slot. (slot, true)) (range_with_len 2 18) }
+    ensures looks { queues.new.inspections ≡ queues.old.inspections }
 {
     for slot in 2..20 {
-        append(rt, queues, slot);
-        assert!(rt; queues.hit(slot));
-        assert!(rt; !queues.hit(slot));
+        queues.append(slot);
+        let _ = queues.hit(slot);
     }
 }
 
 // All 18 bits are set: the hand passes them all, and at its 19th look finds the first one clear.
+fn go_round(queues: &mut Queues) -> usize
+    requires slots { queues.old.slots ≡ 20 }
+    requires small { queues.old.small ≡ [] }
+    requires main { queues.old.main ≡ [] }
+    ensures slots { queues.new.slots ≡ 20 }
+    ensures victim { result ≡ 2 }
+    ensures main { queues.new.main ≡ map (λ slot. (slot, false)) (range_with_len 2 18) }
+    ensures looks { queues.new.inspections ≡ queues.old.inspections + 19 }
+{
+    fill_main(queues);
+    queues.select()
+}
+
 #[test]
 fn the_hand_comes_round(rt: HostRuntime) -> Result<(), Fail> {
     let mut queues = Queues::new(rt.alloc(), 20, 1)?;
-    fill_main(&rt, &mut queues);
+    assert_eq!(rt; go_round(&mut queues), 2);
     assert_eq!(rt; queues.main_len(), 18);
-    assert_eq!(rt; queues.select(), 2);
     queues.leave(2);
     assert_eq!(rt; queues.main_len(), 17);
     // Each bit was cleared on the way, and the one behind a victim stays.
@@ -111,18 +147,40 @@ fn the_hand_comes_round(rt: HostRuntime) -> Result<(), Fail> {
     assert!(rt; !queues.hit(19));
     assert!(rt; queues.hit(3));
     assert_eq!(rt; queues.main_len(), 16);
-    assert_eq!(rt; queues.select(), 5);
+    for slot in 5..19 {
+        assert!(rt; queues.main_len() > 0);
+        assert_eq!(rt; queues.select(), slot);
+        queues.leave(slot);
+    }
+    // The bits of the last two are set: the one that was hit first is given up first.
+    assert_eq!(rt; queues.main_len(), 2);
+    assert_eq!(rt; queues.select(), 19);
+    queues.leave(19);
+    assert_eq!(rt; queues.main_len(), 1);
+    assert_eq!(rt; queues.select(), 3);
     Ok(())
 }
 
 // One slot in Main whose bit is set: two looks, and it is given up.
+fn look_twice(queues: &mut Queues) -> usize
+    requires slots { queues.old.slots ≡ 1 }
+    requires small { queues.old.small ≡ [] }
+    requires main { queues.old.main ≡ [] }
+    ensures slots { queues.new.slots ≡ 1 }
+    ensures victim { result ≡ 0 }
+    ensures main { queues.new.main ≡ (0, false) ∷ [] }
+    ensures looks { queues.new.inspections ≡ queues.old.inspections + 2 }
+{
+    queues.append(0);
+    let _ = queues.hit(0);
+    queues.select()
+}
+
 #[test]
 fn a_single_slot_gets_one_more_look(rt: HostRuntime) -> Result<(), Fail> {
     let mut queues = Queues::new(rt.alloc(), 1, 0)?;
-    append(&rt, &mut queues, 0);
-    assert!(rt; queues.hit(0));
+    assert_eq!(rt; look_twice(&mut queues), 0);
     assert_eq!(rt; queues.main_len(), 1);
-    assert_eq!(rt; queues.select(), 0);
     assert!(rt; queues.hit(0));
     queues.clear();
     assert_eq!(rt; queues.main_len(), 0);
