@@ -72,7 +72,7 @@ impl MainRing {
         ensures others { IsSameBut (main_slots links.old self.old) links.old links.new }
         ensures places { links.new.places ≡ links.old.places }
         ensures looks { links.new.inspections ≡ links.old.inspections }
-        ensures accesses { links.new.accesses ≤ links.old.accesses + 12 }
+        ensures accesses { links.new.accesses ≡ links.old.accesses + 6 }
     {
         let was = links.detach(slot);
         self.len -= 1;

@@ -157,7 +157,7 @@ impl<A: Allocator> Queues<A> {
         ensures slots { self.new.slots ≡ self.old.slots }
         ensures window { self.new.window ≡ self.old.window }
         ensures looks { self.new.inspections ≡ self.old.inspections }
-        ensures accesses { self.new.accesses ≤ self.old.accesses + 12 }
+        ensures accesses { self.new.accesses ≤ self.old.accesses + 7 }
     {
         self.small.unlink(&mut self.links, slot);
     }
@@ -170,7 +170,7 @@ impl<A: Allocator> Queues<A> {
         ensures slots { self.new.slots ≡ self.old.slots }
         ensures window { self.new.window ≡ self.old.window }
         ensures looks { self.new.inspections ≡ self.old.inspections }
-        ensures accesses { self.new.accesses ≤ self.old.accesses + 12 }
+        ensures accesses { self.new.accesses ≡ self.old.accesses + 6 }
     {
         self.main.unlink(&mut self.links, slot);
     }
@@ -183,7 +183,7 @@ impl<A: Allocator> Queues<A> {
         ensures slots { self.new.slots ≡ self.old.slots }
         ensures window { self.new.window ≡ self.old.window }
         ensures looks { self.new.inspections ≡ self.old.inspections }
-        ensures accesses { self.new.accesses ≤ self.old.accesses + 13 }
+        ensures accesses { self.new.accesses ≤ self.old.accesses + 8 }
     {
         match self.standing(slot) {
             Standing::Free => {}
@@ -247,6 +247,7 @@ impl<A: Allocator> Queues<A> {
         ensures slots { self.new.slots ≡ self.old.slots }
         ensures window { self.new.window ≡ self.old.window }
         ensures looks { self.new.inspections ≡ self.old.inspections }
+        ensures accesses { self.new.accesses ≡ self.old.accesses + self.old.slots + self.old.window }
     {
         self.small.clear();
         self.main.clear();

@@ -124,7 +124,7 @@ impl Small {
         ensures others { IsSameBut (small_slots links.old self.old) links.old links.new }
         ensures window { length links.new.places ≡ length links.old.places }
         ensures looks { links.new.inspections ≡ links.old.inspections }
-        ensures accesses { links.new.accesses ≤ links.old.accesses + 12 }
+        ensures accesses { links.new.accesses ≤ links.old.accesses + 7 }
     {
         let was = links.detach(slot);
         leave_place(links, was.standing);

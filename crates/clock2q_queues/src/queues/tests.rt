@@ -287,6 +287,11 @@ fn compare(rt: &impl Abort, queues: &mut Queues, lists: &Lists)
     assert_eq!(rt; queues.small_len(), lists.small.len());
     assert_eq!(rt; queues.main_len(), lists.main.len());
     assert!(rt; queues.tail() == lists.small.first().map(|entry| entry.slot));
+    let promoted = match lists.small.first() {
+        Some(entry) => entry.age >= lists.window && entry.bit,
+        None => false,
+    };
+    assert!(rt; queues.tail_is_promoted() == promoted);
 }
 
 // One step of a run: an admission in place of Small's tail where Small is full, a slot put into

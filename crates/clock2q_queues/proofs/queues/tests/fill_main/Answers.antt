@@ -19,12 +19,13 @@ loop-slot-preserved c =
     let i = c.loop-slot.invariant in
     let put = c.append.ensures in
     let hit = c.hit.ensures in
-    let is : slot - 2 + 1 ≡ slot + 1 - 2 = omega (arith, c.loop-slot.auto.slot) in
-    (hit.slots ∙ put.slots ∙ i.0,
-    hit.small ∙ ap (λ (small : List (ℕ × Age)). small_hit_at slot small) (put.small ∙ i.1),
-    hit.main ∙ ap (λ (main : List (ℕ × Bool)). main_hit_at slot main) (put.main ∙ ap (λ (main : List (ℕ × Bool)). main ++ (slot, false) ∷ []) i.2)
-    ∙ filled_more 2 (slot - 2) slot (omega (arith, c.loop-slot.auto.slot)) ∙ ap (λ n. all_set (range_with_len 2 n)) is,
-    hit.looks ∙ put.looks ∙ i.3)
+    let is : slot - 2 + 1 ≡ slot + 1 - 2 = omega (arith, c.loop-slot.auto.slot) in (
+      hit.slots ∙ put.slots ∙ i.0,
+      hit.small ∙ ap (λ (small : List (ℕ × Age)). small_hit_at slot small) (put.small ∙ i.1),
+      hit.main ∙ ap (λ (main : List (ℕ × Bool)). main_hit_at slot main) (put.main ∙ ap (λ (main : List (ℕ × Bool)). main ++ (slot, false) ∷ []) i.2)
+          ∙ filled_more 2 (slot - 2) slot (omega (arith, c.loop-slot.auto.slot)) ∙ ap (λ n. all_set (range_with_len 2 n)) is,
+      hit.looks ∙ put.looks ∙ i.3,
+    )
 
 pub returns-clause-main : goal.returns-clause-main
 returns-clause-main c =
