@@ -8,6 +8,8 @@ mod devices;
 #[cfg(test)]
 mod refused;
 #[cfg(test)]
+mod refused_queues;
+#[cfg(test)]
 mod refused_tables;
 pub mod refusing;
 #[cfg(test)]
