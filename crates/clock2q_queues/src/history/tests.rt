@@ -56,7 +56,7 @@ fn place_of(history: &History<u64>, hash: u64) -> Option<usize> {
     history.index.get(hash).next()
 }
 
-/// Two keys fit: the row of a cache of four entries.
+/// Two keys fit: the place of a discarded key is taken first, and then that of the oldest key.
 #[test]
 fn two_keys(rt: HostRuntime) -> Result<(), Fail> {
     let mut history: History<u64> = History::new(rt.alloc(), 2)?;
