@@ -1,6 +1,6 @@
 -- The entries of Small and of Main, and what becomes of a queue's list: a hit, an admission to Small, the hand's choice in Main.
-use Rattle.std.specs.Prelude.{ℕ, ◌+◌, Bool, true, false, if◌then◌else◌, List, [], ◌∷◌, ◌++◌, map, take, drop, refl}
-use Rattle.std.specs.List.{prefix_len}
+use Rattle.std.specs.Prelude.{ℕ, Bool, true, false, if◌then◌else◌, List, [], ◌∷◌, ◌++◌, map, refl}
+use Rattle.clock2q_queues.specs.Hand as hand
 use Rattle.std.specs.Coded.{Coded, code_by, coded×, coded_ℕ, coded_bool}
 use Rattle.clock2q_queues.specs.Ages.{Age, Young, touched, grown, age_code}
 
@@ -35,17 +35,15 @@ module _ {K : Type 0} where
   abbrev pub small_admitted : ℕ → K → ℕ → List (SmallEntry K) → List (SmallEntry K)
   small_admitted window key slot small = record { key = key; slot = slot; age = Young 0 } ∷ map (λ e. with_age e (grown window e.age)) small
 
-  -- how many entries the hand passes: the longest front of set bits
+  -- how many entries the hand passes, how often it looks, and Main from its victim
   abbrev pub passed : List (MainEntry K) → ℕ
-  passed main = prefix_len (λ e. e.bit) main
+  passed main = hand.passed (λ e. e.bit) main
 
-  -- the hand looks at each entry that it passes, and at the victim
   abbrev pub inspections : List (MainEntry K) → ℕ
-  inspections main = passed main + 1
+  inspections main = hand.inspections (λ e. e.bit) main
 
-  -- what the hand passed goes behind the rest, with clear bits: the victim is then the first entry, and what follows it is what Main becomes
   abbrev pub from_victim : List (MainEntry K) → List (MainEntry K)
-  from_victim main = drop (passed main) main ++ map (λ e. with_bit e false) (take (passed main) main)
+  from_victim main = hand.from_victim (λ e. e.bit) (λ e. with_bit e false) main
 
   -- a new entry of Main stands last, just before the hand, with a clear bit
   abbrev pub behind_hand : K → ℕ → List (MainEntry K) → List (MainEntry K)

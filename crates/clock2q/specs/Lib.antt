@@ -17,6 +17,7 @@ pub mod Transfer
 pub mod Serve
 pub mod Keyed
 pub use Rattle.clock2q_queues.specs.Ages
+pub use Rattle.clock2q_queues.specs.Hand
 pub use Rattle.clock2q_handles.specs.Homes
 pub use Rattle.clock2q_handles.specs.Layout
 pub use Rattle.clock2q_handles.specs.TableStep

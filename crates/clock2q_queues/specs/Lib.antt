@@ -1,6 +1,7 @@
 pub mod Ages
 pub mod Ends
 pub mod Links
+pub mod Hand
 pub mod MainRing
 pub mod Rings
 pub mod Small

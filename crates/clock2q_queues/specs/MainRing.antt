@@ -1,6 +1,6 @@
 -- Main as a list from the hand, and what the hand's choice makes of it.
-use Rattle.std.specs.Prelude.{◌≡◌, ℕ, ◌+◌, Bool, true, false, List, ◌++◌, map, take, drop, ◌==◌, if◌then◌else◌}
-use Rattle.std.specs.List.{prefix_len}
+use Rattle.std.specs.Prelude.{◌≡◌, ℕ, Bool, true, false, List, map, ◌==◌, if◌then◌else◌}
+use Rattle.clock2q_queues.specs.Hand as hand
 use Rattle.clock2q_queues.specs.Rings.{has}
 use Rattle.clock2q_queues.specs.Links.{LinkState, IsQueue, slots_from, standing_at, bit_at}
 use Rattle.clock2q_queues.specs.declared.links.Standing.TheVariants.{Main}
@@ -23,17 +23,15 @@ pub record IsMain (l : LinkState) (main : MainRing) (slots : List ℕ) : Type 0 
 abbrev pub IsMainRing : LinkState → MainRing → Type 0
 IsMainRing l main = IsMain l main (main_slots l main)
 
--- how many entries the hand passes: the longest front of set bits
+-- how many slots the hand passes, how often it looks, and Main from its victim
 abbrev pub passed : List (ℕ × Bool) → ℕ
-passed main = prefix_len (λ e. e.1) main
+passed main = hand.passed (λ e. e.1) main
 
--- the hand looks at each entry that it passes, and at the victim
 abbrev pub inspections : List (ℕ × Bool) → ℕ
-inspections main = passed main + 1
+inspections main = hand.inspections (λ e. e.1) main
 
--- what the hand passed goes behind the rest, with clear bits: the victim is then the first entry, and what follows it is what Main becomes
 abbrev pub from_victim : List (ℕ × Bool) → List (ℕ × Bool)
-from_victim main = drop (passed main) main ++ map (λ e. (e.0, false)) (take (passed main) main)
+from_victim main = hand.from_victim (λ e. e.1) (λ e. (e.0, false)) main
 
 -- after a hit on a slot
 abbrev pub main_hit_at : ℕ → List (ℕ × Bool) → List (ℕ × Bool)
