@@ -22,7 +22,7 @@ impl Model for Count {
 impl Count {
     /// Nothing was done yet.
     pub fn new() -> Count
-        ensures { result.total ≡ 0 }
+        ensures zero { result.total ≡ 0 }
     {
         Count { seal: () }
     }
@@ -41,7 +41,7 @@ impl Count {
 
     /// It was done once more.
     pub fn tick(&mut self)
-        ensures { self.new.total ≡ self.old.total + 1 }
+        ensures ticked { self.new.total ≡ self.old.total + 1 }
     {
         *self = Count::sum(self, &Count::one());
     }

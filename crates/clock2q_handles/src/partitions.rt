@@ -6,7 +6,7 @@ ghost use Rattle.std.specs.Prelude.{◌≡◌, ◌<◌, ℕ};
 /// byte, of which a table of fewer than 2^40 slots reads none, so keys that are split among tables
 /// by group stay spread over every home and fingerprint of their own table.
 pub fn partition(hash: u64, partitions: usize) -> usize
-    requires { IsPartitionCount partitions }
+    requires count { IsPartitionCount partitions }
     ensures group { IsGroupOf hash partitions result }
     ensures within { result < partitions }
 

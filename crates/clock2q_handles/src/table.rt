@@ -62,7 +62,7 @@ impl<H: Copy + Eq + Default, A: Allocator + Copy> Table<H, A> {
 
     /// An empty table with no slots, which takes no memory.
     pub fn new(alloc: A) -> Table<H, A>
-        ensures { result ≡ table_value [] [] 0 }
+        ensures made { result ≡ table_value [] [] 0 }
     {
         Table {
             slots: Slots::new(alloc),
@@ -218,7 +218,7 @@ impl<H: Copy + Eq + Default, A: Allocator + Copy> Table<H, A> {
         additional: usize,
         rehash: F,
     ) -> Result<(), TableError>
-        requires { IsShortOf self.old.homes additional → (key : H → ℕ) × GivesHashes F.FnMut key self.old.homes rehash }
+        requires rehash { IsShortOf self.old.homes additional → (key : H → ℕ) × GivesHashes F.FnMut key self.old.homes rehash }
         ensures reserved { OnOk result ((key : H → ℕ) → (IsShortOf self.old.homes additional → GivesHashes F.FnMut key self.old.homes rehash) → self.new.homes ≡ reserved key self.old.homes additional) }
         ensures asks { OnOk result (IsShortOf self.old.homes additional → (key : H → ℕ) → GivesHashes F.FnMut key self.old.homes rehash → (last : F) × Asks F.FnMut key rehash (held_handles self.old.homes) last) }
         ensures kept { total self.old.homes + additional ≤ capacity (length self.old.homes) → total self.old.homes + additional < 2 ^ 64 → IsOk result × (self.new ≡ self.old) }
@@ -261,7 +261,7 @@ impl<H: Copy + Eq + Default, A: Allocator + Copy> Table<H, A> {
         handle: H,
         rehash: F,
     ) -> Result<(), TableError>
-        requires { IsFull self.old.homes → (key : H → ℕ) × GivesHashes F.FnMut key self.old.homes rehash }
+        requires rehash { IsFull self.old.homes → (key : H → ℕ) × GivesHashes F.FnMut key self.old.homes rehash }
         ensures ok { OnOk result ((key : H → ℕ) → (IsFull self.old.homes → GivesHashes F.FnMut key self.old.homes rehash) → self.new.homes ≡ inserted (grown key self.old.homes) hash handle) }
         ensures short { OnOk result ((key : H → ℕ) → (IsFull self.old.homes → GivesHashes F.FnMut key self.old.homes rehash) → IsTooLong (inserted (grown key self.old.homes) hash handle) → ⊥) }
         ensures long { result ≡ Err TableError.RunTooLong → (key : H → ℕ) → (IsFull self.old.homes → GivesHashes F.FnMut key self.old.homes rehash) →
@@ -376,14 +376,14 @@ impl<H: Copy + Eq + Default, A: Allocator> Table<H, A> {
 
     /// Whether there is no entry.
     pub fn is_empty(&self) -> bool
-        ensures { IsTrue result ↔ (total self.now.homes ≡ 0) }
+        ensures empty { IsTrue result ↔ (total self.now.homes ≡ 0) }
     {
         self.len() == 0
     }
 
     /// How many entries fit before the table grows.
     pub fn capacity(&self) -> usize
-        ensures { result ≡ capacity (length self.now.homes) }
+        ensures capacity { result ≡ capacity (length self.now.homes) }
     {
         self.slots.count() / 4 * 3
     }

@@ -54,21 +54,21 @@ impl<A: Allocator> Queues<A> {
 
     /// How many slots stand in Small.
     pub fn small_len(&self) -> usize
-        ensures { result ≡ length self.now.small }
+        ensures len { result ≡ length self.now.small }
     {
         self.small.len()
     }
 
     /// How many slots stand in Main.
     pub fn main_len(&self) -> usize
-        ensures { result ≡ length self.now.main }
+        ensures len { result ≡ length self.now.main }
     {
         self.main.len()
     }
 
     /// The oldest slot of Small.
     pub fn tail(&self) -> Option<usize>
-        ensures { result ≡ last_or None (slots_of self.now.small) }
+        ensures tail { result ≡ last_or None (slots_of self.now.small) }
     {
         self.small.tail()
     }
@@ -123,7 +123,7 @@ impl<A: Allocator> Queues<A> {
 
     /// Where a slot stands.
     pub fn standing(&mut self, slot: usize) -> Standing
-        requires { slot < self.old.slots }
+        requires slot_in { slot < self.old.slots }
         ensures value { IsStanding result slot self.old }
         ensures small { self.new.small ≡ self.old.small }
         ensures main { self.new.main ≡ self.old.main }
@@ -137,7 +137,7 @@ impl<A: Allocator> Queues<A> {
 
     /// Moves the hand on to the slot that Main gives up next.
     pub fn select(&mut self) -> usize
-        requires { 0 < length self.old.main }
+        requires some { 0 < length self.old.main }
         ensures victim { slice_get self.new.main 0 ≡ Some (result, false) }
         ensures small { self.new.small ≡ self.old.small }
         ensures main { self.new.main ≡ from_victim self.old.main }
@@ -151,7 +151,7 @@ impl<A: Allocator> Queues<A> {
 
     /// Takes a slot out of Small.
     pub fn leave_small(&mut self, slot: usize)
-        requires { has slot (slots_of self.old.small) ≡ true }
+        requires resident { has slot (slots_of self.old.small) ≡ true }
         ensures small { self.new.small ≡ without_slot slot self.old.small }
         ensures main { self.new.main ≡ self.old.main }
         ensures slots { self.new.slots ≡ self.old.slots }
@@ -164,7 +164,7 @@ impl<A: Allocator> Queues<A> {
 
     /// Takes a slot out of Main. If the hand stood there, it moves on.
     pub fn leave_main(&mut self, slot: usize)
-        requires { has slot (slots_of self.old.main) ≡ true }
+        requires resident { has slot (slots_of self.old.main) ≡ true }
         ensures small { self.new.small ≡ self.old.small }
         ensures main { self.new.main ≡ without_slot slot self.old.main }
         ensures slots { self.new.slots ≡ self.old.slots }
@@ -177,7 +177,7 @@ impl<A: Allocator> Queues<A> {
 
     /// Takes a slot out of the queue that it stands in, if it stands in one.
     pub fn leave(&mut self, slot: usize)
-        requires { slot < self.old.slots }
+        requires slot_in { slot < self.old.slots }
         ensures small { self.new.small ≡ without_slot slot self.old.small }
         ensures main { self.new.main ≡ without_slot slot self.old.main }
         ensures slots { self.new.slots ≡ self.old.slots }
@@ -221,7 +221,7 @@ impl<A: Allocator> Queues<A> {
 
     /// Records a hit on a slot, and tells whether it set a bit of Main.
     pub fn hit(&mut self, slot: usize) -> bool
-        requires { slot < self.old.slots }
+        requires slot_in { slot < self.old.slots }
         ensures value { result ≡ sets_bit slot self.old.main }
         ensures small { self.new.small ≡ small_hit_at slot self.old.small }
         ensures main { self.new.main ≡ main_hit_at slot self.old.main }

@@ -113,7 +113,7 @@ impl<K: Hash + Eq, V, S: BuildHasher, A: Allocator> Cache<K, V, S, A> {
 
     /// How many keys the cache can hold: the number that it was made with.
     pub fn capacity(&self) -> usize
-        ensures { result ≡ self.now.machine.shares.capacity }
+        ensures capacity { result ≡ self.now.machine.shares.capacity }
     {
         self.shares.capacity()
     }
@@ -128,21 +128,21 @@ impl<K: Hash + Eq, V, S: BuildHasher, A: Allocator> Cache<K, V, S, A> {
 
     /// Whether the cache holds no key.
     pub fn is_empty(&self) -> bool
-        ensures { IsTrue result ↔ (resident_count self.now.machine ≡ 0) }
+        ensures empty { IsTrue result ↔ (resident_count self.now.machine ≡ 0) }
     {
         self.len() == 0
     }
 
     /// Whether the key is resident. This is no use of it, and so changes no later eviction.
     pub fn contains(&self, key: &K) -> bool
-        ensures { IsTrue result ↔ IsSome (slot_of (K.eq key.now) self.now.machine) }
+        ensures resident { IsTrue result ↔ IsSome (slot_of (K.eq key.now) self.now.machine) }
     {
         self.find_slot(key).is_some()
     }
 
     /// The value of a resident key, or `None`. This is no use of it, and so changes no later eviction.
     pub fn peek(&self, key: &K) -> Option<&V>
-        ensures { option_copied result ≡ value_of (K.eq key.now) self.now.machine }
+        ensures value { option_copied result ≡ value_of (K.eq key.now) self.now.machine }
     {
         let resident = self.find_slot(key)?;
         Some(self.value(resident))

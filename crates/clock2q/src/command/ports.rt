@@ -24,7 +24,7 @@ pub trait Source {
     /// Moves bytes to the front of `into`, which isn't empty, and says how many: at most its
     /// length. 0 says that none is left. A call that fails has moved none.
     fn read(&mut self, into: &mut [u8]) -> Result<usize, Failed>
-        requires { 0 < length into.old }
+        requires space { 0 < length into.old }
         ensures bound { IfOk result (λ n. n ≤ length into.new) }
         ensures bytes { ReadConsumes (remaining self.old) (remaining self.new) result into.new }
         ensures given { given self.new ≡ after_read (given self.old) result into.new };
@@ -83,7 +83,7 @@ impl<T> Device<T> {
 
     /// What the device wraps, as the calls have left it.
     pub fn into_inner(self) -> T
-        ensures { result ≡ self.inner }
+        ensures inner { result ≡ self.inner }
     {
         let Device { inner, trace: _ } = self;
         inner

@@ -33,7 +33,7 @@ impl ServeError {
     /// The status with which the program ends: 2 for a bad line, 3 where the cache can't be had,
     /// 4 where a device failed.
     pub fn status(&self) -> u8
-        ensures { result ≡ status_of self.now }
+        ensures status { result ≡ status_of self.now }
     {
         match self {
             ServeError::BadLine(_) => 2,

@@ -40,8 +40,8 @@ impl<K: Eq + Drop, A: Allocator> Model for History<K, A> {
 impl<K: Eq + Drop, A: Allocator + Copy> History<K, A> {
     /// A history with no key, for so many. It takes all the memory that it will ever have.
     pub fn new(alloc: A, limit: usize) -> Result<Self, AllocError>
-        requires { limit < 2 ^ 24 }
-        ensures { IfOk result (λ h. h ≡ remembered [] limit (made_for limit) 0 0) }
+        requires short { limit < 2 ^ 24 }
+        ensures made { IfOk result (λ h. h ≡ remembered [] limit (made_for limit) 0 0) }
     {
         let Ok(index) = Table::with_capacity(alloc, limit) else {
             return Err(AllocError);
@@ -82,7 +82,7 @@ impl<K: Eq + Drop, A: Allocator> History<K, A> {
 
     /// Forgets a key, and tells whether it was remembered.
     pub fn discard(&mut self, hash: u64, key: &K) -> bool
-        requires { HasHash K.eq hash key.now self.old.entries }
+        requires hash { HasHash K.eq hash key.now self.old.entries }
         ensures found { result ≡ is_remembered K.eq key.now self.old.entries }
         ensures entries { self.new.entries ≡ forgotten K.eq key.now self.old.entries }
         ensures limit { self.new.limit ≡ self.old.limit }

@@ -4,7 +4,7 @@ use Rattle.clock2q_handles.proofs.Keyed.{keyed_given}
 use Rattle.clock2q_tests.proofs.refused_tables.reservations.Goals as goal
 
 pub reserve-outcome-requires : goal.reserve-outcome-requires
-reserve-outcome-requires g c = λ _. ((λ handle. handle), keyed_given (λ handle. handle) _ c.loop-granted.table.homes _ c.loop-granted.invariant (λ _ _. tt) (λ f h r next called. search rules))
+reserve-outcome-requires g c = record { rehash = λ _. ((λ handle. handle), keyed_given (λ handle. handle) _ c.loop-granted.table.homes _ c.loop-granted.invariant (λ _ _. tt) (λ f h r next called. search rules)) }
 
 pub loop-granted-preserved : goal.loop-granted-preserved
 loop-granted-preserved g c =

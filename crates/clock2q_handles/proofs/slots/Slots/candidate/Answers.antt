@@ -21,7 +21,7 @@ returns-then-ends_walk-clause-read_all g c =
     let within : d < length c.args.self.now.slots = omega (arith, c.loop-distance-test.true, c.count-distance-end.ensures.count) in
     let from : c.args.from ≤ d = omega (arith, c.loop-distance.auto.distance, c.requires.from, c.count-distance-end.ensures.count) in
     let read = walk-at c.args.self.now.slots c.requires.tidy c.args.home d (omega (arith, within)) (c.loop-distance.invariant.passed (omega (arith, within, from))) near in
-    omega (arith, read, c.tick.ensures, c.loop-distance.invariant.read, from)
+    omega (arith, read, c.tick.ensures.ticked, c.loop-distance.invariant.read, from)
 
 pub returns-then-is_candidate-clause-found : goal.returns-then-is_candidate-clause-found
 returns-then-is_candidate-clause-found g c =
@@ -47,7 +47,7 @@ loop-distance-preserved g c =
       passed = λ some. below_more _ _ (c.loop-distance.invariant.passed some) here;
       none = matching-more c.args.hash A c.args.home c.args.from d (omega (arith, c.loop-distance.auto.distance, c.requires.from, c.count-distance-end.ensures.count)) c.loop-distance.invariant.none
           (matching-other c.args.hash (A (c.args.home + d)) d (λ e. refused c.is_candidate.result c.is_candidate.ensures c.if-is_candidate.false (c.metadata-metadata.ensures.told ∙ e)));
-      read = omega (arith, c.tick.ensures, c.loop-distance.invariant.read);
+      read = omega (arith, c.tick.ensures.ticked, c.loop-distance.invariant.read);
     }
 
 pub returns-clause-read_all : goal.returns-clause-read_all

@@ -12,4 +12,4 @@ pub returns : goal.returns
 returns g c =
     let ends = ap (λ s. length s.slots) c.self.view_is in
     rw (← c.self.view_is) (written_cells c.self.inside.metadata.items c.self.inside.handles.items (c.args.home + c.args.distance) c.slot-slot.result c.self.inside.writes.total c.tick.new.self.total c.args.metadata c.args.handle c.self.invariant.0
-    (c.slot-slot.ensures.slot ∙ ap (λ m. (c.args.home + c.args.distance) % m) (sym ends)) c.tick.ensures)
+    (c.slot-slot.ensures.slot ∙ ap (λ m. (c.args.home + c.args.distance) % m) (sym ends)) c.tick.ensures.ticked)

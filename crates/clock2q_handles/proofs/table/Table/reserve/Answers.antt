@@ -17,14 +17,14 @@ entries g c = omega (arith, c.in-Some.ensures.1, c.len.ensures.len)
 fits : (g : Over) (c : In-Some-slots_for g) → (total c.args.self.now.homes ≤ capacity c.in-Some-slots_for.count) × (0 < c.in-Some-slots_for.count)
 fits g c = (
   omega (arith, c.in-Some-slots_for.ensures.enough, entries g c),
-  omega (arith, c.in-Some-slots_for.ensures.enough, c.if-entries-capacity.false, c.capacity.ensures),
+  omega (arith, c.in-Some-slots_for.ensures.enough, c.if-entries-capacity.false, c.capacity.ensures.capacity),
 )
 
 -- which are a multiple of those before
 multiple : (g : Over) (c : In-Some-slots_for g) → 0 < length c.args.self.now.homes → (k : ℕ) × (c.in-Some-slots_for.count ≡ k * length c.args.self.now.homes)
 multiple g c =
     larger_multiple c.args.self.now.homes _ refl c.len.ensures.whole.slot_count c.in-Some-slots_for.count c.in-Some-slots_for.ensures.power
-    (omega (arith, c.in-Some-slots_for.ensures.enough, c.if-entries-capacity.false, c.capacity.ensures))
+    (omega (arith, c.in-Some-slots_for.ensures.enough, c.if-entries-capacity.false, c.capacity.ensures.capacity))
 
 pub returns-in_default-clause-best : goal.returns-in_default-clause-best
 returns-in_default-clause-best g c = best-placed _ c.len.ensures.whole.room
@@ -45,7 +45,7 @@ pub returns-clause-best : goal.returns-clause-best
 returns-clause-best g c =
     let before = (goal.at.returns-clause-best g c).In-Some-slots_for in
     let room = fits g before in
-    let asked = c.requires (omega (arith, c.if-entries-capacity.false, c.capacity.ensures, entries g before)) in
+    let asked = c.requires.rehash (omega (arith, c.if-entries-capacity.false, c.capacity.ensures.capacity, entries g before)) in
     subst IsBestPlaced (sym (c.in_ok-self.ensures.made asked.0 asked.1)) (rebuilt_best asked.0 c.args.self.now.homes c.in-Some-slots_for.count c.len.ensures.whole.room room.1 room.0)
 
 pub returns-clause-nearer : goal.returns-clause-nearer
@@ -54,6 +54,6 @@ returns-clause-nearer g c x =
     let m : ℕ = c.in-Some-slots_for.count in
     let before = (goal.at.returns-clause-nearer g c).In-Some-slots_for in
     let room = fits g before in
-    let asked = c.requires (omega (arith, c.if-entries-capacity.false, c.capacity.ensures, entries g before)) in
+    let asked = c.requires.rehash (omega (arith, c.if-entries-capacity.false, c.capacity.ensures.capacity, entries g before)) in
     subst (λ hs. spill_of hs x + count hs x ≤ spill_of homes x + count homes x) (sym (c.in_ok-self.ensures.made asked.0 asked.1))
     (rebuilt-reach asked.0 homes m c.len.ensures.whole.room (omega (arith, room.0, capacity-lt m room.1)) (multiple g before) asked.1.hashes x)

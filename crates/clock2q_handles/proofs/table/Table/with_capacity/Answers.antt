@@ -9,7 +9,7 @@ use Rattle.clock2q_handles.proofs.table.Table.with_capacity.Goals as goal
 pub returns-then-entries-eq0-clause-made : goal.returns-then-entries-eq0-clause-made
 returns-then-entries-eq0-clause-made g c =
     let none : c.args.entries ≡ 0 = c.if-entries-eq0.true in
-    c.new.ensures ∙ ap (λ s. table_value [] s 0) (sym (layout-nothing _ 0)) ∙ ap (λ n. table_value (made_for n) (layout (made_for n)) 0) (sym none)
+    c.new.ensures.made ∙ ap (λ s. table_value [] s 0) (sym (layout-nothing _ 0)) ∙ ap (λ n. table_value (made_for n) (layout (made_for n)) 0) (sym none)
 
 pub invariant_of-result : goal.invariant_of-result
 invariant_of-result g c = subst (λ s. IsTable s.slots 0) (sym c.in-Ok.ensures) (table-empty _ c.in-Some.count c.in-Some.ensures.power)

@@ -14,7 +14,7 @@ find-requires g c =
 pub returns-in_default-clause-found : goal.returns-in_default-clause-found
 returns-in_default-clause-found g c =
     let i = c.self.inside in
-    let hashed : HasHash g.K.PartialEq.eq c.args.hash c.args.key.now (entries_of i.keys.remembered i.order.places) = subst (λ (z : Remembered _). HasHash g.K.PartialEq.eq c.args.hash c.args.key.now z.entries) (sym c.self.view_is) c.requires in
+    let hashed : HasHash g.K.PartialEq.eq c.args.hash c.args.key.now (entries_of i.keys.remembered i.order.places) = subst (λ (z : Remembered _). HasHash g.K.PartialEq.eq c.args.hash c.args.key.now z.entries) (sym c.self.view_is) c.requires.hash in
     let none : None ≡ find (is_key_at g.K.PartialEq.eq c.args.key.now i.keys.remembered) (candidates i.index.homes c.args.hash) = c.in_default.ensures.value ∙ ap (λ z. find (is_key_at g.K.PartialEq.eq c.args.key.now i.keys.remembered) z) c.get.ensures.candidates in
     let m = missed g.K.PartialEq.eq c.args.hash c.args.key.now i.index.homes i.order i.keys c.self.invariant hashed none in
     sym (sym (ap (λ (z : Remembered _). is_remembered g.K.PartialEq.eq c.args.key.now z.entries) c.self.view_is) ∙ m.0)
@@ -22,7 +22,7 @@ returns-in_default-clause-found g c =
 pub returns-in_default-clause-entries : goal.returns-in_default-clause-entries
 returns-in_default-clause-entries g c =
     let i = c.self.inside in
-    let hashed : HasHash g.K.PartialEq.eq c.args.hash c.args.key.now (entries_of i.keys.remembered i.order.places) = subst (λ (z : Remembered _). HasHash g.K.PartialEq.eq c.args.hash c.args.key.now z.entries) (sym c.self.view_is) c.requires in
+    let hashed : HasHash g.K.PartialEq.eq c.args.hash c.args.key.now (entries_of i.keys.remembered i.order.places) = subst (λ (z : Remembered _). HasHash g.K.PartialEq.eq c.args.hash c.args.key.now z.entries) (sym c.self.view_is) c.requires.hash in
     let none : None ≡ find (is_key_at g.K.PartialEq.eq c.args.key.now i.keys.remembered) (candidates i.index.homes c.args.hash) = c.in_default.ensures.value ∙ ap (λ z. find (is_key_at g.K.PartialEq.eq c.args.key.now i.keys.remembered) z) c.get.ensures.candidates in
     let m = missed g.K.PartialEq.eq c.args.hash c.args.key.now i.index.homes i.order i.keys c.self.invariant hashed none in
     ap (λ (z : KeyPlaces _). entries_of z.remembered i.order.places) c.find.ensures.same ∙ sym m.1 ∙ ap (λ (z : Remembered _). forgotten g.K.PartialEq.eq c.args.key.now z.entries) c.self.view_is
@@ -30,14 +30,14 @@ returns-in_default-clause-entries g c =
 pub unlink-requires : goal.unlink-requires
 unlink-requires g c =
     let i = c.self.inside in
-    let hashed : HasHash g.K.PartialEq.eq c.args.hash c.args.key.now (entries_of i.keys.remembered i.order.places) = subst (λ (z : Remembered _). HasHash g.K.PartialEq.eq c.args.hash c.args.key.now z.entries) (sym c.self.view_is) c.requires in
+    let hashed : HasHash g.K.PartialEq.eq c.args.hash c.args.key.now (entries_of i.keys.remembered i.order.places) = subst (λ (z : Remembered _). HasHash g.K.PartialEq.eq c.args.hash c.args.key.now z.entries) (sym c.self.view_is) c.requires.hash in
     let found : Some c.in-Some.place ≡ find (is_key_at g.K.PartialEq.eq c.args.key.now i.keys.remembered) (candidates i.index.homes c.args.hash) = c.in-Some.ensures.value ∙ ap (λ z. find (is_key_at g.K.PartialEq.eq c.args.key.now i.keys.remembered) z) c.get.ensures.candidates in
     place_there g.K.PartialEq.eq g.met.K.Eq.laws c.args.hash c.args.key.now i.index.homes i.index.homes i.order i.order i.keys c.find.new.self c.in-Some.place c.self.invariant hashed found
 
 pub invariant_of-self-2 : goal.invariant_of-self-2
 invariant_of-self-2 g c =
     let i = c.self.inside in
-    let hashed : HasHash g.K.PartialEq.eq c.args.hash c.args.key.now (entries_of i.keys.remembered i.order.places) = subst (λ (z : Remembered _). HasHash g.K.PartialEq.eq c.args.hash c.args.key.now z.entries) (sym c.self.view_is) c.requires in
+    let hashed : HasHash g.K.PartialEq.eq c.args.hash c.args.key.now (entries_of i.keys.remembered i.order.places) = subst (λ (z : Remembered _). HasHash g.K.PartialEq.eq c.args.hash c.args.key.now z.entries) (sym c.self.view_is) c.requires.hash in
     let found : Some c.in-Some.place ≡ find (is_key_at g.K.PartialEq.eq c.args.key.now i.keys.remembered) (candidates i.index.homes c.args.hash) = c.in-Some.ensures.value ∙ ap (λ z. find (is_key_at g.K.PartialEq.eq c.args.key.now i.keys.remembered) z) c.get.ensures.candidates in
     let e = c.unlink.ensures in
     let same : c.find.new.self.remembered ≡ i.keys.remembered = ap (λ (z : KeyPlaces _). z.remembered) c.find.ensures.same in
@@ -49,7 +49,7 @@ invariant_of-self-2 g c =
 pub returns-clause-found : goal.returns-clause-found
 returns-clause-found g c =
     let i = c.self.inside in
-    let hashed : HasHash g.K.PartialEq.eq c.args.hash c.args.key.now (entries_of i.keys.remembered i.order.places) = subst (λ (z : Remembered _). HasHash g.K.PartialEq.eq c.args.hash c.args.key.now z.entries) (sym c.self.view_is) c.requires in
+    let hashed : HasHash g.K.PartialEq.eq c.args.hash c.args.key.now (entries_of i.keys.remembered i.order.places) = subst (λ (z : Remembered _). HasHash g.K.PartialEq.eq c.args.hash c.args.key.now z.entries) (sym c.self.view_is) c.requires.hash in
     let found : Some c.in-Some.place ≡ find (is_key_at g.K.PartialEq.eq c.args.key.now i.keys.remembered) (candidates i.index.homes c.args.hash) = c.in-Some.ensures.value ∙ ap (λ z. find (is_key_at g.K.PartialEq.eq c.args.key.now i.keys.remembered) z) c.get.ensures.candidates in
     let e = c.unlink.ensures in
     let same : c.find.new.self.remembered ≡ i.keys.remembered = ap (λ (z : KeyPlaces _). z.remembered) c.find.ensures.same in
@@ -61,7 +61,7 @@ returns-clause-found g c =
 pub returns-clause-entries : goal.returns-clause-entries
 returns-clause-entries g c =
     let i = c.self.inside in
-    let hashed : HasHash g.K.PartialEq.eq c.args.hash c.args.key.now (entries_of i.keys.remembered i.order.places) = subst (λ (z : Remembered _). HasHash g.K.PartialEq.eq c.args.hash c.args.key.now z.entries) (sym c.self.view_is) c.requires in
+    let hashed : HasHash g.K.PartialEq.eq c.args.hash c.args.key.now (entries_of i.keys.remembered i.order.places) = subst (λ (z : Remembered _). HasHash g.K.PartialEq.eq c.args.hash c.args.key.now z.entries) (sym c.self.view_is) c.requires.hash in
     let found : Some c.in-Some.place ≡ find (is_key_at g.K.PartialEq.eq c.args.key.now i.keys.remembered) (candidates i.index.homes c.args.hash) = c.in-Some.ensures.value ∙ ap (λ z. find (is_key_at g.K.PartialEq.eq c.args.key.now i.keys.remembered) z) c.get.ensures.candidates in
     let e = c.unlink.ensures in
     let same : c.find.new.self.remembered ≡ i.keys.remembered = ap (λ (z : KeyPlaces _). z.remembered) c.find.ensures.same in

@@ -11,6 +11,6 @@ invariant_of-result g c =
     let keys = c.in_ok-new-2.field-0 in
     let whole = subst (λ z. IsWholeOrder z) c.in_ok-new.ensures.made c.in_ok-new.ensures.whole in
     let room = ap (λ (z : KeyPlaces _). z.room) c.in_ok-new-2.ensures in
-    let new = IsHistory-new g.K.PartialEq.eq c.args.limit keys c.requires whole (ap (λ (z : KeyPlaces _). z.remembered) c.in_ok-new-2.ensures) (omega (arith, room)) in
+    let new = IsHistory-new g.K.PartialEq.eq c.args.limit keys c.requires.short whole (ap (λ (z : KeyPlaces _). z.remembered) c.in_ok-new-2.ensures) (omega (arith, room)) in
     subst (λ z. IsHistory g.K.PartialEq.eq z c.in_ok-new.field-0 keys) (sym (ap (λ (z : TableValue ℕ). z.homes) c.in-Ok.ensures.made))
     (subst (λ z. IsHistory g.K.PartialEq.eq (made_for {H = ℕ} c.args.limit) z keys) (sym c.in_ok-new.ensures.made) new)

@@ -2,7 +2,7 @@ use Rattle.clock2q_queues.proofs.Hashed.{has_hash, all-forgotten, absent-forgott
 use Rattle.clock2q_queues.proofs.history.tests.forget.Goals as goal
 
 pub discard-requires : goal.discard-requires
-discard-requires c = has_hash c.args.key c.args.hashes c.args.history.now.entries c.requires.hashed
+discard-requires c = record { hash = has_hash c.args.key c.args.hashes c.args.history.now.entries c.requires.hashed }
 
 pub returns-clause-hashed : goal.returns-clause-hashed
 returns-clause-hashed c = rw c.discard.ensures.entries (all-forgotten _ c.args.key c.args.history.now.entries c.requires.hashed)

@@ -27,4 +27,4 @@ pub returns-clause-counted : goal.returns-clause-counted
 returns-clause-counted g c =
     let i = c.self.inside in
     let even : length i.bits.items ≡ length i.records.items = sym i.bits.ok.0 ∙ c.self.invariant ∙ i.records.ok.0 in
-    bit_inspected i.records.items i.bits.items i.places.items i.accesses.total i.inspections.total c.args.self.now c.self.view_is even c.args.slot c.requires false c.tick.new.self.total c.tick.ensures
+    bit_inspected i.records.items i.bits.items i.places.items i.accesses.total i.inspections.total c.args.self.now c.self.view_is even c.args.slot c.requires false c.tick.new.self.total c.tick.ensures.ticked

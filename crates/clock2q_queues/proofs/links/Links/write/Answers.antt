@@ -13,4 +13,4 @@ pub returns : goal.returns
 returns g c =
     let i = c.self.inside in
     let even : length i.bits.items ≡ length i.records.items = sym i.bits.ok.0 ∙ c.self.invariant ∙ i.records.ok.0 in
-    record_written i.records.items i.bits.items i.places.items i.accesses.total i.inspections.total c.args.self.now c.self.view_is even c.args.slot c.requires c.args.written c.tick.new.self.total c.tick.ensures
+    record_written i.records.items i.bits.items i.places.items i.accesses.total i.inspections.total c.args.self.now c.self.view_is even c.args.slot c.requires c.args.written c.tick.new.self.total c.tick.ensures.ticked

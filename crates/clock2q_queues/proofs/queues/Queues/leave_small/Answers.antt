@@ -4,7 +4,7 @@ use Rattle.clock2q_queues.proofs.Sharing.{after_small_left, in_small}
 use Rattle.clock2q_queues.proofs.queues.Queues.leave_small.Goals as goal
 
 pub unlink-requires-clause-present : goal.unlink-requires-clause-present
-unlink-requires-clause-present g c = in_small c.self.inside.links c.self.inside.small c.self.inside.main c.args.self.now c.args.slot true c.self.view_is c.requires
+unlink-requires-clause-present g c = in_small c.self.inside.links c.self.inside.small c.self.inside.main c.args.self.now c.args.slot true c.self.view_is c.requires.resident
 
 pub invariant_of-self : goal.invariant_of-self
 invariant_of-self g c =

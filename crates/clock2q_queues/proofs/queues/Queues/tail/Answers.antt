@@ -7,4 +7,4 @@ use Rattle.clock2q_queues.proofs.queues.Queues.tail.Goals as goal
 pub returns : goal.returns
 returns g c =
     let i = c.self.inside in
-    c.tail.ensures i.links c.self.invariant.small ∙ ap (λ z. last_or None z) (sym (small_slots-of i.links i.small)) ∙ ap (λ (q : QueueState). last_or None (slots_of q.small)) c.self.view_is
+    record { tail = c.tail.ensures i.links c.self.invariant.small ∙ ap (λ z. last_or None z) (sym (small_slots-of i.links i.small)) ∙ ap (λ (q : QueueState). last_or None (slots_of q.small)) c.self.view_is }

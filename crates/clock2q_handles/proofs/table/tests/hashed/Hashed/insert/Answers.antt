@@ -3,7 +3,7 @@ use Rattle.clock2q_handles.proofs.Keyed.{keyed_put, keyed_given}
 use Rattle.clock2q_handles.proofs.table.tests.hashed.Hashed.insert.Goals as goal
 
 pub insert-requires : goal.insert-requires
-insert-requires c = λ _. ((λ handle. handle.hash), keyed_given (λ handle. handle.hash) _ c.self.inside.table.homes _ c.self.invariant (λ _ _. tt) (λ f h r next called. search rules))
+insert-requires c = record { rehash = λ _. ((λ handle. handle.hash), keyed_given (λ handle. handle.hash) _ c.self.inside.table.homes _ c.self.invariant (λ _ _. tt) (λ f h r next called. search rules)) }
 
 pub invariant_of-self : goal.invariant_of-self
 invariant_of-self c =

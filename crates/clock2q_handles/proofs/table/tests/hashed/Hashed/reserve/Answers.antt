@@ -3,7 +3,7 @@ use Rattle.clock2q_handles.proofs.Keyed.{keyed_reserved, keyed_given}
 use Rattle.clock2q_handles.proofs.table.tests.hashed.Hashed.reserve.Goals as goal
 
 pub reserve-outcome-requires : goal.reserve-outcome-requires
-reserve-outcome-requires g c = λ _. ((λ handle. handle.hash), keyed_given (λ handle. handle.hash) _ c.self.inside.table.homes _ c.self.invariant (λ _ _. tt) (λ f h r next called. search rules))
+reserve-outcome-requires g c = record { rehash = λ _. ((λ handle. handle.hash), keyed_given (λ handle. handle.hash) _ c.self.inside.table.homes _ c.self.invariant (λ _ _. tt) (λ f h r next called. search rules)) }
 
 pub invariant_of-self : goal.invariant_of-self
 invariant_of-self g c =
