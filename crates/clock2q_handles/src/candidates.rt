@@ -6,7 +6,8 @@ use clock2q_count::Count;
 use std::alloc::{Allocator, Global};
 use std::marker::Model;
 
-/// The candidates of a hash, in the order of their slots.
+/// The candidates of a hash, in the order of their slots. Each step reads one word of metadata a
+/// slot, and a handle only where it yields one.
 #[derive(Drop)]
 pub struct Candidates<'a, H: Copy + Eq + Default, A: Allocator = Global> {
     slots: &'a Slots<H, A>,

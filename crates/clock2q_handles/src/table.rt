@@ -19,7 +19,7 @@ use std::marker::Model;
 /// The least number of slots.
 const MIN_SLOTS: usize = 16;
 
-/// A multimap from hashes of 64 bits to handles. See the [module documentation](self).
+/// A multimap from hashes of 64 bits to handles. See the [crate](crate) for what it keeps of them.
 #[derive(Drop)]
 pub struct Table<H: Copy + Eq + Default, A: Allocator = Global> {
     slots: Slots<H, A>,
@@ -381,14 +381,15 @@ impl<H: Copy + Eq + Default, A: Allocator> Table<H, A> {
         self.len() == 0
     }
 
-    /// How many entries fit before the table grows.
+    /// How many entries fit before the table grows: three quarters of the slots.
     pub fn capacity(&self) -> usize
         ensures capacity { result ≡ capacity (length self.now.homes) }
     {
         self.slots.count() / 4 * 3
     }
 
-    /// The handles whose home and fingerprint are those of `hash`, in the order of their slots.
+    /// The handles whose home and fingerprint are those of `hash`, in the order of their slots: all
+    /// that were put in under it, and those under another hash that agrees in both.
     pub fn get(&self, hash: u64) -> Candidates<'_, H, A>
         ensures candidates { result.left ≡ candidates self.now.homes hash }
 
@@ -405,7 +406,7 @@ impl<H: Copy + Eq + Default, A: Allocator> Table<H, A> {
     }
 
     /// Takes the first candidate of `hash` that equals `handle` out, and answers whether there was
-    /// one.
+    /// one. It takes no memory and gives none back; the entries behind it in its run move back.
     pub fn remove(&mut self, hash: u64, handle: H) -> bool
         ensures removed { self.new.homes ≡ removed H.PartialEq.eq self.old.homes hash handle }
         ensures found { result ≡ list_any (is_entry_of H.PartialEq.eq hash handle) (listed self.old.homes hash) }

@@ -15,7 +15,12 @@ use std::marker::Model;
 #[cfg(test)]
 mod tests;
 
-/// The two queues of residents, by slot number. A slot stands in at most one of them.
+/// The two queues of a cache's residents, by slot number from 0. A slot stands in at most one of
+/// them.
+///
+/// Small has the newest slots, in the order of their admission; hits on one count once the window's
+/// number of admissions came after its own. Main is a ring with a hand, before which new slots are
+/// put.
 #[derive(Drop)]
 pub struct Queues<A: Allocator = Global> {
     links: Links<A>,
@@ -35,6 +40,8 @@ impl<A: Allocator> Model for Queues<A> {
 
 impl<A: Allocator> Queues<A> {
     /// Empty queues for so many slots, with a window of so many admissions.
+    ///
+    /// The error comes where a request for memory is refused; what was taken is given back.
     pub fn new(alloc: A, slots: usize, window: u32) -> Result<Self, AllocError>
     where
         A: Clone,
@@ -90,7 +97,7 @@ impl<A: Allocator> Queues<A> {
         }
     }
 
-    /// Admits a slot to Small.
+    /// Admits a slot to Small, as its newest.
     pub fn admit(&mut self, slot: usize)
         requires slot_in { slot < self.old.slots }
         requires not_in_small { has slot (slots_of self.old.small) ≡ false }
@@ -135,7 +142,8 @@ impl<A: Allocator> Queues<A> {
         self.links.read(slot).standing
     }
 
-    /// Moves the hand on to the slot that Main gives up next.
+    /// Moves the hand on to the slot that Main gives up next, which stays there until it is taken
+    /// out. It passes each slot that was hit, and takes that hit back; the cost is linear in those.
     pub fn select(&mut self) -> usize
         requires some { 0 < length self.old.main }
         ensures victim { slice_get self.new.main 0 ≡ Some (result, false) }
@@ -240,7 +248,7 @@ impl<A: Allocator> Queues<A> {
         }
     }
 
-    /// Leaves no slot in either queue.
+    /// Leaves no slot in either queue. The cost is linear in the number of slots that there are.
     pub fn clear(&mut self)
         ensures small { self.new.small ≡ [] }
         ensures main { self.new.main ≡ [] }

@@ -1,7 +1,7 @@
 //! Calls whose requests for memory are refused.
 
 use crate::refusing::Refusing;
-use clock2q::cache::{Cache, CacheError, DefaultHasher};
+use clock2q::cache::{Cache, CacheError, DefaultHashBuilder};
 use clock2q::command::ports::Device;
 use clock2q::command::serve::serve;
 use clock2q::command::{Command, Reply, ServeError, run};
@@ -9,7 +9,7 @@ use std::alloc::{AllocError, Global};
 use std::num::NonZeroUsize;
 use std::test::Fail;
 
-type RefusedCache<'a> = Cache<u64, u64, DefaultHasher, &'a Refusing<Global>>;
+type RefusedCache<'a> = Cache<u64, u64, DefaultHashBuilder, &'a Refusing<Global>>;
 
 type Commands<'a> = Vec<Command<u64, u64>, &'a Refusing<Global>>;
 

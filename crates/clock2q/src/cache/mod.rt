@@ -24,8 +24,9 @@ use std::num::NonZeroUsize;
 /// The largest capacity that a cache can have, in keys: 16,777,215.
 pub const MAX_CAPACITY: usize = (1 << 24) - 1;
 
-/// The hasher of [`Cache::new`]. Its seed is fixed, so keys that an attacker picks may collide.
-pub type DefaultHasher = BuildHasherDefault<FoldHasher>;
+/// What makes the hashers of [`Cache::new`]. Its seed is fixed, so keys that an attacker picks may
+/// collide.
+pub type DefaultHashBuilder = BuildHasherDefault<FoldHasher>;
 
 /// A key-value cache of fixed capacity.
 ///
@@ -56,7 +57,7 @@ impl<K: Hash + Eq, V, S: BuildHasher, A: Allocator> Model for Cache<K, V, S, A> 
     ghost invariant = { λ c. IsKept K.eq (machine_of c.shares c.small.items c.main.items c.history.items c.values.items) (vec_capacity c.small) (vec_capacity c.main) (vec_capacity c.history) (vec_capacity c.values) };
 }
 
-impl<K: Hash + Eq + Drop, V: Drop, A: Allocator + Clone> Cache<K, V, DefaultHasher, A> {
+impl<K: Hash + Eq + Drop, V: Drop, A: Allocator + Clone> Cache<K, V, DefaultHashBuilder, A> {
     ghost use Rattle.std.specs.Prelude.{◌≡◌, ◌<◌, ◌↔◌, IfOk, IsErrOf};
     ghost use Rattle.std.specs.NonZero.{non_zero_usize_get};
     ghost use Rattle.clock2q.specs.Shares.{usual_shares};

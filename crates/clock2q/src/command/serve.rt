@@ -3,7 +3,7 @@ ghost use Rattle.std.specs.Prelude.{◌≡◌, ◌≢◌, ◌↔◌, ◌<◌, On
 ghost use Rattle.clock2q.specs.Parsing.{script_value};
 ghost use Rattle.clock2q.specs.Serve.{Answers, Sends, RepliesTo, IsServed, IsRefused};
 
-use crate::cache::{Cache, DefaultHasher};
+use crate::cache::{Cache, DefaultHashBuilder};
 use crate::command::ports::{Sink, Source};
 use crate::command::replies::reply_text;
 use crate::command::text::{Script, parse};
@@ -20,7 +20,7 @@ fn reply_to<'a, A: Allocator>(
         string_bytes result }
 {
     let Script { capacity, commands } = script;
-    let mut cache: Cache<u64, u64, DefaultHasher, &A> = Cache::new(alloc, capacity)?;
+    let mut cache: Cache<u64, u64, DefaultHashBuilder, &A> = Cache::new(alloc, capacity)?;
     let replies = run(alloc, &mut cache, commands)?;
     Ok(reply_text(alloc, &replies)?)
 }

@@ -18,6 +18,9 @@ use std::marker::Model;
 
 /// A history of keys, the newest in front, of a limited length. Each key stands at a place with
 /// its hash, and an index has that place under the hash.
+///
+/// The caller gives a key's hash with the key, the same each time. Where hashes are spread well, a
+/// call compares few keys and takes as long however many are remembered.
 #[derive(Drop)]
 pub struct History<K: Eq + Drop, A: Allocator = Global> {
     index: Table<usize, A>,
@@ -39,6 +42,8 @@ impl<K: Eq + Drop, A: Allocator> Model for History<K, A> {
 
 impl<K: Eq + Drop, A: Allocator + Copy> History<K, A> {
     /// A history with no key, for so many. It takes all the memory that it will ever have.
+    ///
+    /// The error comes where a request for memory is refused; what was taken is given back.
     pub fn new(alloc: A, limit: usize) -> Result<Self, AllocError>
         requires short { limit < 2 ^ 24 }
         ensures made { IfOk result (λ h. h ≡ remembered [] limit (made_for limit) 0 0) }
@@ -97,7 +102,7 @@ impl<K: Eq + Drop, A: Allocator> History<K, A> {
         true
     }
 
-    /// Forgets every key.
+    /// Forgets every key. The cost is linear in the most keys that were remembered at a time.
     pub fn clear(&mut self)
         ensures entries { self.new.entries ≡ [] }
         ensures limit { self.new.limit ≡ self.old.limit }
