@@ -27,14 +27,8 @@ impl Count {
         Count { seal: () }
     }
 
-    fn one() -> Count
-        ensures { result.total ≡ 1 }
-    {
-        Count { seal: () }
-    }
-
-    fn sum(_before: &Count, _more: &Count) -> Count
-        ensures { result.total ≡ _before.now.total + _more.now.total }
+    fn next(_before: &Count) -> Count
+        ensures { result.total ≡ _before.now.total + 1 }
     {
         Count { seal: () }
     }
@@ -43,7 +37,7 @@ impl Count {
     pub fn tick(&mut self)
         ensures ticked { self.new.total ≡ self.old.total + 1 }
     {
-        *self = Count::sum(self, &Count::one());
+        *self = Count::next(self);
     }
 }
 
