@@ -30,7 +30,7 @@ impl Count {
         ensures zero { result.total ≡ 0 }
     {
         Count {
-            told: Told::pick(&()),
+            told: Told::new(&()),
         }
     }
 
@@ -38,21 +38,16 @@ impl Count {
     pub fn tick(&mut self)
         ensures ticked { self.new.total ≡ self.old.total + 1 }
     {
-        *self = Count {
-            told: Told::pick(self),
-        };
+        self.told.set(&());
     }
 
-    /// Raises the count to the number that the proof of the call picks, as a bound that a contract
-    /// names. It can pick from what `seen` refers to.
+    /// It was done as often as a bound says that the proof of the call picks.
     pub fn raise<X>(&mut self, seen: &X)
         ghost bound: { ℕ }
         requires reached { self.old.total ≤ bound }
         ensures raised { self.new.total ≡ bound }
     {
-        *self = Count {
-            told: Told::pick(seen),
-        };
+        self.told.set(seen);
     }
 }
 

@@ -4,6 +4,8 @@ ghost use Rattle.std.specs.Prelude.{◌≡◌};
 use std::marker::{Model, PhantomData};
 
 /// A value of a `T` that contracts alone can see. It takes no bytes, and no code can read it.
+///
+/// Each call says by its proof which value it means: a pick, of what the call's arguments refer to.
 #[derive(Drop)]
 pub struct Told<T> {
     of: PhantomData<T>,
@@ -15,12 +17,20 @@ impl<T> Model for Told<T> {
 }
 
 impl<T> Told<T> {
-    /// Tells the value that the proof of the call picks. It can pick from what `_seen` refers to.
-    pub fn pick<X>(_seen: &X) -> Told<T>
+    /// Tells the picked value.
+    pub fn new<X>(_seen: &X) -> Told<T>
         ghost picked: { T }
         ensures value { result.value ≡ picked }
     {
         Told { of: PhantomData }
+    }
+
+    /// Tells the picked value from now on.
+    pub fn set<X>(&mut self, seen: &X)
+        ghost picked: { T }
+        ensures value { self.new.value ≡ picked }
+    {
+        *self = Told::new(seen);
     }
 }
 

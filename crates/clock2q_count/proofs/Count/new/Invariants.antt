@@ -1,4 +1,4 @@
 use Rattle.clock2q_count.proofs.Count.new.Given as goal
 
-abbrev pub ghost-pick : goal.ghost-pick
-ghost-pick a = 0
+abbrev pub ghost-new : goal.ghost-new
+ghost-new a = 0

@@ -1,4 +1,4 @@
--- `pick` makes a value of no bytes, which shows what the proof of its call names.
+-- `new` makes a value of no bytes, which shows what the proof of its call names.
 use mathlib.Core.Path.{refl}
 use mathlib.Core.List.{[], ◌∷◌}
 use seplogic.Ra.Ura.{Ura}
@@ -31,10 +31,10 @@ use denote.Triple.Entry.{on_entry, alive, Args}
 use denote.Triple.Spec.{Meets, triple_of}
 use denote.Triple.Table.{entered}
 use denote.Triple.Walked.{says, Stays, stay_dropped, walk_of, Walks, ends_at, walked, Goes-dropped, walk_Meets}
-use Rattle.clock2q_count.specs.contracts.told.Told.pick.Key.{name as key}
-use Rattle.clock2q_count.specs.contracts.told.Told.pick as f
-use Rattle.clock2q_count.proofs.told.Told.pick.Statement as stated
-use Rattle.clock2q_count.proofs.told.Told.pick.Code as code
+use Rattle.clock2q_count.specs.contracts.told.Told.new.Key.{name as key}
+use Rattle.clock2q_count.specs.contracts.told.Told.new as f
+use Rattle.clock2q_count.proofs.told.Told.new.Statement as stated
+use Rattle.clock2q_count.proofs.told.Told.new.Code as code
 use Rattle.clock2q_count.specs.contracts.told.Told as made
 
 module _ (T X : RattleType) where
@@ -87,9 +87,9 @@ meets T X {𝓤 = 𝓤} 𝓛 mem run 𝓣 =
     walk_Meets 𝓛 (f.ended T X) (stayed T X) (Goes-dropped 𝓛 3 (seen T X) yes (λ κs x f. refl), tt) (f.clauses T X 𝓛 mem run) (WpFn 𝓤 𝓛.H 𝓣.C 𝓣.Λ (function T X))
     (WpFn-mono 𝓤 𝓛.H 𝓛.laws 𝓣 (function T X)) (walks T X 𝓛 mem run 𝓣.C 𝓣.Λ)
 
-pub pick_spec : {M : Type 1} → stated.statement M
+pub new_spec : {M : Type 1} → stated.statement M
 unfolding tables_of
-pick_spec 𝓤 𝓛 𝓜 𝓡 wired T X laws laws' =
+new_spec 𝓤 𝓛 𝓜 𝓡 wired T X laws laws' =
     entered 𝓤 𝓛.H (triple_of 𝓛 (f.signature T X) (f.spec T X 𝓛 𝓜.mem 𝓡.returns))
     (tables 𝓤 𝓛.H 𝓜 𝓡 𝓡.env).C (tables 𝓤 𝓛.H 𝓜 𝓡 𝓡.env).Λ (key (layouts (a_type ∷ a_type ∷ []) (T, (X, tt)))) (function T X) (code.unfolded 𝓤 𝓛.H 𝓜 𝓡 wired (T, (X, tt)))
     (meets T X 𝓛 𝓜.mem 𝓡.returns (tables_of 𝓤 𝓛.H 𝓜 (tables 𝓤 𝓛.H 𝓜 𝓡 𝓡.env)))
