@@ -66,7 +66,7 @@ impl<T> Model for Device<T> {
 
     ghost Value = { Attached T };
 
-    ghost view = { λ d. record { inner = d.inner; passed = d.trace.passed } };
+    ghost view = { λ d. record { inner = d.inner; passed = d.trace.passed.value } };
 }
 
 impl<T> Device<T> {

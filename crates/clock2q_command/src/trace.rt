@@ -1,8 +1,8 @@
 //! What has gone through a device, as contracts see it.
 ghost use Rattle.std.specs.Prelude.{◌≡◌};
-ghost use Rattle.std.specs.Borrow.{ftrue};
 ghost use Rattle.clock2q_command.specs.Ports.{Passed, nothing_passed, passed_by};
 
+use clock2q_count::Told;
 use std::marker::Model;
 
 // What one call did at a device.
@@ -29,34 +29,35 @@ impl Turn<'_> {
     };
 }
 
+// What has gone through a device, as a type for contracts alone: no value of it is ever made.
+#[derive(Drop)]
+pub(super) struct Passing;
+
+impl Model for Passing {
+    ghost Value = { Passed };
+
+    ghost view = { λ _. nothing_passed };
+}
+
 // What all calls did at a device. It takes no memory, and no code can read it.
 #[derive(Drop)]
 pub(super) struct Trace {
-    pub(super) ghost passed: { Passed },
-}
-
-impl Model for Trace {
-    ghost also_owns = { λ _. ftrue };
+    pub(super) passed: Told<Passing>,
 }
 
 impl Trace {
     pub(super) fn new() -> Trace
-        ensures { result.passed ≡ nothing_passed }
+        ensures { result.passed.value ≡ nothing_passed }
     {
-        Trace {}
-    }
-
-    // The same, and one turn more.
-    fn with(_before: &Trace, _turn: &Turn) -> Trace
-        ensures { result.passed ≡ passed_by _before.now.passed _turn.now.bytes.now _turn.now.stopped _turn.now.failed }
-    {
-        Trace {}
+        Trace {
+            passed: Told::new(&()),
+        }
     }
 
     pub(super) fn add(&mut self, turn: &Turn)
-        ensures { self.new.passed ≡ passed_by self.old.passed turn.now.bytes.now turn.now.stopped turn.now.failed }
+        ensures { self.new.passed.value ≡ passed_by self.old.passed.value turn.now.bytes.now turn.now.stopped turn.now.failed }
     {
-        *self = Trace::with(self, turn);
+        self.passed.set(turn);
     }
 }
 

@@ -1,22 +1,27 @@
-//! A number that contracts alone can see.
+//! Numbers and other values that contracts alone can see.
 #![tactic(auto)]
 
-ghost use Rattle.std.specs.Borrow.{ftrue};
-ghost use Rattle.std.specs.Prelude.{◌≡◌, ℕ, ◌+◌};
+ghost use Rattle.std.specs.Prelude.{◌≡◌, ℕ, ◌+◌, ◌≤◌};
+
+mod told;
 
 use std::fmt;
 use std::marker::Model;
+pub use told::Told;
 
 /// How often something was done. It takes no bytes, and no code can read it: it stands inside the
 /// struct whose accesses it counts, and the accessors tick it.
 #[derive(Drop)]
 pub struct Count {
-    seal: (),
-    pub ghost total: { ℕ },
+    told: Told<usize>,
 }
 
 impl Model for Count {
-    ghost also_owns = { λ _. ftrue };
+    ghost use Rattle.clock2q_count.specs.Counted.{Counted};
+
+    ghost Value = { Counted };
+
+    ghost view = { λ count. record { total = count.told.value } };
 }
 
 impl Count {
@@ -24,26 +29,25 @@ impl Count {
     pub fn new() -> Count
         ensures zero { result.total ≡ 0 }
     {
-        Count { seal: () }
-    }
-
-    fn one() -> Count
-        ensures { result.total ≡ 1 }
-    {
-        Count { seal: () }
-    }
-
-    fn sum(_before: &Count, _more: &Count) -> Count
-        ensures { result.total ≡ _before.now.total + _more.now.total }
-    {
-        Count { seal: () }
+        Count {
+            told: Told::new(&()),
+        }
     }
 
     /// It was done once more.
     pub fn tick(&mut self)
         ensures ticked { self.new.total ≡ self.old.total + 1 }
     {
-        *self = Count::sum(self, &Count::one());
+        self.told.set(&());
+    }
+
+    /// It was done as often as a bound says that the proof of the call picks.
+    pub fn raise<X>(&mut self, seen: &X)
+        ghost bound: { ℕ }
+        requires reached { self.old.total ≤ bound }
+        ensures raised { self.new.total ≡ bound }
+    {
+        self.told.set(seen);
     }
 }
 
@@ -52,9 +56,5 @@ impl fmt::Debug for Count {
         f.write_str("Count")
     }
 }
-
-unsafe impl Send for Count {}
-
-unsafe impl Sync for Count {}
 
 const _: () = prove!(size_of::<Count>() == 0);

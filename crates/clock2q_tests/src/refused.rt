@@ -31,6 +31,11 @@ fn constructions(rt: HostRuntime) -> Result<(), Fail> {
                 break;
             };
             assert_eq!(rt; error, CacheError::Memory, "{capacity}: {granted} granted");
+            assert_eq!(rt;
+                alloc.given_back(),
+                alloc.taken(),
+                "{capacity}: {granted} granted"
+            );
         }
         assert_ne!(rt; enough, 0, "{capacity}");
         alloc.grant();

@@ -1,5 +1,4 @@
-//! Queues and histories whose requests for memory are refused, over a heap that tells what is
-//! taken from it.
+//! Queues and histories whose requests for memory are refused.
 ghost use Rattle.std.specs.Prelude.{◌≡◌, ◌%◌, false, [], nat_eq};
 ghost use Rattle.std.specs.List.{AllByRecursion};
 ghost use Rattle.clock2q_queues.specs.History.{is_remembered};
@@ -7,13 +6,8 @@ ghost use Rattle.clock2q_queues.specs.History.{is_remembered};
 use crate::refusing::Refusing;
 use clock2q_queues::history::History;
 use clock2q_queues::queues::Queues;
-use linked_list_allocator::LocalHeap;
+use std::alloc::Global;
 use std::test::Fail;
-
-type Requests<'a> = Refusing<&'a LocalHeap>;
-
-// More bytes than any of the constructors takes.
-const BYTES: usize = 65_536;
 
 // More requests than any of the constructors makes.
 const MANY: u64 = 100;
@@ -21,8 +15,7 @@ const MANY: u64 = 100;
 // The records, the window's places and the hit bits.
 #[test]
 fn queues(rt: HostRuntime) -> Result<(), Fail> {
-    let heap = LocalHeap::new(rt.alloc(), BYTES)?;
-    let alloc = Refusing::new(&heap);
+    let alloc = Refusing::new(rt.alloc());
     let mut enough = 0;
     for granted in 0..MANY {
         alloc.refuse_after(granted);
@@ -31,45 +24,44 @@ fn queues(rt: HostRuntime) -> Result<(), Fail> {
             enough = granted;
             break;
         }
-        assert_eq!(rt; heap.used(), 0, "{granted} granted");
+        assert_eq!(rt; alloc.given_back(), alloc.taken(), "{granted} granted");
     }
     assert_eq!(rt; enough, 3);
     alloc.grant();
     let made = Queues::new(&alloc, 12, 2)?;
     assert_eq!(rt; made.small_len(), 0);
-    assert_ne!(rt; heap.used(), 0);
+    assert_ne!(rt; alloc.given_back(), alloc.taken());
     drop(made);
-    assert_eq!(rt; heap.used(), 0);
+    assert_eq!(rt; alloc.given_back(), alloc.taken());
     Ok(())
 }
 
 // The two vectors of the index, the records and the hit bits of the order, and the keys.
 #[test]
 fn histories(rt: HostRuntime) -> Result<(), Fail> {
-    let heap = LocalHeap::new(rt.alloc(), BYTES)?;
-    let alloc = Refusing::new(&heap);
+    let alloc = Refusing::new(rt.alloc());
     let mut enough = 0;
     for granted in 0..MANY {
         alloc.refuse_after(granted);
-        let made: Result<History<u64, &Requests>, _> = History::new(&alloc, 7);
+        let made: Result<History<u64, &Refusing<Global>>, _> = History::new(&alloc, 7);
         if made.is_ok() {
             enough = granted;
             break;
         }
-        assert_eq!(rt; heap.used(), 0, "{granted} granted");
+        assert_eq!(rt; alloc.given_back(), alloc.taken(), "{granted} granted");
     }
     assert_eq!(rt; enough, 5);
     alloc.grant();
-    let made: History<u64, &Requests> = History::new(&alloc, 7)?;
+    let made: History<u64, &Refusing<Global>> = History::new(&alloc, 7)?;
     assert_eq!(rt; made.len(), 0);
-    assert_ne!(rt; heap.used(), 0);
+    assert_ne!(rt; alloc.given_back(), alloc.taken());
     drop(made);
-    assert_eq!(rt; heap.used(), 0);
+    assert_eq!(rt; alloc.given_back(), alloc.taken());
     Ok(())
 }
 
 // Slot 0 goes through Small and Main, and is given up.
-fn pass_through(queues: &mut Queues<&Requests>)
+fn pass_through(queues: &mut Queues<&Refusing<Global>>)
     requires slots { queues.old.slots ≡ 4 }
     requires window { queues.old.window ≡ 2 }
     requires small { queues.old.small ≡ [] }
@@ -92,23 +84,21 @@ fn pass_through(queues: &mut Queues<&Requests>)
 
 #[test]
 fn queues_ask_for_nothing_more(rt: HostRuntime) -> Result<(), Fail> {
-    let heap = LocalHeap::new(rt.alloc(), BYTES)?;
-    let alloc = Refusing::new(&heap);
+    let alloc = Refusing::new(rt.alloc());
     let mut queues = Queues::new(&alloc, 4, 2)?;
     let asked = alloc.requests();
-    let taken = heap.used();
     alloc.refuse_after(0);
     pass_through(&mut queues);
     assert_eq!(rt; queues.tail(), Some(3));
     assert_eq!(rt; queues.small_len(), 1);
     assert_eq!(rt; queues.main_len(), 0);
     assert_eq!(rt; alloc.requests(), asked);
-    assert_eq!(rt; heap.used(), taken);
+    assert_eq!(rt; alloc.given_back(), 0);
     Ok(())
 }
 
 // Discards a key. A key's hash is its remainder by 3.
-fn forget(history: &mut History<u64, &Requests>, key: u64) -> bool
+fn forget(history: &mut History<u64, &Refusing<Global>>, key: u64) -> bool
     requires { AllByRecursion (λ e. e.0 ≡ e.1 % 3) history.old.entries }
     ensures hashed { AllByRecursion (λ e. e.0 ≡ e.1 % 3) history.new.entries }
     ensures absent { is_remembered nat_eq key history.new.entries ≡ false }
@@ -117,7 +107,7 @@ fn forget(history: &mut History<u64, &Requests>, key: u64) -> bool
 }
 
 // Discards a key, tells whether it was there, and pushes it.
-fn renew(history: &mut History<u64, &Requests>, key: u64) -> bool
+fn renew(history: &mut History<u64, &Refusing<Global>>, key: u64) -> bool
     requires { AllByRecursion (λ e. e.0 ≡ e.1 % 3) history.old.entries }
     ensures { AllByRecursion (λ e. e.0 ≡ e.1 % 3) history.new.entries }
 {
@@ -129,11 +119,9 @@ fn renew(history: &mut History<u64, &Requests>, key: u64) -> bool
 // More keys than fit, of which each has the hash of others.
 #[test]
 fn histories_ask_for_nothing_more(rt: HostRuntime) -> Result<(), Fail> {
-    let heap = LocalHeap::new(rt.alloc(), BYTES)?;
-    let alloc = Refusing::new(&heap);
-    let mut history: History<u64, &Requests> = History::new(&alloc, 7)?;
+    let alloc = Refusing::new(rt.alloc());
+    let mut history: History<u64, &Refusing<Global>> = History::new(&alloc, 7)?;
     let asked = alloc.requests();
-    let taken = heap.used();
     alloc.refuse_after(0);
     for key in 0..20 {
         assert!(rt; !renew(&mut history, key), "{key}");
@@ -147,6 +135,6 @@ fn histories_ask_for_nothing_more(rt: HostRuntime) -> Result<(), Fail> {
     assert!(rt; !renew(&mut history, 13));
     assert_eq!(rt; history.len(), 1);
     assert_eq!(rt; alloc.requests(), asked);
-    assert_eq!(rt; heap.used(), taken);
+    assert_eq!(rt; alloc.given_back(), 0);
     Ok(())
 }

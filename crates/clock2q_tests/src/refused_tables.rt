@@ -26,6 +26,7 @@ fn constructions(rt: HostRuntime) -> Result<(), Fail> {
             break;
         };
         assert_eq!(rt; error, TableError::Memory, "{granted} granted");
+        assert_eq!(rt; alloc.given_back(), alloc.taken(), "{granted} granted");
     }
     assert_ne!(rt; enough, 0);
     alloc.grant();

@@ -1,13 +1,17 @@
-//! An allocator that counts the requests for memory, and refuses those that it is told to refuse.
+//! An allocator that refuses the requests for memory that it is told to refuse, and counts what is
+//! taken from it and given back.
 
 use std::alloc::{AllocError, Allocator};
 use std::cell::Cell;
 
-// How many requests were made, and the number of the first that is refused, if any is.
+// How many requests were made, the number of the first that is refused, if any is, and how many
+// bytes were granted and given back.
 #[derive(Drop)]
 struct Requests {
     made: Cell<u64>,
     refused_from: Cell<Option<u64>>,
+    taken: Cell<u64>,
+    given_back: Cell<u64>,
 }
 
 impl Requests {
@@ -15,24 +19,36 @@ impl Requests {
         Requests {
             made: Cell::new(0),
             refused_from: Cell::new(None),
+            taken: Cell::new(0),
+            given_back: Cell::new(0),
         }
     }
 
-    // Counts a request, and answers whether it is refused.
-    fn refuses(&self) -> bool {
+    // Counts a request for `size` bytes, and returns whether it is refused.
+    fn refuses(&self, size: usize) -> bool {
         let made = self.made.get().saturating_add(1);
         self.made.set(made);
-        match self.refused_from.get() {
-            Some(first) => made >= first,
-            None => false,
+        let refused = self.refused_from.get().is_some_and(|first| made >= first);
+        if !refused {
+            add(&self.taken, size);
         }
+        refused
     }
+
+    // Counts `size` bytes that are given back.
+    fn give_back(&self, size: usize) {
+        add(&self.given_back, size);
+    }
+}
+
+fn add(bytes: &Cell<u64>, size: usize) {
+    bytes.set(bytes.get().saturating_add(size as u64));
 }
 
 /// An allocator that passes requests on to another, counts them, and refuses some.
 ///
 /// What is given back is passed on too. A request that is refused doesn't reach the other
-/// allocator.
+/// allocator, and one that is granted counts as taken.
 #[derive(Drop)]
 pub struct Refusing<A: Allocator> {
     inner: A,
@@ -53,6 +69,16 @@ impl<A: Allocator> Refusing<A> {
         self.requests.made.get()
     }
 
+    /// How many bytes were taken.
+    pub fn taken(&self) -> u64 {
+        self.requests.taken.get()
+    }
+
+    /// How many bytes were given back.
+    pub fn given_back(&self) -> u64 {
+        self.requests.given_back.get()
+    }
+
     /// Grants so many requests more, and refuses every later one.
     pub fn refuse_after(&self, granted: u64) {
         let first = self.requests().saturating_add(granted).saturating_add(1);
@@ -69,13 +95,14 @@ unsafe impl<A: Allocator> Allocator for Refusing<A> {
     ghost dealloc_token = { λ refusing ty ptr. A.dealloc_token refusing.inner ty ptr };
 
     fn allocate(&self, size: usize, align: usize) -> Result<*mut u8, AllocError> {
-        if self.requests.refuses() {
+        if self.requests.refuses(size) {
             return Err(AllocError);
         }
         self.inner.allocate(size, align)
     }
 
     unsafe fn deallocate(&self, ptr: *mut u8, size: usize, align: usize) {
+        self.requests.give_back(size);
         self.inner.deallocate(ptr, size, align);
     }
 }

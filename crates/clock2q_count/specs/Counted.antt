@@ -1,0 +1,5 @@
+use Rattle.std.specs.Prelude.{ℕ}
+
+-- how often something was done
+pub record Counted : Type 0 where
+  pub total : ℕ
