@@ -1,3 +1,4 @@
+pub mod Clock
 pub mod Kept
 pub mod Keyed
 pub mod Lasting

@@ -352,7 +352,7 @@ module _ {K V : Type 0} where
         by_tail None last = into_small_by None last (vacancy m) refl true small (from_victim m.main) refl (λ tail e. absurd (none_is tail e))
         by_tail (Some tail) last = into_small_by (Some tail) last (vacancy m) refl (is_promoted tail.age) small (from_victim m.main) refl (λ other e. ap (λ x. is_promoted x.age) (some_is other tail (sym e)))
 
-map_none : {X Y : Type 0} (f : X → Y) (o : Option X) → option_map f o ≡ None → o ≡ None
+pub map_none : {X Y : Type 0} (f : X → Y) (o : Option X) → option_map f o ≡ None → o ≡ None
 map_none f None none = refl
 map_none f (Some x) none = cc
 
