@@ -117,6 +117,7 @@ module _ {K V : Type 0} where
         let small_length : length (small_hit is m.small) ≡ length m.small = length-map m.small _ in
         let main_length : length (main_hit is m.main) ≡ length m.main = length-map m.main _ in
         record {
+          small_below = h.small_below;
           small_within = rw small_length h.small_within;
           main_within = rw main_length h.main_within;
           history_within = h.history_within;
@@ -130,6 +131,7 @@ module _ {K V : Type 0} where
 
     pub whole-forgotten : (is : K → Bool) → IsWhole eq (forgotten is m)
     whole-forgotten is = record {
+      small_below = h.small_below;
       small_within = h.small_within;
       main_within = h.main_within;
       history_within = omega (arith, h.history_within, length-filter (λ k. not (is k)) m.history, count_by-le-length (λ k. not (is k)) m.history);
@@ -159,6 +161,7 @@ module _ {K V : Type 0} where
                 let is_made : nat_lt p.slot (length p.machine.values) ≡ true = lt-ltb p.slot (length p.machine.values) (rw placed.values keeps.made) in
                 let n : length (stored p.slot value p.machine).values ≡ length m.values = rw is_made (length-set p.machine.values p.slot value ∙ ap length placed.values) in
                 record {
+                  small_below = rw placed.shares h.small_below;
                   small_within = rw placed.shares placed.small_within;
                   main_within = rw placed.shares placed.main_within;
                   history_within = rw placed.shares placed.history_within;
@@ -171,6 +174,7 @@ module _ {K V : Type 0} where
                 let is_next : nat_lt p.slot (length p.machine.values) ≡ false = le-ltb p.slot (length p.machine.values) (omega (arith, makes.next, ap length placed.values)) in
                 let n : length (stored p.slot value p.machine).values ≡ suc (length m.values) = rw is_next (omega (arith, length-append p.machine.values (value ∷ []), ap length placed.values)) in
                 record {
+                  small_below = rw placed.shares h.small_below;
                   small_within = rw placed.shares placed.small_within;
                   main_within = rw placed.shares placed.main_within;
                   history_within = rw placed.shares placed.history_within;
@@ -229,7 +233,7 @@ module _ {K V : Type 0} where
           let at : MainEntry K → ℕ = λ e. one_if (e.slot == victim.slot) in
           stands_made victim.slot (omega (arith, sum_by-cons at victim others, ap (sum_by at) choice, weight-from_victim at (λ e bit. refl) m.main, ap one_if (eq-eqb victim.slot victim.slot refl)))
 
-    module _ (below : m.shares.small < m.shares.capacity) (key : K) where
+    module _ (key : K) where
       -- into Main, which has room
       pub placed-joining : (slot : ℕ) → vacancy m ≡ Some slot → length m.main < main_share m.shares → IsPlaced key m (joining_main key (Some slot) m)
       placed-joining slot is room = record {
@@ -328,9 +332,9 @@ module _ {K V : Type 0} where
 
       into_main_by : (b : Bool) → (length m.main == main_share m.shares) ≡ b → (es : List (MainEntry K)) → from_victim m.main ≡ es → (v : Option ℕ) → vacancy m ≡ v
           → IsPlaced key m (if b then replacing_victim key es m else joining_main key v m)
-      into_main_by true full [] choice v is = absurd (omega (arith, below, eqb-true (length m.main) (main_share m.shares) full, ap (length {A = MainEntry K}) choice, length-from_victim m.main))
+      into_main_by true full [] choice v is = absurd (omega (arith, h.small_below, eqb-true (length m.main) (main_share m.shares) full, ap (length {A = MainEntry K}) choice, length-from_victim m.main))
       into_main_by true full (victim ∷ others) choice v is = placed-replacing victim others choice
-      into_main_by false room es choice None is = absurd (omega (arith, all_resident is, h.small_within, h.main_within, below, eqb-false (length m.main) (main_share m.shares) room))
+      into_main_by false room es choice None is = absurd (omega (arith, all_resident is, h.small_within, h.main_within, h.small_below, eqb-false (length m.main) (main_share m.shares) room))
       into_main_by false room es choice (Some slot) is = placed-joining slot is (below_of (length m.main) (main_share m.shares) h.main_within room)
 
       -- into Main
@@ -340,8 +344,8 @@ module _ {K V : Type 0} where
       into_small_by : (t : Option (SmallEntry K)) → last_or None m.small ≡ t → (v : Option ℕ) → vacancy m ≡ v → (b : Bool) → goes_to_main false m ≡ false
           → (es : List (MainEntry K)) → from_victim m.main ≡ es → ((tail : SmallEntry K) → t ≡ Some tail → is_promoted tail.age ≡ b) → IsPlaced key m (into_small_at key v t m)
       into_small_by t last (Some slot) is b small es choice on = placed-admitted slot t is (small_room m.shares.small (length m.small) (vacancy m) slot is small)
-      into_small_by None last None is b small es choice on = absurd (omega (arith, all_resident is, h.main_within, below, empty_small m.small last, small_share m.shares.small (is_some (vacancy m) && nat_le m.shares.small (length m.small)) small))
-      into_small_by (Some tail) last None is true small [] choice on = absurd (omega (arith, all_resident is, h.small_within, below, ap (length {A = MainEntry K}) choice, length-from_victim m.main))
+      into_small_by None last None is b small es choice on = absurd (omega (arith, all_resident is, h.main_within, h.small_below, empty_small m.small last, small_share m.shares.small (is_some (vacancy m) && nat_le m.shares.small (length m.small)) small))
+      into_small_by (Some tail) last None is true small [] choice on = absurd (omega (arith, all_resident is, h.small_within, h.small_below, ap (length {A = MainEntry K}) choice, length-from_victim m.main))
       into_small_by (Some tail) last None is true small (victim ∷ others) choice on = rw (on tail refl, choice) (placed-promoting tail last (tail_some m.small tail last) victim others choice)
       into_small_by (Some tail) last None is false small es choice on = rw (on tail refl) (placed-evicting tail last (tail_some m.small tail last))
 
