@@ -156,20 +156,20 @@ module _ {K V : Type 0} where
         unknown_small true a b e = cc
         unknown_small false a b e = e
 
-      placed-key : IsPlaced key rest (placement (eq key) key m)
+      pub placed-key : IsPlaced key rest (placement (eq key) key m)
       placed-key = placed (goes_to_main (list_any (eq key) m.history) m) refl
 
-      lasting-inserted : (value : V) → IsWhole eq (inserted (eq key) key value m)
+      pub lasting-inserted : (value : V) → IsWhole eq (inserted (eq key) key value m)
       lasting-inserted value = whole-stored eq rest (whole-forgotten eq m h (eq key)) laws key (unknown_once_forgotten (eq key) m absent) (placement (eq key) key m) placed-key value
 
-      lasting-reused : (fresh : V) → IsWhole eq (reused (eq key) key fresh m)
+      pub lasting-reused : (fresh : V) → IsWhole eq (reused (eq key) key fresh m)
       lasting-reused fresh = whole-reused eq rest (whole-forgotten eq m h (eq key)) laws key (unknown_once_forgotten (eq key) m absent) (placement (eq key) key m) placed-key fresh
 
-    lasting-hit : (is : K → Bool) (m : Machine K V) → IsWhole eq m → IsWhole eq (hit is m)
+    pub lasting-hit : (is : K → Bool) (m : Machine K V) → IsWhole eq m → IsWhole eq (hit is m)
     lasting-hit is m h = whole-hit eq m h is
 
     -- the slot of a resident was made
-    resident_made : (is : K → Bool) (m : Machine K V) → IsWhole eq m → (slot : ℕ) → slot_of is m ≡ Some slot → slot < length m.values
+    pub resident_made : (is : K → Bool) (m : Machine K V) → IsWhole eq m → (slot : ℕ) → slot_of is m ≡ Some slot → slot < length m.values
     resident_made is m h slot found = found_slot is m.small m.main (λ s. s < length m.values) (Some slot) (small_made eq m h) (main_made eq m h) (sym found)
 
     lasting-replaced : (is : K → Bool) (value : V) (o : Option ℕ) (m : Machine K V) → slot_of is m ≡ o → IsWhole eq m → IsWhole eq (replaced_at is value o m)

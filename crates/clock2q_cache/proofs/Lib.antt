@@ -2,8 +2,11 @@ pub mod Clock
 pub mod Kept
 pub mod Keyed
 pub mod Lasting
+pub mod Laws
+pub mod Entering
 pub mod Placed
 pub mod Residents
 pub mod Weights
 pub mod Whole
+pub mod Standing
 pub mod WorkedRuns
