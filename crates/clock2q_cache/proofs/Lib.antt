@@ -5,7 +5,9 @@ pub mod Lasting
 pub mod Laws
 pub mod Entering
 pub mod Placed
+pub mod Remembered
 pub mod Residents
+pub mod SecondChance
 pub mod Weights
 pub mod Whole
 pub mod Standing
