@@ -11,4 +11,7 @@ pub mod SecondChance
 pub mod Weights
 pub mod Whole
 pub mod Standing
+pub mod WorkedCounts
 pub mod WorkedRuns
+pub mod WorkedSlots
+pub mod WorkedStates
