@@ -3,7 +3,7 @@ use Rattle.std.proofs.Common.{◌≡◌, ℕ, false, eqb, List, [], ◌∷◌, �
 use Rattle.std.specs.Prelude.{Some, None}
 use Rattle.clock2q_cache.specs.Machine.{Machine}
 use Rattle.clock2q_cache.specs.Calls.{Call, Put, Get, Contains, GetAt, Remove, SlotFor, Try, Value, Flag}
-use Rattle.clock2q_cache.specs.Steps.{answers}
+use Rattle.clock2q_cache.specs.Steps.{answers, after_all}
 use Rattle.clock2q_cache.specs.Bounds.{set_bits, inspections_of, main_victims, settings, summed}
 use Rattle.clock2q_cache.proofs.WorkedRuns.{puts, gets, state, chosen}
 
@@ -22,8 +22,10 @@ all_bits_set : let m = state 20 (puts 1 20 ++ gets 3 18) in
 all_bits_set = (refl, refl)
 
 a_whole_round : let m = state 20 (puts 1 20 ++ gets 3 18 ++ Get 1 ∷ []) in
-    (counts (puts 1 20 ++ gets 3 18 ++ Get 1 ∷ Put 21 21 ∷ []) (state 20 []) ≡ 19 ∷ 1 ∷ 18 ∷ []) × (counts (Put 21 21 ∷ []) m ≡ 19 ∷ 1 ∷ 0 ∷ [])
-a_whole_round = (refl, refl)
+    (counts (puts 1 20 ++ gets 3 18 ++ Get 1 ∷ Put 21 21 ∷ []) (state 20 []) ≡ 19 ∷ 1 ∷ 18 ∷ [])
+    × (counts (Put 21 21 ∷ []) m ≡ 19 ∷ 1 ∷ 0 ∷ [])
+    × (set_bits (after_all eqb (Put 21 21 ∷ []) m) ≡ 0)
+a_whole_round = (refl, refl, refl)
 
 two_victims_behind_two_hits : counts (puts 1 4 ++ Get 4 ∷ Get 3 ∷ Put 5 5 ∷ Put 1 1 ∷ Put 6 6 ∷ Put 5 5 ∷ []) (state 4 []) ≡ 4 ∷ 2 ∷ 2 ∷ []
 two_victims_behind_two_hits = refl

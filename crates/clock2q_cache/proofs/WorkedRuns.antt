@@ -4,7 +4,7 @@ use Rattle.std.specs.Prelude.{Some, None}
 use Rattle.std.specs.List.{range_with_len}
 use Rattle.clock2q_cache.specs.Shares.{usual_shares, main_share, ghost_share}
 use Rattle.clock2q_cache.specs.Machine.{Machine, empty}
-use Rattle.clock2q_cache.specs.Calls.{Call, Answer, Put, Get, Peek, Contains, GetAt, Set, With, Try, SlotFor, Remove, Retain, Len, IsEmpty, Capacity, Value, Stored, Tried, Flag, Number, Done}
+use Rattle.clock2q_cache.specs.Calls.{Call, Answer, Put, Get, Peek, Contains, GetAt, Set, With, Try, SlotFor, Remove, Retain, Len, IsEmpty, Capacity, Value, Stored, Tried, Slot, Flag, Number, Done}
 use Rattle.clock2q_cache.specs.Steps.{answers, after_all}
 
 -- the shares of the table: Small, Main, window and Ghost
@@ -64,6 +64,10 @@ failure_keeps_history = refl
 
 no_key_before_the_first : replies 2 (Set 1 5 ∷ Len ∷ Contains 1 ∷ []) ≡ Value None ∷ Number 0 ∷ Flag false ∷ []
 no_key_before_the_first = refl
+
+no_key_after_the_last : replies 3 (IsEmpty ∷ Capacity ∷ Put 1 1 ∷ IsEmpty ∷ Remove 1 ∷ IsEmpty ∷ Len ∷ Capacity ∷ [])
+    ≡ Flag true ∷ Number 3 ∷ Value None ∷ Flag false ∷ Flag true ∷ Flag true ∷ Number 0 ∷ Number 3 ∷ []
+no_key_after_the_last = refl
 
 one_slot_peeked : replies 1 (Put 1 10 ∷ Get 1 ∷ Put 2 20 ∷ Peek 1 ∷ Get 2 ∷ Len ∷ [])
     ≡ Value None ∷ Value (Some 10) ∷ Value None ∷ Value None ∷ Value (Some 20) ∷ Number 1 ∷ []
@@ -126,6 +130,14 @@ retained_history = refl
 fetches : replies 2 (With 1 100 ∷ With 1 200 ∷ Try 2 None ∷ Contains 2 ∷ Try 2 (Some 20) ∷ Get 3 ∷ IsEmpty ∷ Capacity ∷ [])
     ≡ Stored 100 ∷ Stored 100 ∷ Tried None ∷ Flag false ∷ Tried (Some 20) ∷ Value None ∷ Flag false ∷ Number 2 ∷ []
 fetches = refl
+
+a_fetch_stores_nothing_on_a_hit : replies 2 (With 1 100 ∷ With 1 200 ∷ Peek 1 ∷ Try 1 (Some 300) ∷ Peek 1 ∷ SlotFor 1 400 ∷ Peek 1 ∷ [])
+    ≡ Stored 100 ∷ Stored 100 ∷ Value (Some 100) ∷ Tried (Some 100) ∷ Value (Some 100) ∷ Slot 0 100 ∷ Value (Some 100) ∷ []
+a_fetch_stores_nothing_on_a_hit = refl
+
+a_fetch_stores_what_was_missing : replies 2 (With 1 100 ∷ Peek 1 ∷ Try 2 (Some 200) ∷ Peek 2 ∷ Set 2 300 ∷ Peek 2 ∷ [])
+    ≡ Stored 100 ∷ Value (Some 100) ∷ Tried (Some 200) ∷ Value (Some 200) ∷ Value (Some 200) ∷ Value (Some 300) ∷ []
+a_fetch_stores_what_was_missing = refl
 
 -- Shares that are chosen.
 

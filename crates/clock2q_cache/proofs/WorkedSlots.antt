@@ -1,5 +1,5 @@
 -- Slots in runs worked out by hand: hints, removals and reuse, slots that are made before they are taken, and keys that are equal and differ.
-use Rattle.std.proofs.Common.{◌≡◌, ℕ, Bool, true, false, eqb, List, [], ◌∷◌, map, refl}
+use Rattle.std.proofs.Common.{◌≡◌, ℕ, Bool, true, false, eqb, List, [], ◌∷◌, ◌++◌, map, refl}
 use Rattle.std.specs.Prelude.{Some, None}
 use Rattle.clock2q_cache.specs.Shares.{usual_shares}
 use Rattle.clock2q_cache.specs.Machine.{Machine, empty, by_slot}
@@ -19,11 +19,21 @@ removed_one_by_one : replies 3 (Put 1 1 ∷ Put 2 2 ∷ Put 3 3 ∷ Retain (fals
     ≡ Value None ∷ Value None ∷ Value None ∷ Done ∷ Number 2 ∷ Done ∷ Number 0 ∷ Slot 2 3 ∷ []
 removed_one_by_one = refl
 
+questions_go_by_slot : answers eqb (Get 1 ∷ Put 21 21 ∷ Retain (false ∷ true ∷ false ∷ []) ∷ Contains 1 ∷ Contains 2 ∷ Contains 21 ∷ Len ∷ []) (state 20 (puts 1 20))
+    ≡ Value (Some 1) ∷ Value None ∷ Done ∷ Flag false ∷ Flag true ∷ Flag false ∷ Number 18 ∷ []
+questions_go_by_slot = refl
+
+the_last_value_repeats : replies 3 (Prefill (7 ∷ []) ∷ SlotFor 1 9 ∷ SlotFor 2 9 ∷ SlotFor 3 9 ∷ Len ∷ []) ≡ Done ∷ Slot 0 7 ∷ Slot 1 7 ∷ Slot 2 7 ∷ Number 3 ∷ []
+the_last_value_repeats = refl
+
 clear_unmakes_slots : replies 3 (Prefill (7 ∷ []) ∷ Clear ∷ SlotFor 1 9 ∷ []) ≡ Done ∷ Done ∷ Slot 0 9 ∷ []
 clear_unmakes_slots = refl
 
 clear_forgets_all : answers eqb (Clear ∷ Put 1 1 ∷ SlotFor 9 9 ∷ SlotFor 8 8 ∷ Len ∷ []) (state 20 (puts 1 22)) ≡ Done ∷ Value None ∷ Slot 1 9 ∷ Slot 2 8 ∷ Number 3 ∷ []
 clear_forgets_all = refl
+
+a_cleared_cache_is_a_new_one : state 20 (puts 1 22 ++ Clear ∷ []) ≡ empty (usual_shares 20)
+a_cleared_cache_is_a_new_one = refl
 
 stale_hints : replies 2 (SlotFor 1 10 ∷ Remove 1 ∷ GetAt 0 1 ∷ SlotFor 2 20 ∷ Set 2 20 ∷ GetAt 0 1 ∷ GetAt 0 2 ∷ GetAt 18446744073709551615 2 ∷ [])
     ≡ Slot 0 10 ∷ Flag true ∷ Value None ∷ Slot 0 10 ∷ Value (Some 10) ∷ Value None ∷ Value (Some 20) ∷ Value None ∷ []

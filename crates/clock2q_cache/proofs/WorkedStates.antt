@@ -57,6 +57,15 @@ history_reused : let m = state 4 (puts 1 6) in
     × (answers eqb (Remove 1 ∷ Put 7 7 ∷ Put 8 8 ∷ SlotFor 6 0 ∷ SlotFor 5 0 ∷ Contains 2 ∷ Len ∷ []) m ≡ Flag false ∷ Value None ∷ Value None ∷ Slot 1 2 ∷ Slot 0 8 ∷ Flag false ∷ Number 4 ∷ [])
 history_reused = (refl, refl)
 
+-- the hand leaves the bits behind the victim, and clears those that it passes
+two_hits_passed : let m = state 4 (puts 1 4 ++ Get 4 ∷ Get 3 ∷ Put 5 5 ∷ Put 1 1 ∷ []) in
+    let end = after_all eqb (Put 6 6 ∷ Put 5 5 ∷ []) m in
+    (main_of m ≡ ((3, 2), true) ∷ ((4, 3), true) ∷ ((1, 1), false) ∷ [])
+    × (small_of end ≡ ((6, 0), Young 0) ∷ [])
+    × (main_of end ≡ ((3, 2), false) ∷ ((4, 3), false) ∷ ((5, 1), false) ∷ [])
+    × (end.history ≡ [])
+two_hits_passed = (refl, refl, refl, refl)
+
 -- A run at capacity 20, state by state.
 
 after_twenty_puts : (small_of twenty ≡ ((2, 1), Young 0) ∷ ((1, 0), Old false) ∷ []) × (main_of twenty ≡ in_order 2 18) × (twenty.history ≡ [])
