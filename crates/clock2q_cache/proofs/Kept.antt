@@ -8,10 +8,10 @@ use Rattle.clock2q_cache.proofs.Whole.{IsPlaced, whole-hit, whole-forgotten, who
 
 module _ {K V : Type 0} (eq : K → K → Bool) (m : Machine K V) (a b c d : ℕ) (kept : IsKept eq m a b c d) where
   pub kept_after_hit : (is : K → Bool) → IsKept eq (hit is m) a b c d
-  kept_after_hit is = record { whole = whole-hit eq m kept.whole is; reserved = kept.reserved; small_below = kept.small_below }
+  kept_after_hit is = record { whole = whole-hit eq m kept.whole is; reserved = kept.reserved }
 
   pub kept_forgotten : (is : K → Bool) → IsKept eq (forgotten is m) a b c d
-  kept_forgotten is = record { whole = whole-forgotten eq m kept.whole is; reserved = kept.reserved; small_below = kept.small_below }
+  kept_forgotten is = record { whole = whole-forgotten eq m kept.whole is; reserved = kept.reserved }
 
   -- a key that was not known is placed, and its value stored
   pub kept_placed : (laws : IsEquivalence eq) (key : K) (value : V) (p : Placement K V) → known_count (eq key) m ≡ 0 → IsPlaced key m p
@@ -21,5 +21,4 @@ module _ {K V : Type 0} (eq : K → K → Bool) (m : Machine K V) (a b c d : ℕ
       record {
         whole = subst (IsWhole eq) (sym is) (whole-stored eq m kept.whole laws key absent p placed value);
         reserved = subst (λ s. IsReserved s a b c d) (sym same) kept.reserved;
-        small_below = rw same kept.small_below;
       }

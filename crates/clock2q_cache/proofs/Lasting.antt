@@ -2,11 +2,10 @@
 use Rattle.std.proofs.Common.{◌≡◌, ℕ, zero, suc, ◌+◌, ◌-◌, ◌<◌, ◌≤◌, ◌==◌, Bool, true, false, not, ◌||◌, ◌&&◌, cond, List, [], ◌∷◌, ◌++◌, map, length, inl, inr, Option, Some, None, refl, sym, ap, ◌∙◌, subst, arith, eq-eqb, ne_eqb, eqb-true, length-append}
 use Rattle.std.specs.Prelude.{⊤, if◌then◌else◌, nat_lt, nat_le, is_some, slice_set}
 use Rattle.std.specs.Cmp.{IsEquivalence}
-use Rattle.std.specs.Option.{option_map, option_or}
 use Rattle.std.specs.List.{count_by, filter, filter_map, cons_option, find, list_any, range_with_len}
 use Rattle.std.proofs.lemmas.Bool.{cases_lt, lt-ltb, le-ltb}
 use Rattle.std.proofs.lemmas.List.FromFn.{length-range_with_len}
-use Rattle.std.proofs.lemmas.List.Sums.{sum_by-cons, sum_by-append}
+use Rattle.std.proofs.lemmas.List.Sums.{sum_by-cons, sum_by-append, sum_by-le-sum_by}
 use Rattle.std.proofs.Math.ListN.{length-set}
 use Rattle.clock2q_cache.specs.Shares.{Shares}
 use Rattle.clock2q_cache.specs.Entries.{SmallEntry, MainEntry}
@@ -15,7 +14,8 @@ use Rattle.clock2q_cache.specs.Machine.{Machine, Placement, empty, hit, forgotte
 use Rattle.clock2q_cache.specs.Steps.{refused_slots, is_at, supplied, replaced_at, retained, after, after_all}
 use Rattle.clock2q_cache.specs.Cache.{IsWhole, known_count, standings}
 use Rattle.clock2q_cache.proofs.Weights.{sum_by-filter-le}
-use Rattle.clock2q_cache.proofs.Residents.{slot_in_small, slot_in_main, slot_among, found_slot}
+use Rattle.clock2q_cache.proofs.Residents.{found_slot}
+use Rattle.clock2q_cache.proofs.Standing.{fewer_second, found_counted}
 use Rattle.clock2q_cache.proofs.Whole.{one_if, some_is, IsPlaced, whole-hit, whole-forgotten, whole-stored, placed-main, placed-small, unknown_once_forgotten, small_made, main_made}
 
 -- the slots of a range, each once
@@ -86,6 +86,7 @@ module _ {K V : Type 0} where
     -- other values, as many
     revalued : (m : Machine K V) → IsWhole eq m → (values : List V) → length values ≡ length m.values → IsWhole eq (record m { values = values })
     revalued m h values same = record {
+      small_below = h.small_below;
       small_within = h.small_within;
       main_within = h.main_within;
       history_within = h.history_within;
@@ -106,6 +107,7 @@ module _ {K V : Type 0} where
         let once = h.slots_once slot in
         let at : held slot m ≡ 1 = elim (cases_lt slot (length m.values)) [ inl below ↦ omega (arith, once, ap one_if (lt-ltb slot (length m.values) below), some) | inr above ↦ absurd (omega (arith, once, ap one_if (le-ltb slot (length m.values) above), some)) ] in
         record {
+          small_below = h.small_below;
           small_within = omega (arith, length-without (λ (e : SmallEntry K). e.slot == slot) m.small, h.small_within);
           main_within = omega (arith, length-without (λ (e : MainEntry K). e.slot == slot) m.main, h.main_within);
           history_within = h.history_within;
@@ -142,115 +144,86 @@ module _ {K V : Type 0} where
             | inr makes ↦ rw (le-ltb p.slot (length m.values) (omega (arith, makes.next))) whole
           ]
 
-  -- what holds of a machine, and what its shares are made to be
-  pub record IsLasting (eq : K → K → Bool) (m : Machine K V) : Type 0 where
-    pub whole : IsWhole eq m
-    pub below : m.shares.small < m.shares.capacity
-
   module _ (eq : K → K → Bool) (laws : IsEquivalence eq) where
-    lasting-shares : (m n : Machine K V) → IsLasting eq m → n.shares ≡ m.shares → IsWhole eq n → IsLasting eq n
-    lasting-shares m n l same whole = record { whole = whole; below = subst (λ (s : Shares). s.small < s.capacity) (sym same) l.below }
-
-    module _ (key : K) (m : Machine K V) (l : IsLasting eq m) (absent : slot_of (eq key) m ≡ None) where
+    module _ (key : K) (m : Machine K V) (h : IsWhole eq m) (absent : slot_of (eq key) m ≡ None) where
       abbrev rest : Machine K V
       rest = forgotten (eq key) m
 
       placed : (b : Bool) → goes_to_main (list_any (eq key) m.history) m ≡ b → IsPlaced key rest (if b then into_main key rest else into_small key rest)
-      placed true main = placed-main eq rest (whole-forgotten eq m l.whole (eq key)) l.below key
-      placed false small = placed-small eq rest (whole-forgotten eq m l.whole (eq key)) l.below key (unknown_small (list_any (eq key) m.history) (m.shares.small == 0) (is_some (vacancy m) && nat_le m.shares.small (length m.small)) small) where
+      placed true main = placed-main eq rest (whole-forgotten eq m h (eq key)) key
+      placed false small = placed-small eq rest (whole-forgotten eq m h (eq key)) key (unknown_small (list_any (eq key) m.history) (m.shares.small == 0) (is_some (vacancy m) && nat_le m.shares.small (length m.small)) small) where
         unknown_small : (known a b : Bool) → (known || a || b) ≡ false → (false || a || b) ≡ false
         unknown_small true a b e = cc
         unknown_small false a b e = e
 
-      placed-key : IsPlaced key rest (placement (eq key) key m)
+      pub placed-key : IsPlaced key rest (placement (eq key) key m)
       placed-key = placed (goes_to_main (list_any (eq key) m.history) m) refl
 
-      lasting-inserted : (value : V) → IsLasting eq (inserted (eq key) key value m)
-      lasting-inserted value =
-          lasting-shares m (inserted (eq key) key value m) l placed-key.shares
-          (whole-stored eq rest (whole-forgotten eq m l.whole (eq key)) laws key (unknown_once_forgotten (eq key) m absent) (placement (eq key) key m) placed-key value)
+      pub lasting-inserted : (value : V) → IsWhole eq (inserted (eq key) key value m)
+      lasting-inserted value = whole-stored eq rest (whole-forgotten eq m h (eq key)) laws key (unknown_once_forgotten (eq key) m absent) (placement (eq key) key m) placed-key value
 
-      lasting-reused : (fresh : V) → IsLasting eq (reused (eq key) key fresh m)
-      lasting-reused fresh =
-          lasting-shares m (reused (eq key) key fresh m) l
-          (elim (nat_lt (placement (eq key) key m).slot (length m.values)) as (λ b. (if b then (placement (eq key) key m).machine else stored (placement (eq key) key m).slot fresh (placement (eq key) key m).machine).shares ≡ m.shares)
-          [ true ↦ placed-key.shares | false ↦ placed-key.shares ])
-          (whole-reused eq rest (whole-forgotten eq m l.whole (eq key)) laws key (unknown_once_forgotten (eq key) m absent) (placement (eq key) key m) placed-key fresh)
+      pub lasting-reused : (fresh : V) → IsWhole eq (reused (eq key) key fresh m)
+      lasting-reused fresh = whole-reused eq rest (whole-forgotten eq m h (eq key)) laws key (unknown_once_forgotten (eq key) m absent) (placement (eq key) key m) placed-key fresh
 
-    lasting-hit : (is : K → Bool) (m : Machine K V) → IsLasting eq m → IsLasting eq (hit is m)
-    lasting-hit is m l = record { whole = whole-hit eq m l.whole is; below = l.below }
+    pub lasting-hit : (is : K → Bool) (m : Machine K V) → IsWhole eq m → IsWhole eq (hit is m)
+    lasting-hit is m h = whole-hit eq m h is
 
     -- the slot of a resident was made
-    resident_made : (is : K → Bool) (m : Machine K V) → IsWhole eq m → (slot : ℕ) → slot_of is m ≡ Some slot → slot < length m.values
+    pub resident_made : (is : K → Bool) (m : Machine K V) → IsWhole eq m → (slot : ℕ) → slot_of is m ≡ Some slot → slot < length m.values
     resident_made is m h slot found = found_slot is m.small m.main (λ s. s < length m.values) (Some slot) (small_made eq m h) (main_made eq m h) (sym found)
 
-    lasting-replaced : (is : K → Bool) (value : V) (o : Option ℕ) (m : Machine K V) → slot_of is m ≡ o → IsLasting eq m → IsLasting eq (replaced_at is value o m)
-    lasting-replaced is value None m found l = l
-    lasting-replaced is value (Some slot) m found l = record { whole = whole-changed eq (hit is m) (whole-hit eq m l.whole is) slot value (resident_made is m l.whole slot found); below = l.below }
+    lasting-replaced : (is : K → Bool) (value : V) (o : Option ℕ) (m : Machine K V) → slot_of is m ≡ o → IsWhole eq m → IsWhole eq (replaced_at is value o m)
+    lasting-replaced is value None m found h = h
+    lasting-replaced is value (Some slot) m found h = whole-changed eq (hit is m) (whole-hit eq m h is) slot value (resident_made is m h slot found)
 
-    lasting-put : (key : K) (value : V) (o : Option ℕ) (m : Machine K V) → slot_of (eq key) m ≡ o → IsLasting eq m → IsLasting eq (if is_some o then replaced_at (eq key) value o m else inserted (eq key) key value m)
-    lasting-put key value None m found l = lasting-inserted key m l found value
-    lasting-put key value (Some slot) m found l = lasting-replaced (eq key) value (Some slot) m found l
+    lasting-put : (key : K) (value : V) (o : Option ℕ) (m : Machine K V) → slot_of (eq key) m ≡ o → IsWhole eq m → IsWhole eq (if is_some o then replaced_at (eq key) value o m else inserted (eq key) key value m)
+    lasting-put key value None m found h = lasting-inserted key m h found value
+    lasting-put key value (Some slot) m found h = lasting-replaced (eq key) value (Some slot) m found h
 
-    lasting-fetched : (key : K) (value : V) (o : Option ℕ) (m : Machine K V) → slot_of (eq key) m ≡ o → IsLasting eq m → IsLasting eq (if is_some o then hit (eq key) m else inserted (eq key) key value m)
-    lasting-fetched key value None m found l = lasting-inserted key m l found value
-    lasting-fetched key value (Some slot) m found l = lasting-hit (eq key) m l
+    lasting-fetched : (key : K) (value : V) (o : Option ℕ) (m : Machine K V) → slot_of (eq key) m ≡ o → IsWhole eq m → IsWhole eq (if is_some o then hit (eq key) m else inserted (eq key) key value m)
+    lasting-fetched key value None m found h = lasting-inserted key m h found value
+    lasting-fetched key value (Some slot) m found h = lasting-hit (eq key) m h
 
-    lasting-slotted : (key : K) (fresh : V) (o : Option ℕ) (m : Machine K V) → slot_of (eq key) m ≡ o → IsLasting eq m → IsLasting eq (if is_some o then hit (eq key) m else reused (eq key) key fresh m)
-    lasting-slotted key fresh None m found l = lasting-reused key m l found fresh
-    lasting-slotted key fresh (Some slot) m found l = lasting-hit (eq key) m l
+    lasting-slotted : (key : K) (fresh : V) (o : Option ℕ) (m : Machine K V) → slot_of (eq key) m ≡ o → IsWhole eq m → IsWhole eq (if is_some o then hit (eq key) m else reused (eq key) key fresh m)
+    lasting-slotted key fresh None m found h = lasting-reused key m h found fresh
+    lasting-slotted key fresh (Some slot) m found h = lasting-hit (eq key) m h
 
     -- a key that is found is held
     found_held : (is : K → Bool) (m : Machine K V) (slot : ℕ) → slot_of is m ≡ Some slot → 0 < held slot m
-    found_held is m slot found = by_queue (slot_in_small is m.small) refl (sym (slot_among is m.small m.main) ∙ found) where
-      in_queue : {X : Type 0} (test : X → Bool) (at : X → ℕ) (xs : List X) → option_map at (find test xs) ≡ Some slot → 0 < count_by (λ x. at x == slot) xs
-      in_queue test at [] e = cc
-      in_queue test at (x ∷ xs) e =
-          (elim (test x) as (λ b. option_map at (cond b (Some x) (find test xs)) ≡ Some slot → 0 < count_by (λ y. at y == slot) (x ∷ xs)) [
-            | true ↦ λ is. omega (arith, sum_by-cons (λ y. one_if (at y == slot)) x xs, ap one_if (eq-eqb (at x) slot (some_is (at x) slot is)))
-            | false ↦ λ later. omega (arith, sum_by-cons (λ y. one_if (at y == slot)) x xs, in_queue test at xs later)
-          ]) e
+    found_held is m slot found =
+        omega (arith, found_counted is m slot found, sum_by-le-sum_by (λ (e : SmallEntry K). one_if (is e.key && e.slot == slot)) (λ e. one_if (e.slot == slot)) m.small (λ e. fewer_second (is e.key) (e.slot == slot)), sum_by-le-sum_by (λ (e : MainEntry K). one_if (is e.key && e.slot == slot)) (λ e. one_if (e.slot == slot)) m.main (λ e. fewer_second (is e.key) (e.slot == slot)))
 
-      by_queue : (o : Option ℕ) → slot_in_small is m.small ≡ o → option_or o (slot_in_main is m.main) ≡ Some slot → 0 < held slot m
-      by_queue None small main = omega (arith, in_queue (λ e. is e.key) (λ e. e.slot) m.main main)
-      by_queue (Some s) small main = omega (arith, in_queue (λ e. is e.key) (λ e. e.slot) m.small (small ∙ main))
-
-    lasting-removed : (is : K → Bool) (o : Option ℕ) (m : Machine K V) → slot_of is m ≡ o → IsLasting eq m → IsLasting eq (removed_at is o m)
-    lasting-removed is None m found l = record { whole = whole-forgotten eq m l.whole is; below = l.below }
-    lasting-removed is (Some slot) m found l = record { whole = whole-vacated eq m l.whole slot (found_held is m slot found); below = l.below }
+    lasting-removed : (is : K → Bool) (o : Option ℕ) (m : Machine K V) → slot_of is m ≡ o → IsWhole eq m → IsWhole eq (removed_at is o m)
+    lasting-removed is None m found h = whole-forgotten eq m h is
+    lasting-removed is (Some slot) m found h = whole-vacated eq m h slot (found_held is m slot found)
 
     -- a new machine
-    pub lasting-empty : (shares : Shares) → shares.small < shares.capacity → IsLasting eq (empty shares)
+    pub lasting-empty : (shares : Shares) → shares.small < shares.capacity → IsWhole {V = V} eq (empty shares)
     lasting-empty shares below = record {
-      whole = record {
-        small_within = omega arith;
-        main_within = omega arith;
-        history_within = omega arith;
-        made_within = omega arith;
-        slots_counted = refl;
-        slots_once = λ slot. ap (λ b. if b then 1 else 0) (sym (le-ltb slot 0 (omega arith)));
-        keys_once = λ key. omega arith;
-      };
-      below = below;
+      small_below = below;
+      small_within = omega arith;
+      main_within = omega arith;
+      history_within = omega arith;
+      made_within = omega arith;
+      slots_counted = refl;
+      slots_once = λ slot. ap (λ b. if b then 1 else 0) (sym (le-ltb slot 0 (omega arith)));
+      keys_once = λ key. omega arith;
     }
 
     -- slots that were never made are made and free
-    lasting-prefilled : (made : List V) (m : Machine K V) → length m.values + length made ≤ m.shares.capacity → IsLasting eq m → IsLasting eq (prefilled made m)
-    lasting-prefilled made m within l =
-        let h = l.whole in
+    lasting-prefilled : (made : List V) (m : Machine K V) → length m.values + length made ≤ m.shares.capacity → IsWhole eq m → IsWhole eq (prefilled made m)
+    lasting-prefilled made m within h =
         let more : length (m.values ++ made) ≡ length m.values + length made = length-append m.values made in
         let range = range_with_len (length m.values) (length made) in
         record {
-          whole = record {
-            small_within = h.small_within;
-            main_within = h.main_within;
-            history_within = h.history_within;
-            made_within = rw more within;
-            slots_counted = omega (arith, h.slots_counted, more, length-append range m.free, length-range_with_len (length m.values) (length made));
-            slots_once = λ slot. omega (arith, sum_by-append (λ s. one_if (s == slot)) range m.free, count-range slot (length m.values) (length made), h.slots_once slot) ∙ with_range slot (length m.values) (length made) ∙ ap (λ n. if nat_lt slot n then 1 else 0) (sym more);
-            keys_once = h.keys_once;
-          };
-          below = l.below;
+          small_below = h.small_below;
+          small_within = h.small_within;
+          main_within = h.main_within;
+          history_within = h.history_within;
+          made_within = rw more within;
+          slots_counted = omega (arith, h.slots_counted, more, length-append range m.free, length-range_with_len (length m.values) (length made));
+          slots_once = λ slot. omega (arith, sum_by-append (λ s. one_if (s == slot)) range m.free, count-range slot (length m.values) (length made), h.slots_once slot) ∙ with_range slot (length m.values) (length made) ∙ ap (λ n. if nat_lt slot n then 1 else 0) (sym more);
+          keys_once = h.keys_once;
         } where
           with_range : (slot n k : ℕ) → cond (nat_lt slot n) 0 (one_if (nat_lt slot (n + k))) + (if nat_lt slot n then 1 else 0) ≡ (if nat_lt slot (n + k) then 1 else 0)
           with_range slot n k =
@@ -279,10 +252,10 @@ module _ {K V : Type 0} where
     rising-vacated m slot a (s ∷ ss) below r =
         (r.0, (subst (λ n. 0 < n) (sym (held-other slot s (λ e. omega (arith, e, below, r.0)) m)) r.1.0, rising-vacated m slot (suc s) ss (omega (arith, below, r.0)) r.1.1))
 
-    lasting-vacated : (m : Machine K V) (a : ℕ) (ss : List ℕ) → Rising m a ss → IsLasting eq m → IsLasting eq (vacated_all ss m)
-    lasting-vacated m a [] r l = l
-    lasting-vacated m a (s ∷ ss) r l =
-        lasting-vacated (vacated s m) (suc s) ss (rising-vacated m s (suc s) ss (omega arith) r.1.1) (record { whole = whole-vacated eq m l.whole s r.1.0; below = l.below })
+    lasting-vacated : (m : Machine K V) (a : ℕ) (ss : List ℕ) → Rising m a ss → IsWhole eq m → IsWhole eq (vacated_all ss m)
+    lasting-vacated m a [] r h = h
+    lasting-vacated m a (s ∷ ss) r h =
+        lasting-vacated (vacated s m) (suc s) ss (rising-vacated m s (suc s) ss (omega arith) r.1.1) (whole-vacated eq m h s r.1.0)
 
     -- the residents by slot
     at_slot : (m : Machine K V) (slot : ℕ) (r : K × ℕ) → resident_at m slot ≡ Some r → (r.1 ≡ slot) × (0 < held slot m)
@@ -320,29 +293,29 @@ module _ {K V : Type 0} where
         let next : a + 1 ≡ suc a = omega arith in
         rising-next m a rs (resident_at m a) refl (subst (λ b. Rising m b (map (λ r. r.1) rs)) next (rising-residents m (a + 1) n))
 
-    lasting-retained : (bits : List Bool) (m : Machine K V) → IsLasting eq m → IsLasting eq (retained bits m)
+    lasting-retained : (bits : List Bool) (m : Machine K V) → IsWhole eq m → IsWhole eq (retained bits m)
     lasting-retained bits m = lasting-vacated m 0 (refused_slots bits (map (λ r. r.1) (by_slot m))) (rising-refused m 0 bits (map (λ r. r.1) (by_slot m)) (rising-residents m 0 (length m.values)))
 
-    pub lasting-after : (call : Call K V) (m : Machine K V) → IsLasting eq m → IsLasting eq (after eq call m)
-    lasting-after (Put key value) m l = lasting-put key value (slot_of (eq key) m) m refl l
-    lasting-after (Get key) m l = lasting-hit (eq key) m l
-    lasting-after (Peek key) m l = l
-    lasting-after (Contains key) m l = l
-    lasting-after (GetAt slot key) m l = elim (is_at slot (slot_of (eq key) m)) as (λ b. IsLasting eq (if b then hit (eq key) m else m)) [ true ↦ lasting-hit (eq key) m l | false ↦ l ]
-    lasting-after (Set key value) m l = lasting-replaced (eq key) value (slot_of (eq key) m) m refl l
-    lasting-after (With key value) m l = lasting-fetched key value (slot_of (eq key) m) m refl l
-    lasting-after (Try key (Some value)) m l = lasting-fetched key value (slot_of (eq key) m) m refl l
-    lasting-after (Try key None) m l = lasting-hit (eq key) m l
-    lasting-after (SlotFor key value) m l = lasting-slotted key value (slot_of (eq key) m) m refl l
-    lasting-after (Remove key) m l = lasting-removed (eq key) (slot_of (eq key) m) m refl l
-    lasting-after (Retain bits) m l = lasting-retained bits m l
-    lasting-after Clear m l = lasting-empty m.shares l.below
-    lasting-after (Prefill values) m l = lasting-prefilled (supplied (m.shares.capacity - length m.values) values) m (omega (arith, length-supplied (m.shares.capacity - length m.values) values, l.whole.made_within)) l
-    lasting-after Len m l = l
-    lasting-after IsEmpty m l = l
-    lasting-after Capacity m l = l
+    pub lasting-after : (call : Call K V) (m : Machine K V) → IsWhole eq m → IsWhole eq (after eq call m)
+    lasting-after (Put key value) m h = lasting-put key value (slot_of (eq key) m) m refl h
+    lasting-after (Get key) m h = lasting-hit (eq key) m h
+    lasting-after (Peek key) m h = h
+    lasting-after (Contains key) m h = h
+    lasting-after (GetAt slot key) m h = elim (is_at slot (slot_of (eq key) m)) as (λ b. IsWhole eq (if b then hit (eq key) m else m)) [ true ↦ lasting-hit (eq key) m h | false ↦ h ]
+    lasting-after (Set key value) m h = lasting-replaced (eq key) value (slot_of (eq key) m) m refl h
+    lasting-after (With key value) m h = lasting-fetched key value (slot_of (eq key) m) m refl h
+    lasting-after (Try key (Some value)) m h = lasting-fetched key value (slot_of (eq key) m) m refl h
+    lasting-after (Try key None) m h = lasting-hit (eq key) m h
+    lasting-after (SlotFor key value) m h = lasting-slotted key value (slot_of (eq key) m) m refl h
+    lasting-after (Remove key) m h = lasting-removed (eq key) (slot_of (eq key) m) m refl h
+    lasting-after (Retain bits) m h = lasting-retained bits m h
+    lasting-after Clear m h = lasting-empty m.shares h.small_below
+    lasting-after (Prefill values) m h = lasting-prefilled (supplied (m.shares.capacity - length m.values) values) m (omega (arith, length-supplied (m.shares.capacity - length m.values) values, h.made_within)) h
+    lasting-after Len m h = h
+    lasting-after IsEmpty m h = h
+    lasting-after Capacity m h = h
 
     -- whatever the calls
-    pub lasting-run : (calls : List (Call K V)) (m : Machine K V) → IsLasting eq m → IsLasting eq (after_all eq calls m)
-    lasting-run [] m l = l
-    lasting-run (call ∷ calls) m l = lasting-run calls (after eq call m) (lasting-after call m l)
+    pub lasting-run : (calls : List (Call K V)) (m : Machine K V) → IsWhole eq m → IsWhole eq (after_all eq calls m)
+    lasting-run [] m h = h
+    lasting-run (call ∷ calls) m h = lasting-run calls (after eq call m) (lasting-after call m h)

@@ -1,8 +1,17 @@
+pub mod Clock
 pub mod Kept
 pub mod Keyed
 pub mod Lasting
+pub mod Laws
+pub mod Entering
 pub mod Placed
+pub mod Remembered
 pub mod Residents
+pub mod SecondChance
 pub mod Weights
 pub mod Whole
+pub mod Standing
+pub mod WorkedCounts
 pub mod WorkedRuns
+pub mod WorkedSlots
+pub mod WorkedStates

@@ -79,10 +79,23 @@ tail_some : {K : Type 0} (small : List (SmallEntry K)) (tail : SmallEntry K) →
 tail_some [] tail last = absurd (none_is tail last)
 tail_some (e ∷ es) tail last = omega arith
 
+-- what a key weighs at a slot, if there is one
+abbrev pub weight_at : {K : Type 0} → (K → ℕ → ℕ) → Option K → ℕ → ℕ
+weight_at w None slot = 0
+weight_at w (Some key) slot = w key slot
+
 module _ {K V : Type 0} where
   -- how many slots stand in the lists
   abbrev pub standing_count : Machine K V → ℕ
   standing_count m = length m.small + length m.main + length m.free
+
+  -- what the residents weigh together, each by its key and its slot
+  abbrev pub weight : (K → ℕ → ℕ) → Machine K V → ℕ
+  weight w m = sum_by (λ e. w e.key e.slot) m.small + sum_by (λ e. w e.key e.slot) m.main
+
+  -- a key came in: in the stead of a resident at its slot, or of none, and the others stayed at theirs
+  abbrev pub ComesIn : K → Machine K V → Placement K V → Type 0
+  ComesIn key m p = (other : Option K) × ((w : K → ℕ → ℕ) → (weight_at w other p.slot ≤ weight w m) × (weight w p.machine + weight_at w other p.slot ≡ weight w m + w key p.slot))
 
   -- a key took a slot that was made before, from where it stood
   pub record KeepsSlots (m : Machine K V) (p : Placement K V) : Type 0 where
@@ -106,6 +119,7 @@ module _ {K V : Type 0} where
     pub history_within : length p.machine.history ≤ ghost_share m.shares
     pub known : (is : K → Bool) → known_count is p.machine ≤ known_count is m + cond (is key) 1 0
     pub slots : KeepsSlots m p ⊎ MakesSlot m p
+    pub comes : ComesIn key m p
 
   module _ (eq : K → K → Bool) (m : Machine K V) (h : IsWhole eq m) where
     -- a slot of Small's tail, of Main's victim or of the free ones has been made
@@ -117,6 +131,7 @@ module _ {K V : Type 0} where
         let small_length : length (small_hit is m.small) ≡ length m.small = length-map m.small _ in
         let main_length : length (main_hit is m.main) ≡ length m.main = length-map m.main _ in
         record {
+          small_below = h.small_below;
           small_within = rw small_length h.small_within;
           main_within = rw main_length h.main_within;
           history_within = h.history_within;
@@ -130,6 +145,7 @@ module _ {K V : Type 0} where
 
     pub whole-forgotten : (is : K → Bool) → IsWhole eq (forgotten is m)
     whole-forgotten is = record {
+      small_below = h.small_below;
       small_within = h.small_within;
       main_within = h.main_within;
       history_within = omega (arith, h.history_within, length-filter (λ k. not (is k)) m.history, count_by-le-length (λ k. not (is k)) m.history);
@@ -159,6 +175,7 @@ module _ {K V : Type 0} where
                 let is_made : nat_lt p.slot (length p.machine.values) ≡ true = lt-ltb p.slot (length p.machine.values) (rw placed.values keeps.made) in
                 let n : length (stored p.slot value p.machine).values ≡ length m.values = rw is_made (length-set p.machine.values p.slot value ∙ ap length placed.values) in
                 record {
+                  small_below = rw placed.shares h.small_below;
                   small_within = rw placed.shares placed.small_within;
                   main_within = rw placed.shares placed.main_within;
                   history_within = rw placed.shares placed.history_within;
@@ -171,6 +188,7 @@ module _ {K V : Type 0} where
                 let is_next : nat_lt p.slot (length p.machine.values) ≡ false = le-ltb p.slot (length p.machine.values) (omega (arith, makes.next, ap length placed.values)) in
                 let n : length (stored p.slot value p.machine).values ≡ suc (length m.values) = rw is_next (omega (arith, length-append p.machine.values (value ∷ []), ap length placed.values)) in
                 record {
+                  small_below = rw placed.shares h.small_below;
                   small_within = rw placed.shares placed.small_within;
                   main_within = rw placed.shares placed.main_within;
                   history_within = rw placed.shares placed.history_within;
@@ -210,7 +228,7 @@ module _ {K V : Type 0} where
         ]
 
     -- where there is no vacancy, every slot is a resident's
-    all_resident : vacancy m ≡ None → m.shares.capacity ≤ length m.small + length m.main
+    pub all_resident : vacancy m ≡ None → m.shares.capacity ≤ length m.small + length m.main
     all_resident none =
         let full = no_vacancy m.free (length m.values) m.shares.capacity none in
         omega (arith, h.slots_counted, full.0, full.1)
@@ -224,12 +242,15 @@ module _ {K V : Type 0} where
           → sum_by g (behind_hand key slot others) + g victim ≡ sum_by g m.main + g (record { key = key; slot = slot; bit = false })
       behind_weight key slot g bitless = omega (arith, weight-behind g bitless key slot others, sum_by-cons g victim others, ap (sum_by g) choice, weight-from_victim g bitless m.main)
 
+      victim_weight : (g : MainEntry K → ℕ) → ((e : MainEntry K) (bit : Bool) → g (with_bit e bit) ≡ g e) → g victim ≤ sum_by g m.main
+      victim_weight g bitless = omega (arith, sum_by-cons g victim others, ap (sum_by g) choice, weight-from_victim g bitless m.main)
+
       pub victim_made : victim.slot < length m.values
       victim_made =
           let at : MainEntry K → ℕ = λ e. one_if (e.slot == victim.slot) in
           stands_made victim.slot (omega (arith, sum_by-cons at victim others, ap (sum_by at) choice, weight-from_victim at (λ e bit. refl) m.main, ap one_if (eq-eqb victim.slot victim.slot refl)))
 
-    module _ (below : m.shares.small < m.shares.capacity) (key : K) where
+    module _ (key : K) where
       -- into Main, which has room
       pub placed-joining : (slot : ℕ) → vacancy m ≡ Some slot → length m.main < main_share m.shares → IsPlaced key m (joining_main key (Some slot) m)
       placed-joining slot is room = record {
@@ -242,6 +263,7 @@ module _ {K V : Type 0} where
         slots = at_vacancy (joining_main key (Some slot) m) is
             (λ s. omega (arith, weight-behind (λ e. one_if (e.slot == s)) (λ e bit. refl) key slot m.main))
             (omega (arith, length-append m.main (record { key = key; slot = slot; bit = false } ∷ [])));
+        comes = (None, λ w. (omega arith, omega (arith, weight-behind (λ e. w e.key e.slot) (λ e bit. refl) key slot m.main)));
       }
 
       -- in place of Main's victim
@@ -260,6 +282,10 @@ module _ {K V : Type 0} where
               standing = λ s. omega (arith, behind_weight victim others choice key victim.slot (λ e. one_if (e.slot == s)) (λ e bit. refl));
               counted = omega (arith, as_long);
             });
+            comes = (Some victim.key, λ w. (
+                omega (arith, victim_weight victim others choice (λ e. w e.key e.slot) (λ e bit. refl)),
+                omega (arith, behind_weight victim others choice key victim.slot (λ e. w e.key e.slot) (λ e bit. refl)),
+              ));
           }
 
       -- into Small, at a vacancy
@@ -274,6 +300,7 @@ module _ {K V : Type 0} where
         slots = at_vacancy (into_small_at key (Some slot) tail m) is
             (λ s. omega (arith, weight-admitted (λ e. one_if (e.slot == s)) (λ e age. refl) m.shares.window key slot m.small))
             (omega (arith, length-admitted m.shares.window key slot m.small));
+        comes = (None, λ w. (omega arith, omega (arith, weight-admitted (λ e. w e.key e.slot) (λ e age. refl) m.shares.window key slot m.small)));
       }
 
       module _ (tail : SmallEntry K) (last : last_or None m.small ≡ Some tail) (some : 0 < length m.small) where
@@ -305,6 +332,10 @@ module _ {K V : Type 0} where
             standing = λ s. omega (arith, front_weight (λ e. one_if (e.slot == s)) (λ e age. refl) tail.slot);
             counted = omega (arith, front_length tail.slot);
           });
+          comes = (Some tail.key, λ w. (
+              omega (arith, (weight-last (λ e. w e.key e.slot) None m.small tail some last).0),
+              omega (arith, front_weight (λ e. w e.key e.slot) (λ e age. refl) tail.slot),
+            ));
         }
 
         -- into Small, in place of Main's victim, while Small's tail goes on to Main
@@ -324,13 +355,17 @@ module _ {K V : Type 0} where
                 standing = λ s. omega (arith, front_weight (λ e. one_if (e.slot == s)) (λ e age. refl) victim.slot, behind_weight victim others choice tail.key tail.slot (λ e. one_if (e.slot == s)) (λ e bit. refl));
                 counted = omega (arith, front_length victim.slot, as_long);
               });
+              comes = (Some victim.key, λ w. (
+                  omega (arith, victim_weight victim others choice (λ e. w e.key e.slot) (λ e bit. refl)),
+                  omega (arith, front_weight (λ e. w e.key e.slot) (λ e age. refl) victim.slot, behind_weight victim others choice tail.key tail.slot (λ e. w e.key e.slot) (λ e bit. refl)),
+                ));
             }
 
       into_main_by : (b : Bool) → (length m.main == main_share m.shares) ≡ b → (es : List (MainEntry K)) → from_victim m.main ≡ es → (v : Option ℕ) → vacancy m ≡ v
           → IsPlaced key m (if b then replacing_victim key es m else joining_main key v m)
-      into_main_by true full [] choice v is = absurd (omega (arith, below, eqb-true (length m.main) (main_share m.shares) full, ap (length {A = MainEntry K}) choice, length-from_victim m.main))
+      into_main_by true full [] choice v is = absurd (omega (arith, h.small_below, eqb-true (length m.main) (main_share m.shares) full, ap (length {A = MainEntry K}) choice, length-from_victim m.main))
       into_main_by true full (victim ∷ others) choice v is = placed-replacing victim others choice
-      into_main_by false room es choice None is = absurd (omega (arith, all_resident is, h.small_within, h.main_within, below, eqb-false (length m.main) (main_share m.shares) room))
+      into_main_by false room es choice None is = absurd (omega (arith, all_resident is, h.small_within, h.main_within, h.small_below, eqb-false (length m.main) (main_share m.shares) room))
       into_main_by false room es choice (Some slot) is = placed-joining slot is (below_of (length m.main) (main_share m.shares) h.main_within room)
 
       -- into Main
@@ -340,8 +375,8 @@ module _ {K V : Type 0} where
       into_small_by : (t : Option (SmallEntry K)) → last_or None m.small ≡ t → (v : Option ℕ) → vacancy m ≡ v → (b : Bool) → goes_to_main false m ≡ false
           → (es : List (MainEntry K)) → from_victim m.main ≡ es → ((tail : SmallEntry K) → t ≡ Some tail → is_promoted tail.age ≡ b) → IsPlaced key m (into_small_at key v t m)
       into_small_by t last (Some slot) is b small es choice on = placed-admitted slot t is (small_room m.shares.small (length m.small) (vacancy m) slot is small)
-      into_small_by None last None is b small es choice on = absurd (omega (arith, all_resident is, h.main_within, below, empty_small m.small last, small_share m.shares.small (is_some (vacancy m) && nat_le m.shares.small (length m.small)) small))
-      into_small_by (Some tail) last None is true small [] choice on = absurd (omega (arith, all_resident is, h.small_within, below, ap (length {A = MainEntry K}) choice, length-from_victim m.main))
+      into_small_by None last None is b small es choice on = absurd (omega (arith, all_resident is, h.main_within, h.small_below, empty_small m.small last, small_share m.shares.small (is_some (vacancy m) && nat_le m.shares.small (length m.small)) small))
+      into_small_by (Some tail) last None is true small [] choice on = absurd (omega (arith, all_resident is, h.small_within, h.small_below, ap (length {A = MainEntry K}) choice, length-from_victim m.main))
       into_small_by (Some tail) last None is true small (victim ∷ others) choice on = rw (on tail refl, choice) (placed-promoting tail last (tail_some m.small tail last) victim others choice)
       into_small_by (Some tail) last None is false small es choice on = rw (on tail refl) (placed-evicting tail last (tail_some m.small tail last))
 
@@ -352,7 +387,7 @@ module _ {K V : Type 0} where
         by_tail None last = into_small_by None last (vacancy m) refl true small (from_victim m.main) refl (λ tail e. absurd (none_is tail e))
         by_tail (Some tail) last = into_small_by (Some tail) last (vacancy m) refl (is_promoted tail.age) small (from_victim m.main) refl (λ other e. ap (λ x. is_promoted x.age) (some_is other tail (sym e)))
 
-map_none : {X Y : Type 0} (f : X → Y) (o : Option X) → option_map f o ≡ None → o ≡ None
+pub map_none : {X Y : Type 0} (f : X → Y) (o : Option X) → option_map f o ≡ None → o ≡ None
 map_none f None none = refl
 map_none f (Some x) none = cc
 

@@ -1,5 +1,5 @@
 -- What contracts see of a cache, and what holds of every one.
-use Rattle.std.specs.Prelude.{◌≡◌, ℕ, ◌+◌, ◌≤◌, ◌==◌, nat_lt, if◌then◌else◌, Bool, length, refl}
+use Rattle.std.specs.Prelude.{◌≡◌, ℕ, ◌+◌, ◌<◌, ◌≤◌, ◌==◌, nat_lt, if◌then◌else◌, Bool, length, refl}
 use Rattle.std.specs.List.{count_by}
 use Rattle.std.specs.Coded.{Coded, code_by}
 use Rattle.clock2q_cache.specs.Shares.{main_share, ghost_share}
@@ -21,8 +21,9 @@ module _ {K V : Type 0} where
   abbrev pub standings : ℕ → Machine K V → ℕ
   standings slot m = count_by (λ e. e.slot == slot) m.small + count_by (λ e. e.slot == slot) m.main + count_by (λ s. s == slot) m.free
 
-  -- no list is longer than its share; a key stands once among the residents and the history, if at all; and each slot that was made is a resident's or free, just once, and no other slot is
+  -- Small leaves Main a share, and no list is longer than its own; a key stands once among the residents and the history, if at all; and each slot that was made is a resident's or free, just once, and no other slot is
   pub record IsWhole (eq : K → K → Bool) (m : Machine K V) : Type 0 where
+    pub small_below : m.shares.small < m.shares.capacity
     pub small_within : length m.small ≤ m.shares.small
     pub main_within : length m.main ≤ main_share m.shares
     pub history_within : length m.history ≤ ghost_share m.shares

@@ -1,5 +1,5 @@
 -- How a cache keeps its machine in vectors. No public clause cites this file.
-use Rattle.std.specs.Prelude.{ℕ, ◌<◌, ◌≤◌, Bool, List, []}
+use Rattle.std.specs.Prelude.{ℕ, ◌≤◌, Bool, List, []}
 use Rattle.clock2q_cache.specs.Shares.{Shares, main_share, ghost_share}
 use Rattle.clock2q_cache.specs.Entries.{SmallEntry, MainEntry}
 use Rattle.clock2q_cache.specs.Machine.{Machine}
@@ -21,4 +21,3 @@ pub record IsReserved (shares : Shares) (small main history values : ℕ) : Type
 pub record IsKept {K V : Type 0} (eq : K → K → Bool) (m : Machine K V) (small main history values : ℕ) : Type 0 where
   pub whole : IsWhole eq m
   pub reserved : IsReserved m.shares small main history values
-  pub small_below : m.shares.small < m.shares.capacity

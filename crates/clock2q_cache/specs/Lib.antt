@@ -3,6 +3,7 @@ pub mod Entries
 pub mod Machine
 pub mod Calls
 pub mod Steps
+pub mod Bounds
 pub mod Entry
 pub mod Cache
 pub mod CacheFields

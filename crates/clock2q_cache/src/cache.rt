@@ -172,6 +172,7 @@ impl<K: Hash + Eq, V, S: BuildHasher, A: Allocator> Cache<K, V, S, A> {
     fn find_slot(&self, key: &K) -> Option<usize>
         ensures slot { result ≡ slot_of (K.eq key.now) self.now.machine }
         ensures made { IfSome result (λ slot. slot < length self.now.machine.values) }
+        ensures whole { IsWhole K.eq self.now.machine }
     {
         match queues::small_slot(&self.small, key) {
             Some(slot) => Some(slot),
@@ -194,6 +195,7 @@ impl<K: Hash + Eq + Drop, V: Drop, S: BuildHasher, A: Allocator> Cache<K, V, S, 
     pub fn put(&mut self, key: K, value: V) -> Option<V>
         ensures value { result ≡ value_of (K.eq key) self.old.machine }
         ensures machine { self.new.machine ≡ put (K.eq key) key value self.old.machine }
+        ensures resident { value_of (K.eq key) self.new.machine ≡ Some value }
     {
         let Some(slot) = self.find_slot(&key) else {
             self.insert(key, value);

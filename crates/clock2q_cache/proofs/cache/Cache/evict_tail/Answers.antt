@@ -17,7 +17,7 @@ invariant_of-self g c =
     let at = tail_at i.small.items c.take_tail-tail.new.small.items tail c.take_tail-tail.ensures.parts in
     rw (c.admit.ensures.items, c.admit.ensures.capacity, c.window.ensures, c.remember.ensures.items, c.remember.ensures.capacity, c.history-share.ensures, c.into_key.ensures, c.slot-slot.ensures, c.take_tail-tail.ensures.capacity)
     (kept_placed g.K.PartialEq.eq m _ _ _ _ kept g.met.K.Eq.laws c.args.key c.args.value (evicting_tail c.args.key tail m) absent
-    (placed-evicting g.K.PartialEq.eq m kept.whole kept.small_below c.args.key tail at.0 at.1) _ (stored_for_tail _ _ _ _ _ _ _ _ tail c.take_tail-tail.ensures.front (tail_made _ m kept.whole kept.small_below c.args.key tail at.0 at.1)))
+    (placed-evicting g.K.PartialEq.eq m kept.whole c.args.key tail at.0 at.1) _ (stored_for_tail _ _ _ _ _ _ _ _ tail c.take_tail-tail.ensures.front (tail_made _ m kept.whole c.args.key tail at.0 at.1)))
 
 pub returns : goal.returns
 returns g c =
@@ -28,7 +28,7 @@ returns g c =
     rw (c.admit.ensures.items, c.window.ensures, c.remember.ensures.items, c.history-share.ensures, c.into_key.ensures, c.slot-slot.ensures, ← c.self.view_is)
     (placed_for_tail _ _ _ _ _ _ _ _ tail c.take_tail-tail.ensures.front c.take_tail-tail.ensures.parts (rw (← c.self.view_is) at c.requires.full)
     (promotion_of_tail _ _ _ tail c.take_tail-tail.ensures.parts (rw (← c.self.view_is) at c.requires.out))
-    (tail_made _ _ kept.whole kept.small_below c.args.key tail at.0 at.1))
+    (tail_made _ _ kept.whole c.args.key tail at.0 at.1))
 
 pub index_mut-requires : goal.index_mut-requires
 index_mut-requires g c =
@@ -36,5 +36,5 @@ index_mut-requires g c =
     let i = c.self.inside in
     let tail = c.take_tail-tail.result in
     let at = tail_at i.small.items c.take_tail-tail.new.small.items tail c.take_tail-tail.ensures.parts in
-    let below = tail_made _ _ kept.whole kept.small_below c.args.key tail at.0 at.1 in
+    let below = tail_made _ _ kept.whole c.args.key tail at.0 at.1 in
     omega arith

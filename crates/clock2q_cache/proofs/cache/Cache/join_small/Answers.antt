@@ -18,4 +18,4 @@ invariant_of-self g c =
     let free = next_vacant i.shares i.small.items i.main.items i.history.items i.values.items c.args.key c.args.value (rw (← c.self.view_is) at c.requires.vacant) ∙ ap Some (sym next) in
     rw (c.admit.ensures.items, c.admit.ensures.capacity, c.window.ensures, c.push_reserved.ensures.items, c.push_reserved.ensures.capacity)
     (kept_placed g.K.PartialEq.eq m _ _ _ _ kept g.met.K.Eq.laws c.args.key c.args.value (into_small_at c.args.key (Some c.len-slot.result) None m) absent
-    (placed-admitted g.K.PartialEq.eq m kept.whole kept.small_below c.args.key c.len-slot.result None free room) _ (stored_in_small _ _ _ _ _ _ _ _ next))
+    (placed-admitted g.K.PartialEq.eq m kept.whole c.args.key c.len-slot.result None free room) _ (stored_in_small _ _ _ _ _ _ _ _ next))

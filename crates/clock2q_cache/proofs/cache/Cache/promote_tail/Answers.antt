@@ -25,7 +25,7 @@ invariant_of-self g c =
     let choice = sym c.take_victim-victim.ensures.choice in
     rw (c.admit.ensures.items, c.admit.ensures.capacity, c.window.ensures, c.push_reserved.ensures.items, c.push_reserved.ensures.capacity, c.into_main.ensures, c.slot-slot.ensures, c.take_tail-tail.ensures.capacity, c.take_victim-victim.ensures.capacity)
     (kept_placed g.K.PartialEq.eq m _ _ _ _ kept g.met.K.Eq.laws c.args.key c.args.value (promoting_tail c.args.key tail (victim ∷ others) m) absent
-    (placed-promoting g.K.PartialEq.eq m kept.whole kept.small_below c.args.key tail at.0 at.1 victim others choice) _ (stored_by_promotion _ _ i.main.items _ _ _ _ _ tail c.take_tail-tail.ensures.front victim others (victim_made _ m kept.whole victim others choice)))
+    (placed-promoting g.K.PartialEq.eq m kept.whole c.args.key tail at.0 at.1 victim others choice) _ (stored_by_promotion _ _ i.main.items _ _ _ _ _ tail c.take_tail-tail.ensures.front victim others (victim_made _ m kept.whole victim others choice)))
 
 pub returns : goal.returns
 returns g c =

@@ -23,7 +23,7 @@ invariant_of-self g c =
     let choice = sym c.take_victim-victim.ensures.choice in
     rw (c.push_reserved.ensures.items, c.push_reserved.ensures.capacity, c.take_victim-victim.ensures.capacity, c.new.ensures, c.slot-slot.ensures)
     (kept_placed g.K.PartialEq.eq m _ _ _ _ kept g.met.K.Eq.laws c.args.key c.args.value (replacing_victim c.args.key (victim ∷ others) m) absent
-    (placed-replacing g.K.PartialEq.eq m kept.whole kept.small_below c.args.key victim others choice) _ (stored_for_victim _ _ i.main.items _ _ _ _ victim others (victim_made _ m kept.whole victim others choice)))
+    (placed-replacing g.K.PartialEq.eq m kept.whole c.args.key victim others choice) _ (stored_for_victim _ _ i.main.items _ _ _ _ victim others (victim_made _ m kept.whole victim others choice)))
 
 pub returns : goal.returns
 returns g c =
