@@ -15,12 +15,12 @@ use Rattle.clock2q_handles.proofs.Tidy.{layout-only, layout-standing, layout-tot
 use Rattle.clock2q_handles.proofs.Changes.{length-with_list, listed-with_same, listed-with_other}
 use Rattle.clock2q_handles.proofs.Hashes.{entries-from, hash-at}
 
-slice_get-left : {E : Type 0} (xs ys : List E) (i : ℕ) (e : E) → slice_get xs i ≡ Some e → slice_get (xs ++ ys) i ≡ Some e
+pub slice_get-left : {E : Type 0} (xs ys : List E) (i : ℕ) (e : E) → slice_get xs i ≡ Some e → slice_get (xs ++ ys) i ≡ Some e
 slice_get-left [] ys i e is = absurd (cc)
 slice_get-left (x ∷ xs) ys zero e is = is
 slice_get-left (x ∷ xs) ys (suc i) e is = slice_get-left xs ys i e is
 
-slice_get-last : {E : Type 0} (xs : List E) (e : E) → slice_get (xs ++ e ∷ []) (length xs) ≡ Some e
+pub slice_get-last : {E : Type 0} (xs : List E) (e : E) → slice_get (xs ++ e ∷ []) (length xs) ≡ Some e
 slice_get-last [] e = refl
 slice_get-last (x ∷ xs) e = slice_get-last xs e
 
