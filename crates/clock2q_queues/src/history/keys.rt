@@ -93,11 +93,7 @@ impl<K: Eq + Drop, A: Allocator> Keys<K, A> {
     }
 
     /// The first of these places where a key stands.
-    pub fn find<B: Allocator>(
-        &mut self,
-        mut places: Candidates<'_, u32, B>,
-        key: &K,
-    ) -> Option<u32>
+    pub fn find<B: Allocator>(&mut self, mut places: Candidates<'_, u32, B>, key: &K) -> Option<u32>
         requires { AllByRecursion (λ place. place < length self.old.remembered) places.left }
         ensures value { result ≡ find (is_key_at K.eq key.now self.old.remembered) places.entry.left }
         ensures same { self.new ≡ key_places self.old.remembered self.old.room self.old.writes self.new.questions }
