@@ -5,13 +5,15 @@ pub mod Histories
 pub mod Hits
 pub mod Indexes
 pub mod Joining
+pub mod Keeping
 pub mod Leaving
 pub mod Main
 pub mod Orders
 pub mod Places
 pub mod Records
-pub mod Resetting
 pub mod Rings
 pub mod Sharing
+pub mod SlotLists
+pub mod Standings
 pub mod Window
 mod WorkedQueues

@@ -1,4 +1,5 @@
 pub mod Ages
+pub mod Cells
 pub mod Ends
 pub mod Links
 pub mod Hand

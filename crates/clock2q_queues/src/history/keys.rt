@@ -1,5 +1,5 @@
 //! The keys of the history by place, each with its hash.
-ghost use Rattle.std.specs.Prelude.{◌≡◌, ℕ, ◌+◌, ◌<◌, ◌≤◌, [], length, Some, IfOk};
+ghost use Rattle.std.specs.Prelude.{◌≡◌, ℕ, ◌+◌, ◌^◌, ◌<◌, ◌≤◌, [], length, Some, IfOk};
 ghost use Rattle.std.specs.List.{find, AllByRecursion};
 
 use clock2q_count::Count;
@@ -42,29 +42,30 @@ impl<K: Drop, A: Allocator> Keys<K, A> {
     }
 
     /// How many places were used.
-    pub fn len(&self) -> usize
+    pub fn len(&self) -> u32
+        requires { length self.now.remembered < 2 ^ 32 }
         ensures { result ≡ length self.now.remembered }
     {
-        self.remembered.len()
+        self.remembered.len() as u32
     }
 
     /// The hash of the key at a place.
-    pub fn hash(&self, place: usize) -> u64
+    pub fn hash(&self, place: u32) -> u64
         requires { place < length self.now.remembered }
         ensures { hash_at self.now.remembered place ≡ Some result }
     {
-        self.remembered[place].0
+        self.remembered[place as usize].0
     }
 
     /// Writes a key to a place: one that was used, or the next one.
-    pub fn write(&mut self, place: usize, hash: u64, key: K)
+    pub fn write(&mut self, place: u32, hash: u64, key: K)
         requires next { place ≤ length self.old.remembered }
         requires room { place < self.old.room }
         ensures { self.new ≡ key_places (written place (hash, key) self.old.remembered) self.old.room (self.old.writes + 1) self.old.questions }
     {
         self.writes.tick();
-        if place < self.remembered.len() {
-            self.remembered[place] = (hash, key);
+        if (place as usize) < self.remembered.len() {
+            self.remembered[place as usize] = (hash, key);
         } else {
             self.remembered.push_reserved((hash, key));
         }
@@ -82,21 +83,17 @@ impl<K: Eq + Drop, A: Allocator> Keys<K, A> {
     ghost use Rattle.clock2q_queues.specs.Keys.{key_places, is_key_at};
 
     // Whether a key is the one at a place.
-    fn is(&mut self, place: usize, key: &K) -> bool
+    fn is(&mut self, place: u32, key: &K) -> bool
         requires { place < length self.old.remembered }
         ensures value { result ≡ is_key_at K.eq key.now self.old.remembered place }
         ensures counted { self.new ≡ key_places self.old.remembered self.old.room self.old.writes (self.old.questions + 1) }
     {
         self.questions.tick();
-        *key == self.remembered[place].1
+        *key == self.remembered[place as usize].1
     }
 
     /// The first of these places where a key stands.
-    pub fn find<B: Allocator>(
-        &mut self,
-        mut places: Candidates<'_, usize, B>,
-        key: &K,
-    ) -> Option<usize>
+    pub fn find<B: Allocator>(&mut self, mut places: Candidates<'_, u32, B>, key: &K) -> Option<u32>
         requires { AllByRecursion (λ place. place < length self.old.remembered) places.left }
         ensures value { result ≡ find (is_key_at K.eq key.now self.old.remembered) places.entry.left }
         ensures same { self.new ≡ key_places self.old.remembered self.old.room self.old.writes self.new.questions }

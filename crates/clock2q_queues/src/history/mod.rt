@@ -23,7 +23,7 @@ use std::marker::Model;
 /// call compares few keys and takes as long however many are remembered.
 #[derive(Drop)]
 pub struct History<K: Eq + Drop, A: Allocator = Global> {
-    index: Table<usize, A>,
+    index: Table<u32, A>,
     order: Order<A>,
     keys: Keys<K, A>,
 }
@@ -53,7 +53,7 @@ impl<K: Eq + Drop, A: Allocator + Copy> History<K, A> {
         };
         Ok(History {
             index,
-            order: Order::new(alloc, limit)?,
+            order: Order::new(alloc, limit as u32)?,
             keys: Keys::new(alloc, limit)?,
         })
     }
@@ -82,7 +82,7 @@ impl<K: Eq + Drop, A: Allocator> History<K, A> {
         ensures len { result ≡ length self.now.entries }
         ensures whole { IsWholeHistory K.eq self.now }
     {
-        self.order.len()
+        self.order.len() as usize
     }
 
     /// Forgets a key, and tells whether it was remembered.
@@ -118,10 +118,10 @@ impl<K: Eq + Drop, A: Allocator> History<K, A> {
 // Puts a place in front for a new key: where every place has one, that of the oldest key, which
 // goes out of the index.
 fn make_place<K: Drop, A: Allocator>(
-    index: &mut Table<usize, A>,
+    index: &mut Table<u32, A>,
     order: &mut Order<A>,
     keys: &Keys<K, A>,
-) -> usize
+) -> u32
     requires indexed { IsIndex index.old.homes keys.now.remembered order.old.places }
     requires as_many { length keys.now.remembered ≡ used order.old }
     requires some { 0 < order.old.limit }
@@ -138,8 +138,9 @@ fn make_place<K: Drop, A: Allocator>(
 }
 
 // Takes every key out of the index.
-fn empty<K: Drop, A: Allocator>(index: &mut Table<usize, A>, keys: &Keys<K, A>)
+fn empty<K: Drop, A: Allocator>(index: &mut Table<u32, A>, keys: &Keys<K, A>)
     requires slots { 0 < length keys.now.remembered → 0 < length index.old.homes }
+    requires countable { length keys.now.remembered < 2 ^ 32 }
     ensures emptied { Empties index.old.homes index.new.homes keys.now.remembered (length keys.now.remembered) }
 {
     for place in 0..keys.len() {

@@ -1,6 +1,7 @@
 use Rattle.std.proofs.Common.{◌≡◌, None, Some, sym, ap, ◌∙◌, subst}
 use Rattle.std.specs.List.{find}
 use Rattle.clock2q_handles.specs.Homes.{candidates}
+use Rattle.clock2q_queues.specs.Order.{PlaceOrder}
 use Rattle.clock2q_queues.specs.Keys.{KeyPlaces, is_key_at}
 use Rattle.clock2q_queues.specs.History.{Remembered, HasHash, entries_of, is_remembered, forgotten}
 use Rattle.clock2q_queues.proofs.Histories.{forgets, missed, place_there, candidates_there}
@@ -43,7 +44,7 @@ invariant_of-self-2 g c =
     let same : c.find.new.self.remembered ≡ i.keys.remembered = ap (λ (z : KeyPlaces _). z.remembered) c.find.ensures.same in
     let room : c.find.new.self.room ≡ i.keys.room = ap (λ (z : KeyPlaces _). z.room) c.find.ensures.same in
     let f = forgets g.K.PartialEq.eq g.met.K.Eq.laws c.args.hash c.args.key.now i.index.homes c.remove.new.self.homes i.order c.unlink.new.self i.keys c.find.new.self c.in-Some.place c.self.invariant hashed found
-    c.remove.ensures.removed e.whole e.places e.free e.limit same room in
+    c.remove.ensures.removed e.whole (ap (λ (z : PlaceOrder). z.places) e.order) (ap (λ (z : PlaceOrder). z.free) e.order) (ap (λ (z : PlaceOrder). z.limit) e.order) same room in
     f.whole
 
 pub returns-clause-found : goal.returns-clause-found
@@ -55,7 +56,7 @@ returns-clause-found g c =
     let same : c.find.new.self.remembered ≡ i.keys.remembered = ap (λ (z : KeyPlaces _). z.remembered) c.find.ensures.same in
     let room : c.find.new.self.room ≡ i.keys.room = ap (λ (z : KeyPlaces _). z.room) c.find.ensures.same in
     let f = forgets g.K.PartialEq.eq g.met.K.Eq.laws c.args.hash c.args.key.now i.index.homes c.remove.new.self.homes i.order c.unlink.new.self i.keys c.find.new.self c.in-Some.place c.self.invariant hashed found
-    c.remove.ensures.removed e.whole e.places e.free e.limit same room in
+    c.remove.ensures.removed e.whole (ap (λ (z : PlaceOrder). z.places) e.order) (ap (λ (z : PlaceOrder). z.free) e.order) (ap (λ (z : PlaceOrder). z.limit) e.order) same room in
     sym f.found ∙ ap (λ (z : Remembered _). is_remembered g.K.PartialEq.eq c.args.key.now z.entries) c.self.view_is
 
 pub returns-clause-entries : goal.returns-clause-entries
@@ -67,5 +68,5 @@ returns-clause-entries g c =
     let same : c.find.new.self.remembered ≡ i.keys.remembered = ap (λ (z : KeyPlaces _). z.remembered) c.find.ensures.same in
     let room : c.find.new.self.room ≡ i.keys.room = ap (λ (z : KeyPlaces _). z.room) c.find.ensures.same in
     let f = forgets g.K.PartialEq.eq g.met.K.Eq.laws c.args.hash c.args.key.now i.index.homes c.remove.new.self.homes i.order c.unlink.new.self i.keys c.find.new.self c.in-Some.place c.self.invariant hashed found
-    c.remove.ensures.removed e.whole e.places e.free e.limit same room in
+    c.remove.ensures.removed e.whole (ap (λ (z : PlaceOrder). z.places) e.order) (ap (λ (z : PlaceOrder). z.free) e.order) (ap (λ (z : PlaceOrder). z.limit) e.order) same room in
     f.entries ∙ ap (λ (z : Remembered _). forgotten g.K.PartialEq.eq c.args.key.now z.entries) c.self.view_is
