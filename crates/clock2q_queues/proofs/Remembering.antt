@@ -1,11 +1,11 @@
 -- A key put in front of the history.
-use Rattle.std.proofs.Common.{◌≡◌, ◌≢◌, ℕ, zero, suc, ◌+◌, ◌-◌, ◌^◌, ◌<◌, ◌≤◌, Bool, true, false, eqb, Some, None, slice_get, List, [], ◌∷◌, length, take, refl, sym, ap, ◌∙◌, subst, arith}
-use Rattle.std.specs.Prelude.{Result, Ok, Err, IsOkUnless, IfOk}
+use Rattle.std.proofs.Common.{◌≡◌, ℕ, zero, suc, ◌+◌, ◌-◌, ◌^◌, ◌<◌, ◌≤◌, Bool, true, false, eqb, Some, None, slice_get, List, [], ◌∷◌, length, take, refl, sym, ap, ◌∙◌, subst, arith}
+use Rattle.std.specs.Prelude.{Result, Ok, Err, IsOk}
 use Rattle.std.proofs.lemmas.Bool.{both_ways, eq-eqb}
 use Rattle.std.proofs.lemmas.List.{length-take}
 use Rattle.clock2q_handles.specs.Homes.{total, capacity, inserted}
 use Rattle.clock2q_handles.specs.declared.error.TableError.{TableError}
-use Rattle.clock2q_handles.specs.declared.error.TableError.TheVariants.{Memory, Size, RunTooLong}
+use Rattle.clock2q_handles.specs.Changes.{PutIn}
 use Rattle.clock2q_queues.specs.declared.keys.cells.Entry.{Entry}
 use Rattle.clock2q_queues.specs.Rings.{has}
 use Rattle.clock2q_queues.specs.Order.{PlaceOrder, IsWholeOrder, used}
@@ -49,12 +49,9 @@ module _ {K V : Type 0} (eq : K → K → Bool) (hash : ℕ) (key : K) (value : 
   put_fits = rw m.as_many (room_in (total index1) order.limit (length index) fewer_now h.half)
 
   -- the index takes the place: no run is too long
-  pub insert_done : {T : Type 0} (r : Result T TableError) → (total index1 < capacity (length index1) → IsOkUnless r RunTooLong × IfOk r (λ _. index' ≡ inserted index1 hash place))
-      → (total index1 + 1 < 2 ^ 24 → r ≢ Err RunTooLong) → index' ≡ inserted index1 hash place
-  insert_done (Ok x) room few = (room put_fits).1
-  insert_done (Err Memory) room few = let q = (room put_fits).0 in absurd (cc)
-  insert_done (Err Size) room few = let q = (room put_fits).0 in absurd (cc)
-  insert_done (Err RunTooLong) room few = absurd (few (omega (arith, fewer_now, h.short)) refl)
+  pub insert_done : (r : Result (Unit {0}) TableError) → PutIn index1 hash place r index' → (total index1 + 1 < 2 ^ 24 → IsOk r) → index' ≡ inserted index1 hash place
+  insert_done (Ok x) put few = put.0
+  insert_done (Err e) put few = let ok = few (omega (arith, fewer_now, h.short)) in cc
 
   module _ (write : keys' ≡ key_places (written place (entry hash key value) keys.entries) keys.room (keys.writes + 1) keys.questions) (put : index' ≡ inserted index1 hash place) (w : IsWholeOrder order')
       (absent : has_key eq key (entries_of keys.entries order.places) ≡ false) where

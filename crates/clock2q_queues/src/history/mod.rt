@@ -59,6 +59,16 @@ impl<K: Eq, A: Allocator + Copy> History<K, A> {
             keys: Keys::new(alloc, limit)?,
         })
     }
+}
+
+impl<K: Eq, A: Allocator> History<K, A> {
+    /// How many keys are remembered.
+    pub fn len(&self) -> usize
+        ensures len { result ≡ length self.now.entries }
+        ensures whole { IsWholeHistory K.eq self.now }
+    {
+        self.order.len()
+    }
 
     /// Puts a key in front. Where the history is full, the oldest key is forgotten.
     pub fn push(&mut self, hash: u64, key: K)
@@ -75,18 +85,8 @@ impl<K: Eq, A: Allocator + Copy> History<K, A> {
         }
         let place = make_place(&mut self.index, &mut self.order, &self.keys);
         self.keys.write(place, hash, key, ());
-        // (the index has room for every place, so it asks for no hash)
-        let _ = self.index.insert(hash, place, |_| unreachable!());
-    }
-}
-
-impl<K: Eq, A: Allocator> History<K, A> {
-    /// How many keys are remembered.
-    pub fn len(&self) -> usize
-        ensures len { result ≡ length self.now.entries }
-        ensures whole { IsWholeHistory K.eq self.now }
-    {
-        self.order.len()
+        // (the index has room for every place, and too few for a run to be too long)
+        let _ = self.index.insert_within_capacity(hash, place);
     }
 
     /// Forgets a key, and tells whether it was remembered.
