@@ -43,7 +43,8 @@ impl<K: Eq, A: Allocator> Model for History<K, A> {
 }
 
 impl<K: Eq, A: Allocator + Copy> History<K, A> {
-    /// A history with no key, for so many. It takes all the memory that it will ever have.
+    /// Makes a history for so many keys, and takes all the memory that it will ever have. There are
+    /// none yet.
     ///
     /// The error comes where a request for memory is refused; what was taken is given back.
     pub fn new(alloc: A, limit: usize) -> Result<Self, AllocError>
@@ -62,7 +63,7 @@ impl<K: Eq, A: Allocator + Copy> History<K, A> {
 }
 
 impl<K: Eq, A: Allocator> History<K, A> {
-    /// How many keys are remembered.
+    /// Returns how many keys are remembered.
     pub fn len(&self) -> usize
         ensures len { result ≡ length self.now.entries }
         ensures whole { IsWholeHistory K.eq self.now }
@@ -89,7 +90,7 @@ impl<K: Eq, A: Allocator> History<K, A> {
         let _ = self.index.insert_within_capacity(hash, place);
     }
 
-    /// Forgets a key, and tells whether it was remembered.
+    /// Forgets a key, and returns whether it was remembered.
     pub fn discard(&mut self, hash: u64, key: &K) -> bool
         requires hash { HasHash K.eq hash key.now self.old.entries }
         ensures found { result ≡ is_remembered K.eq key.now self.old.entries }
