@@ -42,6 +42,12 @@ module _ {K V : Type 0} (eq : K → K → Bool) where
         short = rw limit h.short;
       }
 
+-- what callers see, from each of its parts
+pub shown-as : {K : Type 0} (entries entries' : List (ℕ × K)) (limit limit' : ℕ) (index : List (List (ℕ × ℕ))) (accesses questions questions' : ℕ) → entries' ≡ entries → limit' ≡ limit → questions' ≡ questions
+    → remembered entries' limit' index accesses questions' ≡ remembered entries limit index accesses questions
+shown-as entries entries' limit limit' index accesses questions questions' e l q =
+    ap (λ z. remembered z limit' index accesses questions') e ∙ ap (λ z. remembered entries z index accesses questions') l ∙ ap (λ z. remembered entries limit index accesses z) q
+
 pub IsWholeHistory-from : {K : Type 0} (eq : K → K → Bool) (index : List (List (ℕ × ℕ))) (order : PlaceOrder) (keys : KeyPlaces K Unit) (accesses questions : ℕ) → IsHistory eq index order keys
     → IsWholeHistory eq (remembered (entries_of keys.entries order.places) order.limit index accesses questions)
 IsWholeHistory-from eq index order keys accesses questions h =
