@@ -80,6 +80,9 @@ module _ {K V : Type 0} (eq : K → K → Bool) (hash : ℕ) (key : K) (value : 
         ∙ ap (λ zs. (hash, key) ∷ zs) (entries-agree keys.entries keys'.entries fewer stands_still ∙ entries-take keys.entries (used order) (order.limit - 1) order.places (omega (arith, h.as_many)) below)
         ∙ ap (λ z. take z ((hash, key) ∷ entries_of keys.entries order.places)) (sym n)
 
+    counted : Rises 1 7 order.accesses order'.accesses → keys'.writes ≡ keys.writes + 1 → Rises 0 8 (accesses_of order keys) (accesses_of order' keys')
+    counted rises n = (omega (arith, rises.0), omega (arith, rises.1))
+
     pub remembers : Remembers eq hash key order keys index' order' keys'
     remembers =
         let slots : 0 < length index1 = rw m.as_many (omega (arith, some, h.half)) in
@@ -98,7 +101,5 @@ module _ {K V : Type 0} (eq : K → K → Bool) (hash : ℕ) (key : K) (value : 
             short = rw m.limit h.short;
           };
           shown = shown-as _ _ _ _ _ _ _ _ entries_now m.limit (ap (λ (z : KeyPlaces K V). z.questions) write);
-          accesses =
-            let n = ap (λ (z : KeyPlaces K V). z.writes) write in
-            (omega (arith, n, m.accesses.0), omega (arith, n, m.accesses.1));
+          accesses = counted m.accesses (ap (λ (z : KeyPlaces K V). z.writes) write);
         }
