@@ -1,18 +1,18 @@
 -- What each call makes of the order of the history's places and of the chain of the free ones.
-use Rattle.std.proofs.Common.{◌≡◌, ℕ, zero, suc, ◌+◌, ◌-◌, ◌^◌, ◌<◌, ◌≤◌, Bool, true, false, ◌||◌, eqb, Option, Some, None, slice_get, List, [], ◌∷◌, ◌++◌, length, get_or, take, drop, inl, inr, refl, sym, ap, ◌∙◌, subst, arith}
+use Rattle.std.proofs.Common.{◌≡◌, ℕ, zero, suc, ◌+◌, ◌-◌, ◌^◌, ◌<◌, ◌≤◌, Bool, true, false, ◌||◌, eqb, Option, Some, None, slice_get, List, [], ◌∷◌, ◌++◌, length, take, drop, inl, inr, refl, sym, ap, ◌∙◌, subst, arith}
 use Rattle.std.specs.Option.{unwrap_or}
 use Rattle.std.specs.List.{last_or}
-use Rattle.std.proofs.lemmas.Bool.{eqb-true, eq-eqb, both_ways, cases_Bool}
+use Rattle.std.proofs.lemmas.Bool.{eqb-true, both_ways, cases_Bool}
 use Rattle.std.proofs.lemmas.List.{length-append, length-set}
 use Rattle.clock2q_queues.specs.declared.links.Record.{Record}
 use Rattle.clock2q_queues.specs.declared.links.Mark.TheVariants.{Free}
 use Rattle.clock2q_queues.specs.declared.history.order.Chain.{Chain}
 use Rattle.clock2q_queues.specs.Rings.{has, without, AllApart, AllBelow, around}
 use Rattle.clock2q_queues.specs.Cells.{Counted, accessed, written}
-use Rattle.clock2q_queues.specs.Links.{IsLinked, Attaches, Detaches, slots_from, record_at, next_at, previous_at, standing_at, vacant}
+use Rattle.clock2q_queues.specs.Links.{IsLinked, Attaches, Detaches, slots_from, record_at, next_at, previous_at, vacant}
 use Rattle.clock2q_queues.specs.Order.{PlaceOrder, IsOrderOf, IsOrder, IsWholeOrder, free_places, order_shown, place_for}
 use Rattle.clock2q_queues.proofs.Records.{changed}
-use Rattle.clock2q_queues.proofs.Rings.{eqb_self, or_left, or_parts, or_neither, has-append, has_first, has_later, AllApart-left, AllApart-right, AllApart-append, AllBelow-append, AllBelow-left, AllBelow-right, apart_from, apart_back, below_of}
+use Rattle.clock2q_queues.proofs.Rings.{eqb_self, or_parts, or_neither, has-append, has_first, has_later, AllApart-left, AllApart-right, AllApart-append, AllBelow-append, AllBelow-left, AllBelow-right, apart_from, apart_back, below_of}
 use Rattle.clock2q_queues.proofs.Joining.{Inserts, Inserts-before, Inserts-first, Removes, Removes-detached, IsLinked-kept, IsLinked-turned, slots_from-is, first_in, neighbours_fit, length-without, has-without, split_last, last_before}
 
 -- Lists of places

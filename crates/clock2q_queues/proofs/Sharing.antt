@@ -11,7 +11,7 @@ use Rattle.clock2q_queues.specs.declared.main_ring.MainRing.{MainRing}
 use Rattle.clock2q_queues.specs.declared.small.Small.{Small}
 use Rattle.clock2q_queues.specs.Rings.{has, without}
 use Rattle.clock2q_queues.specs.Links.{LinkState, IsBlank, IsSameBut, vacant, accesses_of, standing_at}
-use Rattle.clock2q_queues.specs.MainRing.{IsMainRing, main_slots, main_entries, inspections, from_victim}
+use Rattle.clock2q_queues.specs.MainRing.{IsMainRing, main_slots, main_entries, from_victim}
 use Rattle.clock2q_queues.specs.Small.{IsSmallQueue, small_slots, small_entries, admitted}
 use Rattle.clock2q_queues.specs.Queues.{AreQueues, QueueState, IsWholeQueues, slots_of, without_slot, queues_shown}
 use Rattle.clock2q_queues.proofs.Rings.{or_parts, or_neither, has-append, differs, AllApart-append, AllBelow-append}

@@ -1,9 +1,9 @@
 -- Lists of entries by slot: their slots, and what is there when a slot goes or is hit.
-use Rattle.std.proofs.Common.{◌≡◌, ℕ, suc, ◌-◌, Bool, true, false, not, cond, eqb, Option, Some, None, slice_get, List, [], ◌∷◌, ◌++◌, length, map, take, drop, inl, inr, refl, sym, ap, ◌∙◌, subst, arith}
+use Rattle.std.proofs.Common.{◌≡◌, ℕ, suc, ◌-◌, Bool, true, false, not, cond, eqb, Some, None, slice_get, List, [], ◌∷◌, ◌++◌, length, map, take, drop, inl, inr, refl, sym, ap, ◌∙◌, subst, arith}
 use Rattle.std.specs.List.{filter, last_or}
 use Rattle.std.proofs.lemmas.Bool.{eq-eqb, cases_Bool}
 use Rattle.std.proofs.lemmas.List.{map-append, take-append-drop}
-use Rattle.clock2q_queues.specs.Ages.{Age, touched}
+use Rattle.clock2q_queues.specs.Ages.{Age}
 use Rattle.clock2q_queues.specs.MainRing.{passed, from_victim, main_hit_at}
 use Rattle.clock2q_queues.specs.Queues.{slots_of, without_slot}
 use Rattle.clock2q_queues.specs.Rings.{has, without, AllApart}

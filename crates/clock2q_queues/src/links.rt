@@ -7,7 +7,6 @@ ghost use Rattle.clock2q_queues.specs.Links.{LinkState, vacant, is_old, Attaches
 mod cells;
 
 pub use cells::{Bits, Cells};
-
 use std::alloc::{AllocError, Allocator, Global};
 use std::marker::Model;
 
