@@ -6,9 +6,9 @@ use Rattle.std.proofs.lemmas.Option.{slice_get_within}
 use Rattle.std.proofs.lemmas.Bool.{both_ways, or_cases, eq-eqb, eqb-true}
 use Rattle.clock2q_queues.specs.declared.keys.cells.Entry.{Entry}
 use Rattle.clock2q_queues.specs.Rings.{has, AllBelow}
-use Rattle.clock2q_queues.specs.Keys.{entry, written, with_key, with_value, hash_at, key_at, hashed_at, entries_of, is_key_at}
+use Rattle.clock2q_queues.specs.Keys.{entry, written, with_key, with_value, hash_at, hashed_at, entries_of, is_key_at}
 use Rattle.clock2q_queues.specs.Indexes.{has_key, AllDistinct}
-use Rattle.clock2q_queues.proofs.Rings.{has_first, has_later, or_left, or_right, or_parts}
+use Rattle.clock2q_queues.proofs.Rings.{has_first, has_later, or_left, or_right}
 
 -- Entries written
 

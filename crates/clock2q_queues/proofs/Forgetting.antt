@@ -1,5 +1,5 @@
 -- A key forgotten by the history.
-use Rattle.std.proofs.Common.{◌≡◌, ℕ, suc, ◌+◌, ◌^◌, ◌<◌, ◌≤◌, Bool, true, false, eqb, Option, Some, None, slice_get, List, [], ◌∷◌, length, inl, inr, refl, sym, ap, ◌∙◌, subst, arith}
+use Rattle.std.proofs.Common.{◌≡◌, ℕ, ◌+◌, Bool, true, false, eqb, Option, Some, None, slice_get, List, [], ◌∷◌, length, inl, inr, refl, sym, ap, ◌∙◌, subst, arith}
 use Rattle.std.specs.List.{cons_option, find}
 use Rattle.std.specs.Cmp.{IsEquivalence}
 use Rattle.std.proofs.lemmas.Bool.{both_ways, cases_Bool, eqb-true}
@@ -135,8 +135,8 @@ module _ {K V : Type 0} (eq : K → K → Bool) where
             };
             shown = shown-as _ _ _ _ _ _ _ _ entries limit refl;
             accesses =
-              let n = ap (λ (z : PlaceOrder). z.accesses) ordered in
-              let m = ap (λ (z : KeyPlaces K V). z.writes) same in
-              (omega (arith, n, m), omega (arith, n, m));
+                let n = ap (λ (z : PlaceOrder). z.accesses) ordered in
+                let m = ap (λ (z : KeyPlaces K V). z.writes) same in
+                (omega (arith, n, m), omega (arith, n, m));
             found = any_entry eq key keys.entries order.places place e.0 there.0 e.1 e.2;
           }

@@ -1,5 +1,5 @@
 -- A new history, one that was cleared, and what callers see of one.
-use Rattle.std.proofs.Common.{◌≡◌, ℕ, suc, ◌*◌, ◌^◌, ◌<◌, ◌≤◌, Bool, List, [], length, refl, sym, ap, ◌∙◌, subst, arith}
+use Rattle.std.proofs.Common.{◌≡◌, ℕ, ◌^◌, ◌<◌, ◌≤◌, Bool, List, [], length, refl, sym, ap, ◌∙◌, subst, arith}
 use Rattle.clock2q_handles.specs.TableStep.{made_for}
 use Rattle.clock2q_queues.specs.declared.keys.cells.Entry.{Entry}
 use Rattle.clock2q_queues.specs.Rings.{AllBelow}
@@ -9,7 +9,7 @@ use Rattle.clock2q_queues.specs.Indexes.{IsIndex, AllDistinct, Empties, index_ro
 use Rattle.clock2q_queues.specs.History.{IsHistory, IsWholeHistory, remembered}
 use Rattle.clock2q_queues.proofs.Rings.{AllApart-left, AllBelow-left}
 use Rattle.clock2q_queues.proofs.Entries.{length-entries}
-use Rattle.clock2q_queues.proofs.Indexes.{IsIndex-new, IsIndex-kept, half_new}
+use Rattle.clock2q_queues.proofs.Indexes.{IsIndex-new, half_new}
 
 module _ {K V : Type 0} (eq : K → K → Bool) where
   pub IsHistory-new : (limit : ℕ) (keys : KeyPlaces K V) → limit < 2 ^ 24 → IsWholeOrder (unused limit) → keys.entries ≡ [] → limit ≤ keys.room → IsHistory eq (made_for (index_room limit)) (unused limit) keys

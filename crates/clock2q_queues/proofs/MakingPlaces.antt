@@ -1,9 +1,9 @@
 -- A place for a new key in the history.
-use Rattle.std.proofs.Common.{◌≡◌, ℕ, zero, suc, ◌+◌, ◌-◌, ◌<◌, ◌≤◌, max, Bool, true, false, ◌&&◌, eqb, Option, Some, None, List, [], ◌∷◌, ◌++◌, length, take, drop, take_all, refl, sym, ap, ◌∙◌, subst, arith}
+use Rattle.std.proofs.Common.{◌≡◌, ℕ, suc, ◌+◌, ◌-◌, ◌<◌, ◌≤◌, max, true, false, eqb, Some, None, List, [], ◌∷◌, ◌++◌, length, take, drop, take_all, refl, sym, ap, ◌∙◌, subst, arith}
 use Rattle.std.specs.List.{last_or}
 use Rattle.std.proofs.lemmas.List.{append-nil}
 use Rattle.clock2q_queues.specs.declared.keys.cells.Entry.{Entry}
-use Rattle.clock2q_queues.specs.Rings.{has, without, AllApart, AllBelow}
+use Rattle.clock2q_queues.specs.Rings.{has, without, AllApart}
 use Rattle.clock2q_queues.specs.Cells.{Rises}
 use Rattle.clock2q_handles.specs.Homes.{removed}
 use Rattle.clock2q_queues.specs.Order.{PlaceOrder, IsWholeOrder, used, next_place, place_for}

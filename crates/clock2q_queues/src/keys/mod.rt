@@ -190,11 +190,7 @@ impl<K: Eq, V, A: Allocator> Keys<K, V, A> {
     }
 
     /// Returns the first of these places that has a key, and counts each question.
-    pub fn find<B: Allocator>(
-        &mut self,
-        places: Candidates<'_, u32, B>,
-        key: &K,
-    ) -> Option<u32>
+    pub fn find<B: Allocator>(&mut self, places: Candidates<'_, u32, B>, key: &K) -> Option<u32>
         requires used { AllByRecursion (λ place. place < length self.old.entries) places.left }
         ensures found { result ≡ find (is_key_at K.eq key.now self.old.entries) places.entry.left }
         ensures counted { self.new ≡ record self.old { questions = self.old.questions + questions_of (is_key_at K.eq key.now self.old.entries) places.entry.left } }

@@ -1,5 +1,5 @@
-use Rattle.std.proofs.Common.{length, ap, arith}
-use Rattle.clock2q_queues.specs.Order.{PlaceOrder, used}
+use Rattle.std.proofs.Common.{ap}
+use Rattle.clock2q_queues.specs.Order.{PlaceOrder}
 use Rattle.clock2q_queues.specs.Keys.{KeyPlaces}
 use Rattle.clock2q_queues.proofs.Histories.{IsHistory-cleared}
 use Rattle.clock2q_queues.proofs.history.History.clear.Goals as goal

@@ -1,4 +1,4 @@
-use Rattle.std.proofs.Common.{◌≡◌, length, arith}
+use Rattle.std.proofs.Common.{arith}
 use Rattle.clock2q_queues.proofs.Emptying.{empties-more, empties-all}
 use Rattle.clock2q_queues.proofs.keys.Keys.unindex.Goals as goal
 
@@ -9,5 +9,5 @@ loop-place-preserved g c =
 
 pub returns : goal.returns
 returns g c = record {
-  emptied = empties-all c.args.index.now.homes c.loop-place.index.homes c.args.self.now.entries c.loop-place.place c.loop-place.invariant (omega (arith, c.loop-place-test.false, c.loop-place.auto.place-end, c.len-place-end.ensures.len))
+  emptied = empties-all c.args.index.now.homes c.loop-place.index.homes c.args.self.now.entries c.loop-place.place c.loop-place.invariant (omega (arith, c.loop-place-test.false, c.loop-place.auto.place-end, c.len-place-end.ensures.len));
 }

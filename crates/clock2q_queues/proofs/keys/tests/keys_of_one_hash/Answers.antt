@@ -1,8 +1,7 @@
-use Rattle.std.proofs.Common.{◌≡◌, ℕ, ◌*◌, ◌≤◌, [], List, length, refl, sym, ap, ◌∙◌, arith}
+use Rattle.std.proofs.Common.{◌≡◌, ℕ, [], List, length, sym, ap, ◌∙◌, arith}
 use Rattle.clock2q_handles.specs.TableStep.{TableValue, made_for}
 use Rattle.clock2q_queues.specs.Keys.{KeyPlaces}
-use Rattle.clock2q_queues.specs.Indexes.{IsIndex, index_room}
-use Rattle.clock2q_queues.specs.Rings.{AllBelow}
+use Rattle.clock2q_queues.specs.Indexes.{index_room}
 use Rattle.clock2q_queues.proofs.Indexes.{IsIndex-new, half_new}
 use Rattle.clock2q_queues.proofs.keys.tests.keys_of_one_hash.Goals as goal
 

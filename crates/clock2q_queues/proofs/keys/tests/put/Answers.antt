@@ -1,4 +1,4 @@
-use Rattle.std.proofs.Common.{◌≡◌, ℕ, suc, ◌+◌, ◌*◌, ◌<◌, ◌≤◌, true, false, eqb, Some, None, List, [], ◌∷◌, ◌++◌, length, refl, sym, ap, ◌∙◌, subst, arith}
+use Rattle.std.proofs.Common.{◌≡◌, ℕ, suc, ◌<◌, ◌≤◌, true, false, eqb, Some, None, List, [], ◌∷◌, ◌++◌, length, refl, sym, ap, ◌∙◌, subst, arith}
 use Rattle.std.specs.Prelude.{Result, Ok, Err, IsOk}
 use Rattle.std.proofs.lemmas.Bool.{both_ways, eq-eqb}
 use Rattle.std.proofs.lemmas.List.{length-append}
@@ -33,8 +33,7 @@ indexed_more index index' keys ps hash key i below count some is =
     let same = (λ (t : ℕ) (h : has t ps ≡ true). ap (λ z. elim z [ None ↦ None | Some e ↦ Some e.hash ]) (slice_get-written_other place t e keys (omega arith) (λ q. both_ways (eqb t place) (differs t place ps h absent) (eq-eqb t place q)))) in
     let at = ap (λ z. elim z [ None ↦ None | Some e ↦ Some e.hash ]) (slice_get-written place e keys (omega arith)) in
     let put : IsIndex (inserted index hash place) (written place e keys) (place ∷ ps) = IsIndex-put index keys (written place e keys) ps place hash i some absent same at in
-    let n : length (keys ++ e ∷ []) ≡ suc (length keys) = omega (arith, length-append keys (e ∷ [])) in
-    (
+    let n : length (keys ++ e ∷ []) ≡ suc (length keys) = omega (arith, length-append keys (e ∷ [])) in (
       place ∷ ps,
       subst (λ z. IsIndex index' z (place ∷ ps)) pushed (subst (λ z. IsIndex z (written place e keys) (place ∷ ps)) (sym is) put),
       (omega (arith, n), below_more (length keys) (length (keys ++ e ∷ [])) ps (omega (arith, n)) below),
