@@ -9,4 +9,6 @@ pub mod Small
 pub mod Queues
 pub mod Order
 pub mod Keys
+pub mod KeysLends
+pub mod Indexes
 pub mod History

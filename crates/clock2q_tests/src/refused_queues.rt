@@ -36,7 +36,7 @@ fn queues(rt: HostRuntime) -> Result<(), Fail> {
     Ok(())
 }
 
-// The two vectors of the index, the records and the hit bits of the order, and the keys.
+// The two vectors of the index, the records of the order, and the keys.
 #[test]
 fn histories(rt: HostRuntime) -> Result<(), Fail> {
     let alloc = Refusing::new(rt.alloc());
@@ -50,7 +50,7 @@ fn histories(rt: HostRuntime) -> Result<(), Fail> {
         }
         assert_eq!(rt; alloc.given_back(), alloc.taken(), "{granted} granted");
     }
-    assert_eq!(rt; enough, 5);
+    assert_eq!(rt; enough, 4);
     alloc.grant();
     let made: History<u64, &Refusing<Global>> = History::new(&alloc, 7)?;
     assert_eq!(rt; made.len(), 0);
