@@ -3,13 +3,13 @@ use Rattle.std.proofs.Common.{◌≡◌, ◌≢◌, ℕ, ◌<◌, ◌≤◌, ◌
 use Rattle.std.specs.Prelude.{OnOk, OnErr, ◌+◌, ◌*◌}
 use Rattle.clock2q_handles.specs.declared.error.TableError.{TableError}
 use Rattle.clock2q_handles.specs.declared.error.TableError.TheVariants.{Memory, Size, RunTooLong}
-use Rattle.clock2q_handles.specs.Offers.{Offers, Settles}
+use Rattle.clock2q_handles.specs.Offers.{Settles, FindsOrPuts}
+use Rattle.clock2q_handles.specs.Changes.{PutIn}
 use lib.Dec.{T, eqb→eq}
 use Rattle.std.specs.Fn.{Called, Takes, Mut}
-use Rattle.clock2q_handles.specs.Homes.{top, capacity, total, candidates, inserted, removed}
-use Rattle.clock2q_handles.specs.TableStep.{TableValue, IsHashOf, IsFull, IsShortOf, doubled_until, grown, reserved, rebuilt, doubled, fit}
-use Rattle.clock2q_handles.specs.Layout.{IsTooLong}
-use Rattle.clock2q_handles.specs.Rehash.{GivesHashes}
+use Rattle.clock2q_handles.specs.Homes.{top, capacity, total, inserted, removed}
+use Rattle.clock2q_handles.specs.TableStep.{TableValue, IsHashOf, IsShortOf, doubled_until, grown, reserved, rebuilt, doubled, fit}
+use Rattle.clock2q_handles.specs.Rehash.{GivesHashes, AfterGrowth}
 use Rattle.clock2q_handles.proofs.Hashes.{hashes-put_last, hashes-rebuilt, hashes-removed, rebuilt-length}
 
 one_of : (m x : ℕ) (b : Bool) → 0 < m → 0 < x → 0 < elim b [ true ↦ m | false ↦ x ]
@@ -60,18 +60,16 @@ module _ {H : Type 0} (key : H → ℕ) where
 
   module _ {F : Type 0} (g : Mut F (H × Unit {0}) ℕ) (f : F) (homes new : List (List (ℕ × H))) (h : ℕ) (v : H) where
     -- what an insertion leaves, however it ends
-    pub keyed_put : (result : Result (Unit {0}) TableError)
-        → OnOk result ((k : H → ℕ) → (IsFull homes → GivesHashes g k homes f) → new ≡ inserted (grown k homes) h v)
-        → (result ≡ Err RunTooLong → (k : H → ℕ) → (IsFull homes → GivesHashes g k homes f) → IsTooLong (inserted (grown k homes) h v) × (new ≡ grown k homes))
-        → (result ≡ Err Memory → new ≡ homes) → (result ≢ Err Size) → h ≡ key v → IsHashOf key homes → GivesHashes g key homes f → IsHashOf key new
-    keyed_put (Ok r) ok long memory size is hashes gives = subst (IsHashOf key) (sym (ok key (λ _. gives))) (keyed_inserted_under homes h v is hashes)
-    keyed_put (Err Memory) ok long memory size is hashes gives = subst (IsHashOf key) (sym (memory refl)) hashes
-    keyed_put (Err Size) ok long memory size is hashes gives = absurd (size refl)
-    keyed_put (Err RunTooLong) ok long memory size is hashes gives = subst (IsHashOf key) (sym (long refl key (λ _. gives)).1) (keyed_grown homes hashes).1
+    pub keyed_put : (result : Result (Unit {0}) TableError) → (result ≢ Err Memory → AfterGrowth g f homes (λ hs. PutIn hs h v result new)) → (result ≡ Err Memory → new ≡ homes)
+        → h ≡ key v → IsHashOf key homes → GivesHashes g key homes f → IsHashOf key new
+    keyed_put (Ok r) put memory is hashes gives = subst (IsHashOf key) (sym (put (λ e. absurd (cc)) key (λ _. gives)).0) (keyed_inserted_under homes h v is hashes)
+    keyed_put (Err Memory) put memory is hashes gives = subst (IsHashOf key) (sym (memory refl)) hashes
+    keyed_put (Err Size) put memory is hashes gives = subst (IsHashOf key) (sym (put (λ e. absurd (cc)) key (λ _. gives)).1) (keyed_grown homes hashes).1
+    keyed_put (Err RunTooLong) put memory is hashes gives = subst (IsHashOf key) (sym (put (λ e. absurd (cc)) key (λ _. gives)).1) (keyed_grown homes hashes).1
 
     -- what a handle that is found or put in leaves
     pub keyed_found : {M : Type 0} (m : Mut M (H × Unit {0}) Bool) (matches : M) (result : Result (H × Bool) TableError)
-        → ((result ≢ Err Memory) → (k : H → ℕ) → (IsFull homes → GivesHashes g k homes f) → (found : Option H) × (last : M) × Offers m matches (candidates (grown k homes) h) found last × Settles (grown k homes) h v found result new)
+        → (result ≢ Err Memory → AfterGrowth g f homes (λ hs. FindsOrPuts m matches hs h v result new))
         → (result ≡ Err Memory → new ≡ homes) → h ≡ key v → IsHashOf key homes → GivesHashes g key homes f → IsHashOf key new
     keyed_found m matches (Ok r) settles memory is hashes gives =
         let s = settles (λ e. absurd (cc)) key (λ _. gives) in

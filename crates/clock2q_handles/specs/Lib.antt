@@ -3,6 +3,7 @@ pub mod Layout
 pub mod TableStep
 pub mod Slots
 pub mod Table
+pub mod Changes
 pub mod Shifts
 pub mod Found
 pub mod Rehash

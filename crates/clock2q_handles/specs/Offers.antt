@@ -1,7 +1,7 @@
 -- Candidates offered to a closure, up to the first that it accepts.
 use Rattle.std.specs.Prelude.{◌≡◌, ℕ, Bool, true, false, List, [], ◌∷◌, Option, Some, None, Result, Ok, MatchBool, MatchResult}
 use Rattle.std.specs.Fn.{Called, Mut}
-use Rattle.clock2q_handles.specs.Homes.{inserted}
+use Rattle.clock2q_handles.specs.Homes.{candidates, inserted}
 use Rattle.clock2q_handles.specs.Layout.{IsTooLong}
 use Rattle.clock2q_handles.specs.declared.error.TableError.{TableError}
 use Rattle.clock2q_handles.specs.declared.error.TableError.TheVariants.{RunTooLong}
@@ -15,3 +15,7 @@ Offers {F} g f (h ∷ hs) found f' = (b : Bool) × (next : F) × Called g f (h, 
 abbrev pub Settles : {H : Type 0} → List (List (ℕ × H)) → ℕ → H → Option H → Result (H × Bool) TableError → List (List (ℕ × H)) → Type 0
 Settles old x v (Some c) result new = (result ≡ Ok (c, false)) × (new ≡ old)
 Settles old x v None result new = MatchResult result (λ r. (r ≡ (v, true)) × (new ≡ inserted old x v) × (IsTooLong (inserted old x v) → ⊥)) (λ e. (e ≡ RunTooLong) × (new ≡ old) × IsTooLong (inserted old x v))
+
+-- the candidates of x are offered to f, and what comes of that is answered and done
+abbrev pub FindsOrPuts : {M H : Type 0} → Mut M (H × Unit {0}) Bool → M → List (List (ℕ × H)) → ℕ → H → Result (H × Bool) TableError → List (List (ℕ × H)) → Type 0
+FindsOrPuts {M} {H} g f old x v result new = (found : Option H) × (last : M) × Offers g f (candidates old x) found last × Settles old x v found result new

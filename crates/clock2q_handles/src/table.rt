@@ -55,10 +55,11 @@ fn slots_for(entries: usize) -> Option<usize>
 
 impl<H: Copy + Eq + Default, A: Allocator + Copy> Table<H, A> {
     ghost use Rattle.clock2q_handles.specs.Homes.{total, count, candidates, inserted, removed, IsNew};
-    ghost use Rattle.clock2q_handles.specs.Offers.{Offers, Settles};
+    ghost use Rattle.clock2q_handles.specs.Offers.{FindsOrPuts};
     ghost use Rattle.clock2q_handles.specs.Layout.{layout, slot_at, reach, run, spill_of, IsTooLong, IsBestPlaced};
-    ghost use Rattle.clock2q_handles.specs.Rehash.{Asks, GivesHashes, held_handles};
-    ghost use Rattle.clock2q_handles.specs.TableStep.{table_value, made_for, rebuilt, grown, doubled, reserved, IsFull, IsShortOf, IsPastSize};
+    ghost use Rattle.clock2q_handles.specs.Rehash.{Asks, GivesHashes, held_handles, HashesKnown, AsksHeld, AfterGrowth};
+    ghost use Rattle.clock2q_handles.specs.Changes.{PutIn, WritesAtMost, Restores, IsLaidOut, IsNearer};
+    ghost use Rattle.clock2q_handles.specs.TableStep.{table_value, made_for, rebuilt, grown, doubled, reserved, IsBelowCapacity, IsFull, IsShortOf, IsPastSize};
 
     /// An empty table with no slots, which takes no memory.
     pub fn new(alloc: A) -> Table<H, A>
@@ -93,54 +94,6 @@ impl<H: Copy + Eq + Default, A: Allocator + Copy> Table<H, A> {
         Ok(Table { slots, len: 0 })
     }
 
-    /// Puts an entry in where the walk for it ended.
-    fn place(
-        &mut self,
-        home: usize,
-        distance: usize,
-        hash: u64,
-        handle: H,
-    ) -> Result<(), TableError>
-        requires room { total self.old.homes < capacity (length self.old.homes) }
-        requires home { home ≡ hash % length self.old.slots }
-        requires within { distance < length self.old.slots }
-        requires passed { (j : ℕ) → j < distance → j < reach (slot_at self.old.slots (home + j)) }
-        requires stop { reach (slot_at self.old.slots (home + distance)) ≤ distance }
-        ensures ok { OnOk result (self.new.homes ≡ inserted self.old.homes hash handle) }
-        ensures short { OnOk result (IsTooLong (inserted self.old.homes hash handle) → ⊥) }
-        ensures long { OnErr result (IsTooLong (inserted self.old.homes hash handle)) }
-        ensures err { OnErr result (self.new ≡ self.old) }
-        ensures only { IsOkUnless result TableError.RunTooLong }
-        ensures counted { self.old.writes ≤ self.new.writes }
-        ensures writes { self.new.writes ≤ self.old.writes + run self.old.slots hash + 1 }
-        ensures best { IsBestPlaced self.new.homes }
-    {
-        if !self.slots.put_in(home, distance, hash, handle) {
-            return Err(TableError::RunTooLong);
-        }
-        self.len += 1;
-        Ok(())
-    }
-
-    /// Puts an entry in, in a table that has room for it.
-    fn put(&mut self, hash: u64, handle: H) -> Result<(), TableError>
-        requires { total self.old.homes < capacity (length self.old.homes) }
-        ensures ok { OnOk result (self.new.homes ≡ inserted self.old.homes hash handle) }
-        ensures short { OnOk result (IsTooLong (inserted self.old.homes hash handle) → ⊥) }
-        ensures long { OnErr result (IsTooLong (inserted self.old.homes hash handle)) }
-        ensures err { OnErr result (self.new ≡ self.old) }
-        ensures only { IsOkUnless result TableError.RunTooLong }
-        ensures counted { self.old.writes ≤ self.new.writes }
-        ensures writes { self.new.writes ≤ self.old.writes + run self.old.slots hash + 1 }
-        ensures best { IsBestPlaced self.new.homes }
-        ensures few { total self.old.homes + 1 < 2 ^ 24 → IsOk result }
-        ensures restored { OnOk result (IsNew H.PartialEq.eq self.old.homes hash handle → layout (removed H.PartialEq.eq self.new.homes hash handle) ≡ self.old.slots) }
-    {
-        let home = self.slots.home(hash);
-        let distance = self.slots.end(home);
-        self.place(home, distance, hash, handle)
-    }
-
     /// The same entries in another count of slots, each under the hash that `rehash` gives its
     /// handle.
     fn rebuilt<F: FnMut(H) -> u64>(
@@ -154,6 +107,7 @@ impl<H: Copy + Eq + Default, A: Allocator + Copy> Table<H, A> {
         requires asked { (key : H → ℕ) × GivesHashes F.FnMut key self.now.homes rehash }
         ensures made { IfOk result (λ t. (key : H → ℕ) → GivesHashes F.FnMut key self.now.homes rehash → t.homes ≡ rebuilt key count self.now.homes) }
         ensures asks { OnOk result ((key : H → ℕ) → GivesHashes F.FnMut key self.now.homes rehash → (last : F) × Asks F.FnMut key rehash (held_handles self.now.homes) last) }
+        ensures laid { IfOk result IsLaidOut }
         ensures only { IsOkUnless result TableError.Memory }
     {
         let Ok(slots) = Slots::with_count(self.slots.allocator(), count) else {
@@ -164,7 +118,7 @@ impl<H: Copy + Eq + Default, A: Allocator + Copy> Table<H, A> {
             if !self.slots.metadata(0, slot).is_empty() {
                 let handle = self.slots.handle(0, slot);
                 let hash = rehash(handle);
-                table.put(hash, handle)?;
+                table.insert_within_capacity(hash, handle)?;
             }
         }
         Ok(table)
@@ -180,7 +134,7 @@ impl<H: Copy + Eq + Default, A: Allocator + Copy> Table<H, A> {
         ensures err { OnErr result (self.new ≡ self.old) }
         ensures as_many { total self.new.homes ≡ total self.old.homes }
         ensures only { IsOkUnless result TableError.Memory }
-        ensures best { IsBestPlaced self.new.homes }
+        ensures laid { IsLaidOut self.new }
     {
         let count = (self.slots.count() * 2).max(MIN_SLOTS);
         *self = self.rebuilt(count, rehash)?;
@@ -198,7 +152,7 @@ impl<H: Copy + Eq + Default, A: Allocator + Copy> Table<H, A> {
         ensures err { OnErr result (self.new ≡ self.old) }
         ensures as_many { total self.new.homes ≡ total self.old.homes }
         ensures only { IsOkUnless result TableError.Memory }
-        ensures best { IsBestPlaced self.new.homes }
+        ensures laid { IsLaidOut self.new }
     {
         if self.len() == self.capacity() {
             return self.grow(rehash);
@@ -228,10 +182,8 @@ impl<H: Copy + Eq + Default, A: Allocator + Copy> Table<H, A> {
         ensures only { result ≢ Err TableError.RunTooLong }
         ensures err { OnErr result (self.new ≡ self.old) }
 
-        // No placement of the entries does better, and no home reaches further than the home that
-        // its entries came from.
-        ensures best { IsBestPlaced self.new.homes }
-        ensures nearer { (x : ℕ) → spill_of self.new.homes x + count self.new.homes x ≤ spill_of self.old.homes x + count self.old.homes x }
+        ensures laid { IsLaidOut self.new }
+        ensures nearer { IsNearer self.old.homes self.new.homes }
     {
         let Some(entries) = self.len().checked_add(additional) else {
             return Err(TableError::Size);
@@ -261,34 +213,19 @@ impl<H: Copy + Eq + Default, A: Allocator + Copy> Table<H, A> {
         handle: H,
         rehash: F,
     ) -> Result<(), TableError>
-        requires rehash { IsFull self.old.homes → (key : H → ℕ) × GivesHashes F.FnMut key self.old.homes rehash }
-        ensures ok { OnOk result ((key : H → ℕ) → (IsFull self.old.homes → GivesHashes F.FnMut key self.old.homes rehash) → self.new.homes ≡ inserted (grown key self.old.homes) hash handle) }
-        ensures short { OnOk result ((key : H → ℕ) → (IsFull self.old.homes → GivesHashes F.FnMut key self.old.homes rehash) → IsTooLong (inserted (grown key self.old.homes) hash handle) → ⊥) }
-        ensures long { result ≡ Err TableError.RunTooLong → (key : H → ℕ) → (IsFull self.old.homes → GivesHashes F.FnMut key self.old.homes rehash) →
-            IsTooLong (inserted (grown key self.old.homes) hash handle) × (self.new.homes ≡ grown key self.old.homes) }
+        requires rehash { IsFull self.old.homes → HashesKnown F.FnMut rehash self.old.homes }
+        ensures put { result ≢ Err TableError.Memory → AfterGrowth F.FnMut rehash self.old.homes (λ homes. PutIn homes hash handle result self.new.homes) }
         ensures memory { result ≡ Err TableError.Memory → IsFull self.old.homes × (self.new ≡ self.old) }
-        ensures only { result ≢ Err TableError.Size }
 
         // A table of fewer than 2^24 - 1 entries never refuses for a run.
         ensures few { total self.old.homes + 1 < 2 ^ 24 → result ≢ Err TableError.RunTooLong }
-
-        // A full table asks `rehash` once for each held handle, in the order of their slots.
-        ensures asks { (result ≢ Err TableError.Memory) → IsFull self.old.homes → (key : H → ℕ) → GivesHashes F.FnMut key self.old.homes rehash →
-            (last : F) × Asks F.FnMut key rehash (held_handles self.old.homes) last }
-
-        // Where there is room, it takes no memory, and writes one slot more than the run at most.
-        ensures room { total self.old.homes < capacity (length self.old.homes) → IsOkUnless result TableError.RunTooLong × IfOk result (λ _. self.new.homes ≡ inserted self.old.homes hash handle) }
-        ensures writes { total self.old.homes < capacity (length self.old.homes) → (self.old.writes ≤ self.new.writes) × (self.new.writes ≤ self.old.writes + run self.old.slots hash + 1) }
-
-        // Taking the handle out again restores the slots, if no such entry was there before.
-        ensures restored { total self.old.homes < capacity (length self.old.homes) → OnOk result (IsNew H.PartialEq.eq self.old.homes hash handle →
-            layout (removed H.PartialEq.eq self.new.homes hash handle) ≡ self.old.slots) }
-
-        // No placement of the entries does better.
-        ensures best { IsBestPlaced self.new.homes }
+        ensures asks { result ≢ Err TableError.Memory → IsFull self.old.homes → AsksHeld F.FnMut rehash self.old.homes }
+        ensures writes { IsBelowCapacity self.old.homes → WritesAtMost (run self.old.slots hash + 1) self.old self.new }
+        ensures restores { IsBelowCapacity self.old.homes → OnOk result (Restores H.PartialEq.eq hash handle self.old self.new) }
+        ensures laid { IsLaidOut self.new }
     {
         self.make_room(rehash)?;
-        self.put(hash, handle)
+        self.insert_within_capacity(hash, handle)
     }
 
     /// Offers the candidates of `hash` to `matches` in order. Answers the first that it accepts,
@@ -305,27 +242,17 @@ impl<H: Copy + Eq + Default, A: Allocator + Copy> Table<H, A> {
         handle: H,
         rehash: F,
     ) -> Result<(H, bool), TableError>
-        requires rehash { IsFull self.old.homes → (key : H → ℕ) × GivesHashes F.FnMut key self.old.homes rehash }
+        requires rehash { IsFull self.old.homes → HashesKnown F.FnMut rehash self.old.homes }
         requires callable { M.IsAlwaysCallable matches }
-        ensures settles { (result ≢ Err TableError.Memory) → (key : H → ℕ) → (IsFull self.old.homes → GivesHashes F.FnMut key self.old.homes rehash) →
-            (found : Option H) × (last : M) × Offers M.FnMut matches (candidates (grown key self.old.homes) hash) found last
-            × Settles (grown key self.old.homes) hash handle found result self.new.homes }
+        ensures settles { result ≢ Err TableError.Memory → AfterGrowth F.FnMut rehash self.old.homes (λ homes. FindsOrPuts M.FnMut matches homes hash handle result self.new.homes) }
         ensures memory { result ≡ Err TableError.Memory → IsFull self.old.homes × (self.new ≡ self.old) }
-        ensures writes { total self.old.homes < capacity (length self.old.homes) → (self.old.writes ≤ self.new.writes) × (self.new.writes ≤ self.old.writes + run self.old.slots hash + 1) }
 
         // A table of fewer than 2^24 - 1 entries never refuses for a run.
         ensures few { total self.old.homes + 1 < 2 ^ 24 → result ≢ Err TableError.RunTooLong }
-
-        // A full table asks `rehash` once for each held handle, in the order of their slots.
-        ensures asks { (result ≢ Err TableError.Memory) → IsFull self.old.homes → (key : H → ℕ) → GivesHashes F.FnMut key self.old.homes rehash →
-            (last : F) × Asks F.FnMut key rehash (held_handles self.old.homes) last }
-
-        // Taking a handle that was put in out again restores the slots, if no such entry was there before.
-        ensures restored { total self.old.homes < capacity (length self.old.homes) → IfOk result (λ r. IsTrue r.1 → IsNew H.PartialEq.eq self.old.homes hash handle →
-            layout (removed H.PartialEq.eq self.new.homes hash handle) ≡ self.old.slots) }
-
-        // No placement of the entries does better.
-        ensures best { IsBestPlaced self.new.homes }
+        ensures asks { result ≢ Err TableError.Memory → IsFull self.old.homes → AsksHeld F.FnMut rehash self.old.homes }
+        ensures writes { IsBelowCapacity self.old.homes → WritesAtMost (run self.old.slots hash + 1) self.old self.new }
+        ensures restores { IsBelowCapacity self.old.homes → IfOk result (λ r. IsTrue r.1 → Restores H.PartialEq.eq hash handle self.old self.new) }
+        ensures laid { IsLaidOut self.new }
     {
         self.make_room(rehash)?;
         self.find_or_put(hash, matches, handle)
@@ -338,16 +265,14 @@ impl<H: Copy + Eq + Default, A: Allocator + Copy> Table<H, A> {
         matches: M,
         handle: H,
     ) -> Result<(H, bool), TableError>
-        requires room { total self.old.homes < capacity (length self.old.homes) }
+        requires room { IsBelowCapacity self.old.homes }
         requires callable { M.IsAlwaysCallable matches }
-        ensures settles { (found : Option H) × (last : M) × Offers M.FnMut matches (candidates self.old.homes hash) found last × Settles self.old.homes hash handle found result self.new.homes }
+        ensures settles { FindsOrPuts M.FnMut matches self.old.homes hash handle result self.new.homes }
         ensures only { result ≢ Err TableError.Memory }
-        ensures counted { self.old.writes ≤ self.new.writes }
-        ensures writes { self.new.writes ≤ self.old.writes + run self.old.slots hash + 1 }
-        ensures best { IsBestPlaced self.new.homes }
         ensures few { total self.old.homes + 1 < 2 ^ 24 → IsOk result }
-        ensures restored { IfOk result (λ r. IsTrue r.1 → IsNew H.PartialEq.eq self.old.homes hash handle →
-            layout (removed H.PartialEq.eq self.new.homes hash handle) ≡ self.old.slots) }
+        ensures writes { WritesAtMost (run self.old.slots hash + 1) self.old self.new }
+        ensures restores { IfOk result (λ r. IsTrue r.1 → Restores H.PartialEq.eq hash handle self.old self.new) }
+        ensures laid { IsLaidOut self.new }
     {
         let home = self.slots.home(hash);
         match self.slots.offer(home, hash, matches) {
@@ -361,8 +286,69 @@ impl<H: Copy + Eq + Default, A: Allocator + Copy> Table<H, A> {
 }
 
 impl<H: Copy + Eq + Default, A: Allocator> Table<H, A> {
+    ghost use Rattle.clock2q_handles.specs.Homes.{total};
+    ghost use Rattle.clock2q_handles.specs.Layout.{slot_at, reach, run};
+    ghost use Rattle.clock2q_handles.specs.TableStep.{IsBelowCapacity};
+    ghost use Rattle.clock2q_handles.specs.Changes.{PutIn, WritesAtMost, Restores, IsLaidOut};
+
+    /// Inserts `handle` under `hash`, last among the entries of its home, in a table that is below
+    /// its [capacity](Table::capacity): it takes no memory, and needs no hash of what is held. A
+    /// table made by [with_capacity](Table::with_capacity) stays below it for that many entries.
+    ///
+    /// # Errors
+    ///
+    /// `RunTooLong` where an entry would stand more than 2^24 - 2 slots past its home, which takes
+    /// 2^24 entries. The table is unchanged.
+    ///
+    /// # Cost
+    ///
+    /// Writes the slots from the new entry's to the end of its run.
+    pub fn insert_within_capacity(&mut self, hash: u64, handle: H) -> Result<(), TableError>
+        requires room { IsBelowCapacity self.old.homes }
+        ensures put { PutIn self.old.homes hash handle result self.new.homes }
+        ensures refused { OnErr result (self.new ≡ self.old) }
+
+        // A table of fewer than 2^24 - 1 entries never refuses.
+        ensures few { total self.old.homes + 1 < 2 ^ 24 → IsOk result }
+        ensures writes { WritesAtMost (run self.old.slots hash + 1) self.old self.new }
+        ensures restores { OnOk result (Restores H.PartialEq.eq hash handle self.old self.new) }
+        ensures laid { IsLaidOut self.new }
+    {
+        let home = self.slots.home(hash);
+        let distance = self.slots.end(home);
+        self.place(home, distance, hash, handle)
+    }
+
+    /// Inserts an entry where the walk for it ended.
+    fn place(
+        &mut self,
+        home: usize,
+        distance: usize,
+        hash: u64,
+        handle: H,
+    ) -> Result<(), TableError>
+        requires room { IsBelowCapacity self.old.homes }
+        requires home { home ≡ hash % length self.old.slots }
+        requires within { distance < length self.old.slots }
+        requires passed { (j : ℕ) → j < distance → j < reach (slot_at self.old.slots (home + j)) }
+        requires stop { reach (slot_at self.old.slots (home + distance)) ≤ distance }
+        ensures put { PutIn self.old.homes hash handle result self.new.homes }
+        ensures refused { OnErr result (self.new ≡ self.old) }
+        ensures writes { WritesAtMost (run self.old.slots hash + 1) self.old self.new }
+        ensures laid { IsLaidOut self.new }
+    {
+        if !self.slots.put_in(home, distance, hash, handle) {
+            return Err(TableError::RunTooLong);
+        }
+        self.len += 1;
+        Ok(())
+    }
+}
+
+impl<H: Copy + Eq + Default, A: Allocator> Table<H, A> {
     ghost use Rattle.clock2q_handles.specs.Homes.{total, listed, candidates, removed, is_entry_of};
-    ghost use Rattle.clock2q_handles.specs.Layout.{run, walk, IsBestPlaced};
+    ghost use Rattle.clock2q_handles.specs.Layout.{run, walk};
+    ghost use Rattle.clock2q_handles.specs.Changes.{WritesAtMost, IsLaidOut};
     ghost use Rattle.std.specs.List.{list_any};
     ghost use Rattle.clock2q_handles.specs.Table.{IsWhole};
 
@@ -413,11 +399,10 @@ impl<H: Copy + Eq + Default, A: Allocator> Table<H, A> {
         ensures none { OnFalse result (self.new ≡ self.old) }
 
         // It writes no more slots than the run of `hash` has.
-        ensures counted { self.old.writes ≤ self.new.writes }
-        ensures writes { self.new.writes ≤ self.old.writes + run self.old.slots hash }
+        ensures writes { WritesAtMost (run self.old.slots hash) self.old self.new }
 
-        // No placement of the entries that are left does better, and no walk is longer.
-        ensures best { IsBestPlaced self.new.homes }
+        // No walk is longer.
+        ensures laid { IsLaidOut self.new }
         ensures shorter { (x : ℕ) → walk self.new.homes x ≤ walk self.old.homes x }
     {
         let home = self.slots.home(hash);

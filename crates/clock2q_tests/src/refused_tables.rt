@@ -35,13 +35,6 @@ fn constructions(rt: HostRuntime) -> Result<(), Fail> {
     Ok(())
 }
 
-// A hash of each handle: the handle itself.
-fn own(handle: u64) -> u64
-    ensures { result ≡ handle }
-{
-    handle
-}
-
 // A table with as many handles as it takes before it grows.
 fn full<'a>(rt: &impl Abort, alloc: &'a Refusing<Global>) -> Result<RefusedTable<'a>, TableError>
     ensures { IfOk result (λ table. IsHashOf (λ handle. handle) table.homes) }
@@ -49,7 +42,7 @@ fn full<'a>(rt: &impl Abort, alloc: &'a Refusing<Global>) -> Result<RefusedTable
     let mut table = Table::with_capacity(alloc, 12)?;
     for handle in 0..12 {
         assert!(rt; table.len() < table.capacity());
-        table.insert(handle, handle, own)?;
+        table.insert_within_capacity(handle, handle)?;
     }
     Ok(table)
 }

@@ -1,10 +1,11 @@
 use Rattle.std.proofs.Common.{◌<◌, length, Option, Some, None, refl, sym, ap, ◌∙◌, subst, arith}
 use Rattle.clock2q_handles.specs.Homes.{total, capacity, candidates}
-use Rattle.clock2q_handles.specs.Layout.{homes_of, IsBestPlaced}
+use Rattle.clock2q_handles.specs.Layout.{homes_of}
+use Rattle.clock2q_handles.specs.Changes.{IsLaidOut}
 use Rattle.clock2q_handles.specs.Offers.{Offers}
 use Rattle.clock2q_handles.specs.Candidates.{left_from}
 use Rattle.clock2q_handles.proofs.Tidy.{length-homes_of}
-use Rattle.clock2q_handles.proofs.Steps.{table-best}
+use Rattle.clock2q_handles.proofs.Steps.{table-laid}
 use Rattle.clock2q_handles.proofs.Yields.{left_at_start}
 use Rattle.clock2q_handles.proofs.Promises.{few_fit, restored_by}
 use Rattle.clock2q_handles.proofs.table.Table.find_or_put.Given.{Over}
@@ -36,24 +37,23 @@ returns-in-Ok-clause-settles g c =
     let offers = c.in-Ok.ensures.offers in
     (Some c.in-Ok.found, offers.0, offered g (goal.at.returns-in-Ok-clause-settles g c).After-offer (Some c.in-Ok.found) offers.0 offers.1, (refl, refl))
 
-pub returns-in-Ok-clause-best : goal.returns-in-Ok-clause-best
-returns-in-Ok-clause-best g c = subst (λ t. IsBestPlaced t.homes) c.self.view_is (table-best c.self.inside.slots.slots c.self.inside.len c.self.invariant)
+pub returns-in-Ok-clause-laid : goal.returns-in-Ok-clause-laid
+returns-in-Ok-clause-laid g c = subst IsLaidOut c.self.view_is (table-laid c.self.inside.slots.slots c.self.inside.len c.self.invariant c.self.inside.slots.writes)
 
 pub returns-in-Ok-place-clause-settles : goal.returns-in-Ok-place-clause-settles
 returns-in-Ok-place-clause-settles g c =
     let offers = c.in-Err.ensures.offers in
-    (None, offers.0, offered g (goal.at.returns-in-Ok-place-clause-settles g c).After-offer None offers.0 offers.1, (refl, c.in-Ok-place.ensures.ok, c.in-Ok-place.ensures.short))
+    (None, offers.0, offered g (goal.at.returns-in-Ok-place-clause-settles g c).After-offer None offers.0 offers.1, (refl, c.in-Ok-place.ensures.put.0, c.in-Ok-place.ensures.put.1))
 
 pub returns-in-Err-place-clause-settles : goal.returns-in-Err-place-clause-settles
 returns-in-Err-place-clause-settles g c =
     let offers = c.in-Err.ensures.offers in
-    let only = c.in-Err-place.ensures.only in
-    (None, offers.0, offered g (goal.at.returns-in-Err-place-clause-settles g c).After-offer None offers.0 offers.1, (only, ap (λ t. t.homes) c.in-Err-place.ensures.err, c.in-Err-place.ensures.long))
+    (None, offers.0, offered g (goal.at.returns-in-Err-place-clause-settles g c).After-offer None offers.0 offers.1, c.in-Err-place.ensures.put)
 
-pub returns-in-Ok-place-clause-restored : goal.returns-in-Ok-place-clause-restored
-returns-in-Ok-place-clause-restored g c _ fresh =
+pub returns-in-Ok-place-clause-restores : goal.returns-in-Ok-place-clause-restores
+returns-in-Ok-place-clause-restores g c _ fresh =
     restored_by g.H.PartialEq.eq c.self.inside.slots.slots c.args.self.now.homes c.place.new.self.homes c.args.hash c.args.handle (ap (λ t. t.homes) c.self.view_is) c.self.invariant.tidy c.requires.room
-    (g.met.H.Eq.laws.refl c.args.handle) c.in-Ok-place.ensures.ok fresh ∙ ap (λ t. t.slots) c.self.view_is
+    (g.met.H.Eq.laws.refl c.args.handle) c.in-Ok-place.ensures.put.0 fresh ∙ ap (λ t. t.slots) c.self.view_is
 
 pub returns-in-Err-place-clause-few : goal.returns-in-Err-place-clause-few
-returns-in-Err-place-clause-few g c few = absurd (few_fit c.args.self.now.homes c.args.hash c.args.handle c.requires.room few c.in-Err-place.ensures.long)
+returns-in-Err-place-clause-few g c few = absurd (few_fit c.args.self.now.homes c.args.hash c.args.handle c.requires.room few c.in-Err-place.ensures.put.2)

@@ -1,11 +1,12 @@
 use Rattle.std.proofs.Common.{◌≡◌, ◌≤◌, ◌+◌, ◌-◌, false, true, sym, ap, ◌∙◌, subst, arith}
 use Rattle.std.specs.List.{list_any}
 use Rattle.clock2q_handles.specs.Homes.{listed, removed, is_entry_of}
-use Rattle.clock2q_handles.specs.Layout.{homes_of, reach, slot_at, walk, run, IsBestPlaced}
+use Rattle.clock2q_handles.specs.Layout.{homes_of, reach, slot_at, walk, run}
+use Rattle.clock2q_handles.specs.Changes.{IsLaidOut}
 use Rattle.clock2q_handles.proofs.Tidy.{tidy-room}
 use Rattle.clock2q_handles.proofs.Walk.{passed}
 use Rattle.clock2q_handles.proofs.Removals.{removed-none, removed-walk}
-use Rattle.clock2q_handles.proofs.Steps.{Removal, listed-home, table-best, removal}
+use Rattle.clock2q_handles.proofs.Steps.{Removal, listed-home, table-laid, removal}
 use Rattle.clock2q_handles.proofs.table.Table.remove.Given.{Over}
 use Rattle.clock2q_handles.proofs.table.Table.remove.Goals.{After-take_out, In_default}
 use Rattle.clock2q_handles.proofs.table.Table.remove.Goals as goal
@@ -29,8 +30,8 @@ pub returns-in_default-clause-found : goal.returns-in_default-clause-found
 returns-in_default-clause-found g c =
     subst (λ t. false ≡ list_any (is_entry_of g.H.PartialEq.eq c.args.hash c.args.handle) (listed t.homes c.args.hash)) c.self.view_is (sym (none g c))
 
-pub returns-in_default-clause-best : goal.returns-in_default-clause-best
-returns-in_default-clause-best g c = subst (λ t. IsBestPlaced t.homes) c.self.view_is (table-best c.self.inside.slots.slots c.self.inside.len c.self.invariant)
+pub returns-in_default-clause-laid : goal.returns-in_default-clause-laid
+returns-in_default-clause-laid g c = subst IsLaidOut c.self.view_is (table-laid c.self.inside.slots.slots c.self.inside.len c.self.invariant c.self.inside.slots.writes)
 
 pub take_out-requires-clause-walked : goal.take_out-requires-clause-walked
 take_out-requires-clause-walked g c j l =
@@ -51,10 +52,12 @@ pub returns-clause-found : goal.returns-clause-found
 returns-clause-found g c = subst (λ t. true ≡ list_any (is_entry_of g.H.PartialEq.eq c.args.hash c.args.handle) (listed t.homes c.args.hash)) c.self.view_is (sym (step g (goal.at.returns-clause-found g c).After-take_out).found)
 
 pub returns-clause-writes : goal.returns-clause-writes
-returns-clause-writes g c = subst (λ t. c.take_out.new.self.writes ≤ t.writes + run t.slots c.args.hash) c.self.view_is (step g (goal.at.returns-clause-writes g c).After-take_out).writes
+returns-clause-writes g c =
+    let done = step g (goal.at.returns-clause-writes g c).After-take_out in
+    subst (λ t. (t.writes ≤ c.take_out.new.self.writes) × (c.take_out.new.self.writes ≤ t.writes + run t.slots c.args.hash)) c.self.view_is (done.counted, done.writes)
 
-pub returns-clause-best : goal.returns-clause-best
-returns-clause-best g c = table-best c.take_out.new.self.slots (c.self.inside.len - 1) (step g (goal.at.returns-clause-best g c).After-take_out).table
+pub returns-clause-laid : goal.returns-clause-laid
+returns-clause-laid g c = table-laid c.take_out.new.self.slots (c.self.inside.len - 1) (step g (goal.at.returns-clause-laid g c).After-take_out).table c.take_out.new.self.writes
 
 pub returns-clause-shorter : goal.returns-clause-shorter
 returns-clause-shorter g c x =
