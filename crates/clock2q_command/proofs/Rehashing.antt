@@ -27,6 +27,7 @@ module _ {E : Type 0} where
   none_in (suc n) zero x is = cc
   none_in (suc n) (suc m) x is = none_in n m x is
 
+module _ {E : Type 0} where
   -- what stands in a slot stood there or was put in
   put_from-from : (es : List E) (slots : List (Option (Placed E))) (n d m : ℕ) (s : Placed E) → get_or (put_from slots n d es) m None ≡ Some s → (get_or slots m None ≡ Some s) ⊎ ((i : ℕ) × (slice_get es i ≡ Some s.entry))
   put_from-from [] slots n d m s is = inl is
