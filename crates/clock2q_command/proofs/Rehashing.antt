@@ -1,9 +1,9 @@
 -- Each handle stands under its hash again after any command.
-use Rattle.std.proofs.Common.{◌≡◌, ℕ, zero, suc, ◌+◌, ◌%◌, ◌<◌, ◌≤◌, ◌⊎◌, inl, inr, refl, sym, ap, ◌∙◌, subst, arith, Bool, true, false, cond, nat_le, List, [], ◌∷◌, ◌++◌, take, length, get_or, set, replicate, Option, Some, None, Result, Ok, Err, slice_get}
+use Rattle.std.proofs.Common.{◌≡◌, ℕ, zero, suc, ◌+◌, ◌%◌, ◌<◌, ◌⊎◌, inl, inr, refl, sym, ap, ◌∙◌, subst, arith, Bool, true, false, cond, nat_le, List, [], ◌∷◌, ◌++◌, take, length, get_or, set, replicate, Option, Some, None, slice_get}
 use Rattle.std.proofs.lemmas.List.{length-replicate, take_more}
-use Rattle.clock2q_handles.specs.Homes.{top, capacity, listed, total, no_entries, inserted}
+use Rattle.clock2q_handles.specs.Homes.{capacity, listed, total, no_entries}
 use Rattle.clock2q_handles.specs.Layout.{Placed, placed, put_from, layout_upto, layout, entries, spill_of}
-use Rattle.clock2q_handles.specs.TableStep.{IsHashOf, grown, rebuilt, reserved, fit}
+use Rattle.clock2q_handles.specs.TableStep.{IsHashOf, rebuilt, reserved, fit}
 use Rattle.clock2q_handles.specs.declared.error.TableError.TheVariants.{Memory, Size, RunTooLong}
 use Rattle.clock2q_handles.proofs.Hashes.{entries-from, hash-at, hashes-none, hashes-put_all}
 use Rattle.clock2q_handles.proofs.Keyed.{fit_some, keyed_grown, keyed_inserted, keyed_removed}

@@ -9,7 +9,7 @@ use Rattle.clock2q_handles.specs.Homes.{candidates}
 use Rattle.clock2q_handles.specs.Layout.{IsTooLong}
 use Rattle.clock2q_handles.specs.Changes.{PutIn}
 use Rattle.clock2q_handles.specs.Offers.{Offers, Settles}
-use Rattle.clock2q_handles.specs.Rehash.{GivesHashes, AfterGrowth}
+use Rattle.clock2q_handles.specs.Rehash.{GivesHashes}
 use Rattle.clock2q_handles.specs.TableStep.{TableValue, grown, reserved, IsFull, IsShortOf, IsPastSize}
 use Rattle.clock2q_handles.specs.declared.error.TableError.{TableError}
 use Rattle.clock2q_handles.specs.declared.error.TableError.TheVariants.{Memory, Size, RunTooLong}

@@ -1,4 +1,4 @@
-use Rattle.std.proofs.Common.{rules, refl, ◌∙◌}
+use Rattle.std.proofs.Common.{refl, ◌∙◌}
 use Rattle.clock2q_command.proofs.TableReplies.{left-drained}
 use Rattle.clock2q_command.proofs.table_commands.get.Goals as goal
 

@@ -1,4 +1,4 @@
-use Rattle.std.proofs.Common.{rules, ◌-◌, ◌+◌, ◌≤◌, length, take, arith, sym, subst, vec_len, vec_capacity}
+use Rattle.std.proofs.Common.{rules, ◌+◌, take, sym, subst}
 use Rattle.std.proofs.lemmas.List.{take_all}
 use Rattle.clock2q_command.specs.TableCommands.{AreReplied}
 use Rattle.clock2q_command.proofs.Rehashing.{AreReplied-taken, hashes-replied}
@@ -10,14 +10,14 @@ execute-requires-clause-hashes g c = (c.requires.hashes.0, c.loop-command.invari
 pub loop-command-preserved : goal.loop-command-preserved
 loop-command-preserved g c = record {
   told = λ key h.
-    subst (λ replies. AreReplied g.H.PartialEq.eq key (take (c.loop-command.command-index + 1) c.args.commands.now) c.args.table.now.homes replies c.execute.new.table.homes) (sym c.push_reserved.ensures.items)
-    (AreReplied-taken _ g.H.PartialEq.eq key c.args.commands.now c.loop-command.command-index c.command-item.result c.command-item.result c.loop-command.replies.items c.execute.result
-    c.args.table.now.homes c.loop-command.table.homes c.execute.new.table.homes c.loop-command-test.true c.command-item.is
-    (c.loop-command.invariant.told key h) (c.execute.ensures.reply key (c.loop-command.invariant.hashes key h)));
+      subst (λ replies. AreReplied g.H.PartialEq.eq key (take (c.loop-command.command-index + 1) c.args.commands.now) c.args.table.now.homes replies c.execute.new.table.homes) (sym c.push_reserved.ensures.items)
+      (AreReplied-taken _ g.H.PartialEq.eq key c.args.commands.now c.loop-command.command-index c.command-item.result c.command-item.result c.loop-command.replies.items c.execute.result
+      c.args.table.now.homes c.loop-command.table.homes c.execute.new.table.homes c.loop-command-test.true c.command-item.is
+      (c.loop-command.invariant.told key h) (c.execute.ensures.reply key (c.loop-command.invariant.hashes key h)));
   hashes = λ key h. record {
     one = h.one;
     hashes = hashes-replied _ g.H.PartialEq.eq key c.command-item.result c.loop-command.table.homes c.execute.result c.execute.new.table.homes
-      (c.execute.ensures.reply key (c.loop-command.invariant.hashes key h)) (c.loop-command.invariant.hashes key h).hashes;
+        (c.execute.ensures.reply key (c.loop-command.invariant.hashes key h)) (c.loop-command.invariant.hashes key h).hashes;
   };
   laid = λ l. c.execute.ensures.laid (c.loop-command.invariant.laid l);
   room = search (rules, c.loop-command.invariant.room);

@@ -12,6 +12,9 @@ returns-in_err-map_err g c =
     let p = err_from_is_err_and c.from_residual-in_err-map_err.result c.from_residual-in_err-map_err.ensures.1 in
     let memory : c.in_err-map_err.field-0.0 ≡ Memory = search (rules, c.in_err-map_err.ensures) in
     rw (p.1, p.2, memory) (λ bad e.
-    omega (arith, c.loop-line.invariant.begun,
-    gathered-later (map call_of c.loop-line.commands.items) (c.loop-line.number + 1) (lines_of c.loop-line.rest.now) c.in-Some.line.now (lines_of c.in-Some.others.now)
-    (call_of c.in_ok-command.command) bad c.in-Some.ensures.lines (sym c.command_of.ensures ∙ ap (option_map call_of) c.in_ok-command.ensures.ok_part) (c.loop-line.invariant.so_far ∙ e)))
+    omega (
+      arith,
+      c.loop-line.invariant.begun,
+      gathered-later (map call_of c.loop-line.commands.items) (c.loop-line.number + 1) (lines_of c.loop-line.rest.now) c.in-Some.line.now (lines_of c.in-Some.others.now)
+          (call_of c.in_ok-command.command) bad c.in-Some.ensures.lines (sym c.command_of.ensures ∙ ap (option_map call_of) c.in_ok-command.ensures.ok_part) (c.loop-line.invariant.so_far ∙ e),
+    ))
