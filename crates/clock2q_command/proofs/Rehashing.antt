@@ -1,5 +1,6 @@
 -- Each handle stands under its hash again after any command.
 use Rattle.std.proofs.Common.{◌≡◌, ℕ, zero, suc, ◌+◌, ◌%◌, ◌<◌, ◌⊎◌, inl, inr, refl, sym, ap, ◌∙◌, subst, arith, Bool, true, false, cond, nat_le, List, [], ◌∷◌, ◌++◌, take, length, get_or, set, replicate, Option, Some, None, slice_get}
+use Rattle.std.specs.declared.vec.Vec.{Vec}
 use Rattle.std.proofs.lemmas.List.{length-replicate, take_more}
 use Rattle.clock2q_handles.specs.Homes.{capacity, listed, total, no_entries}
 use Rattle.clock2q_handles.specs.Layout.{Placed, placed, put_from, layout_upto, layout, entries, spill_of}
@@ -73,7 +74,7 @@ module _ {H : Type 0} (A : Type 0) (eq : H → H → Bool) (key : H → ℕ) whe
   abbrev kept : (homes new : List (List (ℕ × H))) → new ≡ homes → IsHashOf key homes → IsHashOf key new
   kept homes new same hashes = subst (IsHashOf key) (sym same) hashes
 
-  hashes-inserts : (v : H) (old : List (List (ℕ × H))) (reply : TableReply H A) (new : List (List (ℕ × H))) → Inserts eq key v old reply new → IsHashOf key old → IsHashOf key new
+  hashes-inserts : (v : H) (old : List (List (ℕ × H))) (reply : TableReply H (Vec H A)) (new : List (List (ℕ × H))) → Inserts eq key v old reply new → IsHashOf key old → IsHashOf key new
   hashes-inserts v old Done new r hashes = kept _ new r.0 (keyed_inserted key old v hashes)
   hashes-inserts v old (Removed was) new r hashes = absurd r
   hashes-inserts v old (Found c is_new) new r hashes = absurd r
@@ -82,7 +83,7 @@ module _ {H : Type 0} (A : Type 0) (eq : H → H → Bool) (key : H → ℕ) whe
   hashes-inserts v old (Refused Memory) new r hashes = kept _ new r.0 hashes
   hashes-inserts v old (Refused Size) new r hashes = absurd r
 
-  pub hashes-replied : (command : TableCommand H A) (old : List (List (ℕ × H))) (reply : TableReply H A) (new : List (List (ℕ × H))) → IsReplied eq key command old reply new → IsHashOf key old → IsHashOf key new
+  pub hashes-replied : (command : TableCommand H (Vec H A)) (old : List (List (ℕ × H))) (reply : TableReply H (Vec H A)) (new : List (List (ℕ × H))) → IsReplied eq key command old reply new → IsHashOf key old → IsHashOf key new
   hashes-replied (Insert v) old reply new r hashes = hashes-inserts v old reply new r hashes
   hashes-replied (Remove x v) old Done new r hashes = absurd r
   hashes-replied (Remove x v) old (Removed was) new r hashes = kept _ new r.1 (keyed_removed key eq old x v hashes)
@@ -113,14 +114,14 @@ module _ {H : Type 0} (A : Type 0) (eq : H → H → Bool) (key : H → ℕ) whe
   hashes-replied (Get x) old (Refused Size) new r hashes = absurd r
 
   -- one command more at the end
-  pub AreReplied-more : (commands : List (TableCommand H A)) (replies : List (TableReply H A)) (command : TableCommand H A) (reply : TableReply H A) (old mid new : List (List (ℕ × H))) → AreReplied eq key commands old replies mid → IsReplied eq key command mid reply new → AreReplied eq key (commands ++ command ∷ []) old (replies ++ reply ∷ []) new
+  pub AreReplied-more : (commands : List (TableCommand H (Vec H A))) (replies : List (TableReply H (Vec H A))) (command : TableCommand H (Vec H A)) (reply : TableReply H (Vec H A)) (old mid new : List (List (ℕ × H))) → AreReplied eq key commands old replies mid → IsReplied eq key command mid reply new → AreReplied eq key (commands ++ command ∷ []) old (replies ++ reply ∷ []) new
   AreReplied-more [] [] command reply old mid new all one = (new, subst (λ m. IsReplied eq key command m reply new) all one, refl)
   AreReplied-more [] (r ∷ replies) command reply old mid new all one = absurd all
   AreReplied-more (c ∷ commands) [] command reply old mid new all one = absurd all
   AreReplied-more (c ∷ commands) (r ∷ replies) command reply old mid new all one = (all.0, all.1, AreReplied-more commands replies command reply all.0 mid new all.2 one)
 
   -- the same, where the commands are those at the front of a list
-  pub AreReplied-taken : (commands : List (TableCommand H A)) (i : ℕ) (command d : TableCommand H A) (replies : List (TableReply H A)) (reply : TableReply H A) (old mid new : List (List (ℕ × H))) → i < length commands → command ≡ get_or commands i d
+  pub AreReplied-taken : (commands : List (TableCommand H (Vec H A))) (i : ℕ) (command d : TableCommand H (Vec H A)) (replies : List (TableReply H (Vec H A))) (reply : TableReply H (Vec H A)) (old mid new : List (List (ℕ × H))) → i < length commands → command ≡ get_or commands i d
       → AreReplied eq key (take i commands) old replies mid → IsReplied eq key command mid reply new → AreReplied eq key (take (i + 1) commands) old (replies ++ reply ∷ []) new
   AreReplied-taken commands i command d replies reply old mid new within is all one =
       subst (λ cs. AreReplied eq key cs old (replies ++ reply ∷ []) new) (ap (λ c. take i commands ++ c ∷ []) is ∙ sym (take_more commands i d within)) (AreReplied-more (take i commands) replies command reply old mid new all one)

@@ -4,27 +4,28 @@ ghost use Rattle.clock2q_handles.specs.Changes.{IsLaidOut};
 ghost use Rattle.clock2q_command.specs.TableCommands.{IsHashing, told, told_found, Inserts, Finds, Reserves, Gets, IsReplied, AreReplied};
 
 use clock2q_handles::{Table, TableError};
-use std::alloc::{Allocator, Global};
+use std::alloc::Allocator;
 
-/// A call of a [`Table`](clock2q_handles::Table) as a value, to be made by [`run_table`].
+/// A call of a [`Table`](clock2q_handles::Table) as a value, to be made by [`run_table`]. `L` is a
+/// list of handles.
 #[derive(Debug, Drop, PartialEq)]
-pub enum TableCommand<H, A: Allocator = Global> {
+pub enum TableCommand<H, L = Vec<H>> {
     /// Inserts a handle under its hash. Answered `Done`.
     Insert(H),
     /// Removes a handle under this hash. Answered `Removed`.
     Remove(u64, H),
     /// Finds the first handle under the hash of this one that stands in the list, or inserts this
     /// one. Answered `Found`.
-    Find(H, Vec<H, A>),
+    Find(H, L),
     /// Makes room for so many entries more. Answered `Done`.
     Reserve(usize),
     /// Looks a hash up. Answered `Handles`.
     Get(u64),
 }
 
-/// What a [`TableCommand`] is answered.
+/// What a [`TableCommand`] is answered. `L` is a list of handles.
 #[derive(Debug, Drop, PartialEq)]
-pub enum TableReply<H, A: Allocator = Global> {
+pub enum TableReply<H, L = Vec<H>> {
     /// The handle was inserted, or the room made.
     Done,
     /// Whether there was such a handle.
@@ -32,7 +33,7 @@ pub enum TableReply<H, A: Allocator = Global> {
     /// The handle that was found, and false; or the one that was inserted, and true.
     Found(H, bool),
     /// The handles under the hash.
-    Handles(Vec<H, A>),
+    Handles(L),
     /// The command was refused.
     Refused(TableError),
 }
@@ -50,8 +51,8 @@ pub fn run_table<H, A, F>(
     alloc: A,
     table: &mut Table<H, A>,
     hash_of: F,
-    commands: &[TableCommand<H, A>],
-) -> Result<Vec<TableReply<H, A>, A>, TableError>
+    commands: &[TableCommand<H, Vec<H, A>>],
+) -> Result<Vec<TableReply<H, Vec<H, A>>, A>, TableError>
 where
     H: Copy + Eq + Default,
     A: Allocator + Copy,
@@ -81,8 +82,8 @@ fn execute<H, A, F>(
     alloc: A,
     table: &mut Table<H, A>,
     hash_of: &F,
-    command: &TableCommand<H, A>,
-) -> TableReply<H, A>
+    command: &TableCommand<H, Vec<H, A>>,
+) -> TableReply<H, Vec<H, A>>
 where
     H: Copy + Eq + Default,
     A: Allocator + Copy,
@@ -103,7 +104,7 @@ where
 }
 
 /// An outcome as a reply.
-fn told<H, A: Allocator>(outcome: Result<(), TableError>) -> TableReply<H, A>
+fn told<H, L>(outcome: Result<(), TableError>) -> TableReply<H, L>
     ensures { result ≡ told outcome }
 {
     match outcome {
@@ -113,7 +114,7 @@ fn told<H, A: Allocator>(outcome: Result<(), TableError>) -> TableReply<H, A>
 }
 
 /// What a look-up with insertion answers, as a reply.
-fn told_found<H: Copy, A: Allocator>(outcome: Result<(H, bool), TableError>) -> TableReply<H, A>
+fn told_found<H: Copy, L>(outcome: Result<(H, bool), TableError>) -> TableReply<H, L>
     ensures { result ≡ told_found outcome }
 {
     match outcome {
@@ -123,7 +124,7 @@ fn told_found<H: Copy, A: Allocator>(outcome: Result<(H, bool), TableError>) -> 
 }
 
 /// Inserts a handle under its hash.
-fn insert<H, A, F>(table: &mut Table<H, A>, hash_of: &F, handle: H) -> TableReply<H, A>
+fn insert<H, A, F>(table: &mut Table<H, A>, hash_of: &F, handle: H) -> TableReply<H, Vec<H, A>>
 where
     H: Copy + Eq + Default,
     A: Allocator + Copy,
@@ -143,7 +144,7 @@ fn find<H, A, F>(
     hash_of: &F,
     handle: H,
     accepted: &[H],
-) -> TableReply<H, A>
+) -> TableReply<H, Vec<H, A>>
 where
     H: Copy + Eq + Default,
     A: Allocator + Copy,
@@ -163,7 +164,7 @@ where
 }
 
 /// Makes room for so many entries more.
-fn reserve<H, A, F>(table: &mut Table<H, A>, hash_of: &F, additional: usize) -> TableReply<H, A>
+fn reserve<H, A, F>(table: &mut Table<H, A>, hash_of: &F, additional: usize) -> TableReply<H, Vec<H, A>>
 where
     H: Copy + Eq + Default,
     A: Allocator + Copy,
@@ -178,7 +179,7 @@ where
 }
 
 /// Lists the candidates of a hash.
-fn get<H, A>(alloc: A, table: &Table<H, A>, hash: u64) -> TableReply<H, A>
+fn get<H, A>(alloc: A, table: &Table<H, A>, hash: u64) -> TableReply<H, Vec<H, A>>
 where
     H: Copy + Eq + Default,
     A: Allocator + Copy,
