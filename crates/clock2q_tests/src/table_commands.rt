@@ -26,8 +26,8 @@ fn hash_of(handle: u64) -> u64
 fn replies_of<A: Allocator + Copy>(
     alloc: A,
     entries: usize,
-    commands: &[TableCommand<u64, A>],
-) -> Result<Vec<TableReply<u64, A>, A>, TableError> {
+    commands: &[TableCommand<u64, Vec<u64, A>>],
+) -> Result<Vec<TableReply<u64, Vec<u64, A>>, A>, TableError> {
     let mut table = Table::with_capacity(alloc, entries)?;
     run_table(alloc, &mut table, hash_of, commands)
 }
@@ -67,36 +67,37 @@ fn nothing_to_run(rt: HostRuntime) -> Result<(), Fail> {
     Ok(())
 }
 
-// Each request for memory of a run is refused in turn, with all later ones: the list of replies,
-// the growth that the insertion needs, and the list of a look-up.
+// Each request for memory is refused in turn, with all later ones: those of the table's
+// construction, the list of replies, the larger table, and the list of a look-up.
 #[test]
 fn requests_refused(rt: HostRuntime) -> Result<(), Fail> {
     let alloc = Refusing::new(rt.alloc());
+    let commands: [TableCommand<u64, Vec<u64, &Refusing<Global>>>; 3] = [
+        TableCommand::Insert(0),
+        TableCommand::Reserve(20),
+        TableCommand::Get(EVEN),
+    ];
     let mut enough = 0;
+    let mut partly = 0;
     for granted in 0..MANY {
-        alloc.grant();
-        let mut table = Table::with_capacity(&alloc, 1)?;
-        let commands: [TableCommand<u64, &Refusing<Global>>; 3] = [
-            TableCommand::Insert(0),
-            TableCommand::Reserve(20),
-            TableCommand::Get(EVEN),
-        ];
         alloc.refuse_after(granted);
-        let outcome = run_table(&alloc, &mut table, hash_of, &commands);
-        alloc.grant();
+        let outcome = replies_of(&alloc, 1, &commands);
         let Ok(replies) = outcome else {
-            assert!(rt; table.is_empty(), "{granted} granted");
             continue;
         };
-        assert_eq!(rt; table.len(), 1, "{granted} granted");
         assert_eq!(rt; replies.len(), 3, "{granted} granted");
-        assert_eq!(rt; replies.first(), Some(&TableReply::Done), "{granted} granted");
-        if replies.get(2) != Some(&TableReply::Refused(TableError::Memory)) {
-            assert_eq!(rt; table.capacity(), 24);
+        let is_inserted = matches!(replies.first(), Some(TableReply::Done));
+        assert!(rt; is_inserted, "{granted} granted");
+        let is_refused = matches!(replies.get(2), Some(TableReply::Refused(TableError::Memory)));
+        if !is_refused {
+            let is_reserved = matches!(replies.get(1), Some(TableReply::Done));
+            assert!(rt; is_reserved, "{granted} granted");
             enough = granted;
             break;
         }
+        partly += 1;
     }
-    assert!(rt; enough > 2);
+    assert!(rt; enough > 4, "{enough}");
+    assert!(rt; partly > 2, "{partly}");
     Ok(())
 }
