@@ -1,8 +1,11 @@
 pub mod Answering
 pub mod Calling
 pub mod Cutting
+pub mod Hashing
 pub mod Numbers
+pub mod Rehashing
 pub mod Served
 pub mod Spelling
+pub mod TableReplies
 pub mod Transferring
 pub mod WorkedTexts

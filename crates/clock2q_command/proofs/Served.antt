@@ -1,5 +1,5 @@
 -- A text sent on, and a text answered.
-use Rattle.std.proofs.Common.{◌≡◌, ℕ, ◌+◌, ◌<◌, Bool, false, true, List, [], ◌++◌, length, take, Option, Some, None, Result, Ok, Err, ap, ◌∙◌, arith, append-nil, nat_eq, ⊎_elim}
+use Rattle.std.proofs.Common.{◌≡◌, ℕ, ◌+◌, ◌<◌, Bool, false, true, List, [], ◌++◌, length, take, Option, Some, None, Result, Ok, Err, inr, ap, ◌∙◌, arith, append-nil, nat_eq, ⊎_elim}
 use Rattle.std.specs.Result.{IfErr}
 use Rattle.std.specs.Io.KnownBytes.{Appends, Keeps}
 use Rattle.std.proofs.lemmas.Bool.{cases_lt}
@@ -50,18 +50,18 @@ TookSome-unflushed old mid new held holds then text took flushed kept =
 pub Answers-replied : {X : Type 0} (old new : Passed) (left remain : Option (List ℕ)) (input : List ℕ) (script : Script) (bytes : X → List ℕ) (r : Result X ServeError) → IsReadWhole old new left remain input → script_of input ≡ Ok script → RepliesTo script bytes r → Answers old new left remain bytes r
 Answers-replied old new left remain input script bytes (Ok text) whole is h = record { input = input; script = script; read = whole; spelled = is; served = h.0; told = h.1 }
 Answers-replied old new left remain input script bytes (Err (BadLine line)) whole is h = absurd h
-Answers-replied old new left remain input script bytes (Err Memory) whole is h = record { input = input; stopped = true; given = whole.given }
+Answers-replied old new left remain input script bytes (Err Memory) whole is h = inr (record { input = input; read = whole; good = λ line e. cc })
 Answers-replied old new left remain input script bytes (Err Capacity) whole is h = record { input = input; script = script; read = whole; spelled = is; large = h }
 Answers-replied old new left remain input script bytes (Err Read) whole is h = absurd h
 Answers-replied old new left remain input script bytes (Err Write) whole is h = absurd h
 
 -- without a text it is refused
 pub IsRefused-early : (given gives : Passed) (left remain : Option (List ℕ)) (took takes : Passed) (held holds : Option (List ℕ)) (refusal : ServeError) → HasNoText given gives left remain refusal → IsRefused given gives left remain took takes held holds refusal
+IsRefused-early given gives left remain took takes held holds Write h = absurd h
 IsRefused-early given gives left remain took takes held holds (BadLine line) h = h
 IsRefused-early given gives left remain took takes held holds Memory h = h
 IsRefused-early given gives left remain took takes held holds Capacity h = h
 IsRefused-early given gives left remain took takes held holds Read h = h
-IsRefused-early given gives left remain took takes held holds Write h = absurd h
 
 -- with a text it is refused where sending fails
 pub IsRefused-late : (given gives : Passed) (left remain : Option (List ℕ)) (took takes : Passed) (held holds : Option (List ℕ)) (text : List ℕ) (r : Result (Unit {0}) ServeError) → IsAnswered given gives left remain text → Sends took takes held holds text r → IfErr r (IsRefused given gives left remain took takes held holds)

@@ -1,5 +1,5 @@
 -- The calls that lines spell, as a loop over the lines gathers them.
-use Rattle.std.proofs.Common.{◌≡◌, ℕ, List, [], ◌∷◌, ◌++◌, Option, Some, None, Result, Ok, Err, refl, sym, ap, ◌∙◌, subst, append_assoc}
+use Rattle.std.proofs.Common.{◌≡◌, ℕ, ◌+◌, ◌<◌, ◌≤◌, List, [], ◌∷◌, ◌++◌, Option, Some, None, Result, Ok, Err, refl, sym, ap, ◌∙◌, subst, append_assoc, arith}
 use Rattle.std.specs.Borrow.{Bor}
 use Rattle.std.specs.NonZero.{non_zero_usize_get}
 use Rattle.std.specs.Option.{ok_or, option_map}
@@ -7,7 +7,7 @@ use Rattle.std.specs.declared.num.NonZeroUsize.{NonZeroUsize}
 use Rattle.clock2q_cache.specs.Calls.{Call}
 use Rattle.clock2q_command.specs.Cut.{first_and_others}
 use Rattle.clock2q_command.specs.Parsing.{Refuses}
-use Rattle.clock2q_command.specs.Text.{lines_of, words_of, capacity_in, with_call, calls_from, script_in, script_of, script_then, script_with}
+use Rattle.clock2q_command.specs.Text.{lines_of, words_of, capacity_in, call_in, call_then, with_call, calls_from, script_in, script_of, script_then, script_with}
 use Rattle.clock2q_command.specs.declared.serve_error.ServeError.{ServeError}
 use Rattle.clock2q_command.specs.declared.serve_error.ServeError.TheVariants.{BadLine, Memory, Capacity, Read, Write}
 
@@ -48,10 +48,29 @@ pub script_of-good : (text first : List ℕ) (lines : List (List ℕ)) (capacity
 unfolding script_of
 script_of-good text first lines capacity e some = ap script_in e ∙ ap (λ c. script_then c (calls_from 2 lines)) some
 
+-- the first bad line isn't above the first line
+calls_from-below : (n : ℕ) (lines : List (List ℕ)) (bad : ℕ) → calls_from n lines ≡ Err bad → n ≤ bad
+calls_from-below n [] bad e = cc
+calls_from-below n (line ∷ lines) bad e = below (call_in (words_of line)) (calls_from (n + 1) lines) (λ h. calls_from-below (n + 1) lines bad h) e where
+  below : (o : Option (Call ℕ ℕ)) (read : Result (List (Call ℕ ℕ)) ℕ) → (read ≡ Err bad → n + 1 ≤ bad) → call_then n o read ≡ Err bad → n ≤ bad
+  below None read h e = let same : n ≡ bad = cc in omega (arith, same)
+  below (Some call) (Ok calls) h e = cc
+  below (Some call) (Err line) h e = omega (arith, h e)
+
+-- nor is it the first line where that spells a call
+pub gathered-later : (front : List (Call ℕ ℕ)) (n : ℕ) (lines : List (List ℕ)) (line : List ℕ) (others : List (List ℕ)) (call : Call ℕ ℕ) (bad : ℕ) → lines ≡ line ∷ others → call_in (words_of line) ≡ Some call → gathered front (calls_from n lines) ≡ Err bad → n < bad
+gathered-later front n lines line others call bad e some h =
+    later (calls_from (n + 1) others) (λ b. calls_from-below (n + 1) others bad b)
+    (subst (λ o. gathered front (call_then n o (calls_from (n + 1) others)) ≡ Err bad) some (subst (λ ls. gathered front (calls_from n ls) ≡ Err bad) e h)) where
+      later : (read : Result (List (Call ℕ ℕ)) ℕ) → (read ≡ Err bad → n + 1 ≤ bad) → gathered front (with_call call read) ≡ Err bad → n < bad
+      later (Ok calls) b h = cc
+      later (Err line) b h = omega (arith, b h)
+
 -- a refusal of the calls is one of the script
 pub Refuses-script : (capacity : ℕ) (read : Result (List (Call ℕ ℕ)) ℕ) (refusal : ServeError) → Refuses refusal read → Refuses refusal (script_with capacity read)
 Refuses-script capacity read (BadLine line) h = ap (script_with capacity) h
-Refuses-script capacity read Memory h = h
+Refuses-script capacity (Ok calls) Memory h = λ line e. cc
+Refuses-script capacity (Err bad) Memory h = λ line e. let same : bad ≡ line = cc in h line (ap Err same)
 Refuses-script capacity read Capacity h = h
 Refuses-script capacity read Read h = h
 Refuses-script capacity read Write h = h

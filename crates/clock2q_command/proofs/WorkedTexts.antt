@@ -1,7 +1,8 @@
 -- The command text, computed on small texts.
-use Rattle.std.specs.Prelude.{◌≡◌, [], ◌∷◌, Some, None, Ok, Err, codes, true, false, refl}
+use Rattle.std.specs.Prelude.{◌≡◌, ℕ, Bool, List, [], ◌∷◌, ◌++◌, map, replicate, Option, is_none, Some, None, Ok, Err, codes, true, false, refl}
+use Rattle.std.specs.List.{list_all, list_any}
 use Rattle.std.specs.Fmt.{digits}
-use Rattle.clock2q_cache.specs.Calls.{Put, Get, Len, Retain, Prefill, Try, Value, Slot, Stored, Tried, Flag, Number, Done}
+use Rattle.clock2q_cache.specs.Calls.{Call, Put, Get, Len, Retain, Prefill, Try, Value, Slot, Stored, Tried, Flag, Number, Done}
 use Rattle.clock2q_command.specs.Text.{script_of, lines_of, words_of, number_of, call_in, capacity_in, call_named, output_of, answer_lines}
 
 -- the lines of a text: the last may lack its end, and an empty one is a line
@@ -30,6 +31,10 @@ leading_zeros = refl
 largest : number_of (codes "18446744073709551615") ≡ Some 18446744073709551615
 unfolding number_of
 largest = refl
+
+zeros_and_seven : number_of (codes "000000000000000000007") ≡ Some 7
+unfolding number_of
+zeros_and_seven = refl
 
 too_large : number_of (codes "18446744073709551616") ≡ None
 unfolding number_of
@@ -71,6 +76,58 @@ first_of_two = refl
 carriage_return : script_of (codes "new 2\nlen\r\n") ≡ Err 2
 unfolding script_of lines_of words_of number_of call_in capacity_in
 carriage_return = refl
+
+-- the call that a line spells, whichever commands the program has
+abbrev first_named : List (List ℕ) → Option (Call ℕ ℕ)
+first_named [] = None
+first_named (name ∷ arguments) = call_named name arguments
+
+abbrev is_bad : List ℕ → Bool
+is_bad line = is_none (first_named (words_of line))
+
+-- one line of each command
+good_lines : list_any is_bad (codes "put 1 2" ∷ codes "get 1" ∷ codes "peek 1" ∷ codes "contains 1" ∷ codes "get_at 0 1" ∷ codes "set 1 2" ∷ codes "with 1 2" ∷ codes "try 1 2" ∷ codes "try 1 fail" ∷ codes "slot 1 2" ∷ codes "remove 1" ∷ codes "retain 01" ∷ codes "clear" ∷ codes "prefill 1 2" ∷ codes "len" ∷ codes "is_empty" ∷ codes "capacity" ∷ []) ≡ false
+unfolding words_of number_of
+good_lines = refl
+
+-- a space first, last or doubled, and a line of nothing or of a space
+bad_spaces : list_all is_bad (codes " len" ∷ codes "len " ∷ codes "get  1" ∷ codes "get 1 " ∷ codes " get 1" ∷ codes "prefill 1  2" ∷ codes "get " ∷ codes "retain " ∷ codes "prefill " ∷ codes "put 1 " ∷ [] ∷ codes " " ∷ []) ≡ true
+unfolding words_of number_of
+bad_spaces = refl
+
+-- a carriage return, a tab, the bytes 0 and 255
+bad_bytes : list_all is_bad (codes "len\r" ∷ (codes "get" ++ 9 ∷ codes "1") ∷ (codes "get 1" ++ 9 ∷ []) ∷ (codes "len" ++ 0 ∷ []) ∷ (0 ∷ codes "len") ∷ (codes "get 1" ++ 0 ∷ []) ∷ (255 ∷ []) ∷ (codes "get " ++ 255 ∷ []) ∷ []) ≡ true
+unfolding words_of number_of
+bad_bytes = refl
+
+-- other names, and `new` on a line of its own
+bad_names : list_all is_bad (codes "LEN" ∷ codes "Get 1" ∷ codes "le" ∷ codes "lens" ∷ codes "getat 0 1" ∷ codes "new 2" ∷ []) ≡ true
+unfolding words_of number_of
+bad_names = refl
+
+-- signs, numbers that are too large, and words that aren't read
+bad_words : list_all is_bad (codes "get +1" ∷ codes "get -1" ∷ codes "get 1.0" ∷ codes "get x" ∷ codes "get 18446744073709551616" ∷ codes "get 100000000000000000000" ∷ codes "retain 012" ∷ codes "retain 0 1" ∷ codes "try 1 FAIL" ∷ codes "try fail 1" ∷ codes "prefill 1 x" ∷ []) ≡ true
+unfolding words_of number_of
+bad_words = refl
+
+-- words too few or too many
+bad_counts : list_all is_bad (codes "put 1" ∷ codes "put 1 2 3" ∷ codes "get" ∷ codes "get 1 2" ∷ codes "get_at 0" ∷ codes "get_at 0 1 2" ∷ codes "try 1" ∷ codes "retain" ∷ codes "prefill" ∷ codes "len 1" ∷ codes "clear 1" ∷ []) ≡ true
+unfolding words_of number_of
+bad_counts = refl
+
+-- such lines in a script, where an empty line is one
+bad_second : map (λ line. script_of (codes "new 2\n" ++ line)) (codes "retain 012" ∷ codes "put 1 2 3\n" ∷ codes "\n" ∷ codes "\nlen" ∷ codes "len \nlen\n" ∷ codes "new 2" ∷ []) ≡ replicate 6 (Err 2)
+unfolding script_of lines_of words_of number_of call_in capacity_in
+bad_second = refl
+
+-- first lines
+first_lines : map script_of (codes "new 2" ∷ codes "new 00000000000000000002" ∷ codes "new 18446744073709551615\n" ∷ []) ≡ map (λ capacity. Ok (record { capacity = capacity; calls = [] })) (2 ∷ 2 ∷ 18446744073709551615 ∷ [])
+unfolding script_of lines_of words_of number_of capacity_in
+first_lines = refl
+
+bad_first : map script_of (codes "len" ∷ codes "\n" ∷ codes " new 2" ∷ codes "new  2" ∷ codes "new 2 " ∷ codes "new 2\r" ∷ codes "new" ∷ codes "new " ∷ codes "new 2 1" ∷ codes "new 18446744073709551616" ∷ []) ≡ replicate 10 (Err 1)
+unfolding script_of lines_of words_of number_of capacity_in
+bad_first = refl
 
 -- commands that come with more than numbers
 bits : call_named (codes "retain") (codes "101" ∷ []) ≡ Some (Retain (true ∷ false ∷ true ∷ []))

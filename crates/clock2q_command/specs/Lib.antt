@@ -6,3 +6,4 @@ pub mod ServeError
 pub mod Parsing
 pub mod Transfer
 pub mod Serve
+pub mod TableCommands

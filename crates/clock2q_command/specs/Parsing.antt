@@ -1,5 +1,5 @@
 -- What the parser answers against what the text spells.
-use Rattle.std.specs.Prelude.{List, map, ◌≡◌, ℕ, Result, Ok, Err}
+use Rattle.std.specs.Prelude.{List, map, ◌≡◌, ◌<◌, ℕ, Result, Ok, Err}
 use Rattle.std.specs.NonZero.{non_zero_usize_get}
 use Rattle.std.specs.declared.num.NonZeroUsize.{NonZeroUsize}
 use Rattle.clock2q_command.specs.Commands.{call_of}
@@ -8,10 +8,10 @@ use Rattle.clock2q_command.specs.declared.commands.Command.{Command}
 use Rattle.clock2q_command.specs.declared.serve_error.ServeError.{ServeError}
 use Rattle.clock2q_command.specs.declared.serve_error.ServeError.TheVariants.{BadLine, Memory, Capacity, Read, Write}
 
--- the refusal is the text's first bad line, or memory ran out
+-- the refusal is the text's first bad line; or memory ran out, and no bad line comes before the third
 abbrev pub Refuses : {Y : Type 0} → ServeError → Result Y ℕ → Type 0
 Refuses (BadLine line) spelled = spelled ≡ Err line
-Refuses Memory spelled = Unit {0}
+Refuses Memory spelled = (line : ℕ) → spelled ≡ Err line → 2 < line
 Refuses Capacity spelled = ⊥
 Refuses Read spelled = ⊥
 Refuses Write spelled = ⊥

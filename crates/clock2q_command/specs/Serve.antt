@@ -1,5 +1,5 @@
 -- What `serve` reads, what it answers, and what it writes.
-use Rattle.std.specs.Prelude.{◌≡◌, ℕ, ◌^◌, ◌<◌, ◌≤◌, Bool, true, false, List, nat_eq, Option, Result, Ok, Err}
+use Rattle.std.specs.Prelude.{◌≡◌, ◌⊎◌, ℕ, ◌^◌, ◌<◌, ◌≤◌, true, false, List, nat_eq, Option, Result, Ok, Err}
 use Rattle.std.specs.Io.KnownBytes.{Appends, Consumes, IsAtEnd}
 use Rattle.clock2q_cache.specs.Shares.{usual_shares}
 use Rattle.clock2q_cache.specs.Machine.{empty}
@@ -19,12 +19,6 @@ pub record IsReadWhole (old new : Passed) (left remain : Option (List ℕ)) (inp
   pub given : new ≡ passed_by old input true false
   pub known : Consumes left remain input
   pub at_end : IsAtEnd remain
-
--- the source never failed
-pub record NeverFailed (old new : Passed) : Type 0 where
-  pub input : List ℕ
-  pub stopped : Bool
-  pub given : new ≡ passed_by old input stopped false
 
 module _ (old new : Passed) (left remain : Option (List ℕ)) where
   -- the whole input was read, it spells a script that a cache can serve, and this is the text of its answers
@@ -50,10 +44,16 @@ module _ (old new : Passed) (left remain : Option (List ℕ)) where
     pub spelled : script_of input ≡ Ok script
     pub large : 2 ^ 24 ≤ script.capacity
 
-  -- what holds of the source where there's no text
+  -- the whole input was read, and neither of its first two lines is a bad one
+  pub record HasGoodStart : Type 0 where
+    pub input : List ℕ
+    pub read : IsReadWhole old new left remain input
+    pub good : (line : ℕ) → script_of input ≡ Err line → 2 < line
+
+  -- what holds of the source where there's no text: memory runs out while it is read, or after a good start
   abbrev pub HasNoText : ServeError → Type 0
   HasNoText (BadLine line) = HasBadLine line
-  HasNoText Memory = NeverFailed old new
+  HasNoText Memory = GivesUp old new Memory ⊎ HasGoodStart
   HasNoText Capacity = IsTooLarge
   HasNoText Read = GivesUp old new Read
   HasNoText Write = ⊥
@@ -97,10 +97,7 @@ module _ (given gives : Passed) (left remain : Option (List ℕ)) (took takes : 
     pub answered : IsAnswered given gives left remain text
     pub written : TookSome took takes held holds text count
 
-  -- why no text was written, or not the whole of it
+  -- why there is no text, or why not the whole of it was written
   abbrev pub IsRefused : ServeError → Type 0
-  IsRefused (BadLine line) = HasBadLine given gives left remain line
-  IsRefused Memory = NeverFailed given gives
-  IsRefused Capacity = IsTooLarge given gives left remain
-  IsRefused Read = GivesUp given gives Read
   IsRefused Write = IsHalfWritten
+  IsRefused refusal = HasNoText given gives left remain refusal

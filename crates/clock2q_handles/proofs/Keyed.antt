@@ -21,7 +21,7 @@ until_some : (e m k : ℕ) → 0 < m → 0 < doubled_until e m k
 until_some e m zero some = some
 until_some e m (suc k) some = one_of m (doubled_until e (2 * m) k) (nat_le e (capacity m)) some (until_some e (2 * m) k (omega (arith, some)))
 
-fit_some : (e : ℕ) → 0 < fit e
+pub fit_some : (e : ℕ) → 0 < fit e
 unfolding fit
 fit_some e = until_some e 16 e (omega arith)
 

@@ -1,1 +1,2 @@
 mod Asked
+pub mod Made

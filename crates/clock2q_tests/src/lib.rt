@@ -13,4 +13,6 @@ mod refused_queues;
 mod refused_tables;
 pub mod refusing;
 #[cfg(test)]
+mod table_commands;
+#[cfg(test)]
 mod texts;

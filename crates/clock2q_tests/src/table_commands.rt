@@ -1,0 +1,103 @@
+//! Lists of commands to handle tables.
+ghost use Rattle.std.specs.Prelude.{◌≡◌, ◌+◌, ◌*◌, ◌%◌};
+
+use crate::refusing::Refusing;
+use clock2q::command::{TableCommand, TableReply, run_table};
+use clock2q::handles::{Table, TableError};
+use std::alloc::{Allocator, Global};
+use std::test::Fail;
+
+// More requests than any of the runs makes.
+const MANY: u64 = 100;
+
+const EVEN: u64 = 0xAB00_0000_0000_000F;
+
+const ODD: u64 = 0xAB00_0000_0000_001F;
+
+// A hash of a handle: one for the even handles, and one for the odd, which agree in a table of 16
+// slots.
+fn hash_of(handle: u64) -> u64
+    ensures { result ≡ EVEN + handle % 2 * 16 }
+{
+    EVEN + handle % 2 * 16
+}
+
+// What a new table replies to commands.
+fn replies_of<A: Allocator + Copy>(
+    alloc: A,
+    entries: usize,
+    commands: &[TableCommand<u64, Vec<u64, A>>],
+) -> Result<Vec<TableReply<u64, Vec<u64, A>>, A>, TableError> {
+    let mut table = Table::with_capacity(alloc, entries)?;
+    run_table(alloc, &mut table, hash_of, commands)
+}
+
+#[test]
+fn worked_run(rt: HostRuntime) -> Result<(), Fail> {
+    let alloc = rt.alloc();
+    let mut commands: Vec<TableCommand<u64>> = Vec::new(alloc);
+    let mut wanted: Vec<TableReply<u64>> = Vec::new(alloc);
+    for handle in 0..12u64 {
+        commands.push(TableCommand::Insert(handle))?;
+        wanted.push(TableReply::Done)?;
+    }
+    for (command, reply) in [
+        (TableCommand::Get(EVEN), TableReply::Handles(vec![in alloc; 0, 1, 2, 3, 4, 5, 6, 7, 8, 9, 10, 11]?)),
+        (TableCommand::Reserve(1), TableReply::Done),
+        (TableCommand::Get(EVEN), TableReply::Handles(vec![in alloc; 2, 4, 6, 8, 10, 0]?)),
+        (TableCommand::Get(ODD), TableReply::Handles(vec![in alloc; 1, 3, 5, 7, 9, 11]?)),
+        (TableCommand::Remove(ODD, 3), TableReply::Removed(true)),
+        (TableCommand::Get(ODD), TableReply::Handles(vec![in alloc; 1, 5, 7, 9, 11]?)),
+        (TableCommand::Find(12, vec![in alloc; 1]?), TableReply::Found(12, true)),
+        (TableCommand::Find(12, vec![in alloc; 0]?), TableReply::Found(0, false)),
+        (TableCommand::Reserve(usize::MAX), TableReply::Refused(TableError::Size)),
+        (TableCommand::Get(EVEN), TableReply::Handles(vec![in alloc; 2, 4, 6, 8, 10, 0, 12]?)),
+    ] {
+        commands.push(command)?;
+        wanted.push(reply)?;
+    }
+    assert_eq!(rt; replies_of(alloc, 12, &commands)?, wanted);
+    Ok(())
+}
+
+#[test]
+fn nothing_to_run(rt: HostRuntime) -> Result<(), Fail> {
+    let replies = replies_of(rt.alloc(), 0, &[])?;
+    assert!(rt; replies.is_empty());
+    Ok(())
+}
+
+// Each request for memory is refused in turn, with all later ones: those of the table's
+// construction, the list of replies, the larger table, and the list of a look-up.
+#[test]
+fn requests_refused(rt: HostRuntime) -> Result<(), Fail> {
+    let alloc = Refusing::new(rt.alloc());
+    let commands: [TableCommand<u64, Vec<u64, &Refusing<Global>>>; 3] = [
+        TableCommand::Insert(0),
+        TableCommand::Reserve(20),
+        TableCommand::Get(EVEN),
+    ];
+    let mut enough = 0;
+    let mut partly = 0;
+    for granted in 0..MANY {
+        alloc.refuse_after(granted);
+        let outcome = replies_of(&alloc, 1, &commands);
+        let Ok(replies) = outcome else {
+            continue;
+        };
+        assert_eq!(rt; replies.len(), 3, "{granted} granted");
+        let is_inserted = matches!(replies.first(), Some(TableReply::Done));
+        assert!(rt; is_inserted, "{granted} granted");
+        let is_refused = matches!(replies.get(2), Some(TableReply::Refused(TableError::Memory)));
+        if !is_refused {
+            let is_reserved = matches!(replies.get(1), Some(TableReply::Done));
+            assert!(rt; is_reserved, "{granted} granted");
+            enough = granted;
+            break;
+        }
+        partly += 1;
+    }
+    assert!(rt; enough > 4, "{enough}");
+    assert!(rt; partly > 2, "{partly}");
+    Ok(())
+}
