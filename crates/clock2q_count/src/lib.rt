@@ -25,7 +25,7 @@ impl Model for Count {
 }
 
 impl Count {
-    /// Nothing was done yet.
+    /// Makes a count of nothing.
     pub fn new() -> Count
         ensures zero { result.total ≡ 0 }
     {
@@ -34,14 +34,14 @@ impl Count {
         }
     }
 
-    /// It was done once more.
+    /// Counts once more.
     pub fn tick(&mut self)
         ensures ticked { self.new.total ≡ self.old.total + 1 }
     {
         self.told.set(&());
     }
 
-    /// It was done as often as a bound says that the proof of the call picks.
+    /// Raises the count to a bound that the proof of the call picks, from what `seen` refers to.
     pub fn raise<X>(&mut self, seen: &X)
         ghost bound: { ℕ }
         requires reached { self.old.total ≤ bound }

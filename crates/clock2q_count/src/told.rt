@@ -5,7 +5,7 @@ use std::marker::{Model, PhantomData};
 
 /// A value of a `T` that contracts alone can see. It takes no bytes, and no code can read it.
 ///
-/// Each call says by its proof which value it means: a pick, of what the call's arguments refer to.
+/// Which value it is, the proof of each call picks, from what the call's arguments refer to.
 #[derive(Drop)]
 pub struct Told<T> {
     of: PhantomData<T>,
@@ -17,7 +17,7 @@ impl<T> Model for Told<T> {
 }
 
 impl<T> Told<T> {
-    /// Tells the picked value.
+    /// Makes one that tells the picked value.
     pub fn new<X>(_seen: &X) -> Told<T>
         ghost picked: { T }
         ensures value { result.value ≡ picked }
@@ -25,7 +25,7 @@ impl<T> Told<T> {
         Told { of: PhantomData }
     }
 
-    /// Tells the picked value from now on.
+    /// Changes what it tells to the picked value.
     pub fn set<X>(&mut self, seen: &X)
         ghost picked: { T }
         ensures value { self.new.value ≡ picked }

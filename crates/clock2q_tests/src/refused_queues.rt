@@ -24,15 +24,15 @@ fn queues(rt: HostRuntime) -> Result<(), Fail> {
             enough = granted;
             break;
         }
-        assert_eq!(rt; alloc.given_back(), alloc.taken(), "{granted} granted");
+        assert_eq!(rt; alloc.held(), 0, "{granted} granted");
     }
     assert_eq!(rt; enough, 3);
     alloc.grant();
     let made = Queues::new(&alloc, 12, 2)?;
     assert_eq!(rt; made.small_len(), 0);
-    assert_ne!(rt; alloc.given_back(), alloc.taken());
+    assert_ne!(rt; alloc.held(), 0);
     drop(made);
-    assert_eq!(rt; alloc.given_back(), alloc.taken());
+    assert_eq!(rt; alloc.held(), 0);
     Ok(())
 }
 
@@ -48,15 +48,15 @@ fn histories(rt: HostRuntime) -> Result<(), Fail> {
             enough = granted;
             break;
         }
-        assert_eq!(rt; alloc.given_back(), alloc.taken(), "{granted} granted");
+        assert_eq!(rt; alloc.held(), 0, "{granted} granted");
     }
     assert_eq!(rt; enough, 4);
     alloc.grant();
     let made: History<u64, &Refusing<Global>> = History::new(&alloc, 7)?;
     assert_eq!(rt; made.len(), 0);
-    assert_ne!(rt; alloc.given_back(), alloc.taken());
+    assert_ne!(rt; alloc.held(), 0);
     drop(made);
-    assert_eq!(rt; alloc.given_back(), alloc.taken());
+    assert_eq!(rt; alloc.held(), 0);
     Ok(())
 }
 
@@ -87,13 +87,14 @@ fn queues_ask_for_nothing_more(rt: HostRuntime) -> Result<(), Fail> {
     let alloc = Refusing::new(rt.alloc());
     let mut queues = Queues::new(&alloc, 4, 2)?;
     let asked = alloc.requests();
+    let held = alloc.held();
     alloc.refuse_after(0);
     pass_through(&mut queues);
     assert_eq!(rt; queues.tail(), Some(3));
     assert_eq!(rt; queues.small_len(), 1);
     assert_eq!(rt; queues.main_len(), 0);
     assert_eq!(rt; alloc.requests(), asked);
-    assert_eq!(rt; alloc.given_back(), 0);
+    assert_eq!(rt; alloc.held(), held);
     Ok(())
 }
 
@@ -122,6 +123,7 @@ fn histories_ask_for_nothing_more(rt: HostRuntime) -> Result<(), Fail> {
     let alloc = Refusing::new(rt.alloc());
     let mut history: History<u64, &Refusing<Global>> = History::new(&alloc, 7)?;
     let asked = alloc.requests();
+    let held = alloc.held();
     alloc.refuse_after(0);
     for key in 0..20 {
         assert!(rt; !renew(&mut history, key), "{key}");
@@ -135,6 +137,6 @@ fn histories_ask_for_nothing_more(rt: HostRuntime) -> Result<(), Fail> {
     assert!(rt; !renew(&mut history, 13));
     assert_eq!(rt; history.len(), 1);
     assert_eq!(rt; alloc.requests(), asked);
-    assert_eq!(rt; alloc.given_back(), 0);
+    assert_eq!(rt; alloc.held(), held);
     Ok(())
 }

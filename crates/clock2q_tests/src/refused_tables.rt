@@ -26,7 +26,7 @@ fn constructions(rt: HostRuntime) -> Result<(), Fail> {
             break;
         };
         assert_eq!(rt; error, TableError::Memory, "{granted} granted");
-        assert_eq!(rt; alloc.given_back(), alloc.taken(), "{granted} granted");
+        assert_eq!(rt; alloc.held(), 0, "{granted} granted");
     }
     assert_ne!(rt; enough, 0);
     alloc.grant();
@@ -79,16 +79,11 @@ fn full<'a>(rt: &impl Abort, alloc: &'a Refusing<Global>) -> Result<RefusedTable
     Ok(table)
 }
 
-// The first handle of each hash.
-fn held(table: &RefusedTable) -> [Option<u64>; 14] {
-    [0, 1, 2, 3, 4, 5, 6, 7, 8, 9, 10, 11, 12, 13].map(|hash| table.get(hash).next())
-}
-
 #[test]
 fn insertions(rt: HostRuntime) -> Result<(), Fail> {
     let alloc = Refusing::new(rt.alloc());
     let mut table = full(&rt, &alloc)?;
-    let before = held(&table);
+    let held = alloc.held();
     let mut enough = 0;
     for granted in 0..MANY {
         let asked = Cell::new(0u64);
@@ -109,10 +104,9 @@ fn insertions(rt: HostRuntime) -> Result<(), Fail> {
             break;
         }
         assert_eq!(rt; outcome, Err(TableError::Memory), "{granted} granted");
+        assert_eq!(rt; alloc.held(), held, "{granted} granted");
         assert_eq!(rt; asked.get(), 0, "{granted} granted");
         assert_eq!(rt; table.len(), 12, "{granted} granted");
-        assert_eq!(rt; table.capacity(), 12, "{granted} granted");
-        assert_eq!(rt; held(&table), before, "{granted} granted");
     }
     assert_ne!(rt; enough, 0);
     assert_eq!(rt; table.len(), 13);
@@ -125,7 +119,7 @@ fn insertions(rt: HostRuntime) -> Result<(), Fail> {
 fn reservations(rt: HostRuntime) -> Result<(), Fail> {
     let alloc = Refusing::new(rt.alloc());
     let mut table = full(&rt, &alloc)?;
-    let before = held(&table);
+    let held = alloc.held();
     let mut enough = 0;
     for granted in 0..MANY {
         let asked = Cell::new(0u64);
@@ -140,15 +134,14 @@ fn reservations(rt: HostRuntime) -> Result<(), Fail> {
             },
         );
         assert_eq!(rt; table.len(), 12, "{granted} granted");
-        assert_eq!(rt; held(&table), before, "{granted} granted");
         if outcome.is_ok() {
             assert_eq!(rt; asked.get(), 12);
             enough = granted;
             break;
         }
         assert_eq!(rt; outcome, Err(TableError::Memory), "{granted} granted");
+        assert_eq!(rt; alloc.held(), held, "{granted} granted");
         assert_eq!(rt; asked.get(), 0, "{granted} granted");
-        assert_eq!(rt; table.capacity(), 12, "{granted} granted");
     }
     assert_ne!(rt; enough, 0);
     assert_eq!(rt; table.capacity(), 24);
@@ -159,7 +152,7 @@ fn reservations(rt: HostRuntime) -> Result<(), Fail> {
 fn finds(rt: HostRuntime) -> Result<(), Fail> {
     let alloc = Refusing::new(rt.alloc());
     let mut table = full(&rt, &alloc)?;
-    let before = held(&table);
+    let held = alloc.held();
     let mut enough = 0;
     for granted in 0..MANY {
         let offered = Cell::new(0u64);
@@ -180,7 +173,6 @@ fn finds(rt: HostRuntime) -> Result<(), Fail> {
             },
         );
         assert_eq!(rt; table.len(), 12, "{granted} granted");
-        assert_eq!(rt; held(&table), before, "{granted} granted");
         if outcome.is_ok() {
             assert_eq!(rt; outcome, Ok((5, false)));
             assert_eq!(rt; (offered.get(), asked.get()), (1, 12));
@@ -188,8 +180,8 @@ fn finds(rt: HostRuntime) -> Result<(), Fail> {
             break;
         }
         assert_eq!(rt; outcome, Err(TableError::Memory), "{granted} granted");
+        assert_eq!(rt; alloc.held(), held, "{granted} granted");
         assert_eq!(rt; (offered.get(), asked.get()), (0, 0), "{granted} granted");
-        assert_eq!(rt; table.capacity(), 12, "{granted} granted");
     }
     assert_ne!(rt; enough, 0);
     assert_eq!(rt; table.capacity(), 24);

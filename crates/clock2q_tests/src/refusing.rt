@@ -69,14 +69,10 @@ impl<A: Allocator> Refusing<A> {
         self.requests.made.get()
     }
 
-    /// How many bytes were taken.
-    pub fn taken(&self) -> u64 {
-        self.requests.taken.get()
-    }
-
-    /// How many bytes were given back.
-    pub fn given_back(&self) -> u64 {
-        self.requests.given_back.get()
+    /// How many bytes were taken and not given back.
+    pub fn held(&self) -> u64 {
+        let given_back = self.requests.given_back.get();
+        self.requests.taken.get().wrapping_sub(given_back)
     }
 
     /// Grants so many requests more, and refuses every later one.
