@@ -47,8 +47,7 @@ module _ {K V : Type 0} where
 
   remembered_placement : (is known : K → Bool) (key : K) (m : Machine K V) → count_by is (placement known key m).machine.history ≤ count_by is m.history + of_tail is (last_or None m.small)
   remembered_placement is known key m =
-      elim (goes_to_main (list_any known m.history) m) as (λ b. count_by is (if b then into_main key (forgotten known m) else into_small key (forgotten known m)).machine.history ≤ count_by is m.history + of_tail is (last_or None m.small))
-      [
+      elim (goes_to_main (list_any known m.history) m) as (λ b. count_by is (if b then into_main key (forgotten known m) else into_small key (forgotten known m)).machine.history ≤ count_by is m.history + of_tail is (last_or None m.small)) [
         | true ↦ omega (arith, remembered_main is key (forgotten known m) (length m.main == main_share m.shares) (from_victim m.main) (vacancy m), remembered_forgotten is known m)
         | false ↦ omega (arith, remembered_small is key (forgotten known m) (vacancy m) (last_or None m.small), remembered_forgotten is known m)
       ]

@@ -282,10 +282,13 @@ module _ {K V : Type 0} where
               standing = λ s. omega (arith, behind_weight victim others choice key victim.slot (λ e. one_if (e.slot == s)) (λ e bit. refl));
               counted = omega (arith, as_long);
             });
-            comes = (Some victim.key, λ w. (
+            comes = (
+              Some victim.key,
+              λ w. (
                 omega (arith, victim_weight victim others choice (λ e. w e.key e.slot) (λ e bit. refl)),
                 omega (arith, behind_weight victim others choice key victim.slot (λ e. w e.key e.slot) (λ e bit. refl)),
-              ));
+              ),
+            );
           }
 
       -- into Small, at a vacancy
@@ -332,10 +335,13 @@ module _ {K V : Type 0} where
             standing = λ s. omega (arith, front_weight (λ e. one_if (e.slot == s)) (λ e age. refl) tail.slot);
             counted = omega (arith, front_length tail.slot);
           });
-          comes = (Some tail.key, λ w. (
+          comes = (
+            Some tail.key,
+            λ w. (
               omega (arith, (weight-last (λ e. w e.key e.slot) None m.small tail some last).0),
               omega (arith, front_weight (λ e. w e.key e.slot) (λ e age. refl) tail.slot),
-            ));
+            ),
+          );
         }
 
         -- into Small, in place of Main's victim, while Small's tail goes on to Main
@@ -355,10 +361,13 @@ module _ {K V : Type 0} where
                 standing = λ s. omega (arith, front_weight (λ e. one_if (e.slot == s)) (λ e age. refl) victim.slot, behind_weight victim others choice tail.key tail.slot (λ e. one_if (e.slot == s)) (λ e bit. refl));
                 counted = omega (arith, front_length victim.slot, as_long);
               });
-              comes = (Some victim.key, λ w. (
+              comes = (
+                Some victim.key,
+                λ w. (
                   omega (arith, victim_weight victim others choice (λ e. w e.key e.slot) (λ e bit. refl)),
                   omega (arith, front_weight (λ e. w e.key e.slot) (λ e age. refl) victim.slot, behind_weight victim others choice tail.key tail.slot (λ e. w e.key e.slot) (λ e bit. refl)),
-                ));
+                ),
+              );
             }
 
       into_main_by : (b : Bool) → (length m.main == main_share m.shares) ≡ b → (es : List (MainEntry K)) → from_victim m.main ≡ es → (v : Option ℕ) → vacancy m ≡ v

@@ -120,6 +120,9 @@ key_back_from_the_history = refl
 evicted_key_in_the_history : let m = state 2 (Put 1 10 ∷ Put 2 20 ∷ Put 3 30 ∷ Remove 1 ∷ Put 1 11 ∷ []) in m.history ≡ 3 ∷ []
 evicted_key_in_the_history = refl
 
+misses_keep_the_history : (state 2 (Put 1 10 ∷ Put 2 20 ∷ Put 3 30 ∷ Get 1 ∷ GetAt 0 1 ∷ Set 1 5 ∷ Peek 1 ∷ Contains 1 ∷ Try 1 None ∷ [])).history ≡ 1 ∷ []
+misses_keep_the_history = refl
+
 newest_first_in_the_history : (state 20 (puts 1 24)).history ≡ 22 ∷ 21 ∷ 2 ∷ 1 ∷ []
 newest_first_in_the_history = refl
 
