@@ -10,23 +10,23 @@ use std::hash::{BuildHasher, Hash};
 /// A call of a [`Cache`](clock2q_cache::Cache) as a value, to be made by [`run`].
 #[derive(Clone, Debug, Drop, PartialEq)]
 pub enum Command<K, V> {
-    /// Stores a value for a key. Answered `Value`, with the value that it replaces.
+    /// Stores a value for a key. Replied to with `Value`, with the value that it replaces.
     Put(K, V),
-    /// Asks for a key's value, and records the hit. Answered `Value`.
+    /// Asks for a key's value, and records the hit. Replied to with `Value`.
     Get(K),
-    /// Asks for a key's value, and changes nothing. Answered `Value`.
+    /// Asks for a key's value, and changes nothing. Replied to with `Value`.
     Peek(K),
-    /// Asks whether a key is resident. Answered `Flag`.
+    /// Asks whether a key is resident. Replied to with `Flag`.
     Contains(K),
-    /// Asks how many keys are resident. Answered `Number`.
+    /// Asks how many keys are resident. Replied to with `Number`.
     Len,
-    /// Asks whether no key is. Answered `Flag`.
+    /// Asks whether no key is. Replied to with `Flag`.
     IsEmpty,
-    /// Asks how many keys the cache can hold. Answered `Number`.
+    /// Asks how many keys the cache can hold. Replied to with `Number`.
     Capacity,
 }
 
-/// What a [`Command`] is answered. The command tells which of these it is.
+/// The reply to a [`Command`], which tells which of these it is.
 #[derive(Clone, Copy, Debug, PartialEq)]
 pub enum Reply<V> {
     /// The value asked for, or the one replaced; `None` where the key wasn't resident.
@@ -37,9 +37,9 @@ pub enum Reply<V> {
     Number(usize),
 }
 
-/// Runs the commands in order, and answers one reply to each, in the same order.
+/// Runs the commands in order, and returns one reply to each, in the same order.
 ///
-/// The list of replies is reserved first. Where that is refused the answer is `Memory`, no
+/// The list of replies is reserved first. Where that is refused the result is `Memory`, no
 /// command has run and the cache is as it was. Nothing else is allocated. An empty list of
 /// commands has an empty list of replies.
 pub fn run<K, V, S, A>(

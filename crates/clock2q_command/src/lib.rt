@@ -1,8 +1,9 @@
-//! The calls of a cache as data: a runner of lists of them, and of the command text that spells
-//! them.
+//! The calls of a cache and of a handle table as data: runners of lists of them, and of the command
+//! text that spells those of a cache.
 //!
 //! [`run`] makes the calls that a list of [`Command`]s stands for, and [`serve`] those that a text
 //! spells, from a [`Source`] to a [`Sink`]. A [`Device`] is both, over any reader or writer.
+//! [`run_table`] makes the calls of a table that a list of [`TableCommand`]s stands for.
 #![tactic(auto)]
 
 mod commands;

@@ -8,7 +8,7 @@ use std::io::{Read, Write};
 use std::marker::Model;
 use thiserror::Error;
 
-/// A port answered an error. What it moved before stays moved.
+/// A call of a port returned an error. What was moved before stays moved.
 #[derive(Debug, Clone, Copy, PartialEq, Eq, Error)]
 #[error("device failed")]
 pub struct Failed;

@@ -12,7 +12,7 @@ use crate::transfer::{read_all, write_all};
 use clock2q_cache::{Cache, DefaultHashBuilder};
 use std::alloc::Allocator;
 
-// The text of what a new cache answers to a script.
+// Returns the text of a new cache's replies to a script.
 fn reply_to<'a, A: Allocator>(
     alloc: &'a A,
     script: Script<&'a A>,
@@ -26,7 +26,7 @@ fn reply_to<'a, A: Allocator>(
     Ok(reply_text(alloc, &replies)?)
 }
 
-// The text of what is answered to all that a source gives.
+// Returns the text of the replies to all that a source gives.
 fn answer<'a, R: Source, A: Allocator>(
     alloc: &'a A,
     reader: &mut R,
@@ -53,12 +53,13 @@ fn send<W: Sink>(writer: &mut W, text: &[u8]) -> Result<(), ServeError>
 
 /// Reads a command text to its end, runs its commands on a new cache, and writes the replies.
 ///
-/// The first of these that applies is answered: `Read` where a read fails; `BadLine` where a line
+/// The first of these that applies is returned: `Read` where a read fails; `BadLine` where a line
 /// is no command in its place; `Capacity` where the cache would be too large; `Write` where a write
-/// or the flush fails. `Memory` comes at whatever step a request for memory is refused. All lines
-/// are read before the cache is made, and the whole reply text is made before any of it is written,
-/// so a refusal other than `Write` has written nothing. `Write` may come after a beginning of the
-/// text. No failed read, write or flush is tried again.
+/// or the flush fails. `Memory` comes at whatever step a request for memory is refused: while the
+/// input is read, or where none of its first two lines is bad. All lines are read before the cache
+/// is made, and the whole reply text is made before any of it is written, so a refusal other than
+/// `Write` has written nothing. `Write` may come after a beginning of the text. No failed read,
+/// write or flush is tried again.
 ///
 /// The memory that it takes at a time is in proportion to the input, the capacity and the replies.
 /// Reading, parsing and writing take time in proportion to the text.
@@ -67,7 +68,7 @@ pub fn serve<R: Source, W: Sink, A: Allocator>(
     reader: &mut R,
     writer: &mut W,
 ) -> Result<(), ServeError>
-    // The whole input was read, it is a script, and exactly the text of its answers was written
+    // The whole input was read, it is a script, and exactly the text of its replies was written
     // and sent on.
     ensures ok { OnOk result (IsServed
         (R.given reader.old) (R.given reader.new) (R.remaining reader.old) (R.remaining reader.new)

@@ -10,20 +10,20 @@ use std::alloc::Allocator;
 /// list of handles.
 #[derive(Debug, Drop, PartialEq)]
 pub enum TableCommand<H, L = Vec<H>> {
-    /// Inserts a handle under its hash. Answered `Done`.
+    /// Inserts a handle under its hash. Replied to with `Done`.
     Insert(H),
-    /// Removes a handle under this hash. Answered `Removed`.
+    /// Removes the first handle under this hash that equals this one. Replied to with `Removed`.
     Remove(u64, H),
-    /// Finds the first handle under the hash of this one that stands in the list, or inserts this
-    /// one. Answered `Found`.
+    /// Finds the first handle under the hash of this one that is in the list, or inserts this one.
+    /// Replied to with `Found`.
     Find(H, L),
-    /// Makes room for so many entries more. Answered `Done`.
+    /// Makes room for so many entries more. Replied to with `Done`.
     Reserve(usize),
-    /// Looks a hash up. Answered `Handles`.
+    /// Looks a hash up. Replied to with `Handles`.
     Get(u64),
 }
 
-/// What a [`TableCommand`] is answered. `L` is a list of handles.
+/// The reply to a [`TableCommand`]. `L` is a list of handles.
 #[derive(Debug, Drop, PartialEq)]
 pub enum TableReply<H, L = Vec<H>> {
     /// The handle was inserted, or the room made.
@@ -38,15 +38,15 @@ pub enum TableReply<H, L = Vec<H>> {
     Refused(TableError),
 }
 
-/// Runs the commands in order, and answers one reply to each, in the same order.
+/// Runs the commands in order, and returns one reply to each, in the same order.
 ///
-/// A command that is refused is answered `Refused`, and the run goes on with the table as that
-/// refusal leaves it. The hash of a handle is what `hash_of` answers.
+/// The reply to a command that is refused is `Refused`, and the run goes on with the table as that
+/// refusal leaves it. The hash of a handle is what `hash_of` returns for it.
 ///
 /// # Errors
 ///
 /// `Memory` where the list of replies can't be reserved, which is done first: no command has run,
-/// and the table is unchanged.
+/// and the table is unchanged. A look-up whose list finds no memory is a command that is refused.
 pub fn run_table<H, A, F>(
     alloc: A,
     table: &mut Table<H, A>,
@@ -103,7 +103,7 @@ where
     }
 }
 
-/// An outcome as a reply.
+/// Returns the reply to a command that returns nothing else.
 fn told<H, L>(outcome: Result<(), TableError>) -> TableReply<H, L>
     ensures { result ≡ told outcome }
 {
@@ -113,7 +113,7 @@ fn told<H, L>(outcome: Result<(), TableError>) -> TableReply<H, L>
     }
 }
 
-/// What a look-up with insertion answers, as a reply.
+/// Returns the reply to a command that finds or inserts.
 fn told_found<H: Copy, L>(outcome: Result<(H, bool), TableError>) -> TableReply<H, L>
     ensures { result ≡ told_found outcome }
 {
@@ -138,7 +138,7 @@ where
     told(table.insert(hash_of(handle), handle, |held| hash_of(held)))
 }
 
-/// Finds the first candidate that is accepted, or inserts the handle.
+/// Finds the first candidate that is in the list, or inserts the handle.
 fn find<H, A, F>(
     table: &mut Table<H, A>,
     hash_of: &F,
@@ -164,7 +164,11 @@ where
 }
 
 /// Makes room for so many entries more.
-fn reserve<H, A, F>(table: &mut Table<H, A>, hash_of: &F, additional: usize) -> TableReply<H, Vec<H, A>>
+fn reserve<H, A, F>(
+    table: &mut Table<H, A>,
+    hash_of: &F,
+    additional: usize,
+) -> TableReply<H, Vec<H, A>>
 where
     H: Copy + Eq + Default,
     A: Allocator + Copy,
