@@ -33,7 +33,7 @@ module _ {K : Type 0} (eq : K → K → Bool) where
   abbrev pub forgotten : K → List (ℕ × K) → List (ℕ × K)
   forgotten key entries = filter (λ e. not (eq key e.1)) entries
 
--- what a history keeps: the keys are distinct, one stands at each place that was used, the index has those in order, and has twice the slots, and there is room for as many as there may be
+-- what a history keeps: the keys are distinct, one stands at each place that was used, the index has the places in order among at least twice as many slots as there may be keys, and there is room for as many
 pub record IsHistory {K V : Type 0} (eq : K → K → Bool) (index : List (List (ℕ × ℕ))) (order : PlaceOrder) (keys : KeyPlaces K V) : Type 0 where
   pub whole : IsWholeOrder order
   pub indexed : IsIndex index keys.entries order.places
