@@ -23,6 +23,7 @@ pub use Rattle.clock2q_handles.specs.Layout
 pub use Rattle.clock2q_handles.specs.TableStep
 pub use Rattle.clock2q_handles.specs.Slots
 pub use Rattle.clock2q_handles.specs.Table
+pub use Rattle.clock2q_handles.specs.Changes
 pub use Rattle.clock2q_handles.specs.Shifts
 pub use Rattle.clock2q_handles.specs.Found
 pub use Rattle.clock2q_handles.specs.Rehash
