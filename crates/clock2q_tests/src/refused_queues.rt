@@ -78,13 +78,12 @@ fn pass_through(queues: &mut Queues<&Requests>)
     queues.admit(0);
     queues.admit(1);
     queues.admit(2);
-    let _ = queues.hit(0);
+    queues.hit(0);
     let _ = queues.tail_is_promoted();
-    queues.leave_small(0);
+    let _ = queues.take_tail();
     queues.append(0);
-    let _ = queues.hit(0);
-    let _ = queues.select();
-    queues.leave_main(0);
+    queues.hit(0);
+    let _ = queues.take_victim();
     queues.leave(1);
     queues.clear();
     queues.admit(3);
