@@ -1,4 +1,4 @@
-use Rattle.std.proofs.Common.{◌≡◌, ◌∙◌, ◌+◌, ◌-◌, ◌*◌, ◌<◌, ◌≤◌, ◌^◌, take, get_or, Some, sym, ap, subst, arith, rules, true, false}
+use Rattle.std.proofs.Common.{◌≡◌, ◌∙◌, take, get_or, Some, sym, ap, subst, arith, rules, true}
 use Rattle.std.specs.Char.{is_ascii_digit}
 use Rattle.std.specs.Str.{all_ascii_digits}
 use Rattle.std.specs.Str.Parse.{digits_value}
