@@ -1,17 +1,18 @@
 -- Keys in a list, whose places a table holds: each under its key, once.
-use Rattle.std.proofs.Common.{◌≡◌, ◌≢◌, ℕ, suc, ◌+◌, ◌<◌, ◌≤◌, ◌==◌, inl, inr, refl, ap, sym, ◌∙◌, subst, arith, Bool, true, false, eqb, List, [], ◌∷◌, ◌++◌, length, length-append, get_or, Option, Some, None, Result, Ok, Err, slice_get, MatchResult}
+use Rattle.std.proofs.Common.{◌≡◌, ◌≢◌, ℕ, suc, ◌<◌, inl, inr, refl, ap, sym, ◌∙◌, subst, arith, Bool, true, false, eqb, List, [], ◌∷◌, ◌++◌, length, length-append, get_or, Option, Some, None, Result, Ok, Err, slice_get}
 use Rattle.std.specs.Prelude.{◌↔◌}
 use Rattle.std.proofs.lemmas.Bool.{cases_lt, eqb-true, eqb-false}
 use Rattle.std.proofs.lemmas.List.{get_or_append_left}
 use Rattle.std.proofs.Math.Seq.{get_or-append_seam}
 use Rattle.clock2q_handles.specs.declared.error.TableError.{TableError}
-use Rattle.clock2q_handles.specs.Homes.{top, capacity, total, home, candidates, inserted}
+use Rattle.clock2q_handles.specs.declared.error.TableError.TheVariants.{Memory, Size, RunTooLong}
+use Rattle.clock2q_handles.specs.Homes.{top, home, candidates, inserted}
 use Rattle.clock2q_handles.specs.TableStep.{IsHashOf, grown}
 use Rattle.clock2q_handles.specs.Rehash.{IsHeld}
 use Rattle.clock2q_handles.specs.Offers.{Settles}
 use Rattle.clock2q_handles.proofs.Hashes.{hashes-put_last}
 use Rattle.clock2q_handles.proofs.Keyed.{keyed_grown}
-use Rattle.clock2q_handles.proofs.Held.{IsEntry, entry_held, held_entry, entry_kept, entry_new, entry_from, grown_kept, grown_from, candidate_held, held_candidate}
+use Rattle.clock2q_handles.proofs.Held.{entry_held, held_entry, entry_kept, entry_new, entry_from, grown_kept, grown_from, candidate_held, held_candidate}
 use Rattle.clock2q_handles.proofs.Offering.{IsFound}
 
 abbrev pub key_at : List ℕ → ℕ → ℕ
@@ -103,6 +104,10 @@ module _ (keys : List ℕ) (homes : List (List (ℕ × ℕ))) (key : ℕ) (is : 
       let there : slice_get (candidates grew key) r.0 ≡ Some at = subst (λ x. slice_get (candidates grew x) r.0 ≡ Some at) same r.1 in
       eqb-false (key_at keys at) key (none r.0 at there) same
 
+  -- the places that are offered are those of keys
+  pub candidate_within : (i at : ℕ) → slice_get (candidates grew key) i ≡ Some at → at < length keys
+  candidate_within i at there = (is.1 at).0 (grown_from (key_at keys) homes at (candidate_held grew key i at there))
+
   pub record IsNumbered (result : Result (ℕ × Bool) TableError) (new : List (List (ℕ × ℕ))) : Type 0 where
     pub old : (number : ℕ) → result ≡ Ok (number, false) → IsInterned keys new × (number < length keys) × (key_at keys number ≡ key)
     pub next : (number : ℕ) → result ≡ Ok (number, true) → IsInterned (keys ++ key ∷ []) new × (number ≡ length keys) × ((at : ℕ) → at < length keys → key_at keys at ≢ key)
@@ -140,3 +145,21 @@ module _ (keys : List ℕ) (homes : List (List (ℕ × ℕ))) (key : ℕ) (is : 
     next = λ number q. absurd (cc);
     refused = λ d q. subst (IsInterned keys) (sym s.1) (interned_grown keys homes is);
   }
+
+  module _ (result : Result (ℕ × Bool) TableError) (new : List (List (ℕ × ℕ))) (told : result ≢ Err Memory → IsNumbered result new) where
+    done : (r : ℕ × Bool) → result ≡ Ok r → IsNumbered result new
+    done r q = told (λ e. let both = sym q ∙ e in absurd (cc))
+
+    -- the key had a number
+    pub old_number : (number : ℕ) (b : Bool) → result ≡ Ok (number, b) → b ≡ false → IsInterned keys new × (number < length keys) × (key_at keys number ≡ key)
+    old_number number b q is_old = (done (number, b) q).old number (q ∙ ap (λ x. Ok (number, x)) is_old)
+
+    -- or got the next one
+    pub next_number : (number : ℕ) (b : Bool) → result ≡ Ok (number, b) → b ≡ true → IsInterned (keys ++ key ∷ []) new × (number ≡ length keys) × ((at : ℕ) → at < length keys → key_at keys at ≢ key)
+    next_number number b q is_new = (done (number, b) q).next number (q ∙ ap (λ x. Ok (number, x)) is_new)
+
+    -- or was refused one
+    pub no_number : (result ≡ Err Memory → new ≡ homes) → (e : TableError) → result ≡ Err e → IsInterned keys new
+    no_number memory Memory q = subst (IsInterned keys) (sym (memory q)) is
+    no_number memory Size q = (told (λ m. let both = sym q ∙ m in absurd (cc))).refused Size q
+    no_number memory RunTooLong q = (told (λ m. let both = sym q ∙ m in absurd (cc))).refused RunTooLong q

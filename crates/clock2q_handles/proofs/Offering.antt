@@ -1,8 +1,8 @@
 -- Closures that may be offered the candidates of a hash, and what one that has no state of its own finds among them.
-use Rattle.std.proofs.Common.{◌≡◌, ℕ, zero, suc, ◌≤◌, ◌⊎◌, inl, inr, refl, sym, ap, ◌∙◌, subst, Bool, true, false, List, [], ◌∷◌, length, slice_get, Option, Some, None}
+use Rattle.std.proofs.Common.{◌≡◌, ℕ, zero, suc, refl, sym, subst, Bool, true, false, List, [], ◌∷◌, slice_get, Option, Some, None}
 use Rattle.std.specs.Fn.{Called, Takes, Mut}
 use denote.Param.Always.{always_mut, mut_next}
-use Rattle.clock2q_handles.specs.Homes.{capacity, total, candidates}
+use Rattle.clock2q_handles.specs.Homes.{candidates}
 use Rattle.clock2q_handles.specs.Offers.{Offers, TakesInTurn, MayBeOffered}
 use Rattle.clock2q_handles.specs.Rehash.{IsHeld, AfterGrowth}
 use Rattle.clock2q_handles.proofs.Held.{candidate_held, grown_from}
@@ -42,14 +42,14 @@ module _ {M H : Type 0} (m : Mut M (H × Unit {0}) Bool) where
     pub offered_held_by : (f : M) → I f → AfterGrowth g rehash homes (λ hs. MayBeOffered m f (candidates hs x))
     offered_held_by f i = offered_held g rehash homes x f (record { at = λ hs all. offered_by I (IsHeld homes) takes keeps hs f i all })
 
-  -- a closure that answers as a test does finds what the test does
-  module _ (I : M → Type 0) (test : H → Bool) (says : (f : M) (h : H) (b : Bool) (next : M) → I f → Called m f (h, tt) b next → (b ≡ test h) × I next) where
-    pub offers_find : (hs : List H) (f : M) (found : Option H) (last : M) → I f → Offers m f hs found last → IsFound test hs found
-    offers_find [] f found last i o = subst (IsFound test []) (sym o.0) (λ k h is. absurd (cc))
-    offers_find (h ∷ hs) f found last i (true, next, called, rest) = subst (IsFound test (h ∷ hs)) (sym rest.0) (sym (says f h true next i called).0, 0, refl)
-    offers_find (h ∷ hs) f found last i (false, next, called, rest) =
-        let s = says f h false next i called in
-        later found (sym s.0) (offers_find hs next found last s.1 rest)
+  -- a closure that answers as a test does on what it is offered finds what the test does
+  module _ (I : M → Type 0) (allowed : H → Type 0) (test : H → Bool) (says : (f : M) (h : H) (b : Bool) (next : M) → I f → allowed h → Called m f (h, tt) b next → (b ≡ test h) × I next) where
+    pub offers_find : (hs : List H) (f : M) (found : Option H) (last : M) → I f → ((i : ℕ) (h : H) → slice_get hs i ≡ Some h → allowed h) → Offers m f hs found last → IsFound test hs found
+    offers_find [] f found last i all o = subst (IsFound test []) (sym o.0) (λ k h is. absurd (cc))
+    offers_find (h ∷ hs) f found last i all (true, next, called, rest) = subst (IsFound test (h ∷ hs)) (sym rest.0) (sym (says f h true next i (all 0 h refl) called).0, 0, refl)
+    offers_find (h ∷ hs) f found last i all (false, next, called, rest) =
+        let s = says f h false next i (all 0 h refl) called in
+        later found (sym s.0) (offers_find hs next found last s.1 (λ k v is. all (suc k) v is) rest)
       where
         none_by : (k : ℕ) (v : H) → slice_get (h ∷ hs) k ≡ Some v → test h ≡ false → ((i : ℕ) (u : H) → slice_get hs i ≡ Some u → test u ≡ false) → test v ≡ false
         none_by zero v is fails r =
