@@ -48,22 +48,21 @@ fn cut_line(text: &[u8]) -> Option<(&[u8], &[u8])>
     Some((line, rest.unwrap_or(&[])))
 }
 
-// Whether a word has no other character than digits.
-fn is_of_digits(word: &[u8]) -> bool
-    ensures { result ≡ list_all is_ascii_digit word.now }
-{
-    word.iter().all(|byte| byte.is_ascii_digit())
-}
-
 // The number that a word writes. A sign is no part of one.
 fn number_of(word: &[u8]) -> Option<u64>
     ensures { result ≡ number_of word.now }
 {
-    if !is_of_digits(word) {
+    if word.is_empty() {
         return None;
     }
-    let digits = str::from_utf8(word).ok()?;
-    digits.parse().ok()
+    let mut value = 0u64;
+    for byte in word {
+        if !byte.is_ascii_digit() {
+            return None;
+        }
+        value = value.checked_mul(10)?.checked_add(u64::from(*byte - b'0'))?;
+    }
+    Some(value)
 }
 
 // The one number that stands after a command's name.
