@@ -1,5 +1,5 @@
 -- Tests joined by and, or and not.
-use Rattle.std.proofs.Common.{◌≡◌, Bool, true, false, ◌||◌, ◌&&◌, refl}
+use Rattle.std.proofs.Common.{◌≡◌, Bool, true, false, not, ◌||◌, ◌&&◌, refl}
 use Rattle.std.proofs.lemmas.Bool.{both_ways}
 
 pub and_parts : (x y : Bool) → (x && y) ≡ true → (x ≡ true) × (y ≡ true)
@@ -29,3 +29,23 @@ or_true false = refl
 pub or_false : (x : Bool) → (x || false) ≡ x
 or_false true = refl
 or_false false = refl
+
+pub or_left : (x y : Bool) → x ≡ true → (x || y) ≡ true
+or_left true y e = refl
+or_left false y e = absurd (both_ways _ refl e)
+
+pub or_right : (x y : Bool) → y ≡ true → (x || y) ≡ true
+or_right true y e = refl
+or_right false y e = e
+
+pub or_neither : (x y : Bool) → x ≡ false → y ≡ false → (x || y) ≡ false
+or_neither true y e h = e
+or_neither false y e h = h
+
+pub or_parts : (x y : Bool) → (x || y) ≡ false → (x ≡ false) × (y ≡ false)
+or_parts true y e = absurd (both_ways true e refl)
+or_parts false y e = (refl, e)
+
+pub not_true : (x : Bool) → not x ≡ true → x ≡ false
+not_true true h = absurd (both_ways false refl h)
+not_true false h = refl

@@ -6,9 +6,8 @@ use Rattle.clock2q_queues.specs.declared.keys.cells.Entry.{Entry}
 use Rattle.clock2q_queues.specs.Rings.{has, without, AllApart, AllBelow}
 use Rattle.clock2q_queues.specs.Keys.{hash_at}
 use Rattle.clock2q_queues.specs.Indexes.{IsIndex, Empties}
-use Rattle.clock2q_queues.proofs.Rings.{has_first, below_of}
-use Rattle.clock2q_queues.proofs.Joining.{has-without}
-use Rattle.clock2q_queues.proofs.Indexes.{has-without_test, length-taken, IsIndex-removed}
+use Rattle.clock2q_queues.proofs.Rings.{has_first, below_of, has-without, has-without_test}
+use Rattle.clock2q_queues.proofs.Indexes.{length-taken, IsIndex-removed}
 
 -- the places from the n-th on
 abbrev pub from_place : ℕ → List ℕ → List ℕ

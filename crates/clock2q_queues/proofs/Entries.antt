@@ -8,7 +8,8 @@ use Rattle.clock2q_queues.specs.declared.keys.cells.Entry.{Entry}
 use Rattle.clock2q_queues.specs.Rings.{has, AllBelow}
 use Rattle.clock2q_queues.specs.Keys.{entry, written, with_key, with_value, hash_at, hashed_at, entries_of, is_key_at}
 use Rattle.clock2q_queues.specs.Indexes.{has_key, AllDistinct}
-use Rattle.clock2q_queues.proofs.Rings.{has_first, has_later, or_left, or_right}
+use Rattle.clock2q_queues.proofs.Rings.{has_first, has_later}
+use Rattle.clock2q_queues.proofs.Booleans.{or_left, or_right}
 
 -- Entries written
 

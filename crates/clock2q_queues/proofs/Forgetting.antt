@@ -11,11 +11,12 @@ use Rattle.clock2q_queues.specs.Keys.{KeyPlaces, hashed_at, entries_of, is_key_a
 use Rattle.clock2q_queues.specs.Indexes.{IsIndex, AllDistinct, HasHash, has_key}
 use Rattle.clock2q_queues.specs.History.{IsHistory, forgotten, remembered, accesses_of}
 use Rattle.clock2q_queues.specs.Cells.{Rises}
-use Rattle.clock2q_queues.proofs.Rings.{or_parts, or_neither, has_first, has_later, AllApart-left}
+use Rattle.clock2q_queues.proofs.Rings.{has_first, has_later, AllApart-left}
 use Rattle.clock2q_queues.proofs.Joining.{length-without}
 use Rattle.clock2q_queues.proofs.Entries.{key_there, any_entry, same_place}
 use Rattle.clock2q_queues.proofs.Histories.{shown-as}
 use Rattle.clock2q_queues.proofs.Indexes.{length-taken, IsIndex-removed}
+use Rattle.clock2q_queues.proofs.Booleans.{or_parts, or_neither}
 use Rattle.clock2q_queues.proofs.Lookups.{found_there, not_found, look-up, hash_there}
 
 module _ {K : Type 0} (eq : K → K → Bool) where

@@ -9,8 +9,9 @@ use Rattle.clock2q_queues.specs.Rings.{has, IsRing}
 use Rattle.clock2q_queues.specs.Cells.{accessed}
 use Rattle.clock2q_queues.specs.Links.{LinkState, IsLinked, IsSameBut, slot_at, record_at, next_at, previous_at, bit_at}
 use Rattle.clock2q_queues.specs.MainRing.{IsMain, IsMainRing, main_slots, main_entries, passed, inspections, from_victim}
-use Rattle.clock2q_queues.proofs.Rings.{eqb_self, or_left, or_parts, or_neither, has-append, has_later, differs}
+use Rattle.clock2q_queues.proofs.Rings.{eqb_self, has-append, has_later, differs}
 use Rattle.clock2q_queues.proofs.Joining.{map-agree, IsLinked-turned}
+use Rattle.clock2q_queues.proofs.Booleans.{or_left, or_parts, or_neither}
 use Rattle.clock2q_queues.proofs.Main.{main_slots-is, IsMainRing-from}
 
 -- one entry more, whose bit is clear, ends no front that ended before

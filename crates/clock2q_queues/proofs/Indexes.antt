@@ -10,32 +10,15 @@ use Rattle.clock2q_queues.specs.Keys.{hash_at}
 use Rattle.clock2q_handles.specs.TableStep.{fit, doubled_until, made_for}
 use Rattle.clock2q_queues.specs.Indexes.{IsIndex, is_alike, is_named, index_room}
 use Rattle.clock2q_queues.specs.declared.keys.cells.Entry.{Entry}
-use Rattle.clock2q_queues.proofs.Booleans.{and_parts, and_true, and_false, and_swap, or_true, or_false}
+use Rattle.clock2q_queues.proofs.Booleans.{and_parts, and_true, and_false, and_swap, or_true, or_false, or_neither}
 use Rattle.clock2q_queues.proofs.Entries.{hash_in}
-use Rattle.clock2q_queues.proofs.Rings.{eqb_self, has_first, has_later, or_neither, has-append, differs, AllApart-append, without_absent}
+use Rattle.clock2q_queues.proofs.Rings.{eqb_self, has_first, has_later, has-append, differs, AllApart-append, without_absent, has-without_test}
 use Rattle.clock2q_queues.proofs.Joining.{length-without}
 use Rattle.clock2q_handles.proofs.Rebuild.{total-no_entries}
 use Rattle.clock2q_handles.proofs.Changes.{length-with_list, total-with_list}
 use Rattle.clock2q_handles.proofs.Lookups.{candidates-inserted, candidates-inserted_other, candidates-removed, candidates-removed_other}
 
 -- Lists
-
-pub has-without_test : (t p : ℕ) (ss : List ℕ) → has t (without p ss) ≡ (has t ss && not (eqb t p))
-has-without_test t p [] = refl
-has-without_test t p (s ∷ ss) = elim (cases_Bool (eqb s p)) [
-  | inl e ↦ elim (cases_Bool (eqb t s)) [
-    | inl f ↦
-        let g : eqb t p ≡ true = subst (λ z. eqb z p ≡ true) (sym (eqb-true t s f)) e in
-        rw (e, f, g) (has-without_test t p ss ∙ rw g (and_false (has t ss)))
-    | inr f ↦ rw (e, f) (has-without_test t p ss)
-  ]
-  | inr e ↦ elim (cases_Bool (eqb t s)) [
-    | inl f ↦
-        let g : eqb t p ≡ false = subst (λ z. eqb z p ≡ false) (sym (eqb-true t s f)) e in
-        rw (e, f, g) refl
-    | inr f ↦ rw (e, f) (has-without_test t p ss)
-  ]
-]
 
 has-without_first : (t p : ℕ) (cs : List ℕ) → AllApart cs → has t (without_first (λ w. eqb w p) cs) ≡ (has t cs && not (eqb t p))
 has-without_first t p [] a = refl

@@ -12,7 +12,8 @@ use Rattle.clock2q_queues.specs.declared.links.Mark.{Mark}
 use Rattle.clock2q_queues.specs.Rings.{has, without, AllApart, AllBelow, Joins, IsRing}
 use Rattle.clock2q_queues.specs.Cells.{Counted, written}
 use Rattle.clock2q_queues.specs.Links.{IsLinked, IsQueue, Attaches, Detaches, slots_from, record_at, next_at, previous_at, standing_at, vacant}
-use Rattle.clock2q_queues.proofs.Rings.{eqb_self, eqb_swap, or_left, or_right, or_parts, or_neither, has-append, has_first, has_later, differs, AllApart-append, AllApart-left, AllApart-right, apart_from, AllApart-turned, AllBelow-append, AllBelow-left, AllBelow-right, below_of, parted, IsRing-kept, IsRing-put, IsRing-taken, IsRing-turned, before_end, Joins_parts, around-ring, without-parted}
+use Rattle.clock2q_queues.proofs.Rings.{eqb_self, eqb_swap, has-append, has_first, has_later, differs, AllApart-append, AllApart-left, AllApart-right, apart_from, AllApart-turned, AllBelow-append, AllBelow-left, AllBelow-right, below_of, parted, IsRing-kept, IsRing-put, IsRing-taken, IsRing-turned, before_end, Joins_parts, around-ring, without-parted}
+use Rattle.clock2q_queues.proofs.Booleans.{or_left, or_right, or_parts, or_neither}
 use Rattle.clock2q_queues.proofs.Records.{changed}
 
 -- Slots
@@ -232,16 +233,6 @@ filter-entries slot f (s ∷ ss) = elim (cases_Bool (eqb s slot)) [
   | inr e ↦ rw e (ap (λ zs. (s, f s) ∷ zs) (filter-entries slot f ss))
 ]
 
-pub has-without : (t slot : ℕ) (ss : List ℕ) → has t (without slot ss) ≡ true → (has t ss ≡ true) × (eqb t slot ≡ false)
-has-without t slot [] h = absurd (both_ways false refl h)
-has-without t slot (s ∷ ss) h = elim (cases_Bool (eqb s slot)) [
-  | inl e ↦ let g = has-without t slot ss (rw e at h) in (has_later t s ss g.0, g.1)
-  | inr e ↦ elim (or_cases (eqb t s) (has t (without slot ss)) (rw e at h)) [
-    | inl q ↦ (or_left (eqb t s) (has t ss) q, subst (λ z. eqb z slot ≡ false) (sym (eqb-true t s q)) e)
-    | inr q ↦ let g = has-without t slot ss q in (has_later t s ss g.0, g.1)
-  ]
-]
-
 -- Counts and ends after a slot was taken out
 
 pub length-without : (slot : ℕ) (ss : List ℕ) → AllApart ss → has slot ss ≡ true → length (without slot ss) + 1 ≡ length ss
@@ -335,16 +326,3 @@ last_stays (s ∷ ss) slot d =
     x.1 ∙ sym (ap (λ z. last_or None (without slot z)) p.1
     ∙ ap (λ z. last_or None z) (filter-append (λ t. not (eqb t slot)) p.0 (x.0 ∷ []))
     ∙ ap (λ z. last_or None (without slot p.0 ++ z)) w ∙ last_or-push None (without slot p.0) x.0)
-
-pub has-without-back : (t slot : ℕ) (ss : List ℕ) → has t ss ≡ true → eqb t slot ≡ false → has t (without slot ss) ≡ true
-has-without-back t slot [] h d = h
-has-without-back t slot (s ∷ ss) h d = elim (or_cases (eqb t s) (has t ss) h) [
-  | inl e ↦
-      let q : t ≡ s = eqb-true t s e in
-      let n : eqb s slot ≡ false = subst (λ z. eqb z slot ≡ false) q d in
-      rw n (or_left (eqb t s) (has t (without slot ss)) e)
-  | inr g ↦ elim (cases_Bool (eqb s slot)) [
-    | inl e ↦ rw e (has-without-back t slot ss g d)
-    | inr e ↦ rw e (or_right (eqb t s) (has t (without slot ss)) (has-without-back t slot ss g d))
-  ]
-]

@@ -15,8 +15,8 @@ use Rattle.clock2q_queues.specs.Links.{LinkState, IsLinked, IsSameBut, Detaches,
 use Rattle.clock2q_queues.specs.Ends.{place_freed, end_after}
 use Rattle.clock2q_queues.specs.Small.{IsSmall, IsSmallQueue, small_slots, small_entries, age_at}
 use Rattle.clock2q_queues.proofs.Records.{changed}
-use Rattle.clock2q_queues.proofs.Rings.{eqb_self}
-use Rattle.clock2q_queues.proofs.Joining.{Removes, Removes-detached, map-agree, first_gone, first_stays, last_gone, last_stays, filter-entries, has-without, has-without-back, length-without}
+use Rattle.clock2q_queues.proofs.Rings.{eqb_self, has-without, has-without-back}
+use Rattle.clock2q_queues.proofs.Joining.{Removes, Removes-detached, map-agree, first_gone, first_stays, last_gone, last_stays, filter-entries, length-without}
 use Rattle.clock2q_queues.proofs.Window.{small_slots-is, IsSmallQueue-from}
 
 -- Places

@@ -10,8 +10,9 @@ use Rattle.clock2q_queues.specs.Cells.{Counted, written}
 use Rattle.clock2q_queues.specs.Rings.{has, without}
 use Rattle.clock2q_queues.specs.Links.{LinkState, IsSameBut, SetsBit, Attaches, Detaches, previous_at, record_at, standing_at, bit_at}
 use Rattle.clock2q_queues.specs.MainRing.{IsMain, IsMainRing, main_slots, main_entries}
-use Rattle.clock2q_queues.proofs.Rings.{eqb_self, or_parts, has-append, differs}
-use Rattle.clock2q_queues.proofs.Joining.{Inserts, Inserts-before, Inserts-first, first_in, neighbours_fit, Removes-detached, length-without, map-agree, slots_from-is, filter-entries, has-without}
+use Rattle.clock2q_queues.proofs.Rings.{eqb_self, has-append, differs, has-without}
+use Rattle.clock2q_queues.proofs.Joining.{Inserts, Inserts-before, Inserts-first, first_in, neighbours_fit, Removes-detached, length-without, map-agree, slots_from-is, filter-entries}
+use Rattle.clock2q_queues.proofs.Booleans.{or_parts}
 
 pub main_slots-is : (l : LinkState) (main : MainRing) (ss : List ℕ) → IsMain l main ss → main_slots l main ≡ ss
 main_slots-is l main ss m = slots_from-is l.records.items main.hand main.len ss m.queue

@@ -11,10 +11,10 @@ use Rattle.clock2q_queues.specs.Keys.{hash_at}
 use Rattle.clock2q_queues.specs.Indexes.{IsIndex}
 use Rattle.clock2q_queues.specs.History.{MakesPlace}
 use Rattle.clock2q_queues.proofs.Booleans.{or_true, and_false}
-use Rattle.clock2q_queues.proofs.Rings.{eqb_self, AllApart-left, AllBelow-left, below_of, without-parted, has-append}
+use Rattle.clock2q_queues.proofs.Rings.{eqb_self, AllApart-left, AllBelow-left, below_of, without-parted, has-append, has-without_test}
 use Rattle.clock2q_queues.proofs.Joining.{split_last, length-without}
 use Rattle.clock2q_queues.proofs.Orders.{FitsNext, FitsNext-from, take_front}
-use Rattle.clock2q_queues.proofs.Indexes.{length-taken, has-without_test, IsIndex-removed}
+use Rattle.clock2q_queues.proofs.Indexes.{length-taken, IsIndex-removed}
 
 last_taken : (ps : List ℕ) (p : ℕ) → last_or None ps ≡ Some p → AllApart ps → (without p ps ≡ take (length ps - 1) ps) × (has p ps ≡ true)
 last_taken [] p e a = absurd (cc)

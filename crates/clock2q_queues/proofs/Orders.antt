@@ -12,8 +12,9 @@ use Rattle.clock2q_queues.specs.Cells.{Counted, accessed, written}
 use Rattle.clock2q_queues.specs.Links.{IsLinked, Attaches, Detaches, slots_from, record_at, next_at, previous_at, vacant}
 use Rattle.clock2q_queues.specs.Order.{PlaceOrder, IsOrderOf, IsOrder, IsWholeOrder, free_places, order_shown, place_for}
 use Rattle.clock2q_queues.proofs.Records.{changed}
-use Rattle.clock2q_queues.proofs.Rings.{eqb_self, or_parts, or_neither, has-append, has_first, has_later, AllApart-left, AllApart-right, AllApart-append, AllBelow-append, AllBelow-left, AllBelow-right, apart_from, apart_back, below_of}
-use Rattle.clock2q_queues.proofs.Joining.{Inserts, Inserts-before, Inserts-first, Removes, Removes-detached, IsLinked-kept, IsLinked-turned, slots_from-is, first_in, neighbours_fit, length-without, has-without, split_last, last_before}
+use Rattle.clock2q_queues.proofs.Rings.{eqb_self, has-append, has_first, has_later, AllApart-left, AllApart-right, AllApart-append, AllBelow-append, AllBelow-left, AllBelow-right, apart_from, apart_back, below_of, has-without}
+use Rattle.clock2q_queues.proofs.Joining.{Inserts, Inserts-before, Inserts-first, Removes, Removes-detached, IsLinked-kept, IsLinked-turned, slots_from-is, first_in, neighbours_fit, length-without, split_last, last_before}
+use Rattle.clock2q_queues.proofs.Booleans.{or_parts, or_neither}
 
 -- Lists of places
 

@@ -13,10 +13,11 @@ use Rattle.clock2q_queues.specs.Keys.{KeyPlaces, entry, key_places, written, has
 use Rattle.clock2q_queues.specs.Indexes.{IsIndex, AllDistinct, has_key}
 use Rattle.clock2q_queues.specs.History.{IsHistory, MakesPlace, remembered, accesses_of}
 use Rattle.clock2q_queues.specs.Cells.{Rises}
-use Rattle.clock2q_queues.proofs.Rings.{differs, or_parts, AllBelow-left}
+use Rattle.clock2q_queues.proofs.Rings.{differs, AllBelow-left}
 use Rattle.clock2q_queues.proofs.Entries.{slice_get-written, slice_get-written_other, length-written, entries-agree, entries-cons, entries-take}
 use Rattle.clock2q_queues.proofs.Histories.{shown-as}
 use Rattle.clock2q_queues.proofs.Indexes.{length-put, IsIndex-put, room_in}
+use Rattle.clock2q_queues.proofs.Booleans.{or_parts}
 
 module _ {K : Type 0} (eq : K → K → Bool) where
   key_absent-take : (key : K) (k : ℕ) (es : List (ℕ × K)) → has_key eq key es ≡ false → has_key eq key (take k es) ≡ false

@@ -1,9 +1,10 @@
 -- What becomes of a ring when a slot is put in, taken out, or when it is met from another slot on.
-use Rattle.std.proofs.Common.{◌≡◌, ℕ, suc, ◌<◌, Bool, true, false, not, cond, ◌||◌, eqb, List, [], ◌∷◌, ◌++◌, length, inl, inr, refl, sym, ap, ◌∙◌, subst}
+use Rattle.std.proofs.Common.{◌≡◌, ℕ, suc, ◌<◌, Bool, true, false, not, cond, ◌||◌, ◌&&◌, eqb, List, [], ◌∷◌, ◌++◌, length, inl, inr, refl, sym, ap, ◌∙◌, subst}
 use Rattle.std.specs.List.{filter}
 use Rattle.std.proofs.lemmas.Bool.{eqb-true, eq-eqb, both_ways, cases_Bool, or_cases}
 use Rattle.std.proofs.lemmas.List.{append-nil}
-use Rattle.clock2q_queues.specs.Rings.{has, AllApart, AllBelow, Joins, IsRing, around}
+use Rattle.clock2q_queues.specs.Rings.{has, without, AllApart, AllBelow, Joins, IsRing, around}
+use Rattle.clock2q_queues.proofs.Booleans.{or_left, or_right, or_neither, or_parts, and_parts, and_false, not_true}
 
 -- Tests
 
@@ -12,22 +13,6 @@ eqb_self n = eq-eqb n n refl
 
 pub eqb_swap : (m n : ℕ) → eqb m n ≡ false → eqb n m ≡ false
 eqb_swap m n e = elim (cases_Bool (eqb n m)) [ inl h ↦ absurd (both_ways _ e (eq-eqb m n (sym (eqb-true n m h)))) | inr h ↦ h ]
-
-pub or_left : (x y : Bool) → x ≡ true → (x || y) ≡ true
-or_left true y e = refl
-or_left false y e = absurd (both_ways _ refl e)
-
-pub or_right : (x y : Bool) → y ≡ true → (x || y) ≡ true
-or_right true y e = refl
-or_right false y e = e
-
-pub or_neither : (x y : Bool) → x ≡ false → y ≡ false → (x || y) ≡ false
-or_neither true y e h = e
-or_neither false y e h = h
-
-pub or_parts : (x y : Bool) → (x || y) ≡ false → (x ≡ false) × (y ≡ false)
-or_parts true y e = absurd (both_ways true e refl)
-or_parts false y e = (refl, e)
 
 -- Slots among others
 
@@ -220,3 +205,30 @@ without-parted [] slot ys a = rw (eqb_self slot) (without_absent slot ys a.0)
 without-parted (x ∷ xs) slot ys a =
     let d : eqb x slot ≡ false = (or_parts (eqb x slot) (has x ys) ((or_parts (has x xs) (has x (slot ∷ ys)) (sym (has-append x xs (slot ∷ ys)) ∙ a.0)).1)).0 in
     rw d (ap (λ zs. x ∷ zs) (without-parted xs slot ys a.1))
+
+-- Slots without one
+
+pub has-without_test : (t p : ℕ) (ss : List ℕ) → has t (without p ss) ≡ (has t ss && not (eqb t p))
+has-without_test t p [] = refl
+has-without_test t p (s ∷ ss) = elim (cases_Bool (eqb s p)) [
+  | inl e ↦ elim (cases_Bool (eqb t s)) [
+    | inl f ↦
+        let g : eqb t p ≡ true = subst (λ z. eqb z p ≡ true) (sym (eqb-true t s f)) e in
+        rw (e, f, g) (has-without_test t p ss ∙ rw g (and_false (has t ss)))
+    | inr f ↦ rw (e, f) (has-without_test t p ss)
+  ]
+  | inr e ↦ elim (cases_Bool (eqb t s)) [
+    | inl f ↦
+        let g : eqb t p ≡ false = subst (λ z. eqb z p ≡ false) (sym (eqb-true t s f)) e in
+        rw (e, f, g) refl
+    | inr f ↦ rw (e, f) (has-without_test t p ss)
+  ]
+]
+
+-- one that is still there was there, and is not the one that is gone
+pub has-without : (t slot : ℕ) (ss : List ℕ) → has t (without slot ss) ≡ true → (has t ss ≡ true) × (eqb t slot ≡ false)
+has-without t slot ss h = let p = and_parts (has t ss) (not (eqb t slot)) (sym (has-without_test t slot ss) ∙ h) in (p.0, not_true (eqb t slot) p.1)
+
+-- another one is still there
+pub has-without-back : (t slot : ℕ) (ss : List ℕ) → has t ss ≡ true → eqb t slot ≡ false → has t (without slot ss) ≡ true
+has-without-back t slot ss h d = has-without_test t slot ss ∙ rw (h, d) refl

@@ -14,8 +14,8 @@ use Rattle.clock2q_queues.specs.Links.{LinkState, IsBlank, IsSameBut, vacant, ac
 use Rattle.clock2q_queues.specs.MainRing.{IsMainRing, main_slots, main_entries, from_victim}
 use Rattle.clock2q_queues.specs.Small.{IsSmallQueue, small_slots, small_entries, admitted}
 use Rattle.clock2q_queues.specs.Queues.{AreQueues, QueueState, IsWholeQueues, slots_of, without_slot, queues_shown}
-use Rattle.clock2q_queues.proofs.Rings.{or_parts, or_neither, has-append, differs, AllApart-append, AllBelow-append}
-use Rattle.clock2q_queues.proofs.Joining.{has-without-back}
+use Rattle.clock2q_queues.proofs.Rings.{has-append, differs, AllApart-append, AllBelow-append, has-without-back}
+use Rattle.clock2q_queues.proofs.Booleans.{or_parts, or_neither}
 use Rattle.clock2q_queues.proofs.Records.{get_or-same}
 use Rattle.clock2q_queues.proofs.Keeping.{KeepsMain-from, KeepsSmall-from, small_apart, main_apart}
 use Rattle.clock2q_queues.proofs.SlotLists.{slots_of-entries, slots_of-mapped, slots_of-append, slots_of-filter, members-chosen}

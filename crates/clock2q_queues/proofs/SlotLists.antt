@@ -9,7 +9,8 @@ use Rattle.clock2q_queues.specs.Queues.{slots_of, without_slot}
 use Rattle.clock2q_queues.specs.Rings.{has, without, AllApart}
 use Rattle.clock2q_queues.specs.Small.{small_hit_at}
 use Rattle.clock2q_queues.proofs.Joining.{last_some}
-use Rattle.clock2q_queues.proofs.Rings.{eqb_self, eqb_swap, or_left, or_neither, or_parts, has-append, has_first, has_later, differs}
+use Rattle.clock2q_queues.proofs.Rings.{eqb_self, eqb_swap, has-append, has_first, has_later, differs}
+use Rattle.clock2q_queues.proofs.Booleans.{or_left, or_neither, or_parts}
 
 -- Slots of entries
 

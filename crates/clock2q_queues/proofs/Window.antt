@@ -14,8 +14,9 @@ use Rattle.clock2q_queues.specs.Cells.{Counted, written}
 use Rattle.clock2q_queues.specs.Links.{LinkState, IsBlank, IsLinked, IsSameBut, Attaches, record_at, next_at, previous_at, standing_at, bit_at, place_at}
 use Rattle.clock2q_queues.specs.Small.{IsSmall, IsSmallQueue, IsInSmall, GrowsOld, small_slots, small_entries, admissions_since, moved_on, age_of, age_at, admitted, is_there}
 use Rattle.clock2q_queues.proofs.Records.{changed}
-use Rattle.clock2q_queues.proofs.Rings.{IsRing-kept, eqb_self, or_left, or_parts, has_first, has_later, differs}
+use Rattle.clock2q_queues.proofs.Rings.{IsRing-kept, eqb_self, has_first, has_later, differs}
 use Rattle.clock2q_queues.proofs.Joining.{Inserts, Inserts-before, Inserts-first, slots_from-is, IsLinked-turned, first_in, neighbours_fit, same_record}
+use Rattle.clock2q_queues.proofs.Booleans.{or_left, or_parts}
 
 -- Ages
 
