@@ -42,16 +42,40 @@ fn worked_run(rt: HostRuntime) -> Result<(), Fail> {
         wanted.push(TableReply::Done)?;
     }
     for (command, reply) in [
-        (TableCommand::Get(EVEN), TableReply::Handles(vec![in alloc; 0, 1, 2, 3, 4, 5, 6, 7, 8, 9, 10, 11]?)),
+        (
+            TableCommand::Get(EVEN),
+            TableReply::Handles(vec![in alloc; 0, 1, 2, 3, 4, 5, 6, 7, 8, 9, 10, 11]?),
+        ),
         (TableCommand::Reserve(1), TableReply::Done),
-        (TableCommand::Get(EVEN), TableReply::Handles(vec![in alloc; 2, 4, 6, 8, 10, 0]?)),
-        (TableCommand::Get(ODD), TableReply::Handles(vec![in alloc; 1, 3, 5, 7, 9, 11]?)),
+        (
+            TableCommand::Get(EVEN),
+            TableReply::Handles(vec![in alloc; 2, 4, 6, 8, 10, 0]?),
+        ),
+        (
+            TableCommand::Get(ODD),
+            TableReply::Handles(vec![in alloc; 1, 3, 5, 7, 9, 11]?),
+        ),
         (TableCommand::Remove(ODD, 3), TableReply::Removed(true)),
-        (TableCommand::Get(ODD), TableReply::Handles(vec![in alloc; 1, 5, 7, 9, 11]?)),
-        (TableCommand::Find(12, vec![in alloc; 1]?), TableReply::Found(12, true)),
-        (TableCommand::Find(12, vec![in alloc; 0]?), TableReply::Found(0, false)),
-        (TableCommand::Reserve(usize::MAX), TableReply::Refused(TableError::Size)),
-        (TableCommand::Get(EVEN), TableReply::Handles(vec![in alloc; 2, 4, 6, 8, 10, 0, 12]?)),
+        (
+            TableCommand::Get(ODD),
+            TableReply::Handles(vec![in alloc; 1, 5, 7, 9, 11]?),
+        ),
+        (
+            TableCommand::Find(12, vec![in alloc; 1]?),
+            TableReply::Found(12, true),
+        ),
+        (
+            TableCommand::Find(12, vec![in alloc; 0]?),
+            TableReply::Found(0, false),
+        ),
+        (
+            TableCommand::Reserve(usize::MAX),
+            TableReply::Refused(TableError::Size),
+        ),
+        (
+            TableCommand::Get(EVEN),
+            TableReply::Handles(vec![in alloc; 2, 4, 6, 8, 10, 0, 12]?),
+        ),
     ] {
         commands.push(command)?;
         wanted.push(reply)?;
@@ -78,7 +102,7 @@ fn requests_refused(rt: HostRuntime) -> Result<(), Fail> {
         TableCommand::Get(EVEN),
     ];
     let mut enough = 0;
-    let mut partly = 0;
+    let mut partly = 0u64;
     for granted in 0..MANY {
         alloc.refuse_after(granted);
         let outcome = replies_of(&alloc, 1, &commands);
@@ -88,14 +112,17 @@ fn requests_refused(rt: HostRuntime) -> Result<(), Fail> {
         assert_eq!(rt; replies.len(), 3, "{granted} granted");
         let is_inserted = matches!(replies.first(), Some(TableReply::Done));
         assert!(rt; is_inserted, "{granted} granted");
-        let is_refused = matches!(replies.get(2), Some(TableReply::Refused(TableError::Memory)));
+        let is_refused = matches!(
+            replies.get(2),
+            Some(TableReply::Refused(TableError::Memory))
+        );
         if !is_refused {
             let is_reserved = matches!(replies.get(1), Some(TableReply::Done));
             assert!(rt; is_reserved, "{granted} granted");
             enough = granted;
             break;
         }
-        partly += 1;
+        partly = partly.saturating_add(1);
     }
     assert!(rt; enough > 4, "{enough}");
     assert!(rt; partly > 2, "{partly}");
