@@ -30,3 +30,4 @@ pub mod Tiles
 pub mod TooLong
 pub mod Walk
 pub mod Yields
+pub mod Cursors

@@ -12,7 +12,6 @@ ghost use Rattle.std.specs.Prelude.{◌≡◌, ◌+◌, ◌-◌, ◌%◌, ◌^�
 
 use crate::metadata::{MAX_DISPLACEMENT, Metadata};
 use crate::slots::Slots;
-use clock2q_count::Count;
 use std::alloc::Allocator;
 
 impl<H: Copy + Default, A: Allocator> Slots<H, A> {
@@ -49,38 +48,6 @@ impl<H: Copy + Default, A: Allocator> Slots<H, A> {
                 return None;
             }
             if metadata.is_candidate(hash, distance) && self.handle(home, distance) == handle {
-                return Some(distance);
-            }
-        }
-        None
-    }
-
-    /// How far from the home the next candidate of `hash` stands, for a walk that has come to a
-    /// distance already. Each slot that is read is counted.
-    pub(super) fn candidate(
-        &self,
-        home: usize,
-        hash: u64,
-        from: usize,
-        reads: &mut Count,
-    ) -> Option<usize>
-        requires tidy { IsTidy self.now.slots }
-        requires home { 0 < length self.now.slots → home < length self.now.slots }
-        requires near { (n : ℕ) → reach (slot_at self.now.slots n) ≤ 16777215 }
-        requires from { from ≤ length self.now.slots }
-        requires passed { from < length self.now.slots → (j : ℕ) → j < from → j < reach (slot_at self.now.slots (home + j)) }
-        ensures found { IfSome result (IsNextCandidate self.now.slots home hash from) }
-        ensures read { IfSome result (λ n. reads.new.total + from ≡ reads.old.total + n + 1) }
-        ensures none { IfNone result (matching hash (met (slot_at self.now.slots) home from (length self.now.slots - from)) ≡ []) }
-        ensures read_all { IfNone result (reads.new.total ≡ reads.old.total + (walk (homes_of self.now.slots) home - from)) }
-    {
-        for distance in from..self.count() {
-            let metadata = self.metadata(home, distance);
-            reads.tick();
-            if metadata.ends_walk(distance) {
-                return None;
-            }
-            if metadata.is_candidate(hash, distance) {
                 return Some(distance);
             }
         }

@@ -2,6 +2,10 @@
 ghost use Rattle.clock2q_handles.specs.Layout.{slot_at};
 ghost use Rattle.std.specs.Prelude.{◌≡◌, ◌+◌, ◌%◌, ◌^◌, ◌<◌, ◌≤◌, [], ℕ, None, IfOk, IfSome, length, replicate, set};
 
+mod reader;
+
+pub(super) use reader::Reader;
+
 use crate::metadata::Metadata;
 use clock2q_count::Count;
 use std::alloc::{AllocError, Allocator};
@@ -87,6 +91,30 @@ impl<H: Copy + Default, A: Allocator> Slots<H, A> {
     {
         let mask = self.count().wrapping_sub(1);
         hash as usize & mask
+    }
+
+    /// The slot after another, which is slot 0 after the last.
+    fn after(&self, slot: usize) -> usize
+        requires { slot < length self.now.slots }
+        ensures after { result ≡ (slot + 1) % length self.now.slots }
+        ensures within { result < length self.now.slots }
+    {
+        let mask = self.count() - 1;
+        (slot + 1) & mask
+    }
+
+    fn metadata_at(&self, slot: usize) -> Metadata
+        requires { slot < length self.now.slots }
+        ensures { told result ≡ mark_of (slot_at self.now.slots slot) }
+    {
+        self.metadata[slot]
+    }
+
+    fn handle_at(&self, slot: usize) -> H
+        requires { slot < length self.now.slots }
+        ensures { IfSome (slot_at self.now.slots slot) (λ p. result ≡ p.entry.1) }
+    {
+        self.handles[slot]
     }
 
     fn slot(&self, home: usize, distance: usize) -> usize
