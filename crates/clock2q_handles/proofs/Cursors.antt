@@ -117,12 +117,6 @@ pub record HasStepped {H : Type 0} (slots : List (Option (Placed (ℕ × H)))) (
   pub skips : mark_of (slot_at slots n) ≢ s → left_at slots s n ≡ left_at slots s' n'
   pub takes : (r : H) → mark_of (slot_at slots n) ≡ s → IfSome (slot_at slots n) (λ p. r ≡ p.entry.1) → left_at slots s n ≡ r ∷ left_at slots s' n'
 
--- and its end, where nothing is left but the handle that was found, if one was
-pub record HasEnded {H : Type 0} (slots : List (Option (Placed (ℕ × H)))) (s : Mark) (n : ℕ) : Type 0 where
-  pub read : unread_at slots s n ≡ 2
-  pub skips : mark_of (slot_at slots n) ≢ s → left_at slots s n ≡ []
-  pub takes : (r : H) → mark_of (slot_at slots n) ≡ s → IfSome (slot_at slots n) (λ p. r ≡ p.entry.1) → left_at slots s n ≡ r ∷ []
-
 module _ {H : Type 0} (slots : List (Option (Placed (ℕ × H)))) where
   pub lookup_slot : (s : Mark) (n : ℕ) → IsSome s → IsLookup slots s n → n < length slots
   lookup_slot None n some lookup = absurd (cc)
@@ -145,22 +139,6 @@ module _ {H : Type 0} (slots : List (Option (Placed (ℕ × H)))) where
   -- a slot that doesn't end a lookup is followed by the next
   pub lookup_steps : (s s' : Mark) (n n' : ℕ) → IsSome s → s' ≡ mark_on s → n' ≡ (n + 1) % length slots → IsLookup slots s n → mark_reach s ≤ reach (slot_at slots n) → HasStepped slots s s' n n'
   lookup_steps s s' n n' some is at lookup far = subst (λ t. HasStepped slots s t n n') (sym is) (stepped s s' n n' some is at lookup far)
-
-  more_reach : (s : Mark) → IsSome s → mark_reach (mark_on s) ≡ suc (mark_reach s)
-  more_reach None some = absurd (cc)
-  more_reach (Some s) some = refl
-
-  -- where no entry may stand so far past its home, the next slot ends it
-  pub lookup_last : (s : Mark) (n : ℕ) → IsSome s → 16777214 < mark_reach s → IsLookup slots s n → mark_reach s ≤ reach (slot_at slots n) → HasEnded slots s n
-  lookup_last s n some most lookup far =
-      let n' : ℕ = (n + 1) % length slots in
-      let next = stepped s (mark_on s) n n' some refl refl lookup far in
-      let end = lookup_ends (mark_on s) n' next.some next.lookup (omega (arith, most, more_reach s some, lookup.near n')) in
-      record {
-        read = omega (arith, next.read, end.1);
-        skips = λ other. next.skips other ∙ end.0;
-        takes = λ r is handle. next.takes r is handle ∙ ap (λ hs. r ∷ hs) end.0;
-      }
 
   -- a lookup that looks for nothing
   pub lookup_rests : (n : ℕ) → IsTidy slots → ((k : ℕ) → reach (slot_at slots k) ≤ 16777215) → IsLookup slots None n

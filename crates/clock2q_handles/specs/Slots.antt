@@ -3,6 +3,7 @@ use Rattle.std.specs.Prelude.{◌≡◌, ℕ, zero, suc, pred, ◌/◌, ◌%◌,
 use Rattle.std.specs.Coded.{Coded, code_by, coded×, coded_ℕ, coded_list, coded_option}
 use Rattle.clock2q_handles.specs.Layout.{Placed, placed, placed_code}
 use Rattle.clock2q_handles.specs.declared.metadata.Metadata.{Metadata}
+use Rattle.clock2q_handles.specs.declared.metadata.Wanted.{Wanted}
 use mathlib.Core.Path.{refl}
 
 -- a slot's displacement and fingerprint, or None of an empty slot
@@ -17,6 +18,10 @@ mark_at (suc d) f = Some (d, f)
 -- what a word of metadata says
 abbrev pub told : Metadata → Mark
 told m = mark_at (m.word / 256) (m.word % 256)
+
+-- what a walk looks for
+abbrev pub sought : Wanted → Mark
+sought w = mark_at (w.word / 256) (w.word % 256)
 
 -- what a mark leaves room for in the next slot
 abbrev pub mark_reach : Mark → ℕ

@@ -1,10 +1,10 @@
 //! The handles that a lookup yields.
 ghost use Rattle.clock2q_handles.specs.Candidates.{left_at, unread_at, IsLookup};
 ghost use Rattle.clock2q_handles.specs.Layout.{slot_at};
-ghost use Rattle.clock2q_handles.specs.Slots.{told, mark_of};
+ghost use Rattle.clock2q_handles.specs.Slots.{sought, mark_of};
 ghost use Rattle.std.specs.Prelude.{◌≡◌, ◌+◌, ◌<◌, [], IsSome, IfSome, IfNone, length};
 
-use crate::metadata::Metadata;
+use crate::metadata::Wanted;
 use crate::slots::{Reader, Slots};
 use std::alloc::{Allocator, Global};
 use std::marker::Model;
@@ -15,20 +15,20 @@ use std::marker::Model;
 pub struct Candidates<'a, H: Copy + Eq + Default, A: Allocator = Global> {
     reader: Reader<'a, H, A>,
     slot: usize,
-    wanted: Metadata,
+    wanted: Wanted,
 }
 
 impl<'a, H: Copy + Eq + Default, A: Allocator> Model for Candidates<'a, H, A> {
     ghost use Rattle.clock2q_handles.specs.Candidates.{CandidatesValue, candidates_code, candidates_value, left_at, unread_at, IsLookup};
-    ghost use Rattle.clock2q_handles.specs.Slots.{told};
+    ghost use Rattle.clock2q_handles.specs.Slots.{sought};
 
     ghost Value = { CandidatesValue H };
 
     ghost coded = { candidates_code H.code };
 
-    ghost view = { λ c. candidates_value (left_at c.reader.slots.now.slots (told c.wanted) c.slot) c.reader.reads.total (unread_at c.reader.slots.now.slots (told c.wanted) c.slot) };
+    ghost view = { λ c. candidates_value (left_at c.reader.slots.now.slots (sought c.wanted) c.slot) c.reader.reads.total (unread_at c.reader.slots.now.slots (sought c.wanted) c.slot) };
 
-    ghost invariant = { λ c. IsLookup c.reader.slots.now.slots (told c.wanted) c.slot };
+    ghost invariant = { λ c. IsLookup c.reader.slots.now.slots (sought c.wanted) c.slot };
 }
 
 impl<'a, H: Copy + Eq + Default, A: Allocator> Candidates<'a, H, A> {
@@ -43,9 +43,9 @@ impl<'a, H: Copy + Eq + Default, A: Allocator> Candidates<'a, H, A> {
         ensures { result ≡ candidates_value (left_from slots.now.slots hash 0) 0 (unread_from slots.now.slots hash 0) }
     {
         let wanted = if slots.count() == 0 {
-            Metadata::empty()
+            Wanted::nothing()
         } else {
-            Metadata::new(hash, 0)
+            Wanted::new(hash)
         };
         Candidates {
             reader: Reader::new(slots),
@@ -56,20 +56,21 @@ impl<'a, H: Copy + Eq + Default, A: Allocator> Candidates<'a, H, A> {
 }
 
 impl<'a, H: Copy + Default, A: Allocator> Reader<'a, H, A> {
-    /// Takes a walk on to its next candidate: returns its slot, and its metadata.
+    /// Takes a walk on to its next candidate: returns its slot, and what is looked
+    /// for there.
     #[inline(always)]
-    fn candidate(&mut self, mut slot: usize, mut wanted: Metadata) -> Option<(usize, Metadata)>
-        requires lookup { IsLookup self.old.slots.now.slots (told wanted) slot }
-        requires some { IsSome (told wanted) }
+    fn candidate(&mut self, mut slot: usize, mut wanted: Wanted) -> Option<(usize, Wanted)>
+        requires lookup { IsLookup self.old.slots.now.slots (sought wanted) slot }
+        requires some { IsSome (sought wanted) }
         ensures same { self.new.slots ≡ self.old.slots }
-        ensures lookup { IfSome result (λ next. IsLookup self.old.slots.now.slots (told next.1) next.0) }
+        ensures lookup { IfSome result (λ next. IsLookup self.old.slots.now.slots (sought next.1) next.0) }
         ensures within { IfSome result (λ next. next.0 < length self.old.slots.now.slots) }
-        ensures some { IfSome result (λ next. IsSome (told next.1)) }
-        ensures found { IfSome result (λ next. mark_of (slot_at self.old.slots.now.slots next.0) ≡ told next.1) }
-        ensures left { IfSome result (λ next. left_at self.old.slots.now.slots (told wanted) slot ≡ left_at self.old.slots.now.slots (told next.1) next.0) }
-        ensures read { IfSome result (λ next. self.new.reads.total + unread_at self.old.slots.now.slots (told next.1) next.0 ≡ self.old.reads.total + unread_at self.old.slots.now.slots (told wanted) slot + 1) }
-        ensures none { IfNone result (left_at self.old.slots.now.slots (told wanted) slot ≡ []) }
-        ensures read_all { IfNone result (self.new.reads.total ≡ self.old.reads.total + unread_at self.old.slots.now.slots (told wanted) slot) }
+        ensures some { IfSome result (λ next. IsSome (sought next.1)) }
+        ensures found { IfSome result (λ next. mark_of (slot_at self.old.slots.now.slots next.0) ≡ sought next.1) }
+        ensures left { IfSome result (λ next. left_at self.old.slots.now.slots (sought wanted) slot ≡ left_at self.old.slots.now.slots (sought next.1) next.0) }
+        ensures read { IfSome result (λ next. self.new.reads.total + unread_at self.old.slots.now.slots (sought next.1) next.0 ≡ self.old.reads.total + unread_at self.old.slots.now.slots (sought wanted) slot + 1) }
+        ensures none { IfNone result (left_at self.old.slots.now.slots (sought wanted) slot ≡ []) }
+        ensures read_all { IfNone result (self.new.reads.total ≡ self.old.reads.total + unread_at self.old.slots.now.slots (sought wanted) slot) }
     {
         loop {
             let metadata = self.read(slot);
@@ -79,10 +80,8 @@ impl<'a, H: Copy + Default, A: Allocator> Reader<'a, H, A> {
             if metadata.ends_walk_for(wanted) {
                 return None;
             }
-            let Some(next) = self.step(slot, wanted) else {
-                return None;
-            };
-            (slot, wanted) = next;
+            slot = self.after(slot);
+            wanted = wanted.next();
         }
     }
 }
@@ -99,21 +98,16 @@ impl<'a, H: Copy + Eq + Default, A: Allocator> Iterator for Candidates<'a, H, A>
 
     #[inline(always)]
     fn next(&mut self) -> Option<H> {
-        if self.wanted.is_empty() {
+        if self.wanted.is_nothing() {
             return None;
         }
         let Some((slot, wanted)) = self.reader.candidate(self.slot, self.wanted) else {
-            self.wanted = Metadata::empty();
+            self.wanted = Wanted::nothing();
             return None;
         };
         let handle = self.reader.handle(slot);
-        match self.reader.step(slot, wanted) {
-            Some((slot, wanted)) => {
-                self.slot = slot;
-                self.wanted = wanted;
-            }
-            None => self.wanted = Metadata::empty(),
-        }
+        self.slot = self.reader.after(slot);
+        self.wanted = wanted.next();
         Some(handle)
     }
 }

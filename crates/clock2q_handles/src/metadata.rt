@@ -1,6 +1,6 @@
 //! What a table keeps of an entry beside its handle: one word a slot.
 ghost use Rattle.clock2q_handles.specs.Homes.{top};
-ghost use Rattle.std.specs.Prelude.{◌≡◌, ◌≤◌, ◌<◌, ◌↔◌, IsTrue, IsSome, None, Some, MatchOption};
+ghost use Rattle.std.specs.Prelude.{◌≡◌, ◌+◌, ◌≤◌, ◌<◌, ◌↔◌, IsTrue, IsSome, None, Some};
 
 /// One unit of reach, which is an entry's displacement and one more: a fingerprint stands below it.
 const UNIT: u32 = 1 << 8;
@@ -15,7 +15,7 @@ pub struct Metadata {
 }
 
 impl Metadata {
-    ghost use Rattle.clock2q_handles.specs.Slots.{told, mark_reach, mark_on, mark_back};
+    ghost use Rattle.clock2q_handles.specs.Slots.{told, sought, mark_reach, mark_on, mark_back};
 
     pub(super) fn empty() -> Metadata
         ensures { told result ≡ None }
@@ -48,18 +48,18 @@ impl Metadata {
     }
 
     /// Whether a walk ends here that looks for `wanted` in this slot.
-    pub(super) fn ends_walk_for(self, wanted: Metadata) -> bool
-        ensures { IsTrue result ↔ (mark_reach (told self) < mark_reach (told wanted)) }
+    pub(super) fn ends_walk_for(self, wanted: Wanted) -> bool
+        ensures { IsTrue result ↔ (mark_reach (told self) < mark_reach (sought wanted)) }
     {
-        self.word < wanted.word / UNIT * UNIT
+        u64::from(self.word) < wanted.word / WANTED_UNIT * WANTED_UNIT
     }
 
-    /// Whether the slot's entry has that displacement and fingerprint.
-    pub(super) fn is(self, wanted: Metadata) -> bool
-        requires { IsSome (told wanted) }
-        ensures { IsTrue result ↔ (told self ≡ told wanted) }
+    /// Whether the slot's entry is of the kind that is looked for.
+    pub(super) fn is(self, wanted: Wanted) -> bool
+        requires { IsSome (sought wanted) }
+        ensures { IsTrue result ↔ (told self ≡ sought wanted) }
     {
-        self.word == wanted.word
+        u64::from(self.word) == wanted.word
     }
 
     /// The slot's entry has the home of a walk that has come so far, and the hash's fingerprint.
@@ -67,7 +67,7 @@ impl Metadata {
         requires { distance ≤ MAX_DISPLACEMENT }
         ensures { IsTrue result ↔ (told self ≡ Some (distance, top hash)) }
     {
-        self.is(Metadata::new(hash, distance))
+        self.word == Metadata::new(hash, distance).word
     }
 
     /// Whether the entry may stand one slot further past its home.
@@ -94,21 +94,59 @@ impl Metadata {
         }
     }
 
-    /// The same one slot further, or None where no entry may stand so far past its home.
-    pub(super) fn checked_on(self) -> Option<Metadata>
-        requires { IsSome (told self) }
-        ensures { MatchOption result (MAX_DISPLACEMENT < mark_reach (told self)) (λ next. told next ≡ mark_on (told self)) }
-    {
-        let word = self.word.checked_add(UNIT)?;
-        Some(Metadata { word })
-    }
-
     pub(super) fn moved_back(self) -> Metadata
         requires { 1 < mark_reach (told self) }
         ensures { told result ≡ mark_back (told self) }
     {
         Metadata {
             word: self.word - UNIT,
+        }
+    }
+}
+
+/// The same unit in a word of 64 bits.
+const WANTED_UNIT: u64 = 1 << 8;
+
+/// What a walk looks for in the slot that it has come to: an entry of its home, which stands so far
+/// past it, with the fingerprint of its hash; or nothing, where it has ended. The word is longer
+/// than a slot's, since a walk comes one slot further than an entry may stand.
+#[derive(Clone, Copy)]
+pub struct Wanted {
+    word: u64,
+}
+
+impl Wanted {
+    ghost use Rattle.clock2q_handles.specs.Slots.{sought, mark_reach, mark_on};
+
+    pub(super) fn nothing() -> Wanted
+        ensures { sought result ≡ None }
+    {
+        Wanted { word: 0 }
+    }
+
+    /// What a walk for the hash looks for at its home.
+    pub(super) fn new(hash: u64) -> Wanted
+        ensures { sought result ≡ Some (0, top hash) }
+    {
+        Wanted {
+            word: WANTED_UNIT + (hash >> 56),
+        }
+    }
+
+    pub(super) fn is_nothing(self) -> bool
+        ensures { IsTrue result ↔ (sought self ≡ None) }
+    {
+        self.word < WANTED_UNIT
+    }
+
+    /// What the walk looks for in the next slot.
+    pub(super) fn next(self) -> Wanted
+        requires some { IsSome (sought self) }
+        requires room { mark_reach (sought self) ≤ MAX_DISPLACEMENT + 1 }
+        ensures { sought result ≡ mark_on (sought self) }
+    {
+        Wanted {
+            word: self.word + WANTED_UNIT,
         }
     }
 }

@@ -1,8 +1,8 @@
 //! What a lookup reads of a table's slots, counted.
 ghost use Rattle.clock2q_handles.specs.Layout.{slot_at};
-ghost use Rattle.std.specs.Prelude.{◌≡◌, ◌+◌, ◌%◌, ◌<◌, ◌≤◌, IfSome, IsSome, MatchOption, length};
+ghost use Rattle.std.specs.Prelude.{◌≡◌, ◌+◌, ◌%◌, ◌<◌, IfSome, length};
 
-use crate::metadata::{MAX_DISPLACEMENT, Metadata};
+use crate::metadata::Metadata;
 use crate::slots::Slots;
 use clock2q_count::Count;
 use std::alloc::Allocator;
@@ -16,7 +16,7 @@ pub struct Reader<'a, H, A: Allocator> {
 }
 
 impl<'a, H: Copy + Default, A: Allocator> Reader<'a, H, A> {
-    ghost use Rattle.clock2q_handles.specs.Slots.{told, mark_of, mark_on, mark_reach};
+    ghost use Rattle.clock2q_handles.specs.Slots.{told, mark_of};
 
     /// Nothing is read yet.
     pub(crate) fn new(slots: &'a Slots<H, A>) -> Reader<'a, H, A>
@@ -48,23 +48,12 @@ impl<'a, H: Copy + Default, A: Allocator> Reader<'a, H, A> {
         self.slots.handle_at(slot)
     }
 
-    /// Takes a walk on from a slot that doesn't end it: returns the slot after and what is looked
-    /// for there. Where no entry may stand so far past its home, the walk reads the slot after and
-    /// has ended.
-    pub(crate) fn step(&mut self, slot: usize, wanted: Metadata) -> Option<(usize, Metadata)>
-        requires within { slot < length self.old.slots.now.slots }
-        requires some { IsSome (told wanted) }
-        ensures same { self.new.slots ≡ self.old.slots }
-        ensures slot { IfSome result (λ next. next.0 ≡ (slot + 1) % length self.old.slots.now.slots) }
-        ensures within { IfSome result (λ next. next.0 < length self.old.slots.now.slots) }
-        ensures on { MatchOption result (MAX_DISPLACEMENT < mark_reach (told wanted)) (λ next. told next.1 ≡ mark_on (told wanted)) }
-        ensures counted { MatchOption result (self.new.reads.total ≡ self.old.reads.total + 1) (λ _. self.new.reads.total ≡ self.old.reads.total) }
+    /// Returns the slot after another, which is slot 0 after the last.
+    pub(crate) fn after(&self, slot: usize) -> usize
+        requires { slot < length self.now.slots.now.slots }
+        ensures after { result ≡ (slot + 1) % length self.now.slots.now.slots }
+        ensures within { result < length self.now.slots.now.slots }
     {
-        let after = self.slots.after(slot);
-        let Some(wanted) = wanted.checked_on() else {
-            self.read(after);
-            return None;
-        };
-        Some((after, wanted))
+        self.slots.after(slot)
     }
 }
