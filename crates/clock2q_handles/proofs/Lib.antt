@@ -31,3 +31,6 @@ pub mod TooLong
 pub mod Walk
 pub mod Yields
 pub mod Cursors
+pub mod Carrying
+pub mod Wrapping
+pub mod Few

@@ -116,7 +116,7 @@ pub struct Wanted {
 }
 
 impl Wanted {
-    ghost use Rattle.clock2q_handles.specs.Slots.{sought, mark_reach, mark_on};
+    ghost use Rattle.clock2q_handles.specs.Slots.{told, sought, mark_reach, mark_on};
 
     pub(super) fn nothing() -> Wanted
         ensures { sought result ≡ None }
@@ -147,6 +147,16 @@ impl Wanted {
     {
         Wanted {
             word: self.word + WANTED_UNIT,
+        }
+    }
+
+    /// Returns what an entry has that is put in where the walk ends.
+    pub(super) fn metadata(self) -> Metadata
+        requires { mark_reach (sought self) ≤ MAX_DISPLACEMENT + 1 }
+        ensures { told result ≡ sought self }
+    {
+        Metadata {
+            word: self.word as u32,
         }
     }
 }

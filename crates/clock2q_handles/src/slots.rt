@@ -1,12 +1,20 @@
 //! A table's slots, as two vectors side by side.
-ghost use Rattle.clock2q_handles.specs.Layout.{slot_at};
-ghost use Rattle.std.specs.Prelude.{◌≡◌, ◌+◌, ◌%◌, ◌^◌, ◌<◌, ◌≤◌, [], ℕ, None, IfOk, IfSome, length, replicate, set};
+ghost use Rattle.clock2q_handles.specs.Found.{TakesOut};
+ghost use Rattle.clock2q_handles.specs.Homes.{top, is_entry_of, listed};
+ghost use Rattle.clock2q_handles.specs.Layout.{IsTidy, slot_at, reach, homes_of};
+ghost use Rattle.clock2q_handles.specs.Shifts.{PutsIn};
+ghost use Rattle.clock2q_handles.specs.Slots.{cells, IsSlotCount};
+ghost use Rattle.std.specs.Bool.{OnTrue, OnFalse};
+ghost use Rattle.std.specs.List.{list_any};
+ghost use Rattle.std.specs.Prelude.{false, ◌≡◌, ◌+◌, ◌%◌, ◌^◌, ◌<◌, ◌≤◌, [], ℕ, None, IfOk, IfSome, length, replicate, set};
 
 mod reader;
+mod view;
 
 pub(super) use reader::Reader;
+pub(super) use view::SlotsMut;
 
-use crate::metadata::Metadata;
+use crate::metadata::{MAX_DISPLACEMENT, Metadata};
 use clock2q_count::Count;
 use std::alloc::{AllocError, Allocator};
 use std::marker::Model;
@@ -34,7 +42,7 @@ impl<H, A: Allocator> Model for Slots<H, A> {
 }
 
 impl<H: Copy + Default, A: Allocator> Slots<H, A> {
-    ghost use Rattle.clock2q_handles.specs.Slots.{slots_value, cell, told, mark_of, IsSlotCount};
+    ghost use Rattle.clock2q_handles.specs.Slots.{slots_value, cell, told, mark_of};
 
     /// No slots, and no memory.
     pub(super) fn new(alloc: A) -> Slots<H, A>
@@ -117,6 +125,44 @@ impl<H: Copy + Default, A: Allocator> Slots<H, A> {
         self.handles[slot]
     }
 
+    /// Takes the first candidate of `hash` that equals `handle` out, and returns whether there was
+    /// one.
+    #[inline(always)]
+    pub(super) fn remove(&mut self, hash: u64, handle: H) -> bool
+    where
+        H: PartialEq,
+        requires tidy { IsTidy self.old.slots }
+        requires near { (n : ℕ) → reach (slot_at self.old.slots n) ≤ 16777215 }
+        ensures taken { OnTrue result (TakesOut (is_entry_of H.PartialEq.eq hash handle) self.old.slots self.new.slots (hash % length self.old.slots) self.old.writes self.new.writes) }
+        ensures none { OnFalse result (list_any (is_entry_of H.PartialEq.eq hash handle) (listed (homes_of self.old.slots) (hash % length self.old.slots)) ≡ false) }
+        ensures kept { OnFalse result (self.new ≡ self.old) }
+    {
+        remove_from(
+            self.metadata.as_mut_slice(),
+            self.handles.as_mut_slice(),
+            &mut self.writes,
+            hash,
+            handle,
+        )
+    }
+
+    /// Puts an entry in where no entry comes to stand too far past its home.
+    #[inline(always)]
+    pub(super) fn put(&mut self, hash: u64, handle: H)
+        requires tidy { IsTidy self.old.slots }
+        requires near { (n : ℕ) → reach (slot_at self.old.slots n) ≤ MAX_DISPLACEMENT }
+        requires some { 0 < length self.old.slots }
+        ensures put { PutsIn self.old.slots self.new.slots (hash % length self.old.slots) (top hash, handle) self.old.writes self.new.writes }
+    {
+        put_into(
+            self.metadata.as_mut_slice(),
+            self.handles.as_mut_slice(),
+            &mut self.writes,
+            hash,
+            handle,
+        );
+    }
+
     fn slot(&self, home: usize, distance: usize) -> usize
         requires home { home < length self.now.slots }
         requires distance { distance ≤ length self.now.slots }
@@ -155,4 +201,49 @@ impl<H: Copy + Default, A: Allocator> Slots<H, A> {
         self.handles[slot] = handle;
         self.writes.tick();
     }
+}
+
+/// Removes an entry over a view of both vectors.
+#[inline(always)]
+fn remove_from<H: Copy + Default + PartialEq>(
+    metadata: &mut [Metadata],
+    handles: &mut [H],
+    writes: &mut Count,
+    hash: u64,
+    handle: H,
+) -> bool
+    requires same { length handles.old ≡ length metadata.old }
+    requires slot_count { IsSlotCount (length metadata.old) }
+    requires tidy { IsTidy (cells metadata.old handles.old) }
+    requires near { (n : ℕ) → reach (slot_at (cells metadata.old handles.old) n) ≤ 16777215 }
+    ensures taken { OnTrue result (TakesOut (is_entry_of H.PartialEq.eq hash handle) (cells metadata.old handles.old) (cells metadata.new handles.new) (hash % length (cells metadata.old handles.old)) writes.old.total writes.new.total) }
+    ensures none { OnFalse result (list_any (is_entry_of H.PartialEq.eq hash handle) (listed (homes_of (cells metadata.old handles.old)) (hash % length (cells metadata.old handles.old))) ≡ false) }
+    ensures kept { OnFalse result ((metadata.new ≡ metadata.old) × (handles.new ≡ handles.old) × (writes.new ≡ writes.old)) }
+    ensures as_many { length handles.new ≡ length metadata.new }
+    ensures len { length metadata.new ≡ length metadata.old }
+{
+    let mut slots = SlotsMut::new(metadata, handles, writes);
+    slots.remove(hash, handle)
+}
+
+/// Puts an entry in over a view of both vectors.
+#[inline(always)]
+fn put_into<H: Copy + Default>(
+    metadata: &mut [Metadata],
+    handles: &mut [H],
+    writes: &mut Count,
+    hash: u64,
+    handle: H,
+)
+    requires same { length handles.old ≡ length metadata.old }
+    requires slot_count { IsSlotCount (length metadata.old) }
+    requires tidy { IsTidy (cells metadata.old handles.old) }
+    requires near { (n : ℕ) → reach (slot_at (cells metadata.old handles.old) n) ≤ MAX_DISPLACEMENT }
+    requires some { 0 < length (cells metadata.old handles.old) }
+    ensures put { PutsIn (cells metadata.old handles.old) (cells metadata.new handles.new) (hash % length (cells metadata.old handles.old)) (top hash, handle) writes.old.total writes.new.total }
+    ensures as_many { length handles.new ≡ length metadata.new }
+    ensures len { length metadata.new ≡ length metadata.old }
+{
+    let mut slots = SlotsMut::new(metadata, handles, writes);
+    slots.put(hash, handle);
 }

@@ -11,6 +11,7 @@ mod tests;
 
 use crate::candidates::Candidates;
 use crate::error::TableError;
+use crate::metadata::MAX_DISPLACEMENT;
 use crate::slots::Slots;
 use std::alloc::{Allocator, Global};
 use std::fmt;
@@ -123,7 +124,31 @@ impl<H: Copy + Eq + Default, A: Allocator + Copy> Table<H, A> {
     }
 
     /// Puts an entry in, in a table that has room for it.
+    #[inline(always)]
     fn put(&mut self, hash: u64, handle: H) -> Result<(), TableError>
+        requires { total self.old.homes < capacity (length self.old.homes) }
+        ensures ok { OnOk result (self.new.homes ≡ inserted self.old.homes hash handle) }
+        ensures short { OnOk result (IsTooLong (inserted self.old.homes hash handle) → ⊥) }
+        ensures long { OnErr result (IsTooLong (inserted self.old.homes hash handle)) }
+        ensures err { OnErr result (self.new ≡ self.old) }
+        ensures only { IsOkUnless result TableError.RunTooLong }
+        ensures counted { self.old.writes ≤ self.new.writes }
+        ensures writes { self.new.writes ≤ self.old.writes + run self.old.slots hash + 1 }
+        ensures best { IsBestPlaced self.new.homes }
+        ensures few { total self.old.homes + 1 < 2 ^ 24 → IsOk result }
+        ensures restored { OnOk result (IsNew H.PartialEq.eq self.old.homes hash handle → layout (removed H.PartialEq.eq self.new.homes hash handle) ≡ self.old.slots) }
+    {
+        if self.len > MAX_DISPLACEMENT {
+            return self.put_in_long(hash, handle);
+        }
+        self.slots.put(hash, handle);
+        self.len += 1;
+        Ok(())
+    }
+
+    /// Puts an entry in, in a table of so many that a run may become too long.
+    #[inline(never)]
+    fn put_in_long(&mut self, hash: u64, handle: H) -> Result<(), TableError>
         requires { total self.old.homes < capacity (length self.old.homes) }
         ensures ok { OnOk result (self.new.homes ≡ inserted self.old.homes hash handle) }
         ensures short { OnOk result (IsTooLong (inserted self.old.homes hash handle) → ⊥) }
@@ -170,6 +195,7 @@ impl<H: Copy + Eq + Default, A: Allocator + Copy> Table<H, A> {
         Ok(table)
     }
 
+    #[inline(never)]
     /// Rebuilds a full table in twice the slots, or in the least count of them.
     fn grow<F: FnMut(H) -> u64>(&mut self, rehash: F) -> Result<(), TableError>
         requires full { IsFull self.old.homes }
@@ -420,11 +446,9 @@ impl<H: Copy + Eq + Default, A: Allocator> Table<H, A> {
         ensures best { IsBestPlaced self.new.homes }
         ensures shorter { (x : ℕ) → walk self.new.homes x ≤ walk self.old.homes x }
     {
-        let home = self.slots.home(hash);
-        let Some(distance) = self.slots.find(home, hash, handle) else {
+        if !self.slots.remove(hash, handle) {
             return false;
-        };
-        self.slots.take_out(home, distance);
+        }
         self.len -= 1;
         true
     }

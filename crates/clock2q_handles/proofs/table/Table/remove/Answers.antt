@@ -1,63 +1,60 @@
-use Rattle.std.proofs.Common.{◌≡◌, ◌≤◌, ◌+◌, ◌-◌, false, true, sym, ap, ◌∙◌, subst, arith}
+use Rattle.std.proofs.Common.{◌≡◌, ◌≤◌, ◌+◌, ◌-◌, ◌%◌, length, refl, false, true, sym, ap, ◌∙◌, subst, arith}
 use Rattle.std.specs.List.{list_any}
 use Rattle.clock2q_handles.specs.Homes.{listed, removed, is_entry_of}
-use Rattle.clock2q_handles.specs.Layout.{homes_of, reach, slot_at, walk, run, IsBestPlaced}
+use Rattle.clock2q_handles.specs.Layout.{homes_of, walk, run, IsBestPlaced}
+use Rattle.clock2q_handles.specs.Table.{IsTable}
 use Rattle.clock2q_handles.proofs.Tidy.{tidy-room}
-use Rattle.clock2q_handles.proofs.Walk.{passed}
 use Rattle.clock2q_handles.proofs.Removals.{removed-none, removed-walk}
 use Rattle.clock2q_handles.proofs.Steps.{Removal, listed-home, table-best, removal}
 use Rattle.clock2q_handles.proofs.table.Table.remove.Given.{Over}
-use Rattle.clock2q_handles.proofs.table.Table.remove.Goals.{After-take_out, In_default}
+use Rattle.clock2q_handles.proofs.table.Table.remove.Goals.{Else-not-remove, Then-not-remove}
 use Rattle.clock2q_handles.proofs.table.Table.remove.Goals as goal
 
 -- no entry passes where none was found
-none : (g : Over) (c : In_default g) → list_any (is_entry_of g.H.PartialEq.eq c.args.hash c.args.handle) (listed (homes_of c.self.inside.slots.slots) c.args.hash) ≡ false
+none : (g : Over) (c : Then-not-remove g) → list_any (is_entry_of g.H.PartialEq.eq c.args.hash c.args.handle) (listed (homes_of c.self.inside.slots.slots) c.args.hash) ≡ false
 none g c =
-    ap (list_any (is_entry_of g.H.PartialEq.eq c.args.hash c.args.handle)) (sym (listed-home c.self.inside.slots.slots c.home-home.result c.args.hash c.home-home.ensures.home)) ∙ c.in_default.ensures.none
+    ap (list_any (is_entry_of g.H.PartialEq.eq c.args.hash c.args.handle)) (sym (listed-home c.self.inside.slots.slots (c.args.hash % length c.self.inside.slots.slots) c.args.hash (λ _. refl))) ∙ c.if-not-remove.ensures.none
 
 -- what was taken out
-step : (g : Over) (c : After-take_out g) → Removal g.H.PartialEq.eq c.args.hash c.args.handle c.self.inside.slots.slots c.take_out.new.self.slots c.self.inside.len c.self.inside.slots.writes c.take_out.new.self.writes
-step g c =
-    removal g.H.PartialEq.eq c.args.hash c.args.handle c.self.inside.slots.slots c.take_out.new.self.slots c.home-home.result c.in-Some.distance c.self.inside.len c.self.inside.slots.writes c.take_out.new.self.writes c.self.invariant
-    (c.home-home.ensures.home (omega (arith, c.in-Some.ensures.within))) c.in-Some.ensures.within c.in-Some.ensures.found c.take_out.ensures.closes c.take_out.ensures.len
-
-pub returns-in_default-clause-removed : goal.returns-in_default-clause-removed
-returns-in_default-clause-removed g c =
-    subst (λ t. t.homes ≡ removed g.H.PartialEq.eq t.homes c.args.hash c.args.handle) c.self.view_is (sym (removed-none g.H.PartialEq.eq (homes_of c.self.inside.slots.slots) c.args.hash c.args.handle (none g c)))
-
-pub returns-in_default-clause-found : goal.returns-in_default-clause-found
-returns-in_default-clause-found g c =
-    subst (λ t. false ≡ list_any (is_entry_of g.H.PartialEq.eq c.args.hash c.args.handle) (listed t.homes c.args.hash)) c.self.view_is (sym (none g c))
-
-pub returns-in_default-clause-best : goal.returns-in_default-clause-best
-returns-in_default-clause-best g c = subst (λ t. IsBestPlaced t.homes) c.self.view_is (table-best c.self.inside.slots.slots c.self.inside.len c.self.invariant)
-
-pub take_out-requires-clause-walked : goal.take_out-requires-clause-walked
-take_out-requires-clause-walked g c j l =
-    let found = c.in-Some.ensures.found in
-    let far = passed (slot_at c.self.inside.slots.slots) c.self.invariant.tidy.ordered c.home-home.result 0 c.in-Some.distance (omega (arith, ap reach found.here)) j l in
-    omega (arith, far)
-
-pub overflow_sub-self : goal.overflow_sub-self
-overflow_sub-self g c = omega (arith, (step g (goal.at.overflow_sub-self g c).After-take_out).total_less)
+step : (g : Over) (c : Else-not-remove g) → Removal g.H.PartialEq.eq c.args.hash c.args.handle c.self.inside.slots.slots c.remove.new.self.slots c.self.inside.len c.self.inside.slots.writes c.remove.new.self.writes
+step g c = removal g.H.PartialEq.eq c.args.hash c.args.handle c.self.inside.slots.slots c.remove.new.self.slots c.self.inside.len c.self.inside.slots.writes c.remove.new.self.writes c.self.invariant c.if-not-remove.ensures.taken
 
 pub invariant_of-self : goal.invariant_of-self
-invariant_of-self g c = (step g (goal.at.invariant_of-self g c).After-take_out).table
+invariant_of-self g c = subst (λ s. IsTable s.slots c.self.inside.len) (sym c.if-not-remove.ensures.kept) c.self.invariant
+
+pub returns-then-not-remove-clause-removed : goal.returns-then-not-remove-clause-removed
+returns-then-not-remove-clause-removed g c =
+    ap (λ s. homes_of s.slots) c.if-not-remove.ensures.kept
+    ∙ sym (removed-none g.H.PartialEq.eq (homes_of c.self.inside.slots.slots) c.args.hash c.args.handle (none g (goal.at.returns-then-not-remove-clause-removed g c).Then-not-remove))
+    ∙ ap (λ t. removed g.H.PartialEq.eq t.homes c.args.hash c.args.handle) c.self.view_is
+
+pub returns-then-not-remove-clause-found : goal.returns-then-not-remove-clause-found
+returns-then-not-remove-clause-found g c =
+    subst (λ t. false ≡ list_any (is_entry_of g.H.PartialEq.eq c.args.hash c.args.handle) (listed t.homes c.args.hash)) c.self.view_is (sym (none g (goal.at.returns-then-not-remove-clause-found g c).Then-not-remove))
+
+pub returns-then-not-remove-clause-best : goal.returns-then-not-remove-clause-best
+returns-then-not-remove-clause-best g c = subst (λ s. IsBestPlaced (homes_of s.slots)) (sym c.if-not-remove.ensures.kept) (table-best c.self.inside.slots.slots c.self.inside.len c.self.invariant)
+
+pub overflow_sub-self : goal.overflow_sub-self
+overflow_sub-self g c = omega (arith, (step g (goal.at.overflow_sub-self g c).Else-not-remove).total_less)
+
+pub invariant_of-self-2 : goal.invariant_of-self-2
+invariant_of-self-2 g c = (step g (goal.at.invariant_of-self-2 g c).Else-not-remove).table
 
 pub returns-clause-removed : goal.returns-clause-removed
-returns-clause-removed g c = (step g (goal.at.returns-clause-removed g c).After-take_out).homes ∙ ap (λ t. removed g.H.PartialEq.eq t.homes c.args.hash c.args.handle) c.self.view_is
+returns-clause-removed g c = (step g (goal.at.returns-clause-removed g c).Else-not-remove).homes ∙ ap (λ t. removed g.H.PartialEq.eq t.homes c.args.hash c.args.handle) c.self.view_is
 
 pub returns-clause-found : goal.returns-clause-found
-returns-clause-found g c = subst (λ t. true ≡ list_any (is_entry_of g.H.PartialEq.eq c.args.hash c.args.handle) (listed t.homes c.args.hash)) c.self.view_is (sym (step g (goal.at.returns-clause-found g c).After-take_out).found)
+returns-clause-found g c = subst (λ t. true ≡ list_any (is_entry_of g.H.PartialEq.eq c.args.hash c.args.handle) (listed t.homes c.args.hash)) c.self.view_is (sym (step g (goal.at.returns-clause-found g c).Else-not-remove).found)
 
 pub returns-clause-writes : goal.returns-clause-writes
-returns-clause-writes g c = subst (λ t. c.take_out.new.self.writes ≤ t.writes + run t.slots c.args.hash) c.self.view_is (step g (goal.at.returns-clause-writes g c).After-take_out).writes
+returns-clause-writes g c = subst (λ t. c.remove.new.self.writes ≤ t.writes + run t.slots c.args.hash) c.self.view_is (step g (goal.at.returns-clause-writes g c).Else-not-remove).writes
 
 pub returns-clause-best : goal.returns-clause-best
-returns-clause-best g c = table-best c.take_out.new.self.slots (c.self.inside.len - 1) (step g (goal.at.returns-clause-best g c).After-take_out).table
+returns-clause-best g c = table-best c.remove.new.self.slots (c.self.inside.len - 1) (step g (goal.at.returns-clause-best g c).Else-not-remove).table
 
 pub returns-clause-shorter : goal.returns-clause-shorter
 returns-clause-shorter g c x =
     let homes = homes_of c.self.inside.slots.slots in
-    subst (λ t. walk (homes_of c.take_out.new.self.slots) x ≤ walk t.homes x) c.self.view_is
-    (subst (λ hs. walk hs x ≤ walk homes x) (sym (step g (goal.at.returns-clause-shorter g c).After-take_out).homes) (removed-walk g.H.PartialEq.eq homes c.args.hash c.args.handle (tidy-room c.self.inside.slots.slots c.self.invariant.tidy) x))
+    subst (λ t. walk (homes_of c.remove.new.self.slots) x ≤ walk t.homes x) c.self.view_is
+    (subst (λ hs. walk hs x ≤ walk homes x) (sym (step g (goal.at.returns-clause-shorter g c).Else-not-remove).homes) (removed-walk g.H.PartialEq.eq homes c.args.hash c.args.handle (tidy-room c.self.inside.slots.slots c.self.invariant.tidy) x))
