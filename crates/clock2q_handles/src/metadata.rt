@@ -5,6 +5,10 @@ ghost use Rattle.std.specs.Prelude.{◌≡◌, ◌+◌, ◌≤◌, ◌<◌, ◌�
 /// One unit of reach, which is an entry's displacement and one more: a fingerprint stands below it.
 const UNIT: u32 = 1 << 8;
 
+/// An empty slot's word: any word below a unit says as much, and one that isn't made of equal bytes
+/// is filled in by words.
+const EMPTY: u32 = 1;
+
 /// The furthest that an entry may stand past its home.
 pub(super) const MAX_DISPLACEMENT: usize = (1 << 24) - 2;
 
@@ -20,7 +24,7 @@ impl Metadata {
     pub(super) fn empty() -> Metadata
         ensures { told result ≡ None }
     {
-        Metadata { word: 0 }
+        Metadata { word: EMPTY }
     }
 
     /// What an entry of that hash has, so far past its home.

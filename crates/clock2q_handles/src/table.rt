@@ -147,7 +147,7 @@ impl<H: Copy + Eq + Default, A: Allocator + Copy> Table<H, A> {
     }
 
     /// Puts an entry in, in a table of so many that a run may become too long.
-    #[inline(never)]
+    #[inline(always)]
     fn put_in_long(&mut self, hash: u64, handle: H) -> Result<(), TableError>
         requires { total self.old.homes < capacity (length self.old.homes) }
         ensures ok { OnOk result (self.new.homes ≡ inserted self.old.homes hash handle) }
@@ -195,8 +195,8 @@ impl<H: Copy + Eq + Default, A: Allocator + Copy> Table<H, A> {
         Ok(table)
     }
 
-    #[inline(never)]
     /// Rebuilds a full table in twice the slots, or in the least count of them.
+    #[inline(never)]
     fn grow<F: FnMut(H) -> u64>(&mut self, rehash: F) -> Result<(), TableError>
         requires full { IsFull self.old.homes }
         requires asked { (key : H → ℕ) × GivesHashes F.FnMut key self.old.homes rehash }
@@ -214,6 +214,7 @@ impl<H: Copy + Eq + Default, A: Allocator + Copy> Table<H, A> {
     }
 
     /// Makes room for one entry more in a table that is full.
+    #[inline(always)]
     fn make_room<F: FnMut(H) -> u64>(&mut self, rehash: F) -> Result<(), TableError>
         requires { IsFull self.old.homes → (key : H → ℕ) × GivesHashes F.FnMut key self.old.homes rehash }
         ensures grown { OnOk result ((key : H → ℕ) → (IsFull self.old.homes → GivesHashes F.FnMut key self.old.homes rehash) → self.new.homes ≡ grown key self.old.homes) }
@@ -281,6 +282,7 @@ impl<H: Copy + Eq + Default, A: Allocator + Copy> Table<H, A> {
     /// `Memory` where the table was full and can't grow: it is unchanged. `RunTooLong` where an
     /// entry would stand more than 2^24 - 2 slots past its home: the entries are the same, in twice
     /// the slots where the table was full. It takes 2^24 entries with the new one.
+    #[inline(always)]
     pub fn insert<F: FnMut(H) -> u64>(
         &mut self,
         hash: u64,
