@@ -12,7 +12,7 @@ mod reader;
 mod view;
 
 pub(super) use reader::Reader;
-pub(super) use view::SlotsMut;
+pub(super) use view::{SlotsMut, SlotsRef};
 
 use crate::metadata::{MAX_DISPLACEMENT, Metadata};
 use clock2q_count::Count;
@@ -42,7 +42,7 @@ impl<H, A: Allocator> Model for Slots<H, A> {
 }
 
 impl<H: Copy + Default, A: Allocator> Slots<H, A> {
-    ghost use Rattle.clock2q_handles.specs.Slots.{slots_value, cell, told, mark_of};
+    ghost use Rattle.clock2q_handles.specs.Slots.{slots_value, cell, cells, told, mark_of};
 
     /// No slots, and no memory.
     pub(super) fn new(alloc: A) -> Slots<H, A>
@@ -80,6 +80,16 @@ impl<H: Copy + Default, A: Allocator> Slots<H, A> {
         A: Copy,
     {
         *self.metadata.allocator()
+    }
+
+    /// Returns a view that reads the slots.
+    #[inline(always)]
+    pub(super) fn view(&self) -> SlotsRef<'_, H>
+        ensures shown { cells result.metadata.now result.handles.now ≡ self.now.slots }
+        ensures count { length result.metadata.now ≡ length self.now.slots }
+        ensures same { length result.handles.now ≡ length result.metadata.now }
+    {
+        SlotsRef::new(self.metadata.as_slice(), self.handles.as_slice())
     }
 
     /// How many slots there are.

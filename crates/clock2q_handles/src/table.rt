@@ -185,9 +185,10 @@ impl<H: Copy + Eq + Default, A: Allocator + Copy> Table<H, A> {
             return Err(TableError::Memory);
         };
         let mut table = Table { slots, len: 0 };
-        for slot in 0..self.slots.count() {
-            if !self.slots.metadata(0, slot).is_empty() {
-                let handle = self.slots.handle(0, slot);
+        let old = self.slots.view();
+        for slot in 0..old.count() {
+            if !old.metadata(slot).is_empty() {
+                let handle = old.handle(slot);
                 let hash = rehash(handle);
                 table.put(hash, handle)?;
             }

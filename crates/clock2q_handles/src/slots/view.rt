@@ -94,3 +94,44 @@ impl<'a, H: Copy> SlotsMut<'a, H> {
         self.writes.tick();
     }
 }
+
+/// Both vectors of the slots as slices, to be read from one end to the other.
+#[derive(Clone, Copy)]
+pub struct SlotsRef<'a, H> {
+    metadata: &'a [Metadata],
+    handles: &'a [H],
+}
+
+impl<'a, H: Copy> SlotsRef<'a, H> {
+    ghost use Rattle.clock2q_handles.specs.Slots.{cells, told, mark_of};
+
+    pub(crate) fn new(metadata: &'a [Metadata], handles: &'a [H]) -> SlotsRef<'a, H>
+        ensures metadata { result.metadata.now ≡ metadata.now }
+        ensures handles { result.handles.now ≡ handles.now }
+    {
+        SlotsRef { metadata, handles }
+    }
+
+    /// Returns how many slots there are.
+    pub(crate) fn count(&self) -> usize
+        ensures { result ≡ length self.now.metadata.now }
+    {
+        self.metadata.len()
+    }
+
+    pub(crate) fn metadata(&self, slot: usize) -> Metadata
+        requires same { length self.now.handles.now ≡ length self.now.metadata.now }
+        requires within { slot < length self.now.metadata.now }
+        ensures { told result ≡ mark_of (slot_at (cells self.now.metadata.now self.now.handles.now) slot) }
+    {
+        self.metadata[slot]
+    }
+
+    pub(crate) fn handle(&self, slot: usize) -> H
+        requires same { length self.now.handles.now ≡ length self.now.metadata.now }
+        requires within { slot < length self.now.metadata.now }
+        ensures { IfSome (slot_at (cells self.now.metadata.now self.now.handles.now) slot) (λ p. result ≡ p.entry.1) }
+    {
+        self.handles[slot]
+    }
+}
