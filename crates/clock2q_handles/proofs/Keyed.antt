@@ -3,13 +3,13 @@ use Rattle.std.proofs.Common.{◌≡◌, ◌≢◌, ℕ, ◌<◌, ◌≤◌, ◌
 use Rattle.std.specs.Prelude.{OnOk, OnErr, ◌+◌, ◌*◌}
 use Rattle.clock2q_handles.specs.declared.error.TableError.{TableError}
 use Rattle.clock2q_handles.specs.declared.error.TableError.TheVariants.{Memory, Size, RunTooLong}
-use Rattle.clock2q_handles.specs.Offers.{Offers, Settles}
+use Rattle.clock2q_handles.specs.Offers.{Settles, FindsOrPuts}
+use Rattle.clock2q_handles.specs.Changes.{PutIn}
 use lib.Dec.{T, eqb→eq}
 use Rattle.std.specs.Fn.{Called, Takes, Mut}
-use Rattle.clock2q_handles.specs.Homes.{top, capacity, total, candidates, inserted, removed}
-use Rattle.clock2q_handles.specs.TableStep.{TableValue, IsHashOf, IsFull, IsShortOf, doubled_until, grown, reserved, rebuilt, doubled, fit}
-use Rattle.clock2q_handles.specs.Layout.{IsTooLong}
-use Rattle.clock2q_handles.specs.Rehash.{GivesHashes}
+use Rattle.clock2q_handles.specs.Homes.{top, capacity, total, inserted, removed}
+use Rattle.clock2q_handles.specs.TableStep.{TableValue, IsHashOf, IsShortOf, doubled_until, grown, reserved, rebuilt, doubled, fit}
+use Rattle.clock2q_handles.specs.Rehash.{GivesHashes, AfterGrowth, IsHeld, Reaches}
 use Rattle.clock2q_handles.proofs.Hashes.{hashes-put_last, hashes-rebuilt, hashes-removed, rebuilt-length}
 
 one_of : (m x : ℕ) (b : Bool) → 0 < m → 0 < x → 0 < elim b [ true ↦ m | false ↦ x ]
@@ -60,29 +60,27 @@ module _ {H : Type 0} (key : H → ℕ) where
 
   module _ {F : Type 0} (g : Mut F (H × Unit {0}) ℕ) (f : F) (homes new : List (List (ℕ × H))) (h : ℕ) (v : H) where
     -- what an insertion leaves, however it ends
-    pub keyed_put : (result : Result (Unit {0}) TableError)
-        → OnOk result ((k : H → ℕ) → (IsFull homes → GivesHashes g k homes f) → new ≡ inserted (grown k homes) h v)
-        → (result ≡ Err RunTooLong → (k : H → ℕ) → (IsFull homes → GivesHashes g k homes f) → IsTooLong (inserted (grown k homes) h v) × (new ≡ grown k homes))
-        → (result ≡ Err Memory → new ≡ homes) → (result ≢ Err Size) → h ≡ key v → IsHashOf key homes → GivesHashes g key homes f → IsHashOf key new
-    keyed_put (Ok r) ok long memory size is hashes gives = subst (IsHashOf key) (sym (ok key (λ _. gives))) (keyed_inserted_under homes h v is hashes)
-    keyed_put (Err Memory) ok long memory size is hashes gives = subst (IsHashOf key) (sym (memory refl)) hashes
-    keyed_put (Err Size) ok long memory size is hashes gives = absurd (size refl)
-    keyed_put (Err RunTooLong) ok long memory size is hashes gives = subst (IsHashOf key) (sym (long refl key (λ _. gives)).1) (keyed_grown homes hashes).1
+    pub keyed_put : (result : Result (Unit {0}) TableError) → (result ≢ Err Memory → AfterGrowth g f homes (λ hs. PutIn hs h v result new)) → (result ≡ Err Memory → new ≡ homes)
+        → h ≡ key v → IsHashOf key homes → GivesHashes g key homes f → IsHashOf key new
+    keyed_put (Ok r) put memory is hashes gives = subst (IsHashOf key) (sym (put (λ e. absurd (cc)) key (λ _. gives)).0) (keyed_inserted_under homes h v is hashes)
+    keyed_put (Err Memory) put memory is hashes gives = subst (IsHashOf key) (sym (memory refl)) hashes
+    keyed_put (Err Size) put memory is hashes gives = subst (IsHashOf key) (sym (put (λ e. absurd (cc)) key (λ _. gives)).1) (keyed_grown homes hashes).1
+    keyed_put (Err RunTooLong) put memory is hashes gives = subst (IsHashOf key) (sym (put (λ e. absurd (cc)) key (λ _. gives)).1) (keyed_grown homes hashes).1
+
+    keyed_settles : {M : Type 0} (m : Mut M (H × Unit {0}) Bool) (matches : M) (result : Result (H × Bool) TableError) → (last : M) × AfterGrowth g f homes (λ hs. FindsOrPuts m matches hs h v result new last)
+        → h ≡ key v → IsHashOf key homes → GivesHashes g key homes f → IsHashOf key new
+    keyed_settles m matches result settles is hashes gives =
+        let s = settles.1 key (λ _. gives) in
+        keyed_settled homes new h v s.0 result is s.2 hashes
 
     -- what a handle that is found or put in leaves
     pub keyed_found : {M : Type 0} (m : Mut M (H × Unit {0}) Bool) (matches : M) (result : Result (H × Bool) TableError)
-        → ((result ≢ Err Memory) → (k : H → ℕ) → (IsFull homes → GivesHashes g k homes f) → (found : Option H) × (last : M) × Offers m matches (candidates (grown k homes) h) found last × Settles (grown k homes) h v found result new)
+        → (result ≢ Err Memory → (last : M) × AfterGrowth g f homes (λ hs. FindsOrPuts m matches hs h v result new last))
         → (result ≡ Err Memory → new ≡ homes) → h ≡ key v → IsHashOf key homes → GivesHashes g key homes f → IsHashOf key new
-    keyed_found m matches (Ok r) settles memory is hashes gives =
-        let s = settles (λ e. absurd (cc)) key (λ _. gives) in
-        keyed_settled homes new h v s.0 (Ok r) is s.3 hashes
+    keyed_found m matches (Ok r) settles memory is hashes gives = keyed_settles m matches (Ok r) (settles (λ e. absurd (cc))) is hashes gives
     keyed_found m matches (Err Memory) settles memory is hashes gives = subst (IsHashOf key) (sym (memory refl)) hashes
-    keyed_found m matches (Err Size) settles memory is hashes gives =
-        let s = settles (λ e. absurd (cc)) key (λ _. gives) in
-        keyed_settled homes new h v s.0 (Err Size) is s.3 hashes
-    keyed_found m matches (Err RunTooLong) settles memory is hashes gives =
-        let s = settles (λ e. absurd (cc)) key (λ _. gives) in
-        keyed_settled homes new h v s.0 (Err RunTooLong) is s.3 hashes
+    keyed_found m matches (Err Size) settles memory is hashes gives = keyed_settles m matches (Err Size) (settles (λ e. absurd (cc))) is hashes gives
+    keyed_found m matches (Err RunTooLong) settles memory is hashes gives = keyed_settles m matches (Err RunTooLong) (settles (λ e. absurd (cc))) is hashes gives
 
     -- what a reservation leaves
     pub keyed_reserved : (before after : TableValue H) (n : ℕ) (result : Result (Unit {0}) TableError)
@@ -96,12 +94,22 @@ module _ {H : Type 0} (key : H → ℕ) where
   keyed_removed eq [] x v hashes = hashes
   keyed_removed eq (es ∷ homes) x v hashes = hashes-removed key eq (es ∷ homes) x v (omega arith) hashes
 
+  module _ {F : Type 0} (g : Mut F (H × Unit {0}) ℕ) (homes : List (List (ℕ × H))) (I : F → Type 0) (takes : (f : F) (h : H) → I f → IsHeld homes h → Takes g f (h, tt))
+      (says : (f : F) (h : H) (r : ℕ) (next : F) → I f → IsHeld homes h → Called g f (h, tt) r next → (r ≡ key h) × I next) where
+    lasts : (hs : List H) (f f' : F) → I f → Reaches g (IsHeld homes) f hs f' → I f'
+    lasts [] f f' i reached = subst I (sym reached) i
+    lasts (h ∷ hs) f f' i reached = lasts hs reached.1 f' (says f h reached.0 reached.1 i reached.2 reached.3).1 reached.4
+
+    -- where what a closure needs lasts through its calls on held handles, and it answers what its key says, it gives each held handle its hash
+    pub keyed_given_by : (f : F) → I f → IsHashOf key homes → GivesHashes g key homes f
+    keyed_given_by f i hashes = record {
+      answers = record {
+        takes = λ hs f' h reached held. takes f' h (lasts hs f f' i reached) held;
+        answers = λ hs f' h r next reached held called. (says f' h r next (lasts hs f f' i reached) held called).0;
+      };
+      hashes = hashes;
+    }
+
   -- a closure that answers what its key says gives each held handle its hash
   pub keyed_given : {F : Type 0} (g : Mut F (H × Unit {0}) ℕ) (homes : List (List (ℕ × H))) (f : F) → IsHashOf key homes → ((f' : F) (h : H) → Takes g f' (h, tt)) → ((f' : F) (h : H) (r : ℕ) (next : F) → Called g f' (h, tt) r next → r ≡ key h) → GivesHashes g key homes f
-  keyed_given g homes f hashes takes answers = record {
-    answers = record {
-      takes = λ _ f' h _ _. takes f' h;
-      answers = λ _ f' h r next _ _ called. answers f' h r next called;
-    };
-    hashes = hashes;
-  }
+  keyed_given g homes f hashes takes answers = keyed_given_by g homes (λ _. Unit {0}) (λ f' h _ _. takes f' h) (λ f' h r next _ _ called. (answers f' h r next called, tt)) f tt hashes

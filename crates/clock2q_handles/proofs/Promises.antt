@@ -3,9 +3,14 @@ use Rattle.std.proofs.Common.{◌≡◌, ℕ, suc, ◌+◌, ◌^◌, ◌<◌, re
 use Rattle.std.specs.Prelude.{Result, Ok, Err, IsOk, OnOk, OnErr}
 use Rattle.clock2q_handles.specs.Homes.{total, capacity, inserted, top, removed, IsNew}
 use Rattle.clock2q_handles.specs.Layout.{Placed, layout, homes_of, IsTidy, IsTooLong}
+use Rattle.clock2q_handles.specs.TableStep.{TableValue}
+use Rattle.clock2q_handles.specs.Table.{IsWhole}
+use Rattle.clock2q_handles.specs.Changes.{PutIn, IsLaidOut}
+use Rattle.clock2q_handles.specs.declared.error.TableError.{TableError}
 use Rattle.clock2q_handles.proofs.Tidy.{length-homes_of}
 use Rattle.clock2q_handles.proofs.Changes.{length-with_list}
 use Rattle.clock2q_handles.proofs.Rebuild.{total-put_last}
+use Rattle.clock2q_handles.proofs.Placement.{best-placed}
 use Rattle.clock2q_handles.proofs.TooLong.{too-long-total}
 use Rattle.clock2q_handles.proofs.Removals.{restored-slots}
 
@@ -24,6 +29,20 @@ pub no_error : {T E : Type 0} (r : Result T E) (e : E) → IsOk r → r ≡ Err 
 no_error r e ok is = let no = subst IsOk is ok in cc
 
 module _ {H : Type 0} where
+  -- what an insertion that is not refused leaves
+  pub put_ok : (old new : List (List (ℕ × H))) (x : ℕ) (v : H) (r : Result (Unit {0}) TableError) → PutIn old x v r new → OnOk r (new ≡ inserted old x v)
+  put_ok old new x v (Ok u) put = put.0
+  put_ok old new x v (Err e) put = tt
+
+  -- and why one is
+  pub put_err : (old new : List (List (ℕ × H))) (x : ℕ) (v : H) (r : Result (Unit {0}) TableError) → PutIn old x v r new → OnErr r (IsTooLong (inserted old x v))
+  put_err old new x v (Ok u) put = tt
+  put_err old new x v (Err e) put = put.2
+
+  -- what callers may rely on of every table has in it how the entries stand
+  pub whole_laid : (t : TableValue H) → IsWhole t → IsLaidOut t
+  whole_laid t whole = record { laid = whole.laid; best = best-placed t.homes whole.room }
+
   -- a table of fewer than 2^24 - 1 entries takes one more
   pub few_fit : (homes : List (List (ℕ × H))) (x : ℕ) (v : H) → total homes < capacity (length homes) → total homes + 1 < 2 ^ 24 → IsTooLong (inserted homes x v) → ⊥
   few_fit homes x v room few long =

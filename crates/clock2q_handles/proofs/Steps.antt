@@ -9,11 +9,13 @@ use Rattle.clock2q_handles.specs.Layout.{Placed, placed, slot_at, reach, homes_o
 use Rattle.clock2q_handles.specs.Shifts.{Opens, Closes, moved_on}
 use Rattle.clock2q_handles.specs.Slots.{IsSlotCount}
 use Rattle.clock2q_handles.specs.Table.{IsTable}
+use Rattle.clock2q_handles.specs.TableStep.{table_value}
+use Rattle.clock2q_handles.specs.Changes.{IsLaidOut}
 use Rattle.clock2q_handles.specs.Found.{Finds, TakesOut}
 use Rattle.clock2q_handles.proofs.Laps.{rem-same, lap, lap-lt, lap-same}
 use Rattle.clock2q_handles.proofs.Laid.{met-same}
 use Rattle.clock2q_handles.proofs.Reading.{slot-again}
-use Rattle.clock2q_handles.proofs.Tidy.{length-homes_of, tidy-room}
+use Rattle.clock2q_handles.proofs.Tidy.{length-homes_of, tidy-layout, tidy-room}
 use Rattle.clock2q_handles.proofs.Changes.{IsMovedOn, removed-run, removed-total, removed-tidy, removed-homes, list_without, read-split}
 use Rattle.clock2q_handles.proofs.Placement.{best-placed}
 use Rattle.clock2q_handles.proofs.Removals.{removed-found}
@@ -147,12 +149,17 @@ module _ {H : Type 0} (eq : H → H → Bool) (x : ℕ) (v : H) (others slots : 
 pub table-best : {H : Type 0} (slots : List (Option (Placed (ℕ × H)))) (len : ℕ) → IsTable slots len → IsBestPlaced (homes_of slots)
 table-best slots len table = best-placed (homes_of slots) (tidy-room slots table.tidy)
 
+-- in the slots that their lists say
+pub table-laid : {H : Type 0} (slots : List (Option (Placed (ℕ × H)))) (len : ℕ) → IsTable slots len → (writes : ℕ) → IsLaidOut (table_value (homes_of slots) slots writes)
+table-laid slots len table writes = record { laid = tidy-layout slots table.tidy; best = table-best slots len table }
+
 -- what a removal comes to: the lists without the entry, which was there, and the writes
 pub record Removal {H : Type 0} (eq : H → H → Bool) (x : ℕ) (v : H) (others slots : List (Option (Placed (ℕ × H)))) (len before after : ℕ) : Type 0 where
   pub homes : homes_of slots ≡ removed eq (homes_of others) x v
   pub found : list_any (is_entry_of eq x v) (listed (homes_of others) x) ≡ true
   pub total_less : suc (total (homes_of slots)) ≡ len
   pub table : IsTable slots (len - 1)
+  pub counted : before ≤ after
   pub writes : after ≤ before + run others x
 
 pub removal : {H : Type 0} (eq : H → H → Bool) (x : ℕ) (v : H) (others slots : List (Option (Placed (ℕ × H)))) (len before after : ℕ) → IsTable others len → TakesOut (is_entry_of eq x v) others slots (x % length others) before after → Removal eq x v others slots len before after
@@ -165,5 +172,6 @@ removal eq x v others slots len before after table taken =
       found = taken-found eq x v others slots g n w len table refl taken.within taken.finds taken.closes taken.len;
       total_less = taken-len eq x v others slots g n w len table refl taken.within taken.finds taken.closes taken.len;
       table = taken-table eq x v others slots g n w len table refl taken.within taken.finds taken.closes taken.len;
+      counted = omega (arith, taken.written, taken.closes.opens.from);
       writes = omega (arith, taken-run eq x v others slots g n w len table refl taken.within taken.finds taken.closes taken.len, taken.written);
     }

@@ -4,6 +4,7 @@ pub mod TableStep
 pub mod Slots
 pub mod Views
 pub mod Table
+pub mod Changes
 pub mod Shifts
 pub mod Found
 pub mod Rehash

@@ -3,7 +3,7 @@ use Rattle.std.specs.Prelude.{◌≡◌, ℕ, List, [], ◌∷◌, slice_get, So
 use Rattle.std.specs.Fn.{Called, Takes, Mut}
 use Rattle.clock2q_handles.specs.Homes.{listed}
 use Rattle.clock2q_handles.specs.Layout.{entries, layout}
-use Rattle.clock2q_handles.specs.TableStep.{IsHashOf}
+use Rattle.clock2q_handles.specs.TableStep.{IsHashOf, IsFull, grown}
 
 -- some entry holds the handle
 abbrev pub IsHeld : {H : Type 0} → List (List (ℕ × H)) → H → Type 0
@@ -33,3 +33,16 @@ module _ {F H : Type 0} (g : Mut F (H × Unit {0}) ℕ) where
 pub record GivesHashes {F H : Type 0} (g : Mut F (H × Unit {0}) ℕ) (key : H → ℕ) (homes : List (List (ℕ × H))) (f : F) : Type 0 where
   pub answers : AnswersBy g key (IsHeld homes) f
   pub hashes : IsHashOf key homes
+
+module _ {F H : Type 0} (g : Mut F (H × Unit {0}) ℕ) (f : F) (homes : List (List (ℕ × H))) where
+  -- f gives the handles that are held the hashes of some function
+  abbrev pub HashesKnown : Type 0
+  HashesKnown = (key : H → ℕ) × GivesHashes g key homes f
+
+  -- one call of f on each held handle, in the order of their slots, leads to last
+  abbrev pub AsksHeld : F → Type 0
+  AsksHeld last = (key : H → ℕ) → GivesHashes g key homes f → Asks g key f (held_handles homes) last
+
+  -- P holds of the lists that an insertion finds, which a full table comes to by growing
+  abbrev pub AfterGrowth : (List (List (ℕ × H)) → Type 0) → Type 0
+  AfterGrowth P = (key : H → ℕ) → (IsFull homes → GivesHashes g key homes f) → P (grown key homes)

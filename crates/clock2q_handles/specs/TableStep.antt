@@ -49,6 +49,10 @@ module _ {H : Type 0} where
   abbrev pub made_for : ℕ → List (List (ℕ × H))
   made_for n = elim n [ zero ↦ [] | suc k ↦ no_entries (fit (suc k)) ]
 
+  -- one more entry fits
+  abbrev pub IsBelowCapacity : List (List (ℕ × H)) → Type 0
+  IsBelowCapacity homes = total homes < capacity (length homes)
+
   -- no more entries fit
   abbrev pub IsFull : List (List (ℕ × H)) → Type 0
   IsFull homes = total homes ≡ capacity (length homes)

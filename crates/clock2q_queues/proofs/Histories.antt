@@ -1,7 +1,7 @@
 -- What each call makes of the history's list.
-use Rattle.std.proofs.Common.{◌≡◌, ◌≢◌, ℕ, zero, suc, ◌+◌, ◌-◌, ◌*◌, ◌^◌, ◌<◌, ◌≤◌, max, Bool, true, false, ◌||◌, ◌&&◌, ◌==◌, eqb, ne_eqb, cond, Option, Some, None, slice_get, get_or, List, [], ◌∷◌, ◌++◌, map, length, take, drop, take_all, inl, inr, refl, sym, ap, ◌∙◌, subst, arith, eqb-true}
+use Rattle.std.proofs.Common.{◌≡◌, ℕ, zero, suc, ◌+◌, ◌-◌, ◌*◌, ◌^◌, ◌<◌, ◌≤◌, max, Bool, true, false, ◌||◌, ◌&&◌, ◌==◌, eqb, Option, Some, None, slice_get, get_or, List, [], ◌∷◌, ◌++◌, map, length, take, drop, take_all, inl, inr, refl, sym, ap, ◌∙◌, subst, arith, eqb-true}
 use Rattle.std.specs.List.{filter, cons_option, find, last_or, AllByRecursion}
-use Rattle.std.specs.Prelude.{Result, Ok, Err, OnOk}
+use Rattle.std.specs.Prelude.{Result, Ok, Err, IsOk}
 use Rattle.std.specs.Cmp.{IsEquivalence}
 use Rattle.std.proofs.lemmas.Bool.{both_ways, cases_Bool, eq-eqb, eqb-false, or_cases}
 use Rattle.std.proofs.lemmas.Bool.Decides.{leb_tells}
@@ -13,9 +13,10 @@ use Rattle.clock2q_queues.specs.Keys.{KeyPlaces, key_places, written, is_key_at,
 use Rattle.clock2q_queues.specs.History.{IsIndex, IsHistory, MakesPlace, entries_of, is_remembered, forgotten, IsWholeHistory, Empties, remembered, from_place, AllDistinct, HasHash, is_named}
 use Rattle.clock2q_queues.proofs.Rings.{eqb_self, differs, or_left, or_right, or_neither, has_first, has_later, or_parts, AllApart-left, AllBelow-left, below_of, without-parted, has-append}
 use Rattle.clock2q_queues.proofs.Joining.{split_last, has-without, length-without}
-use Rattle.clock2q_handles.specs.TableStep.{fit, doubled, doubled_until, made_for, grown, rebuilt, IsFull}
+use Rattle.clock2q_handles.specs.TableStep.{fit, doubled_until, made_for}
+use Rattle.clock2q_handles.specs.Changes.{PutIn}
 use Rattle.clock2q_handles.specs.declared.error.TableError.{TableError}
-use Rattle.clock2q_handles.specs.declared.error.TableError.TheVariants.{Memory, Size, RunTooLong}
+
 use Rattle.clock2q_handles.proofs.Rebuild.{total-no_entries}
 use Rattle.clock2q_queues.proofs.Orders.{FitsNext, FitsNext-from, take_front}
 use Rattle.clock2q_queues.proofs.Indexes.{and_parts, named-own, length-put, length-taken, has-without_test, IsIndex-put, IsIndex-taken}
@@ -180,16 +181,14 @@ module _ {K : Type 0} where
     pub put_fits : total index1 < capacity (length index1)
     put_fits = rw m.as_many (omega (arith, length-take (order.limit - 1) order.places, m.indexed.counted, h.fits, some))
 
-    -- the index takes the place: it has room, so it is not rebuilt, and no run is too long
-    pub insert_done : {T Same : Type 0} (Gives : (ℕ → ℕ) → Type 0) (r : Result T TableError) → OnOk r ((key : ℕ → ℕ) → (IsFull index1 → Gives key) → index' ≡ inserted (grown key index1) hash place)
-        → (total index1 + 1 < 2 ^ 24 → r ≢ Err RunTooLong) → (r ≡ Err Memory → IsFull index1 × Same) → r ≢ Err Size → index' ≡ inserted index1 hash place
-    insert_done Gives (Ok x) ok few memory size =
-        ok (λ _. 0) (λ full. absurd (omega (arith, full, put_fits)))
-        ∙ ap (λ b. inserted (cond b (rebuilt (λ _. 0) (doubled (length index1)) index1) index1) hash place) (ne_eqb (total index1) (capacity (length index1)) (λ full. omega (arith, full, put_fits)))
-    insert_done Gives (Err Memory) ok few memory size = absurd (omega (arith, (memory refl).0, put_fits))
-    insert_done Gives (Err Size) ok few memory size = absurd (size refl)
-    insert_done Gives (Err RunTooLong) ok few memory size =
-        absurd (few (omega (arith, length-take (order.limit - 1) order.places, m.indexed.counted, some, h.short)) refl)
+    -- the index has room for the place
+    pub put_room : total index1 < capacity (length index1)
+    put_room = omega (arith, put_fits)
+
+    -- and takes it, as no run is too long
+    pub insert_done : (r : Result (Unit {0}) TableError) → PutIn index1 hash place r index' → (total index1 + 1 < 2 ^ 24 → IsOk r) → index' ≡ inserted index1 hash place
+    insert_done (Ok x) put few = put.0
+    insert_done (Err e) put few = let ok = few (omega (arith, length-take (order.limit - 1) order.places, m.indexed.counted, some, h.short)) in cc
 
     module _ (write : keys' ≡ key_places (written place (hash, key) keys.remembered) keys.room (keys.writes + 1) keys.questions) (put : index' ≡ inserted index1 hash place) (w : IsWholeOrder order')
         (absent : is_remembered eq key (entries_of keys.remembered order.places) ≡ false) where

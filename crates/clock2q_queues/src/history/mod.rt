@@ -71,8 +71,8 @@ impl<K: Eq + Drop, A: Allocator + Copy> History<K, A> {
         }
         let place = make_place(&mut self.index, &mut self.order, &self.keys);
         self.keys.write(place, hash, key);
-        // (the index has room for every place, so it asks for no hash)
-        let _ = self.index.insert(hash, place, |_| unreachable!());
+        // (the index has room for every place, and too few for a run to be too long)
+        let _ = self.index.insert_within_capacity(hash, place);
     }
 }
 

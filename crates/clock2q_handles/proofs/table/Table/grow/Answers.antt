@@ -1,10 +1,11 @@
 use Rattle.std.proofs.Common.{◌≡◌, ◌<◌, ◌≤◌, length, sym, ap, ◌∙◌, subst, arith}
 use Rattle.clock2q_handles.specs.Homes.{total, capacity}
-use Rattle.clock2q_handles.specs.Layout.{homes_of, IsBestPlaced}
+use Rattle.clock2q_handles.specs.Layout.{homes_of}
 use Rattle.clock2q_handles.specs.TableStep.{rebuilt}
+use Rattle.clock2q_handles.specs.Changes.{IsLaidOut}
 use Rattle.clock2q_handles.specs.Slots.{IsSlotCount}
 use Rattle.clock2q_handles.proofs.Tidy.{length-homes_of, tidy-room}
-use Rattle.clock2q_handles.proofs.Steps.{table-best}
+use Rattle.clock2q_handles.proofs.Steps.{table-laid}
 use Rattle.clock2q_handles.proofs.Growth.{slot_count_doubled, doubled_is, doubled_more, doubled_multiple, rebuilt_room}
 use Rattle.clock2q_handles.proofs.Hashes.{rebuilt-total}
 use Rattle.clock2q_handles.proofs.table.Table.grow.Given.{Over}
@@ -41,9 +42,9 @@ rebuilt-requires-clause-multiple g c some =
     let k = doubled_multiple c.args.self.now.homes c.count.result (len g before) (is_count g before) some in
     (k.0, c.max-count.ensures ∙ k.1)
 
-pub returns-in_err-self-inside-clause-best : goal.returns-in_err-self-inside-clause-best
-returns-in_err-self-inside-clause-best g c =
-    subst (λ t. IsBestPlaced t.homes) c.self.view_is (table-best c.self.inside.slots.slots c.self.inside.len c.self.invariant)
+pub returns-in_err-self-inside-clause-laid : goal.returns-in_err-self-inside-clause-laid
+returns-in_err-self-inside-clause-laid g c =
+    subst IsLaidOut c.self.view_is (table-laid c.self.inside.slots.slots c.self.inside.len c.self.invariant c.self.inside.slots.writes)
 
 pub returns-clause-grown : goal.returns-clause-grown
 returns-clause-grown g c key gives =
@@ -58,8 +59,8 @@ returns-clause-room g c =
     let more = doubled_more homes c.count.result (len g before) (is_count g before) in
     subst (λ hs. total hs < capacity (length hs)) (sym (made g c)) (rebuilt_room c.requires.asked.0 homes c.max-count.result (room g before) (omega (arith, c.max-count.ensures)) (omega (arith, c.requires.full, more, ap capacity c.max-count.ensures)))
 
-pub returns-clause-best : goal.returns-clause-best
-returns-clause-best g c = table-best c.drop.inside.slots.slots c.drop.inside.len c.drop.invariant
+pub returns-clause-laid : goal.returns-clause-laid
+returns-clause-laid g c = table-laid c.drop.inside.slots.slots c.drop.inside.len c.drop.invariant c.drop.inside.slots.writes
 
 pub returns-clause-as_many : goal.returns-clause-as_many
 returns-clause-as_many g c =

@@ -1,11 +1,13 @@
 use Rattle.std.proofs.Common.{◌≡◌, ◌≤◌, ◌+◌, ◌-◌, ◌%◌, length, refl, false, true, sym, ap, ◌∙◌, subst, arith}
 use Rattle.std.specs.List.{list_any}
 use Rattle.clock2q_handles.specs.Homes.{listed, removed, is_entry_of}
-use Rattle.clock2q_handles.specs.Layout.{homes_of, walk, run, IsBestPlaced}
+use Rattle.clock2q_handles.specs.Layout.{homes_of, walk, run}
 use Rattle.clock2q_handles.specs.Table.{IsTable}
+use Rattle.clock2q_handles.specs.TableStep.{table_value}
+use Rattle.clock2q_handles.specs.Changes.{IsLaidOut}
 use Rattle.clock2q_handles.proofs.Tidy.{tidy-room}
 use Rattle.clock2q_handles.proofs.Removals.{removed-none, removed-walk}
-use Rattle.clock2q_handles.proofs.Steps.{Removal, listed-home, table-best, removal}
+use Rattle.clock2q_handles.proofs.Steps.{Removal, listed-home, table-laid, removal}
 use Rattle.clock2q_handles.proofs.table.Table.remove.Given.{Over}
 use Rattle.clock2q_handles.proofs.table.Table.remove.Goals.{Else-not-remove, Then-not-remove}
 use Rattle.clock2q_handles.proofs.table.Table.remove.Goals as goal
@@ -32,8 +34,9 @@ pub returns-then-not-remove-clause-found : goal.returns-then-not-remove-clause-f
 returns-then-not-remove-clause-found g c =
     subst (λ t. false ≡ list_any (is_entry_of g.H.PartialEq.eq c.args.hash c.args.handle) (listed t.homes c.args.hash)) c.self.view_is (sym (none g (goal.at.returns-then-not-remove-clause-found g c).Then-not-remove))
 
-pub returns-then-not-remove-clause-best : goal.returns-then-not-remove-clause-best
-returns-then-not-remove-clause-best g c = subst (λ s. IsBestPlaced (homes_of s.slots)) (sym c.if-not-remove.ensures.kept) (table-best c.self.inside.slots.slots c.self.inside.len c.self.invariant)
+pub returns-then-not-remove-clause-laid : goal.returns-then-not-remove-clause-laid
+returns-then-not-remove-clause-laid g c =
+    subst (λ s. IsLaidOut (table_value (homes_of s.slots) s.slots s.writes)) (sym c.if-not-remove.ensures.kept) (table-laid c.self.inside.slots.slots c.self.inside.len c.self.invariant c.self.inside.slots.writes)
 
 pub overflow_sub-self : goal.overflow_sub-self
 overflow_sub-self g c = omega (arith, (step g (goal.at.overflow_sub-self g c).Else-not-remove).total_less)
@@ -48,10 +51,12 @@ pub returns-clause-found : goal.returns-clause-found
 returns-clause-found g c = subst (λ t. true ≡ list_any (is_entry_of g.H.PartialEq.eq c.args.hash c.args.handle) (listed t.homes c.args.hash)) c.self.view_is (sym (step g (goal.at.returns-clause-found g c).Else-not-remove).found)
 
 pub returns-clause-writes : goal.returns-clause-writes
-returns-clause-writes g c = subst (λ t. c.remove.new.self.writes ≤ t.writes + run t.slots c.args.hash) c.self.view_is (step g (goal.at.returns-clause-writes g c).Else-not-remove).writes
+returns-clause-writes g c =
+    let done = step g (goal.at.returns-clause-writes g c).Else-not-remove in
+    subst (λ t. (t.writes ≤ c.remove.new.self.writes) × (c.remove.new.self.writes ≤ t.writes + run t.slots c.args.hash)) c.self.view_is (done.counted, done.writes)
 
-pub returns-clause-best : goal.returns-clause-best
-returns-clause-best g c = table-best c.remove.new.self.slots (c.self.inside.len - 1) (step g (goal.at.returns-clause-best g c).Else-not-remove).table
+pub returns-clause-laid : goal.returns-clause-laid
+returns-clause-laid g c = table-laid c.remove.new.self.slots (c.self.inside.len - 1) (step g (goal.at.returns-clause-laid g c).Else-not-remove).table c.remove.new.self.writes
 
 pub returns-clause-shorter : goal.returns-clause-shorter
 returns-clause-shorter g c x =

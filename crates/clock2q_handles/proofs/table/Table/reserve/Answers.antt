@@ -1,10 +1,10 @@
 use Rattle.std.proofs.Common.{◌≡◌, ◌<◌, ◌≤◌, ◌+◌, ◌*◌, length, ℕ, refl, sym, subst, arith}
 use Rattle.clock2q_handles.specs.Homes.{total, capacity, count}
-use Rattle.clock2q_handles.specs.Layout.{spill_of, IsBestPlaced}
-use Rattle.clock2q_handles.proofs.Placement.{best-placed}
+use Rattle.clock2q_handles.specs.Layout.{spill_of}
+use Rattle.clock2q_handles.proofs.Promises.{whole_laid}
 use Rattle.clock2q_handles.proofs.Tidy.{capacity-lt}
 use Rattle.clock2q_handles.proofs.TooLong.{rebuilt-reach}
-use Rattle.clock2q_handles.proofs.Growth.{larger_multiple, rebuilt_best}
+use Rattle.clock2q_handles.proofs.Growth.{larger_multiple}
 use Rattle.clock2q_handles.proofs.table.Table.reserve.Given.{Over}
 use Rattle.clock2q_handles.proofs.table.Table.reserve.Goals.{In-Some-slots_for}
 use Rattle.clock2q_handles.proofs.table.Table.reserve.Goals as goal
@@ -26,27 +26,23 @@ multiple g c =
     larger_multiple c.args.self.now.homes _ refl c.len.ensures.whole.slot_count c.in-Some-slots_for.count c.in-Some-slots_for.ensures.power
     (omega (arith, c.in-Some-slots_for.ensures.enough, c.if-entries-capacity.false, c.capacity.ensures.capacity))
 
-pub returns-in_default-clause-best : goal.returns-in_default-clause-best
-returns-in_default-clause-best g c = best-placed _ c.len.ensures.whole.room
+pub returns-in_default-clause-laid : goal.returns-in_default-clause-laid
+returns-in_default-clause-laid g c = whole_laid _ c.len.ensures.whole
 
-pub returns-then-entries-capacity-clause-best : goal.returns-then-entries-capacity-clause-best
-returns-then-entries-capacity-clause-best g c = best-placed _ c.len.ensures.whole.room
+pub returns-then-entries-capacity-clause-laid : goal.returns-then-entries-capacity-clause-laid
+returns-then-entries-capacity-clause-laid g c = whole_laid _ c.len.ensures.whole
 
-pub returns-in_default-slots_for-clause-best : goal.returns-in_default-slots_for-clause-best
-returns-in_default-slots_for-clause-best g c = best-placed _ c.len.ensures.whole.room
+pub returns-in_default-slots_for-clause-laid : goal.returns-in_default-slots_for-clause-laid
+returns-in_default-slots_for-clause-laid g c = whole_laid _ c.len.ensures.whole
 
 pub rebuilt-requires-clause-multiple : goal.rebuilt-requires-clause-multiple
-rebuilt-requires-clause-multiple g c = multiple g c
+rebuilt-requires-clause-multiple g c = multiple g (goal.at.rebuilt-requires-clause-multiple g c).In-Some-slots_for
 
-pub returns-in_err-self-clause-best : goal.returns-in_err-self-clause-best
-returns-in_err-self-clause-best g c = best-placed _ c.len.ensures.whole.room
+pub returns-in_err-self-clause-laid : goal.returns-in_err-self-clause-laid
+returns-in_err-self-clause-laid g c = whole_laid _ c.len.ensures.whole
 
-pub returns-clause-best : goal.returns-clause-best
-returns-clause-best g c =
-    let before = (goal.at.returns-clause-best g c).In-Some-slots_for in
-    let room = fits g before in
-    let asked = c.requires.rehash (omega (arith, c.if-entries-capacity.false, c.capacity.ensures.capacity, entries g before)) in
-    subst IsBestPlaced (sym (c.in_ok-self.ensures.made asked.0 asked.1)) (rebuilt_best asked.0 c.args.self.now.homes c.in-Some-slots_for.count c.len.ensures.whole.room room.1 room.0)
+pub returns-clause-laid : goal.returns-clause-laid
+returns-clause-laid g c = c.in_ok-self.ensures.laid
 
 pub returns-clause-nearer : goal.returns-clause-nearer
 returns-clause-nearer g c x =

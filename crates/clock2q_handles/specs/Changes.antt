@@ -1,0 +1,29 @@
+-- What a call that changes a table leaves, and how many slots it writes.
+use Rattle.std.specs.Prelude.{◌≡◌, ℕ, ◌+◌, ◌≤◌, Bool, List, Result, MatchResult}
+use Rattle.clock2q_handles.specs.Homes.{inserted, removed, count, IsNew}
+use Rattle.clock2q_handles.specs.Layout.{layout, spill_of, IsTooLong, IsBestPlaced}
+use Rattle.clock2q_handles.specs.TableStep.{TableValue}
+use Rattle.clock2q_handles.specs.declared.error.TableError.{TableError}
+use Rattle.clock2q_handles.specs.declared.error.TableError.TheVariants.{RunTooLong}
+
+module _ {H : Type 0} where
+  -- v is put in under x, and no run is too long; or a run would be, and nothing is put in
+  abbrev pub PutIn : List (List (ℕ × H)) → ℕ → H → Result (Unit {0}) TableError → List (List (ℕ × H)) → Type 0
+  PutIn old x v result new = MatchResult result (λ _. (new ≡ inserted old x v) × (IsTooLong (inserted old x v) → ⊥)) (λ e. (e ≡ RunTooLong) × (new ≡ old) × IsTooLong (inserted old x v))
+
+  -- n slots are written at most
+  abbrev pub WritesAtMost : ℕ → TableValue H → TableValue H → Type 0
+  WritesAtMost n old new = (old.writes ≤ new.writes) × (new.writes ≤ old.writes + n)
+
+  -- taking v out again gives the slots of before, if no such entry was there
+  abbrev pub Restores : (H → H → Bool) → ℕ → H → TableValue H → TableValue H → Type 0
+  Restores eq x v old new = IsNew eq old.homes x v → layout (removed eq new.homes x v) ≡ old.slots
+
+  -- the slots are the layout of the lists, and no placement of the entries does better
+  pub record IsLaidOut (t : TableValue H) : Type 0 where
+    pub laid : t.slots ≡ layout t.homes
+    pub best : IsBestPlaced t.homes
+
+  -- the entries of no home reach further past it than they did
+  abbrev pub IsNearer : List (List (ℕ × H)) → List (List (ℕ × H)) → Type 0
+  IsNearer old new = (x : ℕ) → spill_of new x + count new x ≤ spill_of old x + count old x
