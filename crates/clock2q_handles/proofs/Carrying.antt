@@ -120,8 +120,8 @@ carried_opens slots slots' first h n s k e tidy same come is within occupied non
     let upto : n + k < m = less_than_lap slots h (n + k) tidy (omega (arith, within)) full in
     let vacant : slot_at slots (h + (n + k)) ≡ None = sym (slot_from_plus slots h n s k come.slot) ∙ none in
     let before : (j : ℕ) → j < n → slot_at slots' (h + j) ≡ slot_at slots (h + j) = λ j l.
-        sym (slot_from_before slots' h n s j at' (omega (arith, come.within, same)) l) ∙ ap (λ x. slot_at slots' (s + (x - n + j))) same
-        ∙ done.rest (m - n + j) (omega (arith, upto)) (omega (arith, l, come.within)) ∙ slot_from_before slots h n s j come.slot come.within l in (
+    sym (slot_from_before slots' h n s j at' (omega (arith, come.within, same)) l) ∙ ap (λ x. slot_at slots' (s + (x - n + j))) same
+    ∙ done.rest (m - n + j) (omega (arith, upto)) (omega (arith, l, come.within)) ∙ slot_from_before slots h n s j come.slot come.within l in (
       record { vacant = vacant; occupied = full },
       record {
         from = omega arith;
@@ -318,10 +318,10 @@ module _ {H : Type 0} (old now : List (Option (Placed (ℕ × H)))) where
           let upto : suc (n + k) < length old = less_than_lap old h (suc (n + k)) tidy close_some (λ j l. full j (omega (arith, l))) in
           let back = subst (λ m. MovingBack (slot_at old) (slot_at now) m h n (n + k)) (sym state.len) (moving_back_home old now h n s k state.len come (omega (arith, upto)) state.back) in
           let place : t ≡ (h + (n + k)) % length now =
-              (let q : h + n + k ≡ h + (n + k) = omega arith in close_at ∙ ap (λ y. (y + k) % length now) (come.slot ∙ ap (λ m. (h + n) % m) (sym state.len)) ∙ rem-plus (length now) (h + n) k ∙ ap (λ y. y % length now) q) in
+          (let q : h + n + k ≡ h + (n + k) = omega arith in close_at ∙ ap (λ y. (y + k) % length now) (come.slot ∙ ap (λ m. (h + n) % m) (sym state.len)) ∙ rem-plus (length now) (h + n) k ∙ ap (λ y. y % length now) q) in
           let opens = closed (slot_at old) now now' None h n (n + k) e (omega arith) (omega (arith, upto, state.len)) was back refl (is ∙ ap (λ i. set now i None) place) in
           let end : slot_at old (s + suc k) ≡ slot_at old (h + suc (n + k)) =
-              (let q : n + suc k ≡ suc (n + k) = omega arith in slot_from_plus old h n s (suc k) come.slot ∙ ap (λ i. slot_at old (h + i)) q) in (
+          (let q : n + suc k ≡ suc (n + k) = omega arith in slot_from_plus old h n s (suc k) come.slot ∙ ap (λ i. slot_at old (h + i)) q) in (
             n + k,
             record {
               opens = subst (λ m. Opens (slot_at now') (slot_at old) m h n (n + k) e) state.len opens;

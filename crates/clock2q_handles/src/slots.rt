@@ -11,13 +11,12 @@ ghost use Rattle.std.specs.Prelude.{false, ◌≡◌, ◌+◌, ◌%◌, ◌^◌,
 mod reader;
 mod view;
 
-pub(super) use reader::Reader;
-pub(super) use view::{SlotsMut, SlotsRef};
-
 use crate::metadata::{MAX_DISPLACEMENT, Metadata};
 use clock2q_count::Count;
+pub(super) use reader::Reader;
 use std::alloc::{AllocError, Allocator};
 use std::marker::Model;
+pub(super) use view::{SlotsMut, SlotsRef};
 
 /// The slots: a power of two of them, or none. A slot is named by a home and a distance from it,
 /// counted circularly.

@@ -208,7 +208,7 @@ impl<H: Copy + Eq + Default, A: Allocator> Table<H, A> {
     /// # Cost
     ///
     /// Writes the slots from the new entry's to the end of its run.
-#[inline(always)]
+    #[inline(always)]
     pub fn insert_within_capacity(&mut self, hash: u64, handle: H) -> Result<(), TableError>
         requires room { IsBelowCapacity self.old.homes }
         ensures put { PutIn self.old.homes hash handle result self.new.homes }

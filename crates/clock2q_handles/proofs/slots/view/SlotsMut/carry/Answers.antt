@@ -40,7 +40,7 @@ loop-there-preserved g c =
       same = search rules;
       view = c.write.ensures.view;
       state = subst (λ w. CarryState (shown c.args.self.now) (shown c.write.new.self) (cell (told c.args.metadata) c.args.handle) (cell (told c.moved_on-metadata.result) c.handle-held.result) (told c.metadata-there-in-loop-there.result) c.args.slot c.after-slot.result
-      c.args.self.now.writes.now.total w) (sym c.write.ensures.counted) next;
+          c.args.self.now.writes.now.total w) (sym c.write.ensures.counted) next;
     }
 
 pub returns-clause-opens : goal.returns-clause-opens
