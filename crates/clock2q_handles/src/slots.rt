@@ -3,7 +3,7 @@ ghost use Rattle.clock2q_handles.specs.Found.{TakesOut};
 ghost use Rattle.clock2q_handles.specs.Homes.{top, is_entry_of, listed};
 ghost use Rattle.clock2q_handles.specs.Layout.{IsTidy, slot_at, reach, homes_of};
 ghost use Rattle.clock2q_handles.specs.Shifts.{PutsIn};
-ghost use Rattle.clock2q_handles.specs.Slots.{cells, IsSlotCount};
+ghost use Rattle.clock2q_handles.specs.Slots.{cell, cells, told, IsSlotCount};
 ghost use Rattle.std.specs.Bool.{OnTrue, OnFalse};
 ghost use Rattle.std.specs.List.{list_any};
 ghost use Rattle.std.specs.Prelude.{false, ◌≡◌, ◌+◌, ◌%◌, ◌^◌, ◌<◌, ◌≤◌, [], ℕ, None, IfOk, IfSome, length, replicate, set};
@@ -41,7 +41,7 @@ impl<H, A: Allocator> Model for Slots<H, A> {
 }
 
 impl<H: Copy + Default, A: Allocator> Slots<H, A> {
-    ghost use Rattle.clock2q_handles.specs.Slots.{slots_value, cell, cells, told, mark_of};
+    ghost use Rattle.clock2q_handles.specs.Slots.{slots_value, mark_of};
 
     /// No slots, and no memory.
     pub(super) fn new(alloc: A) -> Slots<H, A>
@@ -199,16 +199,21 @@ impl<H: Copy + Default, A: Allocator> Slots<H, A> {
         self.handles[self.slot(home, distance)]
     }
 
-    /// Writes a slot in both vectors. There is no other way to write one.
+    /// Writes the slot at a distance from a home in both vectors.
     pub(super) fn write(&mut self, home: usize, distance: usize, metadata: Metadata, handle: H)
         requires home { home < length self.old.slots }
         requires distance { distance ≤ length self.old.slots }
         ensures { self.new ≡ slots_value (set self.old.slots ((home + distance) % length self.old.slots) (cell (told metadata) handle)) (self.old.writes + 1) }
     {
         let slot = self.slot(home, distance);
-        self.metadata[slot] = metadata;
-        self.handles[slot] = handle;
-        self.writes.tick();
+        write_into(
+            self.metadata.as_mut_slice(),
+            self.handles.as_mut_slice(),
+            &mut self.writes,
+            slot,
+            metadata,
+            handle,
+        );
     }
 }
 
@@ -255,4 +260,25 @@ fn put_into<H: Copy + Default>(
 {
     let mut slots = SlotsMut::new(metadata, handles, writes);
     slots.put(hash, handle);
+}
+
+/// Writes a slot over a view of both vectors.
+fn write_into<H: Copy>(
+    metadata: &mut [Metadata],
+    handles: &mut [H],
+    writes: &mut Count,
+    slot: usize,
+    word: Metadata,
+    handle: H,
+)
+    requires same { length handles.old ≡ length metadata.old }
+    requires slot_count { IsSlotCount (length metadata.old) }
+    requires within { slot < length (cells metadata.old handles.old) }
+    ensures written { cells metadata.new handles.new ≡ set (cells metadata.old handles.old) slot (cell (told word) handle) }
+    ensures counted { writes.new.total ≡ writes.old.total + 1 }
+    ensures as_many { length handles.new ≡ length metadata.new }
+    ensures len { length metadata.new ≡ length metadata.old }
+{
+    let mut slots = SlotsMut::new(metadata, handles, writes);
+    slots.write(slot, word, handle);
 }
