@@ -1,7 +1,8 @@
 -- Two vectors side by side, read and written as one list of slots.
 use Rattle.std.proofs.Common.{◌≡◌, ℕ, zero, suc, ◌+◌, ◌-◌, ◌%◌, ◌<◌, List, [], ◌∷◌, length, get_or, take, ◌++◌, refl, sym, ap, ◌∙◌, subst, arith, Some, None, IfSome}
 use Rattle.std.proofs.Math.ListN.{set, replicate}
-use Rattle.std.proofs.Math.Nat.{sub-zero}
+use Rattle.std.proofs.Math.Nat.{sub-zero, mod-eq_of_lt}
+use Rattle.std.proofs.Math.Seq.{take-append_seam}
 use Rattle.std.proofs.lemmas.Nat.{and_mask}
 use Rattle.std.specs.Int.Bits.{bit_and}
 use Rattle.clock2q_handles.specs.Layout.{slot_at}
@@ -78,3 +79,22 @@ module _ {H : Type 0} where
   pub handle_read : (ms : List Metadata) (vs : List H) (n k : ℕ) (m : Metadata) (v : H) → length vs ≡ length ms → k ≡ n % length (cells ms vs) → k < length ms → v ≡ get_or vs k v → IfSome (slot_at (cells ms vs) n) (λ p. v ≡ p.entry.1)
   handle_read ms vs n k m v same at within is =
       subst (λ s. IfSome s (λ p. v ≡ p.entry.1)) (ap (λ w. cell (told (get_or ms k m)) w) is ∙ sym (get_or-cells ms vs k m v same within) ∙ ap (λ j. get_or (cells ms vs) j None) at) (handle_of_cell (told (get_or ms k m)) v)
+
+  -- the same at a slot that is named by its number
+  pub at_slot : (ms : List Metadata) (vs : List H) (k : ℕ) → length vs ≡ length ms → k < length ms → k ≡ k % length (cells ms vs)
+  at_slot ms vs k same within = sym (mod-eq_of_lt (omega (arith, within, length-cells ms vs same)))
+
+  pub mark_read_at : (ms : List Metadata) (vs : List H) (k : ℕ) (m : Metadata) → length vs ≡ length ms → k < length ms → m ≡ get_or ms k m → told m ≡ mark_of (slot_at (cells ms vs) k)
+  mark_read_at ms vs k m same within is = mark_read ms vs k k m same (at_slot ms vs k same within) within is
+
+  pub handle_read_at : (ms : List Metadata) (vs : List H) (k : ℕ) (v : H) → length vs ≡ length ms → k < length ms → v ≡ get_or vs k v → IfSome (slot_at (cells ms vs) k) (λ p. v ≡ p.entry.1)
+  handle_read_at ms vs k v same within is = handle_read ms vs k k (record { word = 0 }) v same (at_slot ms vs k same within) within is
+
+  pub mark_read_or : (ms : List Metadata) (vs : List H) (k : ℕ) (z : Metadata) → length vs ≡ length ms → k < length ms → told (get_or ms k z) ≡ mark_of (slot_at (cells ms vs) k)
+  mark_read_or ms [] k z same within = absurd (omega (arith, same, within))
+  mark_read_or ms (v ∷ vs) k z same within =
+      sym (mark_of-cell (told (get_or ms k z)) (get_or (v ∷ vs) k v)) ∙ ap mark_of (sym (get_or-cells ms (v ∷ vs) k z v same within) ∙ ap (λ j. get_or (cells ms (v ∷ vs)) j None) (at_slot ms (v ∷ vs) k same within))
+
+-- a vector whose slice was written has what the slice has
+pub kept_whole : {X : Type 0} (xs ys : List X) (n : ℕ) → length xs ≡ n → take n (xs ++ ys) ≡ xs
+kept_whole xs ys n len = ap (λ k. take k (xs ++ ys)) (sym len) ∙ take-append_seam xs ys

@@ -33,3 +33,7 @@ pub mod Tiles
 pub mod TooLong
 pub mod Walk
 pub mod Yields
+pub mod Cursors
+pub mod Carrying
+pub mod Wrapping
+pub mod Few

@@ -104,11 +104,11 @@ pub record MovingBack {E : Type 0} (A B : ℕ → Option (Placed E)) (m h n d : 
 
 module _ {E : Type 0} (A : ℕ → Option (Placed E)) (slots slots' : List (Option (Placed E))) (x : Option (Placed E)) (h : ℕ) where
   -- a slot on the lap from h that is written
-  at_written : (d : ℕ) → d < length slots → slots' ≡ set slots ((h + d) % length slots) x → slot_at slots' (h + d) ≡ x
+  pub at_written : (d : ℕ) → d < length slots → slots' ≡ set slots ((h + d) % length slots) x → slot_at slots' (h + d) ≡ x
   at_written d within e = ap (λ s. slot_at s (h + d)) e ∙ slot_at-set_same slots x (h + d) (omega (arith, within))
 
   -- and one that isn't
-  at_other : (d j : ℕ) → d < length slots → j < length slots → j ≢ d → slots' ≡ set slots ((h + d) % length slots) x → slot_at slots' (h + j) ≡ slot_at slots (h + j)
+  pub at_other : (d j : ℕ) → d < length slots → j < length slots → j ≢ d → slots' ≡ set slots ((h + d) % length slots) x → slot_at slots' (h + j) ≡ slot_at slots (h + j)
   at_other d j within lj ne e = ap (λ s. slot_at s (h + j)) e ∙ slot_at-set_other slots x (h + d) (h + j) (apart_on_lap (length slots) h j d lj within ne)
 
   -- one entry more has moved on

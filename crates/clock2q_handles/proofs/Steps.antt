@@ -11,7 +11,7 @@ use Rattle.clock2q_handles.specs.Slots.{IsSlotCount}
 use Rattle.clock2q_handles.specs.Table.{IsTable}
 use Rattle.clock2q_handles.specs.TableStep.{table_value}
 use Rattle.clock2q_handles.specs.Changes.{IsLaidOut}
-use Rattle.clock2q_handles.specs.Found.{Finds}
+use Rattle.clock2q_handles.specs.Found.{Finds, TakesOut}
 use Rattle.clock2q_handles.proofs.Laps.{rem-same, lap, lap-lt, lap-same}
 use Rattle.clock2q_handles.proofs.Laid.{met-same}
 use Rattle.clock2q_handles.proofs.Reading.{slot-again}
@@ -162,17 +162,16 @@ pub record Removal {H : Type 0} (eq : H → H → Bool) (x : ℕ) (v : H) (other
   pub counted : before ≤ after
   pub writes : after ≤ before + run others x
 
-pub removal : {H : Type 0} (eq : H → H → Bool) (x : ℕ) (v : H) (others slots : List (Option (Placed (ℕ × H)))) (g n len before after : ℕ) → IsTable others len → g ≡ x % length others → n < length others
-    → (found : Finds (is_entry_of eq x v) (slot_at others) g n)
-    → ((e : ℕ × H) → slot_at others (g + n) ≡ Some (placed n e) → (w : ℕ) × Closes (slot_at others) (slot_at slots) (length others) g n w e × (after + n ≡ before + w + 1))
-    → length slots ≡ length others → Removal eq x v others slots len before after
-removal eq x v others slots g n len before after table at within found closing same =
-    let closed = closing found.entry found.here in
+pub removal : {H : Type 0} (eq : H → H → Bool) (x : ℕ) (v : H) (others slots : List (Option (Placed (ℕ × H)))) (len before after : ℕ) → IsTable others len → TakesOut (is_entry_of eq x v) others slots (x % length others) before after → Removal eq x v others slots len before after
+removal eq x v others slots len before after table taken =
+    let g : ℕ = x % length others in
+    let n : ℕ = taken.distance in
+    let w : ℕ = taken.vacancy in
     record {
-      homes = taken-homes eq x v others slots g n closed.0 len table at within found closed.1 same;
-      found = taken-found eq x v others slots g n closed.0 len table at within found closed.1 same;
-      total_less = taken-len eq x v others slots g n closed.0 len table at within found closed.1 same;
-      table = taken-table eq x v others slots g n closed.0 len table at within found closed.1 same;
-      counted = omega (arith, closed.2, closed.1.opens.from);
-      writes = omega (arith, taken-run eq x v others slots g n closed.0 len table at within found closed.1 same, closed.2);
+      homes = taken-homes eq x v others slots g n w len table refl taken.within taken.finds taken.closes taken.len;
+      found = taken-found eq x v others slots g n w len table refl taken.within taken.finds taken.closes taken.len;
+      total_less = taken-len eq x v others slots g n w len table refl taken.within taken.finds taken.closes taken.len;
+      table = taken-table eq x v others slots g n w len table refl taken.within taken.finds taken.closes taken.len;
+      counted = omega (arith, taken.written, taken.closes.opens.from);
+      writes = omega (arith, taken-run eq x v others slots g n w len table refl taken.within taken.finds taken.closes taken.len, taken.written);
     }

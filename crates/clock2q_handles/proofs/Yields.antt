@@ -5,9 +5,8 @@ use Rattle.std.proofs.lemmas.Bool.Decides.{eqb_tells}
 use Rattle.std.proofs.lemmas.List.Elements.{filter-append}
 use Rattle.clock2q_handles.specs.Homes.{top, candidates}
 use Rattle.clock2q_handles.specs.Layout.{Placed, placed, slot_at, reach, at_home, met, homes_of, walk, IsOrdered, IsTidy}
-use Rattle.clock2q_handles.specs.Candidates.{matching, left_from, IsLookup, IsNextCandidate}
+use Rattle.clock2q_handles.specs.Candidates.{matching, left_from, IsNextCandidate}
 use Rattle.clock2q_handles.specs.Slots.{mark_of}
-use Rattle.clock2q_handles.specs.Table.{IsTable}
 use Rattle.clock2q_handles.proofs.Laid.{at_home-other, met-last, met-add}
 use Rattle.clock2q_handles.proofs.Walk.{Stops, after, stop}
 use Rattle.clock2q_handles.proofs.Reading.{slot-again}
@@ -110,16 +109,7 @@ module _ {H : Type 0} (x : ℕ) where
       ap (matching x) (met-split A h a b c l u ∙ ap (λ xs. met A h a (b - a) ++ xs) (met-past A ordered h b (c - b) near)) ∙ filter-append (λ e. e.0 == top x) (met A h a (b - a)) [] ∙ ap (λ xs. xs ++ []) before
 
 module _ {H : Type 0} (slots : List (Option (Placed (ℕ × H)))) (x : ℕ) where
-  -- a lookup of a table begins at the home
-  pub lookup_start : (len : ℕ) → IsTable slots len → IsLookup slots x 0
-  lookup_start len table = record {
-    tidy = table.tidy;
-    near = table.near;
-    within = omega arith;
-    passed = λ some j l. absurd (omega (arith, l));
-  }
-
-  -- and has all candidates left
+  -- a lookup that begins has all candidates left
   pub left_at_start : left_from slots x 0 ≡ candidates (homes_of slots) x
   left_at_start =
       let g : ℕ = x % length slots in

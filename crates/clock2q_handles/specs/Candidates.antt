@@ -1,8 +1,9 @@
 -- What a lookup yields, and how many slots it reads.
-use Rattle.std.specs.Prelude.{◌≡◌, ℕ, ◌+◌, ◌-◌, ◌%◌, ◌<◌, ◌≤◌, ◌==◌, List, [], map, filter, length, Option, Some, IfNone}
+use Rattle.std.specs.Prelude.{◌≡◌, ℕ, ◌+◌, ◌-◌, ◌%◌, ◌<◌, ◌≤◌, ◌==◌, List, [], map, filter, length, Option, Some, None, IfNone}
 use Rattle.std.specs.Iterator.{YieldsFirst}
 use Rattle.std.specs.Coded.{Coded, code_by, coded×, coded_ℕ, coded_list}
 use Rattle.clock2q_handles.specs.Homes.{top}
+use Rattle.clock2q_handles.specs.Slots.{Mark}
 use Rattle.clock2q_handles.specs.Layout.{Placed, placed, slot_at, reach, met, homes_of, walk, IsTidy}
 use mathlib.Core.Path.{refl}
 
@@ -35,12 +36,38 @@ module _ {H : Type 0} where
   abbrev pub unread_from : List (Option (Placed (ℕ × H))) → ℕ → ℕ → ℕ
   unread_from slots x d = walk (homes_of slots) x - d
 
-  -- what a lookup keeps: the slots are tidy, and it is on its walk or past all slots
-  pub record IsLookup (slots : List (Option (Placed (ℕ × H)))) (x d : ℕ) : Type 0 where
+  -- the home of a walk that has come d slots, to slot n
+  abbrev pub home_back : List (Option (Placed (ℕ × H))) → ℕ → ℕ → ℕ
+  home_back slots n d = (n + length slots - d) % length slots
+
+  -- the handles that a walk which looks for the mark in slot n has still to yield: none where it looks for nothing
+  abbrev pub left_at : List (Option (Placed (ℕ × H))) → Mark → ℕ → List H
+  left_at slots None n = []
+  left_at slots (Some s) n = map (λ e. e.1) (filter (λ e. e.0 == s.1) (met (slot_at slots) (home_back slots n s.0) s.0 (length slots - s.0)))
+
+  -- and how many slots it has still to read
+  abbrev pub unread_at : List (Option (Placed (ℕ × H))) → Mark → ℕ → ℕ
+  unread_at slots None n = 0
+  unread_at slots (Some s) n = walk (homes_of slots) (home_back slots n s.0) - s.0
+
+  -- a walk for the hash has come d slots, to slot n, and looks for the fingerprint f there
+  pub record IsOnWalk (slots : List (Option (Placed (ℕ × H)))) (d f n : ℕ) : Type 0 where
+    pub hash : ℕ
+    pub slot : n ≡ (hash + d) % length slots
+    pub fingerprint : f ≡ top hash
+    pub within : d < length slots
+    pub passed : (j : ℕ) → j < d → j < reach (slot_at slots (hash + j))
+
+  -- what it looks for in slot n is what a walk does that has come there
+  abbrev pub LooksFor : List (Option (Placed (ℕ × H))) → Mark → ℕ → Type 0
+  LooksFor slots None n = Unit {0}
+  LooksFor slots (Some s) n = IsOnWalk slots s.0 s.1 n
+
+  -- what a lookup keeps: the slots are tidy, and where it looks for something, it is on a walk
+  pub record IsLookup (slots : List (Option (Placed (ℕ × H)))) (wanted : Mark) (n : ℕ) : Type 0 where
     pub tidy : IsTidy slots
-    pub near : (n : ℕ) → reach (slot_at slots n) ≤ 16777215
-    pub within : d ≤ length slots
-    pub passed : d < length slots → (j : ℕ) → j < d → j < reach (slot_at slots (x % length slots + j))
+    pub near : (k : ℕ) → reach (slot_at slots k) ≤ 16777215
+    pub walk : LooksFor slots wanted n
 
   -- n slots past the home g of x stands its next candidate from d on
   pub record IsNextCandidate (slots : List (Option (Placed (ℕ × H)))) (g x d n : ℕ) : Type 0 where

@@ -2,6 +2,7 @@ pub mod Homes
 pub mod Layout
 pub mod TableStep
 pub mod Slots
+pub mod Views
 pub mod Table
 pub mod Changes
 pub mod Shifts

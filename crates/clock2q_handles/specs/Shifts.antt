@@ -1,6 +1,6 @@
 -- Part of a run moved on by one slot, so that one more entry stands in it.
-use Rattle.std.specs.Prelude.{◌≡◌, ℕ, suc, ◌+◌, ◌<◌, ◌≤◌, Option, Some, None}
-use Rattle.clock2q_handles.specs.Layout.{Placed, placed, reach}
+use Rattle.std.specs.Prelude.{◌≡◌, ℕ, suc, ◌+◌, ◌%◌, ◌<◌, ◌≤◌, List, length, Option, Some, None}
+use Rattle.clock2q_handles.specs.Layout.{Placed, placed, slot_at, reach}
 
 -- the same entry one slot further past its home
 abbrev pub moved_on : {E : Type 0} → Option (Placed E) → Option (Placed E)
@@ -32,3 +32,20 @@ pub record HasRoom {E : Type 0} (A : ℕ → Option (Placed E)) (most h n v : �
 pub record IsVacancy {E : Type 0} (A : ℕ → Option (Placed E)) (h v : ℕ) : Type 0 where
   pub vacant : A (h + v) ≡ None
   pub occupied : (j : ℕ) → j < v → 0 < reach (A (h + j))
+
+-- n slots past the home h stands the slot s, and each slot before it holds an entry as far past its home at least as that slot is past h
+pub record HasCome {E : Type 0} (slots : List (Option (Placed E))) (h n s : ℕ) : Type 0 where
+  pub slot : s ≡ (h + n) % length slots
+  pub within : n < length slots
+  pub passed : (j : ℕ) → j < n → j < reach (slot_at slots (h + j))
+
+-- e was put in past the home h where the walk for it ended, and the rest of the run moved on, in one write a slot
+pub record PutsIn {E : Type 0} (old new : List (Option (Placed E))) (h : ℕ) (e : E) (before after : ℕ) : Type 0 where
+  pub distance : ℕ
+  pub vacancy : ℕ
+  pub passed : (j : ℕ) → j < distance → j < reach (slot_at old (h + j))
+  pub stop : reach (slot_at old (h + distance)) ≤ distance
+  pub vacant : IsVacancy (slot_at old) h vacancy
+  pub opens : Opens (slot_at old) (slot_at new) (length old) h distance vacancy e
+  pub written : after + distance ≡ before + vacancy + 1
+  pub len : length new ≡ length old

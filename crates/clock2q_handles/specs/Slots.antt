@@ -1,17 +1,27 @@
 -- What the two vectors of a table say of its slots.
-use Rattle.std.specs.Prelude.{◌≡◌, ℕ, suc, pred, ◌/◌, ◌%◌, ◌^◌, ◌<◌, ◌≤◌, cond, ◌==◌, List, [], ◌∷◌, Option, Some, None}
+use Rattle.std.specs.Prelude.{◌≡◌, ℕ, zero, suc, pred, ◌/◌, ◌%◌, ◌^◌, ◌<◌, ◌≤◌, List, [], ◌∷◌, Option, Some, None}
 use Rattle.std.specs.Coded.{Coded, code_by, coded×, coded_ℕ, coded_list, coded_option}
 use Rattle.clock2q_handles.specs.Layout.{Placed, placed, placed_code}
 use Rattle.clock2q_handles.specs.declared.metadata.Metadata.{Metadata}
+use Rattle.clock2q_handles.specs.declared.metadata.Wanted.{Wanted}
 use mathlib.Core.Path.{refl}
 
 -- a slot's displacement and fingerprint, or None of an empty slot
 abbrev pub Mark : Type 0
 Mark = Option (ℕ × ℕ)
 
+-- what a reach and a fingerprint say: an entry reaches one slot further than it stands, and an empty slot nowhere
+abbrev pub mark_at : ℕ → ℕ → Mark
+mark_at zero f = None
+mark_at (suc d) f = Some (d, f)
+
 -- what a word of metadata says
 abbrev pub told : Metadata → Mark
-told m = cond (m.word == 4294967295) None (Some (m.word / 256, m.word % 256))
+told m = mark_at (m.word / 256) (m.word % 256)
+
+-- what a walk looks for
+abbrev pub sought : Wanted → Mark
+sought w = mark_at (w.word / 256) (w.word % 256)
 
 -- what a mark leaves room for in the next slot
 abbrev pub mark_reach : Mark → ℕ

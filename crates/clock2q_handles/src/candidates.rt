@@ -1,8 +1,11 @@
 //! The handles that a lookup yields.
-ghost use Rattle.std.specs.Prelude.{◌≡◌};
+ghost use Rattle.clock2q_handles.specs.Candidates.{left_at, unread_at, IsLookup};
+ghost use Rattle.clock2q_handles.specs.Layout.{slot_at};
+ghost use Rattle.clock2q_handles.specs.Slots.{sought, mark_of};
+ghost use Rattle.std.specs.Prelude.{◌≡◌, ◌+◌, ◌<◌, [], IsSome, IfSome, IfNone, length};
 
-use crate::slots::Slots;
-use clock2q_count::Count;
+use crate::metadata::Wanted;
+use crate::slots::{Reader, Slots};
 use std::alloc::{Allocator, Global};
 use std::marker::Model;
 
@@ -10,37 +13,75 @@ use std::marker::Model;
 /// slot, and a handle only where it yields one.
 #[derive(Drop)]
 pub struct Candidates<'a, H: Copy + Eq + Default, A: Allocator = Global> {
-    slots: &'a Slots<H, A>,
-    hash: u64,
-    distance: usize,
-    reads: Count,
+    reader: Reader<'a, H, A>,
+    slot: usize,
+    wanted: Wanted,
 }
 
 impl<'a, H: Copy + Eq + Default, A: Allocator> Model for Candidates<'a, H, A> {
-    ghost use Rattle.clock2q_handles.specs.Candidates.{CandidatesValue, candidates_code, candidates_value, left_from, unread_from, IsLookup};
+    ghost use Rattle.clock2q_handles.specs.Candidates.{CandidatesValue, candidates_code, candidates_value, left_at, unread_at, IsLookup};
+    ghost use Rattle.clock2q_handles.specs.Slots.{sought};
 
     ghost Value = { CandidatesValue H };
 
     ghost coded = { candidates_code H.code };
 
-    ghost view = { λ c. candidates_value (left_from c.slots.now.slots c.hash c.distance) c.reads.total (unread_from c.slots.now.slots c.hash c.distance) };
+    ghost view = { λ c. candidates_value (left_at c.reader.slots.now.slots (sought c.wanted) c.slot) c.reader.reads.total (unread_at c.reader.slots.now.slots (sought c.wanted) c.slot) };
 
-    ghost invariant = { λ c. IsLookup c.slots.now.slots c.hash c.distance };
+    ghost invariant = { λ c. IsLookup c.reader.slots.now.slots (sought c.wanted) c.slot };
 }
 
 impl<'a, H: Copy + Eq + Default, A: Allocator> Candidates<'a, H, A> {
-    ghost use Rattle.clock2q_handles.specs.Candidates.{candidates_value, left_from, unread_from, IsLookup};
+    ghost use Rattle.clock2q_handles.specs.Candidates.{candidates_value, left_from, unread_from};
+    ghost use Rattle.clock2q_handles.specs.Layout.{reach, IsTidy};
+    ghost use Rattle.std.specs.Prelude.{ℕ, ◌≤◌};
 
-    /// A lookup that has read nothing yet.
+    /// A lookup that has read nothing yet. Where there are no slots it has ended.
     pub(super) fn new(slots: &'a Slots<H, A>, hash: u64) -> Candidates<'a, H, A>
-        requires { IsLookup slots.now.slots hash 0 }
+        requires tidy { IsTidy slots.now.slots }
+        requires near { (k : ℕ) → reach (slot_at slots.now.slots k) ≤ 16777215 }
         ensures { result ≡ candidates_value (left_from slots.now.slots hash 0) 0 (unread_from slots.now.slots hash 0) }
     {
+        let wanted = if slots.count() == 0 {
+            Wanted::nothing()
+        } else {
+            Wanted::new(hash)
+        };
         Candidates {
-            slots,
-            hash,
-            distance: 0,
-            reads: Count::new(),
+            reader: Reader::new(slots),
+            slot: slots.home(hash),
+            wanted,
+        }
+    }
+}
+
+impl<'a, H: Copy + Default, A: Allocator> Reader<'a, H, A> {
+    /// Takes a walk on to its next candidate: returns its slot, and what is looked
+    /// for there.
+    #[inline(always)]
+    fn candidate(&mut self, mut slot: usize, mut wanted: Wanted) -> Option<(usize, Wanted)>
+        requires lookup { IsLookup self.old.slots.now.slots (sought wanted) slot }
+        requires some { IsSome (sought wanted) }
+        ensures same { self.new.slots ≡ self.old.slots }
+        ensures lookup { IfSome result (λ next. IsLookup self.old.slots.now.slots (sought next.1) next.0) }
+        ensures within { IfSome result (λ next. next.0 < length self.old.slots.now.slots) }
+        ensures some { IfSome result (λ next. IsSome (sought next.1)) }
+        ensures found { IfSome result (λ next. mark_of (slot_at self.old.slots.now.slots next.0) ≡ sought next.1) }
+        ensures left { IfSome result (λ next. left_at self.old.slots.now.slots (sought wanted) slot ≡ left_at self.old.slots.now.slots (sought next.1) next.0) }
+        ensures read { IfSome result (λ next. self.new.reads.total + unread_at self.old.slots.now.slots (sought next.1) next.0 ≡ self.old.reads.total + unread_at self.old.slots.now.slots (sought wanted) slot + 1) }
+        ensures none { IfNone result (left_at self.old.slots.now.slots (sought wanted) slot ≡ []) }
+        ensures read_all { IfNone result (self.new.reads.total ≡ self.old.reads.total + unread_at self.old.slots.now.slots (sought wanted) slot) }
+    {
+        loop {
+            let metadata = self.read(slot);
+            if metadata.is(wanted) {
+                return Some((slot, wanted));
+            }
+            if metadata.ends_walk_for(wanted) {
+                return None;
+            }
+            slot = self.after(slot);
+            wanted = wanted.next();
         }
     }
 }
@@ -55,14 +96,18 @@ impl<'a, H: Copy + Eq + Default, A: Allocator> Iterator for Candidates<'a, H, A>
 
     ghost remaining = { item_count (λ c. c.left) };
 
+    #[inline(always)]
     fn next(&mut self) -> Option<H> {
-        let slots = self.slots;
-        let home = slots.home(self.hash);
-        let Some(distance) = slots.candidate(home, self.hash, self.distance, &mut self.reads) else {
-            self.distance = slots.count();
+        if self.wanted.is_nothing() {
+            return None;
+        }
+        let Some((slot, wanted)) = self.reader.candidate(self.slot, self.wanted) else {
+            self.wanted = Wanted::nothing();
             return None;
         };
-        self.distance = distance + 1;
-        Some(slots.handle(home, distance))
+        let handle = self.reader.handle(slot);
+        self.slot = self.reader.after(slot);
+        self.wanted = wanted.next();
+        Some(handle)
     }
 }

@@ -23,6 +23,7 @@ mod partitions;
 mod runs;
 mod slots;
 mod table;
+mod updates;
 
 pub use candidates::Candidates;
 pub use error::TableError;

@@ -1,26 +1,30 @@
 //! What a table keeps of an entry beside its handle: one word a slot.
 ghost use Rattle.clock2q_handles.specs.Homes.{top};
-ghost use Rattle.std.specs.Prelude.{◌≡◌, ◌≤◌, ◌<◌, ◌↔◌, IsTrue, IsSome, None, Some};
+ghost use Rattle.std.specs.Prelude.{◌≡◌, ◌+◌, ◌≤◌, ◌<◌, ◌↔◌, IsTrue, IsSome, None, Some};
 
-/// One unit of displacement: a fingerprint stands below it.
+/// One unit of reach, which is an entry's displacement and one more: a fingerprint stands below it.
 const UNIT: u32 = 1 << 8;
+
+/// An empty slot's word: any word below a unit says as much, and one that isn't made of equal bytes
+/// is filled in by words.
+const EMPTY: u32 = 1;
 
 /// The furthest that an entry may stand past its home.
 pub(super) const MAX_DISPLACEMENT: usize = (1 << 24) - 2;
 
-/// A slot's displacement and fingerprint, or that the slot is empty.
+/// A slot's displacement and fingerprint, or that the slot is empty: a reach of 0.
 #[derive(Clone, Copy)]
 pub struct Metadata {
     word: u32,
 }
 
 impl Metadata {
-    ghost use Rattle.clock2q_handles.specs.Slots.{told, mark_reach, mark_on, mark_back};
+    ghost use Rattle.clock2q_handles.specs.Slots.{told, sought, mark_reach, mark_on, mark_back};
 
     pub(super) fn empty() -> Metadata
         ensures { told result ≡ None }
     {
-        Metadata { word: u32::MAX }
+        Metadata { word: EMPTY }
     }
 
     /// What an entry of that hash has, so far past its home.
@@ -29,22 +33,37 @@ impl Metadata {
         ensures { told result ≡ Some (displacement, top hash) }
     {
         Metadata {
-            word: displacement as u32 * UNIT + (hash >> 56) as u32,
+            word: (displacement as u32 + 1) * UNIT + (hash >> 56) as u32,
         }
     }
 
     pub(super) fn is_empty(self) -> bool
         ensures { IsTrue result ↔ (told self ≡ None) }
     {
-        self.word == u32::MAX
+        self.word < UNIT
     }
 
-    /// A walk that has come so far from its home ends here: the slot is empty, or its entry is
-    /// nearer to its own home.
+    /// Whether a walk that has come so far from its home ends here: the slot is empty, or its entry
+    /// is nearer to its own home.
     pub(super) fn ends_walk(self, distance: usize) -> bool
         ensures { IsTrue result ↔ (mark_reach (told self) ≤ distance) }
     {
-        self.is_empty() || ((self.word / UNIT) as usize) < distance
+        (self.word / UNIT) as usize <= distance
+    }
+
+    /// Whether a walk ends here that looks for `wanted` in this slot.
+    pub(super) fn ends_walk_for(self, wanted: Wanted) -> bool
+        ensures { IsTrue result ↔ (mark_reach (told self) < mark_reach (sought wanted)) }
+    {
+        u64::from(self.word) < wanted.word / WANTED_UNIT * WANTED_UNIT
+    }
+
+    /// Whether the slot's entry is of the kind that is looked for.
+    pub(super) fn is(self, wanted: Wanted) -> bool
+        requires { IsSome (sought wanted) }
+        ensures { IsTrue result ↔ (told self ≡ sought wanted) }
+    {
+        u64::from(self.word) == wanted.word
     }
 
     /// The slot's entry has the home of a walk that has come so far, and the hash's fingerprint.
@@ -55,19 +74,18 @@ impl Metadata {
         self.word == Metadata::new(hash, distance).word
     }
 
-    /// The entry may stand one slot further past its home.
+    /// Whether the entry may stand one slot further past its home.
     pub(super) fn can_move_on(self) -> bool
-        requires { IsSome (told self) }
         ensures { IsTrue result ↔ (mark_reach (told self) ≤ MAX_DISPLACEMENT) }
     {
-        ((self.word / UNIT) as usize) < MAX_DISPLACEMENT
+        (self.word / UNIT) as usize <= MAX_DISPLACEMENT
     }
 
-    /// There is an entry, and it isn't at its home.
+    /// Whether there is an entry, and it isn't at its home.
     pub(super) fn can_move_back(self) -> bool
         ensures { IsTrue result ↔ (1 < mark_reach (told self)) }
     {
-        !self.is_empty() && UNIT <= self.word
+        2 * UNIT <= self.word
     }
 
     pub(super) fn moved_on(self) -> Metadata
@@ -86,6 +104,63 @@ impl Metadata {
     {
         Metadata {
             word: self.word - UNIT,
+        }
+    }
+}
+
+/// The same unit in a word of 64 bits.
+const WANTED_UNIT: u64 = 1 << 8;
+
+/// What a walk looks for in the slot that it has come to: an entry of its home, which stands so far
+/// past it, with the fingerprint of its hash; or nothing, where it has ended. The word is longer
+/// than a slot's, since a walk comes one slot further than an entry may stand.
+#[derive(Clone, Copy)]
+pub struct Wanted {
+    word: u64,
+}
+
+impl Wanted {
+    ghost use Rattle.clock2q_handles.specs.Slots.{told, sought, mark_reach, mark_on};
+
+    pub(super) fn nothing() -> Wanted
+        ensures { sought result ≡ None }
+    {
+        Wanted { word: 0 }
+    }
+
+    /// What a walk for the hash looks for at its home.
+    pub(super) fn new(hash: u64) -> Wanted
+        ensures { sought result ≡ Some (0, top hash) }
+    {
+        Wanted {
+            word: WANTED_UNIT + (hash >> 56),
+        }
+    }
+
+    pub(super) fn is_nothing(self) -> bool
+        ensures { IsTrue result ↔ (sought self ≡ None) }
+    {
+        self.word < WANTED_UNIT
+    }
+
+    /// What the walk looks for in the next slot.
+    pub(super) fn next(self) -> Wanted
+        requires some { IsSome (sought self) }
+        requires room { mark_reach (sought self) ≤ MAX_DISPLACEMENT + 1 }
+        ensures { sought result ≡ mark_on (sought self) }
+    {
+        Wanted {
+            word: self.word + WANTED_UNIT,
+        }
+    }
+
+    /// Returns what an entry has that is put in where the walk ends.
+    pub(super) fn metadata(self) -> Metadata
+        requires { mark_reach (sought self) ≤ MAX_DISPLACEMENT + 1 }
+        ensures { told result ≡ sought self }
+    {
+        Metadata {
+            word: self.word as u32,
         }
     }
 }

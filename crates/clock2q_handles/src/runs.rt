@@ -12,7 +12,6 @@ ghost use Rattle.std.specs.Prelude.{◌≡◌, ◌+◌, ◌-◌, ◌%◌, ◌^�
 
 use crate::metadata::{MAX_DISPLACEMENT, Metadata};
 use crate::slots::Slots;
-use clock2q_count::Count;
 use std::alloc::Allocator;
 
 impl<H: Copy + Default, A: Allocator> Slots<H, A> {
@@ -30,61 +29,6 @@ impl<H: Copy + Default, A: Allocator> Slots<H, A> {
             distance += 1;
         }
         distance
-    }
-
-    /// How far from the home of `hash` its first candidate that equals `handle` stands.
-    pub(super) fn find(&self, home: usize, hash: u64, handle: H) -> Option<usize>
-    where
-        H: PartialEq,
-        requires tidy { IsTidy self.now.slots }
-        requires home { 0 < length self.now.slots → home < length self.now.slots }
-        requires near { (n : ℕ) → reach (slot_at self.now.slots n) ≤ 16777215 }
-        ensures found { IfSome result (Finds (is_entry_of H.PartialEq.eq hash handle) (slot_at self.now.slots) home) }
-        ensures within { IfSome result (λ n. n < length self.now.slots) }
-        ensures none { IfNone result (list_any (is_entry_of H.PartialEq.eq hash handle) (listed (homes_of self.now.slots) home) ≡ false) }
-    {
-        for distance in 0..self.count() {
-            let metadata = self.metadata(home, distance);
-            if metadata.ends_walk(distance) {
-                return None;
-            }
-            if metadata.is_candidate(hash, distance) && self.handle(home, distance) == handle {
-                return Some(distance);
-            }
-        }
-        None
-    }
-
-    /// How far from the home the next candidate of `hash` stands, for a walk that has come to a
-    /// distance already. Each slot that is read is counted.
-    pub(super) fn candidate(
-        &self,
-        home: usize,
-        hash: u64,
-        from: usize,
-        reads: &mut Count,
-    ) -> Option<usize>
-        requires tidy { IsTidy self.now.slots }
-        requires home { 0 < length self.now.slots → home < length self.now.slots }
-        requires near { (n : ℕ) → reach (slot_at self.now.slots n) ≤ 16777215 }
-        requires from { from ≤ length self.now.slots }
-        requires passed { from < length self.now.slots → (j : ℕ) → j < from → j < reach (slot_at self.now.slots (home + j)) }
-        ensures found { IfSome result (IsNextCandidate self.now.slots home hash from) }
-        ensures read { IfSome result (λ n. reads.new.total + from ≡ reads.old.total + n + 1) }
-        ensures none { IfNone result (matching hash (met (slot_at self.now.slots) home from (length self.now.slots - from)) ≡ []) }
-        ensures read_all { IfNone result (reads.new.total ≡ reads.old.total + (walk (homes_of self.now.slots) home - from)) }
-    {
-        for distance in from..self.count() {
-            let metadata = self.metadata(home, distance);
-            reads.tick();
-            if metadata.ends_walk(distance) {
-                return None;
-            }
-            if metadata.is_candidate(hash, distance) {
-                return Some(distance);
-            }
-        }
-        None
     }
 
     /// Offers the candidates of `hash` up to the first that is accepted. Answers it, or else how
@@ -196,31 +140,5 @@ impl<H: Copy + Default, A: Allocator> Slots<H, A> {
             self.write(home, distance, metadata.moved_on(), handle);
             distance -= 1;
         }
-    }
-
-    /// Takes the entry at a distance from the home out. Those that follow it move back one slot,
-    /// up to an empty slot or an entry at its home.
-    pub(super) fn take_out(&mut self, home: usize, distance: usize)
-        requires small { length self.old.slots < 2 ^ 63 }
-        requires tidy { IsTidy self.old.slots }
-        requires home { home < length self.old.slots }
-        requires within { distance < length self.old.slots }
-        requires walked { (j : ℕ) → j ≤ distance → 0 < reach (slot_at self.old.slots (home + j)) }
-        ensures closes { (e : ℕ × H) → slot_at self.old.slots (home + distance) ≡ Some (placed distance e) →
-            (v : ℕ) × Closes (slot_at self.old.slots) (slot_at self.new.slots) (length self.old.slots) home distance v e
-            × (self.new.writes + distance ≡ self.old.writes + v + 1) }
-        ensures len { length self.new.slots ≡ length self.old.slots }
-    {
-        let mut hole = distance;
-        loop {
-            let metadata = self.metadata(home, hole + 1);
-            if !metadata.can_move_back() {
-                break;
-            }
-            let handle = self.handle(home, hole + 1);
-            self.write(home, hole, metadata.moved_back(), handle);
-            hole += 1;
-        }
-        self.write(home, hole, Metadata::empty(), H::default());
     }
 }

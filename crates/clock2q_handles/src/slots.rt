@@ -1,11 +1,22 @@
 //! A table's slots, as two vectors side by side.
-ghost use Rattle.clock2q_handles.specs.Layout.{slot_at};
-ghost use Rattle.std.specs.Prelude.{◌≡◌, ◌+◌, ◌%◌, ◌^◌, ◌<◌, ◌≤◌, [], ℕ, None, IfOk, IfSome, length, replicate, set};
+ghost use Rattle.clock2q_handles.specs.Found.{TakesOut};
+ghost use Rattle.clock2q_handles.specs.Homes.{top, is_entry_of, listed};
+ghost use Rattle.clock2q_handles.specs.Layout.{IsTidy, slot_at, reach, homes_of};
+ghost use Rattle.clock2q_handles.specs.Shifts.{PutsIn};
+ghost use Rattle.clock2q_handles.specs.Slots.{cell, cells, told, IsSlotCount};
+ghost use Rattle.std.specs.Bool.{OnTrue, OnFalse};
+ghost use Rattle.std.specs.List.{list_any};
+ghost use Rattle.std.specs.Prelude.{false, ◌≡◌, ◌+◌, ◌%◌, ◌^◌, ◌<◌, ◌≤◌, [], ℕ, None, IfOk, IfSome, length, replicate, set};
 
-use crate::metadata::Metadata;
+mod reader;
+mod view;
+
+use crate::metadata::{MAX_DISPLACEMENT, Metadata};
 use clock2q_count::Count;
+pub(super) use reader::Reader;
 use std::alloc::{AllocError, Allocator};
 use std::marker::Model;
+pub(super) use view::{SlotsMut, SlotsRef};
 
 /// The slots: a power of two of them, or none. A slot is named by a home and a distance from it,
 /// counted circularly.
@@ -30,7 +41,7 @@ impl<H, A: Allocator> Model for Slots<H, A> {
 }
 
 impl<H: Copy + Default, A: Allocator> Slots<H, A> {
-    ghost use Rattle.clock2q_handles.specs.Slots.{slots_value, cell, told, mark_of, IsSlotCount};
+    ghost use Rattle.clock2q_handles.specs.Slots.{slots_value, mark_of};
 
     /// No slots, and no memory.
     pub(super) fn new(alloc: A) -> Slots<H, A>
@@ -70,6 +81,16 @@ impl<H: Copy + Default, A: Allocator> Slots<H, A> {
         *self.metadata.allocator()
     }
 
+    /// Returns a view that reads the slots.
+    #[inline(always)]
+    pub(super) fn view(&self) -> SlotsRef<'_, H>
+        ensures shown { cells result.metadata.now result.handles.now ≡ self.now.slots }
+        ensures count { length result.metadata.now ≡ length self.now.slots }
+        ensures same { length result.handles.now ≡ length result.metadata.now }
+    {
+        SlotsRef::new(self.metadata.as_slice(), self.handles.as_slice())
+    }
+
     /// How many slots there are.
     pub(super) fn count(&self) -> usize
         ensures count { result ≡ length self.now.slots }
@@ -87,6 +108,68 @@ impl<H: Copy + Default, A: Allocator> Slots<H, A> {
     {
         let mask = self.count().wrapping_sub(1);
         hash as usize & mask
+    }
+
+    /// The slot after another, which is slot 0 after the last.
+    fn after(&self, slot: usize) -> usize
+        requires { slot < length self.now.slots }
+        ensures after { result ≡ (slot + 1) % length self.now.slots }
+        ensures within { result < length self.now.slots }
+    {
+        let mask = self.count() - 1;
+        (slot + 1) & mask
+    }
+
+    fn metadata_at(&self, slot: usize) -> Metadata
+        requires { slot < length self.now.slots }
+        ensures { told result ≡ mark_of (slot_at self.now.slots slot) }
+    {
+        self.metadata[slot]
+    }
+
+    fn handle_at(&self, slot: usize) -> H
+        requires { slot < length self.now.slots }
+        ensures { IfSome (slot_at self.now.slots slot) (λ p. result ≡ p.entry.1) }
+    {
+        self.handles[slot]
+    }
+
+    /// Takes the first candidate of `hash` that equals `handle` out, and returns whether there was
+    /// one.
+    #[inline(always)]
+    pub(super) fn remove(&mut self, hash: u64, handle: H) -> bool
+    where
+        H: PartialEq,
+        requires tidy { IsTidy self.old.slots }
+        requires near { (n : ℕ) → reach (slot_at self.old.slots n) ≤ 16777215 }
+        ensures taken { OnTrue result (TakesOut (is_entry_of H.PartialEq.eq hash handle) self.old.slots self.new.slots (hash % length self.old.slots) self.old.writes self.new.writes) }
+        ensures none { OnFalse result (list_any (is_entry_of H.PartialEq.eq hash handle) (listed (homes_of self.old.slots) (hash % length self.old.slots)) ≡ false) }
+        ensures kept { OnFalse result (self.new ≡ self.old) }
+    {
+        remove_from(
+            self.metadata.as_mut_slice(),
+            self.handles.as_mut_slice(),
+            &mut self.writes,
+            hash,
+            handle,
+        )
+    }
+
+    /// Puts an entry in where no entry comes to stand too far past its home.
+    #[inline(always)]
+    pub(super) fn put(&mut self, hash: u64, handle: H)
+        requires tidy { IsTidy self.old.slots }
+        requires near { (n : ℕ) → reach (slot_at self.old.slots n) ≤ MAX_DISPLACEMENT }
+        requires some { 0 < length self.old.slots }
+        ensures put { PutsIn self.old.slots self.new.slots (hash % length self.old.slots) (top hash, handle) self.old.writes self.new.writes }
+    {
+        put_into(
+            self.metadata.as_mut_slice(),
+            self.handles.as_mut_slice(),
+            &mut self.writes,
+            hash,
+            handle,
+        );
     }
 
     fn slot(&self, home: usize, distance: usize) -> usize
@@ -116,15 +199,86 @@ impl<H: Copy + Default, A: Allocator> Slots<H, A> {
         self.handles[self.slot(home, distance)]
     }
 
-    /// Writes a slot in both vectors. There is no other way to write one.
+    /// Writes the slot at a distance from a home in both vectors.
     pub(super) fn write(&mut self, home: usize, distance: usize, metadata: Metadata, handle: H)
         requires home { home < length self.old.slots }
         requires distance { distance ≤ length self.old.slots }
         ensures { self.new ≡ slots_value (set self.old.slots ((home + distance) % length self.old.slots) (cell (told metadata) handle)) (self.old.writes + 1) }
     {
         let slot = self.slot(home, distance);
-        self.metadata[slot] = metadata;
-        self.handles[slot] = handle;
-        self.writes.tick();
+        write_into(
+            self.metadata.as_mut_slice(),
+            self.handles.as_mut_slice(),
+            &mut self.writes,
+            slot,
+            metadata,
+            handle,
+        );
     }
+}
+
+/// Removes an entry over a view of both vectors.
+#[inline(always)]
+fn remove_from<H: Copy + Default + PartialEq>(
+    metadata: &mut [Metadata],
+    handles: &mut [H],
+    writes: &mut Count,
+    hash: u64,
+    handle: H,
+) -> bool
+    requires same { length handles.old ≡ length metadata.old }
+    requires slot_count { IsSlotCount (length metadata.old) }
+    requires tidy { IsTidy (cells metadata.old handles.old) }
+    requires near { (n : ℕ) → reach (slot_at (cells metadata.old handles.old) n) ≤ 16777215 }
+    ensures taken { OnTrue result (TakesOut (is_entry_of H.PartialEq.eq hash handle) (cells metadata.old handles.old) (cells metadata.new handles.new) (hash % length (cells metadata.old handles.old)) writes.old.total writes.new.total) }
+    ensures none { OnFalse result (list_any (is_entry_of H.PartialEq.eq hash handle) (listed (homes_of (cells metadata.old handles.old)) (hash % length (cells metadata.old handles.old))) ≡ false) }
+    ensures kept { OnFalse result ((metadata.new ≡ metadata.old) × (handles.new ≡ handles.old) × (writes.new ≡ writes.old)) }
+    ensures as_many { length handles.new ≡ length metadata.new }
+    ensures len { length metadata.new ≡ length metadata.old }
+{
+    let mut slots = SlotsMut::new(metadata, handles, writes);
+    slots.remove(hash, handle)
+}
+
+/// Puts an entry in over a view of both vectors.
+#[inline(always)]
+fn put_into<H: Copy + Default>(
+    metadata: &mut [Metadata],
+    handles: &mut [H],
+    writes: &mut Count,
+    hash: u64,
+    handle: H,
+)
+    requires same { length handles.old ≡ length metadata.old }
+    requires slot_count { IsSlotCount (length metadata.old) }
+    requires tidy { IsTidy (cells metadata.old handles.old) }
+    requires near { (n : ℕ) → reach (slot_at (cells metadata.old handles.old) n) ≤ MAX_DISPLACEMENT }
+    requires some { 0 < length (cells metadata.old handles.old) }
+    ensures put { PutsIn (cells metadata.old handles.old) (cells metadata.new handles.new) (hash % length (cells metadata.old handles.old)) (top hash, handle) writes.old.total writes.new.total }
+    ensures as_many { length handles.new ≡ length metadata.new }
+    ensures len { length metadata.new ≡ length metadata.old }
+{
+    let mut slots = SlotsMut::new(metadata, handles, writes);
+    slots.put(hash, handle);
+}
+
+/// Writes a slot over a view of both vectors.
+fn write_into<H: Copy>(
+    metadata: &mut [Metadata],
+    handles: &mut [H],
+    writes: &mut Count,
+    slot: usize,
+    word: Metadata,
+    handle: H,
+)
+    requires same { length handles.old ≡ length metadata.old }
+    requires slot_count { IsSlotCount (length metadata.old) }
+    requires within { slot < length (cells metadata.old handles.old) }
+    ensures written { cells metadata.new handles.new ≡ set (cells metadata.old handles.old) slot (cell (told word) handle) }
+    ensures counted { writes.new.total ≡ writes.old.total + 1 }
+    ensures as_many { length handles.new ≡ length metadata.new }
+    ensures len { length metadata.new ≡ length metadata.old }
+{
+    let mut slots = SlotsMut::new(metadata, handles, writes);
+    slots.write(slot, word, handle);
 }

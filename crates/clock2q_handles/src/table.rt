@@ -13,6 +13,7 @@ mod tests;
 
 use crate::candidates::Candidates;
 use crate::error::TableError;
+use crate::metadata::MAX_DISPLACEMENT;
 use crate::slots::Slots;
 use crate::table::growth::slots_for;
 use std::alloc::{Allocator, Global};
@@ -94,6 +95,7 @@ impl<H: Copy + Eq + Default, A: Allocator + Copy> Table<H, A> {
     /// # Cost
     ///
     /// Below capacity, writes the slots from the new entry's to the end of its run.
+    #[inline(always)]
     pub fn insert<F: FnMut(H) -> u64>(
         &mut self,
         hash: u64,
@@ -206,7 +208,27 @@ impl<H: Copy + Eq + Default, A: Allocator> Table<H, A> {
     /// # Cost
     ///
     /// Writes the slots from the new entry's to the end of its run.
+    #[inline(always)]
     pub fn insert_within_capacity(&mut self, hash: u64, handle: H) -> Result<(), TableError>
+        requires room { IsBelowCapacity self.old.homes }
+        ensures put { PutIn self.old.homes hash handle result self.new.homes }
+        ensures refused { OnErr result (self.new ≡ self.old) }
+        ensures few { total self.old.homes + 1 < 2 ^ 24 → IsOk result }
+        ensures writes { WritesAtMost (run self.old.slots hash + 1) self.old self.new }
+        ensures restores { OnOk result (Restores H.PartialEq.eq hash handle self.old self.new) }
+        ensures laid { IsLaidOut self.new }
+    {
+        if self.len > MAX_DISPLACEMENT {
+            return self.insert_among_many(hash, handle);
+        }
+        self.slots.put(hash, handle);
+        self.len += 1;
+        Ok(())
+    }
+
+    /// Inserts an entry in a table of so many that a run may become too long.
+    #[inline(always)]
+    fn insert_among_many(&mut self, hash: u64, handle: H) -> Result<(), TableError>
         requires room { IsBelowCapacity self.old.homes }
         ensures put { PutIn self.old.homes hash handle result self.new.homes }
         ensures refused { OnErr result (self.new ≡ self.old) }
@@ -285,11 +307,9 @@ impl<H: Copy + Eq + Default, A: Allocator> Table<H, A> {
         ensures laid { IsLaidOut self.new }
         ensures shorter { (x : ℕ) → walk self.new.homes x ≤ walk self.old.homes x }
     {
-        let home = self.slots.home(hash);
-        let Some(distance) = self.slots.find(home, hash, handle) else {
+        if !self.slots.remove(hash, handle) {
             return false;
-        };
-        self.slots.take_out(home, distance);
+        }
         self.len -= 1;
         true
     }

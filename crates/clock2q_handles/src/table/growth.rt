@@ -70,6 +70,7 @@ impl<H: Copy + Eq + Default, A: Allocator + Copy> Table<H, A> {
     }
 
     /// Makes room for one more entry: a full table grows.
+    #[inline(always)]
     pub(super) fn make_room<F: FnMut(H) -> u64>(&mut self, rehash: &mut F) -> Result<(), TableError>
         requires rehash { IsFull self.old.homes → HashesKnown F.FnMut rehash.old self.old.homes }
         ensures grown { OnOk result (AfterGrowth F.FnMut rehash.old self.old.homes (λ homes. self.new.homes ≡ homes)) }
@@ -92,6 +93,7 @@ impl<H: Copy + Eq + Default, A: Allocator + Copy> Table<H, A> {
     }
 
     /// Rebuilds a full table in twice the slots, or in the least count of them.
+    #[inline(never)]
     fn grow<F: FnMut(H) -> u64>(&mut self, rehash: &mut F) -> Result<(), TableError>
         requires full { IsFull self.old.homes }
         requires asked { HashesKnown F.FnMut rehash.old self.old.homes }
@@ -130,9 +132,10 @@ impl<H: Copy + Eq + Default, A: Allocator + Copy> Table<H, A> {
             return Err(TableError::Memory);
         };
         let mut table = Table { slots, len: 0 };
-        for slot in 0..self.slots.count() {
-            if !self.slots.metadata(0, slot).is_empty() {
-                let handle = self.slots.handle(0, slot);
+        let old = self.slots.view();
+        for slot in 0..old.count() {
+            if !old.metadata(slot).is_empty() {
+                let handle = old.handle(slot);
                 let hash = rehash(handle);
                 table.insert_within_capacity(hash, handle)?;
             }

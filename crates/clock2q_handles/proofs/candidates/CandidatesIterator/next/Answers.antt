@@ -1,48 +1,45 @@
-use Rattle.std.proofs.Common.{◌≡◌, ℕ, ◌+◌, ◌<◌, length, arith, sym, ap, ◌∙◌, subst, below_more}
+use Rattle.std.proofs.Common.{◌≡◌, ◌+◌, ◌%◌, ◌≤◌, length, arith, sym, ap, ◌∙◌, subst, IfSome, ◌∷◌}
 use Rattle.clock2q_handles.specs.Layout.{reach, slot_at}
-use Rattle.clock2q_handles.specs.Candidates.{left_from, unread_from}
-use Rattle.clock2q_handles.proofs.Yields.{left_none, left_past, walk-home, walk-le, yielded, yielded-read, yields_progress}
+use Rattle.clock2q_handles.specs.Candidates.{left_at, unread_at, IsLookup}
+use Rattle.clock2q_handles.specs.Slots.{sought, mark_reach}
+use Rattle.clock2q_handles.proofs.Moves.{reach_told}
+use Rattle.clock2q_handles.proofs.Yields.{yields_progress}
+use Rattle.clock2q_handles.proofs.Cursors.{HasStepped, lookup_steps}
+use Rattle.clock2q_handles.proofs.candidates.CandidatesIterator.next.Given.{Over}
+use Rattle.clock2q_handles.proofs.candidates.CandidatesIterator.next.Goals.{After-handle-handle, After-next-self-inside}
 use Rattle.clock2q_handles.proofs.candidates.CandidatesIterator.next.Goals as goal
 
-pub returns-in_default-clause-steps : goal.returns-in_default-clause-steps
-returns-in_default-clause-steps g c =
-    let slots = c.self.inside.slots.now.slots in
-    let x : ℕ = c.self.inside.hash in
-    let d : ℕ = c.self.inside.distance in
-    let all : c.count-self-inside.result ≡ length slots = c.count-self-inside.ensures.count in
-    let same = walk-home slots c.self.invariant.tidy x c.home-home.result c.home-home.ensures.home in
-    let most = walk-le slots c.self.invariant.tidy x in
-    let unread : unread_from slots x c.count-self-inside.result ≡ 0 = omega (arith, all, most) in (
-      (ap (λ t. t.left) (sym c.self.view_is) ∙ left_none slots c.self.invariant.tidy x c.home-home.result c.home-home.ensures.home d c.in_default.ensures.none, ap (left_from slots x) all ∙ left_past slots x),
-      omega (arith, unread, c.in_default.ensures.read_all, same, ap (λ t. t.reads) c.self.view_is, ap (λ t. t.unread) c.self.view_is),
-      unread,
-    )
+-- the candidate's slot doesn't end the walk
+far : (g : Over) (c : After-handle-handle g) → mark_reach (sought c.in-Some.wanted) ≤ reach (slot_at c.self.inside.reader.slots.now.slots c.in-Some.slot)
+far g c = omega (arith, reach_told (sought c.in-Some.wanted) (slot_at c.self.inside.reader.slots.now.slots c.in-Some.slot) (sym c.in-Some.ensures.found))
+
+pub next-self-inside-requires-clause-room : goal.next-self-inside-requires-clause-room
+next-self-inside-requires-clause-room g c = omega (arith, far g (goal.at.next-self-inside-requires-clause-room g c).After-handle-handle, c.in-Some.ensures.lookup.near c.in-Some.slot)
+
+-- the walk goes on to the slot after
+on : (g : Over) (c : After-next-self-inside g) → mark_reach (sought c.in-Some.wanted) ≤ reach (slot_at c.self.inside.reader.slots.now.slots c.in-Some.slot)
+    → HasStepped c.self.inside.reader.slots.now.slots (sought c.in-Some.wanted) (sought c.next-self-inside.result) c.in-Some.slot c.after-self-inside.result
+on g c far =
+    lookup_steps c.self.inside.reader.slots.now.slots (sought c.in-Some.wanted) (sought c.next-self-inside.result) c.in-Some.slot c.after-self-inside.result c.in-Some.ensures.some c.next-self-inside.ensures
+    (c.after-self-inside.ensures.after ∙ ap (λ s. (c.in-Some.slot + 1) % length s.now.slots) c.candidate.ensures.same) c.in-Some.ensures.lookup far
+
+pub invariant_of-self-2 : goal.invariant_of-self-2
+invariant_of-self-2 g c =
+    let before = goal.at.invariant_of-self-2 g c in
+    subst (λ s. IsLookup s.now.slots (sought c.next-self-inside.result) c.after-self-inside.result) (sym c.candidate.ensures.same) (on g before.After-next-self-inside (far g before.After-handle-handle)).lookup
 
 pub returns-clause-steps : goal.returns-clause-steps
 returns-clause-steps g c =
-    let slots = c.self.inside.slots.now.slots in
-    let x : ℕ = c.self.inside.hash in
-    let d : ℕ = c.self.inside.distance in
-    let n : ℕ = c.in-Some.distance in
-    let left = yielded slots c.self.invariant.tidy x c.home-home.result c.home-home.ensures.home d n c.handle.result c.in-Some.ensures.found c.handle.ensures in
-    let more = yielded-read slots c.self.invariant.tidy x c.home-home.result c.home-home.ensures.home d n c.in-Some.ensures.found in (
-      ap (λ t. t.left) (sym c.self.view_is) ∙ left,
-      omega (arith, c.in-Some.ensures.read, more, c.in-Some.ensures.found.from, ap (λ t. t.reads) c.self.view_is, ap (λ t. t.unread) c.self.view_is),
+    let before = goal.at.returns-clause-steps g c in
+    let slots = c.self.inside.reader.slots.now.slots in
+    let v = c.handle-handle.result in
+    let same = ap (λ s. s.now.slots) (sym c.candidate.ensures.same) in
+    let next = on g before.After-next-self-inside (far g before.After-handle-handle) in
+    let handle = subst (λ s. IfSome (slot_at s.now.slots c.in-Some.slot) (λ p. v ≡ p.entry.1)) c.candidate.ensures.same c.handle-handle.ensures in (
+      ap (λ t. t.left) (sym c.self.view_is) ∙ c.in-Some.ensures.left ∙ next.takes v c.in-Some.ensures.found handle ∙ ap (λ s. v ∷ left_at s (sought c.next-self-inside.result) c.after-self-inside.result) same,
+      omega (arith, ap (λ s. unread_at s (sought c.next-self-inside.result) c.after-self-inside.result) same, next.read, c.in-Some.ensures.read, ap (λ t. t.reads) c.self.view_is, ap (λ t. t.unread) c.self.view_is),
       tt,
     )
 
 pub returns-clause-goes : goal.returns-clause-goes
-returns-clause-goes g c = yields_progress (λ v. v.left) _ c.args.self.now _ c.handle.result (returns-clause-steps g c).0 tt
-
-pub invariant_of-self-2 : goal.invariant_of-self-2
-invariant_of-self-2 g c =
-    let next = c.in-Some.ensures.found in
-    let slots = c.self.inside.slots.now.slots in
-    let n : ℕ = c.in-Some.distance in
-    let home = c.home-home.ensures.home (omega (arith, next.within)) in
-    record {
-      tidy = c.self.invariant.tidy;
-      near = c.self.invariant.near;
-      within = omega (arith, next.within);
-      passed = λ _. subst (λ h. (j : ℕ) → j < n + 1 → j < reach (slot_at slots (h + j))) home (below_more (λ j. j < reach (slot_at slots (c.home-home.result + j))) n next.passed (omega (arith, ap reach next.here)));
-    }
+returns-clause-goes g c = yields_progress (λ v. v.left) _ c.args.self.now _ c.handle-handle.result (returns-clause-steps g c).0 tt

@@ -1,11 +1,8 @@
 use Rattle.std.proofs.Common.{◌≡◌, ◌-◌, ap, ◌∙◌, arith}
 use Rattle.clock2q_handles.specs.Homes.{candidates}
 use Rattle.clock2q_handles.specs.Layout.{homes_of, walk}
-use Rattle.clock2q_handles.proofs.Yields.{lookup_start, left_at_start}
+use Rattle.clock2q_handles.proofs.Yields.{left_at_start}
 use Rattle.clock2q_handles.proofs.table.Table.get.Goals as goal
-
-pub new-requires : goal.new-requires
-new-requires g c = lookup_start c.self.inside.slots.slots _ c.self.inside.len c.self.invariant
 
 pub returns-clause-candidates : goal.returns-clause-candidates
 returns-clause-candidates g c = ap (λ t. t.left) c.new.ensures ∙ left_at_start c.self.inside.slots.slots c.args.hash ∙ ap (λ t. candidates t.homes c.args.hash) c.self.view_is

@@ -1,23 +1,49 @@
-use Rattle.std.proofs.Common.{◌<◌, length, sym, ap, ◌∙◌, subst, arith}
-use Rattle.clock2q_handles.specs.Homes.{total, capacity}
-use Rattle.clock2q_handles.specs.Layout.{homes_of}
+use Rattle.std.proofs.Common.{◌≤◌, ◌+◌, ◌<◌, length, sym, ap, ◌∙◌, subst, arith}
+use Rattle.clock2q_handles.specs.Homes.{total, capacity, inserted}
+use Rattle.clock2q_handles.specs.Layout.{homes_of, run, IsTooLong}
 use Rattle.clock2q_handles.proofs.Tidy.{length-homes_of}
-use Rattle.clock2q_handles.proofs.Promises.{ok_where_no_error, on_ok, put_ok, put_err, few_fit, restored_by}
+use Rattle.clock2q_handles.proofs.Steps.{table-laid}
+use Rattle.clock2q_handles.proofs.Insertions.{Insertion}
+use Rattle.clock2q_handles.proofs.Few.{near_few, insertion_few}
+use Rattle.clock2q_handles.proofs.Promises.{restored_by}
+use Rattle.clock2q_handles.proofs.table.Table.insert_within_capacity.Given.{Over}
+use Rattle.clock2q_handles.proofs.table.Table.insert_within_capacity.Goals.{After-put}
 use Rattle.clock2q_handles.proofs.table.Table.insert_within_capacity.Goals as goal
 
-pub end-distance-requires-clause-home : goal.end-distance-requires-clause-home
-end-distance-requires-clause-home g c =
-    let slots = c.self.inside.slots.slots in
-    let room : total (homes_of slots) < capacity (length (homes_of slots)) = subst (λ t. total t.homes < capacity (length t.homes)) (sym c.self.view_is) c.requires.room in
-    c.home-home.ensures.within (omega (arith, room, length-homes_of slots))
+pub put-requires-clause-near : goal.put-requires-clause-near
+put-requires-clause-near g c = near_few c.self.inside.slots.slots c.self.inside.len c.self.invariant (omega (arith, c.if-self-gt-MAX_DISPLACEMENT.false))
 
-pub returns-clause-few : goal.returns-clause-few
-returns-clause-few g c few =
-    ok_where_no_error c.place.result (put_err c.args.self.now.homes c.place.new.self.homes c.args.hash c.args.handle c.place.result c.place.ensures.put) (few_fit c.args.self.now.homes c.args.hash c.args.handle c.requires.room few)
+pub put-requires-clause-some : goal.put-requires-clause-some
+put-requires-clause-some g c =
+    let room : total (homes_of c.self.inside.slots.slots) < capacity (length c.self.inside.slots.slots) =
+    subst (λ m. total (homes_of c.self.inside.slots.slots) < capacity m) (length-homes_of c.self.inside.slots.slots) (subst (λ t. total t.homes < capacity (length t.homes)) (sym c.self.view_is) c.requires.room) in
+    omega (arith, room)
+
+-- what was put in
+step : (g : Over) (c : After-put g) → Insertion c.args.hash c.args.handle c.self.inside.slots.slots c.put.new.self.slots c.self.inside.len c.self.inside.slots.writes c.put.new.self.writes
+step g c =
+    insertion_few c.args.hash c.args.handle c.self.inside.slots.slots c.put.new.self.slots c.self.inside.len c.self.inside.slots.writes c.put.new.self.writes c.self.invariant (omega (arith, c.if-self-gt-MAX_DISPLACEMENT.false))
+    (subst (λ m. total (homes_of c.self.inside.slots.slots) < capacity m) (length-homes_of c.self.inside.slots.slots) (subst (λ t. total t.homes < capacity (length t.homes)) (sym c.self.view_is) c.requires.room)) c.put.ensures.put
+
+pub invariant_of-self : goal.invariant_of-self
+invariant_of-self g c = (step g (goal.at.invariant_of-self g c).After-put).table
+
+pub returns-clause-put : goal.returns-clause-put
+returns-clause-put g c =
+    let done = step g (goal.at.returns-clause-put g c).After-put in
+    (done.homes ∙ ap (λ t. inserted t.homes c.args.hash c.args.handle) c.self.view_is, subst (λ t. IsTooLong (inserted t.homes c.args.hash c.args.handle) → ⊥) c.self.view_is done.short)
+
+pub returns-clause-writes : goal.returns-clause-writes
+returns-clause-writes g c =
+    let done = step g (goal.at.returns-clause-writes g c).After-put in
+    let within : c.put.new.self.writes ≤ c.self.inside.slots.writes + (run c.self.inside.slots.slots c.args.hash + 1) = omega (arith, done.writes) in
+    subst (λ t. (t.writes ≤ c.put.new.self.writes) × (c.put.new.self.writes ≤ t.writes + (run t.slots c.args.hash + 1))) c.self.view_is (done.counted, within)
+
+pub returns-clause-laid : goal.returns-clause-laid
+returns-clause-laid g c = table-laid c.put.new.self.slots (c.self.inside.len + 1) (step g (goal.at.returns-clause-laid g c).After-put).table c.put.new.self.writes
 
 pub returns-clause-restores : goal.returns-clause-restores
-returns-clause-restores g c =
+returns-clause-restores g c fresh =
     let slots = c.self.inside.slots.slots in
-    on_ok c.place.result (λ is fresh.
-    restored_by g.H.PartialEq.eq slots c.args.self.now.homes c.place.new.self.homes c.args.hash c.args.handle (ap (λ t. t.homes) c.self.view_is) c.self.invariant.tidy c.requires.room (g.met.H.Eq.laws.refl c.args.handle) is fresh
-    ∙ ap (λ t. t.slots) c.self.view_is) (put_ok c.args.self.now.homes c.place.new.self.homes c.args.hash c.args.handle c.place.result c.place.ensures.put)
+    restored_by g.H.PartialEq.eq slots c.args.self.now.homes (homes_of c.put.new.self.slots) c.args.hash c.args.handle (ap (λ t. t.homes) c.self.view_is) c.self.invariant.tidy c.requires.room (g.met.H.Eq.laws.refl c.args.handle) (returns-clause-put g c).0 fresh
+    ∙ ap (λ t. t.slots) c.self.view_is

@@ -1,7 +1,8 @@
-use Rattle.std.proofs.Common.{◌≡◌, ◌+◌, [], ◌∷◌, ◌++◌, map, take, length, refl, sym, ap, ◌∙◌, subst, arith}
+use Rattle.std.proofs.Common.{◌≡◌, ℕ, IfSome, ◌+◌, [], ◌∷◌, ◌++◌, map, take, length, refl, sym, ap, ◌∙◌, subst, arith}
 use Rattle.std.specs.Fn.{Called}
 use Rattle.clock2q_handles.specs.Homes.{no_entries}
-use Rattle.clock2q_handles.specs.Layout.{homes_of, entries, slot_at, layout}
+use Rattle.clock2q_handles.specs.Layout.{homes_of, entries, slot_at, layout, IsTidy}
+use Rattle.clock2q_handles.specs.Slots.{cells, mark_of}
 use Rattle.clock2q_handles.specs.TableStep.{table_value, put_all}
 use Rattle.clock2q_handles.specs.Changes.{IsLaidOut}
 use Rattle.clock2q_handles.specs.Rehash.{Asks, Reaches, IsHeld, held_handles}
@@ -28,22 +29,26 @@ loop-slot-init g c = record {
 }
 
 -- the slot that the loop has come to
-come : (g : Over) (c : After-is_empty g) → HasCome c.args.self.now.homes c.self.inside.slots.slots c.self.inside.len c.loop-slot.slot
+come : (g : Over) (c : After-is_empty g) → HasCome c.args.self.now.homes (cells c.view-old.result.metadata.now c.view-old.result.handles.now) c.self.inside.len c.loop-slot.slot
 come g c = record {
-  table = c.self.invariant;
-  lists = ap (λ t. t.homes) (sym c.self.view_is);
-  within = omega (arith, c.loop-slot-test.true, c.count-slot-end.ensures.count);
+  table = subst (λ s. IsTable s c.self.inside.len) (sym c.view-old.ensures.shown) c.self.invariant;
+  lists = ap (λ t. t.homes) (sym c.self.view_is) ∙ ap homes_of (sym c.view-old.ensures.shown);
+  within = omega (arith, c.loop-slot-test.true, c.count-slot-end.ensures, c.view-old.ensures.count, ap length c.view-old.ensures.shown);
 }
+
+-- the slot by its number
+numbered : (n : ℕ) → n ≡ 0 + n
+numbered n = omega arith
 
 -- the entry there
-holds : (g : Over) (c : After-handle-handle g) → Holds c.self.inside.slots.slots c.loop-slot.slot c.handle-handle.result
+holds : (g : Over) (c : After-handle-handle g) → Holds (cells c.view-old.result.metadata.now c.view-old.result.handles.now) c.loop-slot.slot c.handle-handle.result
 holds g c = record {
-  occupied = occupied_told c.is_empty.result _ (slot_at c.self.inside.slots.slots (0 + c.loop-slot.slot)) c.is_empty.ensures c.if-not-is_empty.true c.metadata.ensures.told;
-  handle = c.handle-handle.ensures;
+  occupied = occupied_told c.is_empty.result _ (slot_at (cells c.view-old.result.metadata.now c.view-old.result.handles.now) (0 + c.loop-slot.slot)) c.is_empty.ensures c.if-not-is_empty.true (c.metadata.ensures ∙ ap (λ n. mark_of (slot_at (cells c.view-old.result.metadata.now c.view-old.result.handles.now) n)) (numbered c.loop-slot.slot));
+  handle = subst (λ n. IfSome (slot_at (cells c.view-old.result.metadata.now c.view-old.result.handles.now) n) (λ p. c.handle-handle.result ≡ p.entry.1)) (numbered c.loop-slot.slot) c.handle-handle.ensures;
 }
 
-held : (g : Over) (c : After-handle-handle g) → HasCome c.args.self.now.homes c.self.inside.slots.slots c.self.inside.len c.loop-slot.slot → IsHeld c.args.self.now.homes c.handle-handle.result
-held g c at = step_held c.args.self.now.homes c.self.inside.slots.slots c.self.inside.len c.args.count c.loop-slot.slot at c.handle-handle.result (holds g c)
+held : (g : Over) (c : After-handle-handle g) → HasCome c.args.self.now.homes (cells c.view-old.result.metadata.now c.view-old.result.handles.now) c.self.inside.len c.loop-slot.slot → IsHeld c.args.self.now.homes c.handle-handle.result
+held g c at = step_held c.args.self.now.homes (cells c.view-old.result.metadata.now c.view-old.result.handles.now) c.self.inside.len c.args.count c.loop-slot.slot at c.handle-handle.result (holds g c)
 
 -- the closure gave its hash
 answered : (g : Over) (c : After-rehash-hash g) → IsHeld c.args.self.now.homes c.handle-handle.result → c.rehash-hash.result ≡ c.requires.asked.0 c.handle-handle.result
@@ -64,7 +69,7 @@ insert_within_capacity-requires g c =
     let asked = c.requires.asked in
     let given = answered g before.After-rehash-hash (held g before.After-handle-handle at) in
     record {
-      room = step_room c.args.self.now.homes c.self.inside.slots.slots c.self.inside.len c.args.count c.loop-slot.slot at c.handle-handle.result (holds g before.After-handle-handle)
+      room = step_room c.args.self.now.homes (cells c.view-old.result.metadata.now c.view-old.result.handles.now) c.self.inside.len c.args.count c.loop-slot.slot at c.handle-handle.result (holds g before.After-handle-handle)
           asked.0 asked.1.hashes c.loop-slot.table.homes (c.loop-slot.invariant.built asked.0 asked.1.answers asked.1.hashes) c.rehash-hash.result given c.requires.fits;
     }
 
@@ -74,7 +79,7 @@ returns-in_err-insert_within_capacity-clause-only g c =
     let at = come g before.After-is_empty in
     let asked = c.requires.asked in
     let given = answered g before.After-rehash-hash (held g before.After-handle-handle at) in
-    absurd (step_short c.args.self.now.homes c.self.inside.slots.slots c.self.inside.len c.args.count c.loop-slot.slot at c.handle-handle.result (holds g before.After-handle-handle)
+    absurd (step_short c.args.self.now.homes (cells c.view-old.result.metadata.now c.view-old.result.handles.now) c.self.inside.len c.args.count c.loop-slot.slot at c.handle-handle.result (holds g before.After-handle-handle)
     asked.0 asked.1.hashes c.loop-slot.table.homes (c.loop-slot.invariant.built asked.0 asked.1.answers asked.1.hashes) c.rehash-hash.result given c.requires.fits c.requires.multiple c.in_err-insert_within_capacity.ensures.put.2)
 
 pub returns-in_err-insert_within_capacity-clause-unasked : goal.returns-in_err-insert_within_capacity-clause-unasked
@@ -83,20 +88,20 @@ returns-in_err-insert_within_capacity-clause-unasked g c =
     let at = come g before.After-is_empty in
     let asked = c.requires.asked in
     let given = answered g before.After-rehash-hash (held g before.After-handle-handle at) in
-    absurd (step_short c.args.self.now.homes c.self.inside.slots.slots c.self.inside.len c.args.count c.loop-slot.slot at c.handle-handle.result (holds g before.After-handle-handle)
+    absurd (step_short c.args.self.now.homes (cells c.view-old.result.metadata.now c.view-old.result.handles.now) c.self.inside.len c.args.count c.loop-slot.slot at c.handle-handle.result (holds g before.After-handle-handle)
     asked.0 asked.1.hashes c.loop-slot.table.homes (c.loop-slot.invariant.built asked.0 asked.1.answers asked.1.hashes) c.rehash-hash.result given c.requires.fits c.requires.multiple c.in_err-insert_within_capacity.ensures.put.2)
 
 pub loop-slot-preserved : goal.loop-slot-preserved
 loop-slot-preserved g c =
-    let slots = c.self.inside.slots.slots in
+    let slots = (cells c.view-old.result.metadata.now c.view-old.result.handles.now) in
     let at = come g (goal.at.loop-slot-preserved g c).After-is_empty in
     elim c.if-not-is_empty.branch [
       | then-not-is_empty+in_ok-insert_within_capacity w ↦
           let v = w.handle-handle.result in
           let reached = c.loop-slot.invariant.reached in
           let entry : Holds slots c.loop-slot.slot v = record {
-            occupied = occupied_told c.is_empty.result _ (slot_at slots (0 + c.loop-slot.slot)) c.is_empty.ensures w.if-not-is_empty.true c.metadata.ensures.told;
-            handle = w.handle-handle.ensures;
+            occupied = occupied_told c.is_empty.result _ (slot_at slots (0 + c.loop-slot.slot)) c.is_empty.ensures w.if-not-is_empty.true (c.metadata.ensures ∙ ap (λ n. mark_of (slot_at slots n)) (numbered c.loop-slot.slot));
+            handle = subst (λ n. IfSome (slot_at slots n) (λ p. w.handle-handle.result ≡ p.entry.1)) (numbered c.loop-slot.slot) w.handle-handle.ensures;
           } in
           let held = step_held c.args.self.now.homes slots c.self.inside.len c.args.count c.loop-slot.slot at v entry in
           let held_is = IsHeld c.args.self.now.homes in
@@ -120,7 +125,7 @@ loop-slot-preserved g c =
                 (subst (λ hs. Asks g.F.FnMut key c.args.rehash.now hs w.rehash-hash.new.self) (sym more) pushed);
           }
       | else-not-is_empty w ↦
-          let empty = vacant_told _ (slot_at slots (0 + c.loop-slot.slot)) (c.is_empty.ensures.0 w.if-not-is_empty.false) c.metadata.ensures.told in
+          let empty = vacant_told _ (slot_at slots (0 + c.loop-slot.slot)) (c.is_empty.ensures.0 w.if-not-is_empty.false) (c.metadata.ensures ∙ ap (λ n. mark_of (slot_at slots n)) (numbered c.loop-slot.slot)) in
           let none = handles_empty c.args.self.now.homes slots c.self.inside.len c.args.count c.loop-slot.slot at empty in
           record {
             reached = (c.loop-slot.invariant.reached.0, subst (λ f. Reaches g.F.FnMut (IsHeld c.args.self.now.homes) c.args.rehash.now c.loop-slot.invariant.reached.0 f) (sym w.rehash-is) c.loop-slot.invariant.reached.1);
@@ -134,16 +139,16 @@ loop-slot-preserved g c =
 
 pub returns-clause-made : goal.returns-clause-made
 returns-clause-made g c key gives =
-    let slots = c.self.inside.slots.slots in
+    let slots = (cells c.view-old.result.metadata.now c.view-old.result.handles.now) in
     let V = c.args.self.now in
-    let all : c.loop-slot.slot ≡ length slots = omega (arith, c.loop-slot-test.false, c.loop-slot.auto.slot-end, c.count-slot-end.ensures.count) in
+    let all : c.loop-slot.slot ≡ length slots = omega (arith, c.loop-slot-test.false, c.loop-slot.auto.slot-end, c.count-slot-end.ensures, c.view-old.ensures.count, ap length c.view-old.ensures.shown) in
     c.loop-slot.invariant.built key gives.answers gives.hashes ∙ ap (λ n. put_all key (no_entries c.args.count) (entries (take n slots))) all ∙ ap (put_all key (no_entries c.args.count)) (entries-all slots)
-    ∙ ap (λ s. put_all key (no_entries c.args.count) (entries s)) (tidy-layout slots c.self.invariant.tidy) ∙ ap (λ t. put_all key (no_entries c.args.count) (entries (layout t.homes))) c.self.view_is
+    ∙ ap (λ s. put_all key (no_entries c.args.count) (entries s)) (tidy-layout slots (subst IsTidy (sym c.view-old.ensures.shown) c.self.invariant.tidy)) ∙ ap (λ s. put_all key (no_entries c.args.count) (entries (layout (homes_of s)))) c.view-old.ensures.shown ∙ ap (λ t. put_all key (no_entries c.args.count) (entries (layout t.homes))) c.self.view_is
 
 pub returns-clause-asks : goal.returns-clause-asks
 returns-clause-asks g c key gives =
-    let slots = c.self.inside.slots.slots in
-    let all : c.loop-slot.slot ≡ length slots = omega (arith, c.loop-slot-test.false, c.loop-slot.auto.slot-end, c.count-slot-end.ensures.count) in
+    let slots = (cells c.view-old.result.metadata.now c.view-old.result.handles.now) in
+    let all : c.loop-slot.slot ≡ length slots = omega (arith, c.loop-slot-test.false, c.loop-slot.auto.slot-end, c.count-slot-end.ensures, c.view-old.ensures.count, ap length c.view-old.ensures.shown) in
     let list : map (λ s. s.entry.1) (entries (take c.loop-slot.slot slots)) ≡ held_handles c.args.self.now.homes =
-    ap (λ n. map (λ s. s.entry.1) (entries (take n slots))) all ∙ ap (map (λ s. s.entry.1)) (entries-all slots) ∙ ap (λ s. map (λ s. s.entry.1) (entries s)) (tidy-layout slots c.self.invariant.tidy) ∙ ap (λ t. held_handles t.homes) c.self.view_is in
+    ap (λ n. map (λ s. s.entry.1) (entries (take n slots))) all ∙ ap (map (λ s. s.entry.1)) (entries-all slots) ∙ ap (λ s. map (λ s. s.entry.1) (entries s)) (tidy-layout slots (subst IsTidy (sym c.view-old.ensures.shown) c.self.invariant.tidy)) ∙ ap (λ s. held_handles (homes_of s)) c.view-old.ensures.shown ∙ ap (λ t. held_handles t.homes) c.self.view_is in
     subst (λ hs. Asks g.F.FnMut key c.args.rehash.now hs c.loop-slot.rehash) list (c.loop-slot.invariant.asked key gives.answers gives.hashes)

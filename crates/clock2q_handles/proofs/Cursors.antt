@@ -1,0 +1,177 @@
+-- Lookups that keep a slot and what they look for there: how far they have come, and what a step makes of what is left.
+use Rattle.std.proofs.Common.{◌≡◌, ◌≢◌, ℕ, suc, ◌+◌, ◌-◌, ◌%◌, ◌<◌, ◌≤◌, inl, inr, refl, ap, sym, ◌∙◌, subst, arith, ◌==◌, List, [], ◌∷◌, map, filter, length, Option, Some, None, IfSome}
+use Rattle.std.specs.Prelude.{IsSome, IsTrue, Bool, false, ◌↔◌}
+use Rattle.std.proofs.lemmas.Bool.{cases_lt}
+use Rattle.std.proofs.lemmas.Nat.{mod_below}
+use Rattle.std.proofs.Math.Nat.{add-mod_right}
+use Rattle.clock2q_handles.specs.Homes.{top}
+use Rattle.clock2q_handles.specs.Layout.{Placed, slot_at, reach, met, homes_of, walk, IsTidy}
+use Rattle.clock2q_handles.specs.Candidates.{left_from, unread_from, home_back, left_at, unread_at, IsOnWalk, IsLookup}
+use Rattle.clock2q_handles.specs.Slots.{Mark, mark_of, mark_on, mark_reach}
+use Rattle.clock2q_handles.proofs.Laps.{rem-same}
+use Rattle.clock2q_handles.proofs.Reading.{slot-again}
+use Rattle.clock2q_handles.proofs.Steps.{past_home}
+use Rattle.clock2q_handles.proofs.Moves.{less_than_lap, refused, reach_told}
+use Rattle.clock2q_handles.proofs.Yields.{left_end, left_skip, left_take, left_past, walk-home, walk-at, walk-le, walk-beyond}
+
+-- a remainder that is added to
+pub rem-plus : (m y k : ℕ) → (y % m + k) % m ≡ (y + k) % m
+rem-plus m y k = rem-same (λ z. (z + k) % m) m (λ n. let e : n + m + k ≡ n + k + m = omega arith in ap (λ z. z % m) e ∙ add-mod_right (n + k) m) y
+
+module _ {H : Type 0} (slots : List (Option (Placed (ℕ × H)))) (tidy : IsTidy slots) (d f n : ℕ) (on : IsOnWalk slots d f n) where
+  home_is : home_back slots n d ≡ on.hash % length slots
+  home_is =
+      let m : ℕ = length slots in
+      let s : n + m - d ≡ n + (m - d) = omega (arith, on.within) in
+      let t : on.hash + d + (m - d) ≡ on.hash + m = omega (arith, on.within) in
+      ap (λ z. z % m) s ∙ ap (λ z. (z + (m - d)) % m) on.slot ∙ rem-plus m (on.hash + d) (m - d) ∙ ap (λ z. z % m) t ∙ add-mod_right on.hash m
+
+  -- what stands in the slot that the walk has come to
+  pub walk_here : slot_at slots n ≡ slot_at slots (on.hash + d)
+  walk_here = ap (slot_at slots) on.slot ∙ rem-same (slot_at slots) (length slots) (slot-again slots) (on.hash + d)
+
+  from_home : (j : ℕ) → slot_at slots (on.hash % length slots + j) ≡ slot_at slots (on.hash + j)
+  from_home = past_home slots (length slots) (on.hash % length slots) on.hash refl refl
+
+  home_here : slot_at slots (on.hash % length slots + d) ≡ slot_at slots n
+  home_here = from_home d ∙ sym walk_here
+
+  left_is : left_at slots (Some (d, f)) n ≡ left_from slots on.hash d
+  left_is =
+      ap (λ h. map (λ e. e.1) (filter (λ e. e.0 == f) (met (slot_at slots) h d (length slots - d)))) home_is
+      ∙ ap (λ t. map (λ e. e.1) (filter (λ e. e.0 == t) (met (slot_at slots) (on.hash % length slots) d (length slots - d)))) on.fingerprint
+
+  unread_is : unread_at slots (Some (d, f)) n ≡ unread_from slots on.hash d
+  unread_is = ap (λ h. walk (homes_of slots) h - d) home_is ∙ ap (λ k. k - d) (walk-home slots tidy on.hash (on.hash % length slots) (λ _. refl))
+
+  some_slots : 0 < length slots
+  some_slots = omega (arith, on.within)
+
+  pub walk_slot : n < length slots
+  walk_slot = omega (arith, on.slot, mod_below (on.hash + d) (length slots) some_slots)
+
+  -- a walk that ends there
+  pub walk_ends : reach (slot_at slots n) ≤ d → (left_at slots (Some (d, f)) n ≡ []) × (unread_at slots (Some (d, f)) n ≡ 1)
+  walk_ends near = (
+    left_is ∙ left_end slots tidy on.hash (on.hash % length slots) (λ _. refl) d on.within (omega (arith, near, ap reach home_here)),
+    omega (arith, unread_is, walk-at slots tidy on.hash d some_slots on.passed (omega (arith, near, ap reach walk_here))),
+  )
+
+  module _ (far : d < reach (slot_at slots n)) (next : ℕ) (at : next ≡ (n + 1) % length slots) where
+    passed_more : (j : ℕ) → j < suc d → j < reach (slot_at slots (on.hash + j))
+    passed_more j l = elim (cases_lt j d) [
+      | inl before ↦ on.passed j before
+      | inr from ↦
+          let q : j ≡ d = omega arith in
+          omega (arith, far, ap reach walk_here, ap (λ i. reach (slot_at slots (on.hash + i))) q)
+    ]
+
+    -- it goes on to the next slot
+    pub walk_goes : IsOnWalk slots (suc d) f next
+    walk_goes = record {
+      hash = on.hash;
+      slot =
+          let e : on.hash + d + 1 ≡ on.hash + suc d = omega arith in
+          at ∙ ap (λ z. (z + 1) % length slots) on.slot ∙ rem-plus (length slots) (on.hash + d) 1 ∙ ap (λ z. z % length slots) e;
+      fingerprint = on.fingerprint;
+      within = less_than_lap slots on.hash (suc d) tidy some_slots (λ j l. omega (arith, passed_more j l));
+      passed = passed_more;
+    }
+
+module _ {H : Type 0} (slots : List (Option (Placed (ℕ × H)))) (tidy : IsTidy slots) (d f n : ℕ) (on : IsOnWalk slots d f n) (far : d < reach (slot_at slots n)) (next : ℕ) (at : next ≡ (n + 1) % length slots) where
+  goes : IsOnWalk slots (suc d) f next
+  goes = walk_goes slots tidy d f n on far next at
+
+  one_more : d + 1 ≡ suc d
+  one_more = omega arith
+
+  -- with one slot less to read
+  pub walk_read : unread_at slots (Some (d, f)) n ≡ unread_at slots (Some (suc d, f)) next + 1
+  unfolding goes walk_goes
+  walk_read =
+      omega (arith, unread_is slots tidy d f n on, unread_is slots tidy (suc d) f next goes, (walk-beyond slots tidy on.hash d (some_slots slots tidy d f n on) (omega (arith, far, ap reach (walk_here slots tidy d f n on)))).0)
+
+  -- a slot with no candidate leaves what is left
+  pub walk_skips : mark_of (slot_at slots n) ≢ Some (d, f) → left_at slots (Some (d, f)) n ≡ left_at slots (Some (suc d, f)) next
+  unfolding goes walk_goes
+  walk_skips other =
+      let here = home_here slots tidy d f n on in
+      left_is slots tidy d f n on ∙ left_skip slots tidy on.hash (on.hash % length slots) (λ _. refl) d on.within (λ e. other (ap mark_of (sym here) ∙ e ∙ ap (λ t. Some (d, t)) (sym on.fingerprint)))
+      ∙ ap (left_from slots on.hash) one_more ∙ sym (left_is slots tidy (suc d) f next goes)
+
+  -- a candidate is the first that is left
+  pub walk_takes : (r : H) → mark_of (slot_at slots n) ≡ Some (d, f) → IfSome (slot_at slots n) (λ p. r ≡ p.entry.1) → left_at slots (Some (d, f)) n ≡ r ∷ left_at slots (Some (suc d, f)) next
+  unfolding goes walk_goes
+  walk_takes r is handle =
+      let here = home_here slots tidy d f n on in
+      let home : ℕ = on.hash % length slots in
+      left_is slots tidy d f n on
+      ∙ left_take slots tidy on.hash home (λ _. refl) d r on.within (λ j l. omega (arith, on.passed j l, ap reach (from_home slots tidy d f n on j))) (ap mark_of here ∙ is ∙ ap (λ t. Some (d, t)) on.fingerprint) (subst (λ o. IfSome o (λ p. r ≡ p.entry.1)) (sym here) handle)
+      ∙ ap (λ k. r ∷ left_from slots on.hash k) one_more ∙ ap (λ hs. r ∷ hs) (sym (left_is slots tidy (suc d) f next goes))
+
+-- what a step makes of a lookup
+pub record HasStepped {H : Type 0} (slots : List (Option (Placed (ℕ × H)))) (s s' : Mark) (n n' : ℕ) : Type 0 where
+  pub lookup : IsLookup slots s' n'
+  pub some : IsSome s'
+  pub read : unread_at slots s n ≡ unread_at slots s' n' + 1
+  pub skips : mark_of (slot_at slots n) ≢ s → left_at slots s n ≡ left_at slots s' n'
+  pub takes : (r : H) → mark_of (slot_at slots n) ≡ s → IfSome (slot_at slots n) (λ p. r ≡ p.entry.1) → left_at slots s n ≡ r ∷ left_at slots s' n'
+
+module _ {H : Type 0} (slots : List (Option (Placed (ℕ × H)))) where
+  pub lookup_slot : (s : Mark) (n : ℕ) → IsSome s → IsLookup slots s n → n < length slots
+  lookup_slot None n some lookup = absurd (cc)
+  lookup_slot (Some s) n some lookup = walk_slot slots lookup.tidy s.0 s.1 n lookup.walk
+
+  pub lookup_ends : (s : Mark) (n : ℕ) → IsSome s → IsLookup slots s n → reach (slot_at slots n) < mark_reach s → (left_at slots s n ≡ []) × (unread_at slots s n ≡ 1)
+  lookup_ends None n some lookup near = absurd (cc)
+  lookup_ends (Some s) n some lookup near = walk_ends slots lookup.tidy s.0 s.1 n lookup.walk (omega (arith, near))
+
+  stepped : (s s' : Mark) (n n' : ℕ) → IsSome s → s' ≡ mark_on s → n' ≡ (n + 1) % length slots → IsLookup slots s n → mark_reach s ≤ reach (slot_at slots n) → HasStepped slots s (mark_on s) n n'
+  stepped None s' n n' some is at lookup far = absurd (cc)
+  stepped (Some s) s' n n' some is at lookup far = record {
+    lookup = record { tidy = lookup.tidy; near = lookup.near; walk = walk_goes slots lookup.tidy s.0 s.1 n lookup.walk (omega (arith, far)) n' at };
+    some = refl;
+    read = walk_read slots lookup.tidy s.0 s.1 n lookup.walk (omega (arith, far)) n' at;
+    skips = walk_skips slots lookup.tidy s.0 s.1 n lookup.walk (omega (arith, far)) n' at;
+    takes = walk_takes slots lookup.tidy s.0 s.1 n lookup.walk (omega (arith, far)) n' at;
+  }
+
+  -- a slot that doesn't end a lookup is followed by the next
+  pub lookup_steps : (s s' : Mark) (n n' : ℕ) → IsSome s → s' ≡ mark_on s → n' ≡ (n + 1) % length slots → IsLookup slots s n → mark_reach s ≤ reach (slot_at slots n) → HasStepped slots s s' n n'
+  lookup_steps s s' n n' some is at lookup far = subst (λ t. HasStepped slots s t n n') (sym is) (stepped s s' n n' some is at lookup far)
+
+  -- a lookup that looks for nothing
+  pub lookup_rests : (n : ℕ) → IsTidy slots → ((k : ℕ) → reach (slot_at slots k) ≤ 16777215) → IsLookup slots None n
+  lookup_rests n tidy near = record { tidy = tidy; near = near; walk = tt }
+
+  -- a lookup that has read nothing yet, in slots that are there
+  pub lookup_begins : (x n : ℕ) → IsTidy slots → ((k : ℕ) → reach (slot_at slots k) ≤ 16777215) → 0 < length slots → n ≡ x % length slots → IsLookup slots (Some (0, top x)) n
+  lookup_begins x n tidy near some at = record {
+    tidy = tidy;
+    near = near;
+    walk = record {
+      hash = x;
+      slot = let e : x ≡ x + 0 = omega arith in at ∙ ap (λ y. y % length slots) e;
+      fingerprint = refl;
+      within = some;
+      passed = λ j l. absurd (omega (arith, l));
+    };
+  }
+
+  -- has all of it left
+  pub begins_whole : (x n : ℕ) → IsTidy slots → ((k : ℕ) → reach (slot_at slots k) ≤ 16777215) → 0 < length slots → n ≡ x % length slots → (left_at slots (Some (0, top x)) n ≡ left_from slots x 0) × (unread_at slots (Some (0, top x)) n ≡ unread_from slots x 0)
+  unfolding lookup_begins
+  begins_whole x n tidy near some at =
+      let on = (lookup_begins x n tidy near some at).walk in
+      (left_is slots tidy 0 (top x) n on, unread_is slots tidy 0 (top x) n on)
+
+  -- and where there are no slots, there is nothing
+  pub begins_empty : (x : ℕ) → IsTidy slots → length slots ≡ 0 → ([] ≡ left_from slots x 0) × (0 ≡ unread_from slots x 0)
+  begins_empty x tidy none = (sym (ap (left_from slots x) (sym none) ∙ left_past slots x), omega (arith, walk-le slots tidy x, none))
+
+  -- a slot that doesn't end a walk lets it go on
+  pub goes_on : (b : Bool) (s t : Mark) (n : ℕ) → IsTrue b ↔ (mark_reach t < mark_reach s) → b ≡ false → t ≡ mark_of (slot_at slots n) → mark_reach s ≤ reach (slot_at slots n)
+  goes_on b s t n test off is = elim (cases_lt (mark_reach t) (mark_reach s)) [
+    | inl ends ↦ absurd (refused b test off ends)
+    | inr on ↦ omega (arith, on, reach_told t (slot_at slots n) is)
+  ]

@@ -1,0 +1,21 @@
+-- What a call over a view of both vectors comes to, told of the vectors.
+use Rattle.std.proofs.Common.{◌≡◌, ℕ, ◌%◌, Bool, ap, ◌∙◌, subst, List, length, Option}
+use Rattle.std.specs.Bool.{OnTrue}
+use Rattle.clock2q_handles.specs.Found.{TakesOut}
+use Rattle.clock2q_handles.specs.Layout.{Placed}
+use Rattle.clock2q_handles.specs.Shifts.{PutsIn}
+use Rattle.clock2q_handles.specs.Slots.{cells}
+use Rattle.clock2q_handles.specs.declared.metadata.Metadata.{Metadata}
+
+module _ {H : Type 0} where
+  pub cells_along : {ms ms' : List Metadata} {vs vs' : List H} → ms ≡ ms' → vs ≡ vs' → cells ms vs ≡ cells ms' vs'
+  cells_along {ms' = ms'} {vs = vs} e f = ap (λ m. cells m vs) e ∙ ap (cells ms') f
+
+module _ {E : Type 0} where
+  pub puts_along : {old old' new new' : List (Option (Placed E))} (x : ℕ) {b b' a a' : ℕ} {e : E} → PutsIn old new (x % length old) e b a → old ≡ old' → new ≡ new' → b ≡ b' → a ≡ a' → PutsIn old' new' (x % length old') e b' a'
+  puts_along {old = old} {old' = old'} {new = new} {new' = new'} x {b = b} {b' = b'} {a = a} {a' = a'} {e = e} puts o n f g =
+      subst (λ s. PutsIn s new' (x % length s) e b' a') o (subst (λ s. PutsIn old s (x % length old) e b' a') n (subst (λ k. PutsIn old new (x % length old) e k a') f (subst (λ k. PutsIn old new (x % length old) e b k) g puts)))
+
+  pub takes_along : (r : Bool) (test : E → Bool) {old old' new new' : List (Option (Placed E))} (x a : ℕ) {b b' : ℕ} → OnTrue r (TakesOut test old new (x % length old) b a) → old ≡ old' → new ≡ new' → b ≡ b' → OnTrue r (TakesOut test old' new' (x % length old') b' a)
+  takes_along r test {old = old} {old' = old'} {new = new} {new' = new'} x a {b = b} {b' = b'} takes o n f =
+      subst (λ s. OnTrue r (TakesOut test s new' (x % length s) b' a)) o (subst (λ s. OnTrue r (TakesOut test old s (x % length old) b' a)) n (subst (λ k. OnTrue r (TakesOut test old new (x % length old) k a)) f takes))

@@ -1,0 +1,16 @@
+use Rattle.std.proofs.Common.{◌-◌, length}
+use Rattle.clock2q_handles.specs.Slots.{cell, told}
+use Rattle.clock2q_handles.specs.Views.{shown, IsView, IsSameView}
+use Rattle.clock2q_handles.proofs.Laps.{lap}
+use Rattle.clock2q_handles.proofs.Carrying.{CarryState}
+use Rattle.clock2q_handles.proofs.slots.view.SlotsMut.carry.Given as goal
+
+abbrev pub invariant-loop-there : goal.invariant-loop-there
+invariant-loop-there g l = record {
+  same : IsSameView l.initial.self l.self;
+  view : IsView l.self;
+  state : CarryState (shown l.initial.self) (shown l.self) (cell (told l.initial.metadata) l.initial.handle) (cell (told l.metadata) l.handle) (told l.there) l.initial.slot l.slot l.initial.self.writes.now.total l.self.writes.now.total;
+}
+
+abbrev pub decreases-loop-there : goal.decreases-loop-there
+decreases-loop-there g l = length (shown l.initial.self) - lap (length (shown l.initial.self)) l.initial.slot l.slot

@@ -1,0 +1,23 @@
+use Rattle.std.proofs.Common.{◌<◌, length, sym, ap, ◌∙◌, subst, arith}
+use Rattle.clock2q_handles.specs.Homes.{total, capacity}
+use Rattle.clock2q_handles.specs.Layout.{homes_of}
+use Rattle.clock2q_handles.proofs.Tidy.{length-homes_of}
+use Rattle.clock2q_handles.proofs.Promises.{ok_where_no_error, on_ok, put_ok, put_err, few_fit, restored_by}
+use Rattle.clock2q_handles.proofs.table.Table.insert_among_many.Goals as goal
+
+pub end-distance-requires-clause-home : goal.end-distance-requires-clause-home
+end-distance-requires-clause-home g c =
+    let slots = c.self.inside.slots.slots in
+    let room : total (homes_of slots) < capacity (length (homes_of slots)) = subst (λ t. total t.homes < capacity (length t.homes)) (sym c.self.view_is) c.requires.room in
+    c.home-home.ensures.within (omega (arith, room, length-homes_of slots))
+
+pub returns-clause-few : goal.returns-clause-few
+returns-clause-few g c few =
+    ok_where_no_error c.place.result (put_err c.args.self.now.homes c.place.new.self.homes c.args.hash c.args.handle c.place.result c.place.ensures.put) (few_fit c.args.self.now.homes c.args.hash c.args.handle c.requires.room few)
+
+pub returns-clause-restores : goal.returns-clause-restores
+returns-clause-restores g c =
+    let slots = c.self.inside.slots.slots in
+    on_ok c.place.result (λ is fresh.
+    restored_by g.H.PartialEq.eq slots c.args.self.now.homes c.place.new.self.homes c.args.hash c.args.handle (ap (λ t. t.homes) c.self.view_is) c.self.invariant.tidy c.requires.room (g.met.H.Eq.laws.refl c.args.handle) is fresh
+    ∙ ap (λ t. t.slots) c.self.view_is) (put_ok c.args.self.now.homes c.place.new.self.homes c.args.hash c.args.handle c.place.result c.place.ensures.put)

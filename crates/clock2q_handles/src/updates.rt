@@ -1,0 +1,156 @@
+//! What puts entries into a table's slots and takes them out, over a view of both vectors.
+ghost use Rattle.clock2q_handles.specs.Found.{FindsAt, TakesOut};
+ghost use Rattle.clock2q_handles.specs.Homes.{top, is_entry_of, listed};
+ghost use Rattle.clock2q_handles.specs.Layout.{IsTidy, reach, slot_at, placed, homes_of};
+ghost use Rattle.clock2q_handles.specs.Shifts.{Opens, Closes, HasCome, IsVacancy, PutsIn};
+ghost use Rattle.clock2q_handles.specs.Slots.{told, sought};
+ghost use Rattle.clock2q_handles.specs.Views.{shown, IsView, IsSameView};
+ghost use Rattle.std.specs.Bool.{OnTrue, OnFalse};
+ghost use Rattle.std.specs.List.{list_any};
+ghost use Rattle.std.specs.Prelude.{◌≡◌, ◌+◌, ◌%◌, ◌<◌, ◌≤◌, ℕ, false, Some, IfSome, IfNone, length};
+
+use crate::metadata::{MAX_DISPLACEMENT, Metadata, Wanted};
+use crate::slots::SlotsMut;
+
+impl<'a, H: Copy + Default> SlotsMut<'a, H> {
+    /// Returns the slot of the first candidate of `hash` that equals `handle`.
+    #[inline(always)]
+    fn find(&self, hash: u64, handle: H) -> Option<usize>
+    where
+        H: PartialEq,
+        requires view { IsView self.now }
+        requires tidy { IsTidy (shown self.now) }
+        requires near { (n : ℕ) → reach (slot_at (shown self.now) n) ≤ 16777215 }
+        ensures found { IfSome result (FindsAt (is_entry_of H.PartialEq.eq hash handle) (shown self.now) (hash % length (shown self.now))) }
+        ensures none { IfNone result (list_any (is_entry_of H.PartialEq.eq hash handle) (listed (homes_of (shown self.now)) (hash % length (shown self.now))) ≡ false) }
+    {
+        if self.count() == 0 {
+            return None;
+        }
+        let mut slot = self.home(hash);
+        let mut wanted = Wanted::new(hash);
+        loop {
+            let metadata = self.metadata(slot);
+            if metadata.is(wanted) && self.handle(slot) == handle {
+                return Some(slot);
+            }
+            if metadata.ends_walk_for(wanted) {
+                return None;
+            }
+            slot = self.after(slot);
+            wanted = wanted.next();
+        }
+    }
+
+    /// Takes the entry in a slot out. Those that follow it move back one slot, up to an empty slot
+    /// or an entry at its home.
+    #[inline(always)]
+    fn take_out(&mut self, slot: usize)
+        requires view { IsView self.old }
+        requires tidy { IsTidy (shown self.old) }
+        requires within { slot < length (shown self.old) }
+        requires occupied { 0 < reach (slot_at (shown self.old) slot) }
+        ensures same { IsSameView self.old self.new }
+        ensures view { IsView self.new }
+        ensures closes { (h n : ℕ) → (e : ℕ × H) → HasCome (shown self.old) h n slot → slot_at (shown self.old) (h + n) ≡ Some (placed n e) →
+            (v : ℕ) × Closes (slot_at (shown self.old)) (slot_at (shown self.new)) (length (shown self.old)) h n v e
+            × (self.new.writes.now.total + n ≡ self.old.writes.now.total + v + 1) }
+        ensures len { length (shown self.new) ≡ length (shown self.old) }
+    {
+        let mut hole = slot;
+        loop {
+            let next = self.after(hole);
+            let metadata = self.metadata(next);
+            if !metadata.can_move_back() {
+                break;
+            }
+            let handle = self.handle(next);
+            self.write(hole, metadata.moved_back(), handle);
+            hole = next;
+        }
+        self.write(hole, Metadata::empty(), H::default());
+    }
+
+    /// Takes the first candidate of `hash` that equals `handle` out, and returns whether there was
+    /// one.
+    #[inline(always)]
+    pub(super) fn remove(&mut self, hash: u64, handle: H) -> bool
+    where
+        H: PartialEq,
+        requires view { IsView self.old }
+        requires tidy { IsTidy (shown self.old) }
+        requires near { (n : ℕ) → reach (slot_at (shown self.old) n) ≤ 16777215 }
+        ensures same { IsSameView self.old self.new }
+        ensures view { IsView self.new }
+        ensures taken { OnTrue result (TakesOut (is_entry_of H.PartialEq.eq hash handle) (shown self.old) (shown self.new) (hash % length (shown self.old)) self.old.writes.now.total self.new.writes.now.total) }
+        ensures none { OnFalse result (list_any (is_entry_of H.PartialEq.eq hash handle) (listed (homes_of (shown self.old)) (hash % length (shown self.old))) ≡ false) }
+        ensures kept { OnFalse result (self.new ≡ self.old) }
+    {
+        let Some(slot) = self.find(hash, handle) else {
+            return false;
+        };
+        self.take_out(slot);
+        true
+    }
+
+    /// Returns the slot where a walk for `hash` ends, and what it looks for there.
+    #[inline(always)]
+    fn end(&self, hash: u64) -> (usize, Wanted)
+        requires view { IsView self.now }
+        requires tidy { IsTidy (shown self.now) }
+        requires near { (n : ℕ) → reach (slot_at (shown self.now) n) ≤ 16777215 }
+        requires some { 0 < length (shown self.now) }
+        ensures end { (n : ℕ) × HasCome (shown self.now) (hash % length (shown self.now)) n result.0
+            × (sought result.1 ≡ Some (n, top hash)) × (reach (slot_at (shown self.now) result.0) ≤ n) }
+    {
+        let mut slot = self.home(hash);
+        let mut wanted = Wanted::new(hash);
+        while !self.metadata(slot).ends_walk_for(wanted) {
+            slot = self.after(slot);
+            wanted = wanted.next();
+        }
+        (slot, wanted)
+    }
+
+    /// Puts an entry into a slot, and each that stood there and after it into the next, up to an
+    /// empty slot.
+    #[inline(always)]
+    fn carry(&mut self, mut slot: usize, mut metadata: Metadata, mut handle: H)
+        requires view { IsView self.old }
+        requires tidy { IsTidy (shown self.old) }
+        requires near { (n : ℕ) → reach (slot_at (shown self.old) n) ≤ MAX_DISPLACEMENT }
+        requires within { slot < length (shown self.old) }
+        ensures same { IsSameView self.old self.new }
+        ensures view { IsView self.new }
+        ensures opens { (h n f : ℕ) → HasCome (shown self.old) h n slot → told metadata ≡ Some (n, f) →
+            (v : ℕ) × IsVacancy (slot_at (shown self.old)) h v × Opens (slot_at (shown self.old)) (slot_at (shown self.new)) (length (shown self.old)) h n v (f, handle)
+            × (self.new.writes.now.total + n ≡ self.old.writes.now.total + v + 1) }
+        ensures len { length (shown self.new) ≡ length (shown self.old) }
+    {
+        let mut there = self.metadata(slot);
+        while !there.is_empty() {
+            let held = self.handle(slot);
+            self.write(slot, metadata, handle);
+            metadata = there.moved_on();
+            handle = held;
+            slot = self.after(slot);
+            there = self.metadata(slot);
+        }
+        self.write(slot, metadata, handle);
+    }
+
+    /// Puts an entry in where no entry comes to stand too far past its home.
+    #[inline(always)]
+    pub(super) fn put(&mut self, hash: u64, handle: H)
+        requires view { IsView self.old }
+        requires tidy { IsTidy (shown self.old) }
+        requires near { (n : ℕ) → reach (slot_at (shown self.old) n) ≤ MAX_DISPLACEMENT }
+        requires some { 0 < length (shown self.old) }
+        ensures same { IsSameView self.old self.new }
+        ensures view { IsView self.new }
+        ensures put { PutsIn (shown self.old) (shown self.new) (hash % length (shown self.old)) (top hash, handle) self.old.writes.now.total self.new.writes.now.total }
+    {
+        let (slot, wanted) = self.end(hash);
+        self.carry(slot, wanted.metadata(), handle);
+    }
+}
