@@ -2,7 +2,7 @@
 //! text for them.
 #![tactic(auto)]
 
-pub mod cache;
-pub mod command;
-
+pub use clock2q_cache as cache;
+pub use clock2q_cache::{Cache, CacheError, DefaultHashBuilder, MAX_CAPACITY};
+pub use clock2q_command as command;
 pub use clock2q_handles as handles;

@@ -1,8 +1,7 @@
 //! Runs the command text on standard input, and writes its replies to standard output.
 #![tactic(auto)]
 
-use clock2q::command::ports::Device;
-use clock2q::command::serve::serve;
+use clock2q::command::{Device, serve};
 use std::process::ExitCode;
 
 /// On a refusal one line on standard error says which, and so does the status.

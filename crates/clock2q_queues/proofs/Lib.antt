@@ -1,3 +1,4 @@
+pub mod Callers
 pub mod Filling
 pub mod Hand
 pub mod Hashed

@@ -1,8 +1,8 @@
 -- Small and Main over one set of links, as the two lists that they are.
-use Rattle.std.specs.Prelude.{◌≡◌, ℕ, Bool, true, false, not, ◌&&◌, ◌==◌, List, map, length, Option, Some, None}
+use Rattle.std.specs.Prelude.{◌≡◌, ℕ, Bool, true, false, not, ◌&&◌, ◌==◌, List, map, ◌++◌, length, Option, Some, None}
 use Rattle.std.specs.List.{filter, list_any}
 use Rattle.clock2q_queues.specs.Ages.{Age, is_promoted}
-use Rattle.clock2q_queues.specs.Rings.{has}
+use Rattle.clock2q_queues.specs.Rings.{has, AllApart, AllBelow}
 use Rattle.clock2q_queues.specs.Links.{LinkState, standing_at}
 use Rattle.clock2q_queues.specs.Small.{IsSmallQueue, small_slots, small_entries}
 use Rattle.clock2q_queues.specs.MainRing.{IsMainRing, main_slots, main_entries}
@@ -60,3 +60,8 @@ IsStanding Main slot q = (has slot (slots_of q.small) ≡ false) × (has slot (s
 abbrev pub tail_promoted : Option (ℕ × Age) → Bool
 tail_promoted None = false
 tail_promoted (Some e) = is_promoted e.1
+
+-- what callers may rely on: no slot stands twice, and each is one of those that there are
+pub record IsWholeQueues (q : QueueState) : Type 0 where
+  pub apart : AllApart (slots_of q.small ++ slots_of q.main)
+  pub below : AllBelow q.slots (slots_of q.small ++ slots_of q.main)

@@ -1,10 +1,10 @@
 //! Small and Main over the links that they share.
-ghost use Rattle.std.specs.Prelude.{◌≡◌, ℕ, ◌+◌, ◌<◌, ◌≤◌, false, true, not, [], ◌∷◌, ◌++◌, length, slice_get, None, Some, IfOk};
+ghost use Rattle.std.specs.Prelude.{◌≡◌, ℕ, ◌+◌, ◌-◌, take, drop, ◌<◌, ◌≤◌, false, true, not, [], ◌∷◌, ◌++◌, length, slice_get, None, Some, IfOk};
 ghost use Rattle.std.specs.List.{last_or};
 ghost use Rattle.clock2q_queues.specs.Rings.{has};
 ghost use Rattle.clock2q_queues.specs.Small.{admitted, small_hit_at};
 ghost use Rattle.clock2q_queues.specs.MainRing.{inspections, from_victim, main_hit_at};
-ghost use Rattle.clock2q_queues.specs.Queues.{slots_of, without_slot, IsStanding, sets_bit, tail_promoted};
+ghost use Rattle.clock2q_queues.specs.Queues.{slots_of, without_slot, IsStanding, sets_bit, tail_promoted, IsWholeQueues};
 
 use crate::links::{Links, Standing};
 use crate::main_ring::MainRing;
@@ -62,6 +62,7 @@ impl<A: Allocator> Queues<A> {
     /// How many slots stand in Small.
     pub fn small_len(&self) -> usize
         ensures len { result ≡ length self.now.small }
+        ensures whole { IsWholeQueues self.now }
     {
         self.small.len()
     }
@@ -198,6 +199,39 @@ impl<A: Allocator> Queues<A> {
             Standing::Young(_) | Standing::Old => self.leave_small(slot),
             Standing::Main => self.leave_main(slot),
         }
+    }
+
+    /// Takes out of Main the slot that the hand chooses, and answers it.
+    pub fn take_victim(&mut self) -> usize
+        requires some { 0 < length self.old.main }
+        ensures victim { slice_get (from_victim self.old.main) 0 ≡ Some (result, false) }
+        ensures small { self.new.small ≡ self.old.small }
+        ensures main { self.new.main ≡ drop 1 (from_victim self.old.main) }
+        ensures slots { self.new.slots ≡ self.old.slots }
+        ensures window { self.new.window ≡ self.old.window }
+        ensures looks { self.new.inspections ≡ self.old.inspections + inspections self.old.main }
+        ensures accesses { self.new.accesses ≡ self.old.accesses + inspections self.old.main + 5 }
+    {
+        let victim = self.select();
+        let _ = self.small_len();
+        self.leave_main(victim);
+        victim
+    }
+
+    /// Takes Small's oldest slot out, and answers it.
+    pub fn take_tail(&mut self) -> Option<usize>
+        ensures tail { result ≡ last_or None (slots_of self.old.small) }
+        ensures small { self.new.small ≡ take (length self.old.small - 1) self.old.small }
+        ensures main { self.new.main ≡ self.old.main }
+        ensures slots { self.new.slots ≡ self.old.slots }
+        ensures window { self.new.window ≡ self.old.window }
+        ensures looks { self.new.inspections ≡ self.old.inspections }
+        ensures accesses { self.new.accesses ≤ self.old.accesses + 7 }
+    {
+        let _ = self.small_len();
+        let tail = self.tail()?;
+        self.leave_small(tail);
+        Some(tail)
     }
 
     // Records a hit on a slot of Small.

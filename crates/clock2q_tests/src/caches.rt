@@ -1,7 +1,7 @@
 //! The calls of a cache, one by one.
 
-use clock2q::cache::{Cache, CacheError, MAX_CAPACITY};
 use clock2q::command::{Command, Reply, run};
+use clock2q::{Cache, CacheError, MAX_CAPACITY};
 use std::num::NonZeroUsize;
 use std::test::Fail;
 

@@ -1,8 +1,6 @@
 //! Devices that give and take a few bytes at a time, and fail at one of their calls.
 
-use clock2q::command::ServeError;
-use clock2q::command::ports::{Device, Failed, Sink, Source};
-use clock2q::command::serve::serve;
+use clock2q::command::{Device, Failed, ServeError, Sink, Source, serve};
 use std::alloc::{AllocError, Global};
 use std::io::{Error, ErrorKind, Read, Result as IoResult, Write};
 use std::test::Fail;

@@ -1,10 +1,8 @@
 //! Calls whose requests for memory are refused.
 
 use crate::refusing::Refusing;
-use clock2q::cache::{Cache, CacheError, DefaultHashBuilder};
-use clock2q::command::ports::Device;
-use clock2q::command::serve::serve;
-use clock2q::command::{Command, Reply, ServeError, run};
+use clock2q::command::{Command, Device, Reply, ServeError, run, serve};
+use clock2q::{Cache, CacheError, DefaultHashBuilder};
 use std::alloc::{AllocError, Global};
 use std::num::NonZeroUsize;
 use std::test::Fail;

@@ -1,8 +1,6 @@
 //! Command texts, and what they are answered.
 
-use clock2q::command::ServeError;
-use clock2q::command::ports::Device;
-use clock2q::command::serve::serve;
+use clock2q::command::{Device, ServeError, serve};
 use std::alloc::{AllocError, Global};
 use std::test::Fail;
 

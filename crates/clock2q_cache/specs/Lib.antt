@@ -1,0 +1,13 @@
+pub mod Shares
+pub mod Entries
+pub mod Machine
+pub mod Calls
+pub mod Steps
+pub mod Bounds
+pub mod Entry
+pub mod Cache
+pub mod CacheFields
+pub mod CacheLends
+pub mod Keyed
+pub use Rattle.clock2q_queues.specs.Ages
+pub use Rattle.clock2q_queues.specs.Hand

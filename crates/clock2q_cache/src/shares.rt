@@ -1,0 +1,106 @@
+//! How a cache's capacity is shared out among its queues.
+ghost use Rattle.std.specs.Prelude.{◌≡◌, ◌<◌, ◌^◌};
+ghost use Rattle.clock2q_cache.specs.Shares.{usual_shares, main_share, ghost_share};
+
+use std::marker::Model;
+
+/// The capacity of a cache, Small's share of it and the window in which an entry of Small is young.
+#[derive(Clone, Copy)]
+pub(crate) struct Shares {
+    capacity: usize,
+    small: usize,
+    window: usize,
+}
+
+impl Model for Shares {
+    ghost use Rattle.std.specs.Prelude.{◌<◌};
+    ghost use Rattle.clock2q_cache.specs.Shares.{Shares as Parts};
+
+    ghost Value = { Parts };
+
+    ghost view = { λ s. record { capacity = s.capacity; small = s.small; window = s.window } };
+
+    ghost invariant = { λ s. s.small < s.capacity };
+
+    ghost inverse = { λ p. record { capacity = p.capacity; small = p.small; window = p.window } };
+}
+
+impl Shares {
+    /// The shares of a cache that is made with a capacity alone.
+    pub(crate) fn usual(capacity: usize) -> Self
+        requires { 0 < capacity }
+        ensures { result ≡ usual_shares capacity }
+    {
+        let small = if capacity > 1 {
+            (capacity / 10).max(1)
+        } else {
+            0
+        };
+        Shares {
+            capacity,
+            small,
+            window: small.div_ceil(2),
+        }
+    }
+
+    pub(crate) fn capacity(self) -> usize
+        ensures { result ≡ self.capacity }
+    {
+        self.capacity
+    }
+
+    pub(crate) fn small(self) -> usize
+        ensures share { result ≡ self.small }
+        ensures below { result < self.capacity }
+    {
+        self.small
+    }
+
+    pub(crate) fn window(self) -> usize
+        ensures { result ≡ self.window }
+    {
+        self.window
+    }
+
+    pub(crate) fn main(self) -> usize
+        ensures { result ≡ main_share self }
+    {
+        self.capacity - self.small
+    }
+
+    pub(crate) fn history(self) -> usize
+        ensures { result ≡ ghost_share self }
+    {
+        self.capacity / 2
+    }
+}
+
+#[cfg(test)]
+mod tests {
+    use super::*;
+
+    // Small, Main, the window and the history at a capacity.
+    #[test]
+    fn usual_shares(rt: HostRuntime) {
+        let table = [
+            (1, 0, 1, 0, 0),
+            (2, 1, 1, 1, 1),
+            (3, 1, 2, 1, 1),
+            (6, 1, 5, 1, 3),
+            (10, 1, 9, 1, 5),
+            (11, 1, 10, 1, 5),
+            (19, 1, 18, 1, 9),
+            (20, 2, 18, 1, 10),
+            (40, 4, 36, 2, 20),
+            (16_777_215, 1_677_721, 15_099_494, 838_861, 8_388_607),
+        ];
+        for (capacity, small, main, window, history) in table {
+            assert!(rt; capacity > 0);
+            let shares = Shares::usual(capacity);
+            assert_eq!(rt; shares.small(), small, "small at {capacity}");
+            assert_eq!(rt; shares.main(), main, "main at {capacity}");
+            assert_eq!(rt; shares.window(), window, "window at {capacity}");
+            assert_eq!(rt; shares.history(), history, "history at {capacity}");
+        }
+    }
+}

@@ -1,0 +1,82 @@
+-- A text sent on, and a text answered.
+use Rattle.std.proofs.Common.{◌≡◌, ℕ, ◌+◌, ◌<◌, Bool, false, true, List, [], ◌++◌, length, take, Option, Some, None, Result, Ok, Err, ap, ◌∙◌, arith, append-nil, nat_eq, ⊎_elim}
+use Rattle.std.specs.Result.{IfErr}
+use Rattle.std.specs.Io.KnownBytes.{Appends, Keeps}
+use Rattle.std.proofs.lemmas.Bool.{cases_lt}
+use Rattle.std.proofs.lemmas.List.{take_all}
+use Rattle.clock2q_command.specs.Ports.{Passed, passed_by, one_if}
+use Rattle.clock2q_command.specs.Transfer.{TookAll, TookSome}
+use Rattle.clock2q_command.specs.Serve.{IsReadWhole, IsAnswered, IsSent, Sends, HasNoText, IsRefused, Answers, RepliesTo, output_for}
+use Rattle.clock2q_cache.specs.Shares.{usual_shares}
+use Rattle.clock2q_cache.specs.Calls.{Call, Answer}
+use Rattle.clock2q_cache.specs.Machine.{Machine, empty}
+use Rattle.clock2q_cache.specs.Steps.{answers}
+use Rattle.clock2q_command.specs.Text.{Script, script_of, output_of}
+use Rattle.clock2q_command.specs.declared.serve_error.ServeError.{ServeError}
+use Rattle.clock2q_command.specs.declared.serve_error.ServeError.TheVariants.{BadLine, Memory, Capacity, Read, Write}
+
+-- bytes pass, and then there is a stop or a failure
+passed-end : (old : Passed) (bytes : List ℕ) (stopped failed : Bool) → passed_by (passed_by old bytes false false) [] stopped failed ≡ passed_by old bytes stopped failed
+passed-end old bytes stopped failed =
+    let all : (old.bytes ++ bytes) ++ [] ≡ old.bytes ++ bytes = append-nil (old.bytes ++ bytes) in
+    let stops : old.stops + 0 + one_if stopped ≡ old.stops + one_if stopped = omega arith in
+    let failures : old.failures + 0 + one_if failed ≡ old.failures + one_if failed = omega arith in
+    cc
+
+-- known bytes grow, and then stay
+Appends-kept : (a b c : Option (List ℕ)) (xs : List ℕ) → Appends a b xs → Keeps b c → Appends a c xs
+Appends-kept None b c xs h k = h
+Appends-kept (Some x) None c xs h k = absurd h
+Appends-kept (Some x) (Some y) None xs h k = k
+Appends-kept (Some x) (Some y) (Some z) xs h k = k ∙ h
+
+-- a text that was taken is sent on
+pub IsSent-flushed : (old mid new : Passed) (held holds then : Option (List ℕ)) (text : List ℕ) → TookAll old mid held holds text → new ≡ passed_by mid [] true false → Keeps holds then → IsSent old new held then text
+IsSent-flushed old mid new held holds then text took flushed kept = record {
+  taken = flushed ∙ ap (λ p. passed_by p [] true false) took.taken ∙ passed-end old text true false;
+  contents = Appends-kept held holds then text took.contents kept;
+}
+
+-- or it isn't
+pub TookSome-unflushed : (old mid new : Passed) (held holds then : Option (List ℕ)) (text : List ℕ) → TookAll old mid held holds text → new ≡ passed_by mid [] false true → Keeps holds then → TookSome old new held then text (length text)
+TookSome-unflushed old mid new held holds then text took flushed kept =
+    let whole : take (length text) text ≡ text = take_all (length text) text (omega arith) in
+    record {
+      taken = rw whole (flushed ∙ ap (λ p. passed_by p [] false true) took.taken ∙ passed-end old text false true);
+      contents = rw whole (Appends-kept held holds then text took.contents kept);
+    }
+
+-- a script that was read is answered, or there's no text
+pub Answers-replied : {X : Type 0} (old new : Passed) (left remain : Option (List ℕ)) (input : List ℕ) (script : Script) (bytes : X → List ℕ) (r : Result X ServeError) → IsReadWhole old new left remain input → script_of input ≡ Ok script → RepliesTo script bytes r → Answers old new left remain bytes r
+Answers-replied old new left remain input script bytes (Ok text) whole is h = record { input = input; script = script; read = whole; spelled = is; served = h.0; told = h.1 }
+Answers-replied old new left remain input script bytes (Err (BadLine line)) whole is h = absurd h
+Answers-replied old new left remain input script bytes (Err Memory) whole is h = record { input = input; stopped = true; given = whole.given }
+Answers-replied old new left remain input script bytes (Err Capacity) whole is h = record { input = input; script = script; read = whole; spelled = is; large = h }
+Answers-replied old new left remain input script bytes (Err Read) whole is h = absurd h
+Answers-replied old new left remain input script bytes (Err Write) whole is h = absurd h
+
+-- without a text it is refused
+pub IsRefused-early : (given gives : Passed) (left remain : Option (List ℕ)) (took takes : Passed) (held holds : Option (List ℕ)) (refusal : ServeError) → HasNoText given gives left remain refusal → IsRefused given gives left remain took takes held holds refusal
+IsRefused-early given gives left remain took takes held holds (BadLine line) h = h
+IsRefused-early given gives left remain took takes held holds Memory h = h
+IsRefused-early given gives left remain took takes held holds Capacity h = h
+IsRefused-early given gives left remain took takes held holds Read h = h
+IsRefused-early given gives left remain took takes held holds Write h = absurd h
+
+-- with a text it is refused where sending fails
+pub IsRefused-late : (given gives : Passed) (left remain : Option (List ℕ)) (took takes : Passed) (held holds : Option (List ℕ)) (text : List ℕ) (r : Result (Unit {0}) ServeError) → IsAnswered given gives left remain text → Sends took takes held holds text r → IfErr r (IsRefused given gives left remain took takes held holds)
+IsRefused-late given gives left remain took takes held holds text (Ok done) answered h = tt
+IsRefused-late given gives left remain took takes held holds text (Err (BadLine line)) answered h = absurd h
+IsRefused-late given gives left remain took takes held holds text (Err Memory) answered h = absurd h
+IsRefused-late given gives left remain took takes held holds text (Err Capacity) answered h = absurd h
+IsRefused-late given gives left remain took takes held holds text (Err Read) answered h = absurd h
+IsRefused-late given gives left remain took takes held holds text (Err Write) answered h = record { text = text; count = h.0; answered = answered; written = h.1 }
+
+-- where more would be refused, and isn't, there's no more
+pub within : (n : ℕ) (Refused : Type 0) → (16777215 < n → Refused) → (Refused → ⊥) → n < 16777216
+within n Refused refuses h = ⊎_elim (λ less. less) (λ more. absurd (h (refuses (omega arith)))) (cases_lt n 16777216)
+
+-- the text of the answers of a cache that was empty
+pub output_for-answers : (capacity : ℕ) (calls : List (Call ℕ ℕ)) (m : Machine ℕ ℕ) (told : List (Answer ℕ)) → m ≡ empty (usual_shares capacity) → told ≡ answers nat_eq calls m → output_of told ≡ output_for (record { capacity = capacity; calls = calls })
+unfolding output_for
+output_for-answers capacity calls m told e f = ap output_of (f ∙ ap (answers nat_eq calls) e)

@@ -1,0 +1,64 @@
+-- The calls that lines spell, as a loop over the lines gathers them.
+use Rattle.std.proofs.Common.{◌≡◌, ℕ, List, [], ◌∷◌, ◌++◌, Option, Some, None, Result, Ok, Err, refl, sym, ap, ◌∙◌, subst, append_assoc}
+use Rattle.std.specs.Borrow.{Bor}
+use Rattle.std.specs.NonZero.{non_zero_usize_get}
+use Rattle.std.specs.Option.{ok_or, option_map}
+use Rattle.std.specs.declared.num.NonZeroUsize.{NonZeroUsize}
+use Rattle.clock2q_cache.specs.Calls.{Call}
+use Rattle.clock2q_command.specs.Cut.{first_and_others}
+use Rattle.clock2q_command.specs.Parsing.{Refuses}
+use Rattle.clock2q_command.specs.Text.{lines_of, words_of, capacity_in, with_call, calls_from, script_in, script_of, script_then, script_with}
+use Rattle.clock2q_command.specs.declared.serve_error.ServeError.{ServeError}
+use Rattle.clock2q_command.specs.declared.serve_error.ServeError.TheVariants.{BadLine, Memory, Capacity, Read, Write}
+
+-- the calls gathered, before what is still to come
+abbrev pub gathered : List (Call ℕ ℕ) → Result (List (Call ℕ ℕ)) ℕ → Result (List (Call ℕ ℕ)) ℕ
+gathered front (Ok calls) = Ok (front ++ calls)
+gathered front (Err line) = Err line
+
+pub gathered-none : (rest : Result (List (Call ℕ ℕ)) ℕ) → gathered [] rest ≡ rest
+gathered-none (Ok calls) = refl
+gathered-none (Err line) = refl
+
+-- one more gathered
+pub gathered-more : (front : List (Call ℕ ℕ)) (call : Call ℕ ℕ) (rest : Result (List (Call ℕ ℕ)) ℕ) → gathered front (with_call call rest) ≡ gathered (front ++ call ∷ []) rest
+gathered-more front call (Ok calls) = ap Ok (sym (append_assoc front (call ∷ []) calls))
+gathered-more front call (Err line) = refl
+
+-- the lines of a text whose first was found
+pub lines_of-found : (text : List ℕ) (found : Option (Bor (List ℕ) × Bor (List ℕ))) (first others : Bor (List ℕ)) → lines_of text ≡ first_and_others found → found ≡ Some (first, others) → lines_of text ≡ first.now ∷ lines_of others.now
+lines_of-found text found first others e some = e ∙ ap first_and_others some
+
+-- the capacity of words in which one was found
+pub capacity_in-found : (words : List (List ℕ)) (found : Option NonZeroUsize) (capacity : NonZeroUsize) → option_map non_zero_usize_get found ≡ capacity_in words → found ≡ Some capacity → capacity_in words ≡ Some (non_zero_usize_get capacity)
+capacity_in-found words found capacity e some = sym e ∙ ap (option_map non_zero_usize_get) some
+
+-- a text without lines
+pub script_of-empty : (text : List ℕ) → lines_of text ≡ [] → script_of text ≡ Err 1
+unfolding script_of
+script_of-empty text e = ap script_in e
+
+-- a first line that is no capacity
+pub script_of-bad : (text first : List ℕ) (lines : List (List ℕ)) → lines_of text ≡ first ∷ lines → capacity_in (words_of first) ≡ None → script_of text ≡ Err 1
+unfolding script_of
+script_of-bad text first lines e none = ap script_in e ∙ ap (λ c. script_then c (calls_from 2 lines)) none
+
+-- a first line that is one
+pub script_of-good : (text first : List ℕ) (lines : List (List ℕ)) (capacity : ℕ) → lines_of text ≡ first ∷ lines → capacity_in (words_of first) ≡ Some capacity → script_of text ≡ script_with capacity (calls_from 2 lines)
+unfolding script_of
+script_of-good text first lines capacity e some = ap script_in e ∙ ap (λ c. script_then c (calls_from 2 lines)) some
+
+-- a refusal of the calls is one of the script
+pub Refuses-script : (capacity : ℕ) (read : Result (List (Call ℕ ℕ)) ℕ) (refusal : ServeError) → Refuses refusal read → Refuses refusal (script_with capacity read)
+Refuses-script capacity read (BadLine line) h = ap (script_with capacity) h
+Refuses-script capacity read Memory h = h
+Refuses-script capacity read Capacity h = h
+Refuses-script capacity read Read h = h
+Refuses-script capacity read Write h = h
+
+-- line 1 is refused where something isn't there
+pub Refuses-first : {X Y : Type 0} (o : Option X) (refusal : ServeError) (spelled : Result Y ℕ) → ◌≡◌ {A = Result X ServeError} (Err refusal) (ok_or o (BadLine 1)) → (o ≡ None → spelled ≡ Err 1) → Refuses refusal spelled
+Refuses-first (Some x) refusal spelled e h = cc
+Refuses-first {Y = Y} None refusal spelled e h =
+    let same : BadLine 1 ≡ refusal = cc in
+    subst (λ r. Refuses r spelled) same (h refl)

@@ -1,0 +1,67 @@
+//! What `serve` refuses.
+ghost use Rattle.std.specs.Prelude.{◌≡◌};
+
+use clock2q_cache::CacheError;
+use std::alloc::AllocError;
+use thiserror::Error;
+
+/// Why [`serve`](crate::serve) gave no reply, or not all of them.
+#[derive(Debug, Clone, Copy, PartialEq, Eq, Error)]
+pub enum ServeError {
+    /// The line of this number, counted from 1, is the first that isn't a command in its place.
+    /// In an input without lines it is line 1.
+    #[error("line {0}: bad command")]
+    BadLine(usize),
+    /// A request for memory was refused, at whatever step.
+    #[error("no memory")]
+    Memory,
+    /// All lines are good, and the capacity is above
+    /// [`MAX_CAPACITY`](clock2q_cache::MAX_CAPACITY).
+    #[error("capacity refused")]
+    Capacity,
+    /// The source failed, before its end was reached.
+    #[error("read failed")]
+    Read,
+    /// The sink failed. A beginning of the replies, or all of them, may have been written.
+    #[error("write failed")]
+    Write,
+}
+
+impl ServeError {
+    ghost use Rattle.clock2q_command.specs.ServeError.{status_of};
+
+    /// The status with which the program ends: 2 for a bad line, 3 where the cache can't be had,
+    /// 4 where a device failed.
+    pub fn status(&self) -> u8
+        ensures status { result ≡ status_of self.now }
+    {
+        match self {
+            ServeError::BadLine(_) => 2,
+            ServeError::Memory | ServeError::Capacity => 3,
+            ServeError::Read | ServeError::Write => 4,
+        }
+    }
+}
+
+impl From<CacheError> for ServeError {
+    ghost use Rattle.clock2q_command.specs.ServeError.{refusal_of};
+
+    ghost from_gives = { λ error refusal. refusal ≡ refusal_of error };
+
+    fn from(error: CacheError) -> ServeError {
+        match error {
+            CacheError::Memory => ServeError::Memory,
+            CacheError::Capacity => ServeError::Capacity,
+        }
+    }
+}
+
+impl From<AllocError> for ServeError {
+    ghost use Rattle.clock2q_command.specs.declared.serve_error.ServeError.TheVariants.{Memory};
+
+    ghost from_gives = { λ _ refusal. refusal ≡ Memory };
+
+    fn from(_error: AllocError) -> ServeError {
+        ServeError::Memory
+    }
+}

@@ -1,0 +1,5 @@
+use Rattle.clock2q_queues.proofs.Callers.{IsWholeQueues-from}
+use Rattle.clock2q_queues.proofs.queues.Queues.small_len.Goals as goal
+
+pub returns-clause-whole : goal.returns-clause-whole
+returns-clause-whole g c = rw (← c.self.view_is) (IsWholeQueues-from c.self.inside.links c.self.inside.small c.self.inside.main c.self.invariant)
