@@ -1,11 +1,15 @@
 -- The slot counts that a table grows to, and what a rebuild at one leaves.
-use Rattle.std.proofs.Common.{◌≡◌, ℕ, suc, ◌*◌, ◌<◌, ◌≤◌, inl, inr, max, ap, sym, ◌∙◌, arith, List, length}
+use Rattle.std.proofs.Common.{◌≡◌, ℕ, suc, ◌+◌, ◌*◌, ◌<◌, ◌≤◌, ◌==◌, inl, inr, max, refl, ap, sym, ◌∙◌, subst, arith, Bool, true, false, cond, List, length}
+use lib.Dec.{T, eqb→eq}
 use Rattle.std.proofs.lemmas.Bool.{cases_lt}
 use Rattle.std.proofs.Math.Nat.{two-pow-succ}
-use Rattle.clock2q_handles.specs.Homes.{capacity, total}
-use Rattle.clock2q_handles.specs.Layout.{IsBestPlaced}
-use Rattle.clock2q_handles.specs.TableStep.{rebuilt, doubled}
+use Rattle.clock2q_handles.specs.Homes.{capacity, total, count}
+use Rattle.clock2q_handles.specs.Layout.{spill_of, IsBestPlaced}
+use Rattle.clock2q_handles.specs.TableStep.{rebuilt, grown, doubled, IsFull, IsHashOf}
+use Rattle.clock2q_handles.specs.Changes.{IsNearer}
 use Rattle.clock2q_handles.specs.Slots.{IsSlotCount}
+use Rattle.clock2q_handles.proofs.Tidy.{capacity-lt}
+use Rattle.clock2q_handles.proofs.TooLong.{rebuilt-reach}
 use Rattle.clock2q_handles.proofs.Laps.{powers-divide}
 use Rattle.clock2q_handles.proofs.Hashes.{rebuilt-length, rebuilt-total}
 use Rattle.clock2q_handles.proofs.Placement.{best-placed}
@@ -51,3 +55,16 @@ module _ {H : Type 0} (key : H → ℕ) (homes : List (List (ℕ × H))) (m : �
   -- and its entries as well placed as can be
   pub rebuilt_best : total homes ≤ capacity m → IsBestPlaced (rebuilt key m homes)
   rebuilt_best fits = best-placed (rebuilt key m homes) (omega (arith, rebuilt-total key homes m room some, ap capacity (rebuilt-length key homes m), fits))
+
+-- an insertion finds no home's entries further past it than they were
+pub grown_nearer : {H : Type 0} (key : H → ℕ) (homes : List (List (ℕ × H))) → IsSlotCount (length homes) → total homes ≤ capacity (length homes) → (IsFull homes → IsHashOf key homes) → IsNearer homes (grown key homes)
+grown_nearer key homes is_count room hashes = by_fullness (total homes == capacity (length homes)) refl
+  where
+    by_fullness : (b : Bool) → (total homes == capacity (length homes)) ≡ b → IsNearer homes (cond b (rebuilt key (doubled (length homes)) homes) homes)
+    by_fullness false q x = omega arith
+    by_fullness true q x =
+        let is : max (length homes * 2) 16 ≡ doubled (length homes) = doubled_is homes (length homes) refl is_count in
+        let more = doubled_more homes (length homes) refl is_count in
+        let less : total homes < max (length homes * 2) 16 = omega (arith, room, more, capacity-lt (max (length homes * 2) 16) (omega arith)) in
+        subst (λ m. spill_of (rebuilt key m homes) x + count (rebuilt key m homes) x ≤ spill_of homes x + count homes x) is
+        (rebuilt-reach key homes (max (length homes * 2) 16) room less (doubled_multiple homes (length homes) refl is_count) (hashes (eqb→eq (total homes) (capacity (length homes)) (subst T (sym q) tt))) x)

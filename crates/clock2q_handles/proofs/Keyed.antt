@@ -67,20 +67,20 @@ module _ {H : Type 0} (key : H → ℕ) where
     keyed_put (Err Size) put memory is hashes gives = subst (IsHashOf key) (sym (put (λ e. absurd (cc)) key (λ _. gives)).1) (keyed_grown homes hashes).1
     keyed_put (Err RunTooLong) put memory is hashes gives = subst (IsHashOf key) (sym (put (λ e. absurd (cc)) key (λ _. gives)).1) (keyed_grown homes hashes).1
 
+    keyed_settles : {M : Type 0} (m : Mut M (H × Unit {0}) Bool) (matches : M) (result : Result (H × Bool) TableError) → (last : M) × AfterGrowth g f homes (λ hs. FindsOrPuts m matches hs h v result new last)
+        → h ≡ key v → IsHashOf key homes → GivesHashes g key homes f → IsHashOf key new
+    keyed_settles m matches result settles is hashes gives =
+        let s = settles.1 key (λ _. gives) in
+        keyed_settled homes new h v s.0 result is s.2 hashes
+
     -- what a handle that is found or put in leaves
     pub keyed_found : {M : Type 0} (m : Mut M (H × Unit {0}) Bool) (matches : M) (result : Result (H × Bool) TableError)
-        → (result ≢ Err Memory → AfterGrowth g f homes (λ hs. FindsOrPuts m matches hs h v result new))
+        → (result ≢ Err Memory → (last : M) × AfterGrowth g f homes (λ hs. FindsOrPuts m matches hs h v result new last))
         → (result ≡ Err Memory → new ≡ homes) → h ≡ key v → IsHashOf key homes → GivesHashes g key homes f → IsHashOf key new
-    keyed_found m matches (Ok r) settles memory is hashes gives =
-        let s = settles (λ e. absurd (cc)) key (λ _. gives) in
-        keyed_settled homes new h v s.0 (Ok r) is s.3 hashes
+    keyed_found m matches (Ok r) settles memory is hashes gives = keyed_settles m matches (Ok r) (settles (λ e. absurd (cc))) is hashes gives
     keyed_found m matches (Err Memory) settles memory is hashes gives = subst (IsHashOf key) (sym (memory refl)) hashes
-    keyed_found m matches (Err Size) settles memory is hashes gives =
-        let s = settles (λ e. absurd (cc)) key (λ _. gives) in
-        keyed_settled homes new h v s.0 (Err Size) is s.3 hashes
-    keyed_found m matches (Err RunTooLong) settles memory is hashes gives =
-        let s = settles (λ e. absurd (cc)) key (λ _. gives) in
-        keyed_settled homes new h v s.0 (Err RunTooLong) is s.3 hashes
+    keyed_found m matches (Err Size) settles memory is hashes gives = keyed_settles m matches (Err Size) (settles (λ e. absurd (cc))) is hashes gives
+    keyed_found m matches (Err RunTooLong) settles memory is hashes gives = keyed_settles m matches (Err RunTooLong) (settles (λ e. absurd (cc))) is hashes gives
 
     -- what a reservation leaves
     pub keyed_reserved : (before after : TableValue H) (n : ℕ) (result : Result (Unit {0}) TableError)

@@ -1,6 +1,6 @@
 -- Candidates offered to a closure, up to the first that it accepts.
 use Rattle.std.specs.Prelude.{◌≡◌, ℕ, Bool, true, false, List, [], ◌∷◌, Option, Some, None, Result, Ok, MatchBool, MatchResult}
-use Rattle.std.specs.Fn.{Called, Mut}
+use Rattle.std.specs.Fn.{Called, Takes, Mut}
 use Rattle.clock2q_handles.specs.Homes.{candidates, inserted}
 use Rattle.clock2q_handles.specs.Layout.{IsTooLong}
 use Rattle.clock2q_handles.specs.declared.error.TableError.{TableError}
@@ -11,11 +11,16 @@ abbrev pub Offers : {F H : Type 0} → Mut F (H × Unit {0}) Bool → F → List
 Offers g f [] found f' = (found ≡ None) × (f' ≡ f)
 Offers {F} g f (h ∷ hs) found f' = (b : Bool) × (next : F) × Called g f (h, tt) b next × MatchBool b ((found ≡ Some h) × (f' ≡ next)) (Offers g next hs found f')
 
+-- f may be called on the first of the candidates, and where it rejects one, on the next
+abbrev pub MayBeOffered : {F H : Type 0} → Mut F (H × Unit {0}) Bool → F → List H → Type 0
+MayBeOffered g f [] = Unit {0}
+MayBeOffered {F} g f (h ∷ hs) = Takes g f (h, tt) × ((next : F) → Called g f (h, tt) false next → MayBeOffered g next hs)
+
 -- the one that was accepted is answered, and nothing changes; or v is put in under x, where no run becomes too long
 abbrev pub Settles : {H : Type 0} → List (List (ℕ × H)) → ℕ → H → Option H → Result (H × Bool) TableError → List (List (ℕ × H)) → Type 0
 Settles old x v (Some c) result new = (result ≡ Ok (c, false)) × (new ≡ old)
 Settles old x v None result new = MatchResult result (λ r. (r ≡ (v, true)) × (new ≡ inserted old x v) × (IsTooLong (inserted old x v) → ⊥)) (λ e. (e ≡ RunTooLong) × (new ≡ old) × IsTooLong (inserted old x v))
 
--- the candidates of x are offered to f, and what comes of that is answered and done
-abbrev pub FindsOrPuts : {M H : Type 0} → Mut M (H × Unit {0}) Bool → M → List (List (ℕ × H)) → ℕ → H → Result (H × Bool) TableError → List (List (ℕ × H)) → Type 0
-FindsOrPuts {M} {H} g f old x v result new = (found : Option H) × (last : M) × Offers g f (candidates old x) found last × Settles old x v found result new
+-- the candidates of x are offered to f, which leads to last, and what comes of that is answered and done
+abbrev pub FindsOrPuts : {M H : Type 0} → Mut M (H × Unit {0}) Bool → M → List (List (ℕ × H)) → ℕ → H → Result (H × Bool) TableError → List (List (ℕ × H)) → M → Type 0
+FindsOrPuts {M} {H} g f old x v result new last = (found : Option H) × Offers g f (candidates old x) found last × Settles old x v found result new

@@ -39,9 +39,9 @@ module _ {F H : Type 0} (g : Mut F (H × Unit {0}) ℕ) (f : F) (homes : List (L
   abbrev pub HashesKnown : Type 0
   HashesKnown = (key : H → ℕ) × GivesHashes g key homes f
 
-  -- f is asked for the hash of each held handle once, in the order of their slots
-  abbrev pub AsksHeld : Type 0
-  AsksHeld = (key : H → ℕ) → GivesHashes g key homes f → (last : F) × Asks g key f (held_handles homes) last
+  -- one call of f on each held handle, in the order of their slots, leads to last
+  abbrev pub AsksHeld : F → Type 0
+  AsksHeld last = (key : H → ℕ) → GivesHashes g key homes f → Asks g key f (held_handles homes) last
 
   -- P holds of the lists that an insertion finds, which a full table comes to by growing
   abbrev pub AfterGrowth : (List (List (ℕ × H)) → Type 0) → Type 0

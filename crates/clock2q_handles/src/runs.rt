@@ -4,7 +4,7 @@ ghost use Rattle.clock2q_handles.specs.Candidates.{IsNextCandidate, left_from, m
 ghost use Rattle.clock2q_handles.specs.Found.{Finds};
 ghost use Rattle.clock2q_handles.specs.Layout.{IsTidy, reach, slot_at, placed, homes_of, met, walk};
 ghost use Rattle.clock2q_handles.specs.Shifts.{Opens, Closes, HasRoom, IsVacancy, moved_on};
-ghost use Rattle.clock2q_handles.specs.Offers.{Offers};
+ghost use Rattle.clock2q_handles.specs.Offers.{Offers, MayBeOffered};
 ghost use Rattle.std.specs.Bool.{OnTrue, OnFalse};
 ghost use Rattle.std.specs.Result.{result_ok};
 ghost use Rattle.std.specs.List.{list_any};
@@ -93,14 +93,14 @@ impl<H: Copy + Default, A: Allocator> Slots<H, A> {
         &self,
         home: usize,
         hash: u64,
-        mut matches: F,
+        matches: &mut F,
     ) -> Result<H, usize>
         requires tidy { IsTidy self.now.slots }
         requires near { (n : ℕ) → reach (slot_at self.now.slots n) ≤ 16777215 }
         requires some { 0 < length self.now.slots }
         requires home { home ≡ hash % length self.now.slots }
-        requires callable { F.IsAlwaysCallable matches }
-        ensures offers { (last : F) × Offers F.FnMut matches (left_from self.now.slots hash 0) (result_ok result) last }
+        requires callable { MayBeOffered F.FnMut matches.old (left_from self.now.slots hash 0) }
+        ensures offers { Offers F.FnMut matches.old (left_from self.now.slots hash 0) (result_ok result) matches.new }
         ensures within { IfErr result (λ d. d < length self.now.slots) }
         ensures passed { IfErr result (λ d. (j : ℕ) → j < d → j < reach (slot_at self.now.slots (home + j))) }
         ensures stop { IfErr result (λ d. reach (slot_at self.now.slots (home + d)) ≤ d) }

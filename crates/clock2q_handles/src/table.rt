@@ -1,23 +1,23 @@
 //! A multimap from hashes of 64 bits to handles that its caller owns.
-
-ghost use Rattle.clock2q_handles.specs.Homes.{capacity};
-ghost use Rattle.clock2q_handles.specs.Slots.{IsSlotCount};
-ghost use Rattle.clock2q_handles.specs.TableStep.{fit};
-ghost use Rattle.std.specs.Prelude.{◌≡◌, ◌≢◌, Option, Err, ◌*◌, ◌%◌, ◌^◌, ◌<◌, ◌≤◌, ◌+◌, ◌↔◌, ℕ, [], IsTrue, IsOk, IsOkUnless, IsErrOf, OnOk, OnErr, IfOk, IfSome, MatchOption, length};
+ghost use Rattle.clock2q_handles.specs.Changes.{PutIn, WritesAtMost, Restores, IsLaidOut};
+ghost use Rattle.clock2q_handles.specs.Homes.{candidates, capacity, total};
+ghost use Rattle.clock2q_handles.specs.Layout.{run};
+ghost use Rattle.clock2q_handles.specs.Offers.{FindsOrPuts, MayBeOffered};
+ghost use Rattle.clock2q_handles.specs.TableStep.{fit, IsBelowCapacity};
 ghost use Rattle.std.specs.Bool.{OnFalse};
+ghost use Rattle.std.specs.Prelude.{◌≡◌, ◌≢◌, Err, ◌%◌, ◌^◌, ◌<◌, ◌≤◌, ◌+◌, ◌↔◌, ℕ, [], IsTrue, IsOk, IsErrOf, OnOk, OnErr, IfOk, length};
 
+mod growth;
 #[cfg(test)]
 mod tests;
 
 use crate::candidates::Candidates;
 use crate::error::TableError;
 use crate::slots::Slots;
+use crate::table::growth::slots_for;
 use std::alloc::{Allocator, Global};
 use std::fmt;
 use std::marker::Model;
-
-/// The least number of slots.
-const MIN_SLOTS: usize = 16;
 
 /// A multimap from hashes of 64 bits to handles. See the [crate](crate) for what it keeps of them.
 #[derive(Drop)]
@@ -40,28 +40,13 @@ impl<H: Copy + Eq + Default, A: Allocator> Model for Table<H, A> {
     ghost invariant = { λ t. IsTable t.slots.slots t.len };
 }
 
-/// The least slot count in which `entries` entries fit, if it can be counted.
-fn slots_for(entries: usize) -> Option<usize>
-    ensures count { MatchOption result (2 ^ 64 ≤ fit entries) (λ count. count ≡ fit entries) }
-    ensures power { IfSome result IsSlotCount }
-    ensures enough { IfSome result (λ count. entries ≤ capacity count) }
-{
-    let quarter = entries.div_ceil(3).checked_next_power_of_two()?;
-    let Some(count) = quarter.checked_mul(4) else {
-        return None;
-    };
-    Some(count.max(MIN_SLOTS))
-}
-
 impl<H: Copy + Eq + Default, A: Allocator + Copy> Table<H, A> {
-    ghost use Rattle.clock2q_handles.specs.Homes.{total, count, candidates, inserted, removed, IsNew};
-    ghost use Rattle.clock2q_handles.specs.Offers.{FindsOrPuts};
-    ghost use Rattle.clock2q_handles.specs.Layout.{layout, slot_at, reach, run, spill_of, IsTooLong, IsBestPlaced};
-    ghost use Rattle.clock2q_handles.specs.Rehash.{Asks, GivesHashes, held_handles, HashesKnown, AsksHeld, AfterGrowth};
-    ghost use Rattle.clock2q_handles.specs.Changes.{PutIn, WritesAtMost, Restores, IsLaidOut, IsNearer};
-    ghost use Rattle.clock2q_handles.specs.TableStep.{table_value, made_for, rebuilt, grown, doubled, reserved, IsBelowCapacity, IsFull, IsShortOf, IsPastSize};
+    ghost use Rattle.clock2q_handles.specs.Changes.{IsNearer};
+    ghost use Rattle.clock2q_handles.specs.Layout.{layout};
+    ghost use Rattle.clock2q_handles.specs.Rehash.{HashesKnown, AsksHeld, AfterGrowth};
+    ghost use Rattle.clock2q_handles.specs.TableStep.{table_value, made_for, IsFull};
 
-    /// An empty table with no slots, which takes no memory.
+    /// Returns an empty table with no slots, which takes no memory.
     pub fn new(alloc: A) -> Table<H, A>
         ensures made { result ≡ table_value [] [] 0 }
     {
@@ -71,11 +56,12 @@ impl<H: Copy + Eq + Default, A: Allocator + Copy> Table<H, A> {
         }
     }
 
-    /// An empty table that takes `entries` entries without growing.
+    /// Returns an empty table that takes `entries` entries before it grows.
     ///
     /// # Errors
     ///
-    /// `Size` where the slots are too many to count, and `Memory` where they can't be had.
+    /// `Size` where the slots are too many to count, and `Memory` where there is no memory for
+    /// them.
     pub fn with_capacity(alloc: A, entries: usize) -> Result<Table<H, A>, TableError>
         ensures made { IfOk result (λ t. t ≡ table_value (made_for entries) (layout (made_for entries)) 0) }
         ensures size { IsErrOf result TableError.Size ↔ ((0 < entries) × (2 ^ 64 ≤ fit entries)) }
@@ -94,180 +80,156 @@ impl<H: Copy + Eq + Default, A: Allocator + Copy> Table<H, A> {
         Ok(Table { slots, len: 0 })
     }
 
-    /// The same entries in another count of slots, each under the hash that `rehash` gives its
-    /// handle.
-    fn rebuilt<F: FnMut(H) -> u64>(
-        &self,
-        count: usize,
-        mut rehash: F,
-    ) -> Result<Table<H, A>, TableError>
-        requires count { IsSlotCount count }
-        requires fits { total self.now.homes ≤ capacity count }
-        requires multiple { 0 < length self.now.homes → (k : ℕ) × (count ≡ k * length self.now.homes) }
-        requires asked { (key : H → ℕ) × GivesHashes F.FnMut key self.now.homes rehash }
-        ensures made { IfOk result (λ t. (key : H → ℕ) → GivesHashes F.FnMut key self.now.homes rehash → t.homes ≡ rebuilt key count self.now.homes) }
-        ensures asks { OnOk result ((key : H → ℕ) → GivesHashes F.FnMut key self.now.homes rehash → (last : F) × Asks F.FnMut key rehash (held_handles self.now.homes) last) }
-        ensures laid { IfOk result IsLaidOut }
-        ensures only { IsOkUnless result TableError.Memory }
-    {
-        let Ok(slots) = Slots::with_count(self.slots.allocator(), count) else {
-            return Err(TableError::Memory);
-        };
-        let mut table = Table { slots, len: 0 };
-        for slot in 0..self.slots.count() {
-            if !self.slots.metadata(0, slot).is_empty() {
-                let handle = self.slots.handle(0, slot);
-                let hash = rehash(handle);
-                table.insert_within_capacity(hash, handle)?;
-            }
-        }
-        Ok(table)
-    }
-
-    /// Rebuilds a full table in twice the slots, or in the least count of them.
-    fn grow<F: FnMut(H) -> u64>(&mut self, rehash: F) -> Result<(), TableError>
-        requires full { IsFull self.old.homes }
-        requires asked { (key : H → ℕ) × GivesHashes F.FnMut key self.old.homes rehash }
-        ensures grown { OnOk result ((key : H → ℕ) → GivesHashes F.FnMut key self.old.homes rehash → self.new.homes ≡ rebuilt key (doubled (length self.old.homes)) self.old.homes) }
-        ensures room { OnOk result (total self.new.homes < capacity (length self.new.homes)) }
-        ensures asks { OnOk result ((key : H → ℕ) → GivesHashes F.FnMut key self.old.homes rehash → (last : F) × Asks F.FnMut key rehash (held_handles self.old.homes) last) }
-        ensures err { OnErr result (self.new ≡ self.old) }
-        ensures as_many { total self.new.homes ≡ total self.old.homes }
-        ensures only { IsOkUnless result TableError.Memory }
-        ensures laid { IsLaidOut self.new }
-    {
-        let count = (self.slots.count() * 2).max(MIN_SLOTS);
-        *self = self.rebuilt(count, rehash)?;
-        Ok(())
-    }
-
-    /// Makes room for one entry more in a table that is full.
-    fn make_room<F: FnMut(H) -> u64>(&mut self, rehash: F) -> Result<(), TableError>
-        requires { IsFull self.old.homes → (key : H → ℕ) × GivesHashes F.FnMut key self.old.homes rehash }
-        ensures grown { OnOk result ((key : H → ℕ) → (IsFull self.old.homes → GivesHashes F.FnMut key self.old.homes rehash) → self.new.homes ≡ grown key self.old.homes) }
-        ensures room { OnOk result (total self.new.homes < capacity (length self.new.homes)) }
-        ensures asks { OnOk result (IsFull self.old.homes → (key : H → ℕ) → GivesHashes F.FnMut key self.old.homes rehash → (last : F) × Asks F.FnMut key rehash (held_handles self.old.homes) last) }
-        ensures kept { total self.old.homes < capacity (length self.old.homes) → IsOk result × (self.new ≡ self.old) }
-        ensures full { OnErr result (IsFull self.old.homes) }
-        ensures err { OnErr result (self.new ≡ self.old) }
-        ensures as_many { total self.new.homes ≡ total self.old.homes }
-        ensures only { IsOkUnless result TableError.Memory }
-        ensures laid { IsLaidOut self.new }
-    {
-        if self.len() == self.capacity() {
-            return self.grow(rehash);
-        }
-        Ok(())
-    }
-
-    /// Makes room for `additional` entries more, so that putting them in doesn't grow the table.
-    /// Where it has to grow for that, `rehash` is asked for the hash of each held handle.
+    /// Inserts `handle` under `hash`, last among the entries of its home. Handles and hashes may
+    /// repeat. A full table first grows to twice the slots: then, and only then, `rehash` is called
+    /// once on each held handle, in the order of their slots, for the hash that it was inserted
+    /// under.
     ///
     /// # Errors
     ///
-    /// `Size` where the entries or their slots are too many to count, and `Memory` where the slots
-    /// can't be had. The table is unchanged.
-    pub fn reserve<F: FnMut(H) -> u64>(
-        &mut self,
-        additional: usize,
-        rehash: F,
-    ) -> Result<(), TableError>
-        requires rehash { IsShortOf self.old.homes additional → (key : H → ℕ) × GivesHashes F.FnMut key self.old.homes rehash }
-        ensures reserved { OnOk result ((key : H → ℕ) → (IsShortOf self.old.homes additional → GivesHashes F.FnMut key self.old.homes rehash) → self.new.homes ≡ reserved key self.old.homes additional) }
-        ensures asks { OnOk result (IsShortOf self.old.homes additional → (key : H → ℕ) → GivesHashes F.FnMut key self.old.homes rehash → (last : F) × Asks F.FnMut key rehash (held_handles self.old.homes) last) }
-        ensures kept { total self.old.homes + additional ≤ capacity (length self.old.homes) → total self.old.homes + additional < 2 ^ 64 → IsOk result × (self.new ≡ self.old) }
-        ensures size { result ≡ Err TableError.Size → IsPastSize self.old.homes additional }
-        ensures past { IsPastSize self.old.homes additional → result ≡ Err TableError.Size }
-        ensures memory { result ≡ Err TableError.Memory → IsShortOf self.old.homes additional }
-        ensures only { result ≢ Err TableError.RunTooLong }
-        ensures err { OnErr result (self.new ≡ self.old) }
-
-        ensures laid { IsLaidOut self.new }
-        ensures nearer { IsNearer self.old.homes self.new.homes }
-    {
-        let Some(entries) = self.len().checked_add(additional) else {
-            return Err(TableError::Size);
-        };
-        if entries <= self.capacity() {
-            return Ok(());
-        }
-        let Some(count) = slots_for(entries) else {
-            return Err(TableError::Size);
-        };
-        *self = self.rebuilt(count, rehash)?;
-        Ok(())
-    }
-
-    /// Puts `handle` in under `hash`, last among the entries of its home. Handles and hashes may
-    /// repeat. A full table is rebuilt in twice the slots first, and only then is `rehash` asked
-    /// for the hash that each held handle was put in under.
+    /// `Memory` where the table is full and can't grow: it is unchanged. `RunTooLong` where an
+    /// entry would stand more than 2^24 - 2 slots past its home, which takes 2^24 entries: nothing
+    /// is inserted, but a full table has grown.
     ///
-    /// # Errors
+    /// # Cost
     ///
-    /// `Memory` where the table was full and can't grow: it is unchanged. `RunTooLong` where an
-    /// entry would stand more than 2^24 - 2 slots past its home: the entries are the same, in twice
-    /// the slots where the table was full. It takes 2^24 entries with the new one.
+    /// Below capacity, writes the slots from the new entry's to the end of its run.
     pub fn insert<F: FnMut(H) -> u64>(
         &mut self,
         hash: u64,
         handle: H,
-        rehash: F,
+        mut rehash: F,
     ) -> Result<(), TableError>
         requires rehash { IsFull self.old.homes → HashesKnown F.FnMut rehash self.old.homes }
         ensures put { result ≢ Err TableError.Memory → AfterGrowth F.FnMut rehash self.old.homes (λ homes. PutIn homes hash handle result self.new.homes) }
         ensures memory { result ≡ Err TableError.Memory → IsFull self.old.homes × (self.new ≡ self.old) }
-
-        // A table of fewer than 2^24 - 1 entries never refuses for a run.
         ensures few { total self.old.homes + 1 < 2 ^ 24 → result ≢ Err TableError.RunTooLong }
-        ensures asks { result ≢ Err TableError.Memory → IsFull self.old.homes → AsksHeld F.FnMut rehash self.old.homes }
+        ensures asks { result ≢ Err TableError.Memory → IsFull self.old.homes → (last : F) × AsksHeld F.FnMut rehash self.old.homes last }
         ensures writes { IsBelowCapacity self.old.homes → WritesAtMost (run self.old.slots hash + 1) self.old self.new }
         ensures restores { IsBelowCapacity self.old.homes → OnOk result (Restores H.PartialEq.eq hash handle self.old self.new) }
         ensures laid { IsLaidOut self.new }
+        ensures nearer { AfterGrowth F.FnMut rehash self.old.homes (IsNearer self.old.homes) }
     {
-        self.make_room(rehash)?;
+        self.make_room(&mut rehash)?;
         self.insert_within_capacity(hash, handle)
     }
 
-    /// Offers the candidates of `hash` to `matches` in order. Answers the first that it accepts,
-    /// and false; or puts `handle` in under `hash` as [Table::insert] does, and answers it, and
-    /// true. A full table grows first, even if a candidate is then accepted.
+    /// Returns the first candidate of `hash` that `matches` accepts, and false; where it accepts
+    /// none, inserts `handle` under `hash` as [insert](Table::insert) does, and returns it and
+    /// true. A full table grows first, whether or not a candidate is accepted. Then `matches` is
+    /// called on the candidates in order, up to the first that it accepts.
     ///
     /// # Errors
     ///
-    /// As [Table::insert]; `RunTooLong` only where every candidate was rejected.
+    /// As [insert](Table::insert); `RunTooLong` only where no candidate was accepted.
     pub fn find_or_insert<M: FnMut(H) -> bool, F: FnMut(H) -> u64>(
         &mut self,
         hash: u64,
-        matches: M,
+        mut matches: M,
         handle: H,
-        rehash: F,
+        mut rehash: F,
     ) -> Result<(H, bool), TableError>
         requires rehash { IsFull self.old.homes → HashesKnown F.FnMut rehash self.old.homes }
-        requires callable { M.IsAlwaysCallable matches }
-        ensures settles { result ≢ Err TableError.Memory → AfterGrowth F.FnMut rehash self.old.homes (λ homes. FindsOrPuts M.FnMut matches homes hash handle result self.new.homes) }
+        requires callable { AfterGrowth F.FnMut rehash self.old.homes (λ homes. MayBeOffered M.FnMut matches (candidates homes hash)) }
+        ensures settles { result ≢ Err TableError.Memory → (last : M) × AfterGrowth F.FnMut rehash self.old.homes (λ homes. FindsOrPuts M.FnMut matches homes hash handle result self.new.homes last) }
         ensures memory { result ≡ Err TableError.Memory → IsFull self.old.homes × (self.new ≡ self.old) }
-
-        // A table of fewer than 2^24 - 1 entries never refuses for a run.
         ensures few { total self.old.homes + 1 < 2 ^ 24 → result ≢ Err TableError.RunTooLong }
-        ensures asks { result ≢ Err TableError.Memory → IsFull self.old.homes → AsksHeld F.FnMut rehash self.old.homes }
+        ensures asks { result ≢ Err TableError.Memory → IsFull self.old.homes → (last : F) × AsksHeld F.FnMut rehash self.old.homes last }
         ensures writes { IsBelowCapacity self.old.homes → WritesAtMost (run self.old.slots hash + 1) self.old self.new }
         ensures restores { IsBelowCapacity self.old.homes → IfOk result (λ r. IsTrue r.1 → Restores H.PartialEq.eq hash handle self.old self.new) }
         ensures laid { IsLaidOut self.new }
+        ensures nearer { AfterGrowth F.FnMut rehash self.old.homes (IsNearer self.old.homes) }
     {
-        self.make_room(rehash)?;
-        self.find_or_put(hash, matches, handle)
+        self.make_room(&mut rehash)?;
+        self.find_or_put(hash, &mut matches, handle)
+    }
+}
+
+impl<H: Copy + Eq + Default, A: Allocator> Table<H, A> {
+    ghost use Rattle.clock2q_handles.specs.Homes.{listed, removed, is_entry_of};
+    ghost use Rattle.clock2q_handles.specs.Layout.{slot_at, reach, walk};
+    ghost use Rattle.clock2q_handles.specs.Table.{IsWhole};
+    ghost use Rattle.std.specs.List.{list_any};
+
+    /// Returns the number of entries.
+    pub fn len(&self) -> usize
+        ensures len { result ≡ total self.now.homes }
+        ensures whole { IsWhole self.now }
+    {
+        self.len
     }
 
-    /// Offers the candidates, and puts the handle in where none is accepted.
+    /// Returns true if there is no entry.
+    pub fn is_empty(&self) -> bool
+        ensures empty { IsTrue result ↔ (total self.now.homes ≡ 0) }
+    {
+        self.len() == 0
+    }
+
+    /// Returns how many entries fit before the table grows: three quarters of the slots.
+    pub fn capacity(&self) -> usize
+        ensures capacity { result ≡ capacity (length self.now.homes) }
+    {
+        self.slots.count() / 4 * 3
+    }
+
+    /// Returns an iterator over the handles whose home and fingerprint are those of `hash`, in the
+    /// order of their slots: all that were inserted under it, and those under another hash that
+    /// agrees in both.
+    ///
+    /// # Cost
+    ///
+    /// An iterator that is drained reads the slots from the home of `hash` to the end of the walk:
+    /// to the first that is empty, or whose entry is nearer to its own home.
+    pub fn get(&self, hash: u64) -> Candidates<'_, H, A>
+        ensures candidates { result.left ≡ candidates self.now.homes hash }
+        ensures reads { result.reads ≡ 0 }
+        ensures unread { result.unread ≡ walk self.now.homes hash }
+    {
+        Candidates::new(&self.slots, hash)
+    }
+
+    /// Tells the table that `hash` is looked up next. It changes nothing.
+    pub fn prefetch(&self, hash: u64) {
+        let _ = hash;
+    }
+
+    /// Inserts `handle` under `hash`, last among the entries of its home, in a table that is below
+    /// [capacity](Table::capacity). It takes no memory, and needs no hash of what is held. A table
+    /// that [with_capacity](Table::with_capacity) made for so many entries takes as many this way.
+    ///
+    /// # Errors
+    ///
+    /// `RunTooLong` where an entry would stand more than 2^24 - 2 slots past its home, which takes
+    /// 2^24 entries. The table is unchanged.
+    ///
+    /// # Cost
+    ///
+    /// Writes the slots from the new entry's to the end of its run.
+    pub fn insert_within_capacity(&mut self, hash: u64, handle: H) -> Result<(), TableError>
+        requires room { IsBelowCapacity self.old.homes }
+        ensures put { PutIn self.old.homes hash handle result self.new.homes }
+        ensures refused { OnErr result (self.new ≡ self.old) }
+        ensures few { total self.old.homes + 1 < 2 ^ 24 → IsOk result }
+        ensures writes { WritesAtMost (run self.old.slots hash + 1) self.old self.new }
+        ensures restores { OnOk result (Restores H.PartialEq.eq hash handle self.old self.new) }
+        ensures laid { IsLaidOut self.new }
+    {
+        let home = self.slots.home(hash);
+        let distance = self.slots.end(home);
+        self.place(home, distance, hash, handle)
+    }
+
+    /// Returns the first candidate that is accepted, or inserts the handle where none is.
     fn find_or_put<M: FnMut(H) -> bool>(
         &mut self,
         hash: u64,
-        matches: M,
+        matches: &mut M,
         handle: H,
     ) -> Result<(H, bool), TableError>
         requires room { IsBelowCapacity self.old.homes }
-        requires callable { M.IsAlwaysCallable matches }
-        ensures settles { FindsOrPuts M.FnMut matches self.old.homes hash handle result self.new.homes }
+        requires callable { MayBeOffered M.FnMut matches.old (candidates self.old.homes hash) }
+        ensures settles { FindsOrPuts M.FnMut matches.old self.old.homes hash handle result self.new.homes matches.new }
         ensures only { result ≢ Err TableError.Memory }
         ensures few { total self.old.homes + 1 < 2 ^ 24 → IsOk result }
         ensures writes { WritesAtMost (run self.old.slots hash + 1) self.old self.new }
@@ -282,41 +244,6 @@ impl<H: Copy + Eq + Default, A: Allocator + Copy> Table<H, A> {
                 Err(refusal) => Err(refusal),
             },
         }
-    }
-}
-
-impl<H: Copy + Eq + Default, A: Allocator> Table<H, A> {
-    ghost use Rattle.clock2q_handles.specs.Homes.{total};
-    ghost use Rattle.clock2q_handles.specs.Layout.{slot_at, reach, run};
-    ghost use Rattle.clock2q_handles.specs.TableStep.{IsBelowCapacity};
-    ghost use Rattle.clock2q_handles.specs.Changes.{PutIn, WritesAtMost, Restores, IsLaidOut};
-
-    /// Inserts `handle` under `hash`, last among the entries of its home, in a table that is below
-    /// its [capacity](Table::capacity): it takes no memory, and needs no hash of what is held. A
-    /// table made by [with_capacity](Table::with_capacity) stays below it for that many entries.
-    ///
-    /// # Errors
-    ///
-    /// `RunTooLong` where an entry would stand more than 2^24 - 2 slots past its home, which takes
-    /// 2^24 entries. The table is unchanged.
-    ///
-    /// # Cost
-    ///
-    /// Writes the slots from the new entry's to the end of its run.
-    pub fn insert_within_capacity(&mut self, hash: u64, handle: H) -> Result<(), TableError>
-        requires room { IsBelowCapacity self.old.homes }
-        ensures put { PutIn self.old.homes hash handle result self.new.homes }
-        ensures refused { OnErr result (self.new ≡ self.old) }
-
-        // A table of fewer than 2^24 - 1 entries never refuses.
-        ensures few { total self.old.homes + 1 < 2 ^ 24 → IsOk result }
-        ensures writes { WritesAtMost (run self.old.slots hash + 1) self.old self.new }
-        ensures restores { OnOk result (Restores H.PartialEq.eq hash handle self.old self.new) }
-        ensures laid { IsLaidOut self.new }
-    {
-        let home = self.slots.home(hash);
-        let distance = self.slots.end(home);
-        self.place(home, distance, hash, handle)
     }
 
     /// Inserts an entry where the walk for it ended.
@@ -343,65 +270,18 @@ impl<H: Copy + Eq + Default, A: Allocator> Table<H, A> {
         self.len += 1;
         Ok(())
     }
-}
 
-impl<H: Copy + Eq + Default, A: Allocator> Table<H, A> {
-    ghost use Rattle.clock2q_handles.specs.Homes.{total, listed, candidates, removed, is_entry_of};
-    ghost use Rattle.clock2q_handles.specs.Layout.{run, walk};
-    ghost use Rattle.clock2q_handles.specs.Changes.{WritesAtMost, IsLaidOut};
-    ghost use Rattle.std.specs.List.{list_any};
-    ghost use Rattle.clock2q_handles.specs.Table.{IsWhole};
-
-    /// How many entries there are.
-    pub fn len(&self) -> usize
-        ensures len { result ≡ total self.now.homes }
-        ensures whole { IsWhole self.now }
-    {
-        self.len
-    }
-
-    /// Whether there is no entry.
-    pub fn is_empty(&self) -> bool
-        ensures empty { IsTrue result ↔ (total self.now.homes ≡ 0) }
-    {
-        self.len() == 0
-    }
-
-    /// How many entries fit before the table grows: three quarters of the slots.
-    pub fn capacity(&self) -> usize
-        ensures capacity { result ≡ capacity (length self.now.homes) }
-    {
-        self.slots.count() / 4 * 3
-    }
-
-    /// The handles whose home and fingerprint are those of `hash`, in the order of their slots: all
-    /// that were put in under it, and those under another hash that agrees in both.
-    pub fn get(&self, hash: u64) -> Candidates<'_, H, A>
-        ensures candidates { result.left ≡ candidates self.now.homes hash }
-
-        // A lookup that is drained reads all of its walk, and none of it is read yet.
-        ensures reads { result.reads ≡ 0 }
-        ensures unread { result.unread ≡ walk self.now.homes hash }
-    {
-        Candidates::new(&self.slots, hash)
-    }
-
-    /// Says that `hash` is looked up next. It changes nothing.
-    pub fn prefetch(&self, hash: u64) {
-        let _ = hash;
-    }
-
-    /// Takes the first candidate of `hash` that equals `handle` out, and answers whether there was
-    /// one. It takes no memory and gives none back; the entries behind it in its run move back.
+    /// Removes the first candidate of `hash` that equals `handle`, and returns true if there was
+    /// one. The entries behind it in its run move back. It takes no memory and gives none back.
+    ///
+    /// # Cost
+    ///
+    /// Writes the slots from the entry's to the last that moves back.
     pub fn remove(&mut self, hash: u64, handle: H) -> bool
         ensures removed { self.new.homes ≡ removed H.PartialEq.eq self.old.homes hash handle }
         ensures found { result ≡ list_any (is_entry_of H.PartialEq.eq hash handle) (listed self.old.homes hash) }
         ensures none { OnFalse result (self.new ≡ self.old) }
-
-        // It writes no more slots than the run of `hash` has.
         ensures writes { WritesAtMost (run self.old.slots hash) self.old self.new }
-
-        // No walk is longer.
         ensures laid { IsLaidOut self.new }
         ensures shorter { (x : ℕ) → walk self.new.homes x ≤ walk self.old.homes x }
     {

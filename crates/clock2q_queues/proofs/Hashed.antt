@@ -2,7 +2,8 @@
 use Rattle.std.proofs.Common.{◌≡◌, ℕ, zero, suc, ◌%◌, false, eqb, List, [], ◌∷◌, take, inl, inr, refl, sym, ap, ◌∙◌, eqb-true}
 use Rattle.std.specs.List.{AllByRecursion}
 use Rattle.std.proofs.lemmas.Bool.{cases_Bool}
-use Rattle.clock2q_queues.specs.History.{HasHash, is_remembered, forgotten}
+use Rattle.clock2q_queues.specs.Indexes.{HasHash}
+use Rattle.clock2q_queues.specs.History.{is_remembered, forgotten}
 
 pub has_hash : (key hashes : ℕ) (es : List (ℕ × ℕ)) → AllByRecursion (λ e. e.0 ≡ e.1 % hashes) es → HasHash eqb (key % hashes) key es
 has_hash key hashes [] a = tt

@@ -1,30 +1,24 @@
 -- What putting a place into the index, and taking one out, makes of it.
-use Rattle.std.proofs.Common.{◌≡◌, ℕ, suc, ◌+◌, ◌%◌, ◌<◌, Bool, true, false, not, ◌||◌, ◌&&◌, ◌==◌, eqb, Some, None, List, [], ◌∷◌, ◌++◌, length, map, filter, inl, inr, refl, sym, ap, ◌∙◌, subst, arith, eqb-true}
-use Rattle.std.specs.List.{list_any}
+use Rattle.std.proofs.Common.{◌≡◌, ℕ, zero, suc, ◌+◌, ◌*◌, ◌%◌, ◌<◌, ◌≤◌, Bool, true, false, not, ◌||◌, ◌&&◌, ◌==◌, eqb, Option, Some, None, get_or, List, [], ◌∷◌, ◌++◌, length, map, filter, inl, inr, refl, sym, ap, ◌∙◌, subst, arith, eqb-true}
+use Rattle.std.specs.List.{list_any, AllByRecursion}
 use Rattle.std.proofs.lemmas.Bool.{both_ways, cases_Bool}
-use Rattle.std.proofs.lemmas.List.{length-append}
+use Rattle.std.proofs.lemmas.Bool.Decides.{leb_tells}
+use Rattle.std.proofs.lemmas.List.{length-append, length-replicate}
 use Rattle.clock2q_queues.specs.Rings.{has, without, AllApart}
-use Rattle.clock2q_handles.specs.Homes.{top, home, listed, count, total, candidates, inserted, removed, is_entry_of, without_first}
+use Rattle.clock2q_handles.specs.Homes.{top, home, no_entries, capacity, listed, count, total, candidates, inserted, removed, is_entry_of, without_first}
 use Rattle.clock2q_queues.specs.Keys.{hash_at}
-use Rattle.clock2q_queues.specs.History.{IsIndex, is_alike, is_named}
-use Rattle.clock2q_queues.proofs.Rings.{eqb_self, or_neither, has-append, differs, AllApart-append, without_absent}
+use Rattle.clock2q_handles.specs.TableStep.{fit, doubled_until, made_for}
+use Rattle.clock2q_queues.specs.Indexes.{IsIndex, is_alike, is_named, index_room}
+use Rattle.clock2q_queues.specs.declared.keys.cells.Entry.{Entry}
+use Rattle.clock2q_queues.proofs.Booleans.{and_parts, and_true, and_false, and_swap, or_true, or_false}
+use Rattle.clock2q_queues.proofs.Entries.{hash_in}
+use Rattle.clock2q_queues.proofs.Rings.{eqb_self, has_first, has_later, or_neither, has-append, differs, AllApart-append, without_absent}
 use Rattle.clock2q_queues.proofs.Joining.{length-without}
+use Rattle.clock2q_handles.proofs.Rebuild.{total-no_entries}
 use Rattle.clock2q_handles.proofs.Changes.{length-with_list, total-with_list}
 use Rattle.clock2q_handles.proofs.Lookups.{candidates-inserted, candidates-inserted_other, candidates-removed, candidates-removed_other}
 
 -- Lists
-
-pub and_parts : (x y : Bool) → (x && y) ≡ true → (x ≡ true) × (y ≡ true)
-and_parts true true h = (refl, refl)
-and_parts true false h = absurd (both_ways false refl h)
-and_parts false y h = absurd (both_ways false refl h)
-
-swap_tests : (a b n : Bool) → ((a && n) && b) ≡ ((a && b) && n)
-swap_tests true true true = refl
-swap_tests true true false = refl
-swap_tests true false true = refl
-swap_tests true false false = refl
-swap_tests false b n = refl
 
 pub has-without_test : (t p : ℕ) (ss : List ℕ) → has t (without p ss) ≡ (has t ss && not (eqb t p))
 has-without_test t p [] = refl
@@ -32,7 +26,7 @@ has-without_test t p (s ∷ ss) = elim (cases_Bool (eqb s p)) [
   | inl e ↦ elim (cases_Bool (eqb t s)) [
     | inl f ↦
         let g : eqb t p ≡ true = subst (λ z. eqb z p ≡ true) (sym (eqb-true t s f)) e in
-        rw (e, f, g) (has-without_test t p ss ∙ rw g (false_and (has t ss)))
+        rw (e, f, g) (has-without_test t p ss ∙ rw g (and_false (has t ss)))
     | inr f ↦ rw (e, f) (has-without_test t p ss)
   ]
   | inr e ↦ elim (cases_Bool (eqb t s)) [
@@ -42,10 +36,6 @@ has-without_test t p (s ∷ ss) = elim (cases_Bool (eqb s p)) [
     | inr f ↦ rw (e, f) (has-without_test t p ss)
   ]
 ]
-  where
-    false_and : (b : Bool) → (b && false) ≡ false
-    false_and true = refl
-    false_and false = refl
 
 has-without_first : (t p : ℕ) (cs : List ℕ) → AllApart cs → has t (without_first (λ w. eqb w p) cs) ≡ (has t cs && not (eqb t p))
 has-without_first t p [] a = refl
@@ -57,7 +47,7 @@ has-without_first t p (c ∷ cs) a = elim (cases_Bool (eqb c p)) [
         rw (e, f, g, h) refl
     | inr f ↦
         let g : eqb t p ≡ false = subst (λ z. eqb t z ≡ false) (eqb-true c p e) f in
-        rw (e, f, g) (sym (true_and (has t cs)))
+        rw (e, f, g) (sym (and_true (has t cs)))
   ]
   | inr e ↦ elim (cases_Bool (eqb t c)) [
     | inl f ↦
@@ -66,10 +56,6 @@ has-without_first t p (c ∷ cs) a = elim (cases_Bool (eqb c p)) [
     | inr f ↦ rw (e, f) (has-without_first t p cs a.1)
   ]
 ]
-  where
-    true_and : (b : Bool) → (b && true) ≡ b
-    true_and true = refl
-    true_and false = refl
 
 AllApart-without_first : (p : ℕ) (cs : List ℕ) → AllApart cs → AllApart (without_first (λ w. eqb w p) cs)
 AllApart-without_first p [] a = tt
@@ -126,21 +112,21 @@ alike_parts index x y h =
 not_alike : (index : List (List (ℕ × ℕ))) (x y : ℕ) → is_alike index x y ≡ false → (home index x ≡ home index y) × (top x ≡ top y) → ⊥
 not_alike index x y h p = both_ways (is_alike index x y) h (rw (p.0, p.1, eqb_self (home index y), eqb_self (top y)) refl)
 
-module _ {K : Type 0} where
-  named-length : (index index' : List (List (ℕ × ℕ))) (keys : List (ℕ × K)) (x place : ℕ) → length index' ≡ length index → is_named index' keys x place ≡ is_named index keys x place
+module _ {K V : Type 0} where
+  named-length : (index index' : List (List (ℕ × ℕ))) (keys : List (Entry K V)) (x place : ℕ) → length index' ≡ length index → is_named index' keys x place ≡ is_named index keys x place
   named-length index index' keys x place e = ap (λ n. elim (hash_at keys place) [ None ↦ false | Some y ↦ (x % n == y % n) && (top x == top y) ]) e
 
-  named-as : (index : List (List (ℕ × ℕ))) (keys : List (ℕ × K)) (x place hash : ℕ) → hash_at keys place ≡ Some hash → is_named index keys x place ≡ is_alike index x hash
+  named-as : (index : List (List (ℕ × ℕ))) (keys : List (Entry K V)) (x place hash : ℕ) → hash_at keys place ≡ Some hash → is_named index keys x place ≡ is_alike index x hash
   named-as index keys x place hash at = ap (λ z. elim z [ None ↦ false | Some y ↦ is_alike index x y ]) at
 
-  pub named-own : (index : List (List (ℕ × ℕ))) (keys : List (ℕ × K)) (hash place : ℕ) → hash_at keys place ≡ Some hash → is_named index keys hash place ≡ true
+  pub named-own : (index : List (List (ℕ × ℕ))) (keys : List (Entry K V)) (hash place : ℕ) → hash_at keys place ≡ Some hash → is_named index keys hash place ≡ true
   named-own index keys hash place at = named-as index keys hash place hash at ∙ rw (eqb_self (home index hash), eqb_self (top hash)) refl
 
-  named-kept : (index : List (List (ℕ × ℕ))) (keys keys' : List (ℕ × K)) (x place : ℕ) → hash_at keys' place ≡ hash_at keys place → is_named index keys' x place ≡ is_named index keys x place
+  named-kept : (index : List (List (ℕ × ℕ))) (keys keys' : List (Entry K V)) (x place : ℕ) → hash_at keys' place ≡ hash_at keys place → is_named index keys' x place ≡ is_named index keys x place
   named-kept index keys keys' x place e = ap (λ z. elim z [ None ↦ false | Some y ↦ is_alike index x y ]) e
 
   -- a place that wasn't there is put in under a hash, which is that of the key that now stands there
-  module _ (index : List (List (ℕ × ℕ))) (keys keys' : List (ℕ × K)) (places : List ℕ) (place hash : ℕ) (i : IsIndex index keys places) (some : 0 < length index)
+  module _ (index : List (List (ℕ × ℕ))) (keys keys' : List (Entry K V)) (places : List ℕ) (place hash : ℕ) (i : IsIndex index keys places) (some : 0 < length index)
       (absent : has place places ≡ false) (same : (q : ℕ) → has q places ≡ true → hash_at keys' q ≡ hash_at keys q) (at : hash_at keys' place ≡ Some hash) where
     still_named : (x q : ℕ) → (has q places && is_named index keys x q) ≡ (has q places && is_named (inserted index hash place) keys' x q)
     still_named x q = elim (cases_Bool (has q places)) [
@@ -158,7 +144,7 @@ module _ {K : Type 0} where
             | inl e ↦
                 let n : is_named (inserted index hash place) keys' x q ≡ true = ap (λ z. is_named (inserted index hash place) keys' x z) (eqb-true q place e) ∙ named-length index (inserted index hash place) keys' x place (length-put index hash place) ∙ named-as index keys' x place hash at ∙ a in
                 met ∙ rw (e, n) (or_true (has q (candidates index x)))
-            | inr e ↦ met ∙ rw e (or_none (has q (candidates index x)) ∙ i.listed x q ∙ still_named x q)
+            | inr e ↦ met ∙ rw e (or_false (has q (candidates index x)) ∙ i.listed x q ∙ still_named x q)
           ]
       | inr a ↦
           let cs = candidates-inserted_other index hash x place some (not_alike index x hash a) in
@@ -170,14 +156,6 @@ module _ {K : Type 0} where
             | inr e ↦ still_named x q ∙ rw e refl
           ]
     ]
-      where
-        or_true : (b : Bool) → (b || true) ≡ true
-        or_true true = refl
-        or_true false = refl
-
-        or_none : (b : Bool) → (b || false) ≡ b
-        or_none true = refl
-        or_none false = refl
 
     pub IsIndex-put : IsIndex (inserted index hash place) keys' (place ∷ places)
     IsIndex-put = record {
@@ -194,7 +172,7 @@ module _ {K : Type 0} where
     }
 
   -- a place is taken out, if it was there
-  module _ (index : List (List (ℕ × ℕ))) (keys : List (ℕ × K)) (places : List ℕ) (place hash : ℕ) (i : IsIndex index keys places) (some : 0 < length index)
+  module _ (index : List (List (ℕ × ℕ))) (keys : List (Entry K V)) (places : List ℕ) (place hash : ℕ) (i : IsIndex index keys places) (some : 0 < length index)
       (apart : AllApart places) (at : hash_at keys place ≡ Some hash) where
     named-taken : (x q : ℕ) → is_named (removed eqb index hash place) keys x q ≡ is_named index keys x q
     named-taken x q = named-length index (removed eqb index hash place) keys x q (length-taken index hash place)
@@ -206,25 +184,15 @@ module _ {K : Type 0} where
           | inl a ↦
               let p = alike_parts index x hash a in
               ap (λ z. has q z) (candidates-removed eqb index hash x place some p.0 p.1) ∙ has-without_first q place (candidates index x) (i.once x)
-              ∙ ap (λ z. z && not (eqb q place)) (i.listed x q) ∙ swap_tests (has q places) (not (eqb q place)) (is_named index keys x q) ∙ sym right
+              ∙ ap (λ z. z && not (eqb q place)) (i.listed x q) ∙ and_swap (has q places) (is_named index keys x q) (not (eqb q place)) ∙ sym right
           | inr a ↦
               ap (λ z. has q z) (candidates-removed_other eqb index hash x place some (not_alike index x hash a)) ∙ i.listed x q ∙ elim (cases_Bool (eqb q place)) [
                 | inl e ↦
                     let n : is_named index keys x q ≡ false = ap (λ z. is_named index keys x z) (eqb-true q place e) ∙ named-as index keys x place hash at ∙ a in
-                    rw (e, n) (both_none (has q places) (has q places && false)) ∙ sym right
+                    rw (e, n) (and_false (has q places) ∙ sym (and_false (has q places && false))) ∙ sym right
                 | inr e ↦ rw e (ap (λ z. z && is_named index keys x q) (sym (and_true (has q places)))) ∙ sym right
               ]
         ]
-      where
-        both_none : (b d : Bool) → (b && false) ≡ (d && false)
-        both_none true true = refl
-        both_none true false = refl
-        both_none false true = refl
-        both_none false false = refl
-
-        and_true : (b : Bool) → (b && true) ≡ b
-        and_true true = refl
-        and_true false = refl
 
     pub taken-counted : total (removed eqb index hash place) + one_if (has place places) ≡ length places
     taken-counted =
@@ -233,10 +201,6 @@ module _ {K : Type 0} where
         let any : list_any test (listed index hash) ≡ has place places = any-candidate hash place (listed index hash) ∙ i.listed hash place ∙ rw named (and_true (has place places)) in
         let n : length (without_first test (listed index hash)) + one_if (has place places) ≡ count index hash = ap (λ z. length (without_first test (listed index hash)) + one_if z) (sym any) ∙ length-without_first test (listed index hash) in
         omega (arith, total-with_list index hash (without_first test (listed index hash)) some, n, i.counted)
-      where
-        and_true : (b : Bool) → (b && true) ≡ b
-        and_true true = refl
-        and_true false = refl
 
     length-left : length (without place places) + one_if (has place places) ≡ length places
     length-left = elim (cases_Bool (has place places)) [
@@ -255,3 +219,95 @@ module _ {K : Type 0} where
       ];
       counted = omega (arith, taken-counted, length-left);
     }
+
+  -- the same, of an index that may have no slots
+  pub IsIndex-removed : (index : List (List (ℕ × ℕ))) (keys : List (Entry K V)) (places : List ℕ) (place hash : ℕ) → IsIndex index keys places → AllApart places → hash_at keys place ≡ Some hash
+      → IsIndex (removed eqb index hash place) keys (without place places)
+  IsIndex-removed [] keys places place hash i apart at =
+      let none = empty places (sym i.counted) in
+      subst (λ z. IsIndex [] keys (without place z)) (sym none) (subst (λ z. IsIndex [] keys z) none i)
+    where
+      empty : (ps : List ℕ) → length ps ≡ 0 → ps ≡ []
+      empty [] e = refl
+      empty (p ∷ ps) e = absurd (omega arith)
+  IsIndex-removed (h ∷ hs) keys places place hash i apart at = IsIndex-taken (h ∷ hs) keys places place hash i (omega arith) apart at
+
+  -- the places in another order
+  pub IsIndex-turned : (index : List (List (ℕ × ℕ))) (keys : List (Entry K V)) (ps qs : List ℕ) → ((t : ℕ) → has t qs ≡ has t ps) → length qs ≡ length ps → IsIndex index keys ps → IsIndex index keys qs
+  IsIndex-turned index keys ps qs same as_many i = record {
+    listed = λ x t. i.listed x t ∙ ap (λ b. b && is_named index keys x t) (sym (same t));
+    once = i.once;
+    counted = i.counted ∙ sym as_many;
+  }
+
+  -- other keys at other places
+  pub IsIndex-kept : (index : List (List (ℕ × ℕ))) (keys keys' : List (Entry K V)) (places : List ℕ) → ((t : ℕ) → has t places ≡ true → hash_at keys' t ≡ hash_at keys t) → IsIndex index keys places → IsIndex index keys' places
+  IsIndex-kept index keys keys' places same i = record {
+    listed = λ x t. i.listed x t ∙ elim (cases_Bool (has t places)) [
+      | inl h ↦ rw h (sym (named-kept index keys keys' x t (same t h)))
+      | inr h ↦ rw h refl
+    ];
+    once = i.once;
+    counted = i.counted;
+  }
+
+  -- what a look-up yields is a place of the list that has a key
+  pub candidate_there : (index : List (List (ℕ × ℕ))) (keys : List (Entry K V)) (places : List ℕ) (x t : ℕ) → IsIndex index keys places → has t (candidates index x) ≡ true → (has t places ≡ true) × (t < length keys)
+  candidate_there index keys places x t i h =
+      let p = and_parts (has t places) (is_named index keys x t) (sym (i.listed x t) ∙ h) in
+      (p.0, named_in (hash_at keys t) refl p.1)
+    where
+      named_in : (o : Option ℕ) → hash_at keys t ≡ o → elim o [ None ↦ false | Some y ↦ is_alike index x y ] ≡ true → t < length keys
+      named_in None is e = absurd (both_ways false refl e)
+      named_in (Some y) is e = hash_in keys t y is
+
+  pub candidates_there : (index : List (List (ℕ × ℕ))) (keys : List (Entry K V)) (places : List ℕ) (x : ℕ) → IsIndex index keys places → AllByRecursion (λ t. t < length keys) (candidates index x)
+  candidates_there index keys places x i = all_from (candidates index x) (λ t h. (candidate_there index keys places x t i h).1)
+    where
+      all_from : (cs : List ℕ) → ((t : ℕ) → has t cs ≡ true → t < length keys) → AllByRecursion (λ t. t < length keys) cs
+      all_from [] h = tt
+      all_from (c ∷ cs) h = (h c (has_first c cs), all_from cs (λ t g. h t (has_later t c cs g)))
+
+-- Room in an index
+
+-- an index with twice the slots takes one more place, and stays at most half full
+pub room_in : (places limit m : ℕ) → places < limit → 2 * limit ≤ m → places < capacity m
+room_in places limit m h half = omega arith
+
+enough : (e k m : ℕ) → 16 ≤ m → e ≤ capacity m + k → e ≤ capacity (doubled_until e m k)
+enough e zero m l h = omega (arith, h)
+enough e (suc k) m l h = elim (leb_tells e (capacity m)) [
+  | inl q ↦ rw (q.0, doubled_until) q.1
+  | inr q ↦ rw (q.0, doubled_until) (enough e k (2 * m) (omega (arith, l)) (omega (arith, l, h, q.1)))
+]
+
+fits_new : (n : ℕ) → n ≤ capacity (length (made_for {H = ℕ} n))
+unfolding fit
+fits_new zero = omega arith
+fits_new (suc k) =
+    let e : length (made_for {H = ℕ} (suc k)) ≡ doubled_until (suc k) 16 (suc k) = length-replicate {A = List (ℕ × ℕ)} (fit (suc k)) [] in
+    rw e (enough (suc k) (suc k) 16 (omega arith) (omega arith))
+
+-- an index that is made for half as many again has twice the slots
+pub half_new : (limit : ℕ) → 2 * limit ≤ length (made_for {H = ℕ} (index_room limit))
+half_new limit = omega (arith, fits_new (index_room limit))
+
+none_read : {E : Type 0} (m i : ℕ) → get_or (no_entries {E = E} m) i [] ≡ []
+none_read zero i = refl
+none_read (suc m) zero = refl
+none_read (suc m) (suc i) = none_read m i
+
+none_new : (n x : ℕ) → candidates (made_for {H = ℕ} n) x ≡ []
+none_new zero x = refl
+none_new (suc k) x = ap (λ es. map {A = ℕ × ℕ} (λ e. e.1) (filter (λ e. e.0 == top x) es)) (none_read (fit (suc k)) (home (made_for {H = ℕ} (suc k)) x))
+
+total_new : (n : ℕ) → total (made_for {H = ℕ} n) ≡ 0
+total_new zero = refl
+total_new (suc k) = total-no_entries (λ (h : ℕ). h) (fit (suc k))
+
+pub IsIndex-new : {K V : Type 0} (n : ℕ) (keys : List (Entry K V)) → IsIndex (made_for n) keys []
+IsIndex-new n keys = record {
+  listed = λ x p. ap (λ z. has p z) (none_new n x);
+  once = λ x. subst (λ z. AllApart z) (sym (none_new n x)) tt;
+  counted = total_new n;
+}

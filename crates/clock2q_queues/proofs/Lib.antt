@@ -1,5 +1,9 @@
+pub mod Booleans
 pub mod Callers
+pub mod Emptying
+pub mod Entries
 pub mod Filling
+pub mod Forgetting
 pub mod Hand
 pub mod Hashed
 pub mod Histories
@@ -7,10 +11,12 @@ pub mod Hits
 pub mod Indexes
 pub mod Joining
 pub mod Leaving
+pub mod Lookups
 pub mod Main
+pub mod MakingPlaces
 pub mod Orders
-pub mod Places
 pub mod Records
+pub mod Remembering
 pub mod Resetting
 pub mod Rings
 pub mod Sharing

@@ -1,20 +1,40 @@
--- The keys of the history by place, each with its hash.
-use Rattle.std.specs.Prelude.{ℕ, zero, suc, Bool, false, List, [], ◌∷◌, slice_get, Option, Some, None}
+-- Keys by place, each with its hash and a value.
+use Rattle.std.specs.Prelude.{ℕ, zero, suc, Bool, false, cond, List, [], ◌∷◌, slice_get, slice_set, Option, Some, None}
+use Rattle.std.specs.List.{filter_map}
 use Rattle.std.specs.Coded.{Coded, code_by, coded×, coded_ℕ, coded_list}
+use Rattle.clock2q_queues.specs.declared.keys.cells.Entry.{Entry}
 use mathlib.Core.Path.{refl}
 
--- a hash and a key for each place that was used, how many places there is room for, and how often a key was written and asked about
-pub record KeyPlaces (K : Type 0) : Type 0 where
-  pub remembered : List (ℕ × K)
+abbrev pub entry : {K V : Type 0} → ℕ → K → V → Entry K V
+entry hash key value = record { hash = hash; key = key; value = value }
+
+abbrev pub entry_code : {K V : Type 0} → Coded K → Coded V → Coded (Entry K V)
+entry_code {K} {V} k v = code_by (ℕ × (K × V)) (coded× coded_ℕ (coded× k v)) (λ e. (e.hash, (e.key, e.value))) (λ p. entry p.0 p.1.0 p.1.1) (λ _. refl)
+
+-- the entries by place, how many there is room for, and how often a key was written
+pub record CellState (K V : Type 0) : Type 0 where
+  pub entries : List (Entry K V)
+  pub room : ℕ
+  pub writes : ℕ
+
+abbrev pub cell_state : {K V : Type 0} → List (Entry K V) → ℕ → ℕ → CellState K V
+cell_state entries room writes = record { entries = entries; room = room; writes = writes }
+
+abbrev pub cells_code : {K V : Type 0} → Coded K → Coded V → Coded (CellState K V)
+cells_code {K} {V} k v = code_by (List (Entry K V) × (ℕ × ℕ)) (coded× (coded_list (entry_code k v)) (coded× coded_ℕ coded_ℕ)) (λ c. (c.entries, (c.room, c.writes))) (λ p. cell_state p.0 p.1.0 p.1.1) (λ _. refl)
+
+-- the same, and how often a key was asked about
+pub record KeyPlaces (K V : Type 0) : Type 0 where
+  pub entries : List (Entry K V)
   pub room : ℕ
   pub writes : ℕ
   pub questions : ℕ
 
-abbrev pub key_places : {K : Type 0} → List (ℕ × K) → ℕ → ℕ → ℕ → KeyPlaces K
-key_places remembered room writes questions = record { remembered = remembered; room = room; writes = writes; questions = questions }
+abbrev pub key_places : {K V : Type 0} → List (Entry K V) → ℕ → ℕ → ℕ → KeyPlaces K V
+key_places entries room writes questions = record { entries = entries; room = room; writes = writes; questions = questions }
 
-abbrev pub keys_code : {K : Type 0} → Coded K → Coded (KeyPlaces K)
-keys_code {K} k = code_by (List (ℕ × K) × (ℕ × (ℕ × ℕ))) (coded× (coded_list (coded× coded_ℕ k)) (coded× coded_ℕ (coded× coded_ℕ coded_ℕ))) (λ p. (p.remembered, (p.room, (p.writes, p.questions)))) (λ q. key_places q.0 q.1.0 q.1.1.0 q.1.1.1) (λ _. refl)
+abbrev pub keys_code : {K V : Type 0} → Coded K → Coded V → Coded (KeyPlaces K V)
+keys_code {K} {V} k v = code_by (List (Entry K V) × (ℕ × (ℕ × ℕ))) (coded× (coded_list (entry_code k v)) (coded× coded_ℕ (coded× coded_ℕ coded_ℕ))) (λ p. (p.entries, (p.room, (p.writes, p.questions)))) (λ q. key_places q.0 q.1.0 q.1.1.0 q.1.1.1) (λ _. refl)
 
 module _ {E : Type 0} where
   -- an entry at a place: instead of the one that stands there, or as the next one
@@ -23,11 +43,40 @@ module _ {E : Type 0} where
   written zero e (x ∷ xs) = e ∷ xs
   written (suc place) e (x ∷ xs) = x ∷ written place e xs
 
-module _ {K : Type 0} where
-  -- whether this key stands at a place
-  abbrev pub is_key_at : (K → K → Bool) → K → List (ℕ × K) → ℕ → Bool
-  is_key_at eq key remembered place = elim (slice_get remembered place) [ None ↦ false | Some e ↦ eq key e.1 ]
+module _ {K V : Type 0} where
+  -- the hash of the key at a place, if one stands there
+  abbrev pub hash_at : List (Entry K V) → ℕ → Option ℕ
+  hash_at entries place = elim (slice_get entries place) [ None ↦ None | Some e ↦ Some e.hash ]
 
-  -- the hash of the key at a place, if one was ever put there
-  abbrev pub hash_at : List (ℕ × K) → ℕ → Option ℕ
-  hash_at remembered place = elim (slice_get remembered place) [ None ↦ None | Some e ↦ Some e.0 ]
+  -- the key at a place
+  abbrev pub key_at : List (Entry K V) → ℕ → Option K
+  key_at entries place = elim (slice_get entries place) [ None ↦ None | Some e ↦ Some e.key ]
+
+  -- the value at a place
+  abbrev pub value_at : List (Entry K V) → ℕ → Option V
+  value_at entries place = elim (slice_get entries place) [ None ↦ None | Some e ↦ Some e.value ]
+
+  -- the key at a place, with its hash in front
+  abbrev pub hashed_at : List (Entry K V) → ℕ → Option (ℕ × K)
+  hashed_at entries place = elim (slice_get entries place) [ None ↦ None | Some e ↦ Some (e.hash, e.key) ]
+
+  -- the keys at these places, in the places' order
+  abbrev pub entries_of : List (Entry K V) → List ℕ → List (ℕ × K)
+  entries_of entries places = filter_map (hashed_at entries) places
+
+  -- another key at that place, with its hash; the value stays
+  abbrev pub with_key : ℕ → ℕ → K → List (Entry K V) → List (Entry K V)
+  with_key place hash key entries = elim (slice_get entries place) [ None ↦ entries | Some e ↦ slice_set entries place (entry hash key e.value) ]
+
+  -- another value at that place; the key stays
+  abbrev pub with_value : ℕ → V → List (Entry K V) → List (Entry K V)
+  with_value place value entries = elim (slice_get entries place) [ None ↦ entries | Some e ↦ slice_set entries place (entry e.hash e.key value) ]
+
+  -- whether this key stands at a place
+  abbrev pub is_key_at : (K → K → Bool) → K → List (Entry K V) → ℕ → Bool
+  is_key_at eq key entries place = elim (slice_get entries place) [ None ↦ false | Some e ↦ eq key e.key ]
+
+-- how many of these places are asked: those up to the first that passes the test
+abbrev pub questions_of : (ℕ → Bool) → List ℕ → ℕ
+questions_of test [] = 0
+questions_of test (place ∷ places) = suc (cond (test place) 0 (questions_of test places))

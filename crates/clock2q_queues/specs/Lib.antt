@@ -7,5 +7,8 @@ pub mod Rings
 pub mod Small
 pub mod Queues
 pub mod Order
+pub mod Counts
 pub mod Keys
+pub mod KeysLends
+pub mod Indexes
 pub mod History

@@ -2,16 +2,17 @@
 ghost use Rattle.std.specs.Prelude.{◌≡◌, ℕ, ◌+◌, ◌^◌, ◌<◌, ◌≤◌, false, [], ◌∷◌, take, length, IfOk};
 ghost use Rattle.clock2q_handles.specs.Homes.{candidates};
 ghost use Rattle.clock2q_handles.specs.TableStep.{made_for};
+ghost use Rattle.clock2q_queues.specs.Counts.{RisesAtMost};
 ghost use Rattle.clock2q_queues.specs.Order.{IsWholeOrder, used};
-ghost use Rattle.clock2q_queues.specs.History.{IsIndex, IsWholeHistory, MakesPlace, Empties, remembered, is_remembered, forgotten, HasHash};
+ghost use Rattle.clock2q_queues.specs.Indexes.{IsIndex, HasHash, index_room};
+ghost use Rattle.clock2q_queues.specs.History.{IsWholeHistory, MakesPlace, remembered, is_remembered, forgotten};
 
-mod keys;
 mod order;
 #[cfg(test)]
 mod tests;
 
+use crate::keys::{Keys, index_room};
 use clock2q_handles::Table;
-use keys::Keys;
 use order::Order;
 use std::alloc::{AllocError, Allocator, Global};
 use std::marker::Model;
@@ -22,33 +23,34 @@ use std::marker::Model;
 /// The caller gives a key's hash with the key, the same each time. Where hashes are spread well, a
 /// call compares few keys and takes as long however many are remembered.
 #[derive(Drop)]
-pub struct History<K: Eq + Drop, A: Allocator = Global> {
-    index: Table<usize, A>,
+pub struct History<K: Eq, A: Allocator = Global> {
+    index: Table<u32, A>,
     order: Order<A>,
-    keys: Keys<K, A>,
+    keys: Keys<K, (), A>,
 }
 
-impl<K: Eq + Drop, A: Allocator> Model for History<K, A> {
-    ghost use Rattle.clock2q_queues.specs.History.{Remembered, remembered_code, remembered, entries_of, accesses_of, IsHistory};
+impl<K: Eq, A: Allocator> Model for History<K, A> {
+    ghost use Rattle.clock2q_queues.specs.Keys.{entries_of};
+    ghost use Rattle.clock2q_queues.specs.History.{Remembered, remembered_code, remembered, accesses_of, IsHistory};
 
     ghost Value = { Remembered K };
 
     ghost coded = { remembered_code K.code };
 
-    ghost view = { λ h. remembered (entries_of h.keys.remembered h.order.places) h.order.limit h.index.homes (accesses_of h.order h.keys) h.keys.questions };
+    ghost view = { λ h. remembered (entries_of h.keys.entries h.order.places) h.order.limit h.index.homes (accesses_of h.order h.keys) h.keys.questions };
 
     ghost invariant = { λ h. IsHistory K.eq h.index.homes h.order h.keys };
 }
 
-impl<K: Eq + Drop, A: Allocator + Copy> History<K, A> {
+impl<K: Eq, A: Allocator + Copy> History<K, A> {
     /// A history with no key, for so many. It takes all the memory that it will ever have.
     ///
     /// The error comes where a request for memory is refused; what was taken is given back.
     pub fn new(alloc: A, limit: usize) -> Result<Self, AllocError>
         requires short { limit < 2 ^ 24 }
-        ensures made { IfOk result (λ h. h ≡ remembered [] limit (made_for limit) 0 0) }
+        ensures made { IfOk result (λ h. h ≡ remembered [] limit (made_for (index_room limit)) 0 0) }
     {
-        let Ok(index) = Table::with_capacity(alloc, limit) else {
+        let Ok(index) = Table::with_capacity(alloc, index_room(limit)) else {
             return Err(AllocError);
         };
         Ok(History {
@@ -57,9 +59,21 @@ impl<K: Eq + Drop, A: Allocator + Copy> History<K, A> {
             keys: Keys::new(alloc, limit)?,
         })
     }
+}
+
+impl<K: Eq, A: Allocator> History<K, A> {
+    /// How many keys are remembered.
+    pub fn len(&self) -> usize
+        ensures len { result ≡ length self.now.entries }
+        ensures whole { IsWholeHistory K.eq self.now }
+    {
+        self.order.len()
+    }
 
     /// Puts a key in front. Where the history is full, the oldest key is forgotten.
     pub fn push(&mut self, hash: u64, key: K)
+    where
+        K: Drop,
         requires absent { is_remembered K.eq key self.old.entries ≡ false }
         ensures entries { self.new.entries ≡ take self.old.limit ((hash, key) ∷ self.old.entries) }
         ensures limit { self.new.limit ≡ self.old.limit }
@@ -70,19 +84,9 @@ impl<K: Eq + Drop, A: Allocator + Copy> History<K, A> {
             return;
         }
         let place = make_place(&mut self.index, &mut self.order, &self.keys);
-        self.keys.write(place, hash, key);
+        self.keys.write(place, hash, key, ());
         // (the index has room for every place, and too few for a run to be too long)
         let _ = self.index.insert_within_capacity(hash, place);
-    }
-}
-
-impl<K: Eq + Drop, A: Allocator> History<K, A> {
-    /// How many keys are remembered.
-    pub fn len(&self) -> usize
-        ensures len { result ≡ length self.now.entries }
-        ensures whole { IsWholeHistory K.eq self.now }
-    {
-        self.order.len()
     }
 
     /// Forgets a key, and tells whether it was remembered.
@@ -92,24 +96,26 @@ impl<K: Eq + Drop, A: Allocator> History<K, A> {
         ensures entries { self.new.entries ≡ forgotten K.eq key.now self.old.entries }
         ensures limit { self.new.limit ≡ self.old.limit }
         ensures accesses { self.new.accesses ≤ self.old.accesses + 12 }
-        ensures questions { self.new.questions ≤ self.old.questions + length (candidates self.old.index hash) }
+        ensures questions { RisesAtMost (length (candidates self.old.index hash)) self.old.questions self.new.questions }
     {
         let Some(place) = self.keys.find(self.index.get(hash), key) else {
             return false;
         };
         self.index.remove(hash, place);
-        self.order.unlink(place);
+        self.order.unlink(place as usize);
         true
     }
 
     /// Forgets every key. The cost is linear in the most keys that were remembered at a time.
     pub fn clear(&mut self)
+    where
+        K: Drop,
         ensures entries { self.new.entries ≡ [] }
         ensures limit { self.new.limit ≡ self.old.limit }
         ensures accesses { self.new.accesses ≡ self.old.accesses }
         ensures questions { self.new.questions ≡ self.old.questions }
     {
-        empty(&mut self.index, &self.keys);
+        self.keys.unindex(&mut self.index);
         self.order.clear();
         self.keys.clear();
     }
@@ -117,32 +123,22 @@ impl<K: Eq + Drop, A: Allocator> History<K, A> {
 
 // Puts a place in front for a new key: where every place has one, that of the oldest key, which
 // goes out of the index.
-fn make_place<K: Drop, A: Allocator>(
-    index: &mut Table<usize, A>,
+fn make_place<K, V, A: Allocator>(
+    index: &mut Table<u32, A>,
     order: &mut Order<A>,
-    keys: &Keys<K, A>,
-) -> usize
-    requires indexed { IsIndex index.old.homes keys.now.remembered order.old.places }
-    requires as_many { length keys.now.remembered ≡ used order.old }
+    keys: &Keys<K, V, A>,
+) -> u32
+    requires indexed { IsIndex index.old.homes keys.now.entries order.old.places }
+    requires as_many { length keys.now.entries ≡ used order.old }
     requires some { 0 < order.old.limit }
-    requires slots { 0 < length index.old.homes }
-    ensures made { MakesPlace index.old.homes index.new.homes order.old order.new keys.now.remembered result }
+    requires short { order.old.limit < 2 ^ 24 }
+    ensures made { MakesPlace index.old.homes index.new.homes order.old order.new keys.now.entries result }
     ensures whole { IsWholeOrder order.new }
 {
     if order.len() < order.limit() {
-        return order.push();
+        return order.push() as u32;
     }
-    let place = order.reuse_oldest();
+    let place = order.reuse_oldest() as u32;
     index.remove(keys.hash(place), place);
     place
-}
-
-// Takes every key out of the index.
-fn empty<K: Drop, A: Allocator>(index: &mut Table<usize, A>, keys: &Keys<K, A>)
-    requires slots { 0 < length keys.now.remembered → 0 < length index.old.homes }
-    ensures emptied { Empties index.old.homes index.new.homes keys.now.remembered (length keys.now.remembered) }
-{
-    for place in 0..keys.len() {
-        index.remove(keys.hash(place), place);
-    }
 }

@@ -52,7 +52,7 @@ fn call(history: &mut History<u64>, key: u64, hashes: u64, drawn: u64) -> Option
 }
 
 /// The place that the index has under a hash that one key alone has.
-fn place_of(history: &History<u64>, hash: u64) -> Option<usize> {
+fn place_of(history: &History<u64>, hash: u64) -> Option<u32> {
     history.index.get(hash).next()
 }
 

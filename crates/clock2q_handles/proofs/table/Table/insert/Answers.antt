@@ -17,7 +17,7 @@ returns-clause-writes g c room =
     subst (λ t. WritesAtMost (run t.slots c.args.hash + 1) t c.insert_within_capacity.new.self) (c.in_ok-make_room.ensures.kept room).1 c.insert_within_capacity.ensures.writes
 
 pub returns-clause-asks : goal.returns-clause-asks
-returns-clause-asks g c _ full key gives = c.in_ok-make_room.ensures.asks full key gives
+returns-clause-asks g c _ full = (_, c.in_ok-make_room.ensures.asks full)
 
 pub returns-clause-restores : goal.returns-clause-restores
 returns-clause-restores g c room =

@@ -77,6 +77,15 @@ returns-in_err-insert_within_capacity-clause-only g c =
     absurd (step_short c.args.self.now.homes c.self.inside.slots.slots c.self.inside.len c.args.count c.loop-slot.slot at c.handle-handle.result (holds g before.After-handle-handle)
     asked.0 asked.1.hashes c.loop-slot.table.homes (c.loop-slot.invariant.built asked.0 asked.1.answers asked.1.hashes) c.rehash-hash.result given c.requires.fits c.requires.multiple c.in_err-insert_within_capacity.ensures.put.2)
 
+pub returns-in_err-insert_within_capacity-clause-unasked : goal.returns-in_err-insert_within_capacity-clause-unasked
+returns-in_err-insert_within_capacity-clause-unasked g c =
+    let before = goal.at.returns-in_err-insert_within_capacity-clause-unasked g c in
+    let at = come g before.After-is_empty in
+    let asked = c.requires.asked in
+    let given = answered g before.After-rehash-hash (held g before.After-handle-handle at) in
+    absurd (step_short c.args.self.now.homes c.self.inside.slots.slots c.self.inside.len c.args.count c.loop-slot.slot at c.handle-handle.result (holds g before.After-handle-handle)
+    asked.0 asked.1.hashes c.loop-slot.table.homes (c.loop-slot.invariant.built asked.0 asked.1.answers asked.1.hashes) c.rehash-hash.result given c.requires.fits c.requires.multiple c.in_err-insert_within_capacity.ensures.put.2)
+
 pub loop-slot-preserved : goal.loop-slot-preserved
 loop-slot-preserved g c =
     let slots = c.self.inside.slots.slots in
@@ -94,8 +103,8 @@ loop-slot-preserved g c =
           record {
             reached = (
               reached.0 ++ v ∷ [],
-              subst (λ f. Reaches g.F.FnMut held_is c.args.rehash (reached.0 ++ v ∷ []) f) (sym w.rehash-is)
-                  (Reaches-push g.F.FnMut held_is c.args.rehash reached.0 c.loop-slot.rehash v w.rehash-hash.result w.rehash-hash.new.self reached.1 held w.rehash-hash.ensures),
+              subst (λ f. Reaches g.F.FnMut held_is c.args.rehash.now (reached.0 ++ v ∷ []) f) (sym w.rehash-is)
+                  (Reaches-push g.F.FnMut held_is c.args.rehash.now reached.0 c.loop-slot.rehash v w.rehash-hash.result w.rehash-hash.new.self reached.1 held w.rehash-hash.ensures),
             );
             laid = subst IsLaidOut (sym w.table-is) w.in_ok-insert_within_capacity.ensures.laid;
             built = λ key answers hashes.
@@ -106,20 +115,20 @@ loop-slot-preserved g c =
                 let answered = answers.answers reached.0 c.loop-slot.rehash v w.rehash-hash.result _ reached.1 held w.rehash-hash.ensures in
                 let called = subst (λ r. Called g.F.FnMut c.loop-slot.rehash (v, tt) r w.rehash-hash.new.self) answered w.rehash-hash.ensures in
                 let more = handles_more c.args.self.now.homes slots c.self.inside.len c.args.count c.loop-slot.slot at v entry in
-                let pushed = Asks-push g.F.FnMut key c.args.rehash _ c.loop-slot.rehash v w.rehash-hash.new.self (c.loop-slot.invariant.asked key answers hashes) called in
-                subst (λ f. Asks g.F.FnMut key c.args.rehash (map (λ s. s.entry.1) (entries (take (c.loop-slot.slot + 1) slots))) f) (sym w.rehash-is)
-                (subst (λ hs. Asks g.F.FnMut key c.args.rehash hs w.rehash-hash.new.self) (sym more) pushed);
+                let pushed = Asks-push g.F.FnMut key c.args.rehash.now _ c.loop-slot.rehash v w.rehash-hash.new.self (c.loop-slot.invariant.asked key answers hashes) called in
+                subst (λ f. Asks g.F.FnMut key c.args.rehash.now (map (λ s. s.entry.1) (entries (take (c.loop-slot.slot + 1) slots))) f) (sym w.rehash-is)
+                (subst (λ hs. Asks g.F.FnMut key c.args.rehash.now hs w.rehash-hash.new.self) (sym more) pushed);
           }
       | else-not-is_empty w ↦
           let empty = vacant_told _ (slot_at slots (0 + c.loop-slot.slot)) (c.is_empty.ensures.0 w.if-not-is_empty.false) c.metadata.ensures.told in
           let none = handles_empty c.args.self.now.homes slots c.self.inside.len c.args.count c.loop-slot.slot at empty in
           record {
-            reached = (c.loop-slot.invariant.reached.0, subst (λ f. Reaches g.F.FnMut (IsHeld c.args.self.now.homes) c.args.rehash c.loop-slot.invariant.reached.0 f) (sym w.rehash-is) c.loop-slot.invariant.reached.1);
+            reached = (c.loop-slot.invariant.reached.0, subst (λ f. Reaches g.F.FnMut (IsHeld c.args.self.now.homes) c.args.rehash.now c.loop-slot.invariant.reached.0 f) (sym w.rehash-is) c.loop-slot.invariant.reached.1);
             laid = subst IsLaidOut (sym w.table-is) c.loop-slot.invariant.laid;
             built = λ key answers hashes. ap (λ t. t.homes) w.table-is ∙ step_empty c.args.self.now.homes slots c.self.inside.len c.args.count c.loop-slot.slot at key c.loop-slot.table.homes empty (c.loop-slot.invariant.built key answers hashes);
             asked = λ key answers hashes.
-                subst (λ f. Asks g.F.FnMut key c.args.rehash (map (λ s. s.entry.1) (entries (take (c.loop-slot.slot + 1) slots))) f) (sym w.rehash-is)
-                (subst (λ hs. Asks g.F.FnMut key c.args.rehash hs c.loop-slot.rehash) (sym none) (c.loop-slot.invariant.asked key answers hashes));
+                subst (λ f. Asks g.F.FnMut key c.args.rehash.now (map (λ s. s.entry.1) (entries (take (c.loop-slot.slot + 1) slots))) f) (sym w.rehash-is)
+                (subst (λ hs. Asks g.F.FnMut key c.args.rehash.now hs c.loop-slot.rehash) (sym none) (c.loop-slot.invariant.asked key answers hashes));
           }
     ]
 
@@ -137,4 +146,4 @@ returns-clause-asks g c key gives =
     let all : c.loop-slot.slot ≡ length slots = omega (arith, c.loop-slot-test.false, c.loop-slot.auto.slot-end, c.count-slot-end.ensures.count) in
     let list : map (λ s. s.entry.1) (entries (take c.loop-slot.slot slots)) ≡ held_handles c.args.self.now.homes =
     ap (λ n. map (λ s. s.entry.1) (entries (take n slots))) all ∙ ap (map (λ s. s.entry.1)) (entries-all slots) ∙ ap (λ s. map (λ s. s.entry.1) (entries s)) (tidy-layout slots c.self.invariant.tidy) ∙ ap (λ t. held_handles t.homes) c.self.view_is in
-    (c.loop-slot.rehash, subst (λ hs. Asks g.F.FnMut key c.args.rehash hs c.loop-slot.rehash) list (c.loop-slot.invariant.asked key gives.answers gives.hashes))
+    subst (λ hs. Asks g.F.FnMut key c.args.rehash.now hs c.loop-slot.rehash) list (c.loop-slot.invariant.asked key gives.answers gives.hashes)

@@ -36,7 +36,7 @@ pub returns-in_default-slots_for-clause-laid : goal.returns-in_default-slots_for
 returns-in_default-slots_for-clause-laid g c = whole_laid _ c.len.ensures.whole
 
 pub rebuilt-requires-clause-multiple : goal.rebuilt-requires-clause-multiple
-rebuilt-requires-clause-multiple g c = multiple g c
+rebuilt-requires-clause-multiple g c = multiple g (goal.at.rebuilt-requires-clause-multiple g c).In-Some-slots_for
 
 pub returns-in_err-self-clause-laid : goal.returns-in_err-self-clause-laid
 returns-in_err-self-clause-laid g c = whole_laid _ c.len.ensures.whole

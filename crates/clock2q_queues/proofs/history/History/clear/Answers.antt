@@ -7,5 +7,5 @@ pub invariant_of-self : goal.invariant_of-self
 invariant_of-self g c =
     let i = c.self.inside in
     let e = c.clear.ensures in
-    IsHistory-cleared g.K.PartialEq.eq i.index.homes c.empty.new.index.homes i.order c.clear.new.self i.keys c.clear-2.new.self c.self.invariant c.empty.ensures.emptied
-    e.whole e.places e.free e.limit (ap (λ (z : KeyPlaces _). z.remembered) c.clear-2.ensures) (ap (λ (z : KeyPlaces _). z.room) c.clear-2.ensures)
+    IsHistory-cleared g.K.PartialEq.eq i.index.homes c.unindex.new.index.homes i.order c.clear.new.self i.keys c.clear-2.new.self c.self.invariant c.unindex.ensures.emptied
+    e.whole e.places e.free e.limit (ap (λ (z : KeyPlaces _ _). z.entries) c.clear-2.ensures.cleared) (ap (λ (z : KeyPlaces _ _). z.room) c.clear-2.ensures.cleared)

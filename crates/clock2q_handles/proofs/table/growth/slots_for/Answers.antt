@@ -4,7 +4,7 @@ use Rattle.std.specs.Int.{IsNextPowerOfTwo}
 use Rattle.clock2q_handles.specs.TableStep.{fit}
 use Rattle.clock2q_handles.specs.Slots.{IsSlotCount}
 use Rattle.clock2q_handles.proofs.Fit.{fit_from_power, fit_enough, slot_count_from_power}
-use Rattle.clock2q_handles.proofs.table.slots_for.Goals as goal
+use Rattle.clock2q_handles.proofs.table.growth.slots_for.Goals as goal
 
 pub returns-in_default-clause-count : goal.returns-in_default-clause-count
 returns-in_default-clause-count c =

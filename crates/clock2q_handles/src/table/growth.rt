@@ -1,0 +1,142 @@
+//! Growth of a table: how many slots it gets, and its entries laid out in them anew.
+ghost use Rattle.clock2q_handles.specs.Changes.{IsLaidOut, IsNearer};
+ghost use Rattle.clock2q_handles.specs.Homes.{capacity, total};
+ghost use Rattle.clock2q_handles.specs.Rehash.{GivesHashes, HashesKnown, AsksHeld, AfterGrowth};
+ghost use Rattle.clock2q_handles.specs.Slots.{IsSlotCount};
+ghost use Rattle.clock2q_handles.specs.TableStep.{fit, rebuilt, doubled, reserved, IsBelowCapacity, IsFull, IsShortOf, IsPastSize};
+ghost use Rattle.std.specs.Prelude.{◌≡◌, ◌≢◌, Err, ◌*◌, ◌^◌, ◌<◌, ◌≤◌, ◌+◌, ◌↔◌, ℕ, IsOk, IsOkUnless, OnOk, OnErr, IfOk, IfSome, MatchOption, length};
+
+use crate::error::TableError;
+use crate::slots::Slots;
+use crate::table::Table;
+use std::alloc::Allocator;
+
+/// The least number of slots.
+const MIN_SLOTS: usize = 16;
+
+/// Returns the least slot count in which `entries` entries fit, if it can be counted.
+pub(super) fn slots_for(entries: usize) -> Option<usize>
+    ensures count { MatchOption result (2 ^ 64 ≤ fit entries) (λ count. count ≡ fit entries) }
+    ensures power { IfSome result IsSlotCount }
+    ensures enough { IfSome result (λ count. entries ≤ capacity count) }
+{
+    let quarter = entries.div_ceil(3).checked_next_power_of_two()?;
+    let Some(count) = quarter.checked_mul(4) else {
+        return None;
+    };
+    Some(count.max(MIN_SLOTS))
+}
+
+impl<H: Copy + Eq + Default, A: Allocator + Copy> Table<H, A> {
+    /// Makes room for `additional` more entries, so that inserting them doesn't grow the table.
+    /// Where it has to grow for that, `rehash` is called once on each held handle, in the order of
+    /// their slots, for the hash that it was inserted under.
+    ///
+    /// # Errors
+    ///
+    /// `Size` where the entries or their slots are too many to count, and `Memory` where there is
+    /// no memory for the slots. The table is unchanged.
+    pub fn reserve<F: FnMut(H) -> u64>(
+        &mut self,
+        additional: usize,
+        mut rehash: F,
+    ) -> Result<(), TableError>
+        requires rehash { IsShortOf self.old.homes additional → HashesKnown F.FnMut rehash self.old.homes }
+        ensures reserved { OnOk result ((key : H → ℕ) → (IsShortOf self.old.homes additional → GivesHashes F.FnMut key self.old.homes rehash) → self.new.homes ≡ reserved key self.old.homes additional) }
+
+        // Where there is room already, nothing changes.
+        ensures kept { total self.old.homes + additional ≤ capacity (length self.old.homes) → total self.old.homes + additional < 2 ^ 64 → IsOk result × (self.new ≡ self.old) }
+        ensures asks { OnOk result (IsShortOf self.old.homes additional → (last : F) × AsksHeld F.FnMut rehash self.old.homes last) }
+        ensures size { result ≡ Err TableError.Size ↔ IsPastSize self.old.homes additional }
+        ensures memory { result ≡ Err TableError.Memory → IsShortOf self.old.homes additional }
+        ensures only { result ≢ Err TableError.RunTooLong }
+        ensures refused { OnErr result (self.new ≡ self.old) }
+        ensures laid { IsLaidOut self.new }
+
+        // No home's entries reach further past it than they did.
+        ensures nearer { IsNearer self.old.homes self.new.homes }
+    {
+        let Some(entries) = self.len().checked_add(additional) else {
+            return Err(TableError::Size);
+        };
+        if entries <= self.capacity() {
+            return Ok(());
+        }
+        let Some(count) = slots_for(entries) else {
+            return Err(TableError::Size);
+        };
+        *self = self.rebuilt(count, &mut rehash)?;
+        Ok(())
+    }
+
+    /// Makes room for one more entry: a full table grows.
+    pub(super) fn make_room<F: FnMut(H) -> u64>(&mut self, rehash: &mut F) -> Result<(), TableError>
+        requires rehash { IsFull self.old.homes → HashesKnown F.FnMut rehash.old self.old.homes }
+        ensures grown { OnOk result (AfterGrowth F.FnMut rehash.old self.old.homes (λ homes. self.new.homes ≡ homes)) }
+        ensures room { OnOk result (IsBelowCapacity self.new.homes) }
+        ensures kept { IsBelowCapacity self.old.homes → IsOk result × (self.new ≡ self.old) }
+        ensures asks { OnOk result (IsFull self.old.homes → AsksHeld F.FnMut rehash.old self.old.homes rehash.new) }
+        ensures quiet { IsBelowCapacity self.old.homes → rehash.new ≡ rehash.old }
+        ensures full { OnErr result (IsFull self.old.homes) }
+        ensures refused { OnErr result (self.new ≡ self.old) }
+        ensures unasked { OnErr result (rehash.new ≡ rehash.old) }
+        ensures as_many { total self.new.homes ≡ total self.old.homes }
+        ensures only { IsOkUnless result TableError.Memory }
+        ensures laid { IsLaidOut self.new }
+        ensures nearer { AfterGrowth F.FnMut rehash.old self.old.homes (IsNearer self.old.homes) }
+    {
+        if self.len() == self.capacity() {
+            return self.grow(rehash);
+        }
+        Ok(())
+    }
+
+    /// Rebuilds a full table in twice the slots, or in the least count of them.
+    fn grow<F: FnMut(H) -> u64>(&mut self, rehash: &mut F) -> Result<(), TableError>
+        requires full { IsFull self.old.homes }
+        requires asked { HashesKnown F.FnMut rehash.old self.old.homes }
+        ensures grown { OnOk result ((key : H → ℕ) → GivesHashes F.FnMut key self.old.homes rehash.old → self.new.homes ≡ rebuilt key (doubled (length self.old.homes)) self.old.homes) }
+        ensures room { OnOk result (IsBelowCapacity self.new.homes) }
+        ensures asks { OnOk result (AsksHeld F.FnMut rehash.old self.old.homes rehash.new) }
+        ensures refused { OnErr result (self.new ≡ self.old) }
+        ensures unasked { OnErr result (rehash.new ≡ rehash.old) }
+        ensures as_many { total self.new.homes ≡ total self.old.homes }
+        ensures only { IsOkUnless result TableError.Memory }
+        ensures laid { IsLaidOut self.new }
+    {
+        let count = (self.slots.count() * 2).max(MIN_SLOTS);
+        *self = self.rebuilt(count, rehash)?;
+        Ok(())
+    }
+
+    /// Returns a table of the same entries in `count` slots, each under the hash that `rehash`
+    /// gives its handle.
+    fn rebuilt<F: FnMut(H) -> u64>(
+        &self,
+        count: usize,
+        rehash: &mut F,
+    ) -> Result<Table<H, A>, TableError>
+        requires count { IsSlotCount count }
+        requires fits { total self.now.homes ≤ capacity count }
+        requires multiple { 0 < length self.now.homes → (k : ℕ) × (count ≡ k * length self.now.homes) }
+        requires asked { HashesKnown F.FnMut rehash.old self.now.homes }
+        ensures made { IfOk result (λ t. (key : H → ℕ) → GivesHashes F.FnMut key self.now.homes rehash.old → t.homes ≡ rebuilt key count self.now.homes) }
+        ensures asks { OnOk result (AsksHeld F.FnMut rehash.old self.now.homes rehash.new) }
+        ensures unasked { OnErr result (rehash.new ≡ rehash.old) }
+        ensures laid { IfOk result IsLaidOut }
+        ensures only { IsOkUnless result TableError.Memory }
+    {
+        let Ok(slots) = Slots::with_count(self.slots.allocator(), count) else {
+            return Err(TableError::Memory);
+        };
+        let mut table = Table { slots, len: 0 };
+        for slot in 0..self.slots.count() {
+            if !self.slots.metadata(0, slot).is_empty() {
+                let handle = self.slots.handle(0, slot);
+                let hash = rehash(handle);
+                table.insert_within_capacity(hash, handle)?;
+            }
+        }
+        Ok(table)
+    }
+}

@@ -1,0 +1,131 @@
+-- A key forgotten by the history.
+use Rattle.std.proofs.Common.{◌≡◌, ℕ, suc, ◌+◌, ◌^◌, ◌<◌, ◌≤◌, Bool, true, false, eqb, Option, Some, None, slice_get, List, [], ◌∷◌, length, inl, inr, refl, sym, ap, ◌∙◌, subst, arith}
+use Rattle.std.specs.List.{cons_option, find}
+use Rattle.std.specs.Cmp.{IsEquivalence}
+use Rattle.std.proofs.lemmas.Bool.{both_ways, cases_Bool, eqb-true}
+use Rattle.clock2q_handles.specs.Homes.{candidates, removed}
+use Rattle.clock2q_queues.specs.declared.keys.cells.Entry.{Entry}
+use Rattle.clock2q_queues.specs.Rings.{has, without}
+use Rattle.clock2q_queues.specs.Order.{PlaceOrder, IsWholeOrder, used}
+use Rattle.clock2q_queues.specs.Keys.{KeyPlaces, hashed_at, entries_of, is_key_at}
+use Rattle.clock2q_queues.specs.Indexes.{IsIndex, AllDistinct, HasHash, has_key}
+use Rattle.clock2q_queues.specs.History.{IsHistory, forgotten}
+use Rattle.clock2q_queues.proofs.Rings.{or_parts, or_neither, has_first, has_later, AllApart-left}
+use Rattle.clock2q_queues.proofs.Joining.{length-without}
+use Rattle.clock2q_queues.proofs.Entries.{key_there, any_entry, same_place}
+use Rattle.clock2q_queues.proofs.Indexes.{length-taken, IsIndex-removed}
+use Rattle.clock2q_queues.proofs.Lookups.{found_there, not_found, look-up, hash_there}
+
+module _ {K : Type 0} (eq : K → K → Bool) where
+  -- whether an entry, if there is one, has this key
+  abbrev pub is_of : K → Option (ℕ × K) → Bool
+  is_of key o = elim o [ None ↦ false | Some e ↦ eq key e.1 ]
+
+  pub is_of-at : {V : Type 0} (key : K) (keys : List (Entry K V)) (p : ℕ) → is_of key (hashed_at keys p) ≡ is_key_at eq key keys p
+  is_of-at key keys p = of (slice_get keys p)
+    where
+      of : {V : Type 0} (o : Option (Entry K V)) → is_of key (elim o [ None ↦ None | Some e ↦ Some (e.hash, e.key) ]) ≡ elim o [ None ↦ false | Some e ↦ eq key e.key ]
+      of None = refl
+      of (Some e) = refl
+
+  forgotten_kept : (key : K) (o : Option (ℕ × K)) (es : List (ℕ × K)) → is_of key o ≡ false → forgotten eq key (cons_option o es) ≡ cons_option o (forgotten eq key es)
+  forgotten_kept key None es h = refl
+  forgotten_kept key (Some e) es h = rw h refl
+
+  forgotten_gone : (key : K) (o : Option (ℕ × K)) (es : List (ℕ × K)) → is_of key o ≡ true → forgotten eq key (cons_option o es) ≡ forgotten eq key es
+  forgotten_gone key None es h = absurd (both_ways false refl h)
+  forgotten_gone key (Some e) es h = rw h refl
+
+  any_none : (key : K) (o : Option (ℕ × K)) (es : List (ℕ × K)) → is_of key o ≡ false → has_key eq key es ≡ false → has_key eq key (cons_option o es) ≡ false
+  any_none key None es h r = r
+  any_none key (Some e) es h r = or_neither (eq key e.1) (has_key eq key es) h r
+
+  key_absent-forgotten : (x key : K) (es : List (ℕ × K)) → has_key eq x es ≡ false → has_key eq x (forgotten eq key es) ≡ false
+  key_absent-forgotten x key [] h = refl
+  key_absent-forgotten x key (e ∷ es) h =
+      let p = or_parts (eq x e.1) (has_key eq x es) h in
+      elim (cases_Bool (eq key e.1)) [
+        | inl k ↦ rw k (key_absent-forgotten x key es p.1)
+        | inr k ↦ rw k (or_neither (eq x e.1) (has_key eq x (forgotten eq key es)) p.0 (key_absent-forgotten x key es p.1))
+      ]
+
+  distinct-forgotten : (key : K) (es : List (ℕ × K)) → AllDistinct eq es → AllDistinct eq (forgotten eq key es)
+  distinct-forgotten key [] d = tt
+  distinct-forgotten key (e ∷ es) d = elim (cases_Bool (eq key e.1)) [
+    | inl k ↦ rw k (distinct-forgotten key es d.1)
+    | inr k ↦ rw k ((key_absent-forgotten e.1 key es d.0, distinct-forgotten key es d.1))
+  ]
+
+module _ {K V : Type 0} (eq : K → K → Bool) where
+  -- the one place that has the key is removed
+  forgets_one : (key : K) (keys : List (Entry K V)) (p : ℕ) (ps : List ℕ) → is_key_at eq key keys p ≡ true → ((t : ℕ) → has t ps ≡ true → eqb t p ≡ false → is_key_at eq key keys t ≡ false)
+      → entries_of keys (without p ps) ≡ forgotten eq key (entries_of keys ps)
+  forgets_one key keys p [] k h = refl
+  forgets_one key keys p (q ∷ ps) k h =
+      let rest = forgets_one key keys p ps k (λ t g d. h t (has_later t q ps g) d) in
+      elim (cases_Bool (eqb q p)) [
+        | inl e ↦ rw e (rest ∙ sym (forgotten_gone eq key (hashed_at keys q) (entries_of keys ps) (is_of-at eq key keys q ∙ subst (λ z. is_key_at eq key keys z ≡ true) (sym (eqb-true q p e)) k)))
+        | inr e ↦ rw e (ap (λ z. cons_option (hashed_at keys q) z) rest ∙ sym (forgotten_kept eq key (hashed_at keys q) (entries_of keys ps) (is_of-at eq key keys q ∙ h q (has_first q ps) e)))
+      ]
+
+  -- no place has the key
+  forgets_none : (key : K) (keys : List (Entry K V)) (ps : List ℕ) → ((t : ℕ) → has t ps ≡ true → is_key_at eq key keys t ≡ false)
+      → (has_key eq key (entries_of keys ps) ≡ false) × (forgotten eq key (entries_of keys ps) ≡ entries_of keys ps)
+  forgets_none key keys [] h = (refl, refl)
+  forgets_none key keys (p ∷ ps) h =
+      let rest = forgets_none key keys ps (λ t g. h t (has_later t p ps g)) in
+      let this = is_of-at eq key keys p ∙ h p (has_first p ps) in
+      (any_none eq key (hashed_at keys p) (entries_of keys ps) this rest.0, forgotten_kept eq key (hashed_at keys p) (entries_of keys ps) this ∙ ap (λ z. cons_option (hashed_at keys p) z) rest.1)
+
+  -- a key was forgotten that was there
+  pub record Forgets (key : K) (order : PlaceOrder) (keys : KeyPlaces K V) (index' : List (List (ℕ × ℕ))) (order' : PlaceOrder) (keys' : KeyPlaces K V) : Type 0 where
+    pub whole : IsHistory eq index' order' keys'
+    pub entries : entries_of keys'.entries order'.places ≡ forgotten eq key (entries_of keys.entries order.places)
+    pub found : has_key eq key (entries_of keys.entries order.places) ≡ true
+
+  module _ (laws : IsEquivalence eq) (hash : ℕ) (key : K) (index : List (List (ℕ × ℕ))) (order : PlaceOrder) (keys : KeyPlaces K V) (h : IsHistory eq index order keys)
+      (hashed : HasHash eq hash key (entries_of keys.entries order.places)) where
+    looked : find (is_key_at eq key keys.entries) (candidates index hash) ≡ find (is_key_at eq key keys.entries) order.places
+    looked = look-up eq hash key index keys.entries order.places h.indexed hashed laws h.distinct
+
+    -- a key that isn't found isn't remembered
+    pub missed : None ≡ find (is_key_at eq key keys.entries) (candidates index hash)
+        → (has_key eq key (entries_of keys.entries order.places) ≡ false) × (forgotten eq key (entries_of keys.entries order.places) ≡ entries_of keys.entries order.places)
+    missed none = forgets_none key keys.entries order.places (not_found (is_key_at eq key keys.entries) order.places (none ∙ looked))
+
+    module _ (place : ℕ) (found : Some place ≡ find (is_key_at eq key keys.entries) (candidates index hash)) where
+      there : (has place order.places ≡ true) × (is_key_at eq key keys.entries place ≡ true)
+      there = found_there (is_key_at eq key keys.entries) order.places place (found ∙ looked)
+
+      pub place_there : has place order.places ≡ true
+      place_there = there.0
+
+      others_differ : (t : ℕ) → has t order.places ≡ true → eqb t place ≡ false → is_key_at eq key keys.entries t ≡ false
+      others_differ t g d = elim (cases_Bool (is_key_at eq key keys.entries t)) [
+        | inl k ↦ absurd (both_ways (eqb t place) d (same_place eq laws key keys.entries order.places h.distinct t place g there.0 k there.1))
+        | inr k ↦ k
+      ]
+
+      pub forgets : (index' : List (List (ℕ × ℕ))) (order' : PlaceOrder) (keys' : KeyPlaces K V) → index' ≡ removed eqb index hash place → IsWholeOrder order' → order'.places ≡ without place order.places → order'.free ≡ place ∷ order.free
+          → order'.limit ≡ order.limit → keys'.entries ≡ keys.entries → keys'.room ≡ keys.room → Forgets key order keys index' order' keys'
+      forgets index' order' keys' is w places free limit same room =
+          let apart = AllApart-left order.places order.free h.whole.apart in
+          let at = hash_there eq hash key index keys.entries order.places h.indexed hashed place there.0 there.1 in
+          let taken = IsIndex-removed index keys.entries order.places place hash h.indexed apart at in
+          let entries : entries_of keys'.entries order'.places ≡ forgotten eq key (entries_of keys.entries order.places) =
+          ap (λ z. entries_of z order'.places) same ∙ ap (λ z. entries_of keys.entries z) places ∙ forgets_one key keys.entries place order.places there.1 others_differ in
+          let e = key_there eq key keys.entries place there.1 in
+          let count : used order' ≡ used order = omega (arith, ap (λ (z : List ℕ). length z) places, ap (λ (z : List ℕ). length z) free, length-without place order.places apart there.0) in
+          record {
+            whole = record {
+              whole = w;
+              indexed = subst (λ z. IsIndex index' z order'.places) (sym same) (subst (λ z. IsIndex index' keys.entries z) (sym places) (subst (λ z. IsIndex z keys.entries (without place order.places)) (sym is) taken));
+              distinct = subst (λ z. AllDistinct eq z) (sym entries) (distinct-forgotten eq key (entries_of keys.entries order.places) h.distinct);
+              as_many = ap (λ (z : List (Entry K V)). length z) same ∙ h.as_many ∙ sym count;
+              room = rw (limit, room) h.room;
+              half = rw (limit, ap (λ (z : List (List (ℕ × ℕ))). length z) is ∙ length-taken index hash place) h.half;
+              short = rw limit h.short;
+            };
+            entries = entries;
+            found = any_entry eq key keys.entries order.places place e.0 there.0 e.1 e.2;
+          }

@@ -1,0 +1,105 @@
+-- A key put in front of the history.
+use Rattle.std.proofs.Common.{◌≡◌, ℕ, zero, suc, ◌+◌, ◌-◌, ◌^◌, ◌<◌, ◌≤◌, Bool, true, false, eqb, Some, None, slice_get, List, [], ◌∷◌, length, take, refl, sym, ap, ◌∙◌, subst, arith}
+use Rattle.std.specs.Prelude.{Result, Ok, Err, IsOk}
+use Rattle.std.proofs.lemmas.Bool.{both_ways, eq-eqb}
+use Rattle.std.proofs.lemmas.List.{length-take}
+use Rattle.clock2q_handles.specs.Homes.{total, capacity, inserted}
+use Rattle.clock2q_handles.specs.declared.error.TableError.{TableError}
+use Rattle.clock2q_handles.specs.Changes.{PutIn}
+use Rattle.clock2q_queues.specs.declared.keys.cells.Entry.{Entry}
+use Rattle.clock2q_queues.specs.Rings.{has}
+use Rattle.clock2q_queues.specs.Order.{PlaceOrder, IsWholeOrder, used}
+use Rattle.clock2q_queues.specs.Keys.{KeyPlaces, entry, key_places, written, hash_at, hashed_at, entries_of}
+use Rattle.clock2q_queues.specs.Indexes.{IsIndex, AllDistinct, has_key}
+use Rattle.clock2q_queues.specs.History.{IsHistory, MakesPlace}
+use Rattle.clock2q_queues.proofs.Rings.{differs, or_parts, AllBelow-left}
+use Rattle.clock2q_queues.proofs.Entries.{slice_get-written, slice_get-written_other, length-written, entries-agree, entries-cons, entries-take}
+use Rattle.clock2q_queues.proofs.Indexes.{length-put, IsIndex-put, room_in}
+
+module _ {K : Type 0} (eq : K → K → Bool) where
+  key_absent-take : (key : K) (k : ℕ) (es : List (ℕ × K)) → has_key eq key es ≡ false → has_key eq key (take k es) ≡ false
+  key_absent-take key zero es h = refl
+  key_absent-take key (suc k) [] h = refl
+  key_absent-take key (suc k) (e ∷ es) h =
+      let p = or_parts (eq key e.1) (has_key eq key es) h in
+      rw p.0 (key_absent-take key k es p.1)
+
+  distinct-take : (k : ℕ) (es : List (ℕ × K)) → AllDistinct eq es → AllDistinct eq (take k es)
+  distinct-take zero es d = tt
+  distinct-take (suc k) [] d = tt
+  distinct-take (suc k) (e ∷ es) d = (key_absent-take e.1 k es d.0, distinct-take k es d.1)
+
+-- a key was put in front
+pub record Remembers {K V : Type 0} (eq : K → K → Bool) (hash : ℕ) (key : K) (order : PlaceOrder) (keys : KeyPlaces K V) (index' : List (List (ℕ × ℕ))) (order' : PlaceOrder) (keys' : KeyPlaces K V) : Type 0 where
+  pub whole : IsHistory eq index' order' keys'
+  pub entries : entries_of keys'.entries order'.places ≡ take order.limit ((hash, key) ∷ entries_of keys.entries order.places)
+
+module _ {K V : Type 0} (eq : K → K → Bool) (hash : ℕ) (key : K) (value : V) (index index1 index' : List (List (ℕ × ℕ))) (order order' : PlaceOrder) (keys keys' : KeyPlaces K V) (place : ℕ)
+    (h : IsHistory eq index order keys) (some : 0 < order.limit) (m : MakesPlace index index1 order order' keys.entries place) where
+  abbrev pub fewer : List ℕ
+  fewer = take (order.limit - 1) order.places
+
+  pub write_fits : (place ≤ length keys.entries) × (place < keys.room)
+  write_fits = (m.next, omega (arith, m.below, h.room))
+
+  fewer_now : total index1 < order.limit
+  fewer_now = omega (arith, length-take (order.limit - 1) order.places, m.indexed.counted, some)
+
+  pub put_fits : total index1 < capacity (length index1)
+  put_fits = rw m.as_many (room_in (total index1) order.limit (length index) fewer_now h.half)
+
+  -- the index takes the place: no run is too long
+  pub insert_done : (r : Result (Unit {0}) TableError) → PutIn index1 hash place r index' → (total index1 + 1 < 2 ^ 24 → IsOk r) → index' ≡ inserted index1 hash place
+  insert_done (Ok x) put few = put.0
+  insert_done (Err e) put few = let ok = few (omega (arith, fewer_now, h.short)) in cc
+
+  module _ (write : keys' ≡ key_places (written place (entry hash key value) keys.entries) keys.room (keys.writes + 1) keys.questions) (put : index' ≡ inserted index1 hash place) (w : IsWholeOrder order')
+      (absent : has_key eq key (entries_of keys.entries order.places) ≡ false) where
+    wrote : keys'.entries ≡ written place (entry hash key value) keys.entries
+    wrote = ap (λ (z : KeyPlaces K V). z.entries) write
+
+    stands : slice_get keys'.entries place ≡ Some (entry hash key value)
+    stands = ap (λ z. slice_get z place) wrote ∙ slice_get-written place (entry hash key value) keys.entries m.next
+
+    stands_still : (t : ℕ) → has t fewer ≡ true → slice_get keys'.entries t ≡ slice_get keys.entries t
+    stands_still t g =
+        let d : eqb t place ≡ false = differs t place fewer g m.absent in
+        ap (λ z. slice_get z t) wrote ∙ slice_get-written_other place t (entry hash key value) keys.entries m.next (λ e. both_ways (eqb t place) d (eq-eqb t place e))
+
+    entries_now : entries_of keys'.entries order'.places ≡ take order.limit ((hash, key) ∷ entries_of keys.entries order.places)
+    entries_now =
+        let n : order.limit ≡ suc (order.limit - 1) = omega (arith, some) in
+        let below = AllBelow-left (used order) order.places order.free h.whole.below in
+        let at : hashed_at keys'.entries place ≡ Some (hash, key) = ap (λ z. elim z [ None ↦ None | Some e ↦ Some (e.hash, e.key) ]) stands in
+        ap (λ z. entries_of keys'.entries z) m.places
+        ∙ entries-cons keys'.entries place (hash, key) fewer at
+        ∙ ap (λ zs. (hash, key) ∷ zs) (entries-agree keys.entries keys'.entries fewer stands_still ∙ entries-take keys.entries (used order) (order.limit - 1) order.places (omega (arith, h.as_many)) below)
+        ∙ ap (λ z. take z ((hash, key) ∷ entries_of keys.entries order.places)) (sym n)
+
+    pub remembers : Remembers eq hash key order keys index' order' keys'
+    remembers =
+        let slots : 0 < length index1 = rw m.as_many (omega (arith, some, h.half)) in
+        let hashes = (λ (t : ℕ) (g : has t fewer ≡ true). ap (λ z. elim z [ None ↦ None | Some e ↦ Some e.hash ]) (stands_still t g)) in
+        let at : hash_at keys'.entries place ≡ Some hash = ap (λ z. elim z [ None ↦ None | Some e ↦ Some e.hash ]) stands in
+        let indexed = IsIndex-put index1 keys.entries keys'.entries fewer place hash m.indexed slots m.absent hashes at in
+        let slot_count : length index' ≡ length index = ap (λ (z : List (List (ℕ × ℕ))). length z) put ∙ length-put index1 hash place ∙ m.as_many in
+        record {
+          whole = record {
+            whole = w;
+            indexed = subst (λ z. IsIndex index' keys'.entries z) (sym m.places) (subst (λ z. IsIndex z keys'.entries (place ∷ fewer)) (sym put) indexed);
+            distinct = subst (λ z. AllDistinct eq z) (sym entries_now) (distinct-take eq order.limit ((hash, key) ∷ entries_of keys.entries order.places) (absent, h.distinct));
+            as_many = ap (λ (z : List (Entry K V)). length z) wrote ∙ length-written place (entry hash key value) keys.entries m.next ∙ sym m.used_now;
+            room = rw (m.limit, ap (λ (z : KeyPlaces K V). z.room) write) h.room;
+            half = rw (m.limit, slot_count) h.half;
+            short = rw m.limit h.short;
+          };
+          entries = entries_now;
+        }
+
+-- a history for no keys has none
+pub none_fit : {K V : Type 0} (eq : K → K → Bool) (index : List (List (ℕ × ℕ))) (order : PlaceOrder) (keys : KeyPlaces K V) → IsHistory eq index order keys → order.limit ≡ 0 → entries_of keys.entries order.places ≡ []
+none_fit eq index order keys h none = ap (λ z. entries_of keys.entries z) (empty order.places (omega (arith, none, h.whole.within)))
+  where
+    empty : (ps : List ℕ) → length ps ≡ 0 → ps ≡ []
+    empty [] e = refl
+    empty (p ∷ ps) e = absurd (omega (arith, e))

@@ -1,0 +1,235 @@
+//! Keys with their hashes, each at a place, and what an index needs that finds them.
+ghost use Rattle.std.specs.Prelude.{◌≡◌, ℕ, ◌+◌, ◌^◌, ◌<◌, ◌≤◌, [], ◌∷◌, ◌++◌, length, Some, IfOk};
+ghost use Rattle.std.specs.List.{find, AllByRecursion};
+ghost use Rattle.std.specs.Borrow.{sem};
+ghost use Rattle.clock2q_queues.specs.Indexes.{index_room, Empties};
+ghost use Rattle.clock2q_queues.specs.Keys.{is_key_at, questions_of};
+
+mod cells;
+
+use cells::Cells;
+pub use cells::Entry;
+use clock2q_count::Count;
+use clock2q_handles::{Candidates, Table};
+use std::alloc::{AllocError, Allocator, Global};
+use std::marker::Model;
+
+/// How many entries an index is made for where at most `limit` stand in it: half as many again, so
+/// that it is never more than half full, and look-ups are short.
+pub fn index_room(limit: usize) -> usize
+    requires { limit < 2 ^ 63 }
+    ensures { result ≡ index_room limit }
+{
+    limit + limit / 2
+}
+
+/// A key at each place, with its hash and a value. Places are numbered from 0, in the order in
+/// which they are first used.
+///
+/// Keys are compared in one function, which counts each question, and written in two, which count
+/// each write.
+#[derive(Drop)]
+pub struct Keys<K, V, A: Allocator = Global> {
+    cells: Cells<K, V, A>,
+    questions: Count,
+}
+
+impl<K, V, A: Allocator> Model for Keys<K, V, A> {
+    ghost use Rattle.clock2q_queues.specs.Keys.{KeyPlaces, keys_code, key_places};
+
+    ghost Value = { KeyPlaces K V };
+
+    ghost coded = { keys_code K.code V.code };
+
+    ghost view = { λ k. key_places k.cells.entries k.cells.room k.cells.writes k.questions.total };
+}
+
+impl<K, V, A: Allocator> Keys<K, V, A> {
+    ghost use Rattle.clock2q_queues.specs.Keys.{key_places, entry, hash_at, key_at, value_at, with_key, with_value, written};
+    ghost use Rattle.clock2q_queues.specs.KeysLends.{LendsValueAt};
+
+    /// No keys, and room for so many. It takes all the memory that it will ever have.
+    pub fn new(alloc: A, room: usize) -> Result<Self, AllocError>
+        ensures made { IfOk result (λ k. k ≡ key_places [] room 0 0) }
+    {
+        Ok(Keys {
+            cells: Cells::new(alloc, room)?,
+            questions: Count::new(),
+        })
+    }
+
+    /// How many places were used.
+    pub fn len(&self) -> usize
+        ensures len { result ≡ length self.now.entries }
+    {
+        self.cells.len()
+    }
+
+    /// The hash of the key at a place.
+    pub fn hash(&self, place: u32) -> u64
+        requires used { place < length self.now.entries }
+        ensures hash { hash_at self.now.entries place ≡ Some result }
+    {
+        self.cells.hash(place)
+    }
+
+    /// The key at a place.
+    pub fn key(&self, place: u32) -> &K
+        requires used { place < length self.now.entries }
+        ensures key { key_at self.now.entries place ≡ Some result.now }
+    {
+        self.cells.key(place)
+    }
+
+    /// The value at a place.
+    pub fn value(&self, place: u32) -> &V
+        requires used { place < length self.now.entries }
+        ensures value { value_at self.now.entries place ≡ Some result.now }
+    {
+        self.cells.value(place)
+    }
+
+    /// Lends the value at a place.
+    pub fn value_mut(&mut self, place: u32) -> &mut V
+        requires used { place < length self.old.entries }
+        ensures* writes_back { sem 𝓛 (LendsValueAt K.row V.row A.row A.Allocator self.entry place result) }
+        ensures value { value_at self.old.entries place ≡ Some result.now }
+    {
+        self.cells.value_mut(place)
+    }
+
+    /// Replaces the value at a place, and returns the old one.
+    pub fn replace_value(&mut self, place: u32, value: V) -> V
+        requires used { place < length self.old.entries }
+        ensures old { value_at self.old.entries place ≡ Some result }
+        ensures replaced { self.new ≡ record self.old { entries = with_value place value self.old.entries } }
+    {
+        self.cells.replace_value(place, value)
+    }
+
+    /// Writes a key to the next place.
+    pub fn push(&mut self, hash: u64, key: K, value: V)
+        requires room { length self.old.entries < self.old.room }
+        ensures pushed { self.new ≡ record self.old { entries = self.old.entries ++ entry hash key value ∷ []; writes = self.old.writes + 1 } }
+    {
+        self.cells.push(hash, key, value);
+    }
+
+    /// Replaces the key at a place and its hash, and returns the old ones. The value stays.
+    pub fn replace(&mut self, place: u32, hash: u64, key: K) -> (u64, K)
+        requires used { place < length self.old.entries }
+        ensures hash { hash_at self.old.entries place ≡ Some result.0 }
+        ensures key { key_at self.old.entries place ≡ Some result.1 }
+        ensures replaced { self.new ≡ record self.old { entries = with_key place hash key self.old.entries; writes = self.old.writes + 1 } }
+    {
+        self.cells.replace(place, hash, key)
+    }
+
+    /// Writes a key and a value to a place: one that was used, whose key and value are dropped, or
+    /// the next one.
+    pub fn write(&mut self, place: u32, hash: u64, key: K, value: V)
+    where
+        K: Drop,
+        V: Drop,
+        requires next { place ≤ length self.old.entries }
+        requires room { place < self.old.room }
+        ensures written { self.new ≡ record self.old { entries = written place (entry hash key value) self.old.entries; writes = self.old.writes + 1 } }
+    {
+        if (place as usize) < self.cells.len() {
+            self.cells.replace(place, hash, key);
+            self.cells.replace_value(place, value);
+        } else {
+            self.cells.push(hash, key, value);
+        }
+    }
+
+    /// Removes the place of every key from an index of them.
+    pub fn unindex<B: Allocator>(&self, index: &mut Table<u32, B>)
+        requires countable { length self.now.entries ≤ 2 ^ 32 }
+        ensures emptied { Empties index.old.homes index.new.homes self.now.entries }
+    {
+        for place in 0..self.cells.len() {
+            let place = place as u32;
+            index.remove(self.cells.hash(place), place);
+        }
+    }
+
+    /// Drops every key and value. No place is used any more.
+    pub fn clear(&mut self)
+    where
+        K: Drop,
+        V: Drop,
+        ensures cleared { self.new ≡ record self.old { entries = [] } }
+    {
+        self.cells.clear();
+    }
+}
+
+impl<K: Eq, V, A: Allocator> Keys<K, V, A> {
+    ghost use Rattle.clock2q_queues.specs.Keys.{is_key_at, questions_of};
+
+    /// Whether a key is the one at a place.
+    pub fn is(&mut self, place: u32, key: &K) -> bool
+        requires used { place < length self.old.entries }
+        ensures value { result ≡ is_key_at K.eq key.now self.old.entries place }
+        ensures counted { self.new ≡ record self.old { questions = self.old.questions + 1 } }
+    {
+        self.cells.is(place, key, &mut self.questions)
+    }
+
+    /// Whether a key is the one at a place. The question is counted in `asked`, and not here.
+    pub fn is_untold(&self, place: u32, key: &K, asked: &mut Count) -> bool
+        requires used { place < length self.now.entries }
+        ensures value { result ≡ is_key_at K.eq key.now self.now.entries place }
+        ensures counted { asked.new.total ≡ asked.old.total + 1 }
+    {
+        self.cells.is(place, key, asked)
+    }
+
+    /// The first of these places that has a key.
+    pub fn find<B: Allocator>(
+        &mut self,
+        places: Candidates<'_, u32, B>,
+        key: &K,
+    ) -> Option<u32>
+        requires used { AllByRecursion (λ place. place < length self.old.entries) places.left }
+        ensures found { result ≡ find (is_key_at K.eq key.now self.old.entries) places.entry.left }
+        ensures counted { self.new ≡ record self.old { questions = self.old.questions + questions_of (is_key_at K.eq key.now self.old.entries) places.entry.left } }
+    {
+        first_with(&self.cells, places, key, &mut self.questions)
+    }
+
+    /// The first of these places that has a key. The questions are counted in `asked`, and not
+    /// here.
+    pub fn find_untold<B: Allocator>(
+        &self,
+        places: Candidates<'_, u32, B>,
+        key: &K,
+        asked: &mut Count,
+    ) -> Option<u32>
+        requires used { AllByRecursion (λ place. place < length self.now.entries) places.left }
+        ensures found { result ≡ find (is_key_at K.eq key.now self.now.entries) places.entry.left }
+        ensures counted { asked.new.total ≡ asked.old.total + questions_of (is_key_at K.eq key.now self.now.entries) places.entry.left }
+    {
+        first_with(&self.cells, places, key, asked)
+    }
+}
+
+// The first of these places that has a key.
+fn first_with<K: Eq, V, A: Allocator, B: Allocator>(
+    cells: &Cells<K, V, A>,
+    mut places: Candidates<'_, u32, B>,
+    key: &K,
+    asked: &mut Count,
+) -> Option<u32>
+    requires used { AllByRecursion (λ place. place < length cells.now.entries) places.left }
+    ensures found { result ≡ find (is_key_at K.eq key.now cells.now.entries) places.entry.left }
+    ensures counted { asked.new.total ≡ asked.old.total + questions_of (is_key_at K.eq key.now cells.now.entries) places.entry.left }
+{
+    while let Some(place) = places.next() {
+        if cells.is(place, key, asked) {
+            return Some(place);
+        }
+    }
+    None
+}
