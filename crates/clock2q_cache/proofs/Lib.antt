@@ -1,9 +1,13 @@
 pub mod Clock
-pub mod Kept
-pub mod Keyed
 pub mod Lasting
-pub mod Placed
 pub mod Residents
 pub mod Weights
 pub mod Whole
 pub mod WorkedRuns
+pub mod WithKeys
+pub mod Stored
+pub mod Standing
+pub mod Kept
+pub mod Renewed
+pub mod Finding
+pub mod Changed

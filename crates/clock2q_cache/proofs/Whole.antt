@@ -56,7 +56,7 @@ no_vacancy [] made capacity none =
     ]
 
 -- where a key goes to Small, Small has a share, and room where there is a vacancy
-small_share : (share : ℕ) (b : Bool) → (false || (share == 0) || b) ≡ false → 0 < share
+pub small_share : (share : ℕ) (b : Bool) → (false || (share == 0) || b) ≡ false → 0 < share
 small_share zero b e = cc
 small_share (suc n) b e = omega arith
 
@@ -214,7 +214,7 @@ module _ {K V : Type 0} where
         ]
 
     -- where there is no vacancy, every slot is a resident's
-    all_resident : vacancy m ≡ None → m.shares.capacity ≤ length m.small + length m.main
+    pub all_resident : vacancy m ≡ None → m.shares.capacity ≤ length m.small + length m.main
     all_resident none =
         let full = no_vacancy m.free (length m.values) m.shares.capacity none in
         omega (arith, h.slots_counted, full.0, full.1)
