@@ -9,7 +9,7 @@ use lib.Dec.{T, eqb→eq}
 use Rattle.std.specs.Fn.{Called, Takes, Mut}
 use Rattle.clock2q_handles.specs.Homes.{top, capacity, total, inserted, removed}
 use Rattle.clock2q_handles.specs.TableStep.{TableValue, IsHashOf, IsShortOf, doubled_until, grown, reserved, rebuilt, doubled, fit}
-use Rattle.clock2q_handles.specs.Rehash.{GivesHashes, AfterGrowth}
+use Rattle.clock2q_handles.specs.Rehash.{GivesHashes, AfterGrowth, IsHeld, Reaches}
 use Rattle.clock2q_handles.proofs.Hashes.{hashes-put_last, hashes-rebuilt, hashes-removed, rebuilt-length}
 
 one_of : (m x : ℕ) (b : Bool) → 0 < m → 0 < x → 0 < elim b [ true ↦ m | false ↦ x ]
@@ -94,12 +94,22 @@ module _ {H : Type 0} (key : H → ℕ) where
   keyed_removed eq [] x v hashes = hashes
   keyed_removed eq (es ∷ homes) x v hashes = hashes-removed key eq (es ∷ homes) x v (omega arith) hashes
 
+  module _ {F : Type 0} (g : Mut F (H × Unit {0}) ℕ) (homes : List (List (ℕ × H))) (I : F → Type 0) (takes : (f : F) (h : H) → I f → IsHeld homes h → Takes g f (h, tt))
+      (says : (f : F) (h : H) (r : ℕ) (next : F) → I f → IsHeld homes h → Called g f (h, tt) r next → (r ≡ key h) × I next) where
+    lasts : (hs : List H) (f f' : F) → I f → Reaches g (IsHeld homes) f hs f' → I f'
+    lasts [] f f' i reached = subst I (sym reached) i
+    lasts (h ∷ hs) f f' i reached = lasts hs reached.1 f' (says f h reached.0 reached.1 i reached.2 reached.3).1 reached.4
+
+    -- where what a closure needs lasts through its calls on held handles, and it answers what its key says, it gives each held handle its hash
+    pub keyed_given_by : (f : F) → I f → IsHashOf key homes → GivesHashes g key homes f
+    keyed_given_by f i hashes = record {
+      answers = record {
+        takes = λ hs f' h reached held. takes f' h (lasts hs f f' i reached) held;
+        answers = λ hs f' h r next reached held called. (says f' h r next (lasts hs f f' i reached) held called).0;
+      };
+      hashes = hashes;
+    }
+
   -- a closure that answers what its key says gives each held handle its hash
   pub keyed_given : {F : Type 0} (g : Mut F (H × Unit {0}) ℕ) (homes : List (List (ℕ × H))) (f : F) → IsHashOf key homes → ((f' : F) (h : H) → Takes g f' (h, tt)) → ((f' : F) (h : H) (r : ℕ) (next : F) → Called g f' (h, tt) r next → r ≡ key h) → GivesHashes g key homes f
-  keyed_given g homes f hashes takes answers = record {
-    answers = record {
-      takes = λ _ f' h _ _. takes f' h;
-      answers = λ _ f' h r next _ _ called. answers f' h r next called;
-    };
-    hashes = hashes;
-  }
+  keyed_given g homes f hashes takes answers = keyed_given_by g homes (λ _. Unit {0}) (λ f' h _ _. takes f' h) (λ f' h r next _ _ called. (answers f' h r next called, tt)) f tt hashes

@@ -6,13 +6,16 @@ pub mod Gaps
 pub mod Groups
 pub mod Growth
 pub mod Hashes
+pub mod Held
 pub mod Insertions
+pub mod Interned
 pub mod Keyed
 pub mod Laid
 pub mod Laps
 pub mod LayoutVectors
 pub mod Lookups
 pub mod Moves
+pub mod Offering
 pub mod Placement
 pub mod Promises
 pub mod Reaching

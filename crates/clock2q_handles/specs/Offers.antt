@@ -11,10 +11,14 @@ abbrev pub Offers : {F H : Type 0} → Mut F (H × Unit {0}) Bool → F → List
 Offers g f [] found f' = (found ≡ None) × (f' ≡ f)
 Offers {F} g f (h ∷ hs) found f' = (b : Bool) × (next : F) × Called g f (h, tt) b next × MatchBool b ((found ≡ Some h) × (f' ≡ next)) (Offers g next hs found f')
 
--- f may be called on the first of the candidates, and where it rejects one, on the next
-abbrev pub MayBeOffered : {F H : Type 0} → Mut F (H × Unit {0}) Bool → F → List H → Type 0
-MayBeOffered g f [] = Unit {0}
-MayBeOffered {F} g f (h ∷ hs) = Takes g f (h, tt) × ((next : F) → Called g f (h, tt) false next → MayBeOffered g next hs)
+-- f may be called on the first of the handles, and where it rejects one, on the next
+abbrev pub TakesInTurn : {F H : Type 0} → Mut F (H × Unit {0}) Bool → F → List H → Type 0
+TakesInTurn g f [] = Unit {0}
+TakesInTurn {F} g f (h ∷ hs) = Takes g f (h, tt) × ((next : F) → Called g f (h, tt) false next → TakesInTurn g next hs)
+
+-- f may be offered the candidates
+pub record MayBeOffered {F H : Type 0} (g : Mut F (H × Unit {0}) Bool) (f : F) (candidates : List H) : Type 0 where
+  pub in_turn : TakesInTurn g f candidates
 
 -- the one that was accepted is answered, and nothing changes; or v is put in under x, where no run becomes too long
 abbrev pub Settles : {H : Type 0} → List (List (ℕ × H)) → ℕ → H → Option H → Result (H × Bool) TableError → List (List (ℕ × H)) → Type 0

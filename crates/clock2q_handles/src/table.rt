@@ -136,9 +136,9 @@ impl<H: Copy + Eq + Default, A: Allocator + Copy> Table<H, A> {
         ensures few { total self.old.homes + 1 < 2 ^ 24 → result ≢ Err TableError.RunTooLong }
         ensures asks { result ≢ Err TableError.Memory → IsFull self.old.homes → (last : F) × AsksHeld F.FnMut rehash self.old.homes last }
         ensures writes { IsBelowCapacity self.old.homes → WritesAtMost (run self.old.slots hash + 1) self.old self.new }
-        ensures restores { IsBelowCapacity self.old.homes → IfOk result (λ r. IsTrue r.1 → Restores H.PartialEq.eq hash handle self.old self.new) }
         ensures laid { IsLaidOut self.new }
         ensures nearer { AfterGrowth F.FnMut rehash self.old.homes (IsNearer self.old.homes) }
+        ensures restores { IsBelowCapacity self.old.homes → IfOk result (λ r. IsTrue r.1 → Restores H.PartialEq.eq hash handle self.old self.new) }
     {
         self.make_room(&mut rehash)?;
         self.find_or_put(hash, &mut matches, handle)

@@ -1,5 +1,5 @@
 -- Every place removed from an index.
-use Rattle.std.proofs.Common.{◌≡◌, ℕ, zero, suc, ◌+◌, ◌<◌, ◌≤◌, true, eqb, Some, List, [], ◌∷◌, length, inl, inr, refl, sym, ap, ◌∙◌, subst, arith}
+use Rattle.std.proofs.Common.{◌≡◌, ℕ, zero, suc, ◌+◌, ◌≤◌, true, eqb, Some, List, [], ◌∷◌, length, inl, inr, refl, sym, ap, ◌∙◌, subst, arith}
 use Rattle.std.proofs.lemmas.Bool.{cases_Bool, eqb-false}
 use Rattle.clock2q_handles.specs.Homes.{removed}
 use Rattle.clock2q_queues.specs.declared.keys.cells.Entry.{Entry}
@@ -59,12 +59,8 @@ module _ {K V : Type 0} where
             (IsIndex-removed index keys (from_place place places) place hash (e.left places apart i) (apart_from_place place places apart) at));
       }
 
-  pub empties-all : (index index' : List (List (ℕ × ℕ))) (keys : List (Entry K V)) (n : ℕ) → EmptiesFirst index index' keys n → length keys ≤ n → Empties index index' keys
+  pub empties-all : (index index' : List (List (ℕ × ℕ))) (keys : List (Entry K V)) (n : ℕ) → EmptiesFirst index index' keys n → n ≡ length keys → Empties index index' keys
   empties-all index index' keys n e all = record {
     as_many = e.as_many;
-    emptied = λ places apart below i. subst (λ z. IsIndex index' keys z) (from_place-past n places (below_more places below)) (e.left places apart i);
+    emptied = λ places apart below i. subst (λ z. IsIndex index' keys z) (from_place-past n places (subst (λ m. AllBelow m places) (sym all) below)) (e.left places apart i);
   }
-    where
-      below_more : (ps : List ℕ) → AllBelow (length keys) ps → AllBelow n ps
-      below_more [] b = tt
-      below_more (p ∷ ps) b = (omega (arith, b.0, all), below_more ps b.1)

@@ -2,12 +2,13 @@
 use Rattle.std.proofs.Common.{◌≡◌, ℕ, zero, suc, ◌+◌, ◌<◌, ◌≤◌, max, Bool, true, false, Option, Some, None, slice_get, slice_set, List, [], ◌∷◌, ◌++◌, length, take, inl, inr, refl, sym, ap, ◌∙◌, subst, eqb, arith}
 use Rattle.std.specs.List.{cons_option, AllByRecursion}
 use Rattle.std.specs.Cmp.{IsEquivalence}
+use Rattle.std.proofs.lemmas.Option.{slice_get_within}
 use Rattle.std.proofs.lemmas.Bool.{both_ways, or_cases, eq-eqb, eqb-true}
 use Rattle.clock2q_queues.specs.declared.keys.cells.Entry.{Entry}
 use Rattle.clock2q_queues.specs.Rings.{has, AllBelow}
-use Rattle.clock2q_queues.specs.Keys.{entry, written, with_key, with_value, hash_at, key_at, hashed_at, entries_of, is_key_at}
+use Rattle.clock2q_queues.specs.Keys.{entry, written, with_key, with_value, hash_at, hashed_at, entries_of, is_key_at}
 use Rattle.clock2q_queues.specs.Indexes.{has_key, AllDistinct}
-use Rattle.clock2q_queues.proofs.Rings.{has_first, has_later, or_left, or_right, or_parts}
+use Rattle.clock2q_queues.proofs.Rings.{has_first, has_later, or_left, or_right}
 
 -- Entries written
 
@@ -42,12 +43,6 @@ module _ {E : Type 0} where
   slice_get_some (x ∷ xs) zero h = (x, refl)
   slice_get_some (x ∷ xs) (suc i) h = slice_get_some xs i (omega arith)
 
-  slice_get_in : (xs : List E) (i : ℕ) (e : E) → slice_get xs i ≡ Some e → i < length xs
-  slice_get_in [] i e h = absurd (cc)
-  slice_get_in (x ∷ xs) zero e h = omega arith
-  slice_get_in (x ∷ xs) (suc i) e h = omega (arith, slice_get_in xs i e h)
-
-module _ {E : Type 0} where
   get_set : (place : ℕ) (d : E) (xs : List E) → place < length xs → slice_get (slice_set xs place d) place ≡ Some d
   get_set place d [] h = absurd (omega arith)
   get_set zero d (x ∷ xs) h = refl
@@ -103,7 +98,7 @@ module _ {K V : Type 0} where
     where
       of : (o : Option (Entry K V)) → slice_get keys place ≡ o → elim o [ None ↦ None | Some e ↦ Some e.hash ] ≡ Some hash → place < length keys
       of None is h = absurd (cc)
-      of (Some e) is h = slice_get_in keys place e is
+      of (Some e) is h = slice_get_within keys place e is
 
   -- a place that has the key has an entry with it
   pub key_there : (eq : K → K → Bool) (key : K) (keys : List (Entry K V)) (place : ℕ) → is_key_at eq key keys place ≡ true → (e : ℕ × K) × (hashed_at keys place ≡ Some e) × (eq key e.1 ≡ true)

@@ -6,6 +6,7 @@ use Rattle.std.proofs.lemmas.List.FromFn.{map-range_with_len_more}
 use Rattle.clock2q_queues.specs.MainRing.{main_hit_at}
 use Rattle.clock2q_queues.specs.Queues.{slots_of}
 use Rattle.clock2q_queues.specs.Rings.{has}
+use Rattle.clock2q_queues.proofs.Rings.{has_first, has_later}
 
 abbrev pub all_set : List ℕ → List (ℕ × Bool)
 all_set slots = map (λ slot. (slot, true)) slots
@@ -32,3 +33,8 @@ not_there from (suc n) slot h = elim (cases_Bool (eqb slot from)) [
   | inl e ↦ absurd (omega (arith, h, eqb-true slot from e))
   | inr e ↦ rw e (not_there (from + 1) n slot (omega (arith, h)))
 ]
+
+-- the slot that was put last is there
+pub put_there : (slot : ℕ) (es : List (ℕ × Bool)) → has slot (slots_of (es ++ (slot, false) ∷ [])) ≡ true
+put_there slot [] = has_first slot []
+put_there slot (e ∷ es) = has_later slot e.0 (slots_of (es ++ (slot, false) ∷ [])) (put_there slot es)

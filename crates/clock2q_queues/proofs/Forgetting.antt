@@ -1,5 +1,5 @@
 -- A key forgotten by the history.
-use Rattle.std.proofs.Common.{◌≡◌, ℕ, suc, ◌+◌, ◌^◌, ◌<◌, ◌≤◌, Bool, true, false, eqb, Option, Some, None, slice_get, List, [], ◌∷◌, length, inl, inr, refl, sym, ap, ◌∙◌, subst, arith}
+use Rattle.std.proofs.Common.{◌≡◌, ℕ, ◌+◌, Bool, true, false, eqb, Option, Some, None, slice_get, List, [], ◌∷◌, length, inl, inr, refl, sym, ap, ◌∙◌, subst, arith}
 use Rattle.std.specs.List.{cons_option, find}
 use Rattle.std.specs.Cmp.{IsEquivalence}
 use Rattle.std.proofs.lemmas.Bool.{both_ways, cases_Bool, eqb-true}
@@ -9,10 +9,12 @@ use Rattle.clock2q_queues.specs.Rings.{has, without}
 use Rattle.clock2q_queues.specs.Order.{PlaceOrder, IsWholeOrder, used}
 use Rattle.clock2q_queues.specs.Keys.{KeyPlaces, hashed_at, entries_of, is_key_at}
 use Rattle.clock2q_queues.specs.Indexes.{IsIndex, AllDistinct, HasHash, has_key}
-use Rattle.clock2q_queues.specs.History.{IsHistory, forgotten}
+use Rattle.clock2q_queues.specs.History.{IsHistory, forgotten, remembered, accesses_of}
+use Rattle.clock2q_queues.specs.Cells.{Rises}
 use Rattle.clock2q_queues.proofs.Rings.{or_parts, or_neither, has_first, has_later, AllApart-left}
 use Rattle.clock2q_queues.proofs.Joining.{length-without}
 use Rattle.clock2q_queues.proofs.Entries.{key_there, any_entry, same_place}
+use Rattle.clock2q_queues.proofs.Histories.{shown-as}
 use Rattle.clock2q_queues.proofs.Indexes.{length-taken, IsIndex-removed}
 use Rattle.clock2q_queues.proofs.Lookups.{found_there, not_found, look-up, hash_there}
 
@@ -80,7 +82,9 @@ module _ {K V : Type 0} (eq : K → K → Bool) where
   -- a key was forgotten that was there
   pub record Forgets (key : K) (order : PlaceOrder) (keys : KeyPlaces K V) (index' : List (List (ℕ × ℕ))) (order' : PlaceOrder) (keys' : KeyPlaces K V) : Type 0 where
     pub whole : IsHistory eq index' order' keys'
-    pub entries : entries_of keys'.entries order'.places ≡ forgotten eq key (entries_of keys.entries order.places)
+    pub shown : remembered (entries_of keys'.entries order'.places) order'.limit index' (accesses_of order' keys') keys'.questions
+        ≡ remembered (forgotten eq key (entries_of keys.entries order.places)) order.limit index' (accesses_of order' keys') keys'.questions
+    pub accesses : Rises 0 7 (accesses_of order keys) (accesses_of order' keys')
     pub found : has_key eq key (entries_of keys.entries order.places) ≡ true
 
   module _ (laws : IsEquivalence eq) (hash : ℕ) (key : K) (index : List (List (ℕ × ℕ))) (order : PlaceOrder) (keys : KeyPlaces K V) (h : IsHistory eq index order keys)
@@ -106,26 +110,33 @@ module _ {K V : Type 0} (eq : K → K → Bool) where
         | inr k ↦ k
       ]
 
-      pub forgets : (index' : List (List (ℕ × ℕ))) (order' : PlaceOrder) (keys' : KeyPlaces K V) → index' ≡ removed eqb index hash place → IsWholeOrder order' → order'.places ≡ without place order.places → order'.free ≡ place ∷ order.free
-          → order'.limit ≡ order.limit → keys'.entries ≡ keys.entries → keys'.room ≡ keys.room → Forgets key order keys index' order' keys'
-      forgets index' order' keys' is w places free limit same room =
+      pub forgets : (index' : List (List (ℕ × ℕ))) (order' : PlaceOrder) (keys' : KeyPlaces K V) → index' ≡ removed eqb index hash place → IsWholeOrder order'
+          → order' ≡ record order { places = without place order.places; free = place ∷ order.free; accesses = order.accesses + 7 } → keys' ≡ record keys { questions = keys'.questions } → Forgets key order keys index' order' keys'
+      forgets index' order' keys' is w ordered same =
           let apart = AllApart-left order.places order.free h.whole.apart in
           let at = hash_there eq hash key index keys.entries order.places h.indexed hashed place there.0 there.1 in
           let taken = IsIndex-removed index keys.entries order.places place hash h.indexed apart at in
+          let places = ap (λ (z : PlaceOrder). z.places) ordered in
+          let limit = ap (λ (z : PlaceOrder). z.limit) ordered in
+          let entries' = ap (λ (z : KeyPlaces K V). z.entries) same in
           let entries : entries_of keys'.entries order'.places ≡ forgotten eq key (entries_of keys.entries order.places) =
-          ap (λ z. entries_of z order'.places) same ∙ ap (λ z. entries_of keys.entries z) places ∙ forgets_one key keys.entries place order.places there.1 others_differ in
+          ap (λ z. entries_of z order'.places) entries' ∙ ap (λ z. entries_of keys.entries z) places ∙ forgets_one key keys.entries place order.places there.1 others_differ in
           let e = key_there eq key keys.entries place there.1 in
-          let count : used order' ≡ used order = omega (arith, ap (λ (z : List ℕ). length z) places, ap (λ (z : List ℕ). length z) free, length-without place order.places apart there.0) in
+          let count : used order' ≡ used order = omega (arith, ap (λ (z : PlaceOrder). length z.places) ordered, ap (λ (z : PlaceOrder). length z.free) ordered, length-without place order.places apart there.0) in
           record {
             whole = record {
               whole = w;
-              indexed = subst (λ z. IsIndex index' z order'.places) (sym same) (subst (λ z. IsIndex index' keys.entries z) (sym places) (subst (λ z. IsIndex z keys.entries (without place order.places)) (sym is) taken));
+              indexed = subst (λ z. IsIndex index' z order'.places) (sym entries') (subst (λ z. IsIndex index' keys.entries z) (sym places) (subst (λ z. IsIndex z keys.entries (without place order.places)) (sym is) taken));
               distinct = subst (λ z. AllDistinct eq z) (sym entries) (distinct-forgotten eq key (entries_of keys.entries order.places) h.distinct);
-              as_many = ap (λ (z : List (Entry K V)). length z) same ∙ h.as_many ∙ sym count;
-              room = rw (limit, room) h.room;
+              as_many = ap (λ (z : List (Entry K V)). length z) entries' ∙ h.as_many ∙ sym count;
+              room = rw (limit, ap (λ (z : KeyPlaces K V). z.room) same) h.room;
               half = rw (limit, ap (λ (z : List (List (ℕ × ℕ))). length z) is ∙ length-taken index hash place) h.half;
               short = rw limit h.short;
             };
-            entries = entries;
+            shown = shown-as _ _ _ _ _ _ _ _ entries limit refl;
+            accesses =
+                let n = ap (λ (z : PlaceOrder). z.accesses) ordered in
+                let m = ap (λ (z : KeyPlaces K V). z.writes) same in
+                (omega (arith, n, m), omega (arith, n, m));
             found = any_entry eq key keys.entries order.places place e.0 there.0 e.1 e.2;
           }

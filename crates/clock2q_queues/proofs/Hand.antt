@@ -1,15 +1,16 @@
 -- The hand's sweep over Main, one look after the other.
-use Rattle.std.proofs.Common.{◌≡◌, ℕ, suc, ◌+◌, ◌<◌, Bool, true, false, ◌||◌, eqb, Some, slice_get, List, [], ◌∷◌, ◌++◌, length, map, take, drop, inl, inr, refl, sym, ap, ◌∙◌, subst, arith}
+use Rattle.std.proofs.Common.{◌≡◌, ℕ, suc, ◌+◌, ◌<◌, Bool, true, false, cond, ◌||◌, eqb, Some, slice_get, List, [], ◌∷◌, ◌++◌, length, map, take, drop, inl, inr, refl, sym, ap, ◌∙◌, subst, arith}
 use Rattle.std.proofs.lemmas.Bool.{both_ways, or_cases}
 use Rattle.std.proofs.lemmas.List.{append-nil, append_assoc, map-append, take-append-le, drop-append-le, length_push}
 use Rattle.std.proofs.lemmas.List.Sums.{prefix_len-le-length}
 use Rattle.clock2q_queues.specs.declared.links.Record.{Record}
 use Rattle.clock2q_queues.specs.declared.main_ring.MainRing.{MainRing}
 use Rattle.clock2q_queues.specs.Rings.{has, IsRing}
-use Rattle.clock2q_queues.specs.Links.{LinkState, IsLinked, IsSameBut, record_at, next_at, previous_at, bit_at, accessed, inspected, with_bit}
+use Rattle.clock2q_queues.specs.Cells.{accessed}
+use Rattle.clock2q_queues.specs.Links.{LinkState, IsLinked, IsSameBut, slot_at, record_at, next_at, previous_at, bit_at}
 use Rattle.clock2q_queues.specs.MainRing.{IsMain, IsMainRing, main_slots, main_entries, passed, inspections, from_victim}
 use Rattle.clock2q_queues.proofs.Rings.{eqb_self, or_left, or_parts, or_neither, has-append, has_later, differs}
-use Rattle.clock2q_queues.proofs.Joining.{map-agree, IsLinked-kept, IsLinked-turned, record_at-with_bit, bit_at-with_bit, slot_at-with_bit, length-with_bit}
+use Rattle.clock2q_queues.proofs.Joining.{map-agree, IsLinked-turned}
 use Rattle.clock2q_queues.proofs.Main.{main_slots-is, IsMainRing-from}
 
 -- one entry more, whose bit is clear, ends no front that ended before
@@ -38,96 +39,130 @@ first_of : (ss : List ℕ) (first : ℕ) → Some first ≡ slice_get ss 0 → (
 first_of [] first e = absurd (cc)
 first_of (s ∷ ss) first e = let q : s ≡ first = cc in (ss, ap (λ z. z ∷ ss) q)
 
--- what the hand's passing an entry leaves
-abbrev pub after_pass : ℕ → LinkState → LinkState
-after_pass hand now = accessed (inspected (with_bit hand false now))
+-- the hand looked at a slot: its bit is clear, and nothing else changed but counts
+pub record Looks (hand : ℕ) (old new : LinkState) : Type 0 where
+  pub bits : (t : ℕ) → bit_at new t ≡ cond (eqb t hand) false (bit_at old t)
+  pub items : new.records.items ≡ old.records.items
+  pub window : new.window ≡ old.window
+  pub inspections : new.bits.inspections ≡ old.bits.inspections + 1
 
 starts_next : (next previous : ℕ → ℕ) (hand : ℕ) (rest : List ℕ) → IsRing next previous (hand ∷ rest) → Some (next hand) ≡ slice_get (rest ++ hand ∷ []) 0
 starts_next next previous hand [] r = ap (λ z. Some z) r.0
 starts_next next previous hand (t ∷ rest) r = ap (λ z. Some z) r.0
 
-turned : (now : LinkState) (main : MainRing) (hand : ℕ) (rest : List ℕ) → IsMain now (with_hand hand main) (hand ∷ rest)
-    → IsMain (after_pass hand now) (with_hand (next_at now hand) main) (rest ++ hand ∷ [])
-turned now main hand rest m =
-    let l = after_pass hand now in
-    let n = length-with_bit now hand false in
-    let k : IsLinked l (hand ∷ rest) = IsLinked-kept now l (hand ∷ rest) m.queue.linked n (λ t h. record_at-with_bit now hand false t) in
-    record {
-      queue = record {
-        linked = IsLinked-turned l (hand ∷ []) rest k;
-        starts = starts_next (next_at now) (previous_at now) hand rest m.queue.linked.ring;
-        counted = m.queue.counted ∙ (let e = length_push rest hand in omega arith);
-        countable = rw n m.queue.countable;
-      };
-      standing = λ t h.
-          let g : has t (hand ∷ rest) ≡ true = elim (or_cases (has t rest) (has t (hand ∷ [])) (sym (has-append t rest (hand ∷ [])) ∙ h)) [
-            | inl q ↦ has_later t hand rest q
-            | inr q ↦ or_left (eqb t hand) (has t rest) (elim (or_cases (eqb t hand) false q) [ inl z ↦ z | inr z ↦ absurd (both_ways false refl z) ])
-          ] in
-          ap (λ r. r.standing) (record_at-with_bit now hand false t) ∙ m.standing t g;
-    }
+has-behind : (t hand : ℕ) (rest : List ℕ) → has t (rest ++ hand ∷ []) ≡ true → has t (hand ∷ rest) ≡ true
+has-behind t hand rest h = elim (or_cases (has t rest) (has t (hand ∷ [])) (sym (has-append t rest (hand ∷ [])) ∙ h)) [
+  | inl q ↦ has_later t hand rest q
+  | inr q ↦ or_left (eqb t hand) (has t rest) (elim (or_cases (eqb t hand) false q) [ inl z ↦ z | inr z ↦ absurd (both_ways false refl z) ])
+]
 
-entries_turned : (now : LinkState) (hand : ℕ) (rest : List ℕ) → IsLinked now (hand ∷ rest)
-    → map {B = ℕ × Bool} (λ s. (s, bit_at (after_pass hand now) s)) (rest ++ hand ∷ []) ≡ map {B = ℕ × Bool} (λ s. (s, bit_at now s)) rest ++ (hand, false) ∷ []
-entries_turned now hand rest k =
-    let l = after_pass hand now in
-    map-append (λ s. (s, bit_at l s)) rest (hand ∷ [])
-    ∙ ap (λ z. z ++ (hand, bit_at l hand) ∷ []) (map-agree (λ s. (s, bit_at l s)) (λ s. (s, bit_at now s)) rest (λ t h. ap (λ z. (t, z)) (bit_at-with_bit now hand false t k.below.0 ∙ rw (differs t hand rest h k.apart.0) refl)))
-    ∙ ap (λ z. map {B = ℕ × Bool} (λ s. (s, bit_at now s)) rest ++ (hand, z) ∷ []) (bit_at-with_bit now hand false hand k.below.0 ∙ rw (eqb_self hand) refl)
+-- a look at the hand's slot leaves what stands there
+module _ (now l : LinkState) (main : MainRing) (hand : ℕ) (rest : List ℕ) (k : Looks hand now l) (m : IsMain now (with_hand hand main) (hand ∷ rest)) where
+  linked : IsLinked l.records.items (hand ∷ rest)
+  linked = subst (λ (z : List Record). IsLinked z (hand ∷ rest)) (sym k.items) m.queue.linked
+
+  as_many : length l.records.items ≡ length now.records.items
+  as_many = ap (λ (z : List Record). length z) k.items
+
+  turned : IsMain l (with_hand (next_at now.records.items hand) main) (rest ++ hand ∷ [])
+  turned = record {
+    queue = record {
+      linked = IsLinked-turned l.records.items (hand ∷ []) rest linked;
+      starts = starts_next (next_at now.records.items) (previous_at now.records.items) hand rest m.queue.linked.ring;
+      counted = m.queue.counted ∙ (let e = length_push rest hand in omega arith);
+      countable = rw as_many m.queue.countable;
+    };
+    standing = λ t h. ap (λ (z : List Record). (record_at z t).standing) k.items ∙ m.standing t (has-behind t hand rest h);
+  }
+
+  stayed : IsMain l (with_hand hand main) (hand ∷ rest)
+  stayed = record {
+    queue = record { linked = linked; starts = refl; counted = m.queue.counted; countable = rw as_many m.queue.countable };
+    standing = λ t h. ap (λ (z : List Record). (record_at z t).standing) k.items ∙ m.standing t h;
+  }
+
+  others_kept : map {B = ℕ × Bool} (λ s. (s, bit_at l s)) rest ≡ map {B = ℕ × Bool} (λ s. (s, bit_at now s)) rest
+  others_kept = map-agree {X = ℕ × Bool} (λ s. (s, bit_at l s)) (λ s. (s, bit_at now s)) rest (λ t h. ap (λ z. (t, z)) (k.bits t ∙ rw (differs t hand rest h m.queue.linked.apart.0) refl))
+
+  hand_cleared : bit_at l hand ≡ false
+  hand_cleared = k.bits hand ∙ rw (eqb_self hand) refl
+
+  entries_turned : map {B = ℕ × Bool} (λ s. (s, bit_at l s)) (rest ++ hand ∷ []) ≡ map {B = ℕ × Bool} (λ s. (s, bit_at now s)) rest ++ (hand, false) ∷ []
+  entries_turned =
+      map-append {B = ℕ × Bool} (λ s. (s, bit_at l s)) rest (hand ∷ [])
+      ∙ ap (λ (z : List (ℕ × Bool)). z ++ (hand, bit_at l hand) ∷ []) others_kept
+      ∙ ap (λ z. map {B = ℕ × Bool} (λ s. (s, bit_at now s)) rest ++ (hand, z) ∷ []) hand_cleared
+
+  entries_stayed : map {B = ℕ × Bool} (λ s. (s, bit_at l s)) (hand ∷ rest) ≡ (hand, false) ∷ map {B = ℕ × Bool} (λ s. (s, bit_at now s)) rest
+  entries_stayed =
+      ap (λ z. (hand, z) ∷ map {B = ℕ × Bool} (λ s. (s, bit_at l s)) rest) hand_cleared
+      ∙ ap (λ (z : List (ℕ × Bool)). (hand, false) ∷ z) others_kept
+
+  same_elsewhere : (t : ℕ) → has t (hand ∷ rest) ≡ false → slot_at l t ≡ slot_at now t
+  same_elsewhere t h =
+      ap (λ (z : List Record). (record_at z t, bit_at l t)) k.items
+      ∙ ap (λ z. (record_at now.records.items t, z)) (k.bits t ∙ rw ((or_parts (eqb t hand) (has t rest) h).0) refl)
 
 -- the hand came as far as this slot: the choice is still to be made, by as many looks as are left
 pub record Swept (old : LinkState) (main : MainRing) (now : LinkState) (hand : ℕ) : Type 0 where
   pub whole : IsMainRing now (with_hand hand main)
   pub choice : from_victim (main_entries now (with_hand hand main)) ≡ from_victim (main_entries old main)
-  pub looks : inspections (main_entries now (with_hand hand main)) + now.inspections ≡ inspections (main_entries old main) + old.inspections
-  pub accesses : now.accesses + old.inspections ≡ now.inspections + old.accesses
+  pub looks : inspections (main_entries now (with_hand hand main)) + now.bits.inspections ≡ inspections (main_entries old main) + old.bits.inspections
+  pub accesses : now.records.accesses + old.bits.inspections ≡ now.bits.inspections + old.records.accesses
   pub members : (t : ℕ) → has t (main_slots old main) ≡ false → has t (main_slots now (with_hand hand main)) ≡ false
   pub same : IsSameBut (main_slots old main) old now
-  pub places : now.places ≡ old.places
+  pub window : now.window ≡ old.window
 
 pub Swept-start : (old : LinkState) (hand len : ℕ) → IsMainRing old (record { hand = Some hand; len = len }) → Swept old (record { hand = Some hand; len = len }) old hand
-Swept-start old hand len m = record { whole = m; choice = refl; looks = refl; accesses = omega arith; members = λ t h. h; same = record { others = λ t h. refl; as_many = refl }; places = refl }
+Swept-start old hand len m = record { whole = m; choice = refl; looks = refl; accesses = omega arith; members = λ t h. h; same = record { others = λ t h. refl; as_many = refl }; window = refl }
 
--- the hand passed an entry whose bit was set
-pub Swept-passed : (old : LinkState) (main : MainRing) (now : LinkState) (hand : ℕ) → Swept old main now hand → bit_at now hand ≡ true
-    → Swept old main (after_pass hand now) (next_at now hand)
-Swept-passed old main now hand s b =
-    let f = first_of (main_slots now (with_hand hand main)) hand s.whole.queue.starts in
-    let rest = f.0 in
-    let m : IsMain now (with_hand hand main) (hand ∷ rest) = subst (λ z. IsMain now (with_hand hand main) z) f.1 s.whole in
-    let l = after_pass hand now in
-    let main' = with_hand (next_at now hand) main in
-    let t = turned now main hand rest m in
-    let es : List (ℕ × Bool) = map (λ s. (s, bit_at now s)) rest in
-    let before : main_entries now (with_hand hand main) ≡ (hand, true) ∷ es = ap (λ z. map {B = ℕ × Bool} (λ s. (s, bit_at now s)) z) f.1 ∙ ap (λ z. (hand, z) ∷ es) b in
-    let after : main_entries l main' ≡ es ++ (hand, false) ∷ [] = ap (λ z. map {B = ℕ × Bool} (λ s. (s, bit_at l s)) z) (main_slots-is l main' (rest ++ hand ∷ []) t) ∙ entries_turned now hand rest m.queue.linked in
-    let looks : inspections (main_entries now (with_hand hand main)) ≡ inspections (main_entries l main') + 1 =
-    ap inspections before ∙ (let e = prefix_len-push es hand in omega arith) ∙ ap (λ z. inspections z + 1) (sym after) in
-    record {
-      whole = IsMainRing-from l main' (rest ++ hand ∷ []) t;
-      choice = ap from_victim after ∙ sym (from_victim-passed hand es) ∙ ap from_victim (sym before) ∙ s.choice;
-      looks = let e = s.looks in omega arith;
-      accesses = let e = s.accesses in omega arith;
-      members = λ t h.
-          let g : has t (hand ∷ rest) ≡ false = subst (λ z. has t z ≡ false) f.1 (s.members t h) in
-          let q = or_parts (eqb t hand) (has t rest) g in
-          ap (λ z. has t z) (main_slots-is l main' (rest ++ hand ∷ []) (turned now main hand rest m)) ∙ has-append t rest (hand ∷ []) ∙ or_neither (has t rest) (eqb t hand || false) q.1 (or_neither (eqb t hand) false q.0 refl);
-      same = record {
-        others = λ t h.
-            let g : has t (hand ∷ rest) ≡ false = subst (λ z. has t z ≡ false) f.1 (s.members t h) in
-            slot_at-with_bit now hand false t m.queue.linked.below.0 (or_parts (eqb t hand) (has t rest) g).0 ∙ s.same.others t h;
-        as_many = length-with_bit now hand false ∙ s.same.as_many;
-      };
-      places = s.places;
-    }
+module _ (old : LinkState) (main : MainRing) (now : LinkState) (hand : ℕ) (s : Swept old main now hand) where
+  rest_of : (rest : List ℕ) × (main_slots now (with_hand hand main) ≡ hand ∷ rest)
+  rest_of = first_of (main_slots now (with_hand hand main)) hand s.whole.queue.starts
 
--- fewer entries are left to pass
-pub Swept-fewer : (old : LinkState) (main : MainRing) (now : LinkState) (hand : ℕ) → Swept old main now hand → bit_at now hand ≡ true
-    → inspections (main_entries (after_pass hand now) (with_hand (next_at now hand) main)) < inspections (main_entries now (with_hand hand main))
-Swept-fewer old main now hand s b =
-    let n = (Swept-passed old main now hand s b).looks in
-    let e = s.looks in
-    omega arith
+  abbrev rest : List ℕ
+  rest = rest_of.0
+
+  at_hand : IsMain now (with_hand hand main) (hand ∷ rest)
+  at_hand = subst (λ z. IsMain now (with_hand hand main) z) rest_of.1 s.whole
+
+  pub hand_in : hand < length now.records.items
+  hand_in = at_hand.queue.linked.below.0
+
+  abbrev es : List (ℕ × Bool)
+  es = map {B = ℕ × Bool} (λ t. (t, bit_at now t)) rest
+
+  before : (b : Bool) → bit_at now hand ≡ b → main_entries now (with_hand hand main) ≡ (hand, b) ∷ es
+  before b e = ap (λ z. map {B = ℕ × Bool} (λ t. (t, bit_at now t)) z) rest_of.1 ∙ ap (λ z. (hand, z) ∷ es) e
+
+  absent_there : (t : ℕ) → has t (main_slots old main) ≡ false → has t (hand ∷ rest) ≡ false
+  absent_there t h = subst (λ z. has t z ≡ false) rest_of.1 (s.members t h)
+
+  module _ (l : LinkState) (k : Looks hand now l) where
+    -- the hand passed an entry whose bit was set
+    module _ (b : bit_at now hand ≡ true) where
+      after : main_entries l (with_hand (next_at now.records.items hand) main) ≡ es ++ (hand, false) ∷ []
+      after = ap (λ z. map {B = ℕ × Bool} (λ t. (t, bit_at l t)) z) (main_slots-is l (with_hand (next_at now.records.items hand) main) (rest ++ hand ∷ []) (turned now l main hand rest k at_hand)) ∙ entries_turned now l main hand rest k at_hand
+
+      looks_left : inspections (main_entries now (with_hand hand main)) ≡ inspections (main_entries l (with_hand (next_at now.records.items hand) main)) + 1
+      looks_left = ap inspections (before true b) ∙ (let e = prefix_len-push es hand in omega arith) ∙ ap (λ z. inspections z + 1) (sym after)
+
+      Swept-passed : l.records.accesses ≡ now.records.accesses + 1 → Swept old main l (next_at now.records.items hand)
+      Swept-passed a = record {
+        whole = IsMainRing-from l (with_hand (next_at now.records.items hand) main) (rest ++ hand ∷ []) (turned now l main hand rest k at_hand);
+        choice = ap from_victim after ∙ sym (from_victim-passed hand es) ∙ ap from_victim (sym (before true b)) ∙ s.choice;
+        looks = let e = s.looks in let f = looks_left in let n = k.inspections in omega arith;
+        accesses = let e = s.accesses in let n = k.inspections in omega arith;
+        members = λ t h.
+            let q = or_parts (eqb t hand) (has t rest) (absent_there t h) in
+            ap (λ z. has t z) (main_slots-is l (with_hand (next_at now.records.items hand) main) (rest ++ hand ∷ []) (turned now l main hand rest k at_hand))
+            ∙ has-append t rest (hand ∷ []) ∙ or_neither (has t rest) (eqb t hand || false) q.1 (or_neither (eqb t hand) false q.0 refl);
+        same = record {
+          others = λ t h. same_elsewhere now l main hand rest k at_hand t (absent_there t h) ∙ s.same.others t h;
+          as_many = as_many now l main hand rest k at_hand ∙ s.same.as_many;
+        };
+        window = k.window ∙ s.window;
+      }
 
 -- the hand's choice
 pub record Selects (old : LinkState) (main : MainRing) (new : LinkState) (main' : MainRing) (victim : ℕ) : Type 0 where
@@ -135,66 +170,66 @@ pub record Selects (old : LinkState) (main : MainRing) (new : LinkState) (main' 
   pub entries : main_entries new main' ≡ from_victim (main_entries old main)
   pub chosen : slice_get (main_entries new main') 0 ≡ Some (victim, false)
   pub others : IsSameBut (main_slots old main) old new
-  pub places : new.places ≡ old.places
-  pub looks : new.inspections ≡ old.inspections + inspections (main_entries old main)
-  pub accesses : new.accesses + 1 ≡ old.accesses + inspections (main_entries old main)
+  pub window : new.window ≡ old.window
+  pub looks : new.bits.inspections ≡ old.bits.inspections + inspections (main_entries old main)
+  pub accesses : new.records.accesses + 1 ≡ old.records.accesses + inspections (main_entries old main)
 
-pub Selects-from : (old : LinkState) (main : MainRing) (now : LinkState) (hand : ℕ) → Swept old main now hand → bit_at now hand ≡ false
-    → Selects old main (inspected (with_bit hand false now)) (with_hand hand main) hand
-Selects-from old main now hand s b =
-    let f = first_of (main_slots now (with_hand hand main)) hand s.whole.queue.starts in
-    let rest = f.0 in
-    let main' = with_hand hand main in
-    let m : IsMain now main' (hand ∷ rest) = subst (λ z. IsMain now main' z) f.1 s.whole in
-    let l = inspected (with_bit hand false now) in
-    let n = length-with_bit now hand false in
-    let bits = (λ (t : ℕ). bit_at-with_bit now hand false t m.queue.linked.below.0) in
-    let is : IsMain l main' (hand ∷ rest) = record {
-      queue = record { linked = IsLinked-kept now l (hand ∷ rest) m.queue.linked n (λ t h. record_at-with_bit now hand false t); starts = refl; counted = m.queue.counted; countable = rw n m.queue.countable };
-      standing = λ t h. ap (λ r. r.standing) (record_at-with_bit now hand false t) ∙ m.standing t h;
-    } in
-    let es : List (ℕ × Bool) = map (λ s. (s, bit_at now s)) rest in
-    let before : main_entries now main' ≡ (hand, false) ∷ es = ap (λ z. map {B = ℕ × Bool} (λ s. (s, bit_at now s)) z) f.1 ∙ ap (λ z. (hand, z) ∷ es) b in
-    let after : main_entries l main' ≡ (hand, false) ∷ es =
-    ap (λ z. map {B = ℕ × Bool} (λ s. (s, bit_at l s)) z) (main_slots-is l main' (hand ∷ rest) is)
-    ∙ ap (λ z. (hand, z) ∷ map {B = ℕ × Bool} (λ s. (s, bit_at l s)) rest) (bits hand ∙ rw (eqb_self hand) refl)
-    ∙ ap (λ z. (hand, false) ∷ z) (map-agree {X = ℕ × Bool} (λ s. (s, bit_at l s)) (λ s. (s, bit_at now s)) rest (λ t h. ap (λ z. (t, z)) (bits t ∙ rw (differs t hand rest h m.queue.linked.apart.0) refl))) in
-    let one : inspections (main_entries now main') ≡ 1 = ap inspections before in
-    record {
-      whole = IsMainRing-from l main' (hand ∷ rest) is;
-      entries = after ∙ sym (from_victim-chosen hand es) ∙ ap from_victim (sym before) ∙ s.choice;
-      chosen = ap (λ z. slice_get z 0) after;
-      others = record {
-        others = λ t h.
-            let g : has t (hand ∷ rest) ≡ false = subst (λ z. has t z ≡ false) f.1 (s.members t h) in
-            slot_at-with_bit now hand false t m.queue.linked.below.0 (or_parts (eqb t hand) (has t rest) g).0 ∙ s.same.others t h;
-        as_many = n ∙ s.same.as_many;
-      };
-      places = s.places;
-      looks = let e = s.looks in omega arith;
-      accesses = let e = s.looks in let a = s.accesses in omega arith;
-    }
+module _ (old : LinkState) (main : MainRing) (now : LinkState) (hand : ℕ) (s : Swept old main now hand) (l : LinkState) (k : Looks hand now l)
+    (b : bit_at now hand ≡ false) (a : l.records.accesses ≡ now.records.accesses) where
+  chosen_entries : main_entries l (with_hand hand main) ≡ (hand, false) ∷ es old main now hand s
+  chosen_entries =
+      ap (λ z. map {B = ℕ × Bool} (λ t. (t, bit_at l t)) z) (main_slots-is l (with_hand hand main) (hand ∷ rest old main now hand s) (stayed now l main hand (rest old main now hand s) k (at_hand old main now hand s)))
+      ∙ entries_stayed now l main hand (rest old main now hand s) k (at_hand old main now hand s)
+
+  Selects-from : Selects old main l (with_hand hand main) hand
+  Selects-from =
+      let r = rest old main now hand s in
+      let m = at_hand old main now hand s in
+      let zs = es old main now hand s in
+      let was : main_entries now (with_hand hand main) ≡ (hand, false) ∷ zs = before old main now hand s false b in
+      let one : inspections (main_entries now (with_hand hand main)) ≡ 1 = ap inspections was in
+      record {
+        whole = IsMainRing-from l (with_hand hand main) (hand ∷ r) (stayed now l main hand r k m);
+        entries = chosen_entries ∙ sym (from_victim-chosen hand zs) ∙ ap from_victim (sym was) ∙ s.choice;
+        chosen = ap (λ (z : List (ℕ × Bool)). slice_get z 0) chosen_entries;
+        others = record {
+          others = λ t h. same_elsewhere now l main hand r k m t (absent_there old main now hand s t h) ∙ s.same.others t h;
+          as_many = as_many now l main hand r k m ∙ s.same.as_many;
+        };
+        window = k.window ∙ s.window;
+        looks = let e = s.looks in let n = k.inspections in omega arith;
+        accesses = let e = s.looks in let f = s.accesses in let n = k.inspections in omega arith;
+      }
 
 -- the same by the states between: the look, then the reading of the record
-module _ (old : LinkState) (main : MainRing) (now : LinkState) (hand : ℕ) (s : Swept old main now hand) (mid : LinkState) (looked : mid ≡ inspected (with_bit hand false now)) where
-  pub hand_fits : hand < length now.slots
-  hand_fits =
-      let f = first_of (main_slots now (with_hand hand main)) hand s.whole.queue.starts in
-      (subst (λ z. IsMain now (with_hand hand main) z) f.1 s.whole).queue.linked.below.0
+module _ (old : LinkState) (main : MainRing) (now : LinkState) (hand : ℕ) (s : Swept old main now hand) (mid : LinkState)
+    (bits : (t : ℕ) → bit_at mid t ≡ cond (eqb t hand) false (bit_at now t)) (looked : mid ≡ record now { bits = mid.bits }) (counted : mid.bits.inspections ≡ now.bits.inspections + 1) where
+  pub hand_in_still : hand < length mid.records.items
+  hand_in_still = subst (λ (z : LinkState). hand < length z.records.items) (sym looked) (hand_in old main now hand s)
 
-  pub hand_fits_still : hand < length mid.slots
-  hand_fits_still = let h = hand_fits in rw (looked, length-with_bit now hand false) h
-
-  pub Swept-step : (l : LinkState) (r : Record) → true ≡ bit_at now hand → l ≡ accessed mid → r ≡ record_at mid hand → Swept old main l r.next
-  Swept-step l r b e v =
-      let n : r.next ≡ next_at now hand = ap (λ q. q.next) (v ∙ ap (λ m. record_at m hand) looked ∙ record_at-with_bit now hand false hand) in
-      rw (e, looked, n) (Swept-passed old main now hand s (sym b))
-
-  pub fewer_left : (l : LinkState) (r : Record) → true ≡ bit_at now hand → l ≡ accessed mid → r ≡ record_at mid hand
-      → inspections (main_entries l (with_hand r.next main)) < inspections (main_entries now (with_hand hand main))
-  fewer_left l r b e v =
-      let n : r.next ≡ next_at now hand = ap (λ q. q.next) (v ∙ ap (λ m. record_at m hand) looked ∙ record_at-with_bit now hand false hand) in
-      rw (e, looked, n) (Swept-fewer old main now hand s (sym b))
+  Looks-only : Looks hand now mid
+  Looks-only = record { bits = bits; items = ap (λ (z : LinkState). z.records.items) looked; window = ap (λ (z : LinkState). z.window) looked; inspections = counted }
 
   pub Selects-at : false ≡ bit_at now hand → Selects old main mid (with_hand hand main) hand
-  Selects-at b = rw looked (Selects-from old main now hand s (sym b))
+  Selects-at b = Selects-from old main now hand s mid Looks-only (sym b) (ap (λ (z : LinkState). z.records.accesses) looked)
+
+  module _ (l : LinkState) (r : Record) (b : true ≡ bit_at now hand) (e : l ≡ record mid { records = accessed mid.records }) (v : r ≡ record_at mid.records.items hand) where
+    Looks-read : Looks hand now l
+    Looks-read = record {
+      bits = λ t. ap (λ (z : LinkState). bit_at z t) e ∙ bits t;
+      items = ap (λ (z : LinkState). z.records.items) e ∙ Looks-only.items;
+      window = ap (λ (z : LinkState). z.window) e ∙ Looks-only.window;
+      inspections = ap (λ (z : LinkState). z.bits.inspections) e ∙ counted;
+    }
+
+    next_is : r.next ≡ next_at now.records.items hand
+    next_is = ap (λ (q : Record). q.next) v ∙ ap (λ (z : LinkState). next_at z.records.items hand) looked
+
+    read_counted : l.records.accesses ≡ now.records.accesses + 1
+    read_counted = ap (λ (z : LinkState). z.records.accesses) e ∙ ap (λ (z : LinkState). z.records.accesses + 1) looked
+
+    pub Swept-step : Swept old main l r.next
+    Swept-step = rw next_is (Swept-passed old main now hand s l Looks-read (sym b) read_counted)
+
+    pub fewer_left : inspections (main_entries l (with_hand r.next main)) < inspections (main_entries now (with_hand hand main))
+    fewer_left = rw next_is (let f = looks_left old main now hand s l Looks-read (sym b) in omega arith)

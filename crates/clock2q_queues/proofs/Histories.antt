@@ -1,5 +1,5 @@
 -- A new history, one that was cleared, and what callers see of one.
-use Rattle.std.proofs.Common.{◌≡◌, ℕ, suc, ◌*◌, ◌^◌, ◌<◌, ◌≤◌, Bool, List, [], length, refl, sym, ap, ◌∙◌, subst, arith}
+use Rattle.std.proofs.Common.{◌≡◌, ℕ, ◌^◌, ◌<◌, ◌≤◌, Bool, List, [], length, refl, sym, ap, ◌∙◌, subst, arith}
 use Rattle.clock2q_handles.specs.TableStep.{made_for}
 use Rattle.clock2q_queues.specs.declared.keys.cells.Entry.{Entry}
 use Rattle.clock2q_queues.specs.Rings.{AllBelow}
@@ -9,7 +9,7 @@ use Rattle.clock2q_queues.specs.Indexes.{IsIndex, AllDistinct, Empties, index_ro
 use Rattle.clock2q_queues.specs.History.{IsHistory, IsWholeHistory, remembered}
 use Rattle.clock2q_queues.proofs.Rings.{AllApart-left, AllBelow-left}
 use Rattle.clock2q_queues.proofs.Entries.{length-entries}
-use Rattle.clock2q_queues.proofs.Indexes.{IsIndex-new, IsIndex-kept, half_new}
+use Rattle.clock2q_queues.proofs.Indexes.{IsIndex-new, half_new}
 
 module _ {K V : Type 0} (eq : K → K → Bool) where
   pub IsHistory-new : (limit : ℕ) (keys : KeyPlaces K V) → limit < 2 ^ 24 → IsWholeOrder (unused limit) → keys.entries ≡ [] → limit ≤ keys.room → IsHistory eq (made_for (index_room limit)) (unused limit) keys
@@ -41,6 +41,12 @@ module _ {K V : Type 0} (eq : K → K → Bool) where
         half = rw (limit, e.as_many) h.half;
         short = rw limit h.short;
       }
+
+-- what callers see, from each of its parts
+pub shown-as : {K : Type 0} (entries entries' : List (ℕ × K)) (limit limit' : ℕ) (index : List (List (ℕ × ℕ))) (accesses questions questions' : ℕ) → entries' ≡ entries → limit' ≡ limit → questions' ≡ questions
+    → remembered entries' limit' index accesses questions' ≡ remembered entries limit index accesses questions
+shown-as entries entries' limit limit' index accesses questions questions' e l q =
+    ap (λ z. remembered z limit' index accesses questions') e ∙ ap (λ z. remembered entries z index accesses questions') l ∙ ap (λ z. remembered entries limit index accesses z) q
 
 pub IsWholeHistory-from : {K : Type 0} (eq : K → K → Bool) (index : List (List (ℕ × ℕ))) (order : PlaceOrder) (keys : KeyPlaces K Unit) (accesses questions : ℕ) → IsHistory eq index order keys
     → IsWholeHistory eq (remembered (entries_of keys.entries order.places) order.limit index accesses questions)

@@ -1,5 +1,5 @@
 -- What putting a slot into the links, and taking one out, makes of the queue that it joins or leaves, and of the rest.
-use Rattle.std.proofs.Common.{◌≡◌, ℕ, ◌+◌, ◌-◌, ◌<◌, ◌≤◌, ◌≢◌, ltb, Bool, true, false, not, cond, ◌||◌, eqb, Option, Some, None, slice_get, List, [], ◌∷◌, ◌++◌, length, map, inl, inr, refl, sym, ap, ◌∙◌, subst, arith}
+use Rattle.std.proofs.Common.{◌≡◌, ℕ, ◌+◌, ◌-◌, ◌^◌, ◌<◌, ◌≤◌, ◌≢◌, ltb, true, false, not, cond, ◌||◌, eqb, Option, Some, None, slice_get, List, [], ◌∷◌, ◌++◌, length, map, set, inl, inr, refl, sym, ap, ◌∙◌, subst, arith}
 use Rattle.std.specs.Bool.{then_some}
 use Rattle.std.specs.Option.{option_eq}
 use Rattle.std.specs.List.{filter, list_any, AllByRecursion, IsDistinct, last_or}
@@ -8,21 +8,21 @@ use Rattle.std.proofs.lemmas.List.{append-nil, length-append, length-set}
 use Rattle.std.proofs.lemmas.List.Elements.{filter-append}
 use Rattle.std.proofs.lemmas.Map.Steps.{length-le_from_distinct_below}
 use Rattle.clock2q_queues.specs.declared.links.Record.{Record}
-use Rattle.clock2q_queues.specs.declared.links.Standing.{Standing}
+use Rattle.clock2q_queues.specs.declared.links.Mark.{Mark}
 use Rattle.clock2q_queues.specs.Rings.{has, without, AllApart, AllBelow, Joins, IsRing}
-use Rattle.clock2q_queues.specs.Links.{LinkState, IsLinked, IsQueue, IsSameBut, IsSameElsewhere, Attaches, Detaches, slots_from, slot_at, record_at, next_at, previous_at, standing_at, bit_at, accessed, with_record, with_bit, vacant}
+use Rattle.clock2q_queues.specs.Cells.{Counted, written}
+use Rattle.clock2q_queues.specs.Links.{IsLinked, IsQueue, Attaches, Detaches, slots_from, record_at, next_at, previous_at, standing_at, vacant}
 use Rattle.clock2q_queues.proofs.Rings.{eqb_self, eqb_swap, or_left, or_right, or_parts, or_neither, has-append, has_first, has_later, differs, AllApart-append, AllApart-left, AllApart-right, apart_from, AllApart-turned, AllBelow-append, AllBelow-left, AllBelow-right, below_of, parted, IsRing-kept, IsRing-put, IsRing-taken, IsRing-turned, before_end, Joins_parts, around-ring, without-parted}
-use Rattle.clock2q_queues.proofs.Records.{changed, kept}
+use Rattle.clock2q_queues.proofs.Records.{changed}
 
 -- Slots
 
--- a slot is its three links and its bit
-pub same_slot : (x y : Record × Bool) → x.0.previous ≡ y.0.previous → x.0.next ≡ y.0.next → x.0.standing ≡ y.0.standing → x.1 ≡ y.1 → x ≡ y
-same_slot x y p n s b =
-    ap (λ z. (record { previous = z; next = x.0.next; standing = x.0.standing }, x.1)) p
-    ∙ ap (λ z. (record { previous = y.0.previous; next = z; standing = x.0.standing }, x.1)) n
-    ∙ ap (λ z. (record { previous = y.0.previous; next = y.0.next; standing = z }, x.1)) s
-    ∙ ap (λ z. (y.0, z)) b
+-- a record is its three fields
+pub same_record : (x y : Record) → x.previous ≡ y.previous → x.next ≡ y.next → x.standing ≡ y.standing → x ≡ y
+same_record x y p n s =
+    ap (λ z. record { previous = z; next = x.next; standing = x.standing }) p
+    ∙ ap (λ z. record { previous = y.previous; next = z; standing = x.standing }) n
+    ∙ ap (λ z. record { previous = y.previous; next = y.next; standing = z }) s
 
 pub map-agree : {X : Type 0} (f g : ℕ → X) (ss : List ℕ) → ((t : ℕ) → has t ss ≡ true → f t ≡ g t) → map f ss ≡ map g ss
 map-agree f g [] h = refl
@@ -46,12 +46,12 @@ pub length-le_bound : (n : ℕ) (ss : List ℕ) → AllApart ss → AllBelow n s
 length-le_bound n ss a b = length-le_from_distinct_below ss n (distinct ss a) (λ q e. below_of n ss b q (sym (has-any q ss) ∙ e))
 
 -- one more slot finds room
-pub room : (l : LinkState) (ss : List ℕ) (slot : ℕ) → IsLinked l ss → has slot ss ≡ false → slot < length l.slots → length ss < length l.slots
-room l ss slot k h b = length-le_bound (length l.slots) (slot ∷ ss) (h, k.apart) (b, k.below)
+pub room : (rs : List Record) (ss : List ℕ) (slot : ℕ) → IsLinked rs ss → has slot ss ≡ false → slot < length rs → length ss < length rs
+room rs ss slot k h b = length-le_bound (length rs) (slot ∷ ss) (h, k.apart) (b, k.below)
 
 -- Queues
 
-pub IsLinked-kept : (old new : LinkState) (ss : List ℕ) → IsLinked old ss → length new.slots ≡ length old.slots
+pub IsLinked-kept : (old new : List Record) (ss : List ℕ) → IsLinked old ss → length new ≡ length old
     → ((t : ℕ) → has t ss ≡ true → record_at new t ≡ record_at old t) → IsLinked new ss
 IsLinked-kept old new ss k n h = record {
   ring = IsRing-kept (next_at old) (previous_at old) (next_at new) (previous_at new) ss k.ring (λ t g. ap (λ r. r.next) (h t g)) (λ t g. ap (λ r. r.previous) (h t g));
@@ -59,21 +59,21 @@ IsLinked-kept old new ss k n h = record {
   below = subst (λ z. AllBelow z ss) (sym n) k.below;
 }
 
-pub IsLinked-turned : (l : LinkState) (xs ys : List ℕ) → IsLinked l (xs ++ ys) → IsLinked l (ys ++ xs)
-IsLinked-turned l xs ys k = record {
-  ring = IsRing-turned (next_at l) (previous_at l) xs ys k.ring;
+pub IsLinked-turned : (rs : List Record) (xs ys : List ℕ) → IsLinked rs (xs ++ ys) → IsLinked rs (ys ++ xs)
+IsLinked-turned rs xs ys k = record {
+  ring = IsRing-turned (next_at rs) (previous_at rs) xs ys k.ring;
   apart = AllApart-turned xs ys k.apart;
-  below = AllBelow-append (length l.slots) ys xs (AllBelow-right (length l.slots) xs ys k.below) (AllBelow-left (length l.slots) xs ys k.below);
+  below = AllBelow-append (length rs) ys xs (AllBelow-right (length rs) xs ys k.below) (AllBelow-left (length rs) xs ys k.below);
 }
 
 -- a queue's slots are those met from its first one
-pub slots_from-is : (l : LinkState) (first : Option ℕ) (count : ℕ) (ss : List ℕ) → IsQueue l first count ss → slots_from l first count ≡ ss
-slots_from-is l None count [] q = refl
-slots_from-is l None count (s ∷ ss) q = cc
-slots_from-is l (Some f) count [] q = cc
-slots_from-is l (Some f) count (s ∷ ss) q =
+pub slots_from-is : (rs : List Record) (first : Option ℕ) (count : ℕ) (ss : List ℕ) → IsQueue rs first count ss → slots_from rs first count ≡ ss
+slots_from-is rs None count [] q = refl
+slots_from-is rs None count (s ∷ ss) q = cc
+slots_from-is rs (Some f) count [] q = cc
+slots_from-is rs (Some f) count (s ∷ ss) q =
     let e : f ≡ s = cc in
-    rw (q.counted, e) (around-ring (next_at l) (previous_at l) s ss q.linked.ring)
+    rw (q.counted, e) (around-ring (next_at rs) (previous_at rs) s ss q.linked.ring)
 
 has-turned : (t : ℕ) (xs ys : List ℕ) → has t (ys ++ xs) ≡ true → has t (xs ++ ys) ≡ true
 has-turned t xs ys h = elim (or_cases (has t ys) (has t xs) (sym (has-append t ys xs) ∙ h)) [
@@ -86,157 +86,142 @@ next_in_ring next previous s [] r = or_left _ _ (eq-eqb _ _ r.0)
 next_in_ring next previous s (x ∷ ss) r = has_later (next s) s (x ∷ ss) (or_left (eqb (next s) x) (has (next s) ss) (eq-eqb _ _ r.0))
 
 -- the neighbours of a slot in a queue are in it
-pub previous_in : (l : LinkState) (ss : List ℕ) (s : ℕ) → IsLinked l ss → has s ss ≡ true → has (previous_at l s) ss ≡ true
-previous_in l ss s k h =
+pub previous_in : (rs : List Record) (ss : List ℕ) (s : ℕ) → IsLinked rs ss → has s ss ≡ true → has (previous_at rs s) ss ≡ true
+previous_in rs ss s k h =
     let p = parted s ss h in
-    let r = IsLinked-turned l p.0 (s ∷ p.1.0) (subst (λ z. IsLinked l z) p.1.1 k) in
-    let e = before_end (next_at l) (previous_at l) s (p.1.0 ++ p.0) s r.ring in
-    subst (λ z. has (previous_at l s) z ≡ true) (sym p.1.1) (has-turned (previous_at l s) p.0 (s ∷ p.1.0) e)
+    let r = IsLinked-turned rs p.0 (s ∷ p.1.0) (subst (λ z. IsLinked rs z) p.1.1 k) in
+    let e = before_end (next_at rs) (previous_at rs) s (p.1.0 ++ p.0) s r.ring in
+    subst (λ z. has (previous_at rs s) z ≡ true) (sym p.1.1) (has-turned (previous_at rs s) p.0 (s ∷ p.1.0) e)
 
-pub next_in : (l : LinkState) (ss : List ℕ) (s : ℕ) → IsLinked l ss → has s ss ≡ true → has (next_at l s) ss ≡ true
-next_in l ss s k h =
+pub next_in : (rs : List Record) (ss : List ℕ) (s : ℕ) → IsLinked rs ss → has s ss ≡ true → has (next_at rs s) ss ≡ true
+next_in rs ss s k h =
     let p = parted s ss h in
-    let r = IsLinked-turned l p.0 (s ∷ p.1.0) (subst (λ z. IsLinked l z) p.1.1 k) in
-    let e = next_in_ring (next_at l) (previous_at l) s (p.1.0 ++ p.0) r.ring in
-    subst (λ z. has (next_at l s) z ≡ true) (sym p.1.1) (has-turned (next_at l s) p.0 (s ∷ p.1.0) e)
+    let r = IsLinked-turned rs p.0 (s ∷ p.1.0) (subst (λ z. IsLinked rs z) p.1.1 k) in
+    let e = next_in_ring (next_at rs) (previous_at rs) s (p.1.0 ++ p.0) r.ring in
+    subst (λ z. has (next_at rs s) z ≡ true) (sym p.1.1) (has-turned (next_at rs s) p.0 (s ∷ p.1.0) e)
 
-pub in_bounds : (l : LinkState) (ss : List ℕ) (s : ℕ) → IsLinked l ss → has s ss ≡ true → s < length l.slots
-in_bounds l ss s k h = below_of (length l.slots) ss k.below s h
+pub in_bounds : (rs : List Record) (ss : List ℕ) (s : ℕ) → IsLinked rs ss → has s ss ≡ true → s < length rs
+in_bounds rs ss s k h = below_of (length rs) ss k.below s h
+
+-- a slot of a queue is among the records, and so are its neighbours
+pub neighbours_fit : (rs : List Record) (ss : List ℕ) (slot : ℕ) → IsLinked rs ss → has slot ss ≡ true
+    → (slot < length rs) × (next_at rs slot < length rs) × (previous_at rs slot < length rs)
+neighbours_fit rs ss slot k h =
+    (in_bounds rs ss slot k h, in_bounds rs ss (next_at rs slot) k (next_in rs ss slot k h), in_bounds rs ss (previous_at rs slot) k (previous_in rs ss slot k h))
+
+-- the first slot is among them
+pub first_in : (ss : List ℕ) (first : ℕ) → Some first ≡ slice_get ss 0 → has first ss ≡ true
+first_in [] first e = absurd (cc)
+first_in (s ∷ ss) first e = let q : first ≡ s = cc in or_left (eqb first s) (has first ss) (eq-eqb first s q)
+
+-- the next count of slots fits
+pub count_fits : (rs : List Record) (first : Option ℕ) (count : ℕ) (ss : List ℕ) (slot : ℕ) → IsQueue rs first count ss → has slot ss ≡ false → slot < length rs → count + 1 < 2 ^ 32
+count_fits rs first count ss slot q absent b =
+    let r = room rs ss slot q.linked absent b in
+    let n = q.counted in
+    let k = q.countable in
+    omega arith
 
 -- Putting a slot in
 
 -- a slot was put last into a queue
-pub record Inserts (slot : ℕ) (standing : Standing) (ss : List ℕ) (old new : LinkState) : Type 0 where
+pub record Inserts (slot : ℕ) (standing : Mark) (ss : List ℕ) (old new : List Record) : Type 0 where
   pub linked : IsLinked new (ss ++ slot ∷ [])
   pub standings : (t : ℕ) → standing_at new t ≡ cond (eqb t slot) standing (standing_at old t)
-  pub bits : (t : ℕ) → bit_at new t ≡ bit_at old t
-  pub same : IsSameBut (slot ∷ ss) old new
-  pub rest : IsSameElsewhere old new
-  pub accesses : new.accesses ≤ old.accesses + 6
+  pub others : (t : ℕ) → has t (slot ∷ ss) ≡ false → record_at new t ≡ record_at old t
+  pub as_many : length new ≡ length old
 
 -- into a queue with slots, just before its first one
-pub Inserts-attached : (old new : LinkState) (first : ℕ) (ss : List ℕ) (slot : ℕ) (standing : Standing)
-    → IsLinked old (first ∷ ss) → has slot (first ∷ ss) ≡ false → slot < length old.slots → Attaches slot first standing old new
-    → Inserts slot standing (first ∷ ss) old new
+Inserts-attached : (old new : Counted Record) (first : ℕ) (ss : List ℕ) (slot : ℕ) (standing : Mark)
+    → IsLinked old.items (first ∷ ss) → has slot (first ∷ ss) ≡ false → slot < length old.items → Attaches slot first standing old new
+    → Inserts slot standing (first ∷ ss) old.items new.items
 Inserts-attached old new first ss slot standing k absent b a =
-    let last_in = before_end (next_at old) (previous_at old) first ss first k.ring in
+    let rs = old.items in
+    let last_in = before_end (next_at rs) (previous_at rs) first ss first k.ring in
     record {
       linked = record {
-        ring = IsRing-put (next_at old) (previous_at old) (next_at new) (previous_at new) first ss slot k.ring k.apart absent a.nexts a.previouses;
+        ring = IsRing-put (next_at rs) (previous_at rs) (next_at new.items) (previous_at new.items) first ss slot k.ring k.apart absent a.nexts a.previouses;
         apart = AllApart-append (first ∷ ss) (slot ∷ []) k.apart (refl, tt) (λ t h. or_neither (eqb t slot) false (differs t slot (first ∷ ss) h absent) refl);
-        below = subst (λ z. AllBelow z (first ∷ ss ++ slot ∷ [])) (sym a.rest.as_many) (AllBelow-append (length old.slots) (first ∷ ss) (slot ∷ []) k.below (b, tt));
+        below = subst (λ z. AllBelow z (first ∷ ss ++ slot ∷ [])) (sym a.as_many) (AllBelow-append (length rs) (first ∷ ss) (slot ∷ []) k.below (b, tt));
       };
       standings = a.standings;
-      bits = a.bits;
-      same = record {
-        others = λ t h.
-            let p : eqb t slot ≡ false = (or_parts (eqb t slot) (has t (first ∷ ss)) h).0 in
-            let q : has t (first ∷ ss) ≡ false = (or_parts (eqb t slot) (has t (first ∷ ss)) h).1 in
-            let f : eqb t first ≡ false = (or_parts (eqb t first) (has t ss) q).0 in
-            let l : eqb t (previous_at old first) ≡ false = eqb_swap (previous_at old first) t (differs (previous_at old first) t (first ∷ ss) last_in q) in
-            same_slot (slot_at new t) (slot_at old t)
-            (a.previouses t ∙ rw (f, p) refl) (a.nexts t ∙ rw (l, p) refl) (a.standings t ∙ rw p refl) (a.bits t);
-        as_many = a.rest.as_many;
-      };
-      rest = a.rest;
-      accesses = omega (arith, a.accesses);
+      others = λ t h.
+          let p : eqb t slot ≡ false = (or_parts (eqb t slot) (has t (first ∷ ss)) h).0 in
+          let q : has t (first ∷ ss) ≡ false = (or_parts (eqb t slot) (has t (first ∷ ss)) h).1 in
+          let f : eqb t first ≡ false = (or_parts (eqb t first) (has t ss) q).0 in
+          let l : eqb t (previous_at rs first) ≡ false = eqb_swap (previous_at rs first) t (differs (previous_at rs first) t (first ∷ ss) last_in q) in
+          same_record (record_at new.items t) (record_at rs t)
+          (a.previouses t ∙ rw (f, p) refl) (a.nexts t ∙ rw (l, p) refl) (a.standings t ∙ rw p refl);
+      as_many = a.as_many;
     }
 
 -- into an empty queue
-pub Inserts-alone : (old : LinkState) (slot : ℕ) (standing : Standing) → slot < length old.slots
-    → Inserts slot standing [] old (accessed (with_record slot (record { previous = slot; next = slot; standing = standing }) old))
-Inserts-alone old slot standing b =
-    let r : Record × Bool = (record { previous = slot; next = slot; standing = standing }, bit_at old slot) in
-    let n = length-set old.slots slot r in
+Inserts-alone : (rs : List Record) (slot : ℕ) (standing : Mark) → slot < length rs
+    → Inserts slot standing [] rs (set rs slot (record { previous = slot; next = slot; standing = standing }))
+Inserts-alone rs slot standing b =
+    let r : Record = record { previous = slot; next = slot; standing = standing } in
+    let n = length-set rs slot r in
     record {
       linked = record {
-        ring = (changed (λ p. p.0.next) old.slots slot r (vacant, false) slot b ∙ rw (eqb_self slot) refl, changed (λ p. p.0.previous) old.slots slot r (vacant, false) slot b ∙ rw (eqb_self slot) refl);
+        ring = (changed (λ p. p.next) rs slot r vacant slot b ∙ rw (eqb_self slot) refl, changed (λ p. p.previous) rs slot r vacant slot b ∙ rw (eqb_self slot) refl);
         apart = (refl, tt);
         below = (omega arith, tt);
       };
-      standings = λ t. changed (λ p. p.0.standing) old.slots slot r (vacant, false) t b;
-      bits = λ t. kept (λ p. p.1) old.slots slot r (vacant, false) t refl;
-      same = record {
-        others = λ t h. changed (λ p. p) old.slots slot r (vacant, false) t b ∙ rw ((or_parts (eqb t slot) false h).0) refl;
-        as_many = n;
-      };
-      rest = record { as_many = n; places = refl; inspections = refl };
-      accesses = omega arith;
-    }
-
--- Taking a slot out
-
--- a slot was taken out of a queue
-pub record Removes (slot : ℕ) (ss : List ℕ) (old new : LinkState) : Type 0 where
-  pub linked : IsLinked new (without slot ss)
-  pub standings : (t : ℕ) → eqb t slot ≡ false → standing_at new t ≡ standing_at old t
-  pub bits : (t : ℕ) → bit_at new t ≡ bit_at old t
-  pub same : IsSameBut ss old new
-  pub rest : IsSameElsewhere old new
-  pub freed : record_at new slot ≡ vacant
-  pub accesses : new.accesses ≤ old.accesses + 6
-
-pub Removes-detached : (old new : LinkState) (ss : List ℕ) (slot : ℕ)
-    → IsLinked old ss → has slot ss ≡ true → Detaches slot old new → Removes slot ss old new
-Removes-detached old new ss slot k h d =
-    let p = parted slot ss h in
-    let xs = p.0 in
-    let ys = p.1.0 in
-    let k' : IsLinked old (xs ++ slot ∷ ys) = subst (λ z. IsLinked old z) p.1.1 k in
-    let e : without slot ss ≡ xs ++ ys = ap (λ z. without slot z) p.1.1 ∙ without-parted xs slot ys k'.apart in
-    record {
-      linked = subst (λ z. IsLinked new z) (sym e) (record {
-        ring = IsRing-taken (next_at old) (previous_at old) (next_at new) (previous_at new) xs slot ys k'.ring k'.apart d.nexts d.previouses;
-        apart = AllApart-append xs ys (AllApart-left xs (slot ∷ ys) k'.apart) (AllApart-right xs (slot ∷ ys) k'.apart).1 (λ t g. (or_parts (eqb t slot) (has t ys) (apart_from xs (slot ∷ ys) k'.apart t g)).1);
-        below = subst (λ z. AllBelow z (xs ++ ys)) (sym d.rest.as_many) (AllBelow-append (length old.slots) xs ys (AllBelow-left (length old.slots) xs (slot ∷ ys) k'.below) (AllBelow-right (length old.slots) xs (slot ∷ ys) k'.below).1);
-      });
-      standings = d.standings;
-      bits = d.bits;
-      same = record {
-        others = λ t g.
-            let q : eqb t slot ≡ false = eqb_swap slot t (differs slot t ss h g) in
-            let l : eqb t (previous_at old slot) ≡ false = eqb_swap (previous_at old slot) t (differs (previous_at old slot) t ss (previous_in old ss slot k h) g) in
-            let r : eqb t (next_at old slot) ≡ false = eqb_swap (next_at old slot) t (differs (next_at old slot) t ss (next_in old ss slot k h) g) in
-            same_slot (slot_at new t) (slot_at old t)
-            (d.previouses t q ∙ rw r refl) (d.nexts t q ∙ rw l refl) (d.standings t q) (d.bits t);
-        as_many = d.rest.as_many;
-      };
-      rest = d.rest;
-      freed = d.freed;
-      accesses = omega (arith, d.accesses);
+      standings = λ t. changed (λ p. p.standing) rs slot r vacant t b;
+      others = λ t h. changed (λ p. p) rs slot r vacant t b ∙ rw ((or_parts (eqb t slot) false h).0) refl;
+      as_many = n;
     }
 
 -- the first slot of a queue, as its owner holds it, decides how a slot is put in
-pub Inserts-before : (old new : LinkState) (ss : List ℕ) (slot : ℕ) (standing : Standing) (first : ℕ)
-    → IsLinked old ss → Some first ≡ slice_get ss 0 → has slot ss ≡ false → slot < length old.slots → Attaches slot first standing old new
-    → Inserts slot standing ss old new
+pub Inserts-before : (old new : Counted Record) (ss : List ℕ) (slot : ℕ) (standing : Mark) (first : ℕ)
+    → IsLinked old.items ss → Some first ≡ slice_get ss 0 → has slot ss ≡ false → slot < length old.items → Attaches slot first standing old new
+    → Inserts slot standing ss old.items new.items
 Inserts-before old new [] slot standing first k e absent b a = absurd (cc)
 Inserts-before old new (s ∷ ss) slot standing first k e absent b a =
     let q : first ≡ s = cc in
     Inserts-attached old new s ss slot standing k absent b (subst (λ z. Attaches slot z standing old new) q a)
 
-pub Inserts-first : (old new : LinkState) (ss : List ℕ) (slot : ℕ) (standing : Standing)
-    → None ≡ slice_get ss 0 → slot < length old.slots → new ≡ accessed (with_record slot (record { previous = slot; next = slot; standing = standing }) old)
-    → Inserts slot standing ss old new
-Inserts-first old new [] slot standing e b n = subst (λ z. Inserts slot standing [] old z) (sym n) (Inserts-alone old slot standing b)
+pub Inserts-first : (old new : Counted Record) (ss : List ℕ) (slot : ℕ) (standing : Mark)
+    → None ≡ slice_get ss 0 → slot < length old.items → new ≡ written slot (record { previous = slot; next = slot; standing = standing }) old
+    → Inserts slot standing ss old.items new.items
+Inserts-first old new [] slot standing e b n = subst (λ (z : Counted Record). Inserts slot standing [] old.items z.items) (sym n) (Inserts-alone old.items slot standing b)
 Inserts-first old new (s ∷ ss) slot standing e b n = absurd (cc)
 
--- Bits
+-- Taking a slot out
 
-pub record_at-with_bit : (l : LinkState) (slot : ℕ) (b : Bool) (t : ℕ) → record_at (with_bit slot b l) t ≡ record_at l t
-record_at-with_bit l slot b t = kept (λ p. p.0) l.slots slot (record_at l slot, b) (vacant, false) t refl
+-- a slot was taken out of a queue
+pub record Removes (slot : ℕ) (ss : List ℕ) (old new : List Record) : Type 0 where
+  pub linked : IsLinked new (without slot ss)
+  pub standings : (t : ℕ) → eqb t slot ≡ false → standing_at new t ≡ standing_at old t
+  pub others : (t : ℕ) → has t ss ≡ false → record_at new t ≡ record_at old t
+  pub freed : record_at new slot ≡ vacant
+  pub as_many : length new ≡ length old
 
-pub bit_at-with_bit : (l : LinkState) (slot : ℕ) (b : Bool) (t : ℕ) → slot < length l.slots → bit_at (with_bit slot b l) t ≡ cond (eqb t slot) b (bit_at l t)
-bit_at-with_bit l slot b t h = changed (λ p. p.1) l.slots slot (record_at l slot, b) (vacant, false) t h
-
-pub slot_at-with_bit : (l : LinkState) (slot : ℕ) (b : Bool) (t : ℕ) → slot < length l.slots → eqb t slot ≡ false → slot_at (with_bit slot b l) t ≡ slot_at l t
-slot_at-with_bit l slot b t h e = changed (λ p. p) l.slots slot (record_at l slot, b) (vacant, false) t h ∙ rw e refl
-
-pub length-with_bit : (l : LinkState) (slot : ℕ) (b : Bool) → length (with_bit slot b l).slots ≡ length l.slots
-length-with_bit l slot b = length-set l.slots slot (record_at l slot, b)
-
-pub IsLinked-with_bit : (l : LinkState) (slot : ℕ) (b : Bool) (ss : List ℕ) → IsLinked l ss → IsLinked (with_bit slot b l) ss
-IsLinked-with_bit l slot b ss k = IsLinked-kept l (with_bit slot b l) ss k (length-with_bit l slot b) (λ t h. record_at-with_bit l slot b t)
+pub Removes-detached : (old new : Counted Record) (ss : List ℕ) (slot : ℕ)
+    → IsLinked old.items ss → has slot ss ≡ true → Detaches slot old new → Removes slot ss old.items new.items
+Removes-detached old new ss slot k h d =
+    let rs = old.items in
+    let p = parted slot ss h in
+    let xs = p.0 in
+    let ys = p.1.0 in
+    let k' : IsLinked rs (xs ++ slot ∷ ys) = subst (λ z. IsLinked rs z) p.1.1 k in
+    let e : without slot ss ≡ xs ++ ys = ap (λ z. without slot z) p.1.1 ∙ without-parted xs slot ys k'.apart in
+    record {
+      linked = subst (λ z. IsLinked new.items z) (sym e) (record {
+        ring = IsRing-taken (next_at rs) (previous_at rs) (next_at new.items) (previous_at new.items) xs slot ys k'.ring k'.apart d.nexts d.previouses;
+        apart = AllApart-append xs ys (AllApart-left xs (slot ∷ ys) k'.apart) (AllApart-right xs (slot ∷ ys) k'.apart).1 (λ t g. (or_parts (eqb t slot) (has t ys) (apart_from xs (slot ∷ ys) k'.apart t g)).1);
+        below = subst (λ z. AllBelow z (xs ++ ys)) (sym d.as_many) (AllBelow-append (length rs) xs ys (AllBelow-left (length rs) xs (slot ∷ ys) k'.below) (AllBelow-right (length rs) xs (slot ∷ ys) k'.below).1);
+      });
+      standings = d.standings;
+      others = λ t g.
+          let q : eqb t slot ≡ false = eqb_swap slot t (differs slot t ss h g) in
+          let l : eqb t (previous_at rs slot) ≡ false = eqb_swap (previous_at rs slot) t (differs (previous_at rs slot) t ss (previous_in rs ss slot k h) g) in
+          let r : eqb t (next_at rs slot) ≡ false = eqb_swap (next_at rs slot) t (differs (next_at rs slot) t ss (next_in rs ss slot k h) g) in
+          same_record (record_at new.items t) (record_at rs t)
+          (d.previouses t q ∙ rw r refl) (d.nexts t q ∙ rw l refl) (d.standings t q);
+      freed = d.freed;
+      as_many = d.as_many;
+    }
 
 -- Entries
 
@@ -269,13 +254,13 @@ length-without slot ss a h =
     omega (arith, length-append p.0 p.1.0, length-append p.0 (slot ∷ p.1.0))
 
 -- where the first slot went, the next one is first, if there is one
-pub first_after : (l : LinkState) (count : ℕ) (ss : List ℕ) (slot : ℕ) → IsQueue l (Some slot) count ss
-    → then_some (ltb 0 (count - 1)) (next_at l slot) ≡ slice_get (without slot ss) 0
-first_after l count [] slot q = absurd (let e = q.starts in cc)
-first_after l count (s ∷ []) slot q =
+pub first_after : (rs : List Record) (count : ℕ) (ss : List ℕ) (slot : ℕ) → IsQueue rs (Some slot) count ss
+    → then_some (ltb 0 (count - 1)) (next_at rs slot) ≡ slice_get (without slot ss) 0
+first_after rs count [] slot q = absurd (let e = q.starts in cc)
+first_after rs count (s ∷ []) slot q =
     let e : slot ≡ s = let h = q.starts in cc in
     rw (q.counted, e, eqb_self s) refl
-first_after l count (s ∷ t ∷ ss) slot q =
+first_after rs count (s ∷ t ∷ ss) slot q =
     let e : slot ≡ s = let h = q.starts in cc in
     let a = q.linked.apart in
     let d : eqb t s ≡ false = eqb_swap s t (or_parts (eqb s t) (has s ss) a.0).0 in
@@ -283,10 +268,10 @@ first_after l count (s ∷ t ∷ ss) slot q =
     rw (n, e, eqb_self s, d) (ap (λ z. Some z) q.linked.ring.0)
 
 -- where another one went, it stays the first
-pub first_stays : (l : LinkState) (first : Option ℕ) (count : ℕ) (ss : List ℕ) (slot : ℕ) → IsQueue l first count ss → first ≢ Some slot
+pub first_stays : (rs : List Record) (first : Option ℕ) (count : ℕ) (ss : List ℕ) (slot : ℕ) → IsQueue rs first count ss → first ≢ Some slot
     → first ≡ slice_get (without slot ss) 0
-first_stays l first count [] slot q d = q.starts
-first_stays l first count (s ∷ ss) slot q d =
+first_stays rs first count [] slot q d = q.starts
+first_stays rs first count (s ∷ ss) slot q d =
     let e : eqb s slot ≡ false = elim (cases_Bool (eqb s slot)) [ inl h ↦ absurd (d (q.starts ∙ ap (λ z. Some z) (eqb-true s slot h))) | inr h ↦ h ] in
     rw e q.starts
 
@@ -298,9 +283,9 @@ pub not_first : (o : Option ℕ) (slot : ℕ) → false ≡ option_eq eqb o (Som
 not_first None slot e h = cc
 not_first (Some s) slot e h = let q : s ≡ slot = cc in both_ways (eqb s slot) (sym e) (eq-eqb s slot q)
 
-pub first_gone : (l : LinkState) (first : Option ℕ) (count : ℕ) (ss : List ℕ) (slot : ℕ) → IsQueue l first count ss → first ≡ Some slot
-    → then_some (ltb 0 (count - 1)) (next_at l slot) ≡ slice_get (without slot ss) 0
-first_gone l first count ss slot q e = first_after l count ss slot (subst (λ z. IsQueue l z count ss) e q)
+pub first_gone : (rs : List Record) (first : Option ℕ) (count : ℕ) (ss : List ℕ) (slot : ℕ) → IsQueue rs first count ss → first ≡ Some slot
+    → then_some (ltb 0 (count - 1)) (next_at rs slot) ≡ slice_get (without slot ss) 0
+first_gone rs first count ss slot q e = first_after rs count ss slot (subst (λ z. IsQueue rs z count ss) e q)
 
 -- The last slot
 
@@ -316,24 +301,24 @@ last_or-push : (o : Option ℕ) (xs : List ℕ) (x : ℕ) → last_or o (xs ++ x
 last_or-push o [] x = refl
 last_or-push o (y ∷ xs) x = last_or-push (Some y) xs x
 
-last_of_front : (l : LinkState) (xs : List ℕ) (slot : ℕ) → IsRing (next_at l) (previous_at l) (xs ++ slot ∷ [])
-    → then_some (ltb 0 (length xs + 1 - 1)) (previous_at l slot) ≡ last_or None xs
-last_of_front l [] slot r = refl
-last_of_front l (x ∷ xs) slot r =
+last_of_front : (rs : List Record) (xs : List ℕ) (slot : ℕ) → IsRing (next_at rs) (previous_at rs) (xs ++ slot ∷ [])
+    → then_some (ltb 0 (length xs + 1 - 1)) (previous_at rs slot) ≡ last_or None xs
+last_of_front rs [] slot r = refl
+last_of_front rs (x ∷ xs) slot r =
     let b : ltb 0 (length (x ∷ xs) + 1 - 1) ≡ true = lt-ltb 0 (length (x ∷ xs) + 1 - 1) (omega arith) in
-    rw b (sym (last_before (next_at l) (previous_at l) x xs slot (Joins_parts (next_at l) (previous_at l) x xs slot [] x r).0))
+    rw b (sym (last_before (next_at rs) (previous_at rs) x xs slot (Joins_parts (next_at rs) (previous_at rs) x xs slot [] x r).0))
 
 -- the last one of a queue went: the one before it is last, if there is one
-pub last_gone : (l : LinkState) (count : ℕ) (ss : List ℕ) (slot : ℕ) → IsLinked l ss → count ≡ length ss → last_or None ss ≡ Some slot
-    → then_some (ltb 0 (count - 1)) (previous_at l slot) ≡ last_or None (without slot ss)
-last_gone l count [] slot k n e = absurd (cc)
-last_gone l count (s ∷ ss) slot k n e =
+pub last_gone : (rs : List Record) (count : ℕ) (ss : List ℕ) (slot : ℕ) → IsLinked rs ss → count ≡ length ss → last_or None ss ≡ Some slot
+    → then_some (ltb 0 (count - 1)) (previous_at rs slot) ≡ last_or None (without slot ss)
+last_gone rs count [] slot k n e = absurd (cc)
+last_gone rs count (s ∷ ss) slot k n e =
     let p = split_last ss s slot e in
     let xs = p.0 in
-    let k' : IsLinked l (xs ++ slot ∷ []) = subst (λ z. IsLinked l z) p.1 k in
+    let k' : IsLinked rs (xs ++ slot ∷ []) = subst (λ z. IsLinked rs z) p.1 k in
     let w : without slot (s ∷ ss) ≡ xs = ap (λ z. without slot z) p.1 ∙ without-parted xs slot [] k'.apart ∙ append-nil xs in
     let m : count ≡ length xs + 1 = n ∙ ap (λ (z : List ℕ). length z) p.1 ∙ length-append xs (slot ∷ []) in
-    ap (λ z. then_some (ltb 0 (z - 1)) (previous_at l slot)) m ∙ last_of_front l xs slot k'.ring ∙ ap (λ z. last_or None z) (sym w)
+    ap (λ z. then_some (ltb 0 (z - 1)) (previous_at rs slot)) m ∙ last_of_front rs xs slot k'.ring ∙ ap (λ z. last_or None z) (sym w)
 
 pub last_some : {X : Type 0} (ss : List X) (s : X) → (x : X) × (last_or None (s ∷ ss) ≡ Some x)
 last_some [] s = (s, refl)

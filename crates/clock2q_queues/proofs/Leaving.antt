@@ -1,67 +1,66 @@
 -- Small after a slot left it.
-use Rattle.std.proofs.Common.{◌≡◌, ℕ, ◌-◌, ◌<◌, ◌≢◌, ◌⊎◌, Bool, true, false, not, eqb, ltb, Option, Some, None, slice_get, List, length, map, get_or, inl, inr, refl, sym, ap, ◌∙◌, subst, arith}
+use Rattle.std.proofs.Common.{◌≡◌, ℕ, ◌-◌, ◌<◌, ◌≢◌, ◌⊎◌, true, false, not, eqb, ltb, Option, Some, None, slice_get, List, length, map, get_or, inl, inr, refl, sym, ap, ◌∙◌, subst, arith}
 use Rattle.std.specs.Bool.{then_some}
 use Rattle.std.specs.List.{filter, last_or}
 use Rattle.std.proofs.lemmas.Bool.{eqb-true, eq-eqb, ne_eqb, both_ways, cases_Bool, cases_lt}
 use Rattle.std.proofs.lemmas.List.{length-set, get_or_past, set_past}
 use Rattle.clock2q_queues.specs.Ages.{Age}
 use Rattle.clock2q_queues.specs.declared.links.Record.{Record}
-use Rattle.clock2q_queues.specs.declared.links.Standing.{Standing}
-use Rattle.clock2q_queues.specs.declared.links.Standing.TheVariants.{Free, Young, Old, Main}
+use Rattle.clock2q_queues.specs.declared.links.Mark.{Mark}
+use Rattle.clock2q_queues.specs.declared.links.Mark.TheVariants.{Free, Young, Old, Main}
 use Rattle.clock2q_queues.specs.declared.small.Small.{Small}
-use Rattle.clock2q_queues.specs.Rings.{has, without, AllBelow}
-use Rattle.clock2q_queues.specs.Links.{LinkState, IsLinked, IsSameBut, Detaches, slot_at, next_at, previous_at, standing_at, bit_at, place_at}
+use Rattle.clock2q_queues.specs.Cells.{Counted, HitBits, bit_in}
+use Rattle.clock2q_queues.specs.Rings.{has, without}
+use Rattle.clock2q_queues.specs.Links.{LinkState, IsLinked, IsSameBut, Detaches, record_at, next_at, previous_at, standing_at, bit_at, place_at}
 use Rattle.clock2q_queues.specs.Ends.{place_freed, end_after}
 use Rattle.clock2q_queues.specs.Small.{IsSmall, IsSmallQueue, small_slots, small_entries, age_at}
 use Rattle.clock2q_queues.proofs.Records.{changed}
-use Rattle.clock2q_queues.proofs.Rings.{IsRing-kept, eqb_self}
-use Rattle.clock2q_queues.proofs.Joining.{Removes, Removes-detached, map-agree, first_gone, first_stays, last_gone, last_stays, in_bounds, previous_in, next_in, filter-entries, has-without, has-without-back, length-without}
+use Rattle.clock2q_queues.proofs.Rings.{eqb_self}
+use Rattle.clock2q_queues.proofs.Joining.{Removes, Removes-detached, map-agree, first_gone, first_stays, last_gone, last_stays, filter-entries, has-without, has-without-back, length-without}
 use Rattle.clock2q_queues.proofs.Window.{small_slots-is, IsSmallQueue-from}
-
--- the neighbours of a slot of Small are there
-pub neighbours_fit : (l : LinkState) (small : Small) (slot : ℕ) → IsSmallQueue l small → has slot (small_slots l small) ≡ true
-    → (slot < length l.slots) × (next_at l slot < length l.slots) × (previous_at l slot < length l.slots)
-neighbours_fit l small slot m h =
-    let ss = small_slots l small in
-    let k = m.queue.linked in
-    (in_bounds l ss slot k h, in_bounds l ss (next_at l slot) k (next_in l ss slot k h), in_bounds l ss (previous_at l slot) k (previous_in l ss slot k h))
 
 -- Places
 
-slots-freed : (standing : Standing) (l : LinkState) → (place_freed standing l).slots ≡ l.slots
-slots-freed Free l = refl
-slots-freed (Young place) l = refl
-slots-freed Old l = refl
-slots-freed Main l = refl
+records-freed : (standing : Mark) (l : LinkState) → (place_freed standing l).records ≡ l.records
+records-freed Free l = refl
+records-freed (Young place) l = refl
+records-freed Old l = refl
+records-freed Main l = refl
 
-window-freed : (standing : Standing) (l : LinkState) → length (place_freed standing l).places ≡ length l.places
+bits-freed : (standing : Mark) (l : LinkState) → (place_freed standing l).bits ≡ l.bits
+bits-freed Free l = refl
+bits-freed (Young place) l = refl
+bits-freed Old l = refl
+bits-freed Main l = refl
+
+window-freed : (standing : Mark) (l : LinkState) → length (place_freed standing l).window.items ≡ length l.window.items
 window-freed Free l = refl
-window-freed (Young place) l = length-set l.places place None
+window-freed (Young place) l = length-set l.window.items place None
 window-freed Old l = refl
 window-freed Main l = refl
 
 -- a slot keeps its place, if it isn't the one that was emptied
-place_kept : (standing : Standing) (l : LinkState) (p t : ℕ) → place_at l p ≡ Some t → ((place : ℕ) → standing ≡ Young place → p ≢ place) → place_at (place_freed standing l) p ≡ Some t
+place_kept : (standing : Mark) (l : LinkState) (p t : ℕ) → place_at l p ≡ Some t → ((place : ℕ) → standing ≡ Young place → p ≢ place) → place_at (place_freed standing l) p ≡ Some t
 place_kept Free l p t h d = h
-place_kept (Young place) l p t h d = elim (cases_lt place (length l.places)) [
-  | inl w ↦ changed (λ z. z) l.places place None None p w ∙ rw (ne_eqb p place (d place refl)) h
-  | inr w ↦ rw (set_past l.places place None w) h
+place_kept (Young place) l p t h d = elim (cases_lt place (length l.window.items)) [
+  | inl w ↦ changed (λ z. z) l.window.items place None None p w ∙ rw (ne_eqb p place (d place refl)) h
+  | inr w ↦ rw (set_past l.window.items place None w) h
 ]
 place_kept Old l p t h d = h
 place_kept Main l p t h d = h
 
-place_was : (standing : Standing) (l : LinkState) (p t : ℕ) → place_at (place_freed standing l) p ≡ Some t → (place_at l p ≡ Some t) × ((place : ℕ) → standing ≡ Young place → p ≢ place)
+place_was : (standing : Mark) (l : LinkState) (p t : ℕ) → place_at (place_freed standing l) p ≡ Some t → (place_at l p ≡ Some t) × ((place : ℕ) → standing ≡ Young place → p ≢ place)
 place_was Free l p t h = (h, λ place e. absurd (cc))
-place_was (Young place) l p t h = elim (cases_lt place (length l.places)) [
+place_was (Young place) l p t h = elim (cases_lt place (length l.window.items)) [
   | inl w ↦ elim (cases_Bool (eqb p place)) [
-    | inl g ↦ let q : place_at (place_freed (Young place) l) p ≡ None = changed (λ z. z) l.places place None None p w ∙ rw g refl in absurd (cc)
-    | inr g ↦ (sym (changed (λ z. z) l.places place None None p w ∙ rw g refl) ∙ h, λ q e c. let r : q ≡ place = cc in both_ways (eqb p place) g (eq-eqb p place (c ∙ r)))
+    | inl g ↦ let q : place_at (place_freed (Young place) l) p ≡ None = changed (λ z. z) l.window.items place None None p w ∙ rw g refl in absurd (cc)
+    | inr g ↦ (sym (changed (λ z. z) l.window.items place None None p w ∙ rw g refl) ∙ h, λ q e c. let r : q ≡ place = cc in both_ways (eqb p place) g (eq-eqb p place (c ∙ r)))
   ]
   | inr w ↦
-      let k : place_at l p ≡ Some t = rw (set_past l.places place None w) at h in (
+      let k : place_at l p ≡ Some t = rw (set_past l.window.items place None w) at h in (
         k,
         λ q e c. let r : p ≡ place = let s : q ≡ place = cc in c ∙ s in
-            let n : place_at l p ≡ None = get_or_past l.places p None (rw r w) in
+            let n : place_at l p ≡ None = get_or_past l.window.items p None (rw r w) in
             absurd (cc),
       )
 ]
@@ -88,48 +87,42 @@ cases_end (Some s) slot = elim (cases_Bool (eqb s slot)) [
 pub record UnlinksSmall (slot : ℕ) (old : LinkState) (small : Small) (new : LinkState) (small' : Small) : Type 0 where
   pub whole : IsSmallQueue new small'
   pub entries : small_entries new small' ≡ filter (λ e. not (eqb e.0 slot)) (small_entries old small)
-  pub freed : standing_at new slot ≡ Free
+  pub freed : standing_at new.records.items slot ≡ Free
   pub others : IsSameBut (small_slots old small) old new
-  pub window : length new.places ≡ length old.places
+  pub window : length new.window.items ≡ length old.window.items
 
 module _ (slot : ℕ) (old : LinkState) (small : Small) (mid new : LinkState) (m : IsSmallQueue old small) (h : has slot (small_slots old small) ≡ true)
-    (d : Detaches slot old mid) (standing : Standing) (was : standing ≡ standing_at old slot) (e : new ≡ place_freed standing mid) where
-  removed : Removes slot (small_slots old small) old mid
-  removed = Removes-detached old mid (small_slots old small) slot m.queue.linked h d
+    (d : Detaches slot old.records mid.records) (rest : mid ≡ record old { records = mid.records }) (standing : Mark) (was : standing ≡ standing_at old.records.items slot) (e : new ≡ place_freed standing mid) where
+  removed : Removes slot (small_slots old small) old.records.items mid.records.items
+  removed = Removes-detached old.records mid.records (small_slots old small) slot m.queue.linked h d
 
-  slots_now : new.slots ≡ mid.slots
-  slots_now = ap (λ (l : LinkState). l.slots) e ∙ slots-freed standing mid
+  records_now : new.records.items ≡ mid.records.items
+  records_now = ap (λ (l : LinkState). l.records.items) e ∙ ap (λ (r : Counted Record). r.items) (records-freed standing mid)
 
-  slot_now : (t : ℕ) → slot_at new t ≡ slot_at mid t
-  slot_now t = ap (λ z. get_or z t (record { previous = 0; next = 0; standing = Free }, false)) slots_now
+  places_mid : mid.window.items ≡ old.window.items
+  places_mid = ap (λ (l : LinkState). l.window.items) rest
 
-  window_now : length new.places ≡ length old.places
-  window_now = ap (λ (l : LinkState). length l.places) e ∙ window-freed standing mid ∙ ap (λ (z : List (Option ℕ)). length z) removed.rest.places
+  window_now : length new.window.items ≡ length old.window.items
+  window_now = ap (λ (l : LinkState). length l.window.items) e ∙ window-freed standing mid ∙ ap (λ (z : List (Option ℕ)). length z) places_mid
 
-  as_many : length new.slots ≡ length old.slots
-  as_many = ap (λ (z : List (Record × Bool)). length z) slots_now ∙ removed.rest.as_many
+  as_many : length new.records.items ≡ length old.records.items
+  as_many = ap (λ (z : List Record). length z) records_now ∙ removed.as_many
 
-  linked_now : IsLinked new (without slot (small_slots old small))
-  linked_now =
-      let k = removed.linked in
-      record {
-        ring = IsRing-kept (next_at mid) (previous_at mid) (next_at new) (previous_at new) (without slot (small_slots old small)) k.ring (λ t g. ap (λ z. z.0.next) (slot_now t)) (λ t g. ap (λ z. z.0.previous) (slot_now t));
-        apart = k.apart;
-        below = subst (λ z. AllBelow z (without slot (small_slots old small))) (sym (ap (λ (z : List (Record × Bool)). length z) slots_now)) k.below;
-      }
+  linked_now : IsLinked new.records.items (without slot (small_slots old small))
+  linked_now = subst (λ (z : List Record). IsLinked z (without slot (small_slots old small))) (sym records_now) removed.linked
 
-  standing_now : (t : ℕ) → eqb t slot ≡ false → standing_at new t ≡ standing_at old t
-  standing_now t g = ap (λ z. z.0.standing) (slot_now t) ∙ removed.standings t g
+  standing_now : (t : ℕ) → eqb t slot ≡ false → standing_at new.records.items t ≡ standing_at old.records.items t
+  standing_now t g = ap (λ (z : List Record). standing_at z t) records_now ∙ removed.standings t g
 
   bit_now : (t : ℕ) → bit_at new t ≡ bit_at old t
-  bit_now t = ap (λ z. z.1) (slot_now t) ∙ removed.bits t
+  bit_now t = ap (λ (l : LinkState). bit_at l t) e ∙ ap (λ (b : HitBits). bit_in b.items t) (bits-freed standing mid) ∙ ap (λ (l : LinkState). bit_at l t) rest
 
-  placed_now : (t place : ℕ) → has t (without slot (small_slots old small)) ≡ true → standing_at new t ≡ Young place → (place < length new.places) × (place_at new place ≡ Some t)
+  placed_now : (t place : ℕ) → has t (without slot (small_slots old small)) ≡ true → standing_at new.records.items t ≡ Young place → (place < length new.window.items) × (place_at new place ≡ Some t)
   placed_now t place g y =
       let w = has-without t slot (small_slots old small) g in
-      let z : standing_at old t ≡ Young place = sym (standing_now t w.1) ∙ y in
+      let z : standing_at old.records.items t ≡ Young place = sym (standing_now t w.1) ∙ y in
       let p = m.placed t place w.0 z in
-      let k : place_at mid place ≡ Some t = ap (λ q. get_or q place None) removed.rest.places ∙ p.1 in (
+      let k : place_at mid place ≡ Some t = ap (λ q. get_or q place None) places_mid ∙ p.1 in (
         rw window_now p.0,
         ap (λ l. place_at l place) e ∙ place_kept standing mid place t k (λ q s c.
             let o = (m.placed slot q h (sym was ∙ s)).1 in
@@ -138,29 +131,29 @@ module _ (slot : ℕ) (old : LinkState) (small : Small) (mid new : LinkState) (m
             both_ways (eqb t slot) w.1 (eq-eqb t slot x)),
       )
 
-  occupied_now : (place t : ℕ) → place_at new place ≡ Some t → (has t (without slot (small_slots old small)) ≡ true) × (standing_at new t ≡ Young place)
+  occupied_now : (place t : ℕ) → place_at new place ≡ Some t → (has t (without slot (small_slots old small)) ≡ true) × (standing_at new.records.items t ≡ Young place)
   occupied_now place t g =
       let w = place_was standing mid place t (sym (ap (λ l. place_at l place) e) ∙ g) in
-      let p = m.occupied place t (sym (ap (λ q. get_or q place None) removed.rest.places) ∙ w.0) in
+      let p = m.occupied place t (sym (ap (λ q. get_or q place None) places_mid) ∙ w.0) in
       let n : eqb t slot ≡ false = elim (cases_Bool (eqb t slot)) [
-        | inl q ↦ absurd (w.1 place (was ∙ ap (λ z. standing_at old z) (sym (eqb-true t slot q)) ∙ p.1) refl)
+        | inl q ↦ absurd (w.1 place (was ∙ ap (λ z. standing_at old.records.items z) (sym (eqb-true t slot q)) ∙ p.1) refl)
         | inr q ↦ q
       ] in
       (has-without-back t slot (small_slots old small) p.0 n, standing_now t n ∙ p.1)
 
   module _ (small' : Small) (len : small'.len ≡ small.len - 1) (cursor : small'.cursor ≡ small.cursor)
-      (newest : small'.newest ≡ end_after small.newest slot (small.len - 1) (next_at old slot))
-      (oldest : small'.oldest ≡ end_after small.oldest slot (small.len - 1) (previous_at old slot)) where
+      (newest : small'.newest ≡ end_after small.newest slot (small.len - 1) (next_at old.records.items slot))
+      (oldest : small'.oldest ≡ end_after small.oldest slot (small.len - 1) (previous_at old.records.items slot)) where
     newest_is : small'.newest ≡ slice_get (without slot (small_slots old small)) 0
     newest_is = elim (cases_end small.newest slot) [
-      | inl f ↦ newest ∙ end_gone small.newest slot (small.len - 1) (next_at old slot) f ∙ first_gone old small.newest small.len (small_slots old small) slot m.queue f
-      | inr f ↦ newest ∙ end_stays small.newest slot (small.len - 1) (next_at old slot) f ∙ first_stays old small.newest small.len (small_slots old small) slot m.queue f
+      | inl f ↦ newest ∙ end_gone small.newest slot (small.len - 1) (next_at old.records.items slot) f ∙ first_gone old.records.items small.newest small.len (small_slots old small) slot m.queue f
+      | inr f ↦ newest ∙ end_stays small.newest slot (small.len - 1) (next_at old.records.items slot) f ∙ first_stays old.records.items small.newest small.len (small_slots old small) slot m.queue f
     ]
 
     oldest_is : small'.oldest ≡ last_or None (without slot (small_slots old small))
     oldest_is = elim (cases_end small.oldest slot) [
-      | inl f ↦ oldest ∙ end_gone small.oldest slot (small.len - 1) (previous_at old slot) f ∙ last_gone old small.len (small_slots old small) slot m.queue.linked m.queue.counted (sym m.ends ∙ f)
-      | inr f ↦ oldest ∙ end_stays small.oldest slot (small.len - 1) (previous_at old slot) f ∙ m.ends ∙ last_stays (small_slots old small) slot (λ g. f (m.ends ∙ g))
+      | inl f ↦ oldest ∙ end_gone small.oldest slot (small.len - 1) (previous_at old.records.items slot) f ∙ last_gone old.records.items small.len (small_slots old small) slot m.queue.linked m.queue.counted (sym m.ends ∙ f)
+      | inr f ↦ oldest ∙ end_stays small.oldest slot (small.len - 1) (previous_at old.records.items slot) f ∙ m.ends ∙ last_stays (small_slots old small) slot (λ g. f (m.ends ∙ g))
     ]
 
     whole_now : IsSmall new small' (without slot (small_slots old small))
@@ -187,7 +180,7 @@ module _ (slot : ℕ) (old : LinkState) (small : Small) (mid new : LinkState) (m
           ∙ map-agree {X = ℕ × Age} (λ s. (s, age_at new small'.cursor s)) (λ s. (s, age_at old small.cursor s)) (without slot (small_slots old small))
           (λ t g. ap (λ z. (t, z)) (let w = has-without t slot (small_slots old small) g in rw (window_now, cursor, standing_now t w.1, bit_now t) refl))
           ∙ sym (filter-entries slot (λ s. age_at old small.cursor s) (small_slots old small));
-      freed = ap (λ z. z.0.standing) (slot_now slot) ∙ ap (λ r. r.standing) removed.freed;
-      others = record { others = λ t g. slot_now t ∙ removed.same.others t g; as_many = as_many };
+      freed = ap (λ (z : List Record). standing_at z slot) records_now ∙ ap (λ r. r.standing) removed.freed;
+      others = record { others = λ t g. ap (λ z. (z, bit_at new t)) (ap (λ (z : List Record). record_at z t) records_now ∙ removed.others t g) ∙ ap (λ z. (record_at old.records.items t, z)) (bit_now t); as_many = as_many };
       window = window_now;
     }

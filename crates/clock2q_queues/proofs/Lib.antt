@@ -10,6 +10,7 @@ pub mod Histories
 pub mod Hits
 pub mod Indexes
 pub mod Joining
+pub mod Keeping
 pub mod Leaving
 pub mod Lookups
 pub mod Main
@@ -17,8 +18,9 @@ pub mod MakingPlaces
 pub mod Orders
 pub mod Records
 pub mod Remembering
-pub mod Resetting
 pub mod Rings
 pub mod Sharing
+pub mod SlotLists
+pub mod Standings
 pub mod Window
 mod WorkedQueues

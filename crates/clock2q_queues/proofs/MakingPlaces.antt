@@ -1,9 +1,10 @@
 -- A place for a new key in the history.
-use Rattle.std.proofs.Common.{◌≡◌, ℕ, zero, suc, ◌+◌, ◌-◌, ◌<◌, ◌≤◌, max, Bool, true, false, ◌&&◌, eqb, Option, Some, None, List, [], ◌∷◌, ◌++◌, length, take, drop, take_all, refl, sym, ap, ◌∙◌, subst, arith}
+use Rattle.std.proofs.Common.{◌≡◌, ℕ, suc, ◌+◌, ◌-◌, ◌<◌, ◌≤◌, max, true, false, eqb, Some, None, List, [], ◌∷◌, ◌++◌, length, take, drop, take_all, refl, sym, ap, ◌∙◌, subst, arith}
 use Rattle.std.specs.List.{last_or}
 use Rattle.std.proofs.lemmas.List.{append-nil}
 use Rattle.clock2q_queues.specs.declared.keys.cells.Entry.{Entry}
-use Rattle.clock2q_queues.specs.Rings.{has, without, AllApart, AllBelow}
+use Rattle.clock2q_queues.specs.Rings.{has, without, AllApart}
+use Rattle.clock2q_queues.specs.Cells.{Rises}
 use Rattle.clock2q_handles.specs.Homes.{removed}
 use Rattle.clock2q_queues.specs.Order.{PlaceOrder, IsWholeOrder, used, next_place, place_for}
 use Rattle.clock2q_queues.specs.Keys.{hash_at}
@@ -36,7 +37,7 @@ used_next ps (f ∷ fs) h = (omega (arith, h), omega (arith, h))
 module _ {K V : Type 0} (index : List (List (ℕ × ℕ))) (order order' : PlaceOrder) (keys : List (Entry K V)) (place : ℕ)
     (i : IsIndex index keys order.places) (as_many : length keys ≡ used order) (w : IsWholeOrder order) where
   pub MakesPlace-new : length order.places < order.limit → place ≡ next_place order → order'.places ≡ place ∷ order.places → order'.free ≡ drop 1 order.free → order'.limit ≡ order.limit
-      → order'.accesses ≤ order.accesses + 7 → MakesPlace index index order order' keys place
+      → Rises 1 7 order.accesses order'.accesses → MakesPlace index index order order' keys place
   MakesPlace-new room is places free limit accesses =
       let n : FitsNext order.limit place order.places order.free = subst (λ z. FitsNext order.limit z order.places order.free) (sym is) (FitsNext-from order.limit order.places order.free w.apart w.below w.within room) in
       let u = used_next order.places order.free (subst (λ z. z < suc (length order.places) + length (drop 1 order.free)) is n.below.0) in
@@ -79,5 +80,5 @@ module _ {K V : Type 0} (index : List (List (ℕ × ℕ))) (order order' : Place
         below = omega (arith, there, as_many, w.within);
         used_now = omega (arith, counts, left, as_many, there);
         limit = limit;
-        accesses = omega (arith, accesses);
+        accesses = (omega (arith, accesses), omega (arith, accesses));
       }

@@ -1,18 +1,19 @@
 -- What each call makes of the order of the history's places and of the chain of the free ones.
-use Rattle.std.proofs.Common.{◌≡◌, ℕ, zero, suc, ◌+◌, ◌-◌, ◌^◌, ◌<◌, ◌≤◌, Bool, true, false, ◌||◌, eqb, Option, Some, None, slice_get, List, [], ◌∷◌, ◌++◌, length, get_or, take, drop, inl, inr, refl, sym, ap, ◌∙◌, subst, arith}
+use Rattle.std.proofs.Common.{◌≡◌, ℕ, zero, suc, ◌+◌, ◌-◌, ◌^◌, ◌<◌, ◌≤◌, Bool, true, false, ◌||◌, eqb, Option, Some, None, slice_get, List, [], ◌∷◌, ◌++◌, length, take, drop, inl, inr, refl, sym, ap, ◌∙◌, subst, arith}
 use Rattle.std.specs.Option.{unwrap_or}
 use Rattle.std.specs.List.{last_or}
-use Rattle.std.proofs.lemmas.Bool.{eqb-true, eq-eqb, both_ways, cases_Bool}
+use Rattle.std.proofs.lemmas.Bool.{eqb-true, both_ways, cases_Bool}
 use Rattle.std.proofs.lemmas.List.{length-append, length-set}
 use Rattle.clock2q_queues.specs.declared.links.Record.{Record}
-use Rattle.clock2q_queues.specs.declared.links.Standing.TheVariants.{Free}
+use Rattle.clock2q_queues.specs.declared.links.Mark.TheVariants.{Free}
 use Rattle.clock2q_queues.specs.declared.history.order.Chain.{Chain}
 use Rattle.clock2q_queues.specs.Rings.{has, without, AllApart, AllBelow, around}
-use Rattle.clock2q_queues.specs.Links.{LinkState, IsLinked, Attaches, Detaches, slots_from, record_at, next_at, previous_at, bit_at, vacant, accessed, with_record}
-use Rattle.clock2q_queues.specs.Order.{IsOrderOf, IsOrder, IsWholeOrder, free_places, place_for}
+use Rattle.clock2q_queues.specs.Cells.{Counted, accessed, written}
+use Rattle.clock2q_queues.specs.Links.{IsLinked, Attaches, Detaches, slots_from, record_at, next_at, previous_at, vacant}
+use Rattle.clock2q_queues.specs.Order.{PlaceOrder, IsOrderOf, IsOrder, IsWholeOrder, free_places, order_shown, place_for}
 use Rattle.clock2q_queues.proofs.Records.{changed}
-use Rattle.clock2q_queues.proofs.Rings.{eqb_self, or_left, or_parts, or_neither, has-append, has_first, has_later, AllApart-left, AllApart-right, AllApart-append, AllBelow-append, AllBelow-left, AllBelow-right, apart_from, apart_back, below_of}
-use Rattle.clock2q_queues.proofs.Joining.{Inserts, Inserts-before, Inserts-first, Removes, Removes-detached, IsLinked-kept, IsLinked-turned, slots_from-is, previous_in, next_in, in_bounds, length-without, has-without, split_last, last_before}
+use Rattle.clock2q_queues.proofs.Rings.{eqb_self, or_parts, or_neither, has-append, has_first, has_later, AllApart-left, AllApart-right, AllApart-append, AllBelow-append, AllBelow-left, AllBelow-right, apart_from, apart_back, below_of}
+use Rattle.clock2q_queues.proofs.Joining.{Inserts, Inserts-before, Inserts-first, Removes, Removes-detached, IsLinked-kept, IsLinked-turned, slots_from-is, first_in, neighbours_fit, length-without, has-without, split_last, last_before}
 
 -- Lists of places
 
@@ -101,58 +102,64 @@ or_swap false false h = h
 
 -- Orders
 
-pub IsOrder-from : (l : LinkState) (newest : Option ℕ) (len : ℕ) (chain : Chain) (ps fs : List ℕ) → IsOrderOf l newest len chain ps fs → IsOrder l newest len chain
-IsOrder-from l newest len chain ps fs o =
-    subst (λ z. IsOrderOf l newest len chain z (free_places l chain)) (sym (slots_from-is l newest len ps o.queue))
-    (subst (λ z. IsOrderOf l newest len chain ps z) (sym o.chained) o)
+pub IsOrder-from : (rs : List Record) (newest : Option ℕ) (len : ℕ) (chain : Chain) (ps fs : List ℕ) → IsOrderOf rs newest len chain ps fs → IsOrder rs newest len chain
+IsOrder-from rs newest len chain ps fs o =
+    subst (λ z. IsOrderOf rs newest len chain z (free_places rs chain)) (sym (slots_from-is rs newest len ps o.queue))
+    (subst (λ z. IsOrderOf rs newest len chain ps z) (sym o.chained) o)
 
-pub IsWholeOrder-from : (l : LinkState) (newest : Option ℕ) (len : ℕ) (chain : Chain) → IsOrder l newest len chain
-    → IsWholeOrder (record { places = slots_from l newest len; free = free_places l chain; limit = length l.slots; accesses = l.accesses })
+pub IsWholeOrder-from : (l : Counted Record) (newest : Option ℕ) (len : ℕ) (chain : Chain) → IsOrder l.items newest len chain → IsWholeOrder (order_shown l newest len chain)
 IsWholeOrder-from l newest len chain o = record { apart = o.apart; below = o.below; within = o.within; countable = o.queue.countable }
+
+-- what is shown of these places and those
+pub order_shown-is : (l : Counted Record) (newest : Option ℕ) (len : ℕ) (chain : Chain) (ps fs : List ℕ) → IsOrderOf l.items newest len chain ps fs
+    → order_shown l newest len chain ≡ record { places = ps; free = fs; limit = length l.items; accesses = l.accesses }
+order_shown-is l newest len chain ps fs o =
+    ap (λ z. record { places = z; free = free_places l.items chain; limit = length l.items; accesses = l.accesses }) (slots_from-is l.items newest len ps o.queue)
+    ∙ ap (λ z. record { places = ps; free = z; limit = length l.items; accesses = l.accesses }) o.chained
 
 -- The chain
 
-pub chain-put : (old new : LinkState) (chain : Chain) (place : ℕ) (r : Record) → new ≡ accessed (with_record place r old) → r.next ≡ chain.head → place < length old.slots → has place (free_places old chain) ≡ false
-    → free_places new (record { head = place; len = chain.len + 1 }) ≡ place ∷ free_places old chain
+pub chain-put : (old new : Counted Record) (chain : Chain) (place : ℕ) (r : Record) → new ≡ written place r old → r.next ≡ chain.head → place < length old.items → has place (free_places old.items chain) ≡ false
+    → free_places new.items (record { head = place; len = chain.len + 1 }) ≡ place ∷ free_places old.items chain
 chain-put old new chain place r e next fits absent =
-    let nexts = (λ (t : ℕ). ap (λ l. next_at l t) e ∙ changed (λ p. p.0.next) old.slots place (r, bit_at old place) (vacant, false) t fits) in
-    let to_head : next_at new place ≡ chain.head = nexts place ∙ rw (eqb_self place) next in
+    let nexts = (λ (t : ℕ). ap (λ (z : Counted Record). next_at z.items t) e ∙ changed (λ p. p.next) old.items place r vacant t fits) in
+    let to_head : next_at new.items place ≡ chain.head = nexts place ∙ rw (eqb_self place) next in
     let n : chain.len + 1 ≡ suc chain.len = omega arith in
-    let other = (λ (t : ℕ) (h : has t (free_places old chain) ≡ true).
+    let other = (λ (t : ℕ) (h : has t (free_places old.items chain) ≡ true).
     let q : eqb t place ≡ false = elim (cases_Bool (eqb t place)) [
-      | inl q ↦ absurd (both_ways (has place (free_places old chain)) absent (subst (λ z. has z (free_places old chain) ≡ true) (eqb-true t place q) h))
+      | inl q ↦ absurd (both_ways (has place (free_places old.items chain)) absent (subst (λ z. has z (free_places old.items chain) ≡ true) (eqb-true t place q) h))
       | inr q ↦ q
     ] in
     nexts t ∙ rw q refl) in
-    ap (λ z. around (next_at new) place z) n
-    ∙ ap (λ z. place ∷ around (next_at new) z chain.len) to_head
-    ∙ ap (λ zs. place ∷ zs) (around-kept (next_at old) (next_at new) chain.head chain.len other)
+    ap (λ z. around (next_at new.items) place z) n
+    ∙ ap (λ z. place ∷ around (next_at new.items) z chain.len) to_head
+    ∙ ap (λ zs. place ∷ zs) (around-kept (next_at old.items) (next_at new.items) chain.head chain.len other)
 
-pub head_fits : (l : LinkState) (newest : Option ℕ) (len : ℕ) (chain : Chain) → IsOrder l newest len chain → 0 < chain.len → chain.head < length l.slots
+pub head_fits : (l : Counted Record) (newest : Option ℕ) (len : ℕ) (chain : Chain) → IsOrder l.items newest len chain → 0 < chain.len → chain.head < length l.items
 head_fits l newest len chain o some =
-    let ps = slots_from l newest len in
-    let fs = free_places l chain in
+    let ps = slots_from l.items newest len in
+    let fs = free_places l.items chain in
     let n : chain.len ≡ suc (chain.len - 1) = omega arith in
-    let h : has chain.head fs ≡ true = subst (λ z. has chain.head (around (next_at l) chain.head z) ≡ true) (sym n) (has_first chain.head (around (next_at l) (next_at l chain.head) (chain.len - 1))) in
+    let h : has chain.head fs ≡ true = subst (λ z. has chain.head (around (next_at l.items) chain.head z) ≡ true) (sym n) (has_first chain.head (around (next_at l.items) (next_at l.items chain.head) (chain.len - 1))) in
     omega (arith, below_of (length ps + length fs) fs (AllBelow-right (length ps + length fs) ps fs o.below) chain.head h, o.within)
 
-module _ (l : LinkState) (newest : Option ℕ) (len : ℕ) (chain : Chain) (o : IsOrder l newest len chain) where
+module _ (l : Counted Record) (newest : Option ℕ) (len : ℕ) (chain : Chain) (o : IsOrder l.items newest len chain) where
   abbrev pub places_now : List ℕ
-  places_now = slots_from l newest len
+  places_now = slots_from l.items newest len
 
   abbrev pub free_now : List ℕ
-  free_now = free_places l chain
+  free_now = free_places l.items chain
 
-  room_used : length places_now + length free_now ≤ length l.slots
+  room_used : length places_now + length free_now ≤ length l.items
   room_used = o.within
 
   chain_counted : length free_now ≡ chain.len
-  chain_counted = length-around (next_at l) chain.head chain.len
+  chain_counted = length-around (next_at l.items) chain.head chain.len
 
   -- A place put in front
 
-  pub next_fits : length places_now < length l.slots → FitsNext (length l.slots) (place_for (length places_now) free_now) places_now free_now
-  next_fits h = FitsNext-from (length l.slots) places_now free_now o.apart o.below o.within h
+  pub next_fits : length places_now < length l.items → FitsNext (length l.items) (place_for (length places_now) free_now) places_now free_now
+  next_fits h = FitsNext-from (length l.items) places_now free_now o.apart o.below o.within h
 
   pub chosen : (place : ℕ) → place ≡ unwrap_or (slice_get free_now 0) len → place ≡ place_for (length places_now) free_now
   chosen place e = e ∙ chosen_from free_now ∙ ap (λ n. place_for n free_now) o.queue.counted
@@ -161,87 +168,80 @@ module _ (l : LinkState) (newest : Option ℕ) (len : ℕ) (chain : Chain) (o : 
       chosen_from [] = refl
       chosen_from (f ∷ fs) = refl
 
-  module _ (mid : LinkState) (chain' : Chain) (slots : mid.slots ≡ l.slots) (rest : free_places mid chain' ≡ drop 1 free_now) where
-    linked_mid : IsLinked mid places_now
-    linked_mid = IsLinked-kept l mid places_now o.queue.linked (ap (λ (z : List (Record × Bool)). length z) slots) (λ t h. ap (λ (z : List (Record × Bool)). (get_or z t (vacant, false)).0) slots)
+  module _ (mid : Counted Record) (chain' : Chain) (slots : mid.items ≡ l.items) (rest : free_places mid.items chain' ≡ drop 1 free_now) where
+    linked_mid : IsLinked mid.items places_now
+    linked_mid = subst (λ (z : List Record). IsLinked z places_now) (sym slots) o.queue.linked
 
-    first_in : (first : ℕ) → newest ≡ Some first → has first places_now ≡ true
-    first_in first e = first_of places_now (sym e ∙ o.queue.starts)
-      where
-        first_of : (ss : List ℕ) → Some first ≡ slice_get ss 0 → has first ss ≡ true
-        first_of [] q = absurd (cc)
-        first_of (s ∷ ss) q = let r : first ≡ s = cc in or_left (eqb first s) (has first ss) (eq-eqb first s r)
-
-    pub first_fits : (first : ℕ) → newest ≡ Some first → (first < length mid.slots) × (previous_at mid first < length mid.slots)
+    pub first_fits : (first : ℕ) → newest ≡ Some first → (first < length mid.items) × (previous_at mid.items first < length mid.items)
     first_fits first e =
-        let h = first_in first e in
-        (in_bounds mid places_now first linked_mid h, in_bounds mid places_now (previous_at mid first) linked_mid (previous_in mid places_now first linked_mid h))
+        let f = neighbours_fit mid.items places_now first linked_mid (first_in places_now first (sym e ∙ o.queue.starts)) in
+        (f.0, f.2)
 
-    pub Pushes : (new : LinkState) (place : ℕ) → place ≡ place_for (length places_now) free_now → length places_now < length l.slots → Inserts place Free places_now mid new
-        → IsOrderOf new (Some place) (len + 1) chain' (place ∷ places_now) (drop 1 free_now)
+    pub Pushes : (new : Counted Record) (place : ℕ) → place ≡ place_for (length places_now) free_now → length places_now < length l.items → Inserts place Free places_now mid.items new.items
+        → IsOrderOf new.items (Some place) (len + 1) chain' (place ∷ places_now) (drop 1 free_now)
     Pushes new place e h i =
-        let as_many : length new.slots ≡ length l.slots = i.rest.as_many ∙ ap (λ (z : List (Record × Bool)). length z) slots in
-        let n : FitsNext (length l.slots) place places_now free_now = subst (λ z. FitsNext (length l.slots) z places_now free_now) (sym e) (next_fits h) in
-        let elsewhere = (λ (t : ℕ) (g : has t (free_places mid chain') ≡ true).
+        let as_many : length new.items ≡ length l.items = i.as_many ∙ ap (λ (z : List Record). length z) slots in
+        let n : FitsNext (length l.items) place places_now free_now = subst (λ z. FitsNext (length l.items) z places_now free_now) (sym e) (next_fits h) in
+        let elsewhere = (λ (t : ℕ) (g : has t (free_places mid.items chain') ≡ true).
         let apart : has t (place ∷ places_now) ≡ false = apart_back (place ∷ places_now) (drop 1 free_now) n.apart t (subst (λ zs. has t zs ≡ true) rest g) in
-        ap (λ (z : Record × Bool). z.0.next) (i.same.others t apart)) in
+        ap (λ (z : Record). z.next) (i.others t apart)) in
         record {
           queue = record {
-            linked = IsLinked-turned new places_now (place ∷ []) i.linked;
+            linked = IsLinked-turned new.items places_now (place ∷ []) i.linked;
             starts = refl;
             counted = omega (arith, o.queue.counted);
             countable = rw as_many o.queue.countable;
           };
-          chained = around-kept (next_at mid) (next_at new) chain'.head chain'.len elsewhere ∙ rest;
+          chained = around-kept (next_at mid.items) (next_at new.items) chain'.head chain'.len elsewhere ∙ rest;
           apart = n.apart;
           below = n.below;
           within = rw as_many n.within;
         }
 
-    pub Pushes-attached : (new : LinkState) (place first : ℕ) → place ≡ place_for (length places_now) free_now → length places_now < length l.slots → newest ≡ Some first → Attaches place first Free mid new
-        → IsOrderOf new (Some place) (len + 1) chain' (place ∷ places_now) (drop 1 free_now)
+    pub Pushes-attached : (new : Counted Record) (place first : ℕ) → place ≡ place_for (length places_now) free_now → length places_now < length l.items → newest ≡ Some first → Attaches place first Free mid new
+        → IsOrderOf new.items (Some place) (len + 1) chain' (place ∷ places_now) (drop 1 free_now)
     Pushes-attached new place first e h is a =
-        let n : FitsNext (length l.slots) place places_now free_now = subst (λ z. FitsNext (length l.slots) z places_now free_now) (sym e) (next_fits h) in
+        let n : FitsNext (length l.items) place places_now free_now = subst (λ z. FitsNext (length l.items) z places_now free_now) (sym e) (next_fits h) in
         Pushes new place e h (Inserts-before mid new places_now place Free first linked_mid (sym is ∙ o.queue.starts) n.absent (rw slots n.fits) a)
 
-    pub Pushes-alone : (new : LinkState) (place : ℕ) → place ≡ place_for (length places_now) free_now → length places_now < length l.slots → newest ≡ None
-        → new ≡ accessed (with_record place (record { previous = place; next = place; standing = Free }) mid)
-        → IsOrderOf new (Some place) (len + 1) chain' (place ∷ places_now) (drop 1 free_now)
+    pub Pushes-alone : (new : Counted Record) (place : ℕ) → place ≡ place_for (length places_now) free_now → length places_now < length l.items → newest ≡ None
+        → new ≡ written place (record { previous = place; next = place; standing = Free }) mid
+        → IsOrderOf new.items (Some place) (len + 1) chain' (place ∷ places_now) (drop 1 free_now)
     Pushes-alone new place e h is w =
-        let n : FitsNext (length l.slots) place places_now free_now = subst (λ z. FitsNext (length l.slots) z places_now free_now) (sym e) (next_fits h) in
+        let n : FitsNext (length l.items) place places_now free_now = subst (λ z. FitsNext (length l.items) z places_now free_now) (sym e) (next_fits h) in
         Pushes new place e h (Inserts-first mid new places_now place Free (sym is ∙ o.queue.starts) (rw slots n.fits) w)
 
   -- The last place moved to the front
 
   -- the order ends in this place, which now stands first
-  pub record Reuses (new : LinkState) (oldest : ℕ) : Type 0 where
+  pub record Reuses (new : Counted Record) (oldest : ℕ) : Type 0 where
     pub oldest_was : last_or None places_now ≡ Some oldest
-    pub order : IsOrderOf new (Some oldest) len chain (oldest ∷ take (length places_now - 1) places_now) free_now
+    pub order : IsOrderOf new.items (Some oldest) len chain (oldest ∷ take (length places_now - 1) places_now) free_now
 
-  last_of : (first : ℕ) (ss : List ℕ) → IsLinked l ss → Some first ≡ slice_get ss 0 → last_or None ss ≡ Some (previous_at l first)
+  last_of : (first : ℕ) (ss : List ℕ) → IsLinked l.items ss → Some first ≡ slice_get ss 0 → last_or None ss ≡ Some (previous_at l.items first)
   last_of first [] k e = absurd (cc)
   last_of first (s ∷ ss) k e =
       let q : first ≡ s = cc in
-      last_before (next_at l) (previous_at l) s ss s k.ring ∙ ap (λ z. Some (previous_at l z)) (sym q)
+      last_before (next_at l.items) (previous_at l.items) s ss s k.ring ∙ ap (λ z. Some (previous_at l.items z)) (sym q)
 
   ends_in : (ss : List ℕ) (x : ℕ) → last_or None ss ≡ Some x → (xs : List ℕ) × (ss ≡ xs ++ x ∷ [])
   ends_in [] x e = absurd (cc)
   ends_in (s ∷ ss) x e = split_last ss s x e
 
-  pub reuses : (new : LinkState) (first oldest : ℕ) → new ≡ accessed l → newest ≡ Some first → oldest ≡ previous_at l first → Reuses new oldest
+  pub reuses : (new : Counted Record) (first oldest : ℕ) → new ≡ accessed l → newest ≡ Some first → oldest ≡ previous_at l.items first → Reuses new oldest
   reuses new first oldest w is e =
       let was : last_or None places_now ≡ Some oldest = last_of first places_now o.queue.linked (sym is ∙ o.queue.starts) ∙ ap (λ z. Some z) (sym e) in
       let p = ends_in places_now oldest was in
       let xs = p.0 in
       let front : take (length places_now - 1) places_now ≡ xs = ap (λ (z : List ℕ). take (length z - 1) z) p.1 ∙ take_front xs oldest in
-      let linked : IsLinked l (oldest ∷ xs) = IsLinked-turned l xs (oldest ∷ []) (subst (λ z. IsLinked l z) p.1 o.queue.linked) in
+      let linked : IsLinked l.items (oldest ∷ xs) = IsLinked-turned l.items xs (oldest ∷ []) (subst (λ z. IsLinked l.items z) p.1 o.queue.linked) in
       let same = (λ (t : ℕ) (h : has t (oldest ∷ xs) ≡ true).
       subst (λ zs. has t zs ≡ true) (sym p.1) (has-append t xs (oldest ∷ []) ∙ or_swap (eqb t oldest) (has t xs) h)) in
       let count : length places_now ≡ suc (length xs) = omega (arith, ap (λ (z : List ℕ). length z) p.1, length-append xs (oldest ∷ [])) in
       record {
         oldest_was = was;
-        order = subst (λ z. IsOrderOf new (Some oldest) len chain (oldest ∷ z) free_now) (sym front) (subst (λ z. IsOrderOf z (Some oldest) len chain (oldest ∷ xs) free_now) (sym w) (record {
-          queue = record { linked = IsLinked-kept l (accessed l) (oldest ∷ xs) linked refl (λ t h. refl); starts = refl; counted = o.queue.counted ∙ count; countable = o.queue.countable };
+        order = subst (λ z. IsOrderOf new.items (Some oldest) len chain (oldest ∷ z) free_now) (sym front) (subst (λ (z : Counted Record). IsOrderOf z.items (Some oldest) len chain (oldest ∷ xs) free_now) (sym w) (record {
+          queue = record { linked = linked; starts = refl; counted = o.queue.counted ∙ count; countable = o.queue.countable };
           chained = refl;
           apart = apart-turned places_now (oldest ∷ xs) free_now linked.apart same o.apart;
           below = below-turned (suc (length xs) + length free_now) places_now (oldest ∷ xs) free_now same (subst (λ n. AllBelow (n + length free_now) (places_now ++ free_now)) count o.below);
@@ -252,36 +252,34 @@ module _ (l : LinkState) (newest : Option ℕ) (len : ℕ) (chain : Chain) (o : 
   -- A place taken out
 
   module _ (place : ℕ) (there : has place places_now ≡ true) where
-    pub neighbours_fit : (place < length l.slots) × (next_at l place < length l.slots) × (previous_at l place < length l.slots)
-    neighbours_fit =
-        let k = o.queue.linked in
-        (in_bounds l places_now place k there, in_bounds l places_now (next_at l place) k (next_in l places_now place k there), in_bounds l places_now (previous_at l place) k (previous_in l places_now place k there))
+    pub place_fits : (place < length l.items) × (next_at l.items place < length l.items) × (previous_at l.items place < length l.items)
+    place_fits = neighbours_fit l.items places_now place o.queue.linked there
 
-    module _ (mid : LinkState) (d : Detaches place l mid) where
-      removed : Removes place places_now l mid
+    module _ (mid : Counted Record) (d : Detaches place l mid) where
+      removed : Removes place places_now l.items mid.items
       removed = Removes-detached l mid places_now place o.queue.linked there d
 
-      pub free_still : free_places mid chain ≡ free_now
-      free_still = around-kept (next_at l) (next_at mid) chain.head chain.len
-          (λ t g. ap (λ (z : Record × Bool). z.0.next) (removed.same.others t (apart_back places_now free_now o.apart t g)))
+      pub free_still : free_places mid.items chain ≡ free_now
+      free_still = around-kept (next_at l.items) (next_at mid.items) chain.head chain.len
+          (λ t g. ap (λ (z : Record). z.next) (removed.others t (apart_back places_now free_now o.apart t g)))
 
-      pub not_free : has place (free_places mid chain) ≡ false
+      pub not_free : has place (free_places mid.items chain) ≡ false
       not_free = ap (λ zs. has place zs) free_still ∙ apart_from places_now free_now o.apart place there
 
-      pub count_fits : chain.len + 1 < 2 ^ 64
-      count_fits =
+      pub chain_fits : chain.len + 1 < 2 ^ 32
+      chain_fits =
           let some : 0 < length places_now = omega (arith, length-without place places_now o.queue.linked.apart there) in
           omega (arith, some, o.within, chain_counted, o.queue.countable)
 
-      pub Unlinks : (new : LinkState) (r : Record) (newest' : Option ℕ) (chain' : Chain) → new ≡ accessed (with_record place r mid) → free_places new chain' ≡ place ∷ free_places mid chain
-          → newest' ≡ slice_get (without place places_now) 0 → IsOrderOf new newest' (len - 1) chain' (without place places_now) (place ∷ free_now)
+      pub Unlinks : (new : Counted Record) (r : Record) (newest' : Option ℕ) (chain' : Chain) → new ≡ written place r mid → free_places new.items chain' ≡ place ∷ free_places mid.items chain
+          → newest' ≡ slice_get (without place places_now) 0 → IsOrderOf new.items newest' (len - 1) chain' (without place places_now) (place ∷ free_now)
       Unlinks new r newest' chain' w c starts =
-          let as_many : length new.slots ≡ length l.slots = ap (λ (z : LinkState). length z.slots) w ∙ length-set mid.slots place (r, bit_at mid place) ∙ removed.rest.as_many in
-          let fits : place < length mid.slots = rw removed.rest.as_many neighbours_fit.0 in
+          let as_many : length new.items ≡ length l.items = ap (λ (z : Counted Record). length z.items) w ∙ length-set mid.items place r ∙ removed.as_many in
+          let fits : place < length mid.items = rw removed.as_many place_fits.0 in
           let count = length-without place places_now o.queue.linked.apart there in
           let total : length places_now + length free_now ≡ length (without place places_now) + length (place ∷ free_now) = omega (arith, count) in
-          let records : (t : ℕ) → has t (without place places_now) ≡ true → record_at new t ≡ record_at mid t = (λ t h.
-          ap (λ (z : LinkState). record_at z t) w ∙ changed (λ p. p.0) mid.slots place (r, bit_at mid place) (vacant, false) t fits ∙ rw ((has-without t place places_now h).1) refl) in
+          let records : (t : ℕ) → has t (without place places_now) ≡ true → record_at new.items t ≡ record_at mid.items t = (λ t h.
+          ap (λ (z : Counted Record). record_at z.items t) w ∙ changed (λ p. p) mid.items place r vacant t fits ∙ rw ((has-without t place places_now h).1) refl) in
           let apart = AllApart-append (without place places_now) (place ∷ free_now) removed.linked.apart (apart_from places_now free_now o.apart place there, AllApart-right places_now free_now o.apart)
           (λ t h. let g = has-without t place places_now h in or_neither (eqb t place) (has t free_now) g.1 (apart_from places_now free_now o.apart t g.0)) in
           let n = length places_now + length free_now in
@@ -290,7 +288,7 @@ module _ (l : LinkState) (newest : Option ℕ) (len : ℕ) (chain : Chain) (o : 
           (below_of n places_now (AllBelow-left n places_now free_now o.below) place there, AllBelow-right n places_now free_now o.below) in
           record {
             queue = record {
-              linked = IsLinked-kept mid new (without place places_now) removed.linked (as_many ∙ sym removed.rest.as_many) records;
+              linked = IsLinked-kept mid.items new.items (without place places_now) removed.linked (as_many ∙ sym removed.as_many) records;
               starts = starts;
               counted = omega (arith, count, o.queue.counted);
               countable = rw as_many o.queue.countable;
@@ -300,3 +298,11 @@ module _ (l : LinkState) (newest : Option ℕ) (len : ℕ) (chain : Chain) (o : 
             below = subst (λ z. AllBelow z (without place places_now ++ place ∷ free_now)) total below;
             within = rw as_many (omega (arith, total, o.within));
           }
+
+-- what a place removed makes of the counts
+pub unlinked_counts : (l mid new : Counted Record) (place : ℕ) (r : Record) (ps fs : List ℕ) → Detaches place l mid → new ≡ written place r mid
+    → ◌≡◌ {A = PlaceOrder} (record { places = ps; free = fs; limit = length new.items; accesses = new.accesses }) (record { places = ps; free = fs; limit = length l.items; accesses = l.accesses + 7 })
+unlinked_counts l mid new place r ps fs d w =
+    let n : length new.items ≡ length l.items = ap (λ (z : Counted Record). length z.items) w ∙ length-set mid.items place r ∙ d.as_many in
+    let a : new.accesses ≡ l.accesses + 7 = let b = ap (λ (z : Counted Record). z.accesses) w in let e = d.accesses in omega arith in
+    ap (λ z. record { places = ps; free = fs; limit = z; accesses = new.accesses }) n ∙ ap (λ z. record { places = ps; free = fs; limit = length l.items; accesses = z }) a

@@ -11,9 +11,11 @@ use Rattle.clock2q_queues.specs.Rings.{has}
 use Rattle.clock2q_queues.specs.Order.{PlaceOrder, IsWholeOrder, used}
 use Rattle.clock2q_queues.specs.Keys.{KeyPlaces, entry, key_places, written, hash_at, hashed_at, entries_of}
 use Rattle.clock2q_queues.specs.Indexes.{IsIndex, AllDistinct, has_key}
-use Rattle.clock2q_queues.specs.History.{IsHistory, MakesPlace}
+use Rattle.clock2q_queues.specs.History.{IsHistory, MakesPlace, remembered, accesses_of}
+use Rattle.clock2q_queues.specs.Cells.{Rises}
 use Rattle.clock2q_queues.proofs.Rings.{differs, or_parts, AllBelow-left}
 use Rattle.clock2q_queues.proofs.Entries.{slice_get-written, slice_get-written_other, length-written, entries-agree, entries-cons, entries-take}
+use Rattle.clock2q_queues.proofs.Histories.{shown-as}
 use Rattle.clock2q_queues.proofs.Indexes.{length-put, IsIndex-put, room_in}
 
 module _ {K : Type 0} (eq : K → K → Bool) where
@@ -32,7 +34,9 @@ module _ {K : Type 0} (eq : K → K → Bool) where
 -- a key was put in front
 pub record Remembers {K V : Type 0} (eq : K → K → Bool) (hash : ℕ) (key : K) (order : PlaceOrder) (keys : KeyPlaces K V) (index' : List (List (ℕ × ℕ))) (order' : PlaceOrder) (keys' : KeyPlaces K V) : Type 0 where
   pub whole : IsHistory eq index' order' keys'
-  pub entries : entries_of keys'.entries order'.places ≡ take order.limit ((hash, key) ∷ entries_of keys.entries order.places)
+  pub shown : remembered (entries_of keys'.entries order'.places) order'.limit index' (accesses_of order' keys') keys'.questions
+      ≡ remembered (take order.limit ((hash, key) ∷ entries_of keys.entries order.places)) order.limit index' (accesses_of order' keys') keys.questions
+  pub accesses : Rises 0 8 (accesses_of order keys) (accesses_of order' keys')
 
 module _ {K V : Type 0} (eq : K → K → Bool) (hash : ℕ) (key : K) (value : V) (index index1 index' : List (List (ℕ × ℕ))) (order order' : PlaceOrder) (keys keys' : KeyPlaces K V) (place : ℕ)
     (h : IsHistory eq index order keys) (some : 0 < order.limit) (m : MakesPlace index index1 order order' keys.entries place) where
@@ -76,6 +80,9 @@ module _ {K V : Type 0} (eq : K → K → Bool) (hash : ℕ) (key : K) (value : 
         ∙ ap (λ zs. (hash, key) ∷ zs) (entries-agree keys.entries keys'.entries fewer stands_still ∙ entries-take keys.entries (used order) (order.limit - 1) order.places (omega (arith, h.as_many)) below)
         ∙ ap (λ z. take z ((hash, key) ∷ entries_of keys.entries order.places)) (sym n)
 
+    counted : Rises 1 7 order.accesses order'.accesses → keys'.writes ≡ keys.writes + 1 → Rises 0 8 (accesses_of order keys) (accesses_of order' keys')
+    counted rises n = (omega (arith, rises.0), omega (arith, rises.1))
+
     pub remembers : Remembers eq hash key order keys index' order' keys'
     remembers =
         let slots : 0 < length index1 = rw m.as_many (omega (arith, some, h.half)) in
@@ -93,13 +100,6 @@ module _ {K V : Type 0} (eq : K → K → Bool) (hash : ℕ) (key : K) (value : 
             half = rw (m.limit, slot_count) h.half;
             short = rw m.limit h.short;
           };
-          entries = entries_now;
+          shown = shown-as _ _ _ _ _ _ _ _ entries_now m.limit (ap (λ (z : KeyPlaces K V). z.questions) write);
+          accesses = counted m.accesses (ap (λ (z : KeyPlaces K V). z.writes) write);
         }
-
--- a history for no keys has none
-pub none_fit : {K V : Type 0} (eq : K → K → Bool) (index : List (List (ℕ × ℕ))) (order : PlaceOrder) (keys : KeyPlaces K V) → IsHistory eq index order keys → order.limit ≡ 0 → entries_of keys.entries order.places ≡ []
-none_fit eq index order keys h none = ap (λ z. entries_of keys.entries z) (empty order.places (omega (arith, none, h.whole.within)))
-  where
-    empty : (ps : List ℕ) → length ps ≡ 0 → ps ≡ []
-    empty [] e = refl
-    empty (p ∷ ps) e = absurd (omega (arith, e))

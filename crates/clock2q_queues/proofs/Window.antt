@@ -1,19 +1,21 @@
 -- Small: what an admission, and a slot that leaves, make of its list and of the window.
-use Rattle.std.proofs.Common.{◌≡◌, ℕ, ◌+◌, ◌^◌, ◌<◌, ◌≢◌, Bool, true, false, cond, eqb, Option, Some, None, slice_get, List, [], ◌∷◌, length, map, set, get_or, inl, inr, refl, sym, ap, ◌∙◌, subst, arith}
+use Rattle.std.proofs.Common.{◌≡◌, ℕ, ◌+◌, ◌<◌, ◌≢◌, Bool, true, false, cond, eqb, Option, Some, None, slice_get, List, [], ◌∷◌, length, map, set, get_or, inl, inr, refl, sym, ap, ◌∙◌, subst, arith}
 use Rattle.std.specs.List.{last_or}
 use Rattle.std.proofs.lemmas.Bool.{eqb-true, eq-eqb, ne_eqb, both_ways, cases_Bool, or_cases, lt-ltb, le-ltb, cases_lt}
 use Rattle.std.proofs.lemmas.List.{length-set}
 use Rattle.clock2q_queues.specs.Ages as ages
 use Rattle.clock2q_queues.specs.Ages.{Age, grown}
-use Rattle.clock2q_queues.specs.declared.links.Standing.{Standing}
-use Rattle.clock2q_queues.specs.declared.links.Standing.TheVariants.{Free, Young, Old, Main}
+use Rattle.clock2q_queues.specs.declared.links.Mark.{Mark}
+use Rattle.clock2q_queues.specs.declared.links.Mark.TheVariants.{Free, Young, Old, Main}
 use Rattle.clock2q_queues.specs.declared.small.Small.{Small}
 use Rattle.clock2q_queues.specs.Rings.{has, AllBelow}
-use Rattle.clock2q_queues.specs.Links.{LinkState, IsBlank, IsLinked, IsSameBut, Attaches, slot_at, next_at, previous_at, standing_at, bit_at, place_at, accessed, with_record, with_place}
+use Rattle.clock2q_queues.specs.declared.links.Record.{Record}
+use Rattle.clock2q_queues.specs.Cells.{Counted, written}
+use Rattle.clock2q_queues.specs.Links.{LinkState, IsBlank, IsLinked, IsSameBut, Attaches, record_at, next_at, previous_at, standing_at, bit_at, place_at}
 use Rattle.clock2q_queues.specs.Small.{IsSmall, IsSmallQueue, IsInSmall, GrowsOld, small_slots, small_entries, admissions_since, moved_on, age_of, age_at, admitted, is_there}
 use Rattle.clock2q_queues.proofs.Records.{changed}
 use Rattle.clock2q_queues.proofs.Rings.{IsRing-kept, eqb_self, or_left, or_parts, has_first, has_later, differs}
-use Rattle.clock2q_queues.proofs.Joining.{Inserts, Inserts-before, Inserts-first, slots_from-is, IsLinked-turned, room, in_bounds, previous_in, same_slot}
+use Rattle.clock2q_queues.proofs.Joining.{Inserts, Inserts-before, Inserts-first, slots_from-is, IsLinked-turned, first_in, neighbours_fit, same_record}
 
 -- Ages
 
@@ -59,7 +61,7 @@ is_there-true (Some s) t e = ap (λ z. Some z) (sym (eqb-true t s e))
 is_there-own : (o : Option ℕ) (t : ℕ) → o ≡ Some t → is_there o t ≡ true
 is_there-own o t e = subst (λ z. is_there z t ≡ true) (sym e) (eqb_self t)
 
-aged_standing : (window cursor : ℕ) (standing : Standing) (bit : Bool) → cursor < window
+aged_standing : (window cursor : ℕ) (standing : Mark) (bit : Bool) → cursor < window
     → ((place : ℕ) → standing ≡ Young place → (place < window) × (place ≢ cursor))
     → age_of window (moved_on window cursor) standing bit ≡ grown window (age_of window cursor standing bit)
 aged_standing window cursor Free bit h y = refl
@@ -83,99 +85,96 @@ entries-mapped f g h (s ∷ ss) e =
     ∙ ap (λ zs. (s, h (g s)) ∷ zs) (entries-mapped f g h ss (λ t k. e t (has_later t s ss k)))
 
 pub small_slots-is : (l : LinkState) (small : Small) (ss : List ℕ) → IsSmall l small ss → small_slots l small ≡ ss
-small_slots-is l small ss m = slots_from-is l small.newest small.len ss m.queue
+small_slots-is l small ss m = slots_from-is l.records.items small.newest small.len ss m.queue
 
 pub IsSmallQueue-from : (l : LinkState) (small : Small) (ss : List ℕ) → IsSmall l small ss → IsSmallQueue l small
 IsSmallQueue-from l small ss m = subst (λ z. IsSmall l small z) (sym (small_slots-is l small ss m)) m
 
--- the queue, once the slot at the cursor grew old and the place was given to another slot
-pub linked_still : (old mid aged : LinkState) (ss : List ℕ) (cursor slot : ℕ) → IsLinked old ss → GrowsOld cursor old mid
-    → aged ≡ accessed (with_place cursor (Some slot) mid) → IsLinked aged ss
-linked_still old mid aged ss cursor slot k o e =
-    let now : IsLinked (accessed (with_place cursor (Some slot) mid)) ss = record {
-      ring = IsRing-kept (next_at old) (previous_at old) (next_at mid) (previous_at mid) ss k.ring (λ t h. o.nexts t) (λ t h. o.previouses t);
-      apart = k.apart;
-      below = subst (λ z. AllBelow z ss) (sym o.rest.as_many) k.below;
-    } in
-    subst (λ z. IsLinked z ss) (sym e) now
+-- the queue, once the slot at the cursor grew old
+linked_still : (old mid : LinkState) (ss : List ℕ) (cursor : ℕ) → IsLinked old.records.items ss → GrowsOld cursor old mid → IsLinked mid.records.items ss
+linked_still old mid ss cursor k o = record {
+  ring = IsRing-kept (next_at old.records.items) (previous_at old.records.items) (next_at mid.records.items) (previous_at mid.records.items) ss k.ring (λ t h. o.nexts t) (λ t h. o.previouses t);
+  apart = k.apart;
+  below = subst (λ z. AllBelow z ss) (sym o.as_many) k.below;
+}
 
 -- a slot was admitted to Small
 pub record Admits (slot : ℕ) (old : LinkState) (small : Small) (new : LinkState) (small' : Small) : Type 0 where
   pub whole : IsSmallQueue new small'
-  pub entries : small_entries new small' ≡ admitted (length old.places) slot (small_entries old small)
+  pub entries : small_entries new small' ≡ admitted (length old.window.items) slot (small_entries old small)
   pub others : IsSameBut (slot ∷ small_slots old small) old new
 
 module _ (slot : ℕ) (old : LinkState) (small : Small) (mid aged new : LinkState) (small' : Small)
-    (m : IsSmallQueue old small) (b : slot < length old.slots) (absent : has slot (small_slots old small) ≡ false) (w : 0 < length old.places)
-    (o : GrowsOld small.cursor old mid) (e : aged ≡ accessed (with_place small.cursor (Some slot) mid))
-    (i : Inserts slot (Young small.cursor) (small_slots old small) aged new)
+    (m : IsSmallQueue old small) (b : slot < length old.records.items) (absent : has slot (small_slots old small) ≡ false) (w : 0 < length old.window.items)
+    (o : GrowsOld small.cursor old mid) (e : aged ≡ record mid { window = written small.cursor (Some slot) mid.window })
+    (i : Inserts slot (Young small.cursor) (small_slots old small) mid.records.items new.records.items) (rest : new ≡ record aged { records = new.records })
     (newest : small'.newest ≡ Some slot) (oldest : small'.oldest ≡ last_or None (slot ∷ small_slots old small))
-    (count : small'.len ≡ small.len + 1) (cursor : small'.cursor ≡ moved_on (length old.places) small.cursor) where
-  within : small.cursor < length old.places
+    (count : small'.len ≡ small.len + 1) (cursor : small'.cursor ≡ moved_on (length old.window.items) small.cursor) where
+  within : small.cursor < length old.window.items
   within = m.cursor_in w
 
-  places_new : new.places ≡ set old.places small.cursor (Some slot)
-  places_new = i.rest.places ∙ ap (λ (l : LinkState). l.places) e ∙ ap (λ z. set z small.cursor (Some slot)) o.rest.places
+  places_new : new.window.items ≡ set old.window.items small.cursor (Some slot)
+  places_new = ap (λ (l : LinkState). l.window.items) rest ∙ ap (λ (l : LinkState). l.window.items) e ∙ ap (λ (z : List (Option ℕ)). set z small.cursor (Some slot)) o.places
 
-  window_new : length new.places ≡ length old.places
-  window_new = ap (λ (z : List (Option ℕ)). length z) places_new ∙ length-set old.places small.cursor (Some slot)
+  window_new : length new.window.items ≡ length old.window.items
+  window_new = ap (λ (z : List (Option ℕ)). length z) places_new ∙ length-set old.window.items small.cursor (Some slot)
 
-  slots_new : length new.slots ≡ length old.slots
-  slots_new = i.rest.as_many ∙ ap (λ (l : LinkState). length l.slots) e ∙ o.rest.as_many
+  slots_new : length new.records.items ≡ length old.records.items
+  slots_new = i.as_many ∙ o.as_many
 
   place_new : (p : ℕ) → place_at new p ≡ cond (eqb p small.cursor) (Some slot) (place_at old p)
-  place_new p = ap (λ z. get_or z p None) places_new ∙ changed (λ z. z) old.places small.cursor (Some slot) None p within
+  place_new p = ap (λ z. get_or z p None) places_new ∙ changed (λ z. z) old.window.items small.cursor (Some slot) None p within
 
-  standing_new : (t : ℕ) → standing_at new t ≡ cond (eqb t slot) (Young small.cursor) (cond (is_there (place_at old small.cursor) t) Old (standing_at old t))
-  standing_new t = i.standings t ∙ ap (λ z. cond (eqb t slot) (Young small.cursor) z) (ap (λ l. standing_at l t) e ∙ o.standings t)
+  standing_new : (t : ℕ) → standing_at new.records.items t ≡ cond (eqb t slot) (Young small.cursor) (cond (is_there (place_at old small.cursor) t) Old (standing_at old.records.items t))
+  standing_new t = i.standings t ∙ ap (λ z. cond (eqb t slot) (Young small.cursor) z) (o.standings t)
 
   bit_new : (t : ℕ) → bit_at new t ≡ cond (is_there (place_at old small.cursor) t) false (bit_at old t)
-  bit_new t = i.bits t ∙ ap (λ l. bit_at l t) e ∙ o.bits t
+  bit_new t = ap (λ (l : LinkState). bit_at l t) rest ∙ ap (λ (l : LinkState). bit_at l t) e ∙ o.bits t
 
   -- a young slot of the queue that isn't at the cursor has another place
-  elsewhere : (t place : ℕ) → has t (small_slots old small) ≡ true → is_there (place_at old small.cursor) t ≡ false → standing_at old t ≡ Young place → (place < length old.places) × (place ≢ small.cursor)
+  elsewhere : (t place : ℕ) → has t (small_slots old small) ≡ true → is_there (place_at old small.cursor) t ≡ false → standing_at old.records.items t ≡ Young place → (place < length old.window.items) × (place ≢ small.cursor)
   elsewhere t place h n y =
       let p = m.placed t place h y in
       (p.0, λ q. both_ways (is_there (place_at old small.cursor) t) n (is_there-own _ t (subst (λ z. place_at old z ≡ Some t) q p.1)))
 
-  aged_at : (t : ℕ) → has t (small_slots old small) ≡ true → age_at new small'.cursor t ≡ grown (length old.places) (age_at old small.cursor t)
+  aged_at : (t : ℕ) → has t (small_slots old small) ≡ true → age_at new small'.cursor t ≡ grown (length old.window.items) (age_at old small.cursor t)
   aged_at t h =
       let d : eqb t slot ≡ false = differs t slot (small_slots old small) h absent in
       elim (cases_Bool (is_there (place_at old small.cursor) t)) [
         | inl g ↦
             let y = (m.occupied small.cursor t (is_there-true _ t g)).1 in
-            rw (cursor, window_new, standing_new t, bit_new t, d, g, y) (sym (grown-at_cursor (length old.places) small.cursor (bit_at old t) within))
+            rw (cursor, window_new, standing_new t, bit_new t, d, g, y) (sym (grown-at_cursor (length old.window.items) small.cursor (bit_at old t) within))
         | inr g ↦
-            rw (cursor, window_new, standing_new t, bit_new t, d, g) (aged_standing (length old.places) small.cursor (standing_at old t) (bit_at old t) within (λ place y. elsewhere t place h g y))
+            rw (cursor, window_new, standing_new t, bit_new t, d, g) (aged_standing (length old.window.items) small.cursor (standing_at old.records.items t) (bit_at old t) within (λ place y. elsewhere t place h g y))
       ]
 
-  own_standing : standing_at new slot ≡ Young small.cursor
+  own_standing : standing_at new.records.items slot ≡ Young small.cursor
   own_standing = standing_new slot ∙ rw (eqb_self slot) refl
 
   -- what stands in the queue now, stood there before unless it is new
-  young_new : (t place : ℕ) → has t (slot ∷ small_slots old small) ≡ true → standing_at new t ≡ Young place → (place < length new.places) × (place_at new place ≡ Some t)
+  young_new : (t place : ℕ) → has t (slot ∷ small_slots old small) ≡ true → standing_at new.records.items t ≡ Young place → (place < length new.window.items) × (place_at new place ≡ Some t)
   young_new t place h y = elim (cases_Bool (eqb t slot)) [
     | inl g ↦
         let q : t ≡ slot = eqb-true t slot g in
-        let p : place ≡ small.cursor = let r = own_standing in let y' = subst (λ z. standing_at new z ≡ Young place) q y in cc in
+        let p : place ≡ small.cursor = let r = own_standing in let y' = subst (λ z. standing_at new.records.items z ≡ Young place) q y in cc in
         (rw (p, window_new) within, place_new place ∙ rw (p, eqb_self small.cursor) (ap (λ z. Some z) (sym q)))
     | inr g ↦
         let k : has t (small_slots old small) ≡ true = elim (or_cases (eqb t slot) (has t (small_slots old small)) h) [ inl z ↦ absurd (both_ways (eqb t slot) g z) | inr z ↦ z ] in
         elim (cases_Bool (is_there (place_at old small.cursor) t)) [
-          | inl f ↦ let z : standing_at new t ≡ Old = standing_new t ∙ rw (g, f) refl in absurd (cc)
+          | inl f ↦ let z : standing_at new.records.items t ≡ Old = standing_new t ∙ rw (g, f) refl in absurd (cc)
           | inr f ↦
-              let z : standing_at old t ≡ Young place = sym (standing_new t ∙ rw (g, f) refl) ∙ y in
+              let z : standing_at old.records.items t ≡ Young place = sym (standing_new t ∙ rw (g, f) refl) ∙ y in
               let p = elsewhere t place k f z in
               (rw window_new p.0, place_new place ∙ rw (ne_eqb place small.cursor p.1) (m.placed t place k z).1)
         ]
   ]
 
-  occupied_new : (place t : ℕ) → place_at new place ≡ Some t → (has t (slot ∷ small_slots old small) ≡ true) × (standing_at new t ≡ Young place)
+  occupied_new : (place t : ℕ) → place_at new place ≡ Some t → (has t (slot ∷ small_slots old small) ≡ true) × (standing_at new.records.items t ≡ Young place)
   occupied_new place t h = elim (cases_Bool (eqb place small.cursor)) [
     | inl g ↦
         let q : Some slot ≡ Some t = sym (place_new place ∙ rw g refl) ∙ h in
         let r : t ≡ slot = cc in
-        (or_left (eqb t slot) (has t (small_slots old small)) (eq-eqb t slot r), subst (λ z. standing_at new z ≡ Young place) (sym r) (own_standing ∙ ap (λ z. Young z) (sym (eqb-true place small.cursor g))))
+        (or_left (eqb t slot) (has t (small_slots old small)) (eq-eqb t slot r), subst (λ z. standing_at new.records.items z ≡ Young place) (sym r) (own_standing ∙ ap (λ z. Young z) (sym (eqb-true place small.cursor g))))
     | inr g ↦
         let q : place_at old place ≡ Some t = sym (place_new place ∙ rw g refl) ∙ h in
         let p = m.occupied place t q in
@@ -190,7 +189,7 @@ module _ (slot : ℕ) (old : LinkState) (small : Small) (mid aged new : LinkStat
         (has_later t slot (small_slots old small) p.0, standing_new t ∙ rw (d, f) p.1)
   ]
 
-  in_small_new : (t : ℕ) → has t (slot ∷ small_slots old small) ≡ true → IsInSmall (standing_at new t)
+  in_small_new : (t : ℕ) → has t (slot ∷ small_slots old small) ≡ true → IsInSmall (standing_at new.records.items t)
   in_small_new t h = elim (cases_Bool (eqb t slot)) [
     | inl g ↦ rw (standing_new t, g) tt
     | inr g ↦
@@ -201,16 +200,16 @@ module _ (slot : ℕ) (old : LinkState) (small : Small) (mid aged new : LinkStat
         ]
   ]
 
-  cursor_new : small'.cursor < length new.places
-  cursor_new = elim (cases_lt (small.cursor + 1) (length old.places)) [
-    | inl l ↦ rw (cursor, window_new, lt-ltb (small.cursor + 1) (length old.places) l) l
-    | inr l ↦ rw (cursor, window_new, le-ltb (small.cursor + 1) (length old.places) l) w
+  cursor_new : small'.cursor < length new.window.items
+  cursor_new = elim (cases_lt (small.cursor + 1) (length old.window.items)) [
+    | inl l ↦ rw (cursor, window_new, lt-ltb (small.cursor + 1) (length old.window.items) l) l
+    | inr l ↦ rw (cursor, window_new, le-ltb (small.cursor + 1) (length old.window.items) l) w
   ]
 
   whole_new : IsSmall new small' (slot ∷ small_slots old small)
   whole_new = record {
     queue = record {
-      linked = IsLinked-turned new (small_slots old small) (slot ∷ []) i.linked;
+      linked = IsLinked-turned new.records.items (small_slots old small) (slot ∷ []) i.linked;
       starts = newest;
       counted = let c = m.queue.counted in omega arith;
       countable = rw slots_new m.queue.countable;
@@ -229,8 +228,8 @@ module _ (slot : ℕ) (old : LinkState) (small : Small) (mid aged new : LinkStat
     entries =
         ap (λ z. map {B = ℕ × Age} (λ s. (s, age_at new small'.cursor s)) z) (small_slots-is new small' (slot ∷ small_slots old small) whole_new)
         ∙ ap (λ z. (slot, z) ∷ map {B = ℕ × Age} (λ s. (s, age_at new small'.cursor s)) (small_slots old small))
-        (rw (own_standing, window_new, cursor) (ap (λ z. ages.Young z) (admissions_since-own (length old.places) small.cursor within)))
-        ∙ ap (λ z. (slot, ages.Young 0) ∷ z) (entries-mapped (λ s. age_at new small'.cursor s) (λ s. age_at old small.cursor s) (λ a. grown (length old.places) a) (small_slots old small) aged_at);
+        (rw (own_standing, window_new, cursor) (ap (λ z. ages.Young z) (admissions_since-own (length old.window.items) small.cursor within)))
+        ∙ ap (λ z. (slot, ages.Young 0) ∷ z) (entries-mapped (λ s. age_at new small'.cursor s) (λ s. age_at old small.cursor s) (λ a. grown (length old.window.items) a) (small_slots old small) aged_at);
     others = record {
       others = λ t h.
           let d : eqb t slot ≡ false = (or_parts (eqb t slot) (has t (small_slots old small)) h).0 in
@@ -239,8 +238,8 @@ module _ (slot : ℕ) (old : LinkState) (small : Small) (mid aged new : LinkStat
             | inl z ↦ absurd (both_ways (has t (small_slots old small)) k (m.occupied small.cursor t (is_there-true _ t z)).0)
             | inr z ↦ z
           ] in
-          i.same.others t h ∙ ap (λ l. slot_at l t) e
-          ∙ same_slot (slot_at mid t) (slot_at old t) (o.previouses t) (o.nexts t) (o.standings t ∙ rw f refl) (o.bits t ∙ rw f refl);
+          ap (λ z. (z, bit_at new t)) (i.others t h ∙ same_record (record_at mid.records.items t) (record_at old.records.items t) (o.previouses t) (o.nexts t) (o.standings t ∙ rw f refl))
+          ∙ ap (λ z. (record_at old.records.items t, z)) (bit_new t ∙ rw f refl);
       as_many = slots_new;
     };
   }
@@ -265,50 +264,38 @@ last_alone : (ss : List ℕ) (slot : ℕ) → None ≡ slice_get ss 0 → Some s
 last_alone [] slot e = refl
 last_alone (s ∷ ss) slot e = absurd (cc)
 
-first_in : (ss : List ℕ) (first : ℕ) → Some first ≡ slice_get ss 0 → has first ss ≡ true
-first_in [] first e = absurd (cc)
-first_in (s ∷ ss) first e = let q : first ≡ s = cc in or_left (eqb first s) (has first ss) (eq-eqb first s q)
-
 module _ (slot : ℕ) (old : LinkState) (small : Small) (mid aged : LinkState) (m : IsSmallQueue old small)
-    (o : GrowsOld small.cursor old mid) (e : aged ≡ accessed (with_place small.cursor (Some slot) mid)) where
-  slots_aged : length aged.slots ≡ length old.slots
-  slots_aged = ap (λ (l : LinkState). length l.slots) e ∙ o.rest.as_many
+    (o : GrowsOld small.cursor old mid) (e : aged ≡ record mid { window = written small.cursor (Some slot) mid.window }) where
+  records_aged : aged.records ≡ mid.records
+  records_aged = ap (λ (l : LinkState). l.records) e
 
-  pub window_aged : length aged.places ≡ length old.places
-  window_aged = ap (λ (l : LinkState). length l.places) e ∙ length-set mid.places small.cursor (Some slot) ∙ ap (λ (z : List (Option ℕ)). length z) o.rest.places
+  pub slots_aged : length aged.records.items ≡ length old.records.items
+  slots_aged = ap (λ (r : Counted Record). length r.items) records_aged ∙ o.as_many
+
+  pub window_aged : length aged.window.items ≡ length old.window.items
+  window_aged = ap (λ (l : LinkState). length l.window.items) e ∙ length-set mid.window.items small.cursor (Some slot) ∙ ap (λ (z : List (Option ℕ)). length z) o.places
 
   -- the slots before which a new one is put are there
-  pub first_fits : (newest : ℕ) → small.newest ≡ Some newest → (newest < length aged.slots) × (previous_at aged newest < length aged.slots)
+  pub first_fits : (newest : ℕ) → small.newest ≡ Some newest → (newest < length aged.records.items) × (previous_at aged.records.items newest < length aged.records.items)
   first_fits newest h =
-      let k = linked_still old mid aged (small_slots old small) small.cursor slot m.queue.linked o e in
-      let f = first_in (small_slots old small) newest (sym h ∙ m.queue.starts) in
-      (in_bounds aged (small_slots old small) newest k f, in_bounds aged (small_slots old small) (previous_at aged newest) k (previous_in aged (small_slots old small) newest k f))
+      let k = linked_still old mid (small_slots old small) small.cursor m.queue.linked o in
+      let f = neighbours_fit mid.records.items (small_slots old small) newest k (first_in (small_slots old small) newest (sym h ∙ m.queue.starts)) in
+      subst (λ (z : Counted Record). (newest < length z.items) × (previous_at z.items newest < length z.items)) (sym records_aged) (f.0, f.2)
 
-  pub Admits-attached : (new : LinkState) (small' : Small) (newest : ℕ) → slot < length old.slots → has slot (small_slots old small) ≡ false → 0 < length old.places
-      → small.newest ≡ Some newest → Attaches slot newest (Young small.cursor) aged new
-      → small'.newest ≡ Some slot → small'.oldest ≡ small.oldest → small'.len ≡ small.len + 1 → small'.cursor ≡ moved_on (length old.places) small.cursor
-      → Admits slot old small new small'
-  Admits-attached new small' newest b absent w h a n d c r =
-      let k = linked_still old mid aged (small_slots old small) small.cursor slot m.queue.linked o e in
-      let s = sym h ∙ m.queue.starts in
-      Admits-from slot old small mid aged new small' m b absent w o e
-      (Inserts-before aged new (small_slots old small) slot (Young small.cursor) newest k s absent (rw slots_aged b) a)
-      n (d ∙ m.ends ∙ last_behind (small_slots old small) slot newest s) c r
+  module _ (new : LinkState) (small' : Small) (b : slot < length old.records.items) (absent : has slot (small_slots old small) ≡ false) (w : 0 < length old.window.items)
+      (rest : new ≡ record aged { records = new.records }) (n : small'.newest ≡ Some slot) (c : small'.len ≡ small.len + 1) (r : small'.cursor ≡ moved_on (length old.window.items) small.cursor) where
+    pub Admits-attached : (newest : ℕ) → small.newest ≡ Some newest → Attaches slot newest (Young small.cursor) aged.records new.records → small'.oldest ≡ small.oldest → Admits slot old small new small'
+    Admits-attached newest h a d =
+        let k = linked_still old mid (small_slots old small) small.cursor m.queue.linked o in
+        let s = sym h ∙ m.queue.starts in
+        let a' : Attaches slot newest (Young small.cursor) mid.records new.records = subst (λ (z : Counted Record). Attaches slot newest (Young small.cursor) z new.records) records_aged a in
+        Admits-from slot old small mid aged new small' m b absent w o e
+        (Inserts-before mid.records new.records (small_slots old small) slot (Young small.cursor) newest k s absent (rw o.as_many b) a') rest
+        n (d ∙ m.ends ∙ last_behind (small_slots old small) slot newest s) c r
 
-  pub Admits-alone : (new : LinkState) (small' : Small) → slot < length old.slots → has slot (small_slots old small) ≡ false → 0 < length old.places
-      → small.newest ≡ None → new ≡ accessed (with_record slot (record { previous = slot; next = slot; standing = Young small.cursor }) aged)
-      → small'.newest ≡ Some slot → small'.oldest ≡ Some slot → small'.len ≡ small.len + 1 → small'.cursor ≡ moved_on (length old.places) small.cursor
-      → Admits slot old small new small'
-  Admits-alone new small' b absent w h a n d c r =
-      let s = sym h ∙ m.queue.starts in
-      Admits-from slot old small mid aged new small' m b absent w o e
-      (Inserts-first aged new (small_slots old small) slot (Young small.cursor) s (rw slots_aged b) a)
-      n (d ∙ last_alone (small_slots old small) slot s) c r
-
--- the next count of slots fits
-pub count_fits : (l : LinkState) (small : Small) (slot : ℕ) → IsSmallQueue l small → has slot (small_slots l small) ≡ false → slot < length l.slots → small.len + 1 < 2 ^ 64
-count_fits l small slot m absent b =
-    let r = room l (small_slots l small) slot m.queue.linked absent b in
-    let n = m.queue.counted in
-    let k = m.queue.countable in
-    omega arith
+    pub Admits-alone : small.newest ≡ None → new.records ≡ written slot (record { previous = slot; next = slot; standing = Young small.cursor }) aged.records → small'.oldest ≡ Some slot → Admits slot old small new small'
+    Admits-alone h a d =
+        let s = sym h ∙ m.queue.starts in
+        Admits-from slot old small mid aged new small' m b absent w o e
+        (Inserts-first mid.records new.records (small_slots old small) slot (Young small.cursor) s (rw o.as_many b) (a ∙ ap (λ z. written slot (record { previous = slot; next = slot; standing = Young small.cursor }) z) records_aged)) rest
+        n (d ∙ last_alone (small_slots old small) slot s) c r

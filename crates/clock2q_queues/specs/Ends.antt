@@ -2,13 +2,14 @@
 use Rattle.std.specs.Prelude.{ℕ, nat_lt, nat_eq, Option, Some, None, if◌then◌else◌}
 use Rattle.std.specs.Bool.{then_some}
 use Rattle.std.specs.Option.{option_eq}
-use Rattle.clock2q_queues.specs.Links.{LinkState, accessed, with_place}
-use Rattle.clock2q_queues.specs.declared.links.Standing.{Standing}
-use Rattle.clock2q_queues.specs.declared.links.Standing.TheVariants.{Free, Young, Old, Main}
+use Rattle.clock2q_queues.specs.Cells.{written}
+use Rattle.clock2q_queues.specs.Links.{LinkState}
+use Rattle.clock2q_queues.specs.declared.links.Mark.{Mark}
+use Rattle.clock2q_queues.specs.declared.links.Mark.TheVariants.{Free, Young, Old, Main}
 
 -- the place of a young slot is emptied
-abbrev pub place_freed : Standing → LinkState → LinkState
-place_freed (Young place) l = accessed (with_place place None l)
+abbrev pub place_freed : Mark → LinkState → LinkState
+place_freed (Young place) l = record l { window = written place None l.window }
 place_freed Free l = l
 place_freed Old l = l
 place_freed Main l = l

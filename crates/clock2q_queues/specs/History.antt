@@ -3,6 +3,7 @@ use Rattle.std.specs.Prelude.{◌≡◌, ℕ, ◌+◌, ◌-◌, ◌*◌, ◌^◌
 use Rattle.std.specs.List.{filter}
 use Rattle.std.specs.Coded.{Coded, code_by, coded×, coded_ℕ, coded_list}
 use Rattle.clock2q_queues.specs.Rings.{has}
+use Rattle.clock2q_queues.specs.Cells.{Rises}
 use Rattle.clock2q_queues.specs.declared.keys.cells.Entry.{Entry}
 use Rattle.clock2q_queues.specs.Keys.{KeyPlaces, entries_of}
 use Rattle.clock2q_queues.specs.Indexes.{IsIndex, AllDistinct, has_key}
@@ -32,7 +33,7 @@ module _ {K : Type 0} (eq : K → K → Bool) where
   abbrev pub forgotten : K → List (ℕ × K) → List (ℕ × K)
   forgotten key entries = filter (λ e. not (eq key e.1)) entries
 
--- what a history keeps: the keys are distinct, one stands at each place that was used, the index has those in order, and has twice the slots, and there is room for as many as there may be
+-- what a history keeps: the keys are distinct, one stands at each place that was used, the index has the places in order among at least twice as many slots as there may be keys, and there is room for as many
 pub record IsHistory {K V : Type 0} (eq : K → K → Bool) (index : List (List (ℕ × ℕ))) (order : PlaceOrder) (keys : KeyPlaces K V) : Type 0 where
   pub whole : IsWholeOrder order
   pub indexed : IsIndex index keys.entries order.places
@@ -59,7 +60,7 @@ pub record MakesPlace {K V : Type 0} (index index' : List (List (ℕ × ℕ))) (
   pub below : place < order.limit
   pub used_now : used order' ≡ max (length keys) (place + 1)
   pub limit : order'.limit ≡ order.limit
-  pub accesses : order'.accesses ≤ order.accesses + 7
+  pub accesses : Rises 1 7 order.accesses order'.accesses
 
 -- how often links were accessed: the records, and each key that was written to a place
 abbrev pub accesses_of : {K V : Type 0} → PlaceOrder → KeyPlaces K V → ℕ

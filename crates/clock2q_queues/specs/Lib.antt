@@ -1,4 +1,5 @@
 pub mod Ages
+pub mod Cells
 pub mod Ends
 pub mod Links
 pub mod Hand
@@ -7,7 +8,6 @@ pub mod Rings
 pub mod Small
 pub mod Queues
 pub mod Order
-pub mod Counts
 pub mod Keys
 pub mod KeysLends
 pub mod Indexes

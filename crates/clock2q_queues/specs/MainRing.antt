@@ -3,12 +3,12 @@ use Rattle.std.specs.Prelude.{◌≡◌, ℕ, Bool, true, false, List, map, ◌=
 use Rattle.clock2q_queues.specs.Hand as hand
 use Rattle.clock2q_queues.specs.Rings.{has}
 use Rattle.clock2q_queues.specs.Links.{LinkState, IsQueue, slots_from, standing_at, bit_at}
-use Rattle.clock2q_queues.specs.declared.links.Standing.TheVariants.{Main}
+use Rattle.clock2q_queues.specs.declared.links.Mark.TheVariants.{Main}
 use Rattle.clock2q_queues.specs.declared.main_ring.MainRing.{MainRing}
 
 -- the slots of Main, from the hand
 abbrev pub main_slots : LinkState → MainRing → List ℕ
-main_slots l main = slots_from l main.hand main.len
+main_slots l main = slots_from l.records.items main.hand main.len
 
 -- each with its hit bit
 abbrev pub main_entries : LinkState → MainRing → List (ℕ × Bool)
@@ -16,8 +16,8 @@ main_entries l main = map (λ s. (s, bit_at l s)) (main_slots l main)
 
 -- these slots are Main's, and stand there
 pub record IsMain (l : LinkState) (main : MainRing) (slots : List ℕ) : Type 0 where
-  pub queue : IsQueue l main.hand main.len slots
-  pub standing : (t : ℕ) → has t slots ≡ true → standing_at l t ≡ Main
+  pub queue : IsQueue l.records.items main.hand main.len slots
+  pub standing : (t : ℕ) → has t slots ≡ true → standing_at l.records.items t ≡ Main
 
 -- the links hold Main as they should
 abbrev pub IsMainRing : LinkState → MainRing → Type 0

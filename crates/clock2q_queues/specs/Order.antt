@@ -1,10 +1,12 @@
 -- The places of the history in the order of their keys, and the chain of the free ones.
 use Rattle.std.specs.Prelude.{◌≡◌, ℕ, ◌+◌, ◌^◌, ◌<◌, ◌≤◌, List, [], ◌∷◌, ◌++◌, length, Option}
+use Rattle.clock2q_queues.specs.Cells.{Counted}
 use Rattle.clock2q_queues.specs.Rings.{AllApart, AllBelow, around}
-use Rattle.clock2q_queues.specs.Links.{LinkState, IsQueue, slots_from, next_at}
+use Rattle.clock2q_queues.specs.declared.links.Record.{Record}
+use Rattle.clock2q_queues.specs.Links.{IsQueue, slots_from, next_at}
 use Rattle.clock2q_queues.specs.declared.history.order.Chain.{Chain}
 
--- the places that hold a key, the newest key's first, the free ones that were used before, how many there are in all, and how often links were accessed
+-- the places that hold a key, the newest key's first, the free ones that were used before, how many there are in all, and how often records were accessed
 pub record PlaceOrder : Type 0 where
   pub places : List ℕ
   pub free : List ℕ
@@ -28,24 +30,28 @@ abbrev pub next_place : PlaceOrder → ℕ
 next_place o = place_for (length o.places) o.free
 
 -- the free places, from the head of the chain
-abbrev pub free_places : LinkState → Chain → List ℕ
-free_places l chain = around (next_at l) chain.head chain.len
+abbrev pub free_places : List Record → Chain → List ℕ
+free_places rs chain = around (next_at rs) chain.head chain.len
 
 -- the places in order are these, and those in the chain are those: the ones that were used, each of them once
-pub record IsOrderOf (l : LinkState) (newest : Option ℕ) (len : ℕ) (chain : Chain) (places free : List ℕ) : Type 0 where
-  pub queue : IsQueue l newest len places
-  pub chained : free_places l chain ≡ free
+pub record IsOrderOf (rs : List Record) (newest : Option ℕ) (len : ℕ) (chain : Chain) (places free : List ℕ) : Type 0 where
+  pub queue : IsQueue rs newest len places
+  pub chained : free_places rs chain ≡ free
   pub apart : AllApart (places ++ free)
   pub below : AllBelow (length places + length free) (places ++ free)
-  pub within : length places + length free ≤ length l.slots
+  pub within : length places + length free ≤ length rs
 
 -- the links hold the order and the chain as they should
-abbrev pub IsOrder : LinkState → Option ℕ → ℕ → Chain → Type 0
-IsOrder l newest len chain = IsOrderOf l newest len chain (slots_from l newest len) (free_places l chain)
+abbrev pub IsOrder : List Record → Option ℕ → ℕ → Chain → Type 0
+IsOrder rs newest len chain = IsOrderOf rs newest len chain (slots_from rs newest len) (free_places rs chain)
+
+-- the order and the chain, as the records hold them
+abbrev pub order_shown : Counted Record → Option ℕ → ℕ → Chain → PlaceOrder
+order_shown rs newest len chain = record { places = slots_from rs.items newest len; free = free_places rs.items chain; limit = length rs.items; accesses = rs.accesses }
 
 -- what callers may rely on: no place stands twice, each was used, and no more were used than there are
 pub record IsWholeOrder (o : PlaceOrder) : Type 0 where
   pub apart : AllApart (o.places ++ o.free)
   pub below : AllBelow (used o) (o.places ++ o.free)
   pub within : used o ≤ o.limit
-  pub countable : o.limit < 2 ^ 64
+  pub countable : o.limit < 2 ^ 32

@@ -1,13 +1,14 @@
 -- Small and Main over one set of links, as the two lists that they are.
-use Rattle.std.specs.Prelude.{◌≡◌, ℕ, Bool, true, false, not, ◌&&◌, ◌==◌, List, map, ◌++◌, length, Option, Some, None}
-use Rattle.std.specs.List.{filter, list_any}
+use Rattle.std.specs.Prelude.{◌≡◌, ℕ, Bool, true, false, not, ◌==◌, List, [], map, ◌++◌, length, Option, Some, None}
+use Rattle.std.specs.List.{filter}
 use Rattle.clock2q_queues.specs.Ages.{Age, is_promoted}
 use Rattle.clock2q_queues.specs.Rings.{has, AllApart, AllBelow}
-use Rattle.clock2q_queues.specs.Links.{LinkState, standing_at}
+use Rattle.clock2q_queues.specs.Links.{LinkState, accesses_of, standing_at}
 use Rattle.clock2q_queues.specs.Small.{IsSmallQueue, small_slots, small_entries}
 use Rattle.clock2q_queues.specs.MainRing.{IsMainRing, main_slots, main_entries}
-use Rattle.clock2q_queues.specs.declared.links.Standing.{Standing}
-use Rattle.clock2q_queues.specs.declared.links.Standing.TheVariants.{Free, Young, Old, Main}
+use Rattle.clock2q_queues.specs.declared.links.Mark.TheVariants as mark
+use Rattle.clock2q_queues.specs.declared.queues.Standing.{Standing}
+use Rattle.clock2q_queues.specs.declared.queues.Standing.TheVariants as standing
 use Rattle.clock2q_queues.specs.declared.main_ring.MainRing.{MainRing}
 use Rattle.clock2q_queues.specs.declared.small.Small.{Small}
 
@@ -25,17 +26,17 @@ abbrev pub queues_shown : LinkState → Small → MainRing → QueueState
 queues_shown l small main = record {
   small = small_entries l small;
   main = main_entries l main;
-  slots = length l.slots;
-  window = length l.places;
-  accesses = l.accesses;
-  inspections = l.inspections;
+  slots = length l.records.items;
+  window = length l.window.items;
+  accesses = accesses_of l;
+  inspections = l.bits.inspections;
 }
 
 -- the links hold both queues, and any other slot stands nowhere
 pub record AreQueues (l : LinkState) (s : Small) (m : MainRing) : Type 0 where
   pub small : IsSmallQueue l s
   pub main : IsMainRing l m
-  pub elsewhere : (t : ℕ) → has t (small_slots l s) ≡ false → has t (main_slots l m) ≡ false → standing_at l t ≡ Free
+  pub elsewhere : (t : ℕ) → has t (small_slots l s) ≡ false → has t (main_slots l m) ≡ false → standing_at l.records.items t ≡ mark.Free
 
 -- the slots of a queue's entries
 abbrev pub slots_of : {X : Type 0} → List (ℕ × X) → List ℕ
@@ -45,16 +46,15 @@ slots_of entries = map (λ e. e.0) entries
 abbrev pub without_slot : {X : Type 0} → ℕ → List (ℕ × X) → List (ℕ × X)
 without_slot slot entries = filter (λ e. not (e.0 == slot)) entries
 
--- whether a hit on a slot sets a bit of Main that was clear
-abbrev pub sets_bit : ℕ → List (ℕ × Bool) → Bool
-sets_bit slot main = list_any (λ e. (e.0 == slot) && not e.1) main
+-- no slot stands in either queue, and nothing was counted
+abbrev pub empty_queues : ℕ → ℕ → QueueState
+empty_queues slots window = record { small = []; main = []; slots = slots; window = window; accesses = 0; inspections = 0 }
 
--- where a slot stands tells which queue has it: at most one does
+-- which queue has a slot: one of them, or neither
 abbrev pub IsStanding : Standing → ℕ → QueueState → Type 0
-IsStanding Free slot q = (has slot (slots_of q.small) ≡ false) × (has slot (slots_of q.main) ≡ false)
-IsStanding (Young place) slot q = (has slot (slots_of q.small) ≡ true) × (has slot (slots_of q.main) ≡ false)
-IsStanding Old slot q = (has slot (slots_of q.small) ≡ true) × (has slot (slots_of q.main) ≡ false)
-IsStanding Main slot q = (has slot (slots_of q.small) ≡ false) × (has slot (slots_of q.main) ≡ true)
+IsStanding standing.Free slot q = (has slot (slots_of q.small) ≡ false) × (has slot (slots_of q.main) ≡ false)
+IsStanding standing.Small slot q = (has slot (slots_of q.small) ≡ true) × (has slot (slots_of q.main) ≡ false)
+IsStanding standing.Main slot q = (has slot (slots_of q.small) ≡ false) × (has slot (slots_of q.main) ≡ true)
 
 -- whether Small's oldest slot goes on to Main rather than out
 abbrev pub tail_promoted : Option (ℕ × Age) → Bool

@@ -4,9 +4,9 @@ use Rattle.std.specs.List.{last_or}
 use Rattle.clock2q_queues.specs.Ages as ages
 use Rattle.clock2q_queues.specs.Ages.{Age, grown, touched}
 use Rattle.clock2q_queues.specs.Rings.{has}
-use Rattle.clock2q_queues.specs.Links.{LinkState, IsQueue, IsSameElsewhere, slots_from, next_at, previous_at, standing_at, bit_at, place_at}
-use Rattle.clock2q_queues.specs.declared.links.Standing.{Standing}
-use Rattle.clock2q_queues.specs.declared.links.Standing.TheVariants.{Free, Young, Old, Main}
+use Rattle.clock2q_queues.specs.Links.{LinkState, IsQueue, slots_from, next_at, previous_at, standing_at, bit_at, place_at}
+use Rattle.clock2q_queues.specs.declared.links.Mark.{Mark}
+use Rattle.clock2q_queues.specs.declared.links.Mark.TheVariants.{Free, Young, Old, Main}
 use Rattle.clock2q_queues.specs.declared.small.Small.{Small}
 
 -- where the cursor goes from a place: to the next one, and from the last to the first
@@ -18,25 +18,25 @@ abbrev pub admissions_since : ℕ → ℕ → ℕ → ℕ
 admissions_since window cursor place = if nat_lt place cursor then cursor - 1 - place else cursor + window - 1 - place
 
 -- the age of a slot that stands in Small, with its bit
-abbrev pub age_of : ℕ → ℕ → Standing → Bool → Age
+abbrev pub age_of : ℕ → ℕ → Mark → Bool → Age
 age_of window cursor (Young place) bit = ages.Young (admissions_since window cursor place)
 age_of window cursor Old bit = ages.Old bit
 age_of window cursor Free bit = ages.Old bit
 age_of window cursor Main bit = ages.Old bit
 
 abbrev pub age_at : LinkState → ℕ → ℕ → Age
-age_at l cursor slot = age_of (length l.places) cursor (standing_at l slot) (bit_at l slot)
+age_at l cursor slot = age_of (length l.window.items) cursor (standing_at l.records.items slot) (bit_at l slot)
 
 -- the slots of Small, newest first
 abbrev pub small_slots : LinkState → Small → List ℕ
-small_slots l small = slots_from l small.newest small.len
+small_slots l small = slots_from l.records.items small.newest small.len
 
 -- each with its age
 abbrev pub small_entries : LinkState → Small → List (ℕ × Age)
 small_entries l small = map (λ s. (s, age_at l small.cursor s)) (small_slots l small)
 
 -- a slot stands in Small
-abbrev pub IsInSmall : Standing → Type 0
+abbrev pub IsInSmall : Mark → Type 0
 IsInSmall (Young place) = Unit {0}
 IsInSmall Old = Unit {0}
 IsInSmall Free = ⊥
@@ -44,13 +44,13 @@ IsInSmall Main = ⊥
 
 -- these slots are Small's and stand there, and the window's places hold its young ones
 pub record IsSmall (l : LinkState) (small : Small) (slots : List ℕ) : Type 0 where
-  pub queue : IsQueue l small.newest small.len slots
+  pub queue : IsQueue l.records.items small.newest small.len slots
   pub ends : small.oldest ≡ last_or None slots
-  pub standing : (t : ℕ) → has t slots ≡ true → IsInSmall (standing_at l t)
-  pub placed : (t place : ℕ) → has t slots ≡ true → standing_at l t ≡ Young place → (place < length l.places) × (place_at l place ≡ Some t)
-  pub occupied : (place t : ℕ) → place_at l place ≡ Some t → (has t slots ≡ true) × (standing_at l t ≡ Young place)
-  pub cursor_in : 0 < length l.places → small.cursor < length l.places
-  pub countable_places : length l.places < 2 ^ 32
+  pub standing : (t : ℕ) → has t slots ≡ true → IsInSmall (standing_at l.records.items t)
+  pub placed : (t place : ℕ) → has t slots ≡ true → standing_at l.records.items t ≡ Young place → (place < length l.window.items) × (place_at l place ≡ Some t)
+  pub occupied : (place t : ℕ) → place_at l place ≡ Some t → (has t slots ≡ true) × (standing_at l.records.items t ≡ Young place)
+  pub cursor_in : 0 < length l.window.items → small.cursor < length l.window.items
+  pub countable_places : length l.window.items < 2 ^ 32
 
 -- the links hold Small as they should
 abbrev pub IsSmallQueue : LinkState → Small → Type 0
@@ -71,8 +71,10 @@ is_there (Some there) slot = slot == there
 
 -- the slot at the cursor, if there is one, became old with a clear bit
 pub record GrowsOld (cursor : ℕ) (old new : LinkState) : Type 0 where
-  pub nexts : (t : ℕ) → next_at new t ≡ next_at old t
-  pub previouses : (t : ℕ) → previous_at new t ≡ previous_at old t
-  pub standings : (t : ℕ) → standing_at new t ≡ (if is_there (place_at old cursor) t then Old else standing_at old t)
+  pub nexts : (t : ℕ) → next_at new.records.items t ≡ next_at old.records.items t
+  pub previouses : (t : ℕ) → previous_at new.records.items t ≡ previous_at old.records.items t
+  pub standings : (t : ℕ) → standing_at new.records.items t ≡ (if is_there (place_at old cursor) t then Old else standing_at old.records.items t)
   pub bits : (t : ℕ) → bit_at new t ≡ (if is_there (place_at old cursor) t then false else bit_at old t)
-  pub rest : IsSameElsewhere old new
+  pub as_many : length new.records.items ≡ length old.records.items
+  pub places : new.window.items ≡ old.window.items
+  pub inspections : new.bits.inspections ≡ old.bits.inspections

@@ -14,4 +14,4 @@ mod main_ring;
 pub mod queues;
 mod small;
 
-pub use links::Standing;
+pub use queues::Standing;

@@ -1,15 +1,18 @@
-//! What Small and Main share: the link records and the hit bits by slot number, and the places of
+//! What the queues stand on: the link records and the hit bits by slot number, and the places of
 //! Small's window.
-ghost use Rattle.std.specs.Prelude.{◌≡◌, ℕ, ◌+◌, ◌<◌, length, slice_index_or, slice_set, IfOk, replicate, Option, Some, None, false, true};
-ghost use Rattle.clock2q_queues.specs.Links.{LinkState, vacant, Attaches, Detaches, fresh, record_at, next_at, previous_at, bit_at, place_at, accessed, inspected, with_record, with_next, with_previous, with_standing, with_bit, with_place};
+ghost use Rattle.std.specs.Prelude.{◌≡◌, ℕ, ◌+◌, ◌^◌, ◌<◌, ◌&&◌, length, IfOk, replicate, None, false, if◌then◌else◌, ◌==◌};
+ghost use Rattle.clock2q_queues.specs.Cells.{Counted, accessed, written};
+ghost use Rattle.clock2q_queues.specs.Links.{LinkState, vacant, is_old, Attaches, Detaches, SetsBit, fresh, record_at, next_at, previous_at, with_next, with_previous, with_standing, standing_at, bit_at, place_at};
 
-use clock2q_count::Count;
+mod cells;
+
+pub use cells::{Bits, Cells};
 use std::alloc::{AllocError, Allocator, Global};
 use std::marker::Model;
 
-/// Where a slot stands.
+/// Where a slot stands, as its record has it.
 #[derive(Clone, Copy, Debug, PartialEq, Eq)]
-pub enum Standing {
+pub enum Mark {
     /// In neither queue.
     Free,
     /// In Small, young, with the number of its place in the window.
@@ -23,172 +26,51 @@ pub enum Standing {
 /// The neighbours of a slot in its queue, and where it stands.
 #[derive(Clone, Copy, Debug)]
 pub struct Record {
-    pub previous: usize,
-    pub next: usize,
-    pub standing: Standing,
+    pub previous: u32,
+    pub next: u32,
+    pub standing: Mark,
 }
 
-const _: () = prove!(size_of::<Record>() <= 3 * size_of::<usize>());
+const _: () = prove!(size_of::<Record>() <= 16);
 
 /// The record of a slot that stands nowhere.
 pub const VACANT: Record = Record {
     previous: 0,
     next: 0,
-    standing: Standing::Free,
+    standing: Mark::Free,
 };
 
-/// A record and a hit bit for each slot, and the window's places. Records and places are reached
-/// by accessors that count each access, and the hand's looks at bits are counted too.
-#[derive(Drop)]
-pub struct Links<A: Allocator = Global> {
-    records: Vec<Record, A>,
-    places: Vec<Option<usize>, A>,
-    bits: Vec<bool, A>,
-    accesses: Count,
-    inspections: Count,
-}
-
-impl<A: Allocator> Model for Links<A> {
-    ghost use Rattle.std.specs.Prelude.{◌≡◌, vec_len};
-    ghost use Rattle.std.specs.List.{zip};
-    ghost use Rattle.clock2q_queues.specs.Links.{LinkState};
-
-    ghost Value = { LinkState };
-
-    ghost view = { λ a. record { slots = zip a.records.items a.bits.items; places = a.places.items; accesses = a.accesses.total; inspections = a.inspections.total } };
-
-    ghost invariant = { λ a. vec_len a.bits ≡ vec_len a.records };
-}
-
-impl<A: Allocator> Links<A> {
-    /// Links for so many slots, and a window of so many places.
-    pub fn new(alloc: A, slots: usize, window: u32) -> Result<Self, AllocError>
-    where
-        A: Clone,
-        ensures { IfOk result (λ l. l ≡ fresh slots window) }
-    {
-        let records = Vec::from_elem(alloc.clone()?, VACANT, slots)?;
-        let places = Vec::from_elem(alloc.clone()?, None, window as usize)?;
-        let bits = Vec::from_elem(alloc, false, slots)?;
-        Ok(Links {
-            records,
-            places,
-            bits,
-            accesses: Count::new(),
-            inspections: Count::new(),
-        })
-    }
-
-    /// How many slots there are.
-    pub fn len(&self) -> usize
-        ensures { result ≡ length self.now.slots }
-    {
-        self.records.len()
-    }
-
-    /// How many places the window has.
-    pub fn window(&self) -> usize
-        ensures { result ≡ length self.now.places }
-    {
-        self.places.len()
-    }
-
-    /// The record of a slot.
-    pub fn read(&mut self, slot: usize) -> Record
-        requires { slot < length self.old.slots }
-        ensures value { result ≡ record_at self.old slot }
-        ensures counted { self.new ≡ accessed self.old }
-    {
-        self.accesses.tick();
-        self.records[slot]
-    }
-
-    /// Writes the record of a slot.
-    pub fn write(&mut self, slot: usize, written: Record)
-        requires { slot < length self.old.slots }
-        ensures { self.new ≡ accessed (with_record slot written self.old) }
-    {
-        self.accesses.tick();
-        self.records[slot] = written;
-    }
-
-    /// The slot that stands at a place of the window.
-    pub fn place(&mut self, place: usize) -> Option<usize>
-        requires { place < length self.old.places }
-        ensures value { result ≡ place_at self.old place }
-        ensures counted { self.new ≡ accessed self.old }
-    {
-        self.accesses.tick();
-        self.places[place]
-    }
-
-    /// Puts a slot at a place of the window, or empties the place.
-    pub fn set_place(&mut self, place: usize, occupant: Option<usize>)
-        requires { place < length self.old.places }
-        ensures { self.new ≡ accessed (with_place place occupant self.old) }
-    {
-        self.accesses.tick();
-        self.places[place] = occupant;
-    }
-
-    /// The hit bit of a slot.
-    pub fn bit(&self, slot: usize) -> bool
-        requires { slot < length self.now.slots }
-        ensures { result ≡ bit_at self.now slot }
-    {
-        self.bits[slot]
-    }
-
-    /// Sets or clears the hit bit of a slot.
-    pub fn set_bit(&mut self, slot: usize, bit: bool)
-        requires { slot < length self.old.slots }
-        ensures { self.new ≡ with_bit slot bit self.old }
-    {
-        self.bits[slot] = bit;
-    }
-
-    /// The hand's look at a slot: whether its bit was set, which is clear from then on.
-    pub fn inspect(&mut self, slot: usize) -> bool
-        requires { slot < length self.old.slots }
-        ensures value { result ≡ bit_at self.old slot }
-        ensures counted { self.new ≡ inspected (with_bit slot false self.old) }
-    {
-        self.inspections.tick();
-        let was_set = self.bits[slot];
-        self.bits[slot] = false;
-        was_set
-    }
-
-    fn set_next(&mut self, slot: usize, next: usize)
-        requires { slot < length self.old.slots }
-        ensures { self.new ≡ accessed (accessed (with_next slot next self.old)) }
+impl<A: Allocator> Cells<Record, A> {
+    fn set_next(&mut self, slot: u32, next: u32)
+        requires { slot < length self.old.items }
+        ensures { self.new ≡ accessed (with_next slot next self.old) }
     {
         let was = self.read(slot);
         self.write(slot, Record { next, ..was });
     }
 
-    fn set_previous(&mut self, slot: usize, previous: usize)
-        requires { slot < length self.old.slots }
-        ensures { self.new ≡ accessed (accessed (with_previous slot previous self.old)) }
+    fn set_previous(&mut self, slot: u32, previous: u32)
+        requires { slot < length self.old.items }
+        ensures { self.new ≡ accessed (with_previous slot previous self.old) }
     {
         let was = self.read(slot);
         self.write(slot, Record { previous, ..was });
     }
 
     /// Writes where a slot stands.
-    pub fn set_standing(&mut self, slot: usize, standing: Standing)
-        requires { slot < length self.old.slots }
-        ensures { self.new ≡ accessed (accessed (with_standing slot standing self.old)) }
+    pub fn set_standing(&mut self, slot: u32, standing: Mark)
+        requires { slot < length self.old.items }
+        ensures { self.new ≡ accessed (with_standing slot standing self.old) }
     {
         let was = self.read(slot);
         self.write(slot, Record { standing, ..was });
     }
 
     /// Puts a slot just before another.
-    pub fn attach(&mut self, slot: usize, before: usize, standing: Standing)
-        requires slot_in { slot < length self.old.slots }
-        requires before_in { before < length self.old.slots }
-        requires previous_in { previous_at self.old before < length self.old.slots }
+    pub fn attach(&mut self, slot: u32, before: u32, standing: Mark)
+        requires slot_in { slot < length self.old.items }
+        requires before_in { before < length self.old.items }
+        requires previous_in { previous_at self.old.items before < length self.old.items }
         ensures { Attaches slot before standing self.old self.new }
     {
         let previous = self.read(before).previous;
@@ -204,13 +86,13 @@ impl<A: Allocator> Links<A> {
         self.set_previous(before, slot);
     }
 
-    /// Takes a slot from between its neighbours, and gives the record that it had.
-    pub fn detach(&mut self, slot: usize) -> Record
-        requires slot_in { slot < length self.old.slots }
-        requires next_in { next_at self.old slot < length self.old.slots }
-        requires previous_in { previous_at self.old slot < length self.old.slots }
+    /// Removes a slot from between its neighbours, and returns the record that it had.
+    pub fn detach(&mut self, slot: u32) -> Record
+        requires slot_in { slot < length self.old.items }
+        requires next_in { next_at self.old.items slot < length self.old.items }
+        requires previous_in { previous_at self.old.items slot < length self.old.items }
         ensures detached { Detaches slot self.old self.new }
-        ensures value { result ≡ record_at self.old slot }
+        ensures value { result ≡ record_at self.old.items slot }
     {
         let was = self.read(slot);
         self.set_next(was.previous, was.next);
@@ -218,39 +100,153 @@ impl<A: Allocator> Links<A> {
         self.write(slot, VACANT);
         was
     }
+}
 
-    /// Sets every record, bit and place back to what a constructor makes.
+/// The records and the hit bits of the slots that both queues share, and the window's places.
+#[derive(Drop)]
+pub struct Links<A: Allocator = Global> {
+    records: Cells<Record, A>,
+    window: Cells<Option<u32>, A>,
+    bits: Bits<A>,
+}
+
+impl<A: Allocator> Model for Links<A> {
+    ghost use Rattle.std.specs.Prelude.{◌≡◌, ◌<◌, ◌^◌, length};
+    ghost use Rattle.clock2q_queues.specs.Links.{LinkState};
+
+    ghost Value = { LinkState };
+
+    ghost view = { λ a. record { records = a.records; window = a.window; bits = a.bits } };
+
+    ghost invariant = { λ a. (length a.bits.items ≡ length a.records.items) × (length a.window.items < 2 ^ 32) };
+}
+
+impl<A: Allocator> Links<A> {
+    /// Links for so many slots, and a window of so many places.
+    pub fn new(alloc: A, slots: u32, window: u32) -> Result<Self, AllocError>
+    where
+        A: Clone,
+        ensures { IfOk result (λ l. l ≡ fresh slots window) }
+    {
+        let records = Vec::from_elem(alloc.clone()?, VACANT, slots as usize)?;
+        let places = Vec::from_elem(alloc.clone()?, None, window as usize)?;
+        let bits = Vec::from_elem(alloc, false, slots as usize)?;
+        Ok(Links {
+            records: Cells::new(records),
+            window: Cells::new(places),
+            bits: Bits::new(bits),
+        })
+    }
+
+    /// Returns how many places the window has.
+    pub fn window(&self) -> u32
+        ensures { result ≡ length self.now.window.items }
+    {
+        self.window.len() as u32
+    }
+
+    /// Returns the record of a slot.
+    pub fn read(&mut self, slot: u32) -> Record
+        requires { slot < length self.old.records.items }
+        ensures value { result ≡ record_at self.old.records.items slot }
+        ensures counted { self.new ≡ record self.old { records = accessed self.old.records } }
+    {
+        self.records.read(slot)
+    }
+
+    /// Writes the record of a slot.
+    pub fn write(&mut self, slot: u32, content: Record)
+        requires { slot < length self.old.records.items }
+        ensures { self.new ≡ record self.old { records = written slot content self.old.records } }
+    {
+        self.records.write(slot, content);
+    }
+
+    /// Writes where a slot stands.
+    pub fn set_standing(&mut self, slot: u32, standing: Mark)
+        requires { slot < length self.old.records.items }
+        ensures { self.new ≡ record self.old { records = accessed (with_standing slot standing self.old.records) } }
+    {
+        self.records.set_standing(slot, standing);
+    }
+
+    /// Puts a slot just before another.
+    pub fn attach(&mut self, slot: u32, before: u32, standing: Mark)
+        requires slot_in { slot < length self.old.records.items }
+        requires before_in { before < length self.old.records.items }
+        requires previous_in { previous_at self.old.records.items before < length self.old.records.items }
+        ensures attached { Attaches slot before standing self.old.records self.new.records }
+        ensures rest { self.new ≡ record self.old { records = self.new.records } }
+    {
+        self.records.attach(slot, before, standing);
+    }
+
+    /// Removes a slot from between its neighbours, and returns the record that it had.
+    pub fn detach(&mut self, slot: u32) -> Record
+        requires slot_in { slot < length self.old.records.items }
+        requires next_in { next_at self.old.records.items slot < length self.old.records.items }
+        requires previous_in { previous_at self.old.records.items slot < length self.old.records.items }
+        ensures detached { Detaches slot self.old.records self.new.records }
+        ensures value { result ≡ record_at self.old.records.items slot }
+        ensures rest { self.new ≡ record self.old { records = self.new.records } }
+    {
+        self.records.detach(slot)
+    }
+
+    /// Returns the slot that stands at a place of the window.
+    pub fn place(&mut self, place: u32) -> Option<u32>
+        requires { place < length self.old.window.items }
+        ensures value { result ≡ place_at self.old place }
+        ensures counted { self.new ≡ record self.old { window = accessed self.old.window } }
+    {
+        self.window.read(place)
+    }
+
+    /// Puts a slot at a place of the window, or empties the place.
+    pub fn set_place(&mut self, place: u32, occupant: Option<u32>)
+        requires { place < length self.old.window.items }
+        ensures { self.new ≡ record self.old { window = written place occupant self.old.window } }
+    {
+        self.window.write(place, occupant);
+    }
+
+    /// Sets or clears the hit bit of a slot.
+    pub fn set_bit(&mut self, slot: u32, bit: bool)
+        requires { slot < length self.old.records.items }
+        ensures { SetsBit slot bit self.old self.new }
+    {
+        self.bits.set(slot, bit);
+    }
+
+    /// The hand's look at a slot: returns whether its bit was set, and clears it.
+    pub fn inspect(&mut self, slot: u32) -> bool
+        requires { slot < length self.old.records.items }
+        ensures value { result ≡ bit_at self.old slot }
+        ensures bits { (t : ℕ) → bit_at self.new t ≡ (if t == slot then false else bit_at self.old t) }
+        ensures rest { self.new ≡ record self.old { bits = self.new.bits } }
+        ensures counted { self.new.bits.inspections ≡ self.old.bits.inspections + 1 }
+    {
+        self.bits.inspect(slot)
+    }
+
+    /// Reads a slot's record, and returns whether the slot is old and its bit set.
+    pub fn is_old_hit(&mut self, slot: u32) -> bool
+        requires { slot < length self.old.records.items }
+        ensures value { result ≡ (is_old (standing_at self.old.records.items slot) && bit_at self.old slot) }
+        ensures counted { self.new ≡ record self.old { records = accessed self.old.records } }
+    {
+        self.bits.is_old_hit(&mut self.records, slot)
+    }
+
+    /// Sets every record and every place back to what a constructor makes.
     pub fn reset(&mut self)
-        ensures slots { self.new.slots ≡ replicate (length self.old.slots) (vacant, false) }
-        ensures places { self.new.places ≡ replicate (length self.old.places) None }
-        ensures looks { self.new.inspections ≡ self.old.inspections }
-        ensures accesses { self.new.accesses
-            ≡ self.old.accesses + length self.old.slots + length self.old.places }
+        ensures records { self.new.records.items ≡ replicate (length self.old.records.items) vacant }
+        ensures places { self.new.window.items ≡ replicate (length self.old.window.items) None }
+        ensures bits { self.new.bits ≡ self.old.bits }
+        ensures records_counted { self.new.records.accesses ≡ self.old.records.accesses + length self.old.records.items }
+        ensures places_counted { self.new.window.accesses ≡ self.old.window.accesses + length self.old.window.items }
     {
-        self.reset_slots();
-        self.reset_places();
-    }
-
-    fn reset_slots(&mut self)
-        ensures slots { self.new.slots ≡ replicate (length self.old.slots) (vacant, false) }
-        ensures places { self.new.places ≡ self.old.places }
-        ensures looks { self.new.inspections ≡ self.old.inspections }
-        ensures accesses { self.new.accesses ≡ self.old.accesses + length self.old.slots }
-    {
-        for slot in 0..self.len() {
-            self.write(slot, VACANT);
-            self.set_bit(slot, false);
-        }
-    }
-
-    fn reset_places(&mut self)
-        ensures slots { self.new.slots ≡ self.old.slots }
-        ensures places { self.new.places ≡ replicate (length self.old.places) None }
-        ensures looks { self.new.inspections ≡ self.old.inspections }
-        ensures accesses { self.new.accesses ≡ self.old.accesses + length self.old.places }
-    {
-        for place in 0..self.window() {
-            self.set_place(place, None);
-        }
+        self.records.fill(VACANT);
+        self.window.fill(None);
     }
 }

@@ -1,12 +1,13 @@
 //! Small and Main over the links that they share.
-ghost use Rattle.std.specs.Prelude.{◌≡◌, ℕ, ◌+◌, ◌-◌, take, drop, ◌<◌, ◌≤◌, false, true, not, [], ◌∷◌, ◌++◌, length, slice_get, None, Some, IfOk};
+ghost use Rattle.std.specs.Prelude.{◌≡◌, ◌+◌, ◌-◌, ◌<◌, ◌⊎◌, false, true, [], ◌∷◌, ◌++◌, length, take, drop, slice_get, None, Some, IfOk};
 ghost use Rattle.std.specs.List.{last_or};
+ghost use Rattle.clock2q_queues.specs.Cells.{Rises};
 ghost use Rattle.clock2q_queues.specs.Rings.{has};
 ghost use Rattle.clock2q_queues.specs.Small.{admitted, small_hit_at};
 ghost use Rattle.clock2q_queues.specs.MainRing.{inspections, from_victim, main_hit_at};
-ghost use Rattle.clock2q_queues.specs.Queues.{slots_of, without_slot, IsStanding, sets_bit, tail_promoted, IsWholeQueues};
+ghost use Rattle.clock2q_queues.specs.Queues.{slots_of, without_slot, empty_queues, IsStanding, IsWholeQueues, tail_promoted};
 
-use crate::links::{Links, Standing};
+use crate::links::{Links, Mark};
 use crate::main_ring::MainRing;
 use crate::small::Small;
 use std::alloc::{AllocError, Allocator, Global};
@@ -14,6 +15,17 @@ use std::marker::Model;
 
 #[cfg(test)]
 mod tests;
+
+/// The queue that a slot stands in.
+#[derive(Clone, Copy, Debug, PartialEq, Eq)]
+pub enum Standing {
+    /// Neither queue.
+    Free,
+    /// Small.
+    Small,
+    /// Main.
+    Main,
+}
 
 /// The two queues of a cache's residents, by slot number from 0. A slot stands in at most one of
 /// them.
@@ -42,15 +54,10 @@ impl<A: Allocator> Queues<A> {
     /// Empty queues for so many slots, with a window of so many admissions.
     ///
     /// The error comes where a request for memory is refused; what was taken is given back.
-    pub fn new(alloc: A, slots: usize, window: u32) -> Result<Self, AllocError>
+    pub fn new(alloc: A, slots: u32, window: u32) -> Result<Self, AllocError>
     where
         A: Clone,
-        ensures small { IfOk result (λ q. q.small ≡ []) }
-        ensures main { IfOk result (λ q. q.main ≡ []) }
-        ensures slots { IfOk result (λ q. q.slots ≡ slots) }
-        ensures window { IfOk result (λ q. q.window ≡ window) }
-        ensures accesses { IfOk result (λ q. q.accesses ≡ 0) }
-        ensures looks { IfOk result (λ q. q.inspections ≡ 0) }
+        ensures made { IfOk result (λ q. q ≡ empty_queues slots window) }
     {
         Ok(Queues {
             links: Links::new(alloc, slots, window)?,
@@ -59,7 +66,7 @@ impl<A: Allocator> Queues<A> {
         })
     }
 
-    /// How many slots stand in Small.
+    /// Returns how many slots stand in Small.
     pub fn small_len(&self) -> usize
         ensures len { result ≡ length self.now.small }
         ensures whole { IsWholeQueues self.now }
@@ -67,30 +74,27 @@ impl<A: Allocator> Queues<A> {
         self.small.len()
     }
 
-    /// How many slots stand in Main.
+    /// Returns how many slots stand in Main.
     pub fn main_len(&self) -> usize
         ensures len { result ≡ length self.now.main }
     {
         self.main.len()
     }
 
-    /// The oldest slot of Small.
-    pub fn tail(&self) -> Option<usize>
+    /// Returns the oldest slot of Small.
+    pub fn tail(&self) -> Option<u32>
         ensures tail { result ≡ last_or None (slots_of self.now.small) }
+        ensures whole { IsWholeQueues self.now }
     {
         self.small.tail()
     }
 
-    /// Whether the oldest slot of Small goes on to Main rather than out: it is old, and its bit
-    /// is set.
+    /// Returns whether the oldest slot of Small goes on to Main rather than out: it is old, and its
+    /// bit is set.
     pub fn tail_is_promoted(&mut self) -> bool
         ensures value { result ≡ tail_promoted (last_or None self.old.small) }
-        ensures small { self.new.small ≡ self.old.small }
-        ensures main { self.new.main ≡ self.old.main }
-        ensures slots { self.new.slots ≡ self.old.slots }
-        ensures window { self.new.window ≡ self.old.window }
-        ensures looks { self.new.inspections ≡ self.old.inspections }
-        ensures accesses { self.new.accesses ≤ self.old.accesses + 1 }
+        ensures queues { self.new ≡ record self.old { accesses = self.new.accesses } }
+        ensures accesses { Rises 0 1 self.old.accesses self.new.accesses }
     {
         match self.small.tail() {
             None => false,
@@ -99,197 +103,119 @@ impl<A: Allocator> Queues<A> {
     }
 
     /// Admits a slot to Small, as its newest.
-    pub fn admit(&mut self, slot: usize)
+    pub fn admit(&mut self, slot: u32)
         requires slot_in { slot < self.old.slots }
         requires not_in_small { has slot (slots_of self.old.small) ≡ false }
         requires not_in_main { has slot (slots_of self.old.main) ≡ false }
         requires window { 0 < self.old.window }
-        ensures small { self.new.small ≡ admitted self.old.window slot self.old.small }
-        ensures main { self.new.main ≡ self.old.main }
-        ensures slots { self.new.slots ≡ self.old.slots }
-        ensures window { self.new.window ≡ self.old.window }
-        ensures looks { self.new.inspections ≡ self.old.inspections }
-        ensures accesses { self.new.accesses ≤ self.old.accesses + 12 }
+        ensures queues { self.new ≡ record self.old { small = admitted self.old.window slot self.old.small; accesses = self.new.accesses } }
+        ensures accesses { Rises 3 10 self.old.accesses self.new.accesses }
     {
         self.small.push(&mut self.links, slot);
     }
 
     /// Puts a slot at the end of Main, with a clear bit.
-    pub fn append(&mut self, slot: usize)
+    pub fn append(&mut self, slot: u32)
         requires slot_in { slot < self.old.slots }
         requires not_in_small { has slot (slots_of self.old.small) ≡ false }
         requires not_in_main { has slot (slots_of self.old.main) ≡ false }
-        ensures small { self.new.small ≡ self.old.small }
-        ensures main { self.new.main ≡ self.old.main ++ (slot, false) ∷ [] }
-        ensures slots { self.new.slots ≡ self.old.slots }
-        ensures window { self.new.window ≡ self.old.window }
-        ensures looks { self.new.inspections ≡ self.old.inspections }
-        ensures accesses { self.new.accesses ≤ self.old.accesses + 12 }
+        ensures queues { self.new ≡ record self.old { main = self.old.main ++ (slot, false) ∷ []; accesses = self.new.accesses } }
+        ensures accesses { Rises 1 6 self.old.accesses self.new.accesses }
     {
         self.main.push(&mut self.links, slot);
     }
 
-    /// Where a slot stands.
-    pub fn standing(&mut self, slot: usize) -> Standing
+    /// Returns the queue that a slot stands in.
+    pub fn standing(&mut self, slot: u32) -> Standing
         requires slot_in { slot < self.old.slots }
         ensures value { IsStanding result slot self.old }
-        ensures small { self.new.small ≡ self.old.small }
-        ensures main { self.new.main ≡ self.old.main }
-        ensures slots { self.new.slots ≡ self.old.slots }
-        ensures window { self.new.window ≡ self.old.window }
-        ensures looks { self.new.inspections ≡ self.old.inspections }
-        ensures accesses { self.new.accesses ≡ self.old.accesses + 1 }
+        ensures queues { self.new ≡ record self.old { accesses = self.old.accesses + 1 } }
     {
-        self.links.read(slot).standing
+        match self.links.read(slot).standing {
+            Mark::Free => Standing::Free,
+            Mark::Young(_) | Mark::Old => Standing::Small,
+            Mark::Main => Standing::Main,
+        }
     }
 
-    /// Moves the hand on to the slot that Main gives up next, which stays there until it is taken
-    /// out. It passes each slot that was hit, and takes that hit back; the cost is linear in those.
-    pub fn select(&mut self) -> usize
+    // Moves the hand on to the slot that Main gives up next, which stays there until it is removed.
+    // It passes each slot that was hit, and takes that hit back; the cost is linear in those.
+    fn select(&mut self) -> u32
         requires some { 0 < length self.old.main }
         ensures victim { slice_get self.new.main 0 ≡ Some (result, false) }
-        ensures small { self.new.small ≡ self.old.small }
-        ensures main { self.new.main ≡ from_victim self.old.main }
-        ensures slots { self.new.slots ≡ self.old.slots }
-        ensures window { self.new.window ≡ self.old.window }
-        ensures looks { self.new.inspections ≡ self.old.inspections + inspections self.old.main }
+        ensures whole { IsWholeQueues self.new }
+        ensures queues { self.new ≡ record self.old { main = from_victim self.old.main; accesses = self.new.accesses; inspections = self.old.inspections + inspections self.old.main } }
         ensures accesses { self.new.accesses + 1 ≡ self.old.accesses + inspections self.old.main }
     {
         self.main.select(&mut self.links)
     }
 
-    /// Takes a slot out of Small.
-    pub fn leave_small(&mut self, slot: usize)
+    // Removes a slot from Small.
+    fn leave_small(&mut self, slot: u32)
         requires resident { has slot (slots_of self.old.small) ≡ true }
-        ensures small { self.new.small ≡ without_slot slot self.old.small }
-        ensures main { self.new.main ≡ self.old.main }
-        ensures slots { self.new.slots ≡ self.old.slots }
-        ensures window { self.new.window ≡ self.old.window }
-        ensures looks { self.new.inspections ≡ self.old.inspections }
-        ensures accesses { self.new.accesses ≤ self.old.accesses + 7 }
+        ensures queues { self.new ≡ record self.old { small = without_slot slot self.old.small; accesses = self.new.accesses } }
+        ensures accesses { Rises 6 7 self.old.accesses self.new.accesses }
     {
         self.small.unlink(&mut self.links, slot);
     }
 
-    /// Takes a slot out of Main. If the hand stood there, it moves on.
-    pub fn leave_main(&mut self, slot: usize)
+    // Removes a slot from Main. If the hand stood there, it moves on.
+    fn leave_main(&mut self, slot: u32)
         requires resident { has slot (slots_of self.old.main) ≡ true }
-        ensures small { self.new.small ≡ self.old.small }
-        ensures main { self.new.main ≡ without_slot slot self.old.main }
-        ensures slots { self.new.slots ≡ self.old.slots }
-        ensures window { self.new.window ≡ self.old.window }
-        ensures looks { self.new.inspections ≡ self.old.inspections }
-        ensures accesses { self.new.accesses ≡ self.old.accesses + 6 }
+        ensures queues { self.new ≡ record self.old { main = without_slot slot self.old.main; accesses = self.old.accesses + 6 } }
     {
         self.main.unlink(&mut self.links, slot);
     }
 
-    /// Takes a slot out of the queue that it stands in, if it stands in one.
-    pub fn leave(&mut self, slot: usize)
-        requires slot_in { slot < self.old.slots }
-        ensures small { self.new.small ≡ without_slot slot self.old.small }
-        ensures main { self.new.main ≡ without_slot slot self.old.main }
-        ensures slots { self.new.slots ≡ self.old.slots }
-        ensures window { self.new.window ≡ self.old.window }
-        ensures looks { self.new.inspections ≡ self.old.inspections }
-        ensures accesses { self.new.accesses ≤ self.old.accesses + 8 }
-    {
-        match self.standing(slot) {
-            Standing::Free => {}
-            Standing::Young(_) | Standing::Old => self.leave_small(slot),
-            Standing::Main => self.leave_main(slot),
-        }
-    }
-
-    /// Takes out of Main the slot that the hand chooses, and answers it.
-    pub fn take_victim(&mut self) -> usize
-        requires some { 0 < length self.old.main }
-        ensures victim { slice_get (from_victim self.old.main) 0 ≡ Some (result, false) }
-        ensures small { self.new.small ≡ self.old.small }
-        ensures main { self.new.main ≡ drop 1 (from_victim self.old.main) }
-        ensures slots { self.new.slots ≡ self.old.slots }
-        ensures window { self.new.window ≡ self.old.window }
-        ensures looks { self.new.inspections ≡ self.old.inspections + inspections self.old.main }
-        ensures accesses { self.new.accesses ≡ self.old.accesses + inspections self.old.main + 5 }
-    {
-        let victim = self.select();
-        let _ = self.small_len();
-        self.leave_main(victim);
-        victim
-    }
-
-    /// Takes Small's oldest slot out, and answers it.
-    pub fn take_tail(&mut self) -> Option<usize>
+    /// Removes Small's oldest slot, and returns it.
+    pub fn take_tail(&mut self) -> Option<u32>
         ensures tail { result ≡ last_or None (slots_of self.old.small) }
-        ensures small { self.new.small ≡ take (length self.old.small - 1) self.old.small }
-        ensures main { self.new.main ≡ self.old.main }
-        ensures slots { self.new.slots ≡ self.old.slots }
-        ensures window { self.new.window ≡ self.old.window }
-        ensures looks { self.new.inspections ≡ self.old.inspections }
-        ensures accesses { self.new.accesses ≤ self.old.accesses + 7 }
+        ensures queues { self.new ≡ record self.old { small = take (length self.old.small - 1) self.old.small; accesses = self.new.accesses } }
+        ensures accesses { Rises 0 7 self.old.accesses self.new.accesses }
     {
-        let _ = self.small_len();
         let tail = self.tail()?;
         self.leave_small(tail);
         Some(tail)
     }
 
-    // Records a hit on a slot of Small.
-    fn hit_small(&mut self, slot: usize)
-        requires { has slot (slots_of self.old.small) ≡ true }
-        ensures small { self.new.small ≡ small_hit_at slot self.old.small }
-        ensures main { self.new.main ≡ self.old.main }
-        ensures slots { self.new.slots ≡ self.old.slots }
-        ensures window { self.new.window ≡ self.old.window }
-        ensures looks { self.new.inspections ≡ self.old.inspections }
-        ensures accesses { self.new.accesses ≡ self.old.accesses + 1 }
+    /// Removes from Main the slot that the hand chooses, and returns it. The hand passes each slot
+    /// that was hit, and takes that hit back; the cost is linear in those.
+    pub fn take_victim(&mut self) -> u32
+        requires some { 0 < length self.old.main }
+        ensures victim { slice_get (from_victim self.old.main) 0 ≡ Some (result, false) }
+        ensures queues { self.new ≡ record self.old { main = drop 1 (from_victim self.old.main); accesses = self.new.accesses; inspections = self.new.inspections } }
+        ensures looks { self.new.inspections ≡ self.old.inspections + inspections self.old.main }
+        ensures accesses { self.new.accesses ≡ self.old.accesses + inspections self.old.main + 5 }
     {
-        self.small.hit(&mut self.links, slot);
+        let victim = self.select();
+        self.leave_main(victim);
+        victim
     }
 
-    // Records a hit on a slot of Main, and tells whether its bit was clear.
-    fn hit_main(&mut self, slot: usize) -> bool
-        requires { has slot (slots_of self.old.main) ≡ true }
-        ensures value { result ≡ sets_bit slot self.old.main }
-        ensures small { self.new.small ≡ self.old.small }
-        ensures main { self.new.main ≡ main_hit_at slot self.old.main }
-        ensures slots { self.new.slots ≡ self.old.slots }
-        ensures window { self.new.window ≡ self.old.window }
-        ensures looks { self.new.inspections ≡ self.old.inspections }
-        ensures accesses { self.new.accesses ≡ self.old.accesses }
-    {
-        self.main.hit(&mut self.links, slot)
-    }
-
-    /// Records a hit on a slot, and tells whether it set a bit of Main.
-    pub fn hit(&mut self, slot: usize) -> bool
+    /// Removes a slot from the queue that it stands in, if it stands in one.
+    pub fn leave(&mut self, slot: u32)
         requires slot_in { slot < self.old.slots }
-        ensures value { result ≡ sets_bit slot self.old.main }
-        ensures small { self.new.small ≡ small_hit_at slot self.old.small }
-        ensures main { self.new.main ≡ main_hit_at slot self.old.main }
-        ensures slots { self.new.slots ≡ self.old.slots }
-        ensures window { self.new.window ≡ self.old.window }
-        ensures looks { self.new.inspections ≡ self.old.inspections }
-        ensures accesses { self.new.accesses ≤ self.old.accesses + 2 }
+        ensures queues { self.new ≡ record self.old { small = without_slot slot self.old.small; main = without_slot slot self.old.main; accesses = self.new.accesses } }
+        ensures accesses { Rises 1 8 self.old.accesses self.new.accesses }
     {
         match self.standing(slot) {
-            Standing::Free => false,
-            Standing::Young(_) | Standing::Old => {
-                self.hit_small(slot);
-                false
-            }
-            Standing::Main => self.hit_main(slot),
+            Standing::Free => {}
+            Standing::Small => self.leave_small(slot),
+            Standing::Main => self.leave_main(slot),
         }
+    }
+
+    /// Records a hit on a slot, which counts for nothing while the slot is young.
+    pub fn hit(&mut self, slot: u32)
+        requires resident { (has slot (slots_of self.old.small) ≡ true) ⊎ (has slot (slots_of self.old.main) ≡ true) }
+        ensures queues { self.new ≡ record self.old { small = small_hit_at slot self.old.small; main = main_hit_at slot self.old.main } }
+    {
+        self.links.set_bit(slot, true);
     }
 
     /// Leaves no slot in either queue. The cost is linear in the number of slots that there are.
     pub fn clear(&mut self)
-        ensures small { self.new.small ≡ [] }
-        ensures main { self.new.main ≡ [] }
-        ensures slots { self.new.slots ≡ self.old.slots }
-        ensures window { self.new.window ≡ self.old.window }
-        ensures looks { self.new.inspections ≡ self.old.inspections }
-        ensures accesses { self.new.accesses ≡ self.old.accesses + self.old.slots + self.old.window }
+        ensures queues { self.new ≡ record self.old { small = []; main = []; accesses = self.old.accesses + self.old.slots + self.old.window } }
     {
         self.small.clear();
         self.main.clear();

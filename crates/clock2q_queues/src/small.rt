@@ -1,26 +1,27 @@
 //! Small: the queue of the newest residents, of which the last admitted ones are young.
-ghost use Rattle.std.specs.Prelude.{◌≡◌, ℕ, ◌+◌, ◌^◌, ◌<◌, ◌≤◌, ◌==◌, false, true, not, [], ◌∷◌, length, None};
+ghost use Rattle.std.specs.Prelude.{◌≡◌, ℕ, ◌+◌, ◌^◌, ◌<◌, ◌≤◌, ◌==◌, true, false, not, [], ◌∷◌, length, None};
 ghost use Rattle.std.specs.List.{filter, last_or};
 ghost use Rattle.clock2q_queues.specs.Ages.{is_promoted};
+ghost use Rattle.clock2q_queues.specs.Cells.{Rises, accessed};
 ghost use Rattle.clock2q_queues.specs.Rings.{has};
 ghost use Rattle.clock2q_queues.specs.Ends.{end_after, place_freed};
-ghost use Rattle.clock2q_queues.specs.Links.{LinkState, IsBlank, IsSameBut, accessed, standing_at};
+ghost use Rattle.clock2q_queues.specs.Links.{LinkState, IsBlank, IsSameBut, accesses_of, standing_at};
 
-use crate::links::{Links, Record, Standing};
+use crate::links::{Links, Mark, Record};
 use std::alloc::Allocator;
 
 /// A queue of slots, the newest in front. The window's places hold the slots that are young, and
 /// the cursor stands on the place of the next admission.
 #[derive(Drop)]
 pub struct Small {
-    newest: Option<usize>,
-    oldest: Option<usize>,
+    newest: Option<u32>,
+    oldest: Option<u32>,
     len: usize,
-    cursor: usize,
+    cursor: u32,
 }
 
 impl Small {
-    ghost use Rattle.clock2q_queues.specs.Small.{IsSmallQueue, IsInSmall, GrowsOld, age_at, small_slots, small_entries, small_hit_at, moved_on, admitted};
+    ghost use Rattle.clock2q_queues.specs.Small.{IsSmallQueue, IsInSmall, GrowsOld, age_at, small_slots, small_entries, moved_on, admitted};
 
     /// A queue with no slot.
     pub fn new() -> Self
@@ -35,7 +36,7 @@ impl Small {
         }
     }
 
-    /// How many slots there are.
+    /// Returns how many slots there are.
     pub fn len(&self) -> usize
         ensures { (l : LinkState) → IsSmallQueue l self.now → result ≡ length (small_slots l self.now) }
     {
@@ -43,12 +44,12 @@ impl Small {
     }
 
     #[cfg(test)]
-    pub(crate) fn cursor(&self) -> usize {
+    pub(crate) fn cursor(&self) -> u32 {
         self.cursor
     }
 
-    /// The oldest slot.
-    pub fn tail(&self) -> Option<usize>
+    /// Returns the oldest slot.
+    pub fn tail(&self) -> Option<u32>
         ensures { (l : LinkState) → IsSmallQueue l self.now → result ≡ last_or None (small_slots l self.now) }
     {
         self.oldest
@@ -57,18 +58,18 @@ impl Small {
     // Makes old, with a clear bit, the slot whose place is used next.
     fn free_place<A: Allocator>(&self, links: &mut Links<A>)
         requires whole { IsSmallQueue links.old self.now }
-        requires window { 0 < length links.old.places }
+        requires window { 0 < length links.old.window.items }
         ensures older { GrowsOld self.now.cursor links.old links.new }
-        ensures accesses { links.new.accesses ≤ links.old.accesses + 3 }
+        ensures accesses { Rises 1 3 (accesses_of links.old) (accesses_of links.new) }
     {
         if let Some(slot) = links.place(self.cursor) {
-            links.set_standing(slot, Standing::Old);
+            links.set_standing(slot, Mark::Old);
             links.set_bit(slot, false);
         }
     }
 
-    // The place after the cursor's.
-    fn next_place(&self, window: usize) -> usize
+    // Returns the place after the cursor's.
+    fn next_place(&self, window: u32) -> u32
         requires { self.now.cursor < window }
         ensures { result ≡ moved_on window self.now.cursor }
     {
@@ -80,22 +81,22 @@ impl Small {
     }
 
     /// Admits a slot: it stands in front, young, and all other young ones grow older.
-    pub fn push<A: Allocator>(&mut self, links: &mut Links<A>, slot: usize)
+    pub fn push<A: Allocator>(&mut self, links: &mut Links<A>, slot: u32)
         requires whole { IsSmallQueue links.old self.old }
-        requires slot_in { slot < length links.old.slots }
+        requires slot_in { slot < length links.old.records.items }
         requires absent { has slot (small_slots links.old self.old) ≡ false }
-        requires window { 0 < length links.old.places }
+        requires window { 0 < length links.old.window.items }
         ensures whole { IsSmallQueue links.new self.new }
         ensures entries { small_entries links.new self.new
-            ≡ admitted (length links.old.places) slot (small_entries links.old self.old) }
+            ≡ admitted (length links.old.window.items) slot (small_entries links.old self.old) }
         ensures others { IsSameBut (slot ∷ small_slots links.old self.old) links.old links.new }
-        ensures window { length links.new.places ≡ length links.old.places }
-        ensures looks { links.new.inspections ≡ links.old.inspections }
-        ensures accesses { links.new.accesses ≤ links.old.accesses + 12 }
+        ensures window { length links.new.window.items ≡ length links.old.window.items }
+        ensures looks { links.new.bits.inspections ≡ links.old.bits.inspections }
+        ensures accesses { Rises 3 10 (accesses_of links.old) (accesses_of links.new) }
     {
         self.free_place(links);
         links.set_place(self.cursor, Some(slot));
-        let standing = Standing::Young(self.cursor as u32);
+        let standing = Mark::Young(self.cursor);
         match self.newest {
             None => {
                 let alone = Record {
@@ -113,18 +114,18 @@ impl Small {
         self.len += 1;
     }
 
-    /// Takes a slot out. If it was young, its place is free.
-    pub fn unlink<A: Allocator>(&mut self, links: &mut Links<A>, slot: usize)
+    /// Removes a slot. If it was young, its place is free.
+    pub fn unlink<A: Allocator>(&mut self, links: &mut Links<A>, slot: u32)
         requires whole { IsSmallQueue links.old self.old }
         requires present { has slot (small_slots links.old self.old) ≡ true }
         ensures whole { IsSmallQueue links.new self.new }
         ensures entries { small_entries links.new self.new
             ≡ filter (λ e. not (e.0 == slot)) (small_entries links.old self.old) }
-        ensures freed { standing_at links.new slot ≡ Standing.Free }
+        ensures freed { standing_at links.new.records.items slot ≡ Mark.Free }
         ensures others { IsSameBut (small_slots links.old self.old) links.old links.new }
-        ensures window { length links.new.places ≡ length links.old.places }
-        ensures looks { links.new.inspections ≡ links.old.inspections }
-        ensures accesses { links.new.accesses ≤ links.old.accesses + 7 }
+        ensures window { length links.new.window.items ≡ length links.old.window.items }
+        ensures looks { links.new.bits.inspections ≡ links.old.bits.inspections }
+        ensures accesses { Rises 6 7 (accesses_of links.old) (accesses_of links.new) }
     {
         let was = links.detach(slot);
         leave_place(links, was.standing);
@@ -133,34 +134,14 @@ impl Small {
         self.oldest = end_after(self.oldest, slot, self.len, was.previous);
     }
 
-    /// Whether a slot goes on to Main rather than out: it is old, and its bit is set.
-    pub fn is_promoted<A: Allocator>(&self, links: &mut Links<A>, slot: usize) -> bool
-        requires slot_in { slot < length links.old.slots }
-        requires in_small { IsInSmall (standing_at links.old slot) }
+    /// Returns whether a slot goes on to Main rather than out: it is old, and its bit is set.
+    pub fn is_promoted<A: Allocator>(&self, links: &mut Links<A>, slot: u32) -> bool
+        requires slot_in { slot < length links.old.records.items }
+        requires in_small { IsInSmall (standing_at links.old.records.items slot) }
         ensures value { result ≡ is_promoted (age_at links.old self.now.cursor slot) }
-        ensures counted { links.new ≡ accessed links.old }
+        ensures counted { links.new ≡ record links.old { records = accessed links.old.records } }
     {
-        match links.read(slot).standing {
-            Standing::Old => links.bit(slot),
-            _ => false,
-        }
-    }
-
-    /// Records a hit: sets the slot's bit, if it is old.
-    pub fn hit<A: Allocator>(&self, links: &mut Links<A>, slot: usize)
-        requires whole { IsSmallQueue links.old self.now }
-        requires present { has slot (small_slots links.old self.now) ≡ true }
-        ensures whole { IsSmallQueue links.new self.now }
-        ensures entries { small_entries links.new self.now ≡ small_hit_at slot (small_entries links.old self.now) }
-        ensures others { IsSameBut (slot ∷ []) links.old links.new }
-        ensures standings { (t : ℕ) → standing_at links.new t ≡ standing_at links.old t }
-        ensures places { links.new.places ≡ links.old.places }
-        ensures looks { links.new.inspections ≡ links.old.inspections }
-        ensures accesses { links.new.accesses ≡ links.old.accesses + 1 }
-    {
-        if let Standing::Old = links.read(slot).standing {
-            links.set_bit(slot, true);
-        }
+        links.is_old_hit(slot)
     }
 
     /// Leaves no slot in the queue. The records and the places are reset by the links.
@@ -173,18 +154,18 @@ impl Small {
 }
 
 // Empties the place of a slot that was young.
-fn leave_place<A: Allocator>(links: &mut Links<A>, standing: Standing)
-    requires { (place : ℕ) → standing ≡ Standing.Young place → place < length links.old.places }
+fn leave_place<A: Allocator>(links: &mut Links<A>, standing: Mark)
+    requires { (place : ℕ) → standing ≡ Mark.Young place → place < length links.old.window.items }
     ensures { links.new ≡ place_freed standing links.old }
 {
-    if let Standing::Young(place) = standing {
-        links.set_place(place as usize, None);
+    if let Mark::Young(place) = standing {
+        links.set_place(place, None);
     }
 }
 
-// An end of the queue after a slot left it: where the slot stood there, its neighbour, if there
-// is another slot.
-fn end_after(end: Option<usize>, slot: usize, others: usize, neighbour: usize) -> Option<usize>
+// Returns an end of the queue after a slot left it: where the slot stood there, its neighbour, if
+// there is another slot.
+fn end_after(end: Option<u32>, slot: u32, others: usize, neighbour: u32) -> Option<u32>
     ensures { result ≡ end_after end slot others neighbour }
 {
     if end == Some(slot) {

@@ -43,7 +43,7 @@ fn queues(rt: HostRuntime) -> Result<(), Fail> {
     Ok(())
 }
 
-// The two vectors of the index, the records and the hit bits of the order, and the keys.
+// The two vectors of the index, the records of the order, and the keys.
 #[test]
 fn histories(rt: HostRuntime) -> Result<(), Fail> {
     let heap = LocalHeap::new(rt.alloc(), BYTES)?;
@@ -58,7 +58,7 @@ fn histories(rt: HostRuntime) -> Result<(), Fail> {
         }
         assert_eq!(rt; heap.used(), 0, "{granted} granted");
     }
-    assert_eq!(rt; enough, 5);
+    assert_eq!(rt; enough, 4);
     alloc.grant();
     let made: History<u64, &Requests> = History::new(&alloc, 7)?;
     assert_eq!(rt; made.len(), 0);
@@ -78,13 +78,12 @@ fn pass_through(queues: &mut Queues<&Requests>)
     queues.admit(0);
     queues.admit(1);
     queues.admit(2);
-    let _ = queues.hit(0);
+    queues.hit(0);
     let _ = queues.tail_is_promoted();
-    queues.leave_small(0);
+    let _ = queues.take_tail();
     queues.append(0);
-    let _ = queues.hit(0);
-    let _ = queues.select();
-    queues.leave_main(0);
+    queues.hit(0);
+    let _ = queues.take_victim();
     queues.leave(1);
     queues.clear();
     queues.admit(3);

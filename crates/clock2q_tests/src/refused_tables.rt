@@ -35,6 +35,37 @@ fn constructions(rt: HostRuntime) -> Result<(), Fail> {
     Ok(())
 }
 
+// Calls that a table has room for.
+#[test]
+fn no_requests(rt: HostRuntime) -> Result<(), Fail> {
+    let alloc = Refusing::new(rt.alloc());
+    let mut none: RefusedTable = Table::new(&alloc);
+    let empty: RefusedTable = Table::with_capacity(&alloc, 0)?;
+    assert_eq!(rt; (none.capacity(), empty.capacity()), (0, 0));
+    assert_eq!(rt; none.get(5).next(), None);
+    assert!(rt; !none.remove(5, 5));
+    assert_eq!(rt; alloc.requests(), 0);
+    let mut table: RefusedTable = Table::with_capacity(&alloc, 12)?;
+    let made = alloc.requests();
+    alloc.refuse_after(0);
+    assert!(rt; table.len() < table.capacity());
+    table.insert(5, 5, |_| 0)?;
+    assert!(rt; table.len() < table.capacity());
+    table.insert_within_capacity(6, 6)?;
+    for wanted in [(7, true), (7, false)] {
+        assert!(rt; table.len() < table.capacity());
+        let found = table.find_or_insert(7, |_| true, 7, |_| 0)?;
+        assert_eq!(rt; found, wanted);
+    }
+    assert!(rt; table.len() == 3 && table.capacity() == 12);
+    table.reserve(9, |_| 0)?;
+    let mut walk = table.get(7);
+    while walk.next().is_some() {}
+    assert!(rt; table.remove(6, 6));
+    assert_eq!(rt; alloc.requests(), made);
+    Ok(())
+}
+
 // A table with as many handles as it takes before it grows.
 fn full<'a>(rt: &impl Abort, alloc: &'a Refusing<Global>) -> Result<RefusedTable<'a>, TableError>
     ensures { IfOk result (λ table. IsHashOf (λ handle. handle) table.homes) }

@@ -4,10 +4,12 @@ ghost use Rattle.std.specs.Prelude.{◌≡◌};
 mod cells;
 mod growing;
 mod hashed;
+mod interned;
 mod plain;
 mod seeded;
 
 use crate::candidates::Candidates;
+use crate::table::Table;
 use std::fmt::Debug;
 use std::process::Abort;
 
@@ -28,4 +30,17 @@ fn yields<H: Copy + Eq + Default + Debug>(
     }
     assert_eq!(rt; walk.next(), None, "{shown}");
     assert_eq!(rt; walk.next(), None, "{shown}");
+}
+
+/// How many slots a walk from a home reads, by a walk of the test's own.
+fn slots_read<H: Copy + Eq + Default>(table: &Table<H>, home: usize) -> usize {
+    if table.slots.count() <= home {
+        return 0;
+    }
+    for distance in 0..table.slots.count() {
+        if table.slots.metadata(home, distance).ends_walk(distance) {
+            return distance.saturating_add(1);
+        }
+    }
+    0
 }

@@ -2,7 +2,7 @@
 ghost use Rattle.std.specs.Prelude.{◌≡◌, ℕ, ◌+◌, ◌^◌, ◌<◌, ◌≤◌, false, [], ◌∷◌, take, length, IfOk};
 ghost use Rattle.clock2q_handles.specs.Homes.{candidates};
 ghost use Rattle.clock2q_handles.specs.TableStep.{made_for};
-ghost use Rattle.clock2q_queues.specs.Counts.{RisesAtMost};
+ghost use Rattle.clock2q_queues.specs.Cells.{Rises};
 ghost use Rattle.clock2q_queues.specs.Order.{IsWholeOrder, used};
 ghost use Rattle.clock2q_queues.specs.Indexes.{IsIndex, HasHash, index_room};
 ghost use Rattle.clock2q_queues.specs.History.{IsWholeHistory, MakesPlace, remembered, is_remembered, forgotten};
@@ -43,7 +43,8 @@ impl<K: Eq, A: Allocator> Model for History<K, A> {
 }
 
 impl<K: Eq, A: Allocator + Copy> History<K, A> {
-    /// A history with no key, for so many. It takes all the memory that it will ever have.
+    /// Makes a history for so many keys, and takes all the memory that it will ever have. There are
+    /// none yet.
     ///
     /// The error comes where a request for memory is refused; what was taken is given back.
     pub fn new(alloc: A, limit: usize) -> Result<Self, AllocError>
@@ -55,19 +56,19 @@ impl<K: Eq, A: Allocator + Copy> History<K, A> {
         };
         Ok(History {
             index,
-            order: Order::new(alloc, limit)?,
+            order: Order::new(alloc, limit as u32)?,
             keys: Keys::new(alloc, limit)?,
         })
     }
 }
 
 impl<K: Eq, A: Allocator> History<K, A> {
-    /// How many keys are remembered.
+    /// Returns how many keys are remembered.
     pub fn len(&self) -> usize
         ensures len { result ≡ length self.now.entries }
         ensures whole { IsWholeHistory K.eq self.now }
     {
-        self.order.len()
+        self.order.len() as usize
     }
 
     /// Puts a key in front. Where the history is full, the oldest key is forgotten.
@@ -75,10 +76,8 @@ impl<K: Eq, A: Allocator> History<K, A> {
     where
         K: Drop,
         requires absent { is_remembered K.eq key self.old.entries ≡ false }
-        ensures entries { self.new.entries ≡ take self.old.limit ((hash, key) ∷ self.old.entries) }
-        ensures limit { self.new.limit ≡ self.old.limit }
-        ensures accesses { self.new.accesses ≤ self.old.accesses + 12 }
-        ensures questions { self.new.questions ≡ self.old.questions }
+        ensures pushed { self.new ≡ record self.old { entries = take self.old.limit ((hash, key) ∷ self.old.entries); index = self.new.index; accesses = self.new.accesses } }
+        ensures accesses { Rises 0 8 self.old.accesses self.new.accesses }
     {
         if self.order.limit() == 0 {
             return;
@@ -89,20 +88,19 @@ impl<K: Eq, A: Allocator> History<K, A> {
         let _ = self.index.insert_within_capacity(hash, place);
     }
 
-    /// Forgets a key, and tells whether it was remembered.
+    /// Forgets a key, and returns whether it was remembered.
     pub fn discard(&mut self, hash: u64, key: &K) -> bool
         requires hash { HasHash K.eq hash key.now self.old.entries }
         ensures found { result ≡ is_remembered K.eq key.now self.old.entries }
-        ensures entries { self.new.entries ≡ forgotten K.eq key.now self.old.entries }
-        ensures limit { self.new.limit ≡ self.old.limit }
-        ensures accesses { self.new.accesses ≤ self.old.accesses + 12 }
-        ensures questions { RisesAtMost (length (candidates self.old.index hash)) self.old.questions self.new.questions }
+        ensures forgotten { self.new ≡ record self.old { entries = forgotten K.eq key.now self.old.entries; index = self.new.index; accesses = self.new.accesses; questions = self.new.questions } }
+        ensures accesses { Rises 0 7 self.old.accesses self.new.accesses }
+        ensures questions { Rises 0 (length (candidates self.old.index hash)) self.old.questions self.new.questions }
     {
         let Some(place) = self.keys.find(self.index.get(hash), key) else {
             return false;
         };
         self.index.remove(hash, place);
-        self.order.unlink(place as usize);
+        self.order.unlink(place);
         true
     }
 
@@ -110,10 +108,7 @@ impl<K: Eq, A: Allocator> History<K, A> {
     pub fn clear(&mut self)
     where
         K: Drop,
-        ensures entries { self.new.entries ≡ [] }
-        ensures limit { self.new.limit ≡ self.old.limit }
-        ensures accesses { self.new.accesses ≡ self.old.accesses }
-        ensures questions { self.new.questions ≡ self.old.questions }
+        ensures cleared { self.new ≡ record self.old { entries = []; index = self.new.index } }
     {
         self.keys.unindex(&mut self.index);
         self.order.clear();
@@ -131,14 +126,13 @@ fn make_place<K, V, A: Allocator>(
     requires indexed { IsIndex index.old.homes keys.now.entries order.old.places }
     requires as_many { length keys.now.entries ≡ used order.old }
     requires some { 0 < order.old.limit }
-    requires short { order.old.limit < 2 ^ 24 }
     ensures made { MakesPlace index.old.homes index.new.homes order.old order.new keys.now.entries result }
     ensures whole { IsWholeOrder order.new }
 {
     if order.len() < order.limit() {
-        return order.push() as u32;
+        return order.push();
     }
-    let place = order.reuse_oldest() as u32;
+    let place = order.reuse_oldest();
     index.remove(keys.hash(place), place);
     place
 }

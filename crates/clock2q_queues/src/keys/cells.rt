@@ -7,7 +7,7 @@ use std::alloc::{AllocError, Allocator};
 use std::marker::Model;
 use std::mem;
 
-/// A key, its hash, and what is kept with it.
+/// A key with its hash, and a value that belongs to it.
 #[derive(Drop)]
 pub struct Entry<K, V> {
     pub hash: u64,
@@ -34,12 +34,12 @@ impl<K, V, A: Allocator> Model for Cells<K, V, A> {
 }
 
 impl<K, V, A: Allocator> Cells<K, V, A> {
-    ghost use Rattle.clock2q_queues.specs.Keys.{cell_state, hash_at, key_at, value_at, entry, with_key, with_value, is_key_at};
+    ghost use Rattle.clock2q_queues.specs.Keys.{cell_state, hash_at, key_at, value_at, entry, with_key, with_value};
     ghost use Rattle.clock2q_queues.specs.KeysLends.{LendsValue};
 
-    /// No entries, and room for so many.
+    /// Makes room for so many entries. There are none yet.
     pub fn new(alloc: A, room: usize) -> Result<Self, AllocError>
-        ensures { IfOk result (λ c. c ≡ cell_state [] room 0) }
+        ensures made { IfOk result (λ c. c ≡ cell_state [] room 0) }
     {
         Ok(Cells {
             entries: Vec::with_capacity(alloc, room)?,
@@ -47,40 +47,40 @@ impl<K, V, A: Allocator> Cells<K, V, A> {
         })
     }
 
-    /// How many places have an entry.
+    /// Returns how many places have an entry.
     pub fn len(&self) -> usize
-        ensures { result ≡ length self.now.entries }
+        ensures len { result ≡ length self.now.entries }
     {
         self.entries.len()
     }
 
-    /// The hash of the key at a place.
+    /// Returns the hash of the key at a place.
     pub fn hash(&self, place: u32) -> u64
-        requires { place < length self.now.entries }
-        ensures { hash_at self.now.entries place ≡ Some result }
+        requires used { place < length self.now.entries }
+        ensures hash { hash_at self.now.entries place ≡ Some result }
     {
         self.entries[place as usize].hash
     }
 
-    /// The key at a place.
+    /// Returns the key at a place.
     pub fn key(&self, place: u32) -> &K
-        requires { place < length self.now.entries }
-        ensures { key_at self.now.entries place ≡ Some result.now }
+        requires used { place < length self.now.entries }
+        ensures key { key_at self.now.entries place ≡ Some result.now }
     {
         &self.entries[place as usize].key
     }
 
-    /// The value at a place.
+    /// Returns the value at a place.
     pub fn value(&self, place: u32) -> &V
-        requires { place < length self.now.entries }
-        ensures { value_at self.now.entries place ≡ Some result.now }
+        requires used { place < length self.now.entries }
+        ensures value { value_at self.now.entries place ≡ Some result.now }
     {
         &self.entries[place as usize].value
     }
 
     /// Lends the value at a place to be changed.
     pub fn value_mut(&mut self, place: u32) -> &mut V
-        requires { place < length self.old.entries }
+        requires used { place < length self.old.entries }
         ensures* writes_back { sem 𝓛 (LendsValue K.row V.row A.row A.Allocator self.entry place result) }
         ensures value { value_at self.old.entries place ≡ Some result.now }
     {
@@ -89,7 +89,7 @@ impl<K, V, A: Allocator> Cells<K, V, A> {
 
     /// Replaces the value at a place, and returns the old one.
     pub fn replace_value(&mut self, place: u32, value: V) -> V
-        requires { place < length self.old.entries }
+        requires used { place < length self.old.entries }
         ensures old { value_at self.old.entries place ≡ Some result }
         ensures replaced { self.new ≡ record self.old { entries = with_value place value self.old.entries } }
     {
@@ -98,8 +98,8 @@ impl<K, V, A: Allocator> Cells<K, V, A> {
 
     /// Adds an entry at the next place.
     pub fn push(&mut self, hash: u64, key: K, value: V)
-        requires { length self.old.entries < self.old.room }
-        ensures { self.new ≡ cell_state (self.old.entries ++ entry hash key value ∷ []) self.old.room (self.old.writes + 1) }
+        requires room { length self.old.entries < self.old.room }
+        ensures pushed { self.new ≡ cell_state (self.old.entries ++ entry hash key value ∷ []) self.old.room (self.old.writes + 1) }
     {
         self.writes.tick();
         self.entries.push_reserved(Entry { hash, key, value });
@@ -107,7 +107,7 @@ impl<K, V, A: Allocator> Cells<K, V, A> {
 
     /// Replaces the key at a place and its hash, and returns the old ones. The value stays.
     pub fn replace(&mut self, place: u32, hash: u64, key: K) -> (u64, K)
-        requires { place < length self.old.entries }
+        requires used { place < length self.old.entries }
         ensures hash { hash_at self.old.entries place ≡ Some result.0 }
         ensures key { key_at self.old.entries place ≡ Some result.1 }
         ensures replaced { self.new ≡ cell_state (with_key place hash key self.old.entries) self.old.room (self.old.writes + 1) }
@@ -124,7 +124,7 @@ impl<K, V, A: Allocator> Cells<K, V, A> {
     where
         K: Drop,
         V: Drop,
-        ensures { self.new ≡ cell_state [] self.old.room self.old.writes }
+        ensures cleared { self.new ≡ cell_state [] self.old.room self.old.writes }
     {
         self.entries.clear();
     }
@@ -135,7 +135,7 @@ impl<K: Eq, V, A: Allocator> Cells<K, V, A> {
 
     /// Asks whether a key is the one at a place, and counts the question.
     pub fn is(&self, place: u32, key: &K, asked: &mut Count) -> bool
-        requires { place < length self.now.entries }
+        requires used { place < length self.now.entries }
         ensures value { result ≡ is_key_at K.eq key.now self.now.entries place }
         ensures counted { asked.new.total ≡ asked.old.total + 1 }
     {

@@ -1,4 +1,4 @@
-//! Keys with their hashes, each at a place, and what an index needs that finds them.
+//! Keys with their hashes, each at a place, and look-ups through an index of the places.
 ghost use Rattle.std.specs.Prelude.{◌≡◌, ℕ, ◌+◌, ◌^◌, ◌<◌, ◌≤◌, [], ◌∷◌, ◌++◌, length, Some, IfOk};
 ghost use Rattle.std.specs.List.{find, AllByRecursion};
 ghost use Rattle.std.specs.Borrow.{sem};
@@ -6,6 +6,8 @@ ghost use Rattle.clock2q_queues.specs.Indexes.{index_room, Empties};
 ghost use Rattle.clock2q_queues.specs.Keys.{is_key_at, questions_of};
 
 mod cells;
+#[cfg(test)]
+mod tests;
 
 use cells::Cells;
 pub use cells::Entry;
@@ -14,11 +16,11 @@ use clock2q_handles::{Candidates, Table};
 use std::alloc::{AllocError, Allocator, Global};
 use std::marker::Model;
 
-/// How many entries an index is made for where at most `limit` stand in it: half as many again, so
-/// that it is never more than half full, and look-ups are short.
+/// Returns how many entries an index is made for where at most `limit` places stand in it: half as
+/// many again, so that it is never more than half full, and look-ups are short.
 pub fn index_room(limit: usize) -> usize
-    requires { limit < 2 ^ 63 }
-    ensures { result ≡ index_room limit }
+    requires countable { limit < 2 ^ 63 }
+    ensures room { result ≡ index_room limit }
 {
     limit + limit / 2
 }
@@ -48,7 +50,8 @@ impl<K, V, A: Allocator> Keys<K, V, A> {
     ghost use Rattle.clock2q_queues.specs.Keys.{key_places, entry, hash_at, key_at, value_at, with_key, with_value, written};
     ghost use Rattle.clock2q_queues.specs.KeysLends.{LendsValueAt};
 
-    /// No keys, and room for so many. It takes all the memory that it will ever have.
+    /// Makes room for so many keys, and takes all the memory that they will ever have. There are
+    /// none yet.
     pub fn new(alloc: A, room: usize) -> Result<Self, AllocError>
         ensures made { IfOk result (λ k. k ≡ key_places [] room 0 0) }
     {
@@ -58,14 +61,14 @@ impl<K, V, A: Allocator> Keys<K, V, A> {
         })
     }
 
-    /// How many places were used.
+    /// Returns how many places were used.
     pub fn len(&self) -> usize
         ensures len { result ≡ length self.now.entries }
     {
         self.cells.len()
     }
 
-    /// The hash of the key at a place.
+    /// Returns the hash of the key at a place.
     pub fn hash(&self, place: u32) -> u64
         requires used { place < length self.now.entries }
         ensures hash { hash_at self.now.entries place ≡ Some result }
@@ -73,7 +76,7 @@ impl<K, V, A: Allocator> Keys<K, V, A> {
         self.cells.hash(place)
     }
 
-    /// The key at a place.
+    /// Returns the key at a place. What is asked of it is not counted.
     pub fn key(&self, place: u32) -> &K
         requires used { place < length self.now.entries }
         ensures key { key_at self.now.entries place ≡ Some result.now }
@@ -81,7 +84,7 @@ impl<K, V, A: Allocator> Keys<K, V, A> {
         self.cells.key(place)
     }
 
-    /// The value at a place.
+    /// Returns the value at a place.
     pub fn value(&self, place: u32) -> &V
         requires used { place < length self.now.entries }
         ensures value { value_at self.now.entries place ≡ Some result.now }
@@ -89,7 +92,7 @@ impl<K, V, A: Allocator> Keys<K, V, A> {
         self.cells.value(place)
     }
 
-    /// Lends the value at a place.
+    /// Returns the value at a place, to be changed.
     pub fn value_mut(&mut self, place: u32) -> &mut V
         requires used { place < length self.old.entries }
         ensures* writes_back { sem 𝓛 (LendsValueAt K.row V.row A.row A.Allocator self.entry place result) }
@@ -135,11 +138,11 @@ impl<K, V, A: Allocator> Keys<K, V, A> {
         requires room { place < self.old.room }
         ensures written { self.new ≡ record self.old { entries = written place (entry hash key value) self.old.entries; writes = self.old.writes + 1 } }
     {
-        if (place as usize) < self.cells.len() {
-            self.cells.replace(place, hash, key);
-            self.cells.replace_value(place, value);
+        if place as usize == self.len() {
+            self.push(hash, key, value);
         } else {
-            self.cells.push(hash, key, value);
+            self.replace(place, hash, key);
+            self.replace_value(place, value);
         }
     }
 
@@ -148,9 +151,9 @@ impl<K, V, A: Allocator> Keys<K, V, A> {
         requires countable { length self.now.entries ≤ 2 ^ 32 }
         ensures emptied { Empties index.old.homes index.new.homes self.now.entries }
     {
-        for place in 0..self.cells.len() {
+        for place in 0..self.len() {
             let place = place as u32;
-            index.remove(self.cells.hash(place), place);
+            index.remove(self.hash(place), place);
         }
     }
 
@@ -168,7 +171,7 @@ impl<K, V, A: Allocator> Keys<K, V, A> {
 impl<K: Eq, V, A: Allocator> Keys<K, V, A> {
     ghost use Rattle.clock2q_queues.specs.Keys.{is_key_at, questions_of};
 
-    /// Whether a key is the one at a place.
+    /// Asks whether a key is the one at a place, and counts the question.
     pub fn is(&mut self, place: u32, key: &K) -> bool
         requires used { place < length self.old.entries }
         ensures value { result ≡ is_key_at K.eq key.now self.old.entries place }
@@ -177,7 +180,7 @@ impl<K: Eq, V, A: Allocator> Keys<K, V, A> {
         self.cells.is(place, key, &mut self.questions)
     }
 
-    /// Whether a key is the one at a place. The question is counted in `asked`, and not here.
+    /// Asks whether a key is the one at a place. The question is counted in `asked`, and not here.
     pub fn is_untold(&self, place: u32, key: &K, asked: &mut Count) -> bool
         requires used { place < length self.now.entries }
         ensures value { result ≡ is_key_at K.eq key.now self.now.entries place }
@@ -186,12 +189,8 @@ impl<K: Eq, V, A: Allocator> Keys<K, V, A> {
         self.cells.is(place, key, asked)
     }
 
-    /// The first of these places that has a key.
-    pub fn find<B: Allocator>(
-        &mut self,
-        places: Candidates<'_, u32, B>,
-        key: &K,
-    ) -> Option<u32>
+    /// Returns the first of these places that has a key, and counts each question.
+    pub fn find<B: Allocator>(&mut self, places: Candidates<'_, u32, B>, key: &K) -> Option<u32>
         requires used { AllByRecursion (λ place. place < length self.old.entries) places.left }
         ensures found { result ≡ find (is_key_at K.eq key.now self.old.entries) places.entry.left }
         ensures counted { self.new ≡ record self.old { questions = self.old.questions + questions_of (is_key_at K.eq key.now self.old.entries) places.entry.left } }
@@ -199,8 +198,8 @@ impl<K: Eq, V, A: Allocator> Keys<K, V, A> {
         first_with(&self.cells, places, key, &mut self.questions)
     }
 
-    /// The first of these places that has a key. The questions are counted in `asked`, and not
-    /// here.
+    /// Returns the first of these places that has a key. The questions are counted in `asked`, and
+    /// not here.
     pub fn find_untold<B: Allocator>(
         &self,
         places: Candidates<'_, u32, B>,
@@ -215,7 +214,7 @@ impl<K: Eq, V, A: Allocator> Keys<K, V, A> {
     }
 }
 
-// The first of these places that has a key.
+// Returns the first of these places that has a key.
 fn first_with<K: Eq, V, A: Allocator, B: Allocator>(
     cells: &Cells<K, V, A>,
     mut places: Candidates<'_, u32, B>,

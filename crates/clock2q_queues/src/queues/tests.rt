@@ -6,10 +6,10 @@ use super::*;
 use std::process::Abort;
 use std::test::Fail;
 
-const SLOTS: usize = 12;
+const SLOTS: u32 = 12;
 
 // Admits a slot that stands nowhere.
-fn admit(rt: &impl Abort, queues: &mut Queues, slot: usize)
+fn admit(rt: &impl Abort, queues: &mut Queues, slot: u32)
     requires slot_in { slot < queues.old.slots }
     requires window { 0 < queues.old.window }
     ensures slots { queues.new.slots ≡ queues.old.slots }
@@ -22,7 +22,7 @@ fn admit(rt: &impl Abort, queues: &mut Queues, slot: usize)
 }
 
 // Puts a slot that stands nowhere into Main.
-fn append(rt: &impl Abort, queues: &mut Queues, slot: usize)
+fn append(rt: &impl Abort, queues: &mut Queues, slot: u32)
     requires slot_in { slot < queues.old.slots }
     ensures slots { queues.new.slots ≡ queues.old.slots }
     ensures window { queues.new.window ≡ queues.old.window }
@@ -30,6 +30,19 @@ fn append(rt: &impl Abort, queues: &mut Queues, slot: usize)
     match queues.standing(slot) {
         Standing::Free => queues.append(slot),
         _ => panic!(rt; "the slot stands in a queue"),
+    }
+}
+
+// Hits a slot that stands in a queue.
+fn hit(rt: &impl Abort, queues: &mut Queues, slot: u32)
+    requires slot_in { slot < queues.old.slots }
+    ensures slots { queues.new.slots ≡ queues.old.slots }
+    ensures window { queues.new.window ≡ queues.old.window }
+{
+    match queues.standing(slot) {
+        Standing::Free => panic!(rt; "the slot stands in no queue"),
+        Standing::Small => queues.hit(slot),
+        Standing::Main => queues.hit(slot),
     }
 }
 
@@ -58,9 +71,8 @@ fn admit_again(queues: &mut Queues)
 fn admissions_count_after_a_removal(rt: HostRuntime) -> Result<(), Fail> {
     let mut queues = Queues::new(rt.alloc(), 4, 2)?;
     admit_again(&mut queues);
-    assert_eq!(rt; queues.standing(3), Standing::Young(0));
-    assert_eq!(rt; queues.standing(2), Standing::Old);
-    assert!(rt; !queues.hit(2));
+    assert_eq!(rt; queues.standing(3), Standing::Small);
+    hit(&rt, &mut queues, 2);
     assert_eq!(rt; queues.small_len(), 4);
     assert_eq!(rt; queues.tail(), Some(0));
     assert!(rt; !queues.tail_is_promoted());
@@ -85,10 +97,7 @@ fn an_emptied_place_makes_no_slot_old(rt: HostRuntime) -> Result<(), Fail> {
     assert_eq!(rt; queues.tail(), Some(0));
     queues.leave(0);
     admit(&rt, &mut queues, 0);
-    assert_eq!(rt; queues.standing(0), Standing::Young(0));
-    assert_eq!(rt; queues.standing(3), Standing::Young(1));
-    assert_eq!(rt; queues.standing(1), Standing::Old);
-    assert!(rt; !queues.hit(3));
+    hit(&rt, &mut queues, 3);
     let Queues {
         mut links,
         small,
@@ -97,7 +106,10 @@ fn an_emptied_place_makes_no_slot_old(rt: HostRuntime) -> Result<(), Fail> {
     assert_eq!(rt; links.window(), 2);
     assert_eq!(rt; links.place(0), Some(0));
     assert_eq!(rt; links.place(1), Some(3));
-    assert!(rt; !links.bit(3));
+    assert_eq!(rt; links.read(0).standing, Mark::Young(0));
+    assert_eq!(rt; links.read(3).standing, Mark::Young(1));
+    assert_eq!(rt; links.read(1).standing, Mark::Old);
+    assert!(rt; !links.is_old_hit(3));
     assert_eq!(rt; small.cursor(), 1);
     assert_eq!(rt; main.len(), 0);
     Ok(())
@@ -114,12 +126,12 @@ fn fill_main(queues: &mut Queues)
 {
     for slot in 2..20 {
         queues.append(slot);
-        let _ = queues.hit(slot);
+        queues.hit(slot);
     }
 }
 
 // All 18 bits are set: the hand passes them all, and at its 19th look finds the first one clear.
-fn go_round(queues: &mut Queues) -> usize
+fn go_round(queues: &mut Queues) -> u32
     requires slots { queues.old.slots ≡ 20 }
     requires small { queues.old.small ≡ [] }
     requires main { queues.old.main ≡ [] }
@@ -140,12 +152,11 @@ fn the_hand_comes_round(rt: HostRuntime) -> Result<(), Fail> {
     queues.leave(2);
     assert_eq!(rt; queues.main_len(), 17);
     // Each bit was cleared on the way, and the one behind a victim stays.
-    assert!(rt; queues.hit(3));
-    assert!(rt; queues.hit(19));
-    assert_eq!(rt; queues.select(), 4);
-    queues.leave(4);
-    assert!(rt; !queues.hit(19));
-    assert!(rt; queues.hit(3));
+    hit(&rt, &mut queues, 3);
+    hit(&rt, &mut queues, 19);
+    assert!(rt; queues.main_len() > 0);
+    assert_eq!(rt; queues.take_victim(), 4);
+    hit(&rt, &mut queues, 3);
     assert_eq!(rt; queues.main_len(), 16);
     for slot in 5..19 {
         assert!(rt; queues.main_len() > 0);
@@ -162,7 +173,7 @@ fn the_hand_comes_round(rt: HostRuntime) -> Result<(), Fail> {
 }
 
 // One slot in Main whose bit is set: two looks, and it is given up.
-fn look_twice(queues: &mut Queues) -> usize
+fn look_twice(queues: &mut Queues) -> u32
     requires slots { queues.old.slots ≡ 1 }
     requires small { queues.old.small ≡ [] }
     requires main { queues.old.main ≡ [] }
@@ -172,7 +183,7 @@ fn look_twice(queues: &mut Queues) -> usize
     ensures looks { queues.new.inspections ≡ queues.old.inspections + 2 }
 {
     queues.append(0);
-    let _ = queues.hit(0);
+    queues.hit(0);
     queues.select()
 }
 
@@ -181,7 +192,6 @@ fn a_single_slot_gets_one_more_look(rt: HostRuntime) -> Result<(), Fail> {
     let mut queues = Queues::new(rt.alloc(), 1, 0)?;
     assert_eq!(rt; look_twice(&mut queues), 0);
     assert_eq!(rt; queues.main_len(), 1);
-    assert!(rt; queues.hit(0));
     queues.clear();
     assert_eq!(rt; queues.main_len(), 0);
     assert_eq!(rt; queues.standing(0), Standing::Free);
@@ -190,7 +200,7 @@ fn a_single_slot_gets_one_more_look(rt: HostRuntime) -> Result<(), Fail> {
 
 #[derive(Clone, Copy, Drop)]
 struct Entry {
-    slot: usize,
+    slot: u32,
     age: u32,
     bit: bool,
 }
@@ -204,7 +214,7 @@ struct Lists {
 }
 
 impl Lists {
-    fn admit(&mut self, slot: usize) -> Result<(), Fail> {
+    fn admit(&mut self, slot: u32) -> Result<(), Fail> {
         for entry in self.small.iter_mut() {
             if entry.age < self.window {
                 entry.age += 1;
@@ -219,13 +229,12 @@ impl Lists {
         Ok(())
     }
 
-    fn leave(&mut self, slot: usize) {
+    fn leave(&mut self, slot: u32) {
         self.small.retain(|entry| entry.slot != slot);
         self.main.retain(|entry| entry.slot != slot);
     }
 
-    fn hit(&mut self, slot: usize) -> bool {
-        let mut set = false;
+    fn hit(&mut self, slot: u32) {
         for entry in self.small.iter_mut() {
             if entry.slot == slot && entry.age >= self.window {
                 entry.bit = true;
@@ -233,14 +242,12 @@ impl Lists {
         }
         for entry in self.main.iter_mut() {
             if entry.slot == slot {
-                set = !entry.bit;
                 entry.bit = true;
             }
         }
-        set
     }
 
-    fn select(&mut self) -> Result<Option<usize>, Fail> {
+    fn select(&mut self) -> Result<Option<u32>, Fail> {
         for _ in 0..SLOTS {
             if let Some(first) = self.main.first().copied() {
                 if !first.bit {
@@ -256,16 +263,14 @@ impl Lists {
         Ok(self.main.first().map(|entry| entry.slot))
     }
 
-    fn standing(&self, slot: usize) -> (bool, bool, bool) {
-        let young = self
-            .small
-            .iter()
-            .any(|entry| entry.slot == slot && entry.age < self.window);
-        let old = self
-            .small
-            .iter()
-            .any(|entry| entry.slot == slot && entry.age >= self.window);
-        (young, old, self.main.iter().any(|entry| entry.slot == slot))
+    fn standing(&self, slot: u32) -> Standing {
+        if self.small.iter().any(|entry| entry.slot == slot) {
+            Standing::Small
+        } else if self.main.iter().any(|entry| entry.slot == slot) {
+            Standing::Main
+        } else {
+            Standing::Free
+        }
     }
 }
 
@@ -276,13 +281,7 @@ fn compare(rt: &impl Abort, queues: &mut Queues, lists: &Lists)
     ensures window { queues.new.window ≡ queues.old.window }
 {
     for slot in 0..SLOTS {
-        let shown = match queues.standing(slot) {
-            Standing::Free => (false, false, false),
-            Standing::Young(_) => (true, false, false),
-            Standing::Old => (false, true, false),
-            Standing::Main => (false, false, true),
-        };
-        assert!(rt; shown == lists.standing(slot));
+        assert_eq!(rt; queues.standing(slot), lists.standing(slot));
     }
     assert_eq!(rt; queues.small_len(), lists.small.len());
     assert_eq!(rt; queues.main_len(), lists.main.len());
@@ -301,7 +300,7 @@ fn step(
     queues: &mut Queues,
     lists: &mut Lists,
     small: usize,
-    random: usize,
+    random: u32,
 ) -> Result<(), Fail>
     requires slots { queues.old.slots ≡ 12 }
     requires window { 0 < queues.old.window }
@@ -340,7 +339,11 @@ fn step(
             queues.leave(victim);
             lists.leave(victim);
         }
-        _ => assert!(rt; queues.hit(slot) == lists.hit(slot)),
+        _ if !free => {
+            hit(rt, queues, slot);
+            lists.hit(slot);
+        }
+        _ => {}
     }
     Ok(())
 }
@@ -359,7 +362,7 @@ fn seeded_run(rt: &impl Abort, alloc: Global, small: usize, window: u32) -> Resu
         seed = seed
             .wrapping_mul(6364136223846793005)
             .wrapping_add(1442695040888963407);
-        step(rt, &mut queues, &mut lists, small, (seed >> 33) as usize)?;
+        step(rt, &mut queues, &mut lists, small, (seed >> 33) as u32)?;
         compare(rt, &mut queues, &lists);
     }
     Ok(())

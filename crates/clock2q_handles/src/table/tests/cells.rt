@@ -4,7 +4,7 @@ ghost use Rattle.std.specs.Prelude.{◌≡◌, ◌<◌, ◌≤◌, length};
 
 use crate::error::TableError;
 use crate::table::Table;
-use crate::table::tests::{A, B, yields};
+use crate::table::tests::{A, B, slots_read, yields};
 use std::process::Abort;
 use std::test::Fail;
 
@@ -37,19 +37,6 @@ fn cells_are(rt: &impl Abort, table: &Table<usize>, wanted: &[(usize, usize, usi
         seen = seen.saturating_add(1);
     }
     assert_eq!(rt; seen, wanted.len(), "{shown}");
-}
-
-/// How many slots a walk from a home reads, by a walk of the test's own.
-fn slots_read(table: &Table<usize>, home: usize) -> usize {
-    if table.slots.count() <= home {
-        return 0;
-    }
-    for distance in 0..table.slots.count() {
-        if table.slots.metadata(home, distance).ends_walk(distance) {
-            return distance.saturating_add(1);
-        }
-    }
-    0
 }
 
 #[test]
@@ -147,6 +134,17 @@ fn wrapped(rt: HostRuntime) -> Result<(), Fail> {
     for (home, read) in [(14, 2), (15, 2), (0, 3)] {
         assert_eq!(rt; slots_read(&table, home), read);
     }
+    Ok(())
+}
+
+#[test]
+fn wrapped_in_another_order(rt: HostRuntime) -> Result<(), Fail> {
+    let cells = [(14, 2, 0), (15, 4, 1), (0, 1, 1), (1, 0, 1), (2, 3, 2)];
+    let mut table: Table<usize> = Table::with_capacity(rt.alloc(), 12)?;
+    for (handle, hash) in [(0, 0), (1, 15), (2, 14), (3, 0), (4, 14)] {
+        put(&rt, &mut table, hash, handle);
+    }
+    cells_are(&rt, &table, &cells, "another order");
     Ok(())
 }
 

@@ -1,7 +1,7 @@
 //! Tables that grow, and tables of few hashes.
 use crate::error::TableError;
 use crate::table::tests::hashed::{Handle, Hashed, Seen};
-use crate::table::tests::{A, B};
+use crate::table::tests::{A, B, slots_read};
 use std::alloc::Global;
 use std::test::Fail;
 
@@ -34,6 +34,7 @@ fn one_hash(rt: HostRuntime) -> Result<(), Fail> {
     }
     assert_eq!(rt; tested.table.capacity(), 3072);
     assert_eq!(rt; tested.count(A), 2000);
+    assert_eq!(rt; slots_read(&tested.table, 15), 2001);
     for half in 0..1000 {
         let handle = Handle {
             hash: A,
@@ -42,6 +43,7 @@ fn one_hash(rt: HostRuntime) -> Result<(), Fail> {
         assert!(rt; tested.remove(A, handle), "{half}");
     }
     assert_eq!(rt; tested.count(A), 1000);
+    assert_eq!(rt; slots_read(&tested.table, 15), 1001);
     assert_eq!(rt; tested.table.len(), 1000);
     Ok(())
 }
@@ -65,6 +67,7 @@ fn two_hashes(rt: HostRuntime) -> Result<(), Fail> {
     tested.reserve(&rt, 1, &asked)?;
     assert_eq!(rt; tested.table.capacity(), 24);
     tested.yields(&rt, A, &[2, 4, 6, 8, 10, 0]);
+    assert_eq!(rt; slots_read(&tested.table, 15), 7);
     tested.yields(&rt, B, &[1, 3, 5, 7, 9, 11]);
     Ok(())
 }

@@ -1,4 +1,5 @@
-use Rattle.std.proofs.Common.{◌<◌, ◌≤◌, length, arith}
+use Rattle.std.proofs.Common.{◌<◌, ◌≤◌, length, ap, arith}
+use Rattle.clock2q_queues.specs.Order.{PlaceOrder}
 use Rattle.clock2q_queues.proofs.MakingPlaces.{MakesPlace-new, MakesPlace-oldest}
 use Rattle.clock2q_queues.proofs.history.make_place.Goals as goal
 
@@ -7,11 +8,11 @@ returns-then-len-limit-clause-made g c =
     let e = c.push.ensures in
     let room : length c.args.order.now.places < c.args.order.now.limit = omega (arith, c.if-len-limit.true, c.len.ensures.len, c.limit.ensures) in
     MakesPlace-new c.args.index.now.homes c.args.order.now c.push.new.self c.args.keys.now.entries c.push.result c.requires.indexed c.requires.as_many c.len.ensures.whole
-    room e.place e.places e.free e.limit e.accesses
+    room e.place (ap (λ (z : PlaceOrder). z.places) e.order) (ap (λ (z : PlaceOrder). z.free) e.order) (ap (λ (z : PlaceOrder). z.limit) e.order) e.accesses
 
 pub returns-clause-made : goal.returns-clause-made
 returns-clause-made g c =
     let e = c.reuse_oldest-place.ensures in
     let full : c.args.order.now.limit ≤ length c.args.order.now.places = omega (arith, c.if-len-limit.false, c.len.ensures.len, c.limit.ensures) in
     MakesPlace-oldest c.args.index.now.homes c.args.order.now c.reuse_oldest-place.new.self c.args.keys.now.entries c.reuse_oldest-place.result c.requires.indexed c.requires.as_many c.len.ensures.whole
-    c.remove.new.self.homes c.hash.result full e.oldest e.places e.free e.limit e.accesses c.hash.ensures.hash c.remove.ensures.removed
+    c.remove.new.self.homes c.hash.result full e.oldest (ap (λ (z : PlaceOrder). z.places) e.order) (ap (λ (z : PlaceOrder). z.free) e.order) (ap (λ (z : PlaceOrder). z.limit) e.order) (ap (λ (z : PlaceOrder). z.accesses) e.order) c.hash.ensures.hash c.remove.ensures.removed

@@ -2,7 +2,7 @@ use Rattle.std.proofs.Common.{◌+◌, ◌<◌, ◌≤◌, ℕ, length, true, fa
 use Rattle.std.specs.Fn.{Called}
 use Rattle.clock2q_handles.specs.Layout.{reach, slot_at}
 use Rattle.clock2q_handles.specs.Candidates.{left_from}
-use Rattle.clock2q_handles.specs.Offers.{Offers, MayBeOffered}
+use Rattle.clock2q_handles.specs.Offers.{Offers, TakesInTurn}
 use Rattle.clock2q_handles.proofs.Moves.{reach_told, walk_goes_on, refused, less_than_lap}
 use Rattle.clock2q_handles.proofs.Yields.{left_end, left_skip, left_take}
 use Rattle.clock2q_handles.proofs.slots.Slots.offer.Goals as goal
@@ -41,7 +41,7 @@ loop-metadata-preserved g c =
           let first = left_take slots c.requires.tidy c.args.hash c.args.home (λ _. c.requires.home) d r c.loop-metadata.invariant.within c.loop-metadata.invariant.passed (sym c.metadata-metadata.ensures.told ∙ c.is_candidate.ensures.0 w.if-is_candidate.true) w.handle-handle.ensures in
           let called = subst (λ b. Called g.F.FnMut c.loop-metadata.matches (r, tt) b next) w.if-matches.false w.matches.ensures in
           record {
-            callable = subst (λ f. MayBeOffered g.F.FnMut f (left_from slots c.args.hash (d + 1))) (sym w.matches-is) ((subst (λ hs. MayBeOffered g.F.FnMut c.loop-metadata.matches hs) first c.loop-metadata.invariant.callable).1 next called);
+            callable = subst (λ f. TakesInTurn g.F.FnMut f (left_from slots c.args.hash (d + 1))) (sym w.matches-is) ((subst (λ hs. TakesInTurn g.F.FnMut c.loop-metadata.matches hs) first c.loop-metadata.invariant.callable).1 next called);
             within = within;
             passed = passed;
             offers = λ found last rest. c.loop-metadata.invariant.offers found last (subst (λ hs. Offers g.F.FnMut c.loop-metadata.matches hs found last) (sym first)
@@ -50,7 +50,7 @@ loop-metadata-preserved g c =
       | else-is_candidate w ↦
           let skipped = left_skip slots c.requires.tidy c.args.hash c.args.home (λ _. c.requires.home) d c.loop-metadata.invariant.within (λ e. refused c.is_candidate.result c.is_candidate.ensures w.if-is_candidate.false (c.metadata-metadata.ensures.told ∙ e)) in
           record {
-            callable = subst (λ f. MayBeOffered g.F.FnMut f (left_from slots c.args.hash (d + 1))) (sym w.matches-is) (subst (λ hs. MayBeOffered g.F.FnMut c.loop-metadata.matches hs) skipped c.loop-metadata.invariant.callable);
+            callable = subst (λ f. TakesInTurn g.F.FnMut f (left_from slots c.args.hash (d + 1))) (sym w.matches-is) (subst (λ hs. TakesInTurn g.F.FnMut c.loop-metadata.matches hs) skipped c.loop-metadata.invariant.callable);
             within = within;
             passed = passed;
             offers = λ found last rest. c.loop-metadata.invariant.offers found last (subst (λ hs. Offers g.F.FnMut c.loop-metadata.matches hs found last) (sym skipped)
@@ -64,4 +64,4 @@ matches-requires g c =
     let d : ℕ = c.loop-metadata.distance in
     let r = c.handle-handle.result in
     let first = left_take slots c.requires.tidy c.args.hash c.args.home (λ _. c.requires.home) d r c.loop-metadata.invariant.within c.loop-metadata.invariant.passed (sym c.metadata-metadata.ensures.told ∙ c.is_candidate.ensures.0 c.if-is_candidate.true) c.handle-handle.ensures in
-    (subst (λ hs. MayBeOffered g.F.FnMut c.loop-metadata.matches hs) first c.loop-metadata.invariant.callable).0
+    (subst (λ hs. TakesInTurn g.F.FnMut c.loop-metadata.matches hs) first c.loop-metadata.invariant.callable).0

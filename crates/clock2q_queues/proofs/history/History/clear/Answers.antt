@@ -1,4 +1,5 @@
 use Rattle.std.proofs.Common.{ap}
+use Rattle.clock2q_queues.specs.Order.{PlaceOrder}
 use Rattle.clock2q_queues.specs.Keys.{KeyPlaces}
 use Rattle.clock2q_queues.proofs.Histories.{IsHistory-cleared}
 use Rattle.clock2q_queues.proofs.history.History.clear.Goals as goal
@@ -8,4 +9,4 @@ invariant_of-self g c =
     let i = c.self.inside in
     let e = c.clear.ensures in
     IsHistory-cleared g.K.PartialEq.eq i.index.homes c.unindex.new.index.homes i.order c.clear.new.self i.keys c.clear-2.new.self c.self.invariant c.unindex.ensures.emptied
-    e.whole e.places e.free e.limit (ap (λ (z : KeyPlaces _ _). z.entries) c.clear-2.ensures.cleared) (ap (λ (z : KeyPlaces _ _). z.room) c.clear-2.ensures.cleared)
+    e.whole (ap (λ (z : PlaceOrder). z.places) e.order) (ap (λ (z : PlaceOrder). z.free) e.order) (ap (λ (z : PlaceOrder). z.limit) e.order) (ap (λ (z : KeyPlaces _ _). z.entries) c.clear-2.ensures.cleared) (ap (λ (z : KeyPlaces _ _). z.room) c.clear-2.ensures.cleared)

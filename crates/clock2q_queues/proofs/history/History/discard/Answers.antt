@@ -2,7 +2,7 @@ use Rattle.std.proofs.Common.{◌≡◌, ◌≤◌, length, None, Some, sym, ap,
 use Rattle.std.specs.List.{find}
 use Rattle.clock2q_handles.specs.Homes.{candidates}
 use Rattle.clock2q_queues.specs.Keys.{KeyPlaces, is_key_at, entries_of, questions_of}
-use Rattle.clock2q_queues.specs.History.{Remembered, is_remembered, forgotten}
+use Rattle.clock2q_queues.specs.History.{Remembered, remembered, accesses_of, is_remembered, forgotten}
 use Rattle.clock2q_queues.proofs.Indexes.{candidates_there}
 use Rattle.clock2q_queues.proofs.Lookups.{questions-most}
 use Rattle.clock2q_queues.proofs.Forgetting.{forgets, missed, place_there}
@@ -21,13 +21,16 @@ returns-in_default-clause-found g c =
     let m = missed g.K.PartialEq.eq g.met.K.Eq.laws c.args.hash c.args.key.now i.index.homes i.order i.keys c.self.invariant hashed none in
     sym (sym (ap (λ (z : Remembered _). is_remembered g.K.PartialEq.eq c.args.key.now z.entries) c.self.view_is) ∙ m.0)
 
-pub returns-in_default-clause-entries : goal.returns-in_default-clause-entries
-returns-in_default-clause-entries g c =
+pub returns-in_default-clause-forgotten : goal.returns-in_default-clause-forgotten
+returns-in_default-clause-forgotten g c =
     let i = c.self.inside in
     let hashed = rw (← c.self.view_is) at c.requires.hash in
     let none : None ≡ find (is_key_at g.K.PartialEq.eq c.args.key.now i.keys.entries) (candidates i.index.homes c.args.hash) = c.in_default.ensures.found ∙ ap (λ z. find (is_key_at g.K.PartialEq.eq c.args.key.now i.keys.entries) z) c.get.ensures.candidates in
     let m = missed g.K.PartialEq.eq g.met.K.Eq.laws c.args.hash c.args.key.now i.index.homes i.order i.keys c.self.invariant hashed none in
-    ap (λ (z : KeyPlaces _ _). entries_of z.entries i.order.places) c.find.ensures.counted ∙ sym m.1 ∙ ap (λ (z : Remembered _). forgotten g.K.PartialEq.eq c.args.key.now z.entries) c.self.view_is
+    let keyed = c.find.ensures.counted ∙ ap (λ n. record i.keys { questions = n }) (sym (ap (λ (z : KeyPlaces _ _). z.questions) c.find.ensures.counted)) in
+    ap (λ (z : KeyPlaces _ _). remembered (entries_of z.entries i.order.places) i.order.limit i.index.homes (accesses_of i.order c.find.new.self) c.find.new.self.questions) keyed
+    ∙ ap (λ z. remembered z i.order.limit i.index.homes (accesses_of i.order c.find.new.self) c.find.new.self.questions) (sym m.1)
+    ∙ ap (λ (z : Remembered _). remembered (forgotten g.K.PartialEq.eq c.args.key.now z.entries) z.limit i.index.homes (accesses_of i.order c.find.new.self) c.find.new.self.questions) c.self.view_is
 
 pub returns-in_default-clause-questions : goal.returns-in_default-clause-questions
 returns-in_default-clause-questions g c =
@@ -52,9 +55,9 @@ invariant_of-self-2 g c =
     let hashed = rw (← c.self.view_is) at c.requires.hash in
     let found : Some c.in-Some.place ≡ find (is_key_at g.K.PartialEq.eq c.args.key.now i.keys.entries) (candidates i.index.homes c.args.hash) = c.in-Some.ensures.found ∙ ap (λ z. find (is_key_at g.K.PartialEq.eq c.args.key.now i.keys.entries) z) c.get.ensures.candidates in
     let e = c.unlink.ensures in
+    let keyed = c.find.ensures.counted ∙ ap (λ n. record i.keys { questions = n }) (sym (ap (λ (z : KeyPlaces _ _). z.questions) c.find.ensures.counted)) in
     let f = forgets g.K.PartialEq.eq g.met.K.Eq.laws c.args.hash c.args.key.now i.index.homes i.order i.keys c.self.invariant hashed c.in-Some.place found
-    c.remove.new.self.homes c.unlink.new.self c.find.new.self c.remove.ensures.removed e.whole e.places e.free e.limit
-    (ap (λ (z : KeyPlaces _ _). z.entries) c.find.ensures.counted) (ap (λ (z : KeyPlaces _ _). z.room) c.find.ensures.counted) in
+    c.remove.new.self.homes c.unlink.new.self c.find.new.self c.remove.ensures.removed e.whole e.order keyed in
     f.whole
 
 pub returns-clause-found : goal.returns-clause-found
@@ -63,21 +66,32 @@ returns-clause-found g c =
     let hashed = rw (← c.self.view_is) at c.requires.hash in
     let found : Some c.in-Some.place ≡ find (is_key_at g.K.PartialEq.eq c.args.key.now i.keys.entries) (candidates i.index.homes c.args.hash) = c.in-Some.ensures.found ∙ ap (λ z. find (is_key_at g.K.PartialEq.eq c.args.key.now i.keys.entries) z) c.get.ensures.candidates in
     let e = c.unlink.ensures in
+    let keyed = c.find.ensures.counted ∙ ap (λ n. record i.keys { questions = n }) (sym (ap (λ (z : KeyPlaces _ _). z.questions) c.find.ensures.counted)) in
     let f = forgets g.K.PartialEq.eq g.met.K.Eq.laws c.args.hash c.args.key.now i.index.homes i.order i.keys c.self.invariant hashed c.in-Some.place found
-    c.remove.new.self.homes c.unlink.new.self c.find.new.self c.remove.ensures.removed e.whole e.places e.free e.limit
-    (ap (λ (z : KeyPlaces _ _). z.entries) c.find.ensures.counted) (ap (λ (z : KeyPlaces _ _). z.room) c.find.ensures.counted) in
+    c.remove.new.self.homes c.unlink.new.self c.find.new.self c.remove.ensures.removed e.whole e.order keyed in
     sym f.found ∙ ap (λ (z : Remembered _). is_remembered g.K.PartialEq.eq c.args.key.now z.entries) c.self.view_is
 
-pub returns-clause-entries : goal.returns-clause-entries
-returns-clause-entries g c =
+pub returns-clause-forgotten : goal.returns-clause-forgotten
+returns-clause-forgotten g c =
     let i = c.self.inside in
     let hashed = rw (← c.self.view_is) at c.requires.hash in
     let found : Some c.in-Some.place ≡ find (is_key_at g.K.PartialEq.eq c.args.key.now i.keys.entries) (candidates i.index.homes c.args.hash) = c.in-Some.ensures.found ∙ ap (λ z. find (is_key_at g.K.PartialEq.eq c.args.key.now i.keys.entries) z) c.get.ensures.candidates in
     let e = c.unlink.ensures in
+    let keyed = c.find.ensures.counted ∙ ap (λ n. record i.keys { questions = n }) (sym (ap (λ (z : KeyPlaces _ _). z.questions) c.find.ensures.counted)) in
     let f = forgets g.K.PartialEq.eq g.met.K.Eq.laws c.args.hash c.args.key.now i.index.homes i.order i.keys c.self.invariant hashed c.in-Some.place found
-    c.remove.new.self.homes c.unlink.new.self c.find.new.self c.remove.ensures.removed e.whole e.places e.free e.limit
-    (ap (λ (z : KeyPlaces _ _). z.entries) c.find.ensures.counted) (ap (λ (z : KeyPlaces _ _). z.room) c.find.ensures.counted) in
-    f.entries ∙ ap (λ (z : Remembered _). forgotten g.K.PartialEq.eq c.args.key.now z.entries) c.self.view_is
+    c.remove.new.self.homes c.unlink.new.self c.find.new.self c.remove.ensures.removed e.whole e.order keyed in
+    f.shown ∙ ap (λ (z : Remembered _). remembered (forgotten g.K.PartialEq.eq c.args.key.now z.entries) z.limit c.remove.new.self.homes (accesses_of c.unlink.new.self c.find.new.self) c.find.new.self.questions) c.self.view_is
+
+pub returns-clause-accesses : goal.returns-clause-accesses
+returns-clause-accesses g c =
+    let i = c.self.inside in
+    let hashed = rw (← c.self.view_is) at c.requires.hash in
+    let found : Some c.in-Some.place ≡ find (is_key_at g.K.PartialEq.eq c.args.key.now i.keys.entries) (candidates i.index.homes c.args.hash) = c.in-Some.ensures.found ∙ ap (λ z. find (is_key_at g.K.PartialEq.eq c.args.key.now i.keys.entries) z) c.get.ensures.candidates in
+    let e = c.unlink.ensures in
+    let keyed = c.find.ensures.counted ∙ ap (λ n. record i.keys { questions = n }) (sym (ap (λ (z : KeyPlaces _ _). z.questions) c.find.ensures.counted)) in
+    let f = forgets g.K.PartialEq.eq g.met.K.Eq.laws c.args.hash c.args.key.now i.index.homes i.order i.keys c.self.invariant hashed c.in-Some.place found
+    c.remove.new.self.homes c.unlink.new.self c.find.new.self c.remove.ensures.removed e.whole e.order keyed in
+    rw (← c.self.view_is) f.accesses
 
 pub returns-clause-questions : goal.returns-clause-questions
 returns-clause-questions g c =

@@ -13,6 +13,6 @@ invariant_of-result g c =
     let whole = subst (λ z. IsWholeOrder z) c.in_ok-new.ensures.made c.in_ok-new.ensures.whole in
     let room = ap (λ (z : KeyPlaces _ _). z.room) c.in_ok-new-2.ensures.made in
     let new = IsHistory-new g.K.PartialEq.eq c.args.limit keys c.requires.short whole (ap (λ (z : KeyPlaces _ _). z.entries) c.in_ok-new-2.ensures.made) (omega (arith, room)) in
-    let indexed = ap (λ (z : TableValue ℕ). z.homes) c.in-Ok.ensures.made ∙ ap (λ n. made_for {H = ℕ} n) c.index_room.ensures in
+    let indexed = ap (λ (z : TableValue ℕ). z.homes) c.in-Ok.ensures.made ∙ ap (λ n. made_for {H = ℕ} n) c.index_room.ensures.room in
     subst (λ z. IsHistory g.K.PartialEq.eq z c.in_ok-new.field-0 keys) (sym indexed)
     (subst (λ z. IsHistory g.K.PartialEq.eq (made_for {H = ℕ} (index_room c.args.limit)) z keys) (sym c.in_ok-new.ensures.made) new)

@@ -1,6 +1,6 @@
 use Rattle.std.proofs.Common.{◌≡◌, ◌<◌, ◌∷◌, false, take, ap, ◌∙◌, arith}
 use Rattle.clock2q_queues.specs.Keys.{entries_of}
-use Rattle.clock2q_queues.specs.History.{Remembered, is_remembered}
+use Rattle.clock2q_queues.specs.History.{Remembered, remembered, accesses_of, is_remembered}
 use Rattle.clock2q_queues.proofs.Remembering.{remembers, insert_done}
 use Rattle.clock2q_queues.proofs.history.History.push.Goals as goal
 
@@ -13,12 +13,22 @@ invariant_of-self g c =
     (remembers g.K.PartialEq.eq c.args.hash c.args.key tt i.index.homes c.make_place-place.new.index.homes c.insert_within_capacity.new.self.homes i.order c.make_place-place.new.order i.keys c.write.new.self c.make_place-place.result c.self.invariant some c.make_place-place.ensures.made
     c.write.ensures.written put c.make_place-place.ensures.whole absent).whole
 
-pub returns-clause-entries : goal.returns-clause-entries
-returns-clause-entries g c =
+pub returns-clause-pushed : goal.returns-clause-pushed
+returns-clause-pushed g c =
     let i = c.self.inside in
     let some : 0 < i.order.limit = omega (arith, c.if-limit-eq0.false, c.limit.ensures) in
     let absent : is_remembered g.K.PartialEq.eq c.args.key (entries_of i.keys.entries i.order.places) ≡ false = ap (λ (z : Remembered _). is_remembered g.K.PartialEq.eq c.args.key z.entries) c.self.view_is ∙ c.requires.absent in
     let put = insert_done g.K.PartialEq.eq c.args.hash c.args.key tt i.index.homes c.make_place-place.new.index.homes c.insert_within_capacity.new.self.homes i.order c.make_place-place.new.order i.keys c.write.new.self c.make_place-place.result c.self.invariant some c.make_place-place.ensures.made c.insert_within_capacity.result c.insert_within_capacity.ensures.put c.insert_within_capacity.ensures.few in
-    (remembers g.K.PartialEq.eq c.args.hash c.args.key tt i.index.homes c.make_place-place.new.index.homes c.insert_within_capacity.new.self.homes i.order c.make_place-place.new.order i.keys c.write.new.self c.make_place-place.result c.self.invariant some c.make_place-place.ensures.made
-    c.write.ensures.written put c.make_place-place.ensures.whole absent).entries
-    ∙ ap (λ (z : Remembered _). take z.limit ((c.args.hash, c.args.key) ∷ z.entries)) c.self.view_is
+    let r = remembers g.K.PartialEq.eq c.args.hash c.args.key tt i.index.homes c.make_place-place.new.index.homes c.insert_within_capacity.new.self.homes i.order c.make_place-place.new.order i.keys c.write.new.self c.make_place-place.result c.self.invariant some c.make_place-place.ensures.made
+    c.write.ensures.written put c.make_place-place.ensures.whole absent in
+    r.shown ∙ ap (λ (z : Remembered _). remembered (take z.limit ((c.args.hash, c.args.key) ∷ z.entries)) z.limit c.insert_within_capacity.new.self.homes (accesses_of c.make_place-place.new.order c.write.new.self) z.questions) c.self.view_is
+
+pub returns-clause-accesses : goal.returns-clause-accesses
+returns-clause-accesses g c =
+    let i = c.self.inside in
+    let some : 0 < i.order.limit = omega (arith, c.if-limit-eq0.false, c.limit.ensures) in
+    let absent : is_remembered g.K.PartialEq.eq c.args.key (entries_of i.keys.entries i.order.places) ≡ false = ap (λ (z : Remembered _). is_remembered g.K.PartialEq.eq c.args.key z.entries) c.self.view_is ∙ c.requires.absent in
+    let put = insert_done g.K.PartialEq.eq c.args.hash c.args.key tt i.index.homes c.make_place-place.new.index.homes c.insert_within_capacity.new.self.homes i.order c.make_place-place.new.order i.keys c.write.new.self c.make_place-place.result c.self.invariant some c.make_place-place.ensures.made c.insert_within_capacity.result c.insert_within_capacity.ensures.put c.insert_within_capacity.ensures.few in
+    let r = remembers g.K.PartialEq.eq c.args.hash c.args.key tt i.index.homes c.make_place-place.new.index.homes c.insert_within_capacity.new.self.homes i.order c.make_place-place.new.order i.keys c.write.new.self c.make_place-place.result c.self.invariant some c.make_place-place.ensures.made
+    c.write.ensures.written put c.make_place-place.ensures.whole absent in
+    rw (← c.self.view_is) r.accesses

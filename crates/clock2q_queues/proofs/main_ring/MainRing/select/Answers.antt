@@ -1,7 +1,6 @@
-use Rattle.std.proofs.Common.{◌≡◌, false, refl, sym, ap, subst, ◌∙◌}
-use Rattle.clock2q_queues.specs.Links.{inspected, with_bit}
+use Rattle.std.proofs.Common.{◌≡◌, sym, ap, subst, ◌∙◌}
 use Rattle.clock2q_queues.specs.MainRing.{IsMainRing}
-use Rattle.clock2q_queues.proofs.Hand.{Swept, Swept-start, Swept-step, Selects-at, fewer_left, hand_fits, hand_fits_still, with_hand}
+use Rattle.clock2q_queues.proofs.Hand.{Swept, Swept-start, Swept-step, Selects-at, fewer_left, hand_in, hand_in_still, with_hand}
 use Rattle.clock2q_queues.proofs.main_ring.MainRing.select.Goals as goal
 
 pub loop-links-init : goal.loop-links-init
@@ -12,22 +11,27 @@ loop-links-init g c =
     (Swept-start c.args.links.now c.unwrap-hand.result main.len (subst (λ m. IsMainRing c.args.links.now m) (sym e) c.requires.whole))
 
 pub inspect-requires : goal.inspect-requires
-inspect-requires g c = hand_fits c.args.links.now c.args.self.now c.loop-links.links c.loop-links.hand c.loop-links.invariant (inspected (with_bit c.loop-links.hand false c.loop-links.links)) refl
+inspect-requires g c = hand_in c.args.links.now c.args.self.now c.loop-links.links c.loop-links.hand c.loop-links.invariant
 
 pub read-hand-requires : goal.read-hand-requires
-read-hand-requires g c = hand_fits_still c.args.links.now c.args.self.now c.loop-links.links c.loop-links.hand c.loop-links.invariant c.inspect.new.self c.inspect.ensures.counted
+read-hand-requires g c =
+    let i = c.inspect.ensures in
+    hand_in_still c.args.links.now c.args.self.now c.loop-links.links c.loop-links.hand c.loop-links.invariant c.inspect.new.self i.bits i.rest i.counted
 
 pub loop-links-smaller : goal.loop-links-smaller
 loop-links-smaller g c =
-    fewer_left c.args.links.now c.args.self.now c.loop-links.links c.loop-links.hand c.loop-links.invariant c.inspect.new.self c.inspect.ensures.counted
-    c.read-hand.new.self c.read-hand.result (sym c.loop-links-test.true ∙ c.inspect.ensures.value) c.read-hand.ensures.counted c.read-hand.ensures.value
+    let i = c.inspect.ensures in
+    fewer_left c.args.links.now c.args.self.now c.loop-links.links c.loop-links.hand c.loop-links.invariant c.inspect.new.self i.bits i.rest i.counted
+    c.read-hand.new.self c.read-hand.result (sym c.loop-links-test.true ∙ i.value) c.read-hand.ensures.counted c.read-hand.ensures.value
 
 pub loop-links-preserved : goal.loop-links-preserved
 loop-links-preserved g c =
-    Swept-step c.args.links.now c.args.self.now c.loop-links.links c.loop-links.hand c.loop-links.invariant c.inspect.new.self c.inspect.ensures.counted
-    c.read-hand.new.self c.read-hand.result (sym c.loop-links-test.true ∙ c.inspect.ensures.value) c.read-hand.ensures.counted c.read-hand.ensures.value
+    let i = c.inspect.ensures in
+    Swept-step c.args.links.now c.args.self.now c.loop-links.links c.loop-links.hand c.loop-links.invariant c.inspect.new.self i.bits i.rest i.counted
+    c.read-hand.new.self c.read-hand.result (sym c.loop-links-test.true ∙ i.value) c.read-hand.ensures.counted c.read-hand.ensures.value
 
 pub returns : goal.returns
 returns g c =
-    let s = Selects-at c.args.links.now c.args.self.now c.loop-links.links c.loop-links.hand c.loop-links.invariant c.inspect.new.self c.inspect.ensures.counted (sym c.loop-links-test.false ∙ c.inspect.ensures.value) in
-    record { whole = s.whole; entries = s.entries; victim = s.chosen; others = s.others; places = s.places; looks = s.looks; accesses = s.accesses }
+    let i = c.inspect.ensures in
+    let s = Selects-at c.args.links.now c.args.self.now c.loop-links.links c.loop-links.hand c.loop-links.invariant c.inspect.new.self i.bits i.rest i.counted (sym c.loop-links-test.false ∙ i.value) in
+    record { whole = s.whole; entries = s.entries; victim = s.chosen; others = s.others; window = s.window; looks = s.looks; accesses = s.accesses }

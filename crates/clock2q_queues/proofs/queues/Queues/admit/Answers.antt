@@ -1,5 +1,4 @@
-use Rattle.std.proofs.Common.{length, false, ap, ◌∙◌}
-use Rattle.clock2q_queues.specs.Queues.{QueueState}
+use Rattle.std.proofs.Common.{length, false}
 use Rattle.clock2q_queues.proofs.Sharing.{after_admission, in_small, in_main}
 use Rattle.clock2q_queues.proofs.queues.Queues.admit.Goals as goal
 
@@ -7,14 +6,9 @@ pub push-requires-clause-absent : goal.push-requires-clause-absent
 push-requires-clause-absent g c = in_small c.self.inside.links c.self.inside.small c.self.inside.main c.args.self.now c.args.slot false c.self.view_is c.requires.not_in_small
 
 pub invariant_of-self : goal.invariant_of-self
-invariant_of-self g c =
-    let i = c.self.inside in
-    (after_admission i.links i.small i.main c.self.invariant c.push.new.links c.push.new.self c.args.slot (length i.links.places)
-    (in_main c.self.inside.links c.self.inside.small c.self.inside.main c.args.self.now c.args.slot false c.self.view_is c.requires.not_in_main) c.push.ensures.whole c.push.ensures.entries c.push.ensures.others).0
+invariant_of-self g c = (after_admission c.self.inside.links c.self.inside.small c.self.inside.main c.self.invariant c.push.new.links c.push.new.self c.args.slot (length c.self.inside.links.window.items)
+    (in_main c.self.inside.links c.self.inside.small c.self.inside.main c.args.self.now c.args.slot false c.self.view_is c.requires.not_in_main) c.push.ensures.whole c.push.ensures.entries c.push.ensures.others c.push.ensures.window c.push.ensures.looks).queues
 
-pub returns-clause-main : goal.returns-clause-main
-returns-clause-main g c =
-    let i = c.self.inside in
-    (after_admission i.links i.small i.main c.self.invariant c.push.new.links c.push.new.self c.args.slot (length i.links.places)
-    (in_main c.self.inside.links c.self.inside.small c.self.inside.main c.args.self.now c.args.slot false c.self.view_is c.requires.not_in_main) c.push.ensures.whole c.push.ensures.entries c.push.ensures.others).1
-    ∙ ap (λ (q : QueueState). q.main) c.self.view_is
+pub returns-clause-queues : goal.returns-clause-queues
+returns-clause-queues g c = rw (← c.self.view_is) (after_admission c.self.inside.links c.self.inside.small c.self.inside.main c.self.invariant c.push.new.links c.push.new.self c.args.slot (length c.self.inside.links.window.items)
+    (in_main c.self.inside.links c.self.inside.small c.self.inside.main c.args.self.now c.args.slot false c.self.view_is c.requires.not_in_main) c.push.ensures.whole c.push.ensures.entries c.push.ensures.others c.push.ensures.window c.push.ensures.looks).is

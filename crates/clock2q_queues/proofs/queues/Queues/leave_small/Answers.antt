@@ -1,5 +1,4 @@
-use Rattle.std.proofs.Common.{true, ◌∙◌, ap}
-use Rattle.clock2q_queues.specs.Queues.{QueueState}
+use Rattle.std.proofs.Common.{true}
 use Rattle.clock2q_queues.proofs.Sharing.{after_small_left, in_small}
 use Rattle.clock2q_queues.proofs.queues.Queues.leave_small.Goals as goal
 
@@ -7,11 +6,7 @@ pub unlink-requires-clause-present : goal.unlink-requires-clause-present
 unlink-requires-clause-present g c = in_small c.self.inside.links c.self.inside.small c.self.inside.main c.args.self.now c.args.slot true c.self.view_is c.requires.resident
 
 pub invariant_of-self : goal.invariant_of-self
-invariant_of-self g c =
-    let i = c.self.inside in
-    (after_small_left i.links i.small i.main c.self.invariant c.unlink.new.links c.unlink.new.self c.args.slot c.unlink.ensures.whole c.unlink.ensures.freed c.unlink.ensures.entries c.unlink.ensures.others).0
+invariant_of-self g c = (after_small_left c.self.inside.links c.self.inside.small c.self.inside.main c.self.invariant c.unlink.new.links c.unlink.new.self c.args.slot c.unlink.ensures.whole c.unlink.ensures.freed c.unlink.ensures.entries c.unlink.ensures.others c.unlink.ensures.window c.unlink.ensures.looks).queues
 
-pub returns-clause-main : goal.returns-clause-main
-returns-clause-main g c =
-    let i = c.self.inside in
-    (after_small_left i.links i.small i.main c.self.invariant c.unlink.new.links c.unlink.new.self c.args.slot c.unlink.ensures.whole c.unlink.ensures.freed c.unlink.ensures.entries c.unlink.ensures.others).1 ∙ ap (λ (q : QueueState). q.main) c.self.view_is
+pub returns-clause-queues : goal.returns-clause-queues
+returns-clause-queues g c = rw (← c.self.view_is) (after_small_left c.self.inside.links c.self.inside.small c.self.inside.main c.self.invariant c.unlink.new.links c.unlink.new.self c.args.slot c.unlink.ensures.whole c.unlink.ensures.freed c.unlink.ensures.entries c.unlink.ensures.others c.unlink.ensures.window c.unlink.ensures.looks).is

@@ -1,4 +1,4 @@
-use Rattle.clock2q_queues.proofs.Callers.{IsWholeQueues-from}
+use Rattle.clock2q_queues.proofs.Sharing.{IsWholeQueues-from}
 use Rattle.clock2q_queues.proofs.queues.Queues.small_len.Goals as goal
 
 pub returns-clause-whole : goal.returns-clause-whole

@@ -2,18 +2,22 @@ use Rattle.std.proofs.Common.{◌-◌, refl, sym, ap, ◌∙◌, rules}
 use Rattle.clock2q_queues.specs.declared.links.Record.{Record}
 use Rattle.clock2q_queues.specs.declared.small.Small.{Small}
 use Rattle.clock2q_queues.specs.Ends.{end_after}
-use Rattle.clock2q_queues.proofs.Leaving.{UnlinksSmall-from, neighbours_fit}
+use Rattle.clock2q_queues.specs.Links.{LinkState}
+use Rattle.clock2q_queues.specs.Small.{small_slots}
+use Rattle.clock2q_queues.proofs.Joining.{neighbours_fit}
+use Rattle.clock2q_queues.proofs.Leaving.{UnlinksSmall-from}
 use Rattle.clock2q_queues.proofs.small.Small.unlink.Goals as goal
 
 pub detach-was-requires : goal.detach-was-requires
 detach-was-requires g c =
-    let n = neighbours_fit c.args.links.now c.args.self.now c.args.slot c.requires.whole c.requires.present in
+    let l = c.args.links.now in
+    let n = neighbours_fit l.records.items (small_slots l c.args.self.now) c.args.slot c.requires.whole.queue.linked c.requires.present in
     record { slot_in = n.0; next_in = n.1; previous_in = n.2 }
 
 pub leave_place-requires : goal.leave_place-requires
 leave_place-requires g c = λ place e.
     let p = (c.requires.whole.placed c.args.slot place c.requires.present (ap (λ (r : Record). r.standing) (sym c.detach-was.ensures.value) ∙ e)).0 in
-    rw c.detach-was.ensures.detached.rest.places p
+    rw (ap (λ (l : LinkState). l.window) c.detach-was.ensures.rest) p
 
 pub returns : goal.returns
 returns g c =
@@ -22,7 +26,7 @@ returns g c =
     let small' : Small = record { newest = c.end_after-self.result; oldest = c.end_after-self-2.result; len = small.len - 1; cursor = small.cursor } in
     let was = c.detach-was.ensures.value in
     let u = UnlinksSmall-from c.args.slot old small c.detach-was.new.self c.leave_place.new.links c.requires.whole c.requires.present
-    c.detach-was.ensures.detached c.detach-was.result.standing (ap (λ (r : Record). r.standing) was) c.leave_place.ensures
+    c.detach-was.ensures.detached c.detach-was.ensures.rest c.detach-was.result.standing (ap (λ (r : Record). r.standing) was) c.leave_place.ensures
     small' refl refl
     (c.end_after-self.ensures ∙ ap (λ (r : Record). end_after small.newest c.args.slot (small.len - 1) r.next) was)
     (c.end_after-self-2.ensures ∙ ap (λ (r : Record). end_after small.oldest c.args.slot (small.len - 1) r.previous) was) in

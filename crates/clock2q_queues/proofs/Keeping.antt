@@ -1,0 +1,92 @@
+-- Small and Main share the links: what changes no slot of a queue leaves it as it was.
+use Rattle.std.proofs.Common.{◌≡◌, ℕ, Bool, true, false, get_or, Option, None, List, length, map, inl, inr, sym, ap, ◌∙◌, subst}
+use Rattle.std.proofs.lemmas.Bool.{both_ways, cases_Bool}
+use Rattle.clock2q_queues.specs.Ages.{Age}
+use Rattle.clock2q_queues.specs.declared.links.Record.{Record}
+use Rattle.clock2q_queues.specs.declared.main_ring.MainRing.{MainRing}
+use Rattle.clock2q_queues.specs.declared.small.Small.{Small}
+use Rattle.clock2q_queues.specs.Rings.{has}
+use Rattle.clock2q_queues.specs.Links.{LinkState, IsSameBut, standing_at, bit_at}
+use Rattle.clock2q_queues.specs.MainRing.{IsMain, IsMainRing, main_slots, main_entries}
+use Rattle.clock2q_queues.specs.Small.{IsSmall, IsSmallQueue, IsInSmall, small_slots, small_entries, age_of, age_at}
+use Rattle.clock2q_queues.proofs.Joining.{IsLinked-kept, map-agree}
+use Rattle.clock2q_queues.proofs.Main.{main_slots-is, IsMainRing-from}
+use Rattle.clock2q_queues.proofs.Window.{small_slots-is, IsSmallQueue-from}
+
+-- Main, where none of its slots changed
+pub record KeepsMain (old : LinkState) (main : MainRing) (new : LinkState) : Type 0 where
+  pub whole : IsMainRing new main
+  pub slots : main_slots new main ≡ main_slots old main
+  pub entries : main_entries new main ≡ main_entries old main
+
+pub KeepsMain-from : (old : LinkState) (main : MainRing) (new : LinkState) (ss : List ℕ) → IsMainRing old main → IsSameBut ss old new
+    → ((t : ℕ) → has t (main_slots old main) ≡ true → has t ss ≡ false) → KeepsMain old main new
+KeepsMain-from old main new ss m s d =
+    let same = (λ (t : ℕ) (h : has t (main_slots old main) ≡ true). s.others t (d t h)) in
+    let is : IsMain new main (main_slots old main) = record {
+      queue = record {
+        linked = IsLinked-kept old.records.items new.records.items (main_slots old main) m.queue.linked s.as_many (λ t h. ap (λ z. z.0) (same t h));
+        starts = m.queue.starts;
+        counted = m.queue.counted;
+        countable = rw s.as_many m.queue.countable;
+      };
+      standing = λ t h. ap (λ z. z.0.standing) (same t h) ∙ m.standing t h;
+    } in
+    let e = main_slots-is new main (main_slots old main) is in
+    record {
+      whole = IsMainRing-from new main (main_slots old main) is;
+      slots = e;
+      entries = ap (λ z. map {B = ℕ × Bool} (λ s. (s, bit_at new s)) z) e ∙ map-agree {X = ℕ × Bool} (λ s. (s, bit_at new s)) (λ s. (s, bit_at old s)) (main_slots old main) (λ t h. ap (λ z. (t, z.1)) (same t h));
+    }
+
+-- Small, where none of its slots changed, nor a place
+pub record KeepsSmall (old : LinkState) (small : Small) (new : LinkState) : Type 0 where
+  pub whole : IsSmallQueue new small
+  pub slots : small_slots new small ≡ small_slots old small
+  pub entries : small_entries new small ≡ small_entries old small
+
+pub KeepsSmall-from : (old : LinkState) (small : Small) (new : LinkState) (ss : List ℕ) → IsSmallQueue old small → IsSameBut ss old new → new.window.items ≡ old.window.items
+    → ((t : ℕ) → has t (small_slots old small) ≡ true → has t ss ≡ false) → KeepsSmall old small new
+KeepsSmall-from old small new ss m s p d =
+    let same = (λ (t : ℕ) (h : has t (small_slots old small) ≡ true). s.others t (d t h)) in
+    let window : length new.window.items ≡ length old.window.items = ap (λ (z : List (Option ℕ)). length z) p in
+    let is : IsSmall new small (small_slots old small) = record {
+      queue = record {
+        linked = IsLinked-kept old.records.items new.records.items (small_slots old small) m.queue.linked s.as_many (λ t h. ap (λ z. z.0) (same t h));
+        starts = m.queue.starts;
+        counted = m.queue.counted;
+        countable = rw s.as_many m.queue.countable;
+      };
+      ends = m.ends;
+      standing = λ t h. subst (λ (z : Record × Bool). IsInSmall z.0.standing) (sym (same t h)) (m.standing t h);
+      placed = λ t place h y.
+          let q = m.placed t place h (sym (ap (λ z. z.0.standing) (same t h)) ∙ y) in
+          (rw window q.0, ap (λ z. get_or z place None) p ∙ q.1);
+      occupied = λ place t h.
+          let q = m.occupied place t (sym (ap (λ z. get_or z place None) p) ∙ h) in
+          (q.0, ap (λ z. z.0.standing) (same t q.0) ∙ q.1);
+      cursor_in = λ h. rw window (m.cursor_in (rw window at h));
+      countable_places = rw window m.countable_places;
+    } in
+    let e = small_slots-is new small (small_slots old small) is in
+    record {
+      whole = IsSmallQueue-from new small (small_slots old small) is;
+      slots = e;
+      entries = ap (λ z. map {B = ℕ × Age} (λ s. (s, age_at new small.cursor s)) z) e
+          ∙ map-agree {X = ℕ × Age} (λ s. (s, age_at new small.cursor s)) (λ s. (s, age_at old small.cursor s)) (small_slots old small) (λ t h.
+          ap (λ (z : Record × Bool). (t, age_of (length new.window.items) small.cursor z.0.standing z.1)) (same t h)
+          ∙ ap (λ n. (t, age_of n small.cursor (standing_at old.records.items t) (bit_at old t))) window);
+    }
+
+-- no slot stands in both
+pub small_apart : (l : LinkState) (small : Small) (main : MainRing) → IsSmallQueue l small → IsMainRing l main → (t : ℕ) → has t (small_slots l small) ≡ true → has t (main_slots l main) ≡ false
+small_apart l small main s m t h = elim (cases_Bool (has t (main_slots l main))) [
+  | inl g ↦ absurd (subst (λ z. IsInSmall z) (m.standing t g) (s.standing t h))
+  | inr g ↦ g
+]
+
+pub main_apart : (l : LinkState) (small : Small) (main : MainRing) → IsSmallQueue l small → IsMainRing l main → (t : ℕ) → has t (main_slots l main) ≡ true → has t (small_slots l small) ≡ false
+main_apart l small main s m t h = elim (cases_Bool (has t (small_slots l small))) [
+  | inl g ↦ absurd (both_ways (has t (main_slots l main)) (small_apart l small main s m t g) h)
+  | inr g ↦ g
+]

@@ -1,0 +1,72 @@
+-- What a slot's record tells of the queue that it stands in, and of Small's oldest slot.
+use Rattle.std.proofs.Common.{◌≡◌, ◌⊎◌, ℕ, ◌<◌, ◌≢◌, Bool, true, false, Some, None, length, inl, inr, sym, ap, ◌∙◌, subst}
+use Rattle.std.specs.List.{last_or}
+use Rattle.std.proofs.lemmas.Bool.{cases_Bool}
+use Rattle.clock2q_queues.specs.Ages.{is_promoted}
+use Rattle.clock2q_queues.specs.declared.links.Mark.{Mark}
+use Rattle.clock2q_queues.specs.declared.links.Mark.TheVariants.{Free, Young, Old, Main}
+use Rattle.clock2q_queues.specs.declared.queues.Standing.TheVariants as standing
+use Rattle.clock2q_queues.specs.declared.main_ring.MainRing.{MainRing}
+use Rattle.clock2q_queues.specs.declared.small.Small.{Small}
+use Rattle.clock2q_queues.specs.Rings.{has}
+use Rattle.clock2q_queues.specs.Links.{LinkState, standing_at}
+use Rattle.clock2q_queues.specs.MainRing.{main_slots, main_entries}
+use Rattle.clock2q_queues.specs.Small.{IsInSmall, small_slots, small_entries, age_at}
+use Rattle.clock2q_queues.specs.Queues.{AreQueues, IsStanding, queues_shown, slots_of, tail_promoted}
+use Rattle.clock2q_queues.proofs.Joining.{in_bounds}
+use Rattle.clock2q_queues.proofs.Sharing.{small_slots-of, main_slots-of}
+use Rattle.clock2q_queues.proofs.SlotLists.{tail_among, tail_entry, no_entry}
+
+Free≢Main : Free ≢ Main
+Free≢Main e = cc
+
+module _ (l : LinkState) (small : Small) (main : MainRing) (q : AreQueues l small main) (slot : ℕ) where
+  abbrev mark : Mark
+  mark = standing_at l.records.items slot
+
+  not_in_small : (IsInSmall mark → ⊥) → has slot (small_slots l small) ≡ false
+  not_in_small n = elim (cases_Bool (has slot (small_slots l small))) [ inl h ↦ absurd (n (q.small.standing slot h)) | inr h ↦ h ]
+
+  not_in_main : mark ≢ Main → has slot (main_slots l main) ≡ false
+  not_in_main n = elim (cases_Bool (has slot (main_slots l main))) [ inl h ↦ absurd (n (q.main.standing slot h)) | inr h ↦ h ]
+
+  is_in_small : mark ≢ Main → mark ≢ Free → has slot (small_slots l small) ≡ true
+  is_in_small n f = elim (cases_Bool (has slot (small_slots l small))) [ inl h ↦ h | inr h ↦ absurd (f (q.elsewhere slot h (not_in_main n))) ]
+
+  is_in_main : (IsInSmall mark → ⊥) → mark ≢ Free → has slot (main_slots l main) ≡ true
+  is_in_main n f = elim (cases_Bool (has slot (main_slots l main))) [ inl h ↦ h | inr h ↦ absurd (f (q.elsewhere slot (not_in_small n) h)) ]
+
+  of_small : {b : Bool} → has slot (small_slots l small) ≡ b → has slot (slots_of (small_entries l small)) ≡ b
+  of_small h = ap (λ z. has slot z) (small_slots-of l small) ∙ h
+
+  of_main : {b : Bool} → has slot (main_slots l main) ≡ b → has slot (slots_of (main_entries l main)) ≡ b
+  of_main h = ap (λ z. has slot z) (main_slots-of l main) ∙ h
+
+  pub stands_free : Free ≡ mark → IsStanding standing.Free slot (queues_shown l small main)
+  stands_free e = (of_small (not_in_small (λ i. subst (λ z. IsInSmall z) (sym e) i)), of_main (not_in_main (λ m. Free≢Main (e ∙ m))))
+
+  pub stands_main : Main ≡ mark → IsStanding standing.Main slot (queues_shown l small main)
+  stands_main e =
+      let n = (λ (i : IsInSmall mark). subst (λ z. IsInSmall z) (sym e) i) in
+      (of_small (not_in_small n), of_main (is_in_main n (λ f. Free≢Main (sym f ∙ sym e))))
+
+  pub stands_small : (m : Mark) → m ≡ mark → ((place : ℕ) × (m ≡ Young place)) ⊎ (m ≡ Old) → IsStanding standing.Small slot (queues_shown l small main)
+  stands_small m e o =
+      let n : mark ≢ Main = λ h. elim o [ inl y ↦ let p = y.1 in cc | inr y ↦ cc ] in
+      let f : mark ≢ Free = λ h. elim o [ inl y ↦ let p = y.1 in cc | inr y ↦ cc ] in
+      (of_small (is_in_small n f), of_main (not_in_main n))
+
+-- Small's oldest slot
+
+module _ (l : LinkState) (small : Small) (main : MainRing) (q : AreQueues l small main) (tail : ℕ) (is : last_or None (small_slots l small) ≡ Some tail) where
+  pub tail_in : tail < length l.records.items
+  tail_in = in_bounds l.records.items (small_slots l small) tail q.small.queue.linked (tail_among (small_slots l small) tail is)
+
+  pub tail_standing : IsInSmall (standing_at l.records.items tail)
+  tail_standing = q.small.standing tail (tail_among (small_slots l small) tail is)
+
+  pub tail_promoted-some : tail_promoted (last_or None (small_entries l small)) ≡ is_promoted (age_at l small.cursor tail)
+  tail_promoted-some = ap tail_promoted (tail_entry (λ s. age_at l small.cursor s) (small_slots l small) tail is)
+
+pub tail_promoted-none : (l : LinkState) (small : Small) → last_or None (small_slots l small) ≡ None → tail_promoted (last_or None (small_entries l small)) ≡ false
+tail_promoted-none l small e = ap tail_promoted (no_entry (λ s. age_at l small.cursor s) (small_slots l small) e)

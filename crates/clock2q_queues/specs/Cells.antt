@@ -1,0 +1,46 @@
+-- Vectors whose reads and writes are counted.
+use Rattle.std.specs.Prelude.{ℕ, ◌+◌, ◌≤◌, List, Bool, false, slice_index_or, slice_set}
+use Rattle.std.specs.Coded.{Coded, code_by, coded×, coded_ℕ, coded_list}
+use mathlib.Core.Path.{refl}
+
+-- items by number, and how often one was read or written
+pub record Counted (T : Type 0) : Type 0 where
+  pub items : List T
+  pub accesses : ℕ
+
+abbrev pub counted : {T : Type 0} → List T → ℕ → Counted T
+counted items accesses = record { items = items; accesses = accesses }
+
+abbrev pub counted_code : {T : Type 0} → Coded T → Coded (Counted T)
+counted_code {T} t = code_by (List T × ℕ) (coded× (coded_list t) coded_ℕ) (λ c. (c.items, c.accesses)) (λ q. counted q.0 q.1) (λ _. refl)
+
+-- one was read
+abbrev pub accessed : {T : Type 0} → Counted T → Counted T
+accessed c = counted c.items (c.accesses + 1)
+
+-- one was written
+abbrev pub written : {T : Type 0} → ℕ → T → Counted T → Counted T
+written at item c = counted (slice_set c.items at item) (c.accesses + 1)
+
+-- a hit bit for each slot, and how often the hand looked at one
+pub record HitBits : Type 0 where
+  pub items : List Bool
+  pub inspections : ℕ
+
+abbrev pub hit_bits : List Bool → ℕ → HitBits
+hit_bits items inspections = record { items = items; inspections = inspections }
+
+-- the bit of a slot
+abbrev pub bit_in : List Bool → ℕ → Bool
+bit_in bits slot = slice_index_or bits slot false
+
+-- the hand looked at one
+abbrev pub inspected : HitBits → HitBits
+inspected b = hit_bits b.items (b.inspections + 1)
+
+abbrev pub with_bit : ℕ → Bool → HitBits → HitBits
+with_bit slot bit b = hit_bits (slice_set b.items slot bit) b.inspections
+
+-- a count went up, by so many at least and so many at most
+abbrev pub Rises : (least most old new : ℕ) → Type 0
+Rises least most old new = (old + least ≤ new) × (new ≤ old + most)

@@ -1,0 +1,138 @@
+//! The vectors that the links stand on. Nothing reaches what they hold but these accessors, and
+//! each read or write of a cell, and each look of the hand at a bit, raises its count.
+ghost use Rattle.std.specs.Prelude.{◌≡◌, ◌+◌, ◌<◌, ◌&&◌, false, length, replicate, slice_index_or};
+ghost use Rattle.clock2q_queues.specs.Cells.{counted, accessed, written};
+
+use crate::links::{Mark, Record};
+use clock2q_count::Count;
+use std::alloc::{Allocator, Global};
+use std::marker::Model;
+
+/// Items by number, with the number of times that one was read or written.
+#[derive(Drop)]
+pub struct Cells<T: Copy, A: Allocator = Global> {
+    items: Vec<T, A>,
+    accesses: Count,
+}
+
+impl<T: Copy, A: Allocator> Model for Cells<T, A> {
+    ghost use Rattle.clock2q_queues.specs.Cells.{Counted, counted, counted_code};
+
+    ghost Value = { Counted T };
+
+    ghost coded = { counted_code T.code };
+
+    ghost view = { λ c. counted c.items.items c.accesses.total };
+}
+
+impl<T: Copy, A: Allocator> Cells<T, A> {
+    /// Cells that hold these items, none of which was read or written yet.
+    pub fn new(items: Vec<T, A>) -> Self
+        ensures { result ≡ counted items.items 0 }
+    {
+        Cells {
+            items,
+            accesses: Count::new(),
+        }
+    }
+
+    /// Returns how many cells there are.
+    pub fn len(&self) -> usize
+        ensures { result ≡ length self.now.items }
+    {
+        self.items.len()
+    }
+
+    /// Returns the item of a cell.
+    pub fn read(&mut self, at: u32) -> T
+        requires { at < length self.old.items }
+        ensures value { (d : T) → result ≡ slice_index_or self.old.items at d }
+        ensures counted { self.new ≡ accessed self.old }
+    {
+        self.accesses.tick();
+        self.items[at as usize]
+    }
+
+    /// Writes the item of a cell.
+    pub fn write(&mut self, at: u32, item: T)
+        requires { at < length self.old.items }
+        ensures { self.new ≡ written at item self.old }
+    {
+        self.accesses.tick();
+        self.items[at as usize] = item;
+    }
+
+    /// Writes the same item to every cell.
+    pub fn fill(&mut self, item: T)
+        ensures items { self.new.items ≡ replicate (length self.old.items) item }
+        ensures accesses { self.new.accesses ≡ self.old.accesses + length self.old.items }
+    {
+        for at in 0..self.items.len() {
+            self.accesses.tick();
+            self.items[at] = item;
+        }
+    }
+}
+
+/// The hit bits by slot, with the number of times that the hand looked at one.
+#[derive(Drop)]
+pub struct Bits<A: Allocator = Global> {
+    bits: Vec<bool, A>,
+    inspections: Count,
+}
+
+impl<A: Allocator> Model for Bits<A> {
+    ghost use Rattle.clock2q_queues.specs.Cells.{HitBits, hit_bits};
+
+    ghost Value = { HitBits };
+
+    ghost view = { λ b. hit_bits b.bits.items b.inspections.total };
+}
+
+impl<A: Allocator> Bits<A> {
+    ghost use Rattle.clock2q_queues.specs.Cells.{hit_bits, bit_in, inspected, with_bit};
+    ghost use Rattle.clock2q_queues.specs.Links.{vacant, is_old};
+
+    /// Bits at which the hand did not look yet.
+    pub fn new(bits: Vec<bool, A>) -> Self
+        ensures { result ≡ hit_bits bits.items 0 }
+    {
+        Bits {
+            bits,
+            inspections: Count::new(),
+        }
+    }
+
+    /// Sets or clears the bit of a slot.
+    pub fn set(&mut self, slot: u32, bit: bool)
+        requires { slot < length self.old.items }
+        ensures { self.new ≡ with_bit slot bit self.old }
+    {
+        self.bits[slot as usize] = bit;
+    }
+
+    /// The hand's look at a slot: returns whether its bit was set, and clears it.
+    pub fn inspect(&mut self, slot: u32) -> bool
+        requires { slot < length self.old.items }
+        ensures value { result ≡ bit_in self.old.items slot }
+        ensures counted { self.new ≡ inspected (with_bit slot false self.old) }
+    {
+        self.inspections.tick();
+        let was_set = self.bits[slot as usize];
+        self.bits[slot as usize] = false;
+        was_set
+    }
+
+    /// Reads a slot's record, and returns whether the slot is old and its bit set.
+    pub fn is_old_hit<B: Allocator>(&self, records: &mut Cells<Record, B>, slot: u32) -> bool
+        requires slot_in { slot < length records.old.items }
+        requires bit_in { slot < length self.now.items }
+        ensures value { result ≡ (is_old (slice_index_or records.old.items slot vacant).standing && bit_in self.now.items slot) }
+        ensures counted { records.new ≡ accessed records.old }
+    {
+        match records.read(slot).standing {
+            Mark::Old => self.bits[slot as usize],
+            _ => false,
+        }
+    }
+}
