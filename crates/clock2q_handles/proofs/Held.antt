@@ -1,13 +1,13 @@
 -- What is held goes on to be held: through growths and insertions, and as what a lookup yields.
-use Rattle.std.proofs.Common.{◌≡◌, ℕ, zero, suc, ◌+◌, ◌-◌, ◌%◌, ◌<◌, ◌≤◌, ◌⊎◌, inl, inr, ◌==◌, refl, ap, sym, ◌∙◌, subst, arith, max, Bool, true, false, cond, List, [], ◌∷◌, ◌++◌, length, get_or, map, Option, Some, None, slice_get, mod-eq_of_lt}
+use Rattle.std.proofs.Common.{◌≡◌, ℕ, zero, suc, ◌+◌, ◌-◌, ◌%◌, ◌<◌, ◌≤◌, ◌⊎◌, inl, inr, ◌==◌, refl, ap, sym, ◌∙◌, subst, arith, Bool, true, false, cond, List, [], ◌∷◌, ◌++◌, length, get_or, map, Option, Some, None, slice_get, mod-eq_of_lt}
 use lib.Dec.{T, eqb→eq}
 use Rattle.std.specs.List.{filter}
 use Rattle.std.proofs.lemmas.Bool.{cases_lt, cases_eq, eq-eqb}
 use Rattle.std.proofs.lemmas.Option.{slice_get_within}
 use Rattle.std.proofs.Math.ListN.{get_or-replicate}
 use Rattle.std.proofs.lemmas.List.{length-replicate}
-use Rattle.clock2q_handles.specs.Homes.{top, capacity, home, listed, total, candidates, no_entries, put_last, inserted}
-use Rattle.clock2q_handles.specs.Layout.{Placed, placed, slot_at, layout, entries, spill_of}
+use Rattle.clock2q_handles.specs.Homes.{top, capacity, listed, total, candidates, no_entries, put_last}
+use Rattle.clock2q_handles.specs.Layout.{Placed, placed, layout, entries, spill_of}
 use Rattle.clock2q_handles.specs.TableStep.{put_all, rebuilt, grown, doubled, IsHashOf}
 use Rattle.clock2q_handles.specs.Rehash.{IsHeld}
 use Rattle.clock2q_handles.proofs.Walk.{slice_get-append}
@@ -59,10 +59,14 @@ module _ {H : Type 0} where
 
     -- an entry stays when one is put in
     pub entry_kept : IsEntry homes f → IsEntry (put_last homes x e) f
-    entry_kept at = (at.0, at.1, elim (cases_eq (at.0 % length homes) (x % length homes)) [
-      | inl same ↦ ap (λ es. slice_get es at.1) (put_same at.0 same) ∙ slice_get-left (listed homes at.0) (e ∷ []) at.1 f at.2
-      | inr other ↦ ap (λ es. slice_get es at.1) (listed-with_other homes x at.0 (listed homes x ++ e ∷ []) other) ∙ at.2
-    ])
+    entry_kept at = (
+      at.0,
+      at.1,
+      elim (cases_eq (at.0 % length homes) (x % length homes)) [
+        | inl same ↦ ap (λ es. slice_get es at.1) (put_same at.0 same) ∙ slice_get-left (listed homes at.0) (e ∷ []) at.1 f at.2
+        | inr other ↦ ap (λ es. slice_get es at.1) (listed-with_other homes x at.0 (listed homes x ++ e ∷ []) other) ∙ at.2
+      ],
+    )
 
     -- the new one is there
     pub entry_new : IsEntry (put_last homes x e) e

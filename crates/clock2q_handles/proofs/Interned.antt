@@ -1,18 +1,18 @@
 -- Keys in a list, whose places a table holds: each under its key, once.
-use Rattle.std.proofs.Common.{◌≡◌, ◌≢◌, ℕ, suc, ◌+◌, ◌<◌, ◌≤◌, ◌==◌, inl, inr, refl, ap, sym, ◌∙◌, subst, arith, Bool, true, false, eqb, List, [], ◌∷◌, ◌++◌, length, length-append, get_or, Option, Some, None, Result, Ok, Err, slice_get, MatchResult}
+use Rattle.std.proofs.Common.{◌≡◌, ◌≢◌, ℕ, suc, ◌<◌, inl, inr, refl, ap, sym, ◌∙◌, subst, arith, Bool, true, false, eqb, List, [], ◌∷◌, ◌++◌, length, length-append, get_or, Option, Some, None, Result, Ok, Err, slice_get}
 use Rattle.std.specs.Prelude.{◌↔◌}
 use Rattle.std.proofs.lemmas.Bool.{cases_lt, eqb-true, eqb-false}
 use Rattle.std.proofs.lemmas.List.{get_or_append_left}
 use Rattle.std.proofs.Math.Seq.{get_or-append_seam}
 use Rattle.clock2q_handles.specs.declared.error.TableError.{TableError}
 use Rattle.clock2q_handles.specs.declared.error.TableError.TheVariants.{Memory, Size, RunTooLong}
-use Rattle.clock2q_handles.specs.Homes.{top, capacity, total, home, candidates, inserted}
+use Rattle.clock2q_handles.specs.Homes.{top, home, candidates, inserted}
 use Rattle.clock2q_handles.specs.TableStep.{IsHashOf, grown}
 use Rattle.clock2q_handles.specs.Rehash.{IsHeld}
 use Rattle.clock2q_handles.specs.Offers.{Settles}
 use Rattle.clock2q_handles.proofs.Hashes.{hashes-put_last}
 use Rattle.clock2q_handles.proofs.Keyed.{keyed_grown}
-use Rattle.clock2q_handles.proofs.Held.{IsEntry, entry_held, held_entry, entry_kept, entry_new, entry_from, grown_kept, grown_from, candidate_held, held_candidate}
+use Rattle.clock2q_handles.proofs.Held.{entry_held, held_entry, entry_kept, entry_new, entry_from, grown_kept, grown_from, candidate_held, held_candidate}
 use Rattle.clock2q_handles.proofs.Offering.{IsFound}
 
 abbrev pub key_at : List ℕ → ℕ → ℕ

@@ -1,8 +1,8 @@
 -- Closures that may be offered the candidates of a hash, and what one that has no state of its own finds among them.
-use Rattle.std.proofs.Common.{◌≡◌, ℕ, zero, suc, ◌≤◌, ◌⊎◌, inl, inr, refl, sym, ap, ◌∙◌, subst, Bool, true, false, List, [], ◌∷◌, length, slice_get, Option, Some, None}
+use Rattle.std.proofs.Common.{◌≡◌, ℕ, zero, suc, refl, sym, subst, Bool, true, false, List, [], ◌∷◌, slice_get, Option, Some, None}
 use Rattle.std.specs.Fn.{Called, Takes, Mut}
 use denote.Param.Always.{always_mut, mut_next}
-use Rattle.clock2q_handles.specs.Homes.{capacity, total, candidates}
+use Rattle.clock2q_handles.specs.Homes.{candidates}
 use Rattle.clock2q_handles.specs.Offers.{Offers, TakesInTurn, MayBeOffered}
 use Rattle.clock2q_handles.specs.Rehash.{IsHeld, AfterGrowth}
 use Rattle.clock2q_handles.proofs.Held.{candidate_held, grown_from}

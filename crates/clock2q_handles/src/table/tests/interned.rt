@@ -49,9 +49,9 @@ impl Interned {
         }
         let keys = &self.keys;
         let next = keys.len();
-        let (number, is_new) =
-            self.table
-                .find_or_insert(key, |at| keys[at] == key, next, |at| keys[at])?;
+        let (number, is_new) = self
+            .table
+            .find_or_insert(key, |at| keys[at] == key, next, |at| keys[at])?;
         if is_new {
             self.keys.push_reserved(key);
         }

@@ -1,4 +1,4 @@
-use Rattle.std.proofs.Common.{◌≡◌, sym, subst, inl, inr, length}
+use Rattle.std.proofs.Common.{sym, subst, inl, inr, length}
 use Rattle.std.proofs.lemmas.Bool.{cases_eq}
 use Rattle.clock2q_handles.specs.Homes.{total, capacity, candidates}
 use Rattle.clock2q_handles.specs.Offers.{MayBeOffered, FindsOrPuts}
@@ -16,8 +16,11 @@ find_or_put-requires-clause-callable g c =
     ]
 
 pub returns-clause-settles : goal.returns-clause-settles
-returns-clause-settles g c _ = (_, λ key gives.
-    subst (λ hs. FindsOrPuts g.M.FnMut c.args.matches hs c.args.hash c.args.handle c.find_or_put.result c.find_or_put.new.self.homes c.find_or_put.new.matches) (c.in_ok-make_room.ensures.grown key gives) c.find_or_put.ensures.settles)
+returns-clause-settles g c _ = (
+  _,
+  λ key gives.
+      subst (λ hs. FindsOrPuts g.M.FnMut c.args.matches hs c.args.hash c.args.handle c.find_or_put.result c.find_or_put.new.self.homes c.find_or_put.new.matches) (c.in_ok-make_room.ensures.grown key gives) c.find_or_put.ensures.settles,
+)
 
 pub returns-clause-asks : goal.returns-clause-asks
 returns-clause-asks g c _ full = (_, c.in_ok-make_room.ensures.asks full)

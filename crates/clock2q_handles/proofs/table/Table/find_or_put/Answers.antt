@@ -1,4 +1,4 @@
-use Rattle.std.proofs.Common.{◌≡◌, ◌<◌, length, Option, Some, None, refl, sym, ap, ◌∙◌, subst, arith}
+use Rattle.std.proofs.Common.{◌≡◌, ◌<◌, length, Some, None, refl, sym, ap, ◌∙◌, subst, arith}
 use Rattle.clock2q_handles.specs.Homes.{total, capacity, candidates}
 use Rattle.clock2q_handles.specs.Layout.{homes_of}
 use Rattle.clock2q_handles.specs.Changes.{IsLaidOut}
