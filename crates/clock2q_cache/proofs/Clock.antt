@@ -15,7 +15,7 @@ use Rattle.clock2q_cache.proofs.Residents.{slot_in_small, slot_in_main, slot_amo
 use Rattle.clock2q_cache.proofs.Whole.{one_if, map_none}
 
 module _ {K : Type 0} where
-  abbrev bits : List (MainEntry K) → ℕ
+  abbrev pub bits : List (MainEntry K) → ℕ
   bits es = count_by (λ e. e.bit) es
 
   bits-cons : (e : MainEntry K) (es : List (MainEntry K)) → bits (e ∷ es) ≡ one_if e.bit + bits es
@@ -26,7 +26,7 @@ module _ {K : Type 0} where
   bits-cleared (e ∷ es) = omega (arith, bits-cons (with_bit e false) (map (λ x. with_bit x false) es), bits-cleared es)
 
   -- the hand passes set bits alone
-  bits-passed : (es : List (MainEntry K)) → bits (take (passed es) es) ≡ passed es
+  pub bits-passed : (es : List (MainEntry K)) → bits (take (passed es) es) ≡ passed es
   bits-passed [] = refl
   bits-passed (e ∷ es) =
       (elim e.bit as (λ b. e.bit ≡ b → bits (take (cond b (1 + passed es) 0) (e ∷ es)) ≡ cond b (1 + passed es) 0) [

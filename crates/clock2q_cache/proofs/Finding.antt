@@ -29,7 +29,7 @@ use Rattle.clock2q_cache.specs.Cache.{IsWhole, known_count}
 use Rattle.clock2q_cache.specs.CacheFields.{machine_of, places_of, with_keys_small, with_keys_main, IsStored, IsSized, IsKept}
 use Rattle.clock2q_cache.proofs.WithKeys.{HaveKeys, have_later, small_with, main_with, small-cons, main-cons, small-hit, main-hit}
 use Rattle.clock2q_cache.proofs.Stored.{entry_there, length-values}
-use Rattle.clock2q_cache.proofs.Standing.{length-places}
+use Rattle.clock2q_cache.proofs.Slots.{length-places}
 use Rattle.clock2q_cache.proofs.Kept.{small_have, main_have, sized-same}
 use Rattle.clock2q_cache.proofs.Whole.{whole-hit}
 

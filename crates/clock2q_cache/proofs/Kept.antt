@@ -22,7 +22,7 @@ use Rattle.clock2q_cache.specs.Cache.{IsWhole, known_count}
 use Rattle.clock2q_cache.specs.CacheFields.{machine_of, places_of, with_keys_small, with_keys_main, IsStored, IsSized, IsKept}
 use Rattle.clock2q_cache.proofs.WithKeys.{HaveKeys, small-admitted, main-behind, small-agree, main-agree, length-small, length-main}
 use Rattle.clock2q_cache.proofs.Stored.{stored-entered, stored-renewed, stored-same, key_at-own, key_at-others, values-written, length-values}
-use Rattle.clock2q_cache.proofs.Standing.{IsVacant, vacant, vacancy-taken, vacancy-there, places_apart, small_keys, main_keys, length-places, has-appended, has-from_victim, length-swept}
+use Rattle.clock2q_cache.proofs.Slots.{IsVacant, vacant, vacancy-taken, vacancy-there, places_apart, small_keys, main_keys, length-places, has-appended, has-from_victim, length-swept}
 use Rattle.clock2q_cache.proofs.Whole.{IsPlaced, whole-stored, placed-admitted, placed-joining}
 
 or_turned : (a b c : Bool) → (a || (b || (c || false))) ≡ (c || (a || b))

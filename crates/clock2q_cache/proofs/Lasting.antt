@@ -2,11 +2,10 @@
 use Rattle.std.proofs.Common.{◌≡◌, ℕ, zero, suc, ◌+◌, ◌-◌, ◌<◌, ◌≤◌, ◌==◌, Bool, true, false, not, ◌||◌, ◌&&◌, cond, List, [], ◌∷◌, ◌++◌, map, length, inl, inr, Option, Some, None, refl, sym, ap, ◌∙◌, subst, arith, eq-eqb, ne_eqb, eqb-true, length-append}
 use Rattle.std.specs.Prelude.{⊤, if◌then◌else◌, nat_lt, nat_le, is_some, slice_set}
 use Rattle.std.specs.Cmp.{IsEquivalence}
-use Rattle.std.specs.Option.{option_map, option_or}
 use Rattle.std.specs.List.{count_by, filter, filter_map, cons_option, find, list_any, range_with_len}
 use Rattle.std.proofs.lemmas.Bool.{cases_lt, lt-ltb, le-ltb}
 use Rattle.std.proofs.lemmas.List.FromFn.{length-range_with_len}
-use Rattle.std.proofs.lemmas.List.Sums.{sum_by-cons, sum_by-append}
+use Rattle.std.proofs.lemmas.List.Sums.{sum_by-cons, sum_by-append, sum_by-le-sum_by}
 use Rattle.std.proofs.Math.ListN.{length-set}
 use Rattle.clock2q_cache.specs.Shares.{Shares}
 use Rattle.clock2q_cache.specs.Entries.{SmallEntry, MainEntry}
@@ -15,7 +14,8 @@ use Rattle.clock2q_cache.specs.Machine.{Machine, Placement, empty, hit, forgotte
 use Rattle.clock2q_cache.specs.Steps.{refused_slots, is_at, supplied, replaced_at, retained, after, after_all}
 use Rattle.clock2q_cache.specs.Cache.{IsWhole, known_count, standings}
 use Rattle.clock2q_cache.proofs.Weights.{sum_by-filter-le}
-use Rattle.clock2q_cache.proofs.Residents.{slot_in_small, slot_in_main, slot_among, found_slot}
+use Rattle.clock2q_cache.proofs.Residents.{found_slot}
+use Rattle.clock2q_cache.proofs.Standing.{fewer_second, found_counted}
 use Rattle.clock2q_cache.proofs.Whole.{one_if, some_is, IsPlaced, whole-hit, whole-forgotten, whole-stored, placed-main, placed-small, unknown_once_forgotten, small_made, main_made}
 
 -- the slots of a range, each once
@@ -156,20 +156,20 @@ module _ {K V : Type 0} where
         unknown_small true a b e = cc
         unknown_small false a b e = e
 
-      placed-key : IsPlaced key rest (placement (eq key) key m)
+      pub placed-key : IsPlaced key rest (placement (eq key) key m)
       placed-key = placed (goes_to_main (list_any (eq key) m.history) m) refl
 
-      lasting-inserted : (value : V) → IsWhole eq (inserted (eq key) key value m)
+      pub lasting-inserted : (value : V) → IsWhole eq (inserted (eq key) key value m)
       lasting-inserted value = whole-stored eq rest (whole-forgotten eq m h (eq key)) laws key (unknown_once_forgotten (eq key) m absent) (placement (eq key) key m) placed-key value
 
-      lasting-reused : (fresh : V) → IsWhole eq (reused (eq key) key fresh m)
+      pub lasting-reused : (fresh : V) → IsWhole eq (reused (eq key) key fresh m)
       lasting-reused fresh = whole-reused eq rest (whole-forgotten eq m h (eq key)) laws key (unknown_once_forgotten (eq key) m absent) (placement (eq key) key m) placed-key fresh
 
-    lasting-hit : (is : K → Bool) (m : Machine K V) → IsWhole eq m → IsWhole eq (hit is m)
+    pub lasting-hit : (is : K → Bool) (m : Machine K V) → IsWhole eq m → IsWhole eq (hit is m)
     lasting-hit is m h = whole-hit eq m h is
 
     -- the slot of a resident was made
-    resident_made : (is : K → Bool) (m : Machine K V) → IsWhole eq m → (slot : ℕ) → slot_of is m ≡ Some slot → slot < length m.values
+    pub resident_made : (is : K → Bool) (m : Machine K V) → IsWhole eq m → (slot : ℕ) → slot_of is m ≡ Some slot → slot < length m.values
     resident_made is m h slot found = found_slot is m.small m.main (λ s. s < length m.values) (Some slot) (small_made eq m h) (main_made eq m h) (sym found)
 
     lasting-replaced : (is : K → Bool) (value : V) (o : Option ℕ) (m : Machine K V) → slot_of is m ≡ o → IsWhole eq m → IsWhole eq (replaced_at is value o m)
@@ -190,18 +190,8 @@ module _ {K V : Type 0} where
 
     -- a key that is found is held
     found_held : (is : K → Bool) (m : Machine K V) (slot : ℕ) → slot_of is m ≡ Some slot → 0 < held slot m
-    found_held is m slot found = by_queue (slot_in_small is m.small) refl (sym (slot_among is m.small m.main) ∙ found) where
-      in_queue : {X : Type 0} (test : X → Bool) (at : X → ℕ) (xs : List X) → option_map at (find test xs) ≡ Some slot → 0 < count_by (λ x. at x == slot) xs
-      in_queue test at [] e = cc
-      in_queue test at (x ∷ xs) e =
-          (elim (test x) as (λ b. option_map at (cond b (Some x) (find test xs)) ≡ Some slot → 0 < count_by (λ y. at y == slot) (x ∷ xs)) [
-            | true ↦ λ is. omega (arith, sum_by-cons (λ y. one_if (at y == slot)) x xs, ap one_if (eq-eqb (at x) slot (some_is (at x) slot is)))
-            | false ↦ λ later. omega (arith, sum_by-cons (λ y. one_if (at y == slot)) x xs, in_queue test at xs later)
-          ]) e
-
-      by_queue : (o : Option ℕ) → slot_in_small is m.small ≡ o → option_or o (slot_in_main is m.main) ≡ Some slot → 0 < held slot m
-      by_queue None small main = omega (arith, in_queue (λ e. is e.key) (λ e. e.slot) m.main main)
-      by_queue (Some s) small main = omega (arith, in_queue (λ e. is e.key) (λ e. e.slot) m.small (small ∙ main))
+    found_held is m slot found =
+        omega (arith, found_counted is m slot found, sum_by-le-sum_by (λ (e : SmallEntry K). one_if (is e.key && e.slot == slot)) (λ e. one_if (e.slot == slot)) m.small (λ e. fewer_second (is e.key) (e.slot == slot)), sum_by-le-sum_by (λ (e : MainEntry K). one_if (is e.key && e.slot == slot)) (λ e. one_if (e.slot == slot)) m.main (λ e. fewer_second (is e.key) (e.slot == slot)))
 
     lasting-removed : (is : K → Bool) (o : Option ℕ) (m : Machine K V) → slot_of is m ≡ o → IsWhole eq m → IsWhole eq (removed_at is o m)
     lasting-removed is None m found h = whole-forgotten eq m h is

@@ -25,7 +25,7 @@ use Rattle.clock2q_cache.specs.Cache.{IsWhole, known_count}
 use Rattle.clock2q_cache.specs.CacheFields.{machine_of, places_of, with_keys_small, with_keys_main, IsStored, IsSized, IsKept}
 use Rattle.clock2q_cache.proofs.WithKeys.{HaveKeys, small_with, main_with, main-cons, small-admitted, main-behind, small-agree, main-agree, small-take, small-last, length-small, length-main, main-from_victim}
 use Rattle.clock2q_cache.proofs.Stored.{stored-renewed, stored-same, key_at-own, key_at-others, values-written, length-values}
-use Rattle.clock2q_cache.proofs.Standing.{times, times-cons, times-none, times-some, at_most_once, length-places, has-appended, has-from_victim, length-swept}
+use Rattle.clock2q_cache.proofs.Slots.{times, times-cons, times-none, times-some, at_most_once, length-places, has-appended, has-from_victim, length-swept}
 use Rattle.clock2q_cache.proofs.Kept.{length_in_small, length_in_main, small_have, main_have, apart, index_some, IsDone, kept-placed, sized-same}
 use Rattle.clock2q_cache.proofs.Whole.{IsPlaced, placed-replacing, placed-evicting, placed-promoting}
 use Rattle.clock2q_cache.proofs.Weights.{weight-last}

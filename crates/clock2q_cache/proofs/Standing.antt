@@ -1,182 +1,155 @@
--- How often a slot stands in a cache's queues, and which slots are apart.
-use Rattle.std.proofs.Common.{◌≡◌, ℕ, zero, suc, ◌+◌, ◌-◌, ◌<◌, ◌≤◌, ◌==◌, Bool, true, false, not, ◌||◌, cond, eqb, Option, Some, None, List, [], ◌∷◌, ◌++◌, map, length, take, drop, reverse, inl, inr, refl, sym, ap, ◌∙◌, subst, arith, eqb-true, eq-eqb, ne_eqb, length-append}
-use Rattle.std.specs.Prelude.{if◌then◌else◌, nat_lt, is_some}
-use Rattle.std.specs.List.{count_by, last_or}
-use Rattle.std.proofs.lemmas.Bool.{cases_Bool, cases_lt, both_ways, lt-ltb, le-ltb}
-use Rattle.std.proofs.lemmas.List.{length-reverse}
-use Rattle.std.proofs.lemmas.List.Sums.{sum_by-cons, sum_by-append}
-use Rattle.clock2q_queues.specs.Ages.{Age}
-use Rattle.clock2q_queues.specs.declared.keys.cells.Entry.{Entry}
-use Rattle.clock2q_queues.specs.Rings.{has, AllApart, AllBelow}
-use Rattle.clock2q_queues.specs.Keys.{key_at}
-use Rattle.clock2q_queues.specs.MainRing.{passed, from_victim}
-use Rattle.clock2q_queues.specs.Queues.{QueueState, slots_of}
-use Rattle.clock2q_queues.proofs.Rings.{has-append, has_first, has_later, eqb_self}
-use Rattle.clock2q_cache.specs.Shares.{Shares}
-use Rattle.clock2q_cache.specs.Machine.{Machine, vacancy, vacant_slot}
-use Rattle.clock2q_cache.specs.Cache.{IsWhole, standings}
-use Rattle.clock2q_cache.specs.CacheFields.{machine_of, places_of, IsStored}
-use Rattle.clock2q_cache.proofs.WithKeys.{HaveKeys, small-standing, main-standing, length-small, length-main}
-use Rattle.clock2q_cache.proofs.Stored.{have_keys, length-values}
+-- At which slot a key stands, by counting: where no key is resident twice, a key's slot is found where a resident has both.
+use Rattle.std.proofs.Common.{◌≡◌, ℕ, zero, suc, ◌+◌, ◌<◌, ◌≤◌, ◌==◌, Bool, true, false, ◌&&◌, cond, List, [], ◌∷◌, ◌++◌, length, inl, inr, Option, Some, None, refl, sym, ap, ◌∙◌, arith, eq-eqb, eqb-true, ne_eqb}
+use Rattle.std.specs.Prelude.{slice_get, slice_set}
+use Rattle.std.specs.Cmp.{IsEquivalence}
+use Rattle.std.specs.Option.{option_map, option_or}
+use Rattle.std.specs.List.{sum_by, count_by, find}
+use Rattle.std.proofs.lemmas.Bool.{cases_lt, lt-ltb, le-ltb}
+use Rattle.std.proofs.lemmas.List.Sums.{sum_by-cons, sum_by-le-sum_by}
+use Rattle.clock2q_cache.specs.Entries.{SmallEntry, MainEntry}
+use Rattle.clock2q_cache.specs.Machine.{Machine, slot_of, stored}
+use Rattle.clock2q_cache.specs.Cache.{IsWhole}
+use Rattle.clock2q_cache.proofs.Weights.{sum_by-same, count_by-not_found}
+use Rattle.clock2q_cache.proofs.Residents.{slot_in_small, slot_in_main, slot_among, neither}
+use Rattle.clock2q_cache.proofs.Whole.{one_if, some_is, map_none, weight}
 
--- how often a slot stands among these
-abbrev pub times : ℕ → List ℕ → ℕ
-times t xs = count_by (λ s. s == t) xs
+-- two weights that are together at most a third
+sum_by-both-le : {X : Type 0} (f g h : X → ℕ) → ((x : X) → f x + g x ≤ h x) → (xs : List X) → sum_by f xs + sum_by g xs ≤ sum_by h xs
+sum_by-both-le f g h both [] = omega arith
+sum_by-both-le f g h both (x ∷ xs) = omega (arith, both x, sum_by-cons f x xs, sum_by-cons g x xs, sum_by-cons h x xs, sum_by-both-le f g h both xs)
 
-pub times-cons : (t x : ℕ) (xs : List ℕ) → times t (x ∷ xs) ≡ cond (x == t) 1 0 + times t xs
-times-cons t x xs = sum_by-cons (λ s. cond (s == t) 1 0) x xs
+-- what passes two tests passes each
+pub fewer : (a b : Bool) → one_if (a && b) ≤ one_if a
+fewer true true = omega arith
+fewer true false = omega arith
+fewer false b = omega arith
 
-pub times-none : (t : ℕ) (xs : List ℕ) → times t xs ≡ 0 → has t xs ≡ false
-times-none t [] h = refl
-times-none t (x ∷ xs) h = elim (cases_Bool (eqb t x)) [
-  | inl e ↦ absurd (omega (arith, h, times-cons t x xs, ap {B = ℕ} (λ b. cond b 1 0) (eq-eqb x t (sym (eqb-true t x e)))))
-  | inr e ↦ rw e (times-none t xs (omega (arith, h, times-cons t x xs)))
-]
+pub fewer_second : (a b : Bool) → one_if (a && b) ≤ one_if b
+fewer_second true b = omega arith
+fewer_second false b = omega arith
 
-pub times-some : (t : ℕ) (xs : List ℕ) → has t xs ≡ true → 0 < times t xs
-times-some t [] h = absurd (both_ways false refl h)
-times-some t (x ∷ xs) h = elim (cases_Bool (eqb t x)) [
-  | inl e ↦ omega (arith, times-cons t x xs, ap {B = ℕ} (λ b. cond b 1 0) (eq-eqb x t (sym (eqb-true t x e))))
-  | inr e ↦ omega (arith, times-cons t x xs, times-some t xs (rw e at h))
-]
+module _ {K : Type 0} where
+  apart : (is : K → Bool) (s t : ℕ) → (s ≡ t → ⊥) → (k : K) (at : ℕ) → one_if (is k && at == s) + one_if (is k && at == t) ≤ one_if (is k)
+  apart is s t differ k at = elim (is k) as (λ b. one_if (b && at == s) + one_if (b && at == t) ≤ one_if b) [
+    | true ↦ (elim (at == s) as (λ b. (at == s) ≡ b → one_if b + one_if (at == t) ≤ 1) [
+      | true ↦ λ here. omega (arith, ap one_if (ne_eqb at t (λ there. differ (sym (eqb-true at s here) ∙ there))))
+      | false ↦ λ _. one_at_most (at == t)
+    ]) refl
+    | false ↦ omega arith
+  ] where
+    one_at_most : (b : Bool) → 0 + one_if b ≤ 1
+    one_at_most true = omega arith
+    one_at_most false = omega arith
 
-pub times-apart : (xs : List ℕ) → ((t : ℕ) → times t xs ≤ 1) → AllApart xs
-times-apart [] h = tt
-times-apart (x ∷ xs) h =
-    let own = times-cons x x xs in
-    (times-none x xs (omega (arith, h x, own, ap {B = ℕ} (λ b. cond b 1 0) (eqb_self x))), times-apart xs (λ t. omega (arith, h t, times-cons t x xs)))
+  in_queue : {X : Type 0} (key : X → K) (at : X → ℕ) (is : K → Bool) (slot : ℕ) (xs : List X) → option_map at (find (λ x. is (key x)) xs) ≡ Some slot → 0 < count_by (λ x. is (key x) && at x == slot) xs
+  in_queue key at is slot [] e = cc
+  in_queue key at is slot (x ∷ xs) e =
+      (elim (is (key x)) as (λ b. is (key x) ≡ b → option_map at (cond b (Some x) (find (λ y. is (key y)) xs)) ≡ Some slot → 0 < count_by (λ y. is (key y) && at y == slot) (x ∷ xs)) [
+        | true ↦ λ passes here. omega (arith, sum_by-cons (λ y. one_if (is (key y) && at y == slot)) x xs, ap (λ b. one_if (b && at x == slot)) passes, ap one_if (eq-eqb (at x) slot (some_is (at x) slot here)))
+        | false ↦ λ _ later. omega (arith, sum_by-cons (λ y. one_if (is (key y) && at y == slot)) x xs, in_queue key at is slot xs later)
+      ]) refl e
 
-length-slots : {X : Type 0} (xs : List (ℕ × X)) → length (slots_of xs) ≡ length xs
-length-slots [] = refl
-length-slots (x ∷ xs) = ap suc (length-slots xs)
+module _ {K V : Type 0} where
+  -- how many residents pass the test, and how many of them stand at a slot
+  abbrev pub key_count : (K → Bool) → Machine K V → ℕ
+  key_count is m = weight (λ k s. one_if (is k)) m
 
--- the hand's choice moves entries, and takes none out
-has-split : (t n : ℕ) (main : List (ℕ × Bool)) → has t (slots_of main) ≡ (has t (slots_of (drop n main)) || has t (slots_of (map {B = ℕ × Bool} (λ e. (e.0, false)) (take n main))))
-has-split t zero main = or_none (has t (slots_of main))
-  where
-    or_none : (b : Bool) → b ≡ (b || false)
-    or_none true = refl
-    or_none false = refl
-has-split t (suc n) [] = refl
-has-split t (suc n) (e ∷ main) = ap (λ z. eqb t e.0 || z) (has-split t n main) ∙ swapped (eqb t e.0) (has t (slots_of (drop n main))) (has t (slots_of (map {B = ℕ × Bool} (λ e. (e.0, false)) (take n main))))
-  where
-    swapped : (a b c : Bool) → (a || (b || c)) ≡ (b || (a || c))
-    swapped true true c = refl
-    swapped true false c = refl
-    swapped false b c = refl
+  abbrev pub count_at : (K → Bool) → ℕ → Machine K V → ℕ
+  count_at is slot m = weight (λ k s. one_if (is k && s == slot)) m
 
-slots-append : {X : Type 0} (xs ys : List (ℕ × X)) → slots_of (xs ++ ys) ≡ slots_of xs ++ slots_of ys
-slots-append [] ys = refl
-slots-append (x ∷ xs) ys = ap (λ zs. x.0 ∷ zs) (slots-append xs ys)
+  pub count_at-le : (is : K → Bool) (slot : ℕ) (m : Machine K V) → count_at is slot m ≤ key_count is m
+  count_at-le is slot m =
+      omega (arith, sum_by-le-sum_by (λ (e : SmallEntry K). one_if (is e.key && e.slot == slot)) (λ e. one_if (is e.key)) m.small (λ e. fewer (is e.key) (e.slot == slot)), sum_by-le-sum_by (λ (e : MainEntry K). one_if (is e.key && e.slot == slot)) (λ e. one_if (is e.key)) m.main (λ e. fewer (is e.key) (e.slot == slot)))
 
-pub has-appended : {X : Type 0} (t : ℕ) (xs ys : List (ℕ × X)) → has t (slots_of (xs ++ ys)) ≡ (has t (slots_of xs) || has t (slots_of ys))
-has-appended t xs ys = ap (λ z. has t z) (slots-append xs ys) ∙ has-append t (slots_of xs) (slots_of ys)
+  -- weights that are together at most a third, over all residents
+  pub weights-both-le : (f g h : K → ℕ → ℕ) → ((k : K) (s : ℕ) → f k s + g k s ≤ h k s) → (m : Machine K V) → weight f m + weight g m ≤ weight h m
+  weights-both-le f g h both m =
+      omega (arith, sum_by-both-le (λ (e : SmallEntry K). f e.key e.slot) (λ e. g e.key e.slot) (λ e. h e.key e.slot) (λ e. both e.key e.slot) m.small, sum_by-both-le (λ (e : MainEntry K). f e.key e.slot) (λ e. g e.key e.slot) (λ e. h e.key e.slot) (λ e. both e.key e.slot) m.main)
 
-pub has-from_victim : (t : ℕ) (main : List (ℕ × Bool)) → has t (slots_of (from_victim main)) ≡ has t (slots_of main)
-has-from_victim t main = has-appended t (drop (passed main) main) (map {B = ℕ × Bool} (λ e. (e.0, false)) (take (passed main) main)) ∙ sym (has-split t (passed main) main)
+  -- no resident passes the test where none is found, and none is found where no resident does
+  pub none_counted : (is : K → Bool) (m : Machine K V) → slot_of is m ≡ None → key_count is m ≡ 0
+  none_counted is m absent =
+      let none = neither (slot_in_small is m.small) (slot_in_main is m.main) (sym (slot_among is m.small m.main) ∙ absent) in
+      omega (arith, count_by-not_found (λ e. is e.key) m.small (map_none (λ e. e.slot) (find (λ e. is e.key) m.small) none.0), count_by-not_found (λ e. is e.key) m.main (map_none (λ e. e.slot) (find (λ e. is e.key) m.main) none.1))
 
-length-split : (n : ℕ) (main : List (ℕ × Bool)) → length (drop n main) + length (map {B = ℕ × Bool} (λ (e : ℕ × Bool). (e.0, false)) (take n main)) ≡ length main
-length-split zero main = omega arith
-length-split (suc n) [] = refl
-length-split (suc n) (e ∷ main) = omega (arith, length-split n main)
+  -- a key that is found at a slot is counted there
+  pub found_counted : (is : K → Bool) (m : Machine K V) (slot : ℕ) → slot_of is m ≡ Some slot → 0 < count_at is slot m
+  found_counted is m slot found = by_queue (slot_in_small is m.small) refl (sym (slot_among is m.small m.main) ∙ found) where
+    by_queue : (o : Option ℕ) → slot_in_small is m.small ≡ o → option_or o (slot_in_main is m.main) ≡ Some slot → 0 < count_at is slot m
+    by_queue None small main = omega (arith, in_queue (λ (e : MainEntry K). e.key) (λ e. e.slot) is slot m.main main)
+    by_queue (Some s) small main = omega (arith, in_queue (λ (e : SmallEntry K). e.key) (λ e. e.slot) is slot m.small (small ∙ main))
 
-pub length-swept : (main : List (ℕ × Bool)) → length (from_victim main) ≡ length main
-length-swept main = length-append (drop (passed main) main) (map {B = ℕ × Bool} (λ (e : ℕ × Bool). (e.0, false)) (take (passed main) main)) ∙ length-split (passed main) main
+  -- where it is counted at a slot it is found there
+  pub found_at : (is : K → Bool) (m : Machine K V) → key_count is m ≤ 1 → (slot : ℕ) → 0 < count_at is slot m → slot_of is m ≡ Some slot
+  found_at is m once slot some = by_slot (slot_of is m) refl where
+    by_slot : (o : Option ℕ) → slot_of is m ≡ o → o ≡ Some slot
+    by_slot None absent = absurd (omega (arith, none_counted is m absent, count_at-le is slot m, some))
+    by_slot (Some other) found =
+        let there = found_counted is m other found in
+        elim (cases_lt other slot) [
+          | inl below ↦ absurd (omega (arith, there, some, once, weights-both-le _ _ _ (apart is other slot (λ e. omega (arith, e, below))) m))
+          | inr above ↦ elim (cases_lt slot other) [
+            | inl past ↦ absurd (omega (arith, there, some, once, weights-both-le _ _ _ (apart is other slot (λ e. omega (arith, e, past))) m))
+            | inr within ↦ let same : other ≡ slot = omega (arith, above, within) in ap Some same
+          ]
+        ]
 
-pub length-places : (q : QueueState) → length (places_of q) ≡ length q.small + length q.main
-length-places q = length-append (slots_of q.small) (slots_of q.main) ∙ ap (λ n. n + length (slots_of q.main)) (length-slots q.small) ∙ ap (λ n. length q.small + n) (length-slots q.main)
+  pub absent_if : (is : K → Bool) (m : Machine K V) → key_count is m ≡ 0 → slot_of is m ≡ None
+  absent_if is m none = by_slot (slot_of is m) refl where
+    by_slot : (o : Option ℕ) → slot_of is m ≡ o → o ≡ None
+    by_slot None absent = refl
+    by_slot (Some slot) found = absurd (omega (arith, found_counted is m slot found, count_at-le is slot m, none))
 
-module _ {K V : Type 0} (eq : K → K → Bool) (hash : K → ℕ) (shares : Shares) (q : QueueState) (index : List (List (ℕ × ℕ))) (entries : List (Entry K V)) (history : List (ℕ × K)) (free : List ℕ)
-    (whole : IsWhole eq (machine_of shares q entries history free)) (stored : IsStored hash index entries (places_of q)) where
-  abbrev m : Machine K V
-  m = machine_of shares q entries history free
+  module _ (eq : K → K → Bool) (m : Machine K V) where
+    -- no key is resident twice
+    pub resident_once : IsWhole eq m → (key : K) → key_count (eq key) m ≤ 1
+    resident_once h key = omega (arith, h.keys_once key)
 
-  pub small_keys : HaveKeys (key_at entries) (slots_of q.small)
-  small_keys = λ t g. have_keys entries (places_of q) stored.made t (has-append t (slots_of q.small) (slots_of q.main) ∙ rw g refl)
+    -- equal keys are resident alike
+    pub counted_as : IsEquivalence eq → (key other : K) → eq other key ≡ true → key_count (eq other) m ≡ key_count (eq key) m
+    counted_as laws key other e =
+        let same : (k : K) → one_if (eq other k) ≡ one_if (eq key k) = λ k. ap one_if (laws.congr other key k e) in
+        omega (arith, sum_by-same (λ e. one_if (eq other e.key)) (λ e. one_if (eq key e.key)) (λ e. same e.key) m.small, sum_by-same (λ e. one_if (eq other e.key)) (λ e. one_if (eq key e.key)) (λ e. same e.key) m.main)
 
-  pub main_keys : HaveKeys (key_at entries) (slots_of q.main)
-  main_keys = λ t g. have_keys entries (places_of q) stored.made t (has-append t (slots_of q.small) (slots_of q.main) ∙ rw g (or_true (has t (slots_of q.small))))
-    where
-      or_true : (b : Bool) → (b || true) ≡ true
-      or_true true = refl
-      or_true false = refl
+-- a value that is stored at a slot is there, and the others are where they were
+module _ {V : Type 0} where
+  get-set_same : (values : List V) (slot : ℕ) (value : V) → slot < length values → slice_get (slice_set values slot value) slot ≡ Some value
+  get-set_same [] slot value made = absurd (omega arith)
+  get-set_same (v ∷ values) zero value made = refl
+  get-set_same (v ∷ values) (suc slot) value made = get-set_same values slot value (omega arith)
 
-  pub standing-times : (t : ℕ) → standings t m ≡ times t (places_of q) + times t (reverse free)
-  standing-times t =
-      omega (arith, small-standing (key_at entries) t q.small small_keys, main-standing (key_at entries) t q.main main_keys, sum_by-append (λ s. cond (s == t) 1 0) (slots_of q.small) (slots_of q.main))
+  get-set_other : (values : List V) (slot other : ℕ) (value : V) → (other ≡ slot → ⊥) → slice_get (slice_set values slot value) other ≡ slice_get values other
+  get-set_other [] slot other value differ = refl
+  get-set_other (v ∷ values) zero zero value differ = absurd (differ refl)
+  get-set_other (v ∷ values) zero (suc other) value differ = refl
+  get-set_other (v ∷ values) (suc slot) zero value differ = refl
+  get-set_other (v ∷ values) (suc slot) (suc other) value differ = get-set_other values slot other value (λ e. differ (omega (arith, e)))
 
-  once_at_most : (b : Bool) → (if b then 1 else 0) ≤ 1
-  once_at_most true = omega arith
-  once_at_most false = omega arith
+  get-push_same : (values : List V) (value : V) → slice_get (values ++ value ∷ []) (length values) ≡ Some value
+  get-push_same [] value = refl
+  get-push_same (v ∷ values) value = get-push_same values value
 
-  pub at_most_once : (t : ℕ) → times t (places_of q) + times t (reverse free) ≤ 1
-  at_most_once t = omega (arith, standing-times t, whole.slots_once t, once_at_most (nat_lt t (length m.values)))
+  pub get-append : (values more : List V) (slot : ℕ) → slot < length values → slice_get (values ++ more) slot ≡ slice_get values slot
+  get-append [] more slot made = absurd (omega arith)
+  get-append (v ∷ values) more zero made = refl
+  get-append (v ∷ values) more (suc slot) made = get-append values more slot (omega arith)
 
-  -- no slot is two residents'
-  pub places_apart : AllApart (places_of q)
-  places_apart = times-apart (places_of q) (λ t. omega (arith, at_most_once t))
+  pub get-within : (values : List V) (slot : ℕ) → slot < length values → (value : V) × (slice_get values slot ≡ Some value)
+  get-within [] slot made = absurd (omega arith)
+  get-within (v ∷ values) zero made = (v, refl)
+  get-within (v ∷ values) (suc slot) made = get-within values slot (omega arith)
 
-  -- a slot that is free has no resident, and was made
-  free_slot : (slot : ℕ) → 0 < times slot (reverse free) → (has slot (places_of q) ≡ false) × (slot < length entries)
-  free_slot slot some = (
-    times-none slot (places_of q) (omega (arith, some, at_most_once slot)),
-    elim (cases_lt slot (length m.values)) [
-      | inl below ↦ omega (arith, below, length-values entries)
-      | inr above ↦ absurd (omega (arith, some, standing-times slot, whole.slots_once slot, ap {B = ℕ} (λ b. if b then 1 else 0) (le-ltb slot (length m.values) above)))
-    ],
-  )
-
-  -- nor has the next slot
-  next_slot : has (length m.values) (places_of q) ≡ false
-  next_slot = times-none (length m.values) (places_of q) (omega (arith, standing-times (length m.values), whole.slots_once (length m.values), ap {B = ℕ} (λ b. if b then 1 else 0) (le-ltb (length m.values) (length m.values) (omega arith))))
-
-  -- a vacancy has no resident, and was made or is the next slot
-  pub record IsVacant (slot : ℕ) : Type 0 where
-    pub absent : has slot (places_of q) ≡ false
-    pub next : slot ≤ length entries
-    pub below : slot < shares.capacity
-
-  some_same : (x y : ℕ) → Some x ≡ Some y → x ≡ y
-  some_same x y e = cc
-
-  pub vacant : (slot : ℕ) → vacancy m ≡ Some slot → IsVacant slot
-  vacant slot is = of (reverse free) refl is
-    where
-      of : (fs : List ℕ) → reverse free ≡ fs → vacant_slot fs (length m.values) shares.capacity ≡ Some slot → IsVacant slot
-      of (s ∷ fs) at e =
-          let same : s ≡ slot = some_same s slot e in
-          let f = free_slot slot (omega (arith, ap (λ z. times slot z) at, times-cons slot s fs, ap {B = ℕ} (λ b. cond b 1 0) (eq-eqb s slot same))) in
-          record { absent = f.0; next = omega (arith, f.1); below = omega (arith, f.1, whole.made_within, length-values entries) }
-      of [] at e = elim (cases_lt (length m.values) shares.capacity) [
-        | inl below ↦
-            let same : length m.values ≡ slot = some_same (length m.values) slot (sym (ap (λ b. if b then Some (length m.values) else None) (lt-ltb (length m.values) shares.capacity below)) ∙ e) in
-            record { absent = subst (λ z. has z (places_of q) ≡ false) same next_slot; next = omega (arith, same, length-values entries); below = omega (arith, same, below) }
-        | inr above ↦ absurd (none_some slot (sym (ap (λ b. if b then Some (length m.values) else None) (le-ltb (length m.values) shares.capacity above)) ∙ e))
-      ]
-        where
-          none_some : (x : ℕ) → None ≡ Some x → ⊥
-          none_some x e = cc
-
-  -- the slot that is taken is the vacancy, where there is one
-  pub vacancy-taken : (slot : ℕ) → is_some (vacancy m) ≡ true → vacant_slot (reverse free) (length entries) (length entries + 1) ≡ Some slot → vacancy m ≡ Some slot
-  vacancy-taken slot some taken = of (reverse free) some taken
-    where
-      of : (fs : List ℕ) → is_some (vacant_slot fs (length m.values) shares.capacity) ≡ true → vacant_slot fs (length entries) (length entries + 1) ≡ Some slot → vacant_slot fs (length m.values) shares.capacity ≡ Some slot
-      of (s ∷ fs) some e = e
-      of [] some e = elim (cases_lt (length m.values) shares.capacity) [
-        | inl below ↦
-            ap (λ b. if b then Some (length m.values) else None) (lt-ltb (length m.values) shares.capacity below)
-            ∙ ap Some (length-values entries)
-            ∙ sym (ap (λ b. if b then Some (length entries) else None) (lt-ltb (length entries) (length entries + 1) (omega arith))) ∙ e
-        | inr above ↦ absurd (both_ways false refl (sym (ap (λ (z : Option ℕ). is_some z) (ap (λ b. if b then Some (length m.values) else None) (le-ltb (length m.values) shares.capacity above))) ∙ some))
+module _ {K V : Type 0} (m : Machine K V) (slot : ℕ) (value : V) where
+  pub stored_there : slot ≤ length m.values → slice_get (stored slot value m).values slot ≡ Some value
+  stored_there at_most =
+      elim (cases_lt slot (length m.values)) [
+        | inl made ↦ rw (lt-ltb slot (length m.values) made) (get-set_same m.values slot value made)
+        | inr next ↦ let end : slot ≡ length m.values = omega arith in rw (le-ltb slot (length m.values) next) (ap (λ s. slice_get (m.values ++ value ∷ []) s) end ∙ get-push_same m.values value)
       ]
 
-  -- where fewer slots are residents' than there may be, there is a vacancy
-  pub vacancy-there : length q.small + length q.main < shares.capacity → is_some (vacancy m) ≡ true
-  vacancy-there few = of (reverse free) refl
-    where
-      of : (fs : List ℕ) → reverse free ≡ fs → is_some (vacant_slot fs (length m.values) shares.capacity) ≡ true
-      of (s ∷ fs) at = refl
-      of [] at =
-          let below : length m.values < shares.capacity = omega (arith, few, whole.slots_counted, length-small (key_at entries) q.small small_keys, length-main (key_at entries) q.main main_keys, ap (λ (z : List ℕ). length z) at) in
-          ap (λ (z : Option ℕ). is_some z) (ap (λ b. if b then Some (length m.values) else None) (lt-ltb (length m.values) shares.capacity below))
+  pub stored_elsewhere : (other : ℕ) → (other ≡ slot → ⊥) → other < length m.values → slice_get (stored slot value m).values other ≡ slice_get m.values other
+  stored_elsewhere other differ made =
+      elim (cases_lt slot (length m.values)) [
+        | inl below ↦ rw (lt-ltb slot (length m.values) below) (get-set_other m.values slot other value differ)
+        | inr next ↦ rw (le-ltb slot (length m.values) next) (get-append m.values (value ∷ []) other made)
+      ]

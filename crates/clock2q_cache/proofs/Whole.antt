@@ -79,10 +79,23 @@ tail_some : {K : Type 0} (small : List (SmallEntry K)) (tail : SmallEntry K) →
 tail_some [] tail last = absurd (none_is tail last)
 tail_some (e ∷ es) tail last = omega arith
 
+-- what a key weighs at a slot, if there is one
+abbrev pub weight_at : {K : Type 0} → (K → ℕ → ℕ) → Option K → ℕ → ℕ
+weight_at w None slot = 0
+weight_at w (Some key) slot = w key slot
+
 module _ {K V : Type 0} where
   -- how many slots stand in the lists
   abbrev pub standing_count : Machine K V → ℕ
   standing_count m = length m.small + length m.main + length m.free
+
+  -- what the residents weigh together, each by its key and its slot
+  abbrev pub weight : (K → ℕ → ℕ) → Machine K V → ℕ
+  weight w m = sum_by (λ e. w e.key e.slot) m.small + sum_by (λ e. w e.key e.slot) m.main
+
+  -- a key came in: in the stead of a resident at its slot, or of none, and the others stayed at theirs
+  abbrev pub ComesIn : K → Machine K V → Placement K V → Type 0
+  ComesIn key m p = (other : Option K) × ((w : K → ℕ → ℕ) → (weight_at w other p.slot ≤ weight w m) × (weight w p.machine + weight_at w other p.slot ≡ weight w m + w key p.slot))
 
   -- a key took a slot that was made before, from where it stood
   pub record KeepsSlots (m : Machine K V) (p : Placement K V) : Type 0 where
@@ -106,6 +119,7 @@ module _ {K V : Type 0} where
     pub history_within : length p.machine.history ≤ ghost_share m.shares
     pub known : (is : K → Bool) → known_count is p.machine ≤ known_count is m + cond (is key) 1 0
     pub slots : KeepsSlots m p ⊎ MakesSlot m p
+    pub comes : ComesIn key m p
 
   module _ (eq : K → K → Bool) (m : Machine K V) (h : IsWhole eq m) where
     -- a slot of Small's tail, of Main's victim or of the free ones has been made
@@ -228,6 +242,9 @@ module _ {K V : Type 0} where
           → sum_by g (behind_hand key slot others) + g victim ≡ sum_by g m.main + g (record { key = key; slot = slot; bit = false })
       behind_weight key slot g bitless = omega (arith, weight-behind g bitless key slot others, sum_by-cons g victim others, ap (sum_by g) choice, weight-from_victim g bitless m.main)
 
+      victim_weight : (g : MainEntry K → ℕ) → ((e : MainEntry K) (bit : Bool) → g (with_bit e bit) ≡ g e) → g victim ≤ sum_by g m.main
+      victim_weight g bitless = omega (arith, sum_by-cons g victim others, ap (sum_by g) choice, weight-from_victim g bitless m.main)
+
       pub victim_made : victim.slot < length m.values
       victim_made =
           let at : MainEntry K → ℕ = λ e. one_if (e.slot == victim.slot) in
@@ -246,6 +263,7 @@ module _ {K V : Type 0} where
         slots = at_vacancy (joining_main key (Some slot) m) is
             (λ s. omega (arith, weight-behind (λ e. one_if (e.slot == s)) (λ e bit. refl) key slot m.main))
             (omega (arith, length-append m.main (record { key = key; slot = slot; bit = false } ∷ [])));
+        comes = (None, λ w. (omega arith, omega (arith, weight-behind (λ e. w e.key e.slot) (λ e bit. refl) key slot m.main)));
       }
 
       -- in place of Main's victim
@@ -264,6 +282,13 @@ module _ {K V : Type 0} where
               standing = λ s. omega (arith, behind_weight victim others choice key victim.slot (λ e. one_if (e.slot == s)) (λ e bit. refl));
               counted = omega (arith, as_long);
             });
+            comes = (
+              Some victim.key,
+              λ w. (
+                omega (arith, victim_weight victim others choice (λ e. w e.key e.slot) (λ e bit. refl)),
+                omega (arith, behind_weight victim others choice key victim.slot (λ e. w e.key e.slot) (λ e bit. refl)),
+              ),
+            );
           }
 
       -- into Small, at a vacancy
@@ -278,6 +303,7 @@ module _ {K V : Type 0} where
         slots = at_vacancy (into_small_at key (Some slot) tail m) is
             (λ s. omega (arith, weight-admitted (λ e. one_if (e.slot == s)) (λ e age. refl) m.shares.window key slot m.small))
             (omega (arith, length-admitted m.shares.window key slot m.small));
+        comes = (None, λ w. (omega arith, omega (arith, weight-admitted (λ e. w e.key e.slot) (λ e age. refl) m.shares.window key slot m.small)));
       }
 
       module _ (tail : SmallEntry K) (last : last_or None m.small ≡ Some tail) (some : 0 < length m.small) where
@@ -309,6 +335,13 @@ module _ {K V : Type 0} where
             standing = λ s. omega (arith, front_weight (λ e. one_if (e.slot == s)) (λ e age. refl) tail.slot);
             counted = omega (arith, front_length tail.slot);
           });
+          comes = (
+            Some tail.key,
+            λ w. (
+              omega (arith, (weight-last (λ e. w e.key e.slot) None m.small tail some last).0),
+              omega (arith, front_weight (λ e. w e.key e.slot) (λ e age. refl) tail.slot),
+            ),
+          );
         }
 
         -- into Small, in place of Main's victim, while Small's tail goes on to Main
@@ -328,6 +361,13 @@ module _ {K V : Type 0} where
                 standing = λ s. omega (arith, front_weight (λ e. one_if (e.slot == s)) (λ e age. refl) victim.slot, behind_weight victim others choice tail.key tail.slot (λ e. one_if (e.slot == s)) (λ e bit. refl));
                 counted = omega (arith, front_length victim.slot, as_long);
               });
+              comes = (
+                Some victim.key,
+                λ w. (
+                  omega (arith, victim_weight victim others choice (λ e. w e.key e.slot) (λ e bit. refl)),
+                  omega (arith, front_weight (λ e. w e.key e.slot) (λ e age. refl) victim.slot, behind_weight victim others choice tail.key tail.slot (λ e. w e.key e.slot) (λ e bit. refl)),
+                ),
+              );
             }
 
       into_main_by : (b : Bool) → (length m.main == main_share m.shares) ≡ b → (es : List (MainEntry K)) → from_victim m.main ≡ es → (v : Option ℕ) → vacancy m ≡ v

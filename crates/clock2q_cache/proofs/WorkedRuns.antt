@@ -1,12 +1,10 @@
--- The machine on runs worked out by hand: replies, and the state after each call of one run.
-use Rattle.std.proofs.Common.{◌≡◌, ℕ, ◌+◌, Bool, true, false, eqb, List, [], ◌∷◌, ◌++◌, map, refl}
+-- The machine on runs worked out by hand: the shares, and the replies of runs in which keys are hit, evicted, remembered and erased.
+use Rattle.std.proofs.Common.{◌≡◌, ℕ, true, false, eqb, List, [], ◌∷◌, ◌++◌, map, refl}
 use Rattle.std.specs.Prelude.{Some, None}
 use Rattle.std.specs.List.{range_with_len}
 use Rattle.clock2q_cache.specs.Shares.{usual_shares, main_share, ghost_share}
-use Rattle.clock2q_queues.specs.Ages.{Age, Young, Old}
-use Rattle.clock2q_cache.specs.Entries.{inspections}
 use Rattle.clock2q_cache.specs.Machine.{Machine, empty}
-use Rattle.clock2q_cache.specs.Calls.{Call, Answer, Put, Get, Peek, Contains, GetAt, Set, With, Try, SlotFor, Remove, Retain, Clear, Prefill, Len, IsEmpty, Capacity, Value, Stored, Tried, Slot, Flag, Number, Done}
+use Rattle.clock2q_cache.specs.Calls.{Call, Answer, Put, Get, Peek, Contains, GetAt, Set, With, Try, SlotFor, Remove, Retain, Len, IsEmpty, Capacity, Value, Stored, Tried, Slot, Flag, Number, Done}
 use Rattle.clock2q_cache.specs.Steps.{answers, after_all}
 
 -- the shares of the table: Small, Main, window and Ghost
@@ -18,16 +16,28 @@ shares_table : map all_shares (1 ∷ 2 ∷ 3 ∷ 6 ∷ 10 ∷ 11 ∷ 19 ∷ 20 �
 shares_table = refl
 
 -- a run on a new cache of the usual shares
-abbrev replies : ℕ → List (Call ℕ ℕ) → List (Answer ℕ)
+abbrev pub replies : ℕ → List (Call ℕ ℕ) → List (Answer ℕ)
 replies capacity calls = answers eqb calls (empty (usual_shares capacity))
 
 -- each number put under itself
-abbrev puts : ℕ → ℕ → List (Call ℕ ℕ)
+abbrev pub puts : ℕ → ℕ → List (Call ℕ ℕ)
 puts from n = map (λ k. Put k k) (range_with_len from n)
 
 -- a hit on each
-abbrev gets : ℕ → ℕ → List (Call ℕ ℕ)
+abbrev pub gets : ℕ → ℕ → List (Call ℕ ℕ)
 gets from n = map (λ k. Get k) (range_with_len from n)
+
+-- a new cache after these calls
+abbrev pub state : ℕ → List (Call ℕ ℕ) → Machine ℕ ℕ
+state capacity calls = after_all eqb calls (empty (usual_shares capacity))
+
+-- a run on one that is full of the numbers from one on
+abbrev pub replies_when_full : ℕ → List (Call ℕ ℕ) → List (Answer ℕ)
+replies_when_full capacity calls = answers eqb calls (state capacity (puts 1 capacity))
+
+-- a cache whose shares are chosen
+abbrev pub chosen : ℕ → ℕ → ℕ → Machine ℕ ℕ
+chosen capacity small window = empty (record { capacity = capacity; small = small; window = window })
 
 one_value : replies 2 (Put 1 10 ∷ Put 1 11 ∷ Get 1 ∷ Len ∷ []) ≡ Value None ∷ Value (Some 10) ∷ Value (Some 11) ∷ Number 1 ∷ []
 one_value = refl
@@ -52,87 +62,96 @@ failure_keeps_history : replies 2 (Put 1 10 ∷ Put 2 20 ∷ Put 3 30 ∷ Try 1 
     ≡ Value None ∷ Value None ∷ Value None ∷ Tried None ∷ Value None ∷ Value (Some 11) ∷ Flag false ∷ []
 failure_keeps_history = refl
 
-promotion_keeps_the_slot : answers eqb (Get 1 ∷ Put 21 21 ∷ GetAt 2 21 ∷ GetAt 0 1 ∷ Contains 3 ∷ []) (after_all eqb (puts 1 20) (empty (usual_shares 20)))
+no_key_before_the_first : replies 2 (Set 1 5 ∷ Len ∷ Contains 1 ∷ []) ≡ Value None ∷ Number 0 ∷ Flag false ∷ []
+no_key_before_the_first = refl
+
+no_key_after_the_last : replies 3 (IsEmpty ∷ Capacity ∷ Put 1 1 ∷ IsEmpty ∷ Remove 1 ∷ IsEmpty ∷ Len ∷ Capacity ∷ [])
+    ≡ Flag true ∷ Number 3 ∷ Value None ∷ Flag false ∷ Flag true ∷ Flag true ∷ Number 0 ∷ Number 3 ∷ []
+no_key_after_the_last = refl
+
+one_slot_peeked : replies 1 (Put 1 10 ∷ Get 1 ∷ Put 2 20 ∷ Peek 1 ∷ Get 2 ∷ Len ∷ [])
+    ≡ Value None ∷ Value (Some 10) ∷ Value None ∷ Value None ∷ Value (Some 20) ∷ Number 1 ∷ []
+one_slot_peeked = refl
+
+-- A hit on Small's old tail saves it, and Main's victim goes in its stead.
+
+promotion_keeps_the_slot : replies_when_full 20 (Get 1 ∷ Put 21 21 ∷ GetAt 2 21 ∷ GetAt 0 1 ∷ Contains 3 ∷ [])
     ≡ Value (Some 1) ∷ Value None ∷ Value (Some 21) ∷ Value (Some 1) ∷ Flag false ∷ []
 promotion_keeps_the_slot = refl
 
-a_peek_is_no_hit : answers eqb (Peek 1 ∷ Put 21 21 ∷ GetAt 0 21 ∷ Contains 1 ∷ Contains 3 ∷ []) (after_all eqb (puts 1 20) (empty (usual_shares 20)))
+promoted_key_is_resident : replies_when_full 20 (Get 1 ∷ Put 21 21 ∷ Peek 21 ∷ Peek 1 ∷ Peek 3 ∷ [])
+    ≡ Value (Some 1) ∷ Value None ∷ Value (Some 21) ∷ Value (Some 1) ∷ Value None ∷ []
+promoted_key_is_resident = refl
+
+a_peek_is_no_hit : replies_when_full 20 (Peek 1 ∷ Put 21 21 ∷ GetAt 0 21 ∷ Contains 1 ∷ Contains 3 ∷ [])
     ≡ Value (Some 1) ∷ Value None ∷ Value (Some 21) ∷ Flag false ∷ Flag true ∷ []
 a_peek_is_no_hit = refl
 
-all_bits_set : let m = after_all eqb (puts 1 20 ++ gets 3 18) (empty (usual_shares 20)) in
-    (answers eqb (Get 1 ∷ Put 21 21 ∷ Contains 3 ∷ GetAt 2 21 ∷ []) m ≡ Value (Some 1) ∷ Value None ∷ Flag false ∷ Value (Some 21) ∷ []) × (inspections m.main ≡ 19)
-all_bits_set = (refl, refl)
+a_question_is_no_hit : replies_when_full 20 (Contains 1 ∷ Put 21 21 ∷ Contains 1 ∷ Contains 3 ∷ []) ≡ Flag true ∷ Value None ∷ Flag false ∷ Flag true ∷ []
+a_question_is_no_hit = refl
 
--- the keys of Small, Main and the history
-abbrev keys : Machine ℕ ℕ → List (List ℕ)
-keys m = map (λ e. e.key) m.small ∷ map (λ e. e.key) m.main ∷ m.history ∷ []
+a_failed_fetch_is_a_hit : replies_when_full 20 (Try 1 None ∷ Put 21 21 ∷ Contains 1 ∷ Contains 3 ∷ []) ≡ Tried (Some 1) ∷ Value None ∷ Flag true ∷ Flag false ∷ []
+a_failed_fetch_is_a_hit = refl
 
-thirty_one_puts : let m = after_all eqb (puts 0 31) (empty (usual_shares 20)) in
-    (keys m ≡ (30 ∷ 29 ∷ []) ∷ range_with_len 2 18 ∷ (28 ∷ 27 ∷ 26 ∷ 25 ∷ 24 ∷ 23 ∷ 22 ∷ 21 ∷ 20 ∷ 1 ∷ []) ∷ [])
-    × (answers eqb (SlotFor 1 0 ∷ SlotFor 0 0 ∷ []) m ≡ Slot 2 2 ∷ Slot 1 29 ∷ [])
-thirty_one_puts = (refl, refl)
+a_stale_hint_is_no_hit : replies_when_full 20 (GetAt 5 1 ∷ Put 21 21 ∷ Contains 1 ∷ Contains 3 ∷ []) ≡ Value None ∷ Value None ∷ Flag false ∷ Flag true ∷ []
+a_stale_hint_is_no_hit = refl
 
-removals_age_the_young : let m = after_all eqb (puts 0 40) (empty (usual_shares 40)) in
-    let calls : List (Call ℕ ℕ) = Remove 3 ∷ Put 40 40 ∷ Get 2 ∷ Put 41 41 ∷ Put 42 42 ∷ Put 43 43 ∷ [] in
-    (answers eqb (calls ++ GetAt 2 2 ∷ GetAt 4 43 ∷ Contains 4 ∷ []) m
-    ≡ Flag true ∷ Value None ∷ Value (Some 2) ∷ Value None ∷ Value None ∷ Value None ∷ Value (Some 2) ∷ Value (Some 43) ∷ Flag false ∷ [])
-    × ((after_all eqb calls m).history ≡ 1 ∷ 0 ∷ [])
-removals_age_the_young = (refl, refl)
+-- whether keys 1 and 3 are resident once key 21 came to a full cache after a call
+abbrev first_and_third : Call ℕ ℕ → List (Answer ℕ)
+first_and_third call = answers eqb (Contains 1 ∷ Contains 3 ∷ []) (after_all eqb (call ∷ Put 21 21 ∷ []) (state 20 (puts 1 20)))
 
-prefilled_slots : replies 6 (SlotFor 0 10 ∷ SlotFor 1 11 ∷ SlotFor 2 12 ∷ Remove 1 ∷ Remove 2 ∷ Prefill (13 ∷ 14 ∷ 15 ∷ []) ∷ SlotFor 3 0 ∷ SlotFor 4 0 ∷ SlotFor 5 0 ∷ SlotFor 2 0 ∷ SlotFor 1 0 ∷ [])
-    ≡ Slot 0 10 ∷ Slot 1 11 ∷ Slot 2 12 ∷ Flag true ∷ Flag true ∷ Done ∷ Slot 3 13 ∷ Slot 4 14 ∷ Slot 5 15 ∷ Slot 2 12 ∷ Slot 1 11 ∷ []
-prefilled_slots = refl
+each_hit_counts : map first_and_third (GetAt 0 1 ∷ Set 1 5 ∷ Put 1 5 ∷ With 1 5 ∷ Try 1 (Some 5) ∷ SlotFor 1 5 ∷ [])
+    ≡ map (λ _. Flag true ∷ Flag false ∷ []) (range_with_len 0 6)
+each_hit_counts = refl
 
-retained_in_order : replies 4 (Put 0 0 ∷ Put 1 10 ∷ Put 2 20 ∷ Put 3 30 ∷ Retain (true ∷ false ∷ true ∷ false ∷ []) ∷ SlotFor 10 5 ∷ SlotFor 12 5 ∷ Len ∷ [])
-    ≡ Value None ∷ Value None ∷ Value None ∷ Value None ∷ Done ∷ Slot 3 30 ∷ Slot 1 10 ∷ Number 4 ∷ []
-retained_in_order = refl
+a_fetched_key_is_hit_again : answers eqb (Contains 1 ∷ Contains 3 ∷ []) (state 20 (map (λ k. With k k) (range_with_len 1 20) ++ With 1 1 ∷ With 21 21 ∷ [])) ≡ Flag true ∷ Flag false ∷ []
+a_fetched_key_is_hit_again = refl
 
-clear_unmakes_slots : replies 3 (Prefill (7 ∷ []) ∷ Clear ∷ SlotFor 1 9 ∷ []) ≡ Done ∷ Done ∷ Slot 0 9 ∷ []
-clear_unmakes_slots = refl
-
-stale_hints : replies 2 (SlotFor 1 10 ∷ Remove 1 ∷ GetAt 0 1 ∷ SlotFor 2 20 ∷ Set 2 20 ∷ GetAt 0 1 ∷ GetAt 0 2 ∷ GetAt 18446744073709551615 2 ∷ [])
-    ≡ Slot 0 10 ∷ Flag true ∷ Value None ∷ Slot 0 10 ∷ Value (Some 10) ∷ Value None ∷ Value (Some 20) ∷ Value None ∷ []
-stale_hints = refl
-
-fetches : replies 2 (With 1 100 ∷ With 1 200 ∷ Try 2 None ∷ Contains 2 ∷ Try 2 (Some 20) ∷ Get 3 ∷ IsEmpty ∷ Capacity ∷ [])
-    ≡ Stored 100 ∷ Stored 100 ∷ Tried None ∷ Flag false ∷ Tried (Some 20) ∷ Value None ∷ Flag false ∷ Number 2 ∷ []
-fetches = refl
+a_young_hit_is_lost : replies_when_full 4 (Get 1 ∷ Put 5 5 ∷ Contains 1 ∷ Contains 2 ∷ []) ≡ Value (Some 1) ∷ Value None ∷ Flag false ∷ Flag true ∷ []
+a_young_hit_is_lost = refl
 
 two_evictions_from_main : replies 4 (puts 1 4 ++ Get 4 ∷ Get 3 ∷ Put 5 5 ∷ Put 1 1 ∷ Put 6 6 ∷ Put 5 5 ∷ Peek 1 ∷ Peek 2 ∷ Peek 3 ∷ Peek 4 ∷ Len ∷ [])
     ≡ Value None ∷ Value None ∷ Value None ∷ Value None ∷ Value (Some 4) ∷ Value (Some 3) ∷ Value None ∷ Value None ∷ Value None ∷ Value None ∷ Value None ∷ Value None ∷ Value (Some 3) ∷ Value (Some 4) ∷ Number 4 ∷ []
 two_evictions_from_main = refl
 
--- Small, and Main's first and last entries with their slots, and the history, as a run at capacity 20 goes on
+key_back_from_the_history : let m = state 2 (Put 1 10 ∷ Put 2 20 ∷ Put 3 30 ∷ Put 1 11 ∷ []) in m.history ≡ []
+key_back_from_the_history = refl
 
-abbrev small_of : Machine ℕ ℕ → List ((ℕ × ℕ) × Age)
-small_of m = map (λ e. ((e.key, e.slot), e.age)) m.small
+evicted_key_in_the_history : let m = state 2 (Put 1 10 ∷ Put 2 20 ∷ Put 3 30 ∷ Remove 1 ∷ Put 1 11 ∷ []) in m.history ≡ 3 ∷ []
+evicted_key_in_the_history = refl
 
-abbrev main_of : Machine ℕ ℕ → List ((ℕ × ℕ) × Bool)
-main_of m = map (λ e. ((e.key, e.slot), e.bit)) m.main
+misses_keep_the_history : (state 2 (Put 1 10 ∷ Put 2 20 ∷ Put 3 30 ∷ Get 1 ∷ GetAt 0 1 ∷ Set 1 5 ∷ Peek 1 ∷ Contains 1 ∷ Try 1 None ∷ [])).history ≡ 1 ∷ []
+misses_keep_the_history = refl
 
--- keys from one on, each in the slot before it, with clear bits
-abbrev in_order : ℕ → ℕ → List ((ℕ × ℕ) × Bool)
-in_order from n = map (λ s. ((s + 1, s), false)) (range_with_len from n)
+newest_first_in_the_history : (state 20 (puts 1 24)).history ≡ 22 ∷ 21 ∷ 2 ∷ 1 ∷ []
+newest_first_in_the_history = refl
 
-abbrev twenty : Machine ℕ ℕ
-twenty = after_all eqb (puts 1 20) (empty (usual_shares 20))
+retained_history : replies 2 (Put 1 1 ∷ Put 2 2 ∷ Put 3 3 ∷ Retain (false ∷ false ∷ []) ∷ Len ∷ Put 1 9 ∷ Put 4 4 ∷ Put 5 5 ∷ Contains 1 ∷ Contains 4 ∷ GetAt 1 1 ∷ [])
+    ≡ Value None ∷ Value None ∷ Value None ∷ Done ∷ Number 0 ∷ Value None ∷ Value None ∷ Value None ∷ Flag true ∷ Flag false ∷ Value (Some 9) ∷ []
+retained_history = refl
 
-after_twenty_puts : (small_of twenty ≡ ((2, 1), Young 0) ∷ ((1, 0), Old false) ∷ []) × (main_of twenty ≡ in_order 2 18) × (twenty.history ≡ [])
-after_twenty_puts = (refl, refl, refl)
+fetches : replies 2 (With 1 100 ∷ With 1 200 ∷ Try 2 None ∷ Contains 2 ∷ Try 2 (Some 20) ∷ Get 3 ∷ IsEmpty ∷ Capacity ∷ [])
+    ≡ Stored 100 ∷ Stored 100 ∷ Tried None ∷ Flag false ∷ Tried (Some 20) ∷ Value None ∷ Flag false ∷ Number 2 ∷ []
+fetches = refl
 
-after_a_hit : let m = after_all eqb (Get 1 ∷ []) twenty in
-    (small_of m ≡ ((2, 1), Young 0) ∷ ((1, 0), Old true) ∷ []) × (main_of m ≡ in_order 2 18) × (m.history ≡ [])
-after_a_hit = (refl, refl, refl)
+a_fetch_stores_nothing_on_a_hit : replies 2 (With 1 100 ∷ With 1 200 ∷ Peek 1 ∷ Try 1 (Some 300) ∷ Peek 1 ∷ SlotFor 1 400 ∷ Peek 1 ∷ [])
+    ≡ Stored 100 ∷ Stored 100 ∷ Value (Some 100) ∷ Tried (Some 100) ∷ Value (Some 100) ∷ Slot 0 100 ∷ Value (Some 100) ∷ []
+a_fetch_stores_nothing_on_a_hit = refl
 
-after_a_promotion : let m = after_all eqb (Get 1 ∷ Put 21 21 ∷ []) twenty in
-    (small_of m ≡ ((21, 2), Young 0) ∷ ((2, 1), Old false) ∷ []) × (main_of m ≡ in_order 3 17 ++ ((1, 0), false) ∷ []) × (m.history ≡ [])
-after_a_promotion = (refl, refl, refl)
+a_fetch_stores_what_was_missing : replies 2 (With 1 100 ∷ Peek 1 ∷ Try 2 (Some 200) ∷ Peek 2 ∷ Set 2 300 ∷ Peek 2 ∷ [])
+    ≡ Stored 100 ∷ Value (Some 100) ∷ Tried (Some 200) ∷ Value (Some 200) ∷ Value (Some 200) ∷ Value (Some 300) ∷ []
+a_fetch_stores_what_was_missing = refl
 
-after_a_main_victim_returns : let m = after_all eqb (Get 1 ∷ Put 21 21 ∷ Put 3 3 ∷ []) twenty in
-    (small_of m ≡ ((3, 1), Young 0) ∷ ((21, 2), Old false) ∷ []) × (main_of m ≡ in_order 3 17 ++ ((1, 0), false) ∷ []) × (m.history ≡ 2 ∷ [])
-after_a_main_victim_returns = (refl, refl, refl)
+-- Shares that are chosen.
 
-after_a_key_with_history : let m = after_all eqb (Get 1 ∷ Put 21 21 ∷ Put 3 3 ∷ Put 2 2 ∷ []) twenty in
-    (small_of m ≡ ((3, 1), Young 0) ∷ ((21, 2), Old false) ∷ []) × (main_of m ≡ in_order 4 16 ++ ((1, 0), false) ∷ ((2, 3), false) ∷ []) × (m.history ≡ [])
-after_a_key_with_history = (refl, refl, refl)
+old_in_the_window_of_one : answers eqb (puts 1 4 ++ Get 1 ∷ Put 5 5 ∷ Contains 1 ∷ Contains 3 ∷ GetAt 2 5 ∷ []) (chosen 4 2 1)
+    ≡ Value None ∷ Value None ∷ Value None ∷ Value None ∷ Value (Some 1) ∷ Value None ∷ Flag true ∷ Flag false ∷ Value (Some 5) ∷ []
+old_in_the_window_of_one = refl
+
+young_in_the_window_of_two : answers eqb (puts 1 4 ++ Get 1 ∷ Put 5 5 ∷ Contains 1 ∷ Contains 3 ∷ GetAt 0 5 ∷ []) (chosen 4 2 2)
+    ≡ Value None ∷ Value None ∷ Value None ∷ Value None ∷ Value (Some 1) ∷ Value None ∷ Flag false ∷ Flag true ∷ Value (Some 5) ∷ []
+young_in_the_window_of_two = refl
+
+no_share_for_small : answers eqb (puts 1 3 ++ Get 1 ∷ Put 4 4 ∷ Put 2 2 ∷ Contains 3 ∷ GetAt 1 4 ∷ GetAt 2 2 ∷ Len ∷ []) (chosen 3 0 0)
+    ≡ Value None ∷ Value None ∷ Value None ∷ Value (Some 1) ∷ Value None ∷ Value None ∷ Flag false ∷ Value (Some 4) ∷ Value (Some 2) ∷ Number 3 ∷ []
+no_share_for_small = refl

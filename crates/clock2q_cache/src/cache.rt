@@ -214,6 +214,7 @@ impl<K: Hash + Eq, V, S: BuildHasher, A: Allocator> Cache<K, V, S, A> {
     fn slot_of(&self, key: &K) -> Option<u32>
         ensures slot { result ≡ slot_of (K.eq key.now) self.now.machine }
         ensures made { IfSome result (λ slot. slot < length self.now.machine.values) }
+        ensures whole { IsWhole K.eq self.now.machine }
     {
         let hash = hash_of(&self.hasher, key);
         let mut asked = Count::new();
@@ -262,6 +263,7 @@ impl<K: Hash + Eq + Drop, V: Drop, S: BuildHasher, A: Allocator> Cache<K, V, S, 
     pub fn put(&mut self, key: K, value: V) -> Option<V>
         ensures value { result ≡ value_of (K.eq key) self.old.machine }
         ensures machine { self.new.machine ≡ put (K.eq key) key value self.old.machine }
+        ensures resident { value_of (K.eq key) self.new.machine ≡ Some value }
     {
         let hash = self.hash(&key);
         let Some(slot) = self.find(hash, &key) else {

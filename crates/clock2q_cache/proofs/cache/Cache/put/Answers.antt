@@ -1,0 +1,23 @@
+-- The key is resident with its value.
+use Rattle.std.proofs.Common.{◌≡◌, ℕ, Bool, Option, Some, None, sym, ◌∙◌, subst}
+use Rattle.std.specs.Cmp.{IsEquivalence}
+use Rattle.clock2q_cache.specs.Machine.{Machine, slot_of, value_of, hit, stored, inserted}
+use Rattle.clock2q_cache.specs.Cache.{IsWhole}
+use Rattle.clock2q_cache.proofs.Laws.{inserted_there, replaced_there}
+use Rattle.clock2q_cache.proofs.cache.Cache.put.Goals as goal
+
+module _ {K V : Type 0} (eq : K → K → Bool) (laws : IsEquivalence eq) (m : Machine K V) (h : IsWhole eq m) (key : K) (value : V) (new : Machine K V) where
+  brought_in : (found : Option ℕ) → found ≡ slot_of (eq key) m → found ≡ None → new ≡ inserted (eq key) key value m → value_of (eq key) new ≡ Some value
+  brought_in found is none e = subst (λ n. value_of (eq key) n ≡ Some value) (sym e) (inserted_there eq laws m h key (sym is ∙ none) value)
+
+  replaced_at : (found : Option ℕ) → found ≡ slot_of (eq key) m → (slot : ℕ) → found ≡ Some slot → (after_hit : Machine K V) → after_hit ≡ hit (eq key) m → new ≡ stored slot value after_hit → value_of (eq key) new ≡ Some value
+  replaced_at found is slot some after_hit same e =
+      subst (λ n. value_of (eq key) n ≡ Some value) (sym e) (subst (λ n. value_of (eq key) (stored slot value n) ≡ Some value) (sym same) (replaced_there eq laws m h key value slot (sym is ∙ some)))
+
+pub returns-in_default-clause-resident : goal.returns-in_default-clause-resident
+returns-in_default-clause-resident g c =
+    brought_in g.K.PartialEq.eq g.met.K.Eq.laws c.args.self.now.machine c.find_slot.ensures.whole c.args.key c.args.value c.insert.new.self.machine c.find_slot.result c.find_slot.ensures.slot c.in_default.is c.insert.ensures
+
+pub returns-clause-resident : goal.returns-clause-resident
+returns-clause-resident g c =
+    replaced_at g.K.PartialEq.eq g.met.K.Eq.laws c.args.self.now.machine c.find_slot.ensures.whole c.args.key c.args.value c.replace.new.self.machine c.find_slot.result c.find_slot.ensures.slot c.in-Some.slot c.in-Some.is c.record_hit.new.self.machine c.record_hit.ensures c.replace.ensures.machine
