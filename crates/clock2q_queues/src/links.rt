@@ -6,7 +6,8 @@ ghost use Rattle.clock2q_queues.specs.Links.{LinkState, vacant, is_old, Attaches
 
 mod cells;
 
-pub use cells::{Bits, Cells};
+use cells::Bits;
+pub use cells::Cells;
 use std::alloc::{AllocError, Allocator, Global};
 use std::marker::Model;
 
