@@ -1,10 +1,10 @@
 -- What a look-up through the index finds is the machine's slot of the key, and what a hit there makes of the machine.
-use Rattle.std.proofs.Common.{◌≡◌, ℕ, zero, suc, ◌+◌, ◌-◌, ◌*◌, ◌^◌, ◌<◌, ◌≤◌, ◌==◌, Bool, true, false, not, ◌||◌, cond, eqb, Option, Some, None, slice_get, List, [], ◌∷◌, ◌++◌, map, length, take, drop, reverse, inl, inr, refl, sym, ap, ◌∙◌, subst, arith, eqb-true, eq-eqb, ne_eqb, length-append}
+use Rattle.std.proofs.Common.{◌≡◌, ℕ, zero, suc, ◌+◌, ◌-◌, ◌*◌, ◌^◌, ◌<◌, ◌≤◌, ◌==◌, ◌⊎◌, Bool, true, false, not, ◌||◌, cond, eqb, Option, Some, None, slice_get, List, [], ◌∷◌, ◌++◌, map, length, take, drop, reverse, inl, inr, refl, sym, ap, ◌∙◌, subst, arith, eqb-true, eq-eqb, ne_eqb, length-append}
 use Rattle.std.specs.Prelude.{if◌then◌else◌, nat_lt, is_some, slice_set, IfSome}
 use Rattle.std.specs.Cmp.{IsEquivalence}
 use Rattle.std.specs.Option.{option_map}
 use Rattle.std.specs.List.{count_by, find, list_any, last_or, cons_option, AllByRecursion}
-use Rattle.std.proofs.lemmas.Bool.{cases_Bool, both_ways, lt-ltb}
+use Rattle.std.proofs.lemmas.Bool.{cases_Bool, both_ways, or_cases}
 use Rattle.std.proofs.lemmas.List.Sums.{sum_by-cons, sum_by-append}
 use Rattle.std.proofs.Math.ListN.{length-set}
 use Rattle.clock2q_handles.specs.Homes.{candidates}
@@ -143,6 +143,10 @@ hashes-same {K} {V} eq hash key entries (p ∷ ps) respects a = of (hashes-same 
     of r [] t b = r
     of r (e ∷ es) zero b = ((λ q. b.0 ∙ sym (respects key e.key q)), r)
     of r (e ∷ es) (suc t) b = of r es t b.1
+
+-- a resident's slot stands in one of the queues
+pub either-queue : (q : QueueState) (slot : ℕ) → has slot (places_of q) ≡ true → (has slot (slots_of q.small) ≡ true) ⊎ (has slot (slots_of q.main) ≡ true)
+either-queue q slot there = or_cases (has slot (slots_of q.small)) (has slot (slots_of q.main)) (sym (has-append slot (slots_of q.small) (slots_of q.main)) ∙ there)
 
 slots-small_hit : (slot : ℕ) (es : List (ℕ × Age)) → slots_of (small_hit_at slot es) ≡ slots_of es
 slots-small_hit slot [] = refl

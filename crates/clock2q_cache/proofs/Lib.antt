@@ -5,7 +5,6 @@ pub mod Finding
 pub mod Kept
 pub mod Lasting
 pub mod Laws
-pub mod Placed
 pub mod Remembered
 pub mod Renewed
 pub mod Residents

@@ -125,7 +125,7 @@ impl<K: Hash + Eq + Drop, V: Drop, S: BuildHasher + Drop, A: Allocator + Copy> C
         ensures only { IsOkUnless result CacheError.Memory }
     {
         let slots = shares.capacity();
-        let queues = Queues::new(alloc, slots, shares.window() as u32)?;
+        let queues = Queues::new(alloc, slots as u32, shares.window() as u32)?;
         let history = History::new(alloc, shares.history())?;
         let Ok(index) = Table::with_capacity(alloc, index_room(slots)) else {
             return Err(CacheError::Memory);
@@ -227,6 +227,7 @@ impl<K: Hash + Eq, V, S: BuildHasher, A: Allocator> Cache<K, V, S, A> {
         ensures slot { result ≡ slot_of (K.eq key.now) self.old.machine }
         ensures made { IfSome result (λ slot. slot < length self.old.machine.values) }
         ensures machine { self.new.machine ≡ self.old.machine }
+        ensures whole { IsWhole K.eq self.old.machine }
         ensures hasher { self.new.hasher ≡ self.old.hasher }
     {
         self.keys.find(self.index.get(hash), key)
@@ -238,7 +239,7 @@ impl<K: Hash + Eq, V, S: BuildHasher, A: Allocator> Cache<K, V, S, A> {
         ensures machine { self.new.machine ≡ hit (K.eq key.now) self.old.machine }
     {
         let _ = key;
-        let _ = self.queues.hit(slot as usize);
+        self.queues.hit(slot);
     }
 
     /// The value of a slot.

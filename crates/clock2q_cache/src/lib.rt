@@ -8,9 +8,9 @@
 #![tactic(auto)]
 
 mod cache;
-mod entering;
 mod error;
 mod hashes;
+mod index;
 mod shares;
 mod vacancies;
 

@@ -1,5 +1,4 @@
 pub mod Booleans
-pub mod Callers
 pub mod Emptying
 pub mod Entries
 pub mod Filling

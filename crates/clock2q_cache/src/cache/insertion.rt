@@ -1,6 +1,6 @@
 //! Insertion of a key that is not resident.
 use crate::cache::Cache;
-use crate::entering::{enter, renew};
+use crate::index::{enter, renew};
 use crate::vacancies::take_vacancy;
 use std::alloc::Allocator;
 use std::hash::{BuildHasher, Hash};
@@ -78,7 +78,7 @@ impl<K: Hash + Eq + Drop, V: Drop, S: BuildHasher, A: Allocator> Cache<K, V, S, 
         renew(
             &mut self.index,
             &mut self.keys,
-            victim as u32,
+            victim,
             hash,
             key,
             value,
@@ -95,7 +95,7 @@ impl<K: Hash + Eq + Drop, V: Drop, S: BuildHasher, A: Allocator> Cache<K, V, S, 
     {
         let slot = take_vacancy(&mut self.free, self.keys.len());
         enter(&mut self.index, &mut self.keys, slot, hash, key, value);
-        self.queues.append(slot as usize);
+        self.queues.append(slot);
     }
 
     /// Inserts a key into Small: at a vacancy while there is one, else in the slot of its tail or of Main's victim.
@@ -124,7 +124,7 @@ impl<K: Hash + Eq + Drop, V: Drop, S: BuildHasher, A: Allocator> Cache<K, V, S, 
     {
         let slot = take_vacancy(&mut self.free, self.keys.len());
         enter(&mut self.index, &mut self.keys, slot, hash, key, value);
-        self.queues.admit(slot as usize);
+        self.queues.admit(slot);
     }
 
     /// Whether Small's tail has earned its way into Main.
@@ -152,7 +152,7 @@ impl<K: Hash + Eq + Drop, V: Drop, S: BuildHasher, A: Allocator> Cache<K, V, S, 
         let (old_hash, old_key) = renew(
             &mut self.index,
             &mut self.keys,
-            tail as u32,
+            tail,
             hash,
             key,
             value,
@@ -178,7 +178,7 @@ impl<K: Hash + Eq + Drop, V: Drop, S: BuildHasher, A: Allocator> Cache<K, V, S, 
         renew(
             &mut self.index,
             &mut self.keys,
-            victim as u32,
+            victim,
             hash,
             key,
             value,

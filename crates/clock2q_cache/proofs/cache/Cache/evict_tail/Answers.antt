@@ -21,13 +21,6 @@ unreachable-requires g c =
     let some = rw (← c.self.view_is) at c.requires.some in
     no-tail c.self.inside.queues.small (omega (arith, some, length_in_small _ g.met.K.Eq.laws _ _ _ _ _ _ _ _ k)) c.in_default.ensures.tail
 
-pub overflow_cast-tail : goal.overflow_cast-tail
-overflow_cast-tail g c =
-    let k = c.self.invariant in
-    let there = tail-in _ g.met.K.Eq.laws _ _ _ _ _ _ _ _ k c.in-Some.tail (sym c.in-Some.ensures.tail) in
-    let b = slot-below _ g.met.K.Eq.laws _ _ _ _ _ _ _ _ k c.in-Some.tail there in
-    omega (arith, b.2)
-
 pub renew-old_hash-requires-clause-resident : goal.renew-old_hash-requires-clause-resident
 renew-old_hash-requires-clause-resident g c =
     let k = c.self.invariant in
@@ -52,17 +45,17 @@ admit-requires-clause-slot_in g c =
     let k = c.self.invariant in
     let there = tail-in _ g.met.K.Eq.laws _ _ _ _ _ _ _ _ k c.in-Some.tail (sym c.in-Some.ensures.tail) in
     let b = slot-below _ g.met.K.Eq.laws _ _ _ _ _ _ _ _ k c.in-Some.tail there in
-    omega (arith, b.1, k.sized.as_many, c.in-Some.ensures.slots)
+    omega (arith, b.1, k.sized.as_many, (ap (λ (z : QueueState). z.slots) c.in-Some.ensures.queues))
 
 pub admit-requires-clause-not_in_small : goal.admit-requires-clause-not_in_small
 admit-requires-clause-not_in_small g c =
     let k = c.self.invariant in
-    subst (λ z. has c.in-Some.tail (slots_of z) ≡ false) (sym c.in-Some.ensures.small) (tail-not_in_front _ g.met.K.Eq.laws _ _ _ _ _ _ _ _ k c.in-Some.tail (sym c.in-Some.ensures.tail))
+    subst (λ z. has c.in-Some.tail (slots_of z) ≡ false) (sym (ap (λ (z : QueueState). z.small) c.in-Some.ensures.queues)) (tail-not_in_front _ g.met.K.Eq.laws _ _ _ _ _ _ _ _ k c.in-Some.tail (sym c.in-Some.ensures.tail))
 
 pub admit-requires-clause-not_in_main : goal.admit-requires-clause-not_in_main
 admit-requires-clause-not_in_main g c =
     let k = c.self.invariant in
-    subst (λ z. has c.in-Some.tail (slots_of z) ≡ false) (sym c.in-Some.ensures.main) (tail-not_in_main _ g.met.K.Eq.laws _ _ _ _ _ _ _ _ k c.in-Some.tail (sym c.in-Some.ensures.tail))
+    subst (λ z. has c.in-Some.tail (slots_of z) ≡ false) (sym (ap (λ (z : QueueState). z.main) c.in-Some.ensures.queues)) (tail-not_in_main _ g.met.K.Eq.laws _ _ _ _ _ _ _ _ k c.in-Some.tail (sym c.in-Some.ensures.tail))
 
 pub invariant_of-self : goal.invariant_of-self
 invariant_of-self g c =
@@ -73,11 +66,11 @@ invariant_of-self g c =
     let out = rw (← c.self.view_is) at c.requires.out in
     let i = c.self.inside in
     let old_hashed = hash-of-key (λ x. hash_of g.S.BuildHasher g.S.Hasher.Hasher i.hasher (g.K.Hash.hash_input x)) i.keys.entries c.in-Some.tail _ _ k.stored.hashed c.renew-old_hash.ensures.hash c.renew-old_hash.ensures.key in
-    let hashed = subst (λ z. AllByRecursion (λ e. e.0 ≡ hash_of g.S.BuildHasher g.S.Hasher.Hasher i.hasher (g.K.Hash.hash_input e.1)) z) (sym c.push.ensures.entries) (all-taken (λ e. e.0 ≡ hash_of g.S.BuildHasher g.S.Hasher.Hasher i.hasher (g.K.Hash.hash_input e.1)) i.history.limit _ (old_hashed, k.hashed)) in
-    let small = c.admit.ensures.small ∙ ap (λ n. admitted n c.in-Some.tail c.take_tail.new.self.small) c.in-Some.ensures.window ∙ ap (λ z. admitted i.queues.window c.in-Some.tail z) c.in-Some.ensures.small in
+    let hashed = subst (λ z. AllByRecursion (λ e. e.0 ≡ hash_of g.S.BuildHasher g.S.Hasher.Hasher i.hasher (g.K.Hash.hash_input e.1)) z) (sym (ap (λ (z : Remembered _). z.entries) c.push.ensures.pushed)) (all-taken (λ e. e.0 ≡ hash_of g.S.BuildHasher g.S.Hasher.Hasher i.hasher (g.K.Hash.hash_input e.1)) i.history.limit _ (old_hashed, k.hashed)) in
+    let small = (ap (λ (z : QueueState). z.small) c.admit.ensures.queues) ∙ ap (λ n. admitted n c.in-Some.tail c.take_tail.new.self.small) (ap (λ (z : QueueState). z.window) c.in-Some.ensures.queues) ∙ ap (λ z. admitted i.queues.window c.in-Some.tail z) (ap (λ (z : QueueState). z.small) c.in-Some.ensures.queues) in
     let d = evicted-done _ g.met.K.Eq.laws _ _ _ _ _ _ _ _ k c.in-Some.tail (sym c.in-Some.ensures.tail) c.args.key c.args.value c.args.hash _ same c.renew-old_hash.ensures.hash _ c.renew-old_hash.ensures.key c.admit.new.self c.push.new.self c.renew-old_hash.new.index.homes c.renew-old_hash.new.keys absent
-    (c.admit.ensures.slots ∙ c.in-Some.ensures.slots) (c.admit.ensures.window ∙ c.in-Some.ensures.window) c.push.ensures.limit c.renew-old_hash.ensures.index c.renew-old_hash.ensures.entries (ap (λ (z : KeyPlaces _ _). z.room) c.renew-old_hash.ensures.kept)
-    full out small (c.admit.ensures.main ∙ c.in-Some.ensures.main) c.push.ensures.entries hashed in
+    ((ap (λ (z : QueueState). z.slots) c.admit.ensures.queues) ∙ (ap (λ (z : QueueState). z.slots) c.in-Some.ensures.queues)) ((ap (λ (z : QueueState). z.window) c.admit.ensures.queues) ∙ (ap (λ (z : QueueState). z.window) c.in-Some.ensures.queues)) (ap (λ (z : Remembered _). z.limit) c.push.ensures.pushed) c.renew-old_hash.ensures.index c.renew-old_hash.ensures.entries (ap (λ (z : KeyPlaces _ _). z.room) c.renew-old_hash.ensures.kept)
+    full out small ((ap (λ (z : QueueState). z.main) c.admit.ensures.queues) ∙ (ap (λ (z : QueueState). z.main) c.in-Some.ensures.queues)) (ap (λ (z : Remembered _). z.entries) c.push.ensures.pushed) hashed in
     d.holds
 
 pub returns : goal.returns
@@ -89,9 +82,9 @@ returns g c =
     let out = rw (← c.self.view_is) at c.requires.out in
     let i = c.self.inside in
     let old_hashed = hash-of-key (λ x. hash_of g.S.BuildHasher g.S.Hasher.Hasher i.hasher (g.K.Hash.hash_input x)) i.keys.entries c.in-Some.tail _ _ k.stored.hashed c.renew-old_hash.ensures.hash c.renew-old_hash.ensures.key in
-    let hashed = subst (λ z. AllByRecursion (λ e. e.0 ≡ hash_of g.S.BuildHasher g.S.Hasher.Hasher i.hasher (g.K.Hash.hash_input e.1)) z) (sym c.push.ensures.entries) (all-taken (λ e. e.0 ≡ hash_of g.S.BuildHasher g.S.Hasher.Hasher i.hasher (g.K.Hash.hash_input e.1)) i.history.limit _ (old_hashed, k.hashed)) in
-    let small = c.admit.ensures.small ∙ ap (λ n. admitted n c.in-Some.tail c.take_tail.new.self.small) c.in-Some.ensures.window ∙ ap (λ z. admitted i.queues.window c.in-Some.tail z) c.in-Some.ensures.small in
+    let hashed = subst (λ z. AllByRecursion (λ e. e.0 ≡ hash_of g.S.BuildHasher g.S.Hasher.Hasher i.hasher (g.K.Hash.hash_input e.1)) z) (sym (ap (λ (z : Remembered _). z.entries) c.push.ensures.pushed)) (all-taken (λ e. e.0 ≡ hash_of g.S.BuildHasher g.S.Hasher.Hasher i.hasher (g.K.Hash.hash_input e.1)) i.history.limit _ (old_hashed, k.hashed)) in
+    let small = (ap (λ (z : QueueState). z.small) c.admit.ensures.queues) ∙ ap (λ n. admitted n c.in-Some.tail c.take_tail.new.self.small) (ap (λ (z : QueueState). z.window) c.in-Some.ensures.queues) ∙ ap (λ z. admitted i.queues.window c.in-Some.tail z) (ap (λ (z : QueueState). z.small) c.in-Some.ensures.queues) in
     let d = evicted-done _ g.met.K.Eq.laws _ _ _ _ _ _ _ _ k c.in-Some.tail (sym c.in-Some.ensures.tail) c.args.key c.args.value c.args.hash _ same c.renew-old_hash.ensures.hash _ c.renew-old_hash.ensures.key c.admit.new.self c.push.new.self c.renew-old_hash.new.index.homes c.renew-old_hash.new.keys absent
-    (c.admit.ensures.slots ∙ c.in-Some.ensures.slots) (c.admit.ensures.window ∙ c.in-Some.ensures.window) c.push.ensures.limit c.renew-old_hash.ensures.index c.renew-old_hash.ensures.entries (ap (λ (z : KeyPlaces _ _). z.room) c.renew-old_hash.ensures.kept)
-    full out small (c.admit.ensures.main ∙ c.in-Some.ensures.main) c.push.ensures.entries hashed in
+    ((ap (λ (z : QueueState). z.slots) c.admit.ensures.queues) ∙ (ap (λ (z : QueueState). z.slots) c.in-Some.ensures.queues)) ((ap (λ (z : QueueState). z.window) c.admit.ensures.queues) ∙ (ap (λ (z : QueueState). z.window) c.in-Some.ensures.queues)) (ap (λ (z : Remembered _). z.limit) c.push.ensures.pushed) c.renew-old_hash.ensures.index c.renew-old_hash.ensures.entries (ap (λ (z : KeyPlaces _ _). z.room) c.renew-old_hash.ensures.kept)
+    full out small ((ap (λ (z : QueueState). z.main) c.admit.ensures.queues) ∙ (ap (λ (z : QueueState). z.main) c.in-Some.ensures.queues)) (ap (λ (z : Remembered _). z.entries) c.push.ensures.pushed) hashed in
     d.machine ∙ ap (λ (z : CacheState _ _ _). let p = into_small c.args.key z.machine in (stored p.slot c.args.value p.machine)) c.self.view_is

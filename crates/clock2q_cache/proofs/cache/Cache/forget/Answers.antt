@@ -1,6 +1,7 @@
 -- The key's history is erased.
 use Rattle.std.proofs.Common.{◌≡◌, ap, sym, ◌∙◌}
 use Rattle.std.specs.List.{list_any}
+use Rattle.clock2q_queues.specs.History.{Remembered}
 use Rattle.clock2q_cache.specs.Hashes.{hash_of}
 use Rattle.clock2q_cache.specs.CacheState.{CacheState}
 use Rattle.clock2q_cache.specs.Machine.{forgotten}
@@ -16,7 +17,7 @@ discard-requires g c =
 pub invariant_of-self : goal.invariant_of-self
 invariant_of-self g c =
     let k = c.self.invariant in
-    kept-forgotten _ g.met.K.Eq.laws _ _ _ _ _ _ _ _ k c.args.key.now c.discard.new.self c.discard.ensures.entries c.discard.ensures.limit
+    kept-forgotten _ g.met.K.Eq.laws _ _ _ _ _ _ _ _ k c.args.key.now c.discard.new.self (ap (λ (z : Remembered _). z.entries) c.discard.ensures.forgotten) (ap (λ (z : Remembered _). z.limit) c.discard.ensures.forgotten)
 
 pub returns-clause-known : goal.returns-clause-known
 returns-clause-known g c =
@@ -26,4 +27,4 @@ returns-clause-known g c =
 pub returns-clause-machine : goal.returns-clause-machine
 returns-clause-machine g c =
     let k = c.self.invariant in
-    forgotten-machine _ g.met.K.Eq.laws _ _ _ _ _ _ _ _ k c.args.key.now c.discard.new.self c.discard.ensures.entries ∙ ap (λ (z : CacheState _ _ _). forgotten (g.K.PartialEq.eq c.args.key.now) z.machine) c.self.view_is
+    forgotten-machine _ g.met.K.Eq.laws _ _ _ _ _ _ _ _ k c.args.key.now c.discard.new.self (ap (λ (z : Remembered _). z.entries) c.discard.ensures.forgotten) ∙ ap (λ (z : CacheState _ _ _). forgotten (g.K.PartialEq.eq c.args.key.now) z.machine) c.self.view_is

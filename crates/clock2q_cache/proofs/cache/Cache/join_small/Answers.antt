@@ -3,6 +3,7 @@ use Rattle.std.proofs.Common.{◌≡◌, ◌+◌, ◌<◌, length, true, Some, a
 use Rattle.std.specs.Prelude.{is_some}
 use Rattle.clock2q_queues.specs.Keys.{KeyPlaces}
 use Rattle.clock2q_cache.specs.Shares.{main_share}
+use Rattle.clock2q_queues.specs.Queues.{QueueState}
 use Rattle.clock2q_cache.specs.Hashes.{hash_of}
 use Rattle.clock2q_cache.specs.Machine.{vacancy, into_small, stored}
 use Rattle.clock2q_cache.specs.CacheState.{CacheState}
@@ -90,8 +91,8 @@ invariant_of-self g c =
     let same = c.requires.hash ∙ ap (λ (z : CacheState _ _ _). hash_of g.S.BuildHasher g.S.Hasher.Hasher z.hasher (g.K.Hash.hash_input c.args.key)) (sym c.self.view_is) in
     let absent = rw (← c.self.view_is) at c.requires.absent in
     let d = small-done _ g.met.K.Eq.laws _ _ _ _ _ _ _ _ k c.args.key c.args.value c.args.hash c.take_vacancy-slot.result c.take_vacancy-slot.new.free.items same taken c.take_vacancy-slot.ensures.others
-    c.admit.new.self c.enter.new.index.homes c.enter.new.keys _ absent c.admit.ensures.slots c.admit.ensures.window c.enter.ensures.index c.enter.ensures.entries (ap (λ (z : KeyPlaces _ _). z.room) c.enter.ensures.kept) c.take_vacancy-slot.ensures.capacity
-    room c.admit.ensures.small c.admit.ensures.main in
+    c.admit.new.self c.enter.new.index.homes c.enter.new.keys _ absent (ap (λ (z : QueueState). z.slots) c.admit.ensures.queues) (ap (λ (z : QueueState). z.window) c.admit.ensures.queues) c.enter.ensures.index c.enter.ensures.entries (ap (λ (z : KeyPlaces _ _). z.room) c.enter.ensures.kept) c.take_vacancy-slot.ensures.capacity
+    room (ap (λ (z : QueueState). z.small) c.admit.ensures.queues) (ap (λ (z : QueueState). z.main) c.admit.ensures.queues) in
     d.holds
 
 pub returns : goal.returns
@@ -103,6 +104,6 @@ returns g c =
     let same = c.requires.hash ∙ ap (λ (z : CacheState _ _ _). hash_of g.S.BuildHasher g.S.Hasher.Hasher z.hasher (g.K.Hash.hash_input c.args.key)) (sym c.self.view_is) in
     let absent = rw (← c.self.view_is) at c.requires.absent in
     let d = small-done _ g.met.K.Eq.laws _ _ _ _ _ _ _ _ k c.args.key c.args.value c.args.hash c.take_vacancy-slot.result c.take_vacancy-slot.new.free.items same taken c.take_vacancy-slot.ensures.others
-    c.admit.new.self c.enter.new.index.homes c.enter.new.keys _ absent c.admit.ensures.slots c.admit.ensures.window c.enter.ensures.index c.enter.ensures.entries (ap (λ (z : KeyPlaces _ _). z.room) c.enter.ensures.kept) c.take_vacancy-slot.ensures.capacity
-    room c.admit.ensures.small c.admit.ensures.main in
+    c.admit.new.self c.enter.new.index.homes c.enter.new.keys _ absent (ap (λ (z : QueueState). z.slots) c.admit.ensures.queues) (ap (λ (z : QueueState). z.window) c.admit.ensures.queues) c.enter.ensures.index c.enter.ensures.entries (ap (λ (z : KeyPlaces _ _). z.room) c.enter.ensures.kept) c.take_vacancy-slot.ensures.capacity
+    room (ap (λ (z : QueueState). z.small) c.admit.ensures.queues) (ap (λ (z : QueueState). z.main) c.admit.ensures.queues) in
     d.machine ∙ ap (λ (z : CacheState _ _ _). let p = into_small c.args.key z.machine in (stored p.slot c.args.value p.machine)) c.self.view_is

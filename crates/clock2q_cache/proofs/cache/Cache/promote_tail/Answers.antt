@@ -5,6 +5,7 @@ use Rattle.clock2q_queues.specs.Rings.{has}
 use Rattle.clock2q_queues.specs.Small.{admitted}
 use Rattle.clock2q_queues.specs.Queues.{slots_of}
 use Rattle.clock2q_queues.specs.Keys.{KeyPlaces}
+use Rattle.clock2q_queues.specs.Queues.{QueueState}
 use Rattle.clock2q_cache.specs.Hashes.{hash_of}
 use Rattle.clock2q_cache.specs.Machine.{into_small, stored}
 use Rattle.clock2q_cache.specs.CacheState.{CacheState}
@@ -16,34 +17,27 @@ pub unreachable-requires : goal.unreachable-requires
 unreachable-requires g c =
     let k = c.self.invariant in
     let some = rw (← c.self.view_is) at c.requires.some in
-    no-tail c.self.inside.queues.small (omega (arith, some, length_in_small _ g.met.K.Eq.laws _ _ _ _ _ _ _ _ k)) (c.in_default.ensures.tail ∙ ap (λ z. last_or None (slots_of z)) c.take_victim-victim.ensures.small)
+    no-tail c.self.inside.queues.small (omega (arith, some, length_in_small _ g.met.K.Eq.laws _ _ _ _ _ _ _ _ k)) (c.in_default.ensures.tail ∙ ap (λ z. last_or None (slots_of z)) (ap (λ (z : QueueState). z.small) c.take_victim-victim.ensures.queues))
 
 pub append-requires-clause-slot_in : goal.append-requires-clause-slot_in
 append-requires-clause-slot_in g c =
     let k = c.self.invariant in
-    let last = ap (λ z. last_or None (slots_of z)) (sym c.take_victim-victim.ensures.small) ∙ sym c.in-Some.ensures.tail in
+    let last = ap (λ z. last_or None (slots_of z)) (sym (ap (λ (z : QueueState). z.small) c.take_victim-victim.ensures.queues)) ∙ sym c.in-Some.ensures.tail in
     let there = tail-in _ g.met.K.Eq.laws _ _ _ _ _ _ _ _ k c.in-Some.tail last in
     let b = slot-below _ g.met.K.Eq.laws _ _ _ _ _ _ _ _ k c.in-Some.tail there in
-    omega (arith, b.1, k.sized.as_many, c.take_victim-victim.ensures.slots, c.in-Some.ensures.slots)
+    omega (arith, b.1, k.sized.as_many, (ap (λ (z : QueueState). z.slots) c.take_victim-victim.ensures.queues), (ap (λ (z : QueueState). z.slots) c.in-Some.ensures.queues))
 
 pub append-requires-clause-not_in_small : goal.append-requires-clause-not_in_small
 append-requires-clause-not_in_small g c =
     let k = c.self.invariant in
-    let last = ap (λ z. last_or None (slots_of z)) (sym c.take_victim-victim.ensures.small) ∙ sym c.in-Some.ensures.tail in
-    subst (λ z. has c.in-Some.tail (slots_of z) ≡ false) (sym (c.in-Some.ensures.small ∙ ap (λ z. take (length z - 1) z) c.take_victim-victim.ensures.small)) (tail-not_in_front _ g.met.K.Eq.laws _ _ _ _ _ _ _ _ k c.in-Some.tail last)
+    let last = ap (λ z. last_or None (slots_of z)) (sym (ap (λ (z : QueueState). z.small) c.take_victim-victim.ensures.queues)) ∙ sym c.in-Some.ensures.tail in
+    subst (λ z. has c.in-Some.tail (slots_of z) ≡ false) (sym ((ap (λ (z : QueueState). z.small) c.in-Some.ensures.queues) ∙ ap (λ z. take (length z - 1) z) (ap (λ (z : QueueState). z.small) c.take_victim-victim.ensures.queues))) (tail-not_in_front _ g.met.K.Eq.laws _ _ _ _ _ _ _ _ k c.in-Some.tail last)
 
 pub append-requires-clause-not_in_main : goal.append-requires-clause-not_in_main
 append-requires-clause-not_in_main g c =
     let k = c.self.invariant in
-    let last = ap (λ z. last_or None (slots_of z)) (sym c.take_victim-victim.ensures.small) ∙ sym c.in-Some.ensures.tail in
-    subst (λ z. has c.in-Some.tail (slots_of z) ≡ false) (sym (c.in-Some.ensures.main ∙ c.take_victim-victim.ensures.main)) (tail-not_in_rest _ g.met.K.Eq.laws _ _ _ _ _ _ _ _ k c.in-Some.tail last c.take_victim-victim.result c.take_victim-victim.ensures.victim)
-
-pub overflow_cast-victim : goal.overflow_cast-victim
-overflow_cast-victim g c =
-    let k = c.self.invariant in
-    let there = victim-in _ g.met.K.Eq.laws _ _ _ _ _ _ _ _ k c.take_victim-victim.result c.take_victim-victim.ensures.victim in
-    let b = slot-below _ g.met.K.Eq.laws _ _ _ _ _ _ _ _ k c.take_victim-victim.result there in
-    omega (arith, b.2)
+    let last = ap (λ z. last_or None (slots_of z)) (sym (ap (λ (z : QueueState). z.small) c.take_victim-victim.ensures.queues)) ∙ sym c.in-Some.ensures.tail in
+    subst (λ z. has c.in-Some.tail (slots_of z) ≡ false) (sym ((ap (λ (z : QueueState). z.main) c.in-Some.ensures.queues) ∙ (ap (λ (z : QueueState). z.main) c.take_victim-victim.ensures.queues))) (tail-not_in_rest _ g.met.K.Eq.laws _ _ _ _ _ _ _ _ k c.in-Some.tail last c.take_victim-victim.result c.take_victim-victim.ensures.victim)
 
 pub renew-requires-clause-resident : goal.renew-requires-clause-resident
 renew-requires-clause-resident g c =
@@ -64,33 +58,33 @@ admit-requires-clause-slot_in g c =
     let k = c.self.invariant in
     let there = victim-in _ g.met.K.Eq.laws _ _ _ _ _ _ _ _ k c.take_victim-victim.result c.take_victim-victim.ensures.victim in
     let b = slot-below _ g.met.K.Eq.laws _ _ _ _ _ _ _ _ k c.take_victim-victim.result there in
-    omega (arith, b.1, k.sized.as_many, c.take_victim-victim.ensures.slots, c.in-Some.ensures.slots, c.append.ensures.slots)
+    omega (arith, b.1, k.sized.as_many, (ap (λ (z : QueueState). z.slots) c.take_victim-victim.ensures.queues), (ap (λ (z : QueueState). z.slots) c.in-Some.ensures.queues), (ap (λ (z : QueueState). z.slots) c.append.ensures.queues))
 
 pub admit-requires-clause-not_in_small : goal.admit-requires-clause-not_in_small
 admit-requires-clause-not_in_small g c =
     let k = c.self.invariant in
-    let last = ap (λ z. last_or None (slots_of z)) (sym c.take_victim-victim.ensures.small) ∙ sym c.in-Some.ensures.tail in
-    subst (λ z. has c.take_victim-victim.result (slots_of z) ≡ false) (sym (c.append.ensures.small ∙ c.in-Some.ensures.small ∙ ap (λ z. take (length z - 1) z) c.take_victim-victim.ensures.small)) (victim-not_in_front _ g.met.K.Eq.laws _ _ _ _ _ _ _ _ k c.in-Some.tail last c.take_victim-victim.result c.take_victim-victim.ensures.victim)
+    let last = ap (λ z. last_or None (slots_of z)) (sym (ap (λ (z : QueueState). z.small) c.take_victim-victim.ensures.queues)) ∙ sym c.in-Some.ensures.tail in
+    subst (λ z. has c.take_victim-victim.result (slots_of z) ≡ false) (sym ((ap (λ (z : QueueState). z.small) c.append.ensures.queues) ∙ (ap (λ (z : QueueState). z.small) c.in-Some.ensures.queues) ∙ ap (λ z. take (length z - 1) z) (ap (λ (z : QueueState). z.small) c.take_victim-victim.ensures.queues))) (victim-not_in_front _ g.met.K.Eq.laws _ _ _ _ _ _ _ _ k c.in-Some.tail last c.take_victim-victim.result c.take_victim-victim.ensures.victim)
 
 pub admit-requires-clause-not_in_main : goal.admit-requires-clause-not_in_main
 admit-requires-clause-not_in_main g c =
     let k = c.self.invariant in
-    let last = ap (λ z. last_or None (slots_of z)) (sym c.take_victim-victim.ensures.small) ∙ sym c.in-Some.ensures.tail in
-    subst (λ z. has c.take_victim-victim.result (slots_of z) ≡ false) (sym (c.append.ensures.main ∙ ap (λ z. z ++ (c.in-Some.tail, false) ∷ []) (c.in-Some.ensures.main ∙ c.take_victim-victim.ensures.main))) (victim-not_behind _ g.met.K.Eq.laws _ _ _ _ _ _ _ _ k c.in-Some.tail last c.take_victim-victim.result c.take_victim-victim.ensures.victim)
+    let last = ap (λ z. last_or None (slots_of z)) (sym (ap (λ (z : QueueState). z.small) c.take_victim-victim.ensures.queues)) ∙ sym c.in-Some.ensures.tail in
+    subst (λ z. has c.take_victim-victim.result (slots_of z) ≡ false) (sym ((ap (λ (z : QueueState). z.main) c.append.ensures.queues) ∙ ap (λ z. z ++ (c.in-Some.tail, false) ∷ []) ((ap (λ (z : QueueState). z.main) c.in-Some.ensures.queues) ∙ (ap (λ (z : QueueState). z.main) c.take_victim-victim.ensures.queues)))) (victim-not_behind _ g.met.K.Eq.laws _ _ _ _ _ _ _ _ k c.in-Some.tail last c.take_victim-victim.result c.take_victim-victim.ensures.victim)
 
 pub invariant_of-self : goal.invariant_of-self
 invariant_of-self g c =
     let k = c.self.invariant in
     let same = c.requires.hash ∙ ap (λ (z : CacheState _ _ _). hash_of g.S.BuildHasher g.S.Hasher.Hasher z.hasher (g.K.Hash.hash_input c.args.key)) (sym c.self.view_is) in
     let absent = rw (← c.self.view_is) at c.requires.absent in
-    let last = ap (λ z. last_or None (slots_of z)) (sym c.take_victim-victim.ensures.small) ∙ sym c.in-Some.ensures.tail in
+    let last = ap (λ z. last_or None (slots_of z)) (sym (ap (λ (z : QueueState). z.small) c.take_victim-victim.ensures.queues)) ∙ sym c.in-Some.ensures.tail in
     let full = rw (← c.self.view_is) at c.requires.full in
     let on = rw (← c.self.view_is) at c.requires.on in
     let i = c.self.inside in
-    let small = c.admit.ensures.small ∙ ap (λ n. admitted n c.take_victim-victim.result c.append.new.self.small) (c.append.ensures.window ∙ c.in-Some.ensures.window ∙ c.take_victim-victim.ensures.window) ∙ ap (λ z. admitted i.queues.window c.take_victim-victim.result z) (c.append.ensures.small ∙ c.in-Some.ensures.small ∙ ap (λ z. take (length z - 1) z) c.take_victim-victim.ensures.small) in
+    let small = (ap (λ (z : QueueState). z.small) c.admit.ensures.queues) ∙ ap (λ n. admitted n c.take_victim-victim.result c.append.new.self.small) ((ap (λ (z : QueueState). z.window) c.append.ensures.queues) ∙ (ap (λ (z : QueueState). z.window) c.in-Some.ensures.queues) ∙ (ap (λ (z : QueueState). z.window) c.take_victim-victim.ensures.queues)) ∙ ap (λ z. admitted i.queues.window c.take_victim-victim.result z) ((ap (λ (z : QueueState). z.small) c.append.ensures.queues) ∙ (ap (λ (z : QueueState). z.small) c.in-Some.ensures.queues) ∙ ap (λ z. take (length z - 1) z) (ap (λ (z : QueueState). z.small) c.take_victim-victim.ensures.queues)) in
     let d = promoted-done _ g.met.K.Eq.laws _ _ _ _ _ _ _ _ k c.in-Some.tail last c.take_victim-victim.result c.take_victim-victim.ensures.victim c.args.key c.args.value c.args.hash _ same c.renew.ensures.hash c.admit.new.self c.renew.new.index.homes c.renew.new.keys absent
-    (c.admit.ensures.slots ∙ c.append.ensures.slots ∙ c.in-Some.ensures.slots ∙ c.take_victim-victim.ensures.slots) (c.admit.ensures.window ∙ c.append.ensures.window ∙ c.in-Some.ensures.window ∙ c.take_victim-victim.ensures.window) c.renew.ensures.index c.renew.ensures.entries (ap (λ (z : KeyPlaces _ _). z.room) c.renew.ensures.kept)
-    full on small (c.admit.ensures.main ∙ (c.append.ensures.main ∙ ap (λ z. z ++ (c.in-Some.tail, false) ∷ []) (c.in-Some.ensures.main ∙ c.take_victim-victim.ensures.main))) in
+    ((ap (λ (z : QueueState). z.slots) c.admit.ensures.queues) ∙ (ap (λ (z : QueueState). z.slots) c.append.ensures.queues) ∙ (ap (λ (z : QueueState). z.slots) c.in-Some.ensures.queues) ∙ (ap (λ (z : QueueState). z.slots) c.take_victim-victim.ensures.queues)) ((ap (λ (z : QueueState). z.window) c.admit.ensures.queues) ∙ (ap (λ (z : QueueState). z.window) c.append.ensures.queues) ∙ (ap (λ (z : QueueState). z.window) c.in-Some.ensures.queues) ∙ (ap (λ (z : QueueState). z.window) c.take_victim-victim.ensures.queues)) c.renew.ensures.index c.renew.ensures.entries (ap (λ (z : KeyPlaces _ _). z.room) c.renew.ensures.kept)
+    full on small ((ap (λ (z : QueueState). z.main) c.admit.ensures.queues) ∙ ((ap (λ (z : QueueState). z.main) c.append.ensures.queues) ∙ ap (λ z. z ++ (c.in-Some.tail, false) ∷ []) ((ap (λ (z : QueueState). z.main) c.in-Some.ensures.queues) ∙ (ap (λ (z : QueueState). z.main) c.take_victim-victim.ensures.queues)))) in
     d.holds
 
 pub returns : goal.returns
@@ -98,12 +92,12 @@ returns g c =
     let k = c.self.invariant in
     let same = c.requires.hash ∙ ap (λ (z : CacheState _ _ _). hash_of g.S.BuildHasher g.S.Hasher.Hasher z.hasher (g.K.Hash.hash_input c.args.key)) (sym c.self.view_is) in
     let absent = rw (← c.self.view_is) at c.requires.absent in
-    let last = ap (λ z. last_or None (slots_of z)) (sym c.take_victim-victim.ensures.small) ∙ sym c.in-Some.ensures.tail in
+    let last = ap (λ z. last_or None (slots_of z)) (sym (ap (λ (z : QueueState). z.small) c.take_victim-victim.ensures.queues)) ∙ sym c.in-Some.ensures.tail in
     let full = rw (← c.self.view_is) at c.requires.full in
     let on = rw (← c.self.view_is) at c.requires.on in
     let i = c.self.inside in
-    let small = c.admit.ensures.small ∙ ap (λ n. admitted n c.take_victim-victim.result c.append.new.self.small) (c.append.ensures.window ∙ c.in-Some.ensures.window ∙ c.take_victim-victim.ensures.window) ∙ ap (λ z. admitted i.queues.window c.take_victim-victim.result z) (c.append.ensures.small ∙ c.in-Some.ensures.small ∙ ap (λ z. take (length z - 1) z) c.take_victim-victim.ensures.small) in
+    let small = (ap (λ (z : QueueState). z.small) c.admit.ensures.queues) ∙ ap (λ n. admitted n c.take_victim-victim.result c.append.new.self.small) ((ap (λ (z : QueueState). z.window) c.append.ensures.queues) ∙ (ap (λ (z : QueueState). z.window) c.in-Some.ensures.queues) ∙ (ap (λ (z : QueueState). z.window) c.take_victim-victim.ensures.queues)) ∙ ap (λ z. admitted i.queues.window c.take_victim-victim.result z) ((ap (λ (z : QueueState). z.small) c.append.ensures.queues) ∙ (ap (λ (z : QueueState). z.small) c.in-Some.ensures.queues) ∙ ap (λ z. take (length z - 1) z) (ap (λ (z : QueueState). z.small) c.take_victim-victim.ensures.queues)) in
     let d = promoted-done _ g.met.K.Eq.laws _ _ _ _ _ _ _ _ k c.in-Some.tail last c.take_victim-victim.result c.take_victim-victim.ensures.victim c.args.key c.args.value c.args.hash _ same c.renew.ensures.hash c.admit.new.self c.renew.new.index.homes c.renew.new.keys absent
-    (c.admit.ensures.slots ∙ c.append.ensures.slots ∙ c.in-Some.ensures.slots ∙ c.take_victim-victim.ensures.slots) (c.admit.ensures.window ∙ c.append.ensures.window ∙ c.in-Some.ensures.window ∙ c.take_victim-victim.ensures.window) c.renew.ensures.index c.renew.ensures.entries (ap (λ (z : KeyPlaces _ _). z.room) c.renew.ensures.kept)
-    full on small (c.admit.ensures.main ∙ (c.append.ensures.main ∙ ap (λ z. z ++ (c.in-Some.tail, false) ∷ []) (c.in-Some.ensures.main ∙ c.take_victim-victim.ensures.main))) in
+    ((ap (λ (z : QueueState). z.slots) c.admit.ensures.queues) ∙ (ap (λ (z : QueueState). z.slots) c.append.ensures.queues) ∙ (ap (λ (z : QueueState). z.slots) c.in-Some.ensures.queues) ∙ (ap (λ (z : QueueState). z.slots) c.take_victim-victim.ensures.queues)) ((ap (λ (z : QueueState). z.window) c.admit.ensures.queues) ∙ (ap (λ (z : QueueState). z.window) c.append.ensures.queues) ∙ (ap (λ (z : QueueState). z.window) c.in-Some.ensures.queues) ∙ (ap (λ (z : QueueState). z.window) c.take_victim-victim.ensures.queues)) c.renew.ensures.index c.renew.ensures.entries (ap (λ (z : KeyPlaces _ _). z.room) c.renew.ensures.kept)
+    full on small ((ap (λ (z : QueueState). z.main) c.admit.ensures.queues) ∙ ((ap (λ (z : QueueState). z.main) c.append.ensures.queues) ∙ ap (λ z. z ++ (c.in-Some.tail, false) ∷ []) ((ap (λ (z : QueueState). z.main) c.in-Some.ensures.queues) ∙ (ap (λ (z : QueueState). z.main) c.take_victim-victim.ensures.queues)))) in
     d.machine ∙ ap (λ (z : CacheState _ _ _). let p = into_small c.args.key z.machine in (stored p.slot c.args.value p.machine)) c.self.view_is

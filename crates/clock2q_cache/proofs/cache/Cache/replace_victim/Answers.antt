@@ -13,13 +13,6 @@ use Rattle.clock2q_cache.proofs.Kept.{IsDone, length_in_small, length_in_main}
 use Rattle.clock2q_cache.proofs.Renewed.{resident-there, slot-below, victim-in, rest, victim-not_in_rest, victim-not_in_small, replaced-done}
 use Rattle.clock2q_cache.proofs.cache.Cache.replace_victim.Goals as goal
 
-pub overflow_cast-victim : goal.overflow_cast-victim
-overflow_cast-victim g c =
-    let k = c.self.invariant in
-    let there = victim-in _ g.met.K.Eq.laws _ _ _ _ _ _ _ _ k c.take_victim-victim.result c.take_victim-victim.ensures.victim in
-    let b = slot-below _ g.met.K.Eq.laws _ _ _ _ _ _ _ _ k c.take_victim-victim.result there in
-    omega (arith, b.2)
-
 pub renew-requires-clause-resident : goal.renew-requires-clause-resident
 renew-requires-clause-resident g c =
     let k = c.self.invariant in
@@ -39,17 +32,17 @@ append-requires-clause-slot_in g c =
     let k = c.self.invariant in
     let there = victim-in _ g.met.K.Eq.laws _ _ _ _ _ _ _ _ k c.take_victim-victim.result c.take_victim-victim.ensures.victim in
     let b = slot-below _ g.met.K.Eq.laws _ _ _ _ _ _ _ _ k c.take_victim-victim.result there in
-    omega (arith, b.1, k.sized.as_many, c.take_victim-victim.ensures.slots)
+    omega (arith, b.1, k.sized.as_many, (ap (λ (z : QueueState). z.slots) c.take_victim-victim.ensures.queues))
 
 pub append-requires-clause-not_in_small : goal.append-requires-clause-not_in_small
 append-requires-clause-not_in_small g c =
     let k = c.self.invariant in
-    subst (λ z. has c.take_victim-victim.result (slots_of z) ≡ false) (sym c.take_victim-victim.ensures.small) (victim-not_in_small _ g.met.K.Eq.laws _ _ _ _ _ _ _ _ k c.take_victim-victim.result c.take_victim-victim.ensures.victim)
+    subst (λ z. has c.take_victim-victim.result (slots_of z) ≡ false) (sym (ap (λ (z : QueueState). z.small) c.take_victim-victim.ensures.queues)) (victim-not_in_small _ g.met.K.Eq.laws _ _ _ _ _ _ _ _ k c.take_victim-victim.result c.take_victim-victim.ensures.victim)
 
 pub append-requires-clause-not_in_main : goal.append-requires-clause-not_in_main
 append-requires-clause-not_in_main g c =
     let k = c.self.invariant in
-    subst (λ z. has c.take_victim-victim.result (slots_of z) ≡ false) (sym c.take_victim-victim.ensures.main) (victim-not_in_rest _ g.met.K.Eq.laws _ _ _ _ _ _ _ _ k c.take_victim-victim.result c.take_victim-victim.ensures.victim)
+    subst (λ z. has c.take_victim-victim.result (slots_of z) ≡ false) (sym (ap (λ (z : QueueState). z.main) c.take_victim-victim.ensures.queues)) (victim-not_in_rest _ g.met.K.Eq.laws _ _ _ _ _ _ _ _ k c.take_victim-victim.result c.take_victim-victim.ensures.victim)
 
 pub invariant_of-self : goal.invariant_of-self
 invariant_of-self g c =
@@ -57,10 +50,10 @@ invariant_of-self g c =
     let same = c.requires.hash ∙ ap (λ (z : CacheState _ _ _). hash_of g.S.BuildHasher g.S.Hasher.Hasher z.hasher (g.K.Hash.hash_input c.args.key)) (sym c.self.view_is) in
     let absent = rw (← c.self.view_is) at c.requires.absent in
     let full = rw (← c.self.view_is) at c.requires.full in
-    let main = c.append.ensures.main ∙ ap (λ z. z ++ (c.take_victim-victim.result, false) ∷ []) c.take_victim-victim.ensures.main in
+    let main = (ap (λ (z : QueueState). z.main) c.append.ensures.queues) ∙ ap (λ z. z ++ (c.take_victim-victim.result, false) ∷ []) (ap (λ (z : QueueState). z.main) c.take_victim-victim.ensures.queues) in
     let d = replaced-done _ g.met.K.Eq.laws _ _ _ _ _ _ _ _ k c.take_victim-victim.result c.take_victim-victim.ensures.victim c.args.key c.args.value c.args.hash _ same c.renew.ensures.hash c.append.new.self c.renew.new.index.homes c.renew.new.keys absent
-    (c.append.ensures.slots ∙ c.take_victim-victim.ensures.slots) (c.append.ensures.window ∙ c.take_victim-victim.ensures.window) c.renew.ensures.index c.renew.ensures.entries (ap (λ (z : KeyPlaces _ _). z.room) c.renew.ensures.kept)
-    full (c.append.ensures.small ∙ c.take_victim-victim.ensures.small) main in
+    ((ap (λ (z : QueueState). z.slots) c.append.ensures.queues) ∙ (ap (λ (z : QueueState). z.slots) c.take_victim-victim.ensures.queues)) ((ap (λ (z : QueueState). z.window) c.append.ensures.queues) ∙ (ap (λ (z : QueueState). z.window) c.take_victim-victim.ensures.queues)) c.renew.ensures.index c.renew.ensures.entries (ap (λ (z : KeyPlaces _ _). z.room) c.renew.ensures.kept)
+    full ((ap (λ (z : QueueState). z.small) c.append.ensures.queues) ∙ (ap (λ (z : QueueState). z.small) c.take_victim-victim.ensures.queues)) main in
     d.holds
 
 pub returns : goal.returns
@@ -69,8 +62,8 @@ returns g c =
     let same = c.requires.hash ∙ ap (λ (z : CacheState _ _ _). hash_of g.S.BuildHasher g.S.Hasher.Hasher z.hasher (g.K.Hash.hash_input c.args.key)) (sym c.self.view_is) in
     let absent = rw (← c.self.view_is) at c.requires.absent in
     let full = rw (← c.self.view_is) at c.requires.full in
-    let main = c.append.ensures.main ∙ ap (λ z. z ++ (c.take_victim-victim.result, false) ∷ []) c.take_victim-victim.ensures.main in
+    let main = (ap (λ (z : QueueState). z.main) c.append.ensures.queues) ∙ ap (λ z. z ++ (c.take_victim-victim.result, false) ∷ []) (ap (λ (z : QueueState). z.main) c.take_victim-victim.ensures.queues) in
     let d = replaced-done _ g.met.K.Eq.laws _ _ _ _ _ _ _ _ k c.take_victim-victim.result c.take_victim-victim.ensures.victim c.args.key c.args.value c.args.hash _ same c.renew.ensures.hash c.append.new.self c.renew.new.index.homes c.renew.new.keys absent
-    (c.append.ensures.slots ∙ c.take_victim-victim.ensures.slots) (c.append.ensures.window ∙ c.take_victim-victim.ensures.window) c.renew.ensures.index c.renew.ensures.entries (ap (λ (z : KeyPlaces _ _). z.room) c.renew.ensures.kept)
-    full (c.append.ensures.small ∙ c.take_victim-victim.ensures.small) main in
+    ((ap (λ (z : QueueState). z.slots) c.append.ensures.queues) ∙ (ap (λ (z : QueueState). z.slots) c.take_victim-victim.ensures.queues)) ((ap (λ (z : QueueState). z.window) c.append.ensures.queues) ∙ (ap (λ (z : QueueState). z.window) c.take_victim-victim.ensures.queues)) c.renew.ensures.index c.renew.ensures.entries (ap (λ (z : KeyPlaces _ _). z.room) c.renew.ensures.kept)
+    full ((ap (λ (z : QueueState). z.small) c.append.ensures.queues) ∙ (ap (λ (z : QueueState). z.small) c.take_victim-victim.ensures.queues)) main in
     d.machine ∙ ap (λ (z : CacheState _ _ _). let p = into_main c.args.key z.machine in (stored p.slot c.args.value p.machine)) c.self.view_is

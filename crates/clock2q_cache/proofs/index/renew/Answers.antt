@@ -3,7 +3,7 @@ use Rattle.std.proofs.Common.{ap, ◌∙◌}
 use Rattle.clock2q_queues.specs.Keys.{KeyPlaces, with_value}
 use Rattle.clock2q_queues.proofs.Entries.{written-replaced}
 use Rattle.clock2q_cache.proofs.Stored.{left-room}
-use Rattle.clock2q_cache.proofs.entering.renew.Goals as goal
+use Rattle.clock2q_cache.proofs.index.renew.Goals as goal
 
 pub add-requires-clause-room : goal.add-requires-clause-room
 add-requires-clause-room g c =
