@@ -3,6 +3,7 @@ pub use Rattle.clock2q_handles.specs.Homes
 pub use Rattle.clock2q_handles.specs.Layout
 pub use Rattle.clock2q_handles.specs.TableStep
 pub use Rattle.clock2q_handles.specs.Slots
+pub use Rattle.clock2q_handles.specs.Views
 pub use Rattle.clock2q_handles.specs.Table
 pub use Rattle.clock2q_handles.specs.Changes
 pub use Rattle.clock2q_handles.specs.Shifts
@@ -17,11 +18,12 @@ pub use Rattle.clock2q_cache.specs.Machine
 pub use Rattle.clock2q_cache.specs.Calls
 pub use Rattle.clock2q_cache.specs.Steps
 pub use Rattle.clock2q_cache.specs.Bounds
-pub use Rattle.clock2q_cache.specs.Entry
 pub use Rattle.clock2q_cache.specs.Cache
 pub use Rattle.clock2q_cache.specs.CacheFields
+pub use Rattle.clock2q_cache.specs.CacheState
+pub use Rattle.clock2q_cache.specs.Hashes
 pub use Rattle.clock2q_cache.specs.CacheLends
-pub use Rattle.clock2q_cache.specs.Keyed
+pub use Rattle.clock2q_cache.specs.Policies
 pub use Rattle.clock2q_cache.specs.Ages
 pub use Rattle.clock2q_cache.specs.Hand
 pub use Rattle.clock2q_command.specs.Commands

@@ -98,7 +98,7 @@ module _ {K V : Type 0} where
 
   module _ (eq : K → K → Bool) (m : Machine K V) (h : IsWhole eq m) where
     -- a slot that was made has another value
-    whole-changed : (slot : ℕ) (value : V) → slot < length m.values → IsWhole eq (stored slot value m)
+    pub whole-changed : (slot : ℕ) (value : V) → slot < length m.values → IsWhole eq (stored slot value m)
     whole-changed slot value made = rw (lt-ltb slot (length m.values) made) (revalued eq m h (slice_set m.values slot value) (length-set m.values slot value))
 
     -- a resident leaves

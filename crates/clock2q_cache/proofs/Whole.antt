@@ -56,7 +56,7 @@ no_vacancy [] made capacity none =
     ]
 
 -- where a key goes to Small, Small has a share, and room where there is a vacancy
-small_share : (share : ℕ) (b : Bool) → (false || (share == 0) || b) ≡ false → 0 < share
+pub small_share : (share : ℕ) (b : Bool) → (false || (share == 0) || b) ≡ false → 0 < share
 small_share zero b e = cc
 small_share (suc n) b e = omega arith
 

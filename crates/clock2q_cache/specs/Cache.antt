@@ -1,18 +1,10 @@
--- What contracts see of a cache, and what holds of every one.
-use Rattle.std.specs.Prelude.{◌≡◌, ℕ, ◌+◌, ◌<◌, ◌≤◌, ◌==◌, nat_lt, if◌then◌else◌, Bool, length, refl}
+-- What holds of every cache's machine.
+use Rattle.std.specs.Prelude.{◌≡◌, ℕ, ◌+◌, ◌<◌, ◌≤◌, ◌==◌, nat_lt, if◌then◌else◌, Bool, length}
 use Rattle.std.specs.List.{count_by}
-use Rattle.std.specs.Coded.{Coded, code_by}
 use Rattle.clock2q_cache.specs.Shares.{main_share, ghost_share}
-use Rattle.clock2q_cache.specs.Machine.{Machine, machine_code}
-
--- the machine that the cache is
-pub record CacheState (K V : Type 0) : Type 0 where
-  pub machine : Machine K V
+use Rattle.clock2q_cache.specs.Machine.{Machine}
 
 module _ {K V : Type 0} where
-  abbrev pub cache_code : Coded K → Coded V → Coded (CacheState K V)
-  cache_code key value = code_by (Machine K V) (machine_code key value) (λ c. c.machine) (λ m. record { machine = m }) (λ _. refl)
-
   -- how many keys of residents and of the history pass the test
   abbrev pub known_count : (K → Bool) → Machine K V → ℕ
   known_count is m = count_by (λ e. is e.key) m.small + count_by (λ e. is e.key) m.main + count_by is m.history

@@ -7,7 +7,7 @@ use Rattle.std.specs.declared.hash.Hasher as hasher
 use Rattle.std.specs.declared.hash.BuildHasher as builder
 use mathlib.Core.Option.{none}
 use Rattle.clock2q_cache.specs.Machine.{Machine}
-use Rattle.clock2q_cache.specs.Cache.{CacheState}
+use Rattle.clock2q_cache.specs.CacheState.{CacheState}
 use Rattle.clock2q_cache.specs.contracts.cache.Cache.{the_row}
 
 module _ (K V S A H : RattleType) (key : HashMembers K.Denot) (build : builder.Ghosts S.Denot H.Denot) (hash : hasher.Ghosts H.Denot) (heap : alloc.Ghosts A.Denot) where
@@ -16,5 +16,5 @@ module _ (K V S A H : RattleType) (key : HashMembers K.Denot) (build : builder.G
   cache_row = the_row K V S A H (record { hash_input = key.hash_input }) (record { eq = key.eq }) build hash heap
 
   -- the machine is this one once the reference into the cache has ended
-  abbrev pub LeavesMachine : MutBor (CacheState K.Denot V.Denot) → Machine K.Denot V.Denot → Fml
+  abbrev pub LeavesMachine : MutBor (CacheState K.Denot V.Denot S.Denot) → Machine K.Denot V.Denot → Fml
   LeavesMachine c m = follows_so cache_row cache_row c.ghost_name none (λ _ _. ⊤) (λ n. n.machine ≡ m)

@@ -4,10 +4,11 @@ pub mod Machine
 pub mod Calls
 pub mod Steps
 pub mod Bounds
-pub mod Entry
 pub mod Cache
 pub mod CacheFields
+pub mod CacheState
+pub mod Hashes
 pub mod CacheLends
-pub mod Keyed
+pub mod Policies
 pub use Rattle.clock2q_queues.specs.Ages
 pub use Rattle.clock2q_queues.specs.Hand

@@ -2,14 +2,17 @@
 
 mod insertion;
 
-use crate::entries::{MainEntry, SmallEntry};
 use crate::error::CacheError;
-use crate::queues;
+use crate::hashes::hash_of;
 use crate::shares::Shares;
+use clock2q_count::Count;
+use clock2q_handles::Table;
+use clock2q_queues::history::History;
+use clock2q_queues::keys::{Keys, index_room};
+use clock2q_queues::queues::Queues;
 use std::alloc::{Allocator, Global};
 use std::hash::{BuildHasher, BuildHasherDefault, FoldHasher, Hash};
 use std::marker::Model;
-use std::mem;
 use std::num::NonZeroUsize;
 
 /// The largest capacity that a cache can have, in keys: 16,777,215.
@@ -21,35 +24,37 @@ pub type DefaultHashBuilder = BuildHasherDefault<FoldHasher>;
 
 /// A key-value cache of fixed capacity.
 ///
-/// Keys are told apart by `Eq` alone; no answer depends on a hash. A call that takes a key
-/// compares it with the residents one after another, so its cost is linear in [`len`](Cache::len).
-/// All memory is taken by [`new`](Cache::new): no later call asks for any, and none can fail.
+/// No answer depends on a hash: keys are told apart by `Eq` alone. A call that takes a key hashes
+/// it once, and compares it with those whose hash is like its own. All memory is taken by the
+/// constructor: no later call asks for any, and none can fail.
 #[derive(Drop)]
 pub struct Cache<K: Hash + Eq, V, S: BuildHasher, A: Allocator = Global> {
     shares: Shares,
-    small: Vec<SmallEntry<K>, A>,
-    main: Vec<MainEntry<K>, A>,
-    history: Vec<K, A>,
-    values: Vec<V, A>,
+    queues: Queues<A>,
+    history: History<K, A>,
+    index: Table<u32, A>,
+    keys: Keys<K, V, A>,
+    free: Vec<u32, A>,
     hasher: S,
 }
 
 impl<K: Hash + Eq, V, S: BuildHasher, A: Allocator> Model for Cache<K, V, S, A> {
     ghost use Rattle.std.specs.Prelude.{vec_capacity};
-    ghost use Rattle.clock2q_cache.specs.Cache.{CacheState, cache_code};
-    ghost use Rattle.clock2q_cache.specs.CacheFields.{machine_of, IsKept};
+    ghost use Rattle.clock2q_cache.specs.CacheState.{CacheState, cache_state, cache_code};
+    ghost use Rattle.clock2q_cache.specs.CacheFields.{machine_of, counts_of, IsKept};
+    ghost use Rattle.clock2q_cache.specs.Hashes.{hash_of};
 
-    ghost Value = { CacheState K V };
+    ghost Value = { CacheState K V S };
 
-    ghost coded = { cache_code K.code V.code };
+    ghost coded = { cache_code K.code V.code S.code };
 
-    ghost view = { λ c. record { machine = machine_of c.shares c.small.items c.main.items c.history.items c.values.items } };
+    ghost view = { λ c. cache_state (machine_of c.shares c.queues c.keys.entries c.history.entries c.free.items) c.index.homes c.history.index c.hasher (counts_of c.queues c.history c.keys) };
 
-    ghost invariant = { λ c. IsKept K.eq (machine_of c.shares c.small.items c.main.items c.history.items c.values.items) (vec_capacity c.small) (vec_capacity c.main) (vec_capacity c.history) (vec_capacity c.values) };
+    ghost invariant = { λ c. IsKept K.eq (λ k. hash_of S.BuildHasher S.Hasher.Hasher c.hasher (K.hash_input k)) c.shares c.queues c.history c.index.homes c.keys c.free.items (vec_capacity c.free) };
 }
 
-impl<K: Hash + Eq + Drop, V: Drop, A: Allocator + Clone> Cache<K, V, DefaultHashBuilder, A> {
-    ghost use Rattle.std.specs.Prelude.{◌≡◌, ◌<◌, ◌↔◌, IfOk, IsErrOf};
+impl<K: Hash + Eq + Drop, V: Drop, A: Allocator + Copy> Cache<K, V, DefaultHashBuilder, A> {
+    ghost use Rattle.std.specs.Prelude.{◌≡◌, ◌≢◌, ◌<◌, ◌↔◌, Err, IfOk, IsErrOf};
     ghost use Rattle.std.specs.NonZero.{non_zero_usize_get};
     ghost use Rattle.clock2q_cache.specs.Shares.{usual_shares};
     ghost use Rattle.clock2q_cache.specs.Machine.{empty};
@@ -62,45 +67,90 @@ impl<K: Hash + Eq + Drop, V: Drop, A: Allocator + Clone> Cache<K, V, DefaultHash
     pub fn new(alloc: A, capacity: NonZeroUsize) -> Result<Self, CacheError>
         ensures made { IfOk result (λ cache. cache.machine ≡ empty (usual_shares (non_zero_usize_get capacity))) }
         ensures capacity { IsErrOf result CacheError.Capacity ↔ (MAX_CAPACITY < non_zero_usize_get capacity) }
+        ensures policy { result ≢ Err CacheError.Policy }
     {
-        let shares = Shares::usual(capacity.get());
-        Cache::with_shares(alloc, shares, BuildHasherDefault::new())
+        Cache::with_hasher(alloc, capacity, BuildHasherDefault::new())
     }
 }
 
-impl<K: Hash + Eq + Drop, V: Drop, S: BuildHasher + Drop, A: Allocator + Clone> Cache<K, V, S, A> {
-    ghost use Rattle.std.specs.Prelude.{◌≡◌, ◌<◌, ◌↔◌, IfOk, IsErrOf};
+impl<K: Hash + Eq + Drop, V: Drop, S: BuildHasher + Drop, A: Allocator + Copy> Cache<K, V, S, A> {
+    ghost use Rattle.std.specs.Prelude.{◌≡◌, ◌≢◌, ◌<◌, ◌≤◌, ◌↔◌, Err, IfOk, IsErrOf, IsOkUnless};
+    ghost use Rattle.std.specs.NonZero.{non_zero_usize_get};
+    ghost use Rattle.clock2q_cache.specs.Shares.{usual_shares};
+    ghost use Rattle.clock2q_cache.specs.Policies.{IsPolicy, shares_of};
     ghost use Rattle.clock2q_cache.specs.Machine.{empty};
+
+    /// Makes an empty cache as [`new`](Cache::new) does, with this hasher.
+    pub fn with_hasher(alloc: A, capacity: NonZeroUsize, hasher: S) -> Result<Self, CacheError>
+        ensures made { IfOk result (λ cache. cache.machine ≡ empty (usual_shares (non_zero_usize_get capacity))) }
+        ensures capacity { IsErrOf result CacheError.Capacity ↔ (MAX_CAPACITY < non_zero_usize_get capacity) }
+        ensures policy { result ≢ Err CacheError.Policy }
+    {
+        if capacity.get() > MAX_CAPACITY {
+            return Err(CacheError::Capacity);
+        }
+        Cache::with_shares(alloc, Shares::usual(capacity.get()), hasher)
+    }
+
+    /// Makes an empty cache of which `small` slots are Small's share, where keys are young for
+    /// `window` admissions.
+    ///
+    /// `Capacity` comes above [`MAX_CAPACITY`]; else `Policy` where Small leaves Main no slot, or
+    /// one of `small` and `window` is 0 and the other isn't, or the window is longer than Small.
+    /// Both come before any memory is taken. `Memory` comes where a request for memory is refused.
+    pub fn with_policy(
+        alloc: A,
+        capacity: NonZeroUsize,
+        small: usize,
+        window: usize,
+        hasher: S,
+    ) -> Result<Self, CacheError>
+        ensures made { IfOk result (λ cache. cache.machine ≡ empty (shares_of (non_zero_usize_get capacity) small window)) }
+        ensures capacity { IsErrOf result CacheError.Capacity ↔ (MAX_CAPACITY < non_zero_usize_get capacity) }
+        ensures policy { IsErrOf result CacheError.Policy ↔ ((non_zero_usize_get capacity ≤ MAX_CAPACITY) × ¬ IsPolicy (shares_of (non_zero_usize_get capacity) small window)) }
+    {
+        if capacity.get() > MAX_CAPACITY {
+            return Err(CacheError::Capacity);
+        }
+        let Some(shares) = Shares::new(capacity.get(), small, window) else {
+            return Err(CacheError::Policy);
+        };
+        Cache::with_shares(alloc, shares, hasher)
+    }
 
     /// Makes an empty cache whose capacity is shared out like this.
     fn with_shares(alloc: A, shares: Shares, hasher: S) -> Result<Self, CacheError>
+        requires { shares.capacity ≤ MAX_CAPACITY }
         ensures made { IfOk result (λ cache. cache.machine ≡ empty shares) }
-        ensures capacity { IsErrOf result CacheError.Capacity ↔ (MAX_CAPACITY < shares.capacity) }
+        ensures only { IsOkUnless result CacheError.Memory }
     {
-        if shares.capacity() > MAX_CAPACITY {
-            return Err(CacheError::Capacity);
-        }
-        let small = Vec::with_capacity(alloc.clone()?, shares.small())?;
-        let main = Vec::with_capacity(alloc.clone()?, shares.main())?;
-        let history = Vec::with_capacity(alloc.clone()?, shares.history())?;
-        let values = Vec::with_capacity(alloc, shares.capacity())?;
+        let slots = shares.capacity();
+        let queues = Queues::new(alloc, slots as u32, shares.window() as u32)?;
+        let history = History::new(alloc, shares.history())?;
+        let Ok(index) = Table::with_capacity(alloc, index_room(slots)) else {
+            return Err(CacheError::Memory);
+        };
+        let keys = Keys::new(alloc, slots)?;
+        let free = Vec::with_capacity(alloc, slots)?;
         Ok(Cache {
             shares,
-            small,
-            main,
+            queues,
             history,
-            values,
+            index,
+            keys,
+            free,
             hasher,
         })
     }
 }
 
 impl<K: Hash + Eq, V, S: BuildHasher, A: Allocator> Cache<K, V, S, A> {
-    ghost use Rattle.std.specs.Prelude.{◌≡◌, IsTrue, ◌↔◌, IsSome, IfSome, ◌<◌, length, slice_get};
+    ghost use Rattle.std.specs.Prelude.{◌≡◌, IsTrue, ◌↔◌, IsSome, IfSome, Some, ◌<◌, length, slice_get};
     ghost use Rattle.std.specs.Option.{option_copied};
     ghost use Rattle.std.specs.Borrow.{sem};
     ghost use Rattle.clock2q_cache.specs.Cache.{IsWhole};
     ghost use Rattle.clock2q_cache.specs.CacheLends.{LeavesMachine};
+    ghost use Rattle.clock2q_cache.specs.Hashes.{hash_of};
     ghost use Rattle.clock2q_cache.specs.Machine.{resident_count, slot_of, value_of, hit};
 
     /// How many keys the cache can hold: the number that it was made with.
@@ -115,7 +165,7 @@ impl<K: Hash + Eq, V, S: BuildHasher, A: Allocator> Cache<K, V, S, A> {
         ensures count { result ≡ resident_count self.now.machine }
         ensures whole { IsWhole K.eq self.now.machine }
     {
-        self.small.len() + self.main.len()
+        self.queues.small_len() + self.queues.main_len()
     }
 
     /// Whether the cache holds no key.
@@ -129,15 +179,15 @@ impl<K: Hash + Eq, V, S: BuildHasher, A: Allocator> Cache<K, V, S, A> {
     pub fn contains(&self, key: &K) -> bool
         ensures resident { IsTrue result ↔ IsSome (slot_of (K.eq key.now) self.now.machine) }
     {
-        self.find_slot(key).is_some()
+        self.slot_of(key).is_some()
     }
 
     /// The value of a resident key, or `None`. This is no use of it, and so changes no later eviction.
     pub fn peek(&self, key: &K) -> Option<&V>
         ensures value { option_copied result ≡ value_of (K.eq key.now) self.now.machine }
     {
-        let resident = self.find_slot(key)?;
-        Some(self.value(resident))
+        let slot = self.slot_of(key)?;
+        Some(self.value(slot))
     }
 
     /// The value of a resident key, and records the hit: it may save the key from a later eviction.
@@ -147,37 +197,57 @@ impl<K: Hash + Eq, V, S: BuildHasher, A: Allocator> Cache<K, V, S, A> {
         ensures* machine { sem 𝓛 (LeavesMachine K.row V.row S.row A.row S.Hasher.row K.Hash S.BuildHasher S.Hasher.Hasher A.Allocator self.entry (hit (K.eq key.now) self.old.machine)) }
         ensures value { option_copied result ≡ value_of (K.eq key.now) self.old.machine }
     {
-        let slot = self.find_slot(key)?;
-        self.record_hit(key);
+        let hash = self.hash(key);
+        let slot = self.find(hash, key)?;
+        self.record_hit(slot, key);
         Some(self.value(slot))
     }
 
-    /// Records a hit on the key, if it is resident.
-    pub(crate) fn record_hit(&mut self, key: &K)
-        ensures { self.new.machine ≡ hit (K.eq key.now) self.old.machine }
+    /// The hash of a key.
+    fn hash(&self, key: &K) -> u64
+        ensures { result ≡ hash_of S.BuildHasher S.Hasher.Hasher self.now.hasher (K.hash_input key.now) }
     {
-        queues::hit_in_small(&mut self.small, key);
-        queues::hit_in_main(&mut self.main, key);
+        hash_of(&self.hasher, key)
     }
 
-    /// The value of a slot.
-    fn value(&self, slot: usize) -> &V
-        requires { slot < length self.now.machine.values }
-        ensures { slice_get self.now.machine.values slot ≡ Some result.now }
-    {
-        &self.values[slot]
-    }
-
-    /// The slot of a resident key.
-    fn find_slot(&self, key: &K) -> Option<usize>
+    /// The slot of a resident key. Its questions are not counted.
+    fn slot_of(&self, key: &K) -> Option<u32>
         ensures slot { result ≡ slot_of (K.eq key.now) self.now.machine }
         ensures made { IfSome result (λ slot. slot < length self.now.machine.values) }
         ensures whole { IsWhole K.eq self.now.machine }
     {
-        match queues::small_slot(&self.small, key) {
-            Some(slot) => Some(slot),
-            None => queues::main_slot(&self.main, key),
-        }
+        let hash = hash_of(&self.hasher, key);
+        let mut asked = Count::new();
+        self.keys.find_untold(self.index.get(hash), key, &mut asked)
+    }
+
+    /// The slot of a resident key.
+    fn find(&mut self, hash: u64, key: &K) -> Option<u32>
+        requires { hash ≡ hash_of S.BuildHasher S.Hasher.Hasher self.old.hasher (K.hash_input key.now) }
+        ensures slot { result ≡ slot_of (K.eq key.now) self.old.machine }
+        ensures made { IfSome result (λ slot. slot < length self.old.machine.values) }
+        ensures machine { self.new.machine ≡ self.old.machine }
+        ensures whole { IsWhole K.eq self.old.machine }
+        ensures hasher { self.new.hasher ≡ self.old.hasher }
+    {
+        self.keys.find(self.index.get(hash), key)
+    }
+
+    /// Records a hit on the key that is resident at a slot.
+    fn record_hit(&mut self, slot: u32, key: &K)
+        requires { slot_of (K.eq key.now) self.old.machine ≡ Some slot }
+        ensures machine { self.new.machine ≡ hit (K.eq key.now) self.old.machine }
+    {
+        let _ = key;
+        self.queues.hit(slot);
+    }
+
+    /// The value of a slot.
+    fn value(&self, slot: u32) -> &V
+        requires { slot < length self.now.machine.values }
+        ensures { slice_get self.now.machine.values slot ≡ Some result.now }
+    {
+        self.keys.value(slot)
     }
 }
 
@@ -190,27 +260,27 @@ impl<K: Hash + Eq + Drop, V: Drop, S: BuildHasher, A: Allocator> Cache<K, V, S, 
     ///
     /// A resident key is hit, and its stored key stays; the key handed in is dropped. Another key
     /// is inserted, and the answer is `None`. Where the cache is full one resident leaves for it,
-    /// and so does one where a key comes back to a full Main. An insertion moves the entries of the
-    /// queues that it changes, so it is linear in their lengths.
+    /// and so does one where a key comes back to a full Main.
     pub fn put(&mut self, key: K, value: V) -> Option<V>
         ensures value { result ≡ value_of (K.eq key) self.old.machine }
         ensures machine { self.new.machine ≡ put (K.eq key) key value self.old.machine }
         ensures resident { value_of (K.eq key) self.new.machine ≡ Some value }
     {
-        let Some(slot) = self.find_slot(&key) else {
-            self.insert(key, value);
+        let hash = self.hash(&key);
+        let Some(slot) = self.find(hash, &key) else {
+            self.insert(hash, key, value);
             return None;
         };
-        self.record_hit(&key);
+        self.record_hit(slot, &key);
         Some(self.replace(slot, value))
     }
 
     /// Replaces the value of a slot, and answers the one before.
-    fn replace(&mut self, slot: usize, value: V) -> V
+    fn replace(&mut self, slot: u32, value: V) -> V
         requires { slot < length self.old.machine.values }
         ensures value { slice_get self.old.machine.values slot ≡ Some result }
         ensures machine { self.new.machine ≡ stored slot value self.old.machine }
     {
-        mem::replace(&mut self.values[slot], value)
+        self.keys.replace_value(slot, value)
     }
 }

@@ -14,6 +14,9 @@ pub enum CacheError {
     /// The capacity is above [`MAX_CAPACITY`](crate::MAX_CAPACITY). Only construction answers it.
     #[error("capacity refused")]
     Capacity,
+    /// The shares can't be had together. Only construction answers it.
+    #[error("policy refused")]
+    Policy,
 }
 
 impl From<AllocError> for CacheError {

@@ -8,10 +8,11 @@
 #![tactic(auto)]
 
 mod cache;
-mod entries;
 mod error;
-mod queues;
+mod hashes;
+mod index;
 mod shares;
+mod vacancies;
 
 pub use cache::{Cache, DefaultHashBuilder, MAX_CAPACITY};
 pub use error::CacheError;

@@ -1,6 +1,7 @@
 //! How a cache's capacity is shared out among its queues.
-ghost use Rattle.std.specs.Prelude.{◌≡◌, ◌<◌, ◌^◌};
+ghost use Rattle.std.specs.Prelude.{◌≡◌, ◌<◌, ◌≤◌, ◌^◌, MatchOption};
 ghost use Rattle.clock2q_cache.specs.Shares.{usual_shares, main_share, ghost_share};
+ghost use Rattle.clock2q_cache.specs.Policies.{IsPolicy, shares_of};
 
 use std::marker::Model;
 
@@ -13,14 +14,14 @@ pub(crate) struct Shares {
 }
 
 impl Model for Shares {
-    ghost use Rattle.std.specs.Prelude.{◌<◌};
     ghost use Rattle.clock2q_cache.specs.Shares.{Shares as Parts};
+    ghost use Rattle.clock2q_cache.specs.Policies.{IsPolicy};
 
     ghost Value = { Parts };
 
     ghost view = { λ s. record { capacity = s.capacity; small = s.small; window = s.window } };
 
-    ghost invariant = { λ s. s.small < s.capacity };
+    ghost invariant = { λ s. IsPolicy (record { capacity = s.capacity; small = s.small; window = s.window }) };
 
     ghost inverse = { λ p. record { capacity = p.capacity; small = p.small; window = p.window } };
 }
@@ -43,6 +44,20 @@ impl Shares {
         }
     }
 
+    /// The shares of a cache that is made with all three numbers, if they can be had together.
+    pub(crate) fn new(capacity: usize, small: usize, window: usize) -> Option<Self>
+        ensures { MatchOption result (¬ IsPolicy (shares_of capacity small window)) (λ shares. shares ≡ shares_of capacity small window) }
+    {
+        if small >= capacity || (small == 0) != (window == 0) || window > small {
+            return None;
+        }
+        Some(Shares {
+            capacity,
+            small,
+            window,
+        })
+    }
+
     pub(crate) fn capacity(self) -> usize
         ensures { result ≡ self.capacity }
     {
@@ -57,7 +72,8 @@ impl Shares {
     }
 
     pub(crate) fn window(self) -> usize
-        ensures { result ≡ self.window }
+        ensures window { result ≡ self.window }
+        ensures policy { IsPolicy self }
     {
         self.window
     }

@@ -13,7 +13,7 @@ use Rattle.clock2q_cache.specs.Machine.{Machine, empty}
 use Rattle.clock2q_cache.specs.Steps.{answers}
 use Rattle.clock2q_command.specs.Text.{Script, script_of, output_of}
 use Rattle.clock2q_command.specs.declared.serve_error.ServeError.{ServeError}
-use Rattle.clock2q_command.specs.declared.serve_error.ServeError.TheVariants.{BadLine, Memory, Capacity, Read, Write}
+use Rattle.clock2q_command.specs.declared.serve_error.ServeError.TheVariants.{BadLine, Memory, Capacity, Policy, Read, Write}
 
 -- bytes pass, and then there is a stop or a failure
 passed-end : (old : Passed) (bytes : List ℕ) (stopped failed : Bool) → passed_by (passed_by old bytes false false) [] stopped failed ≡ passed_by old bytes stopped failed
@@ -52,6 +52,7 @@ Answers-replied old new left remain input script bytes (Ok text) whole is h = re
 Answers-replied old new left remain input script bytes (Err (BadLine line)) whole is h = absurd h
 Answers-replied old new left remain input script bytes (Err Memory) whole is h = inr (record { input = input; read = whole; good = λ line e. cc })
 Answers-replied old new left remain input script bytes (Err Capacity) whole is h = record { input = input; script = script; read = whole; spelled = is; large = h }
+Answers-replied old new left remain input script bytes (Err Policy) whole is h = absurd h
 Answers-replied old new left remain input script bytes (Err Read) whole is h = absurd h
 Answers-replied old new left remain input script bytes (Err Write) whole is h = absurd h
 
@@ -61,6 +62,7 @@ IsRefused-early given gives left remain took takes held holds Write h = absurd h
 IsRefused-early given gives left remain took takes held holds (BadLine line) h = h
 IsRefused-early given gives left remain took takes held holds Memory h = h
 IsRefused-early given gives left remain took takes held holds Capacity h = h
+IsRefused-early given gives left remain took takes held holds Policy h = absurd h
 IsRefused-early given gives left remain took takes held holds Read h = h
 
 -- with a text it is refused where sending fails
@@ -69,6 +71,7 @@ IsRefused-late given gives left remain took takes held holds text (Ok done) answ
 IsRefused-late given gives left remain took takes held holds text (Err (BadLine line)) answered h = absurd h
 IsRefused-late given gives left remain took takes held holds text (Err Memory) answered h = absurd h
 IsRefused-late given gives left remain took takes held holds text (Err Capacity) answered h = absurd h
+IsRefused-late given gives left remain took takes held holds text (Err Policy) answered h = absurd h
 IsRefused-late given gives left remain took takes held holds text (Err Read) answered h = absurd h
 IsRefused-late given gives left remain took takes held holds text (Err Write) answered h = record { text = text; count = h.0; answered = answered; written = h.1 }
 

@@ -9,7 +9,7 @@ use Rattle.clock2q_command.specs.Cut.{first_and_others}
 use Rattle.clock2q_command.specs.Parsing.{Refuses}
 use Rattle.clock2q_command.specs.Text.{lines_of, words_of, capacity_in, call_in, call_then, with_call, calls_from, script_in, script_of, script_then, script_with}
 use Rattle.clock2q_command.specs.declared.serve_error.ServeError.{ServeError}
-use Rattle.clock2q_command.specs.declared.serve_error.ServeError.TheVariants.{BadLine, Memory, Capacity, Read, Write}
+use Rattle.clock2q_command.specs.declared.serve_error.ServeError.TheVariants.{BadLine, Memory, Capacity, Policy, Read, Write}
 
 -- the calls gathered, before what is still to come
 abbrev pub gathered : List (Call ℕ ℕ) → Result (List (Call ℕ ℕ)) ℕ → Result (List (Call ℕ ℕ)) ℕ
@@ -72,6 +72,7 @@ Refuses-script capacity read (BadLine line) h = ap (script_with capacity) h
 Refuses-script capacity (Ok calls) Memory h = λ line e. cc
 Refuses-script capacity (Err bad) Memory h = λ line e. let same : bad ≡ line = cc in h line (ap Err same)
 Refuses-script capacity read Capacity h = h
+Refuses-script capacity read Policy h = h
 Refuses-script capacity read Read h = h
 Refuses-script capacity read Write h = h
 

@@ -6,13 +6,14 @@ use Rattle.clock2q_command.specs.Commands.{call_of}
 use Rattle.clock2q_command.specs.Text.{Script}
 use Rattle.clock2q_command.specs.declared.commands.Command.{Command}
 use Rattle.clock2q_command.specs.declared.serve_error.ServeError.{ServeError}
-use Rattle.clock2q_command.specs.declared.serve_error.ServeError.TheVariants.{BadLine, Memory, Capacity, Read, Write}
+use Rattle.clock2q_command.specs.declared.serve_error.ServeError.TheVariants.{BadLine, Memory, Capacity, Policy, Read, Write}
 
 -- the refusal is the text's first bad line; or memory ran out, and no bad line comes before the third
 abbrev pub Refuses : {Y : Type 0} → ServeError → Result Y ℕ → Type 0
 Refuses (BadLine line) spelled = spelled ≡ Err line
 Refuses Memory spelled = (line : ℕ) → spelled ≡ Err line → 2 < line
 Refuses Capacity spelled = ⊥
+Refuses Policy spelled = ⊥
 Refuses Read spelled = ⊥
 Refuses Write spelled = ⊥
 

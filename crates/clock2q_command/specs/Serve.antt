@@ -8,7 +8,7 @@ use Rattle.clock2q_command.specs.Ports.{Passed, passed_by}
 use Rattle.clock2q_command.specs.Transfer.{TookSome, FailsWith, GivesUp}
 use Rattle.clock2q_command.specs.Text.{Script, script_of, output_of}
 use Rattle.clock2q_command.specs.declared.serve_error.ServeError.{ServeError}
-use Rattle.clock2q_command.specs.declared.serve_error.ServeError.TheVariants.{BadLine, Memory, Capacity, Read, Write}
+use Rattle.clock2q_command.specs.declared.serve_error.ServeError.TheVariants.{BadLine, Memory, Capacity, Policy, Read, Write}
 
 -- what is written for a script: `ok`, and the answers of a new cache of its capacity
 unfoldable pub output_for : Script → List ℕ
@@ -55,6 +55,7 @@ module _ (old new : Passed) (left remain : Option (List ℕ)) where
   HasNoText (BadLine line) = HasBadLine line
   HasNoText Memory = GivesUp old new Memory ⊎ HasGoodStart
   HasNoText Capacity = IsTooLarge
+  HasNoText Policy = ⊥
   HasNoText Read = GivesUp old new Read
   HasNoText Write = ⊥
 
@@ -80,6 +81,7 @@ RepliesTo script bytes (Ok text) = (script.capacity < 2 ^ 24) × (bytes text ≡
 RepliesTo script bytes (Err (BadLine line)) = ⊥
 RepliesTo script bytes (Err Memory) = script.capacity < 2 ^ 24
 RepliesTo script bytes (Err Capacity) = 2 ^ 24 ≤ script.capacity
+RepliesTo script bytes (Err Policy) = ⊥
 RepliesTo script bytes (Err Read) = ⊥
 RepliesTo script bytes (Err Write) = ⊥
 

@@ -3,13 +3,14 @@ use Rattle.std.specs.Prelude.{ℕ}
 use Rattle.clock2q_cache.specs.declared.error.CacheError.{CacheError}
 use Rattle.clock2q_cache.specs.declared.error.CacheError.TheVariants as cache
 use Rattle.clock2q_command.specs.declared.serve_error.ServeError.{ServeError}
-use Rattle.clock2q_command.specs.declared.serve_error.ServeError.TheVariants.{BadLine, Memory, Capacity, Read, Write}
+use Rattle.clock2q_command.specs.declared.serve_error.ServeError.TheVariants.{BadLine, Memory, Capacity, Policy, Read, Write}
 
--- 2 for the text, 3 for what the cache can't have, 4 for a device
+-- 2 for the text, 3 for what the cache can't have, 4 for a device, 5 for its shares
 abbrev pub status_of : ServeError → ℕ
 status_of (BadLine line) = 2
 status_of Memory = 3
 status_of Capacity = 3
+status_of Policy = 5
 status_of Read = 4
 status_of Write = 4
 
@@ -17,3 +18,4 @@ status_of Write = 4
 abbrev pub refusal_of : CacheError → ServeError
 refusal_of cache.Memory = Memory
 refusal_of cache.Capacity = Capacity
+refusal_of cache.Policy = Policy

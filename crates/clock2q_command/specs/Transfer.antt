@@ -3,13 +3,14 @@ use Rattle.std.specs.Prelude.{◌≡◌, ℕ, true, false, List, take, Option, R
 use Rattle.std.specs.Io.KnownBytes.{Appends}
 use Rattle.clock2q_command.specs.Ports.{Passed, passed_by}
 use Rattle.clock2q_command.specs.declared.serve_error.ServeError.{ServeError}
-use Rattle.clock2q_command.specs.declared.serve_error.ServeError.TheVariants.{BadLine, Memory, Capacity, Read, Write}
+use Rattle.clock2q_command.specs.declared.serve_error.ServeError.TheVariants.{BadLine, Memory, Capacity, Policy, Read, Write}
 
 -- a source whose reading was given up: it failed, or memory ran out where it had given some bytes
 abbrev pub GivesUp : Passed → Passed → ServeError → Type 0
 GivesUp old new (BadLine line) = ⊥
 GivesUp old new Memory = (bytes : List ℕ) × (new ≡ passed_by old bytes false false)
 GivesUp old new Capacity = ⊥
+GivesUp old new Policy = ⊥
 GivesUp old new Read = (bytes : List ℕ) × (new ≡ passed_by old bytes false true)
 GivesUp old new Write = ⊥
 
@@ -33,6 +34,7 @@ abbrev pub FailsWith : Passed → Passed → Option (List ℕ) → Option (List 
 FailsWith old new held holds text (BadLine line) = ⊥
 FailsWith old new held holds text Memory = ⊥
 FailsWith old new held holds text Capacity = ⊥
+FailsWith old new held holds text Policy = ⊥
 FailsWith old new held holds text Read = ⊥
 FailsWith old new held holds text Write = (count : ℕ) × TookSome old new held holds text count
 

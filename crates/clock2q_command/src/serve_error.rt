@@ -19,6 +19,10 @@ pub enum ServeError {
     /// [`MAX_CAPACITY`](clock2q_cache::MAX_CAPACITY).
     #[error("capacity refused")]
     Capacity,
+    /// The shares can't be had together. No line asks for shares of its own yet, so
+    /// [`serve`](crate::serve) never gives this.
+    #[error("policy refused")]
+    Policy,
     /// The source failed, before its end was reached.
     #[error("read failed")]
     Read,
@@ -31,7 +35,7 @@ impl ServeError {
     ghost use Rattle.clock2q_command.specs.ServeError.{status_of};
 
     /// The status with which the program ends: 2 for a bad line, 3 where the cache can't be had,
-    /// 4 where a device failed.
+    /// 4 where a device failed, 5 where its shares can't be had together.
     pub fn status(&self) -> u8
         ensures status { result ≡ status_of self.now }
     {
@@ -39,6 +43,7 @@ impl ServeError {
             ServeError::BadLine(_) => 2,
             ServeError::Memory | ServeError::Capacity => 3,
             ServeError::Read | ServeError::Write => 4,
+            ServeError::Policy => 5,
         }
     }
 }
@@ -52,6 +57,7 @@ impl From<CacheError> for ServeError {
         match error {
             CacheError::Memory => ServeError::Memory,
             CacheError::Capacity => ServeError::Capacity,
+            CacheError::Policy => ServeError::Policy,
         }
     }
 }

@@ -1,30 +1,39 @@
 //! Insertion of a key that is not resident.
 use crate::cache::Cache;
-use crate::entries::MainEntry;
-use crate::queues;
+use crate::index::{enter, renew};
+use crate::vacancies::take_vacancy;
 use std::alloc::Allocator;
 use std::hash::{BuildHasher, Hash};
-use std::mem;
 
 impl<K: Hash + Eq + Drop, V: Drop, S: BuildHasher, A: Allocator> Cache<K, V, S, A> {
-    ghost use Rattle.std.specs.Prelude.{◌≡◌, ◌==◌, ◌<◌, ◌≤◌, length, true, false, None, IfSome};
+    ghost use Rattle.std.specs.Prelude.{◌≡◌, ◌==◌, ◌<◌, ◌≤◌, length, true, false, None, IfSome, is_some};
     ghost use Rattle.std.specs.List.{list_any, last_or};
     ghost use Rattle.clock2q_cache.specs.Shares.{main_share};
     ghost use Rattle.clock2q_queues.specs.Ages.{is_promoted};
-    ghost use Rattle.clock2q_cache.specs.Cache.{known_count};
-    ghost use Rattle.clock2q_cache.specs.Machine.{slot_of, goes_to_main, into_main, into_small, forgotten, inserted, stored};
+    ghost use Rattle.clock2q_cache.specs.Cache.{IsWhole, known_count};
+    ghost use Rattle.clock2q_cache.specs.Hashes.{hash_of};
+    ghost use Rattle.clock2q_cache.specs.Machine.{slot_of, vacancy, goes_to_main, into_main, into_small, forgotten, inserted, stored};
 
     /// Inserts a key that is not resident.
-    pub(crate) fn insert(&mut self, key: K, value: V)
-        requires { slot_of (K.eq key) self.old.machine ≡ None }
+    pub(crate) fn insert(&mut self, hash: u64, key: K, value: V)
+        requires hash { hash ≡ hash_of S.BuildHasher S.Hasher.Hasher self.old.hasher (K.hash_input key) }
+        requires absent { slot_of (K.eq key) self.old.machine ≡ None }
         ensures { self.new.machine ≡ inserted (K.eq key) key value self.old.machine }
     {
-        let known = self.forget(&key);
+        let known = self.forget(hash, &key);
         if self.admits_to_main(known) {
-            self.insert_into_main(key, value);
+            self.insert_into_main(hash, key, value);
         } else {
-            self.insert_into_small(key, value);
+            self.insert_into_small(hash, key, value);
         }
+    }
+
+    /// Whether there is a slot for a new resident.
+    fn has_vacancy(&self) -> bool
+        ensures vacant { result ≡ is_some (vacancy self.now.machine) }
+        ensures whole { IsWhole K.eq self.now.machine }
+    {
+        !self.free.is_empty() || self.keys.len() < self.shares.capacity()
     }
 
     /// Whether a key that had history, or had none, enters Main.
@@ -32,117 +41,148 @@ impl<K: Hash + Eq + Drop, V: Drop, S: BuildHasher, A: Allocator> Cache<K, V, S, 
         ensures { result ≡ goes_to_main known self.now.machine }
     {
         let share = self.shares.small();
-        let vacant = self.values.len() < self.shares.capacity();
-        known || share == 0 || (vacant && share <= self.small.len())
+        known || share == 0 || (self.has_vacancy() && share <= self.queues.small_len())
     }
 
     /// Erases the key's history, and says whether it had any.
-    fn forget(&mut self, key: &K) -> bool
+    fn forget(&mut self, hash: u64, key: &K) -> bool
+        requires { hash ≡ hash_of S.BuildHasher S.Hasher.Hasher self.old.hasher (K.hash_input key.now) }
         ensures known { result ≡ list_any (K.eq key.now) self.old.machine.history }
         ensures machine { self.new.machine ≡ forgotten (K.eq key.now) self.old.machine }
+        ensures hasher { self.new.hasher ≡ self.old.hasher }
     {
-        queues::forget(&mut self.history, key)
+        self.history.discard(hash, key)
     }
 
-    /// Inserts a key into Main: in the slot of its victim where it has its share, else in a new slot.
-    fn insert_into_main(&mut self, key: K, value: V)
+    /// Inserts a key into Main: in the slot of its victim where it has its share, else at a vacancy.
+    fn insert_into_main(&mut self, hash: u64, key: K, value: V)
+        requires hash { hash ≡ hash_of S.BuildHasher S.Hasher.Hasher self.old.hasher (K.hash_input key) }
         requires absent { known_count (K.eq key) self.old.machine ≡ 0 }
         ensures { self.new.machine ≡ (let p = into_main key self.old.machine in stored p.slot value p.machine) }
     {
-        if self.main.len() == self.shares.main() {
-            self.replace_victim(key, value);
+        if self.queues.main_len() == self.shares.main() {
+            self.replace_victim(hash, key, value);
         } else {
-            self.join_main(key, value);
+            self.join_main(hash, key, value);
         }
     }
 
     /// Inserts a key into a full Main, in place of its victim.
-    fn replace_victim(&mut self, key: K, value: V)
+    fn replace_victim(&mut self, hash: u64, key: K, value: V)
+        requires hash { hash ≡ hash_of S.BuildHasher S.Hasher.Hasher self.old.hasher (K.hash_input key) }
         requires absent { known_count (K.eq key) self.old.machine ≡ 0 }
         requires full { length self.old.machine.main ≡ main_share self.old.machine.shares }
         ensures { self.new.machine ≡ (let p = into_main key self.old.machine in stored p.slot value p.machine) }
     {
-        let victim = queues::take_victim(&mut self.main);
-        let slot = victim.slot();
-        self.main.push_reserved(MainEntry::new(key, slot));
-        self.values[slot] = value;
+        let victim = self.queues.take_victim();
+        renew(
+            &mut self.index,
+            &mut self.keys,
+            victim,
+            hash,
+            key,
+            value,
+        );
+        self.queues.append(victim);
     }
 
-    /// Inserts a key into Main, which has room, in a new slot.
-    fn join_main(&mut self, key: K, value: V)
+    /// Inserts a key into Main, which has room, at a vacancy.
+    fn join_main(&mut self, hash: u64, key: K, value: V)
+        requires hash { hash ≡ hash_of S.BuildHasher S.Hasher.Hasher self.old.hasher (K.hash_input key) }
         requires absent { known_count (K.eq key) self.old.machine ≡ 0 }
         requires room { length self.old.machine.main < main_share self.old.machine.shares }
         ensures { self.new.machine ≡ (let p = into_main key self.old.machine in stored p.slot value p.machine) }
     {
-        let slot = self.values.len();
-        self.main.push_reserved(MainEntry::new(key, slot));
-        self.values.push_reserved(value);
+        let slot = take_vacancy(&mut self.free, self.keys.len());
+        enter(&mut self.index, &mut self.keys, slot, hash, key, value);
+        self.queues.append(slot);
     }
 
-    /// Inserts a key into Small: in a new slot while there is one, else in that of its tail or of Main's victim.
-    fn insert_into_small(&mut self, key: K, value: V)
+    /// Inserts a key into Small: at a vacancy while there is one, else in the slot of its tail or of Main's victim.
+    fn insert_into_small(&mut self, hash: u64, key: K, value: V)
+        requires hash { hash ≡ hash_of S.BuildHasher S.Hasher.Hasher self.old.hasher (K.hash_input key) }
         requires absent { known_count (K.eq key) self.old.machine ≡ 0 }
         requires small { goes_to_main false self.old.machine ≡ false }
         ensures { self.new.machine ≡ (let p = into_small key self.old.machine in stored p.slot value p.machine) }
     {
-        if self.values.len() < self.shares.capacity() {
-            self.join_small(key, value);
+        if self.has_vacancy() {
+            self.join_small(hash, key, value);
         } else if self.tail_is_promoted() {
-            self.promote_tail(key, value);
+            self.promote_tail(hash, key, value);
         } else {
-            self.evict_tail(key, value);
+            self.evict_tail(hash, key, value);
         }
     }
 
-    /// Inserts a key into Small, which has room, in a new slot.
-    fn join_small(&mut self, key: K, value: V)
+    /// Inserts a key into Small, which has room, at a vacancy.
+    fn join_small(&mut self, hash: u64, key: K, value: V)
+        requires hash { hash ≡ hash_of S.BuildHasher S.Hasher.Hasher self.old.hasher (K.hash_input key) }
         requires absent { known_count (K.eq key) self.old.machine ≡ 0 }
         requires room { length self.old.machine.small < self.old.machine.shares.small }
-        requires vacant { length self.old.machine.values < self.old.machine.shares.capacity }
+        requires vacant { is_some (vacancy self.old.machine) ≡ true }
         ensures { self.new.machine ≡ (let p = into_small key self.old.machine in stored p.slot value p.machine) }
     {
-        let slot = self.values.len();
-        queues::admit(&mut self.small, self.shares.window(), key, slot);
-        self.values.push_reserved(value);
+        let slot = take_vacancy(&mut self.free, self.keys.len());
+        enter(&mut self.index, &mut self.keys, slot, hash, key, value);
+        self.queues.admit(slot);
     }
 
     /// Whether Small's tail has earned its way into Main.
-    fn tail_is_promoted(&self) -> bool
-        requires { 0 < length self.now.machine.small }
-        ensures { IfSome (last_or None self.now.machine.small) (λ tail. result ≡ is_promoted tail.age) }
+    fn tail_is_promoted(&mut self) -> bool
+        requires { 0 < length self.old.machine.small }
+        ensures value { IfSome (last_or None self.old.machine.small) (λ tail. result ≡ is_promoted tail.age) }
+        ensures machine { self.new.machine ≡ self.old.machine }
+        ensures hasher { self.new.hasher ≡ self.old.hasher }
     {
-        queues::tail_is_promoted(&self.small)
+        self.queues.tail_is_promoted()
     }
 
     /// Inserts a key into Small in the slot of its tail, which goes out into the history.
-    fn evict_tail(&mut self, key: K, value: V)
+    fn evict_tail(&mut self, hash: u64, key: K, value: V)
+        requires hash { hash ≡ hash_of S.BuildHasher S.Hasher.Hasher self.old.hasher (K.hash_input key) }
         requires absent { known_count (K.eq key) self.old.machine ≡ 0 }
         requires some { 0 < length self.old.machine.small }
-        requires full { self.old.machine.shares.capacity ≤ length self.old.machine.values }
+        requires full { vacancy self.old.machine ≡ None }
         requires out { IfSome (last_or None self.old.machine.small) (λ tail. is_promoted tail.age ≡ false) }
         ensures { self.new.machine ≡ (let p = into_small key self.old.machine in stored p.slot value p.machine) }
     {
-        let tail = queues::take_tail(&mut self.small);
-        let slot = tail.slot();
-        let share = self.shares.history();
-        queues::remember(&mut self.history, share, tail.into_key());
-        queues::admit(&mut self.small, self.shares.window(), key, slot);
-        self.values[slot] = value;
+        let Some(tail) = self.queues.take_tail() else {
+            unreachable!()
+        };
+        let (old_hash, old_key) = renew(
+            &mut self.index,
+            &mut self.keys,
+            tail,
+            hash,
+            key,
+            value,
+        );
+        self.history.push(old_hash, old_key);
+        self.queues.admit(tail);
     }
 
     /// Inserts a key into Small in the slot of Main's victim, while Small's tail goes on to Main.
-    fn promote_tail(&mut self, key: K, value: V)
+    fn promote_tail(&mut self, hash: u64, key: K, value: V)
+        requires hash { hash ≡ hash_of S.BuildHasher S.Hasher.Hasher self.old.hasher (K.hash_input key) }
         requires absent { known_count (K.eq key) self.old.machine ≡ 0 }
         requires some { 0 < length self.old.machine.small }
-        requires full { self.old.machine.shares.capacity ≤ length self.old.machine.values }
+        requires full { vacancy self.old.machine ≡ None }
         requires on { IfSome (last_or None self.old.machine.small) (λ tail. is_promoted tail.age ≡ true) }
         ensures { self.new.machine ≡ (let p = into_small key self.old.machine in stored p.slot value p.machine) }
     {
-        let tail = queues::take_tail(&mut self.small);
-        let victim = queues::take_victim(&mut self.main);
-        let slot = victim.slot();
-        self.main.push_reserved(tail.into_main());
-        queues::admit(&mut self.small, self.shares.window(), key, slot);
-        self.values[slot] = value;
+        let victim = self.queues.take_victim();
+        let Some(tail) = self.queues.take_tail() else {
+            unreachable!()
+        };
+        self.queues.append(tail);
+        renew(
+            &mut self.index,
+            &mut self.keys,
+            victim,
+            hash,
+            key,
+            value,
+        );
+        self.queues.admit(victim);
     }
 }

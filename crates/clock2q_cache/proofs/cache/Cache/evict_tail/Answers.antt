@@ -1,40 +1,90 @@
 -- The tail's key goes into the history, and its slot to the new key.
-use Rattle.std.proofs.Common.{arith}
-use Rattle.clock2q_cache.specs.CacheFields.{machine_of}
-use Rattle.clock2q_cache.specs.Machine.{evicting_tail}
-use Rattle.clock2q_cache.proofs.Kept.{kept_placed}
-use Rattle.clock2q_cache.proofs.Whole.{tail_made, placed-evicting}
-use Rattle.clock2q_cache.proofs.Placed.{tail_at, placed_for_tail, stored_for_tail, promotion_of_tail}
+use Rattle.std.proofs.Common.{◌≡◌, ◌+◌, ◌-◌, ◌<◌, ◌++◌, ◌∷◌, [], true, false, length, take, drop, Some, None, ap, sym, ◌∙◌, subst, arith}
+use Rattle.std.specs.List.{AllByRecursion}
+use Rattle.clock2q_queues.specs.Rings.{has}
+use Rattle.clock2q_queues.specs.Small.{admitted}
+use Rattle.clock2q_queues.specs.MainRing.{from_victim}
+use Rattle.clock2q_queues.specs.Queues.{QueueState, slots_of}
+use Rattle.clock2q_queues.specs.Keys.{KeyPlaces}
+use Rattle.clock2q_queues.specs.History.{Remembered, is_remembered}
+use Rattle.clock2q_cache.specs.Hashes.{hash_of}
+use Rattle.clock2q_cache.specs.Machine.{into_main, into_small, stored}
+use Rattle.clock2q_cache.specs.CacheState.{CacheState}
+use Rattle.clock2q_cache.proofs.Kept.{IsDone, length_in_small, length_in_main}
+use Rattle.clock2q_cache.proofs.Stored.{hash-of-key}
+use Rattle.clock2q_cache.proofs.Renewed.{resident-there, slot-below, no-tail, all-taken, front, tail-in, tail-not_in_front, tail-not_in_main, tail-unremembered, evicted-done}
 use Rattle.clock2q_cache.proofs.cache.Cache.evict_tail.Goals as goal
+
+pub unreachable-requires : goal.unreachable-requires
+unreachable-requires g c =
+    let k = c.self.invariant in
+    let some = rw (← c.self.view_is) at c.requires.some in
+    no-tail c.self.inside.queues.small (omega (arith, some, length_in_small _ g.met.K.Eq.laws _ _ _ _ _ _ _ _ k)) c.in_default.ensures.tail
+
+pub renew-old_hash-requires-clause-resident : goal.renew-old_hash-requires-clause-resident
+renew-old_hash-requires-clause-resident g c =
+    let k = c.self.invariant in
+    let there = tail-in _ g.met.K.Eq.laws _ _ _ _ _ _ _ _ k c.in-Some.tail (sym c.in-Some.ensures.tail) in
+    let b = slot-below _ g.met.K.Eq.laws _ _ _ _ _ _ _ _ k c.in-Some.tail there in
+    resident-there _ g.met.K.Eq.laws _ _ _ _ _ _ _ _ k c.in-Some.tail there
+
+pub renew-old_hash-requires-clause-made : goal.renew-old_hash-requires-clause-made
+renew-old_hash-requires-clause-made g c =
+    let k = c.self.invariant in
+    let there = tail-in _ g.met.K.Eq.laws _ _ _ _ _ _ _ _ k c.in-Some.tail (sym c.in-Some.ensures.tail) in
+    let b = slot-below _ g.met.K.Eq.laws _ _ _ _ _ _ _ _ k c.in-Some.tail there in
+    b.0
+
+pub push-requires : goal.push-requires
+push-requires g c =
+    let k = c.self.invariant in
+    record { absent = tail-unremembered _ g.met.K.Eq.laws _ _ _ _ _ _ _ _ k c.in-Some.tail (sym c.in-Some.ensures.tail) _ c.renew-old_hash.ensures.key }
+
+pub admit-requires-clause-slot_in : goal.admit-requires-clause-slot_in
+admit-requires-clause-slot_in g c =
+    let k = c.self.invariant in
+    let there = tail-in _ g.met.K.Eq.laws _ _ _ _ _ _ _ _ k c.in-Some.tail (sym c.in-Some.ensures.tail) in
+    let b = slot-below _ g.met.K.Eq.laws _ _ _ _ _ _ _ _ k c.in-Some.tail there in
+    omega (arith, b.1, k.sized.as_many, (ap (λ (z : QueueState). z.slots) c.in-Some.ensures.queues))
+
+pub admit-requires-clause-not_in_small : goal.admit-requires-clause-not_in_small
+admit-requires-clause-not_in_small g c =
+    let k = c.self.invariant in
+    subst (λ z. has c.in-Some.tail (slots_of z) ≡ false) (sym (ap (λ (z : QueueState). z.small) c.in-Some.ensures.queues)) (tail-not_in_front _ g.met.K.Eq.laws _ _ _ _ _ _ _ _ k c.in-Some.tail (sym c.in-Some.ensures.tail))
+
+pub admit-requires-clause-not_in_main : goal.admit-requires-clause-not_in_main
+admit-requires-clause-not_in_main g c =
+    let k = c.self.invariant in
+    subst (λ z. has c.in-Some.tail (slots_of z) ≡ false) (sym (ap (λ (z : QueueState). z.main) c.in-Some.ensures.queues)) (tail-not_in_main _ g.met.K.Eq.laws _ _ _ _ _ _ _ _ k c.in-Some.tail (sym c.in-Some.ensures.tail))
 
 pub invariant_of-self : goal.invariant_of-self
 invariant_of-self g c =
+    let k = c.self.invariant in
+    let same = c.requires.hash ∙ ap (λ (z : CacheState _ _ _). hash_of g.S.BuildHasher g.S.Hasher.Hasher z.hasher (g.K.Hash.hash_input c.args.key)) (sym c.self.view_is) in
+    let absent = rw (← c.self.view_is) at c.requires.absent in
+    let full = rw (← c.self.view_is) at c.requires.full in
+    let out = rw (← c.self.view_is) at c.requires.out in
     let i = c.self.inside in
-    let m = (machine_of i.shares i.small.items i.main.items i.history.items i.values.items) in
-    let kept = c.self.invariant in
-    let absent = (rw (← c.self.view_is) at c.requires.absent) in
-    let tail = c.take_tail-tail.result in
-    let at = tail_at i.small.items c.take_tail-tail.new.small.items tail c.take_tail-tail.ensures.parts in
-    rw (c.admit.ensures.items, c.admit.ensures.capacity, c.window.ensures, c.remember.ensures.items, c.remember.ensures.capacity, c.history-share.ensures, c.into_key.ensures, c.slot-slot.ensures, c.take_tail-tail.ensures.capacity)
-    (kept_placed g.K.PartialEq.eq m _ _ _ _ kept g.met.K.Eq.laws c.args.key c.args.value (evicting_tail c.args.key tail m) absent
-    (placed-evicting g.K.PartialEq.eq m kept.whole c.args.key tail at.0 at.1) _ (stored_for_tail _ _ _ _ _ _ _ _ tail c.take_tail-tail.ensures.front (tail_made _ m kept.whole c.args.key tail at.0 at.1)))
+    let old_hashed = hash-of-key (λ x. hash_of g.S.BuildHasher g.S.Hasher.Hasher i.hasher (g.K.Hash.hash_input x)) i.keys.entries c.in-Some.tail _ _ k.stored.hashed c.renew-old_hash.ensures.hash c.renew-old_hash.ensures.key in
+    let hashed = subst (λ z. AllByRecursion (λ e. e.0 ≡ hash_of g.S.BuildHasher g.S.Hasher.Hasher i.hasher (g.K.Hash.hash_input e.1)) z) (sym (ap (λ (z : Remembered _). z.entries) c.push.ensures.pushed)) (all-taken (λ e. e.0 ≡ hash_of g.S.BuildHasher g.S.Hasher.Hasher i.hasher (g.K.Hash.hash_input e.1)) i.history.limit _ (old_hashed, k.hashed)) in
+    let small = (ap (λ (z : QueueState). z.small) c.admit.ensures.queues) ∙ ap (λ n. admitted n c.in-Some.tail c.take_tail.new.self.small) (ap (λ (z : QueueState). z.window) c.in-Some.ensures.queues) ∙ ap (λ z. admitted i.queues.window c.in-Some.tail z) (ap (λ (z : QueueState). z.small) c.in-Some.ensures.queues) in
+    let d = evicted-done _ g.met.K.Eq.laws _ _ _ _ _ _ _ _ k c.in-Some.tail (sym c.in-Some.ensures.tail) c.args.key c.args.value c.args.hash _ same c.renew-old_hash.ensures.hash _ c.renew-old_hash.ensures.key c.admit.new.self c.push.new.self c.renew-old_hash.new.index.homes c.renew-old_hash.new.keys absent
+    ((ap (λ (z : QueueState). z.slots) c.admit.ensures.queues) ∙ (ap (λ (z : QueueState). z.slots) c.in-Some.ensures.queues)) ((ap (λ (z : QueueState). z.window) c.admit.ensures.queues) ∙ (ap (λ (z : QueueState). z.window) c.in-Some.ensures.queues)) (ap (λ (z : Remembered _). z.limit) c.push.ensures.pushed) c.renew-old_hash.ensures.index c.renew-old_hash.ensures.entries (ap (λ (z : KeyPlaces _ _). z.room) c.renew-old_hash.ensures.kept)
+    full out small ((ap (λ (z : QueueState). z.main) c.admit.ensures.queues) ∙ (ap (λ (z : QueueState). z.main) c.in-Some.ensures.queues)) (ap (λ (z : Remembered _). z.entries) c.push.ensures.pushed) hashed in
+    d.holds
 
 pub returns : goal.returns
 returns g c =
-    let kept = c.self.invariant in
+    let k = c.self.invariant in
+    let same = c.requires.hash ∙ ap (λ (z : CacheState _ _ _). hash_of g.S.BuildHasher g.S.Hasher.Hasher z.hasher (g.K.Hash.hash_input c.args.key)) (sym c.self.view_is) in
+    let absent = rw (← c.self.view_is) at c.requires.absent in
+    let full = rw (← c.self.view_is) at c.requires.full in
+    let out = rw (← c.self.view_is) at c.requires.out in
     let i = c.self.inside in
-    let tail = c.take_tail-tail.result in
-    let at = tail_at i.small.items c.take_tail-tail.new.small.items tail c.take_tail-tail.ensures.parts in
-    rw (c.admit.ensures.items, c.window.ensures, c.remember.ensures.items, c.history-share.ensures, c.into_key.ensures, c.slot-slot.ensures, ← c.self.view_is)
-    (placed_for_tail _ _ _ _ _ _ _ _ tail c.take_tail-tail.ensures.front c.take_tail-tail.ensures.parts (rw (← c.self.view_is) at c.requires.full)
-    (promotion_of_tail _ _ _ tail c.take_tail-tail.ensures.parts (rw (← c.self.view_is) at c.requires.out))
-    (tail_made _ _ kept.whole c.args.key tail at.0 at.1))
-
-pub index_mut-requires : goal.index_mut-requires
-index_mut-requires g c =
-    let kept = c.self.invariant in
-    let i = c.self.inside in
-    let tail = c.take_tail-tail.result in
-    let at = tail_at i.small.items c.take_tail-tail.new.small.items tail c.take_tail-tail.ensures.parts in
-    let below = tail_made _ _ kept.whole c.args.key tail at.0 at.1 in
-    omega arith
+    let old_hashed = hash-of-key (λ x. hash_of g.S.BuildHasher g.S.Hasher.Hasher i.hasher (g.K.Hash.hash_input x)) i.keys.entries c.in-Some.tail _ _ k.stored.hashed c.renew-old_hash.ensures.hash c.renew-old_hash.ensures.key in
+    let hashed = subst (λ z. AllByRecursion (λ e. e.0 ≡ hash_of g.S.BuildHasher g.S.Hasher.Hasher i.hasher (g.K.Hash.hash_input e.1)) z) (sym (ap (λ (z : Remembered _). z.entries) c.push.ensures.pushed)) (all-taken (λ e. e.0 ≡ hash_of g.S.BuildHasher g.S.Hasher.Hasher i.hasher (g.K.Hash.hash_input e.1)) i.history.limit _ (old_hashed, k.hashed)) in
+    let small = (ap (λ (z : QueueState). z.small) c.admit.ensures.queues) ∙ ap (λ n. admitted n c.in-Some.tail c.take_tail.new.self.small) (ap (λ (z : QueueState). z.window) c.in-Some.ensures.queues) ∙ ap (λ z. admitted i.queues.window c.in-Some.tail z) (ap (λ (z : QueueState). z.small) c.in-Some.ensures.queues) in
+    let d = evicted-done _ g.met.K.Eq.laws _ _ _ _ _ _ _ _ k c.in-Some.tail (sym c.in-Some.ensures.tail) c.args.key c.args.value c.args.hash _ same c.renew-old_hash.ensures.hash _ c.renew-old_hash.ensures.key c.admit.new.self c.push.new.self c.renew-old_hash.new.index.homes c.renew-old_hash.new.keys absent
+    ((ap (λ (z : QueueState). z.slots) c.admit.ensures.queues) ∙ (ap (λ (z : QueueState). z.slots) c.in-Some.ensures.queues)) ((ap (λ (z : QueueState). z.window) c.admit.ensures.queues) ∙ (ap (λ (z : QueueState). z.window) c.in-Some.ensures.queues)) (ap (λ (z : Remembered _). z.limit) c.push.ensures.pushed) c.renew-old_hash.ensures.index c.renew-old_hash.ensures.entries (ap (λ (z : KeyPlaces _ _). z.room) c.renew-old_hash.ensures.kept)
+    full out small ((ap (λ (z : QueueState). z.main) c.admit.ensures.queues) ∙ (ap (λ (z : QueueState). z.main) c.in-Some.ensures.queues)) (ap (λ (z : Remembered _). z.entries) c.push.ensures.pushed) hashed in
+    d.machine ∙ ap (λ (z : CacheState _ _ _). let p = into_small c.args.key z.machine in (stored p.slot c.args.value p.machine)) c.self.view_is

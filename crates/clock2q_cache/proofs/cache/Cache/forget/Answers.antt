@@ -1,9 +1,30 @@
--- A shorter history is within its share.
-use Rattle.clock2q_cache.specs.CacheFields.{machine_of}
-use Rattle.clock2q_cache.proofs.Kept.{kept_forgotten}
+-- The key's history is erased.
+use Rattle.std.proofs.Common.{◌≡◌, ap, sym, ◌∙◌}
+use Rattle.std.specs.List.{list_any}
+use Rattle.clock2q_queues.specs.History.{Remembered}
+use Rattle.clock2q_cache.specs.Hashes.{hash_of}
+use Rattle.clock2q_cache.specs.CacheState.{CacheState}
+use Rattle.clock2q_cache.specs.Machine.{forgotten}
+use Rattle.clock2q_cache.proofs.Changed.{known-any, discard-hash, forgotten-machine, kept-forgotten}
 use Rattle.clock2q_cache.proofs.cache.Cache.forget.Goals as goal
+
+pub discard-requires : goal.discard-requires
+discard-requires g c =
+    let k = c.self.invariant in
+    let same = c.requires ∙ ap (λ (z : CacheState _ _ _). hash_of g.S.BuildHasher g.S.Hasher.Hasher z.hasher (g.K.Hash.hash_input c.args.key.now)) (sym c.self.view_is) in
+    record { hash = discard-hash _ g.met.K.Eq.laws _ _ _ _ _ _ _ _ k c.args.key.now c.args.hash (λ x y e. ap (λ z. hash_of g.S.BuildHasher g.S.Hasher.Hasher c.self.inside.hasher z) (g.met.K.Hash.respects_eq x y e)) same }
 
 pub invariant_of-self : goal.invariant_of-self
 invariant_of-self g c =
-    rw (c.forget.ensures.others, c.forget.ensures.capacity)
-    (kept_forgotten g.K.PartialEq.eq (machine_of c.self.inside.shares c.self.inside.small.items c.self.inside.main.items c.self.inside.history.items c.self.inside.values.items) _ _ _ _ c.self.invariant (g.K.PartialEq.eq c.args.key.now))
+    let k = c.self.invariant in
+    kept-forgotten _ g.met.K.Eq.laws _ _ _ _ _ _ _ _ k c.args.key.now c.discard.new.self (ap (λ (z : Remembered _). z.entries) c.discard.ensures.forgotten) (ap (λ (z : Remembered _). z.limit) c.discard.ensures.forgotten)
+
+pub returns-clause-known : goal.returns-clause-known
+returns-clause-known g c =
+    let k = c.self.invariant in
+    c.discard.ensures.found ∙ known-any (g.K.PartialEq.eq c.args.key.now) c.self.inside.history.entries ∙ ap (λ (z : CacheState _ _ _). list_any (g.K.PartialEq.eq c.args.key.now) z.machine.history) c.self.view_is
+
+pub returns-clause-machine : goal.returns-clause-machine
+returns-clause-machine g c =
+    let k = c.self.invariant in
+    forgotten-machine _ g.met.K.Eq.laws _ _ _ _ _ _ _ _ k c.args.key.now c.discard.new.self (ap (λ (z : Remembered _). z.entries) c.discard.ensures.forgotten) ∙ ap (λ (z : CacheState _ _ _). forgotten (g.K.PartialEq.eq c.args.key.now) z.machine) c.self.view_is

@@ -1,22 +1,102 @@
--- The new key's slot is the next one.
-use Rattle.std.proofs.Common.{◌≡◌, ◌<◌, length, Some, sym, ap, ◌∙◌, arith}
+-- The new key's slot is the vacancy.
+use Rattle.std.proofs.Common.{◌≡◌, ◌+◌, ◌<◌, length, true, Some, ap, sym, ◌∙◌, subst, arith}
+use Rattle.std.specs.Prelude.{is_some}
+use Rattle.clock2q_queues.specs.Keys.{KeyPlaces}
+use Rattle.clock2q_cache.specs.Shares.{main_share}
+use Rattle.clock2q_queues.specs.Queues.{QueueState}
+use Rattle.clock2q_cache.specs.Hashes.{hash_of}
+use Rattle.clock2q_cache.specs.Machine.{vacancy, into_main, stored}
+use Rattle.clock2q_cache.specs.CacheState.{CacheState}
 use Rattle.clock2q_cache.specs.CacheFields.{machine_of}
-use Rattle.clock2q_cache.specs.Machine.{joining_main}
-use Rattle.clock2q_cache.proofs.Kept.{kept_placed}
-use Rattle.clock2q_cache.proofs.Whole.{placed-joining}
-use Rattle.clock2q_cache.proofs.Placed.{next_vacant, stored_in_main}
+use Rattle.clock2q_cache.proofs.Kept.{few-main, index_room, index_few, taken-here, vacancy-here, vacant-slot, vacant-apart, IsDone, main-done}
 use Rattle.clock2q_cache.proofs.cache.Cache.join_main.Goals as goal
+
+pub enter-requires-clause-next : goal.enter-requires-clause-next
+enter-requires-clause-next g c =
+    let k = c.self.invariant in
+    let room = rw (← c.self.view_is) at c.requires.room in
+    let few = few-main _ g.met.K.Eq.laws _ _ _ _ _ _ _ _ k room in
+    let taken = taken-here _ g.met.K.Eq.laws _ _ _ _ _ _ _ _ k c.take_vacancy-slot.result _ c.len.ensures.len (vacancy-here _ g.met.K.Eq.laws _ _ _ _ _ _ _ _ k few) c.take_vacancy-slot.ensures.slot in
+    let same = c.requires.hash ∙ ap (λ (z : CacheState _ _ _). hash_of g.S.BuildHasher g.S.Hasher.Hasher z.hasher (g.K.Hash.hash_input c.args.key)) (sym c.self.view_is) in
+    let v = vacant-slot _ g.met.K.Eq.laws _ _ _ _ _ _ _ _ k c.args.key c.args.value c.args.hash c.take_vacancy-slot.result c.take_vacancy-slot.new.free.items same taken c.take_vacancy-slot.ensures.others in
+    v.next
+
+pub enter-requires-clause-room : goal.enter-requires-clause-room
+enter-requires-clause-room g c =
+    let k = c.self.invariant in
+    let room = rw (← c.self.view_is) at c.requires.room in
+    let few = few-main _ g.met.K.Eq.laws _ _ _ _ _ _ _ _ k room in
+    let taken = taken-here _ g.met.K.Eq.laws _ _ _ _ _ _ _ _ k c.take_vacancy-slot.result _ c.len.ensures.len (vacancy-here _ g.met.K.Eq.laws _ _ _ _ _ _ _ _ k few) c.take_vacancy-slot.ensures.slot in
+    let same = c.requires.hash ∙ ap (λ (z : CacheState _ _ _). hash_of g.S.BuildHasher g.S.Hasher.Hasher z.hasher (g.K.Hash.hash_input c.args.key)) (sym c.self.view_is) in
+    let v = vacant-slot _ g.met.K.Eq.laws _ _ _ _ _ _ _ _ k c.args.key c.args.value c.args.hash c.take_vacancy-slot.result c.take_vacancy-slot.new.free.items same taken c.take_vacancy-slot.ensures.others in
+    omega (arith, v.below, k.sized.room_for_keys)
+
+pub enter-requires-clause-index_room : goal.enter-requires-clause-index_room
+enter-requires-clause-index_room g c =
+    let k = c.self.invariant in
+    let room = rw (← c.self.view_is) at c.requires.room in
+    let few = few-main _ g.met.K.Eq.laws _ _ _ _ _ _ _ _ k room in
+    index_room _ g.met.K.Eq.laws _ _ _ _ _ _ _ _ k few
+
+pub enter-requires-clause-few : goal.enter-requires-clause-few
+enter-requires-clause-few g c =
+    let k = c.self.invariant in
+    let room = rw (← c.self.view_is) at c.requires.room in
+    let few = few-main _ g.met.K.Eq.laws _ _ _ _ _ _ _ _ k room in
+    index_few _ g.met.K.Eq.laws _ _ _ _ _ _ _ _ k few
+
+pub append-requires-clause-slot_in : goal.append-requires-clause-slot_in
+append-requires-clause-slot_in g c =
+    let k = c.self.invariant in
+    let room = rw (← c.self.view_is) at c.requires.room in
+    let few = few-main _ g.met.K.Eq.laws _ _ _ _ _ _ _ _ k room in
+    let taken = taken-here _ g.met.K.Eq.laws _ _ _ _ _ _ _ _ k c.take_vacancy-slot.result _ c.len.ensures.len (vacancy-here _ g.met.K.Eq.laws _ _ _ _ _ _ _ _ k few) c.take_vacancy-slot.ensures.slot in
+    let same = c.requires.hash ∙ ap (λ (z : CacheState _ _ _). hash_of g.S.BuildHasher g.S.Hasher.Hasher z.hasher (g.K.Hash.hash_input c.args.key)) (sym c.self.view_is) in
+    let v = vacant-slot _ g.met.K.Eq.laws _ _ _ _ _ _ _ _ k c.args.key c.args.value c.args.hash c.take_vacancy-slot.result c.take_vacancy-slot.new.free.items same taken c.take_vacancy-slot.ensures.others in
+    omega (arith, v.below, k.sized.as_many)
+
+pub append-requires-clause-not_in_small : goal.append-requires-clause-not_in_small
+append-requires-clause-not_in_small g c =
+    let k = c.self.invariant in
+    let room = rw (← c.self.view_is) at c.requires.room in
+    let few = few-main _ g.met.K.Eq.laws _ _ _ _ _ _ _ _ k room in
+    let taken = taken-here _ g.met.K.Eq.laws _ _ _ _ _ _ _ _ k c.take_vacancy-slot.result _ c.len.ensures.len (vacancy-here _ g.met.K.Eq.laws _ _ _ _ _ _ _ _ k few) c.take_vacancy-slot.ensures.slot in
+    let same = c.requires.hash ∙ ap (λ (z : CacheState _ _ _). hash_of g.S.BuildHasher g.S.Hasher.Hasher z.hasher (g.K.Hash.hash_input c.args.key)) (sym c.self.view_is) in
+    let v = vacant-apart _ g.met.K.Eq.laws _ _ _ _ _ _ _ _ k c.args.key c.args.value c.args.hash c.take_vacancy-slot.result c.take_vacancy-slot.new.free.items same taken c.take_vacancy-slot.ensures.others in
+    v.0
+
+pub append-requires-clause-not_in_main : goal.append-requires-clause-not_in_main
+append-requires-clause-not_in_main g c =
+    let k = c.self.invariant in
+    let room = rw (← c.self.view_is) at c.requires.room in
+    let few = few-main _ g.met.K.Eq.laws _ _ _ _ _ _ _ _ k room in
+    let taken = taken-here _ g.met.K.Eq.laws _ _ _ _ _ _ _ _ k c.take_vacancy-slot.result _ c.len.ensures.len (vacancy-here _ g.met.K.Eq.laws _ _ _ _ _ _ _ _ k few) c.take_vacancy-slot.ensures.slot in
+    let same = c.requires.hash ∙ ap (λ (z : CacheState _ _ _). hash_of g.S.BuildHasher g.S.Hasher.Hasher z.hasher (g.K.Hash.hash_input c.args.key)) (sym c.self.view_is) in
+    let v = vacant-apart _ g.met.K.Eq.laws _ _ _ _ _ _ _ _ k c.args.key c.args.value c.args.hash c.take_vacancy-slot.result c.take_vacancy-slot.new.free.items same taken c.take_vacancy-slot.ensures.others in
+    v.1
 
 pub invariant_of-self : goal.invariant_of-self
 invariant_of-self g c =
-    let i = c.self.inside in
-    let m = (machine_of i.shares i.small.items i.main.items i.history.items i.values.items) in
-    let kept = c.self.invariant in
-    let absent = (rw (← c.self.view_is) at c.requires.absent) in
-    let room = (rw (← c.self.view_is) at c.requires.room) in
-    let next : c.len-slot.result ≡ length i.values.items = omega arith in
-    let vacant : length i.values.items < i.shares.capacity = omega (arith, kept.whole.slots_counted, kept.whole.small_within, room, kept.whole.small_below) in
-    let free = next_vacant i.shares i.small.items i.main.items i.history.items i.values.items c.args.key c.args.value vacant ∙ ap Some (sym next) in
-    rw (c.push_reserved.ensures.items, c.push_reserved.ensures.capacity, c.new.ensures, c.push_reserved-2.ensures.items, c.push_reserved-2.ensures.capacity)
-    (kept_placed g.K.PartialEq.eq m _ _ _ _ kept g.met.K.Eq.laws c.args.key c.args.value (joining_main c.args.key (Some c.len-slot.result) m) absent
-    (placed-joining g.K.PartialEq.eq m kept.whole c.args.key c.len-slot.result free room) _ (stored_in_main _ _ _ _ _ _ _ _ next))
+    let k = c.self.invariant in
+    let room = rw (← c.self.view_is) at c.requires.room in
+    let few = few-main _ g.met.K.Eq.laws _ _ _ _ _ _ _ _ k room in
+    let taken = taken-here _ g.met.K.Eq.laws _ _ _ _ _ _ _ _ k c.take_vacancy-slot.result _ c.len.ensures.len (vacancy-here _ g.met.K.Eq.laws _ _ _ _ _ _ _ _ k few) c.take_vacancy-slot.ensures.slot in
+    let same = c.requires.hash ∙ ap (λ (z : CacheState _ _ _). hash_of g.S.BuildHasher g.S.Hasher.Hasher z.hasher (g.K.Hash.hash_input c.args.key)) (sym c.self.view_is) in
+    let absent = rw (← c.self.view_is) at c.requires.absent in
+    let d = main-done _ g.met.K.Eq.laws _ _ _ _ _ _ _ _ k c.args.key c.args.value c.args.hash c.take_vacancy-slot.result c.take_vacancy-slot.new.free.items same taken c.take_vacancy-slot.ensures.others
+    c.append.new.self c.enter.new.index.homes c.enter.new.keys _ absent (ap (λ (z : QueueState). z.slots) c.append.ensures.queues) (ap (λ (z : QueueState). z.window) c.append.ensures.queues) c.enter.ensures.index c.enter.ensures.entries (ap (λ (z : KeyPlaces _ _). z.room) c.enter.ensures.kept) c.take_vacancy-slot.ensures.capacity
+    room (ap (λ (z : QueueState). z.small) c.append.ensures.queues) (ap (λ (z : QueueState). z.main) c.append.ensures.queues) in
+    d.holds
+
+pub returns : goal.returns
+returns g c =
+    let k = c.self.invariant in
+    let room = rw (← c.self.view_is) at c.requires.room in
+    let few = few-main _ g.met.K.Eq.laws _ _ _ _ _ _ _ _ k room in
+    let taken = taken-here _ g.met.K.Eq.laws _ _ _ _ _ _ _ _ k c.take_vacancy-slot.result _ c.len.ensures.len (vacancy-here _ g.met.K.Eq.laws _ _ _ _ _ _ _ _ k few) c.take_vacancy-slot.ensures.slot in
+    let same = c.requires.hash ∙ ap (λ (z : CacheState _ _ _). hash_of g.S.BuildHasher g.S.Hasher.Hasher z.hasher (g.K.Hash.hash_input c.args.key)) (sym c.self.view_is) in
+    let absent = rw (← c.self.view_is) at c.requires.absent in
+    let d = main-done _ g.met.K.Eq.laws _ _ _ _ _ _ _ _ k c.args.key c.args.value c.args.hash c.take_vacancy-slot.result c.take_vacancy-slot.new.free.items same taken c.take_vacancy-slot.ensures.others
+    c.append.new.self c.enter.new.index.homes c.enter.new.keys _ absent (ap (λ (z : QueueState). z.slots) c.append.ensures.queues) (ap (λ (z : QueueState). z.window) c.append.ensures.queues) c.enter.ensures.index c.enter.ensures.entries (ap (λ (z : KeyPlaces _ _). z.room) c.enter.ensures.kept) c.take_vacancy-slot.ensures.capacity
+    room (ap (λ (z : QueueState). z.small) c.append.ensures.queues) (ap (λ (z : QueueState). z.main) c.append.ensures.queues) in
+    d.machine ∙ ap (λ (z : CacheState _ _ _). let p = into_main c.args.key z.machine in (stored p.slot c.args.value p.machine)) c.self.view_is

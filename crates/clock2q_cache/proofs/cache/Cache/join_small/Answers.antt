@@ -1,21 +1,109 @@
--- The new key's slot is the next one.
-use Rattle.std.proofs.Common.{◌≡◌, length, Some, None, sym, ap, ◌∙◌, arith}
+-- The new key's slot is the vacancy.
+use Rattle.std.proofs.Common.{◌≡◌, ◌+◌, ◌<◌, length, true, Some, ap, sym, ◌∙◌, subst, arith}
+use Rattle.std.specs.Prelude.{is_some}
+use Rattle.clock2q_queues.specs.Keys.{KeyPlaces}
+use Rattle.clock2q_cache.specs.Shares.{main_share}
+use Rattle.clock2q_queues.specs.Queues.{QueueState}
+use Rattle.clock2q_cache.specs.Hashes.{hash_of}
+use Rattle.clock2q_cache.specs.Machine.{vacancy, into_small, stored}
+use Rattle.clock2q_cache.specs.CacheState.{CacheState}
 use Rattle.clock2q_cache.specs.CacheFields.{machine_of}
-use Rattle.clock2q_cache.specs.Machine.{into_small_at}
-use Rattle.clock2q_cache.proofs.Kept.{kept_placed}
-use Rattle.clock2q_cache.proofs.Whole.{placed-admitted}
-use Rattle.clock2q_cache.proofs.Placed.{next_vacant, stored_in_small}
+use Rattle.clock2q_cache.proofs.Kept.{few-small, index_room, index_few, taken-here, vacancy-here, vacant-slot, vacant-apart, IsDone, small-done}
 use Rattle.clock2q_cache.proofs.cache.Cache.join_small.Goals as goal
+
+pub enter-requires-clause-next : goal.enter-requires-clause-next
+enter-requires-clause-next g c =
+    let k = c.self.invariant in
+    let room = rw (← c.self.view_is) at c.requires.room in
+    let few = few-small _ g.met.K.Eq.laws _ _ _ _ _ _ _ _ k room in
+    let taken = taken-here _ g.met.K.Eq.laws _ _ _ _ _ _ _ _ k c.take_vacancy-slot.result _ c.len.ensures.len (rw (← c.self.view_is) at c.requires.vacant) c.take_vacancy-slot.ensures.slot in
+    let same = c.requires.hash ∙ ap (λ (z : CacheState _ _ _). hash_of g.S.BuildHasher g.S.Hasher.Hasher z.hasher (g.K.Hash.hash_input c.args.key)) (sym c.self.view_is) in
+    let v = vacant-slot _ g.met.K.Eq.laws _ _ _ _ _ _ _ _ k c.args.key c.args.value c.args.hash c.take_vacancy-slot.result c.take_vacancy-slot.new.free.items same taken c.take_vacancy-slot.ensures.others in
+    v.next
+
+pub enter-requires-clause-room : goal.enter-requires-clause-room
+enter-requires-clause-room g c =
+    let k = c.self.invariant in
+    let room = rw (← c.self.view_is) at c.requires.room in
+    let few = few-small _ g.met.K.Eq.laws _ _ _ _ _ _ _ _ k room in
+    let taken = taken-here _ g.met.K.Eq.laws _ _ _ _ _ _ _ _ k c.take_vacancy-slot.result _ c.len.ensures.len (rw (← c.self.view_is) at c.requires.vacant) c.take_vacancy-slot.ensures.slot in
+    let same = c.requires.hash ∙ ap (λ (z : CacheState _ _ _). hash_of g.S.BuildHasher g.S.Hasher.Hasher z.hasher (g.K.Hash.hash_input c.args.key)) (sym c.self.view_is) in
+    let v = vacant-slot _ g.met.K.Eq.laws _ _ _ _ _ _ _ _ k c.args.key c.args.value c.args.hash c.take_vacancy-slot.result c.take_vacancy-slot.new.free.items same taken c.take_vacancy-slot.ensures.others in
+    omega (arith, v.below, k.sized.room_for_keys)
+
+pub enter-requires-clause-index_room : goal.enter-requires-clause-index_room
+enter-requires-clause-index_room g c =
+    let k = c.self.invariant in
+    let room = rw (← c.self.view_is) at c.requires.room in
+    let few = few-small _ g.met.K.Eq.laws _ _ _ _ _ _ _ _ k room in
+    index_room _ g.met.K.Eq.laws _ _ _ _ _ _ _ _ k few
+
+pub enter-requires-clause-few : goal.enter-requires-clause-few
+enter-requires-clause-few g c =
+    let k = c.self.invariant in
+    let room = rw (← c.self.view_is) at c.requires.room in
+    let few = few-small _ g.met.K.Eq.laws _ _ _ _ _ _ _ _ k room in
+    index_few _ g.met.K.Eq.laws _ _ _ _ _ _ _ _ k few
+
+pub admit-requires-clause-slot_in : goal.admit-requires-clause-slot_in
+admit-requires-clause-slot_in g c =
+    let k = c.self.invariant in
+    let room = rw (← c.self.view_is) at c.requires.room in
+    let few = few-small _ g.met.K.Eq.laws _ _ _ _ _ _ _ _ k room in
+    let taken = taken-here _ g.met.K.Eq.laws _ _ _ _ _ _ _ _ k c.take_vacancy-slot.result _ c.len.ensures.len (rw (← c.self.view_is) at c.requires.vacant) c.take_vacancy-slot.ensures.slot in
+    let same = c.requires.hash ∙ ap (λ (z : CacheState _ _ _). hash_of g.S.BuildHasher g.S.Hasher.Hasher z.hasher (g.K.Hash.hash_input c.args.key)) (sym c.self.view_is) in
+    let v = vacant-slot _ g.met.K.Eq.laws _ _ _ _ _ _ _ _ k c.args.key c.args.value c.args.hash c.take_vacancy-slot.result c.take_vacancy-slot.new.free.items same taken c.take_vacancy-slot.ensures.others in
+    omega (arith, v.below, k.sized.as_many)
+
+pub admit-requires-clause-not_in_small : goal.admit-requires-clause-not_in_small
+admit-requires-clause-not_in_small g c =
+    let k = c.self.invariant in
+    let room = rw (← c.self.view_is) at c.requires.room in
+    let few = few-small _ g.met.K.Eq.laws _ _ _ _ _ _ _ _ k room in
+    let taken = taken-here _ g.met.K.Eq.laws _ _ _ _ _ _ _ _ k c.take_vacancy-slot.result _ c.len.ensures.len (rw (← c.self.view_is) at c.requires.vacant) c.take_vacancy-slot.ensures.slot in
+    let same = c.requires.hash ∙ ap (λ (z : CacheState _ _ _). hash_of g.S.BuildHasher g.S.Hasher.Hasher z.hasher (g.K.Hash.hash_input c.args.key)) (sym c.self.view_is) in
+    let v = vacant-apart _ g.met.K.Eq.laws _ _ _ _ _ _ _ _ k c.args.key c.args.value c.args.hash c.take_vacancy-slot.result c.take_vacancy-slot.new.free.items same taken c.take_vacancy-slot.ensures.others in
+    v.0
+
+pub admit-requires-clause-not_in_main : goal.admit-requires-clause-not_in_main
+admit-requires-clause-not_in_main g c =
+    let k = c.self.invariant in
+    let room = rw (← c.self.view_is) at c.requires.room in
+    let few = few-small _ g.met.K.Eq.laws _ _ _ _ _ _ _ _ k room in
+    let taken = taken-here _ g.met.K.Eq.laws _ _ _ _ _ _ _ _ k c.take_vacancy-slot.result _ c.len.ensures.len (rw (← c.self.view_is) at c.requires.vacant) c.take_vacancy-slot.ensures.slot in
+    let same = c.requires.hash ∙ ap (λ (z : CacheState _ _ _). hash_of g.S.BuildHasher g.S.Hasher.Hasher z.hasher (g.K.Hash.hash_input c.args.key)) (sym c.self.view_is) in
+    let v = vacant-apart _ g.met.K.Eq.laws _ _ _ _ _ _ _ _ k c.args.key c.args.value c.args.hash c.take_vacancy-slot.result c.take_vacancy-slot.new.free.items same taken c.take_vacancy-slot.ensures.others in
+    v.1
+
+pub admit-requires-clause-window : goal.admit-requires-clause-window
+admit-requires-clause-window g c =
+    let k = c.self.invariant in
+    let room = rw (← c.self.view_is) at c.requires.room in
+    let few = few-small _ g.met.K.Eq.laws _ _ _ _ _ _ _ _ k room in
+    omega (arith, k.sized.window, k.sized.windowed (omega (arith, room)))
 
 pub invariant_of-self : goal.invariant_of-self
 invariant_of-self g c =
-    let i = c.self.inside in
-    let m = (machine_of i.shares i.small.items i.main.items i.history.items i.values.items) in
-    let kept = c.self.invariant in
-    let absent = (rw (← c.self.view_is) at c.requires.absent) in
-    let room = (rw (← c.self.view_is) at c.requires.room) in
-    let next : c.len-slot.result ≡ length i.values.items = omega arith in
-    let free = next_vacant i.shares i.small.items i.main.items i.history.items i.values.items c.args.key c.args.value (rw (← c.self.view_is) at c.requires.vacant) ∙ ap Some (sym next) in
-    rw (c.admit.ensures.items, c.admit.ensures.capacity, c.window.ensures, c.push_reserved.ensures.items, c.push_reserved.ensures.capacity)
-    (kept_placed g.K.PartialEq.eq m _ _ _ _ kept g.met.K.Eq.laws c.args.key c.args.value (into_small_at c.args.key (Some c.len-slot.result) None m) absent
-    (placed-admitted g.K.PartialEq.eq m kept.whole c.args.key c.len-slot.result None free room) _ (stored_in_small _ _ _ _ _ _ _ _ next))
+    let k = c.self.invariant in
+    let room = rw (← c.self.view_is) at c.requires.room in
+    let few = few-small _ g.met.K.Eq.laws _ _ _ _ _ _ _ _ k room in
+    let taken = taken-here _ g.met.K.Eq.laws _ _ _ _ _ _ _ _ k c.take_vacancy-slot.result _ c.len.ensures.len (rw (← c.self.view_is) at c.requires.vacant) c.take_vacancy-slot.ensures.slot in
+    let same = c.requires.hash ∙ ap (λ (z : CacheState _ _ _). hash_of g.S.BuildHasher g.S.Hasher.Hasher z.hasher (g.K.Hash.hash_input c.args.key)) (sym c.self.view_is) in
+    let absent = rw (← c.self.view_is) at c.requires.absent in
+    let d = small-done _ g.met.K.Eq.laws _ _ _ _ _ _ _ _ k c.args.key c.args.value c.args.hash c.take_vacancy-slot.result c.take_vacancy-slot.new.free.items same taken c.take_vacancy-slot.ensures.others
+    c.admit.new.self c.enter.new.index.homes c.enter.new.keys _ absent (ap (λ (z : QueueState). z.slots) c.admit.ensures.queues) (ap (λ (z : QueueState). z.window) c.admit.ensures.queues) c.enter.ensures.index c.enter.ensures.entries (ap (λ (z : KeyPlaces _ _). z.room) c.enter.ensures.kept) c.take_vacancy-slot.ensures.capacity
+    room (ap (λ (z : QueueState). z.small) c.admit.ensures.queues) (ap (λ (z : QueueState). z.main) c.admit.ensures.queues) in
+    d.holds
+
+pub returns : goal.returns
+returns g c =
+    let k = c.self.invariant in
+    let room = rw (← c.self.view_is) at c.requires.room in
+    let few = few-small _ g.met.K.Eq.laws _ _ _ _ _ _ _ _ k room in
+    let taken = taken-here _ g.met.K.Eq.laws _ _ _ _ _ _ _ _ k c.take_vacancy-slot.result _ c.len.ensures.len (rw (← c.self.view_is) at c.requires.vacant) c.take_vacancy-slot.ensures.slot in
+    let same = c.requires.hash ∙ ap (λ (z : CacheState _ _ _). hash_of g.S.BuildHasher g.S.Hasher.Hasher z.hasher (g.K.Hash.hash_input c.args.key)) (sym c.self.view_is) in
+    let absent = rw (← c.self.view_is) at c.requires.absent in
+    let d = small-done _ g.met.K.Eq.laws _ _ _ _ _ _ _ _ k c.args.key c.args.value c.args.hash c.take_vacancy-slot.result c.take_vacancy-slot.new.free.items same taken c.take_vacancy-slot.ensures.others
+    c.admit.new.self c.enter.new.index.homes c.enter.new.keys _ absent (ap (λ (z : QueueState). z.slots) c.admit.ensures.queues) (ap (λ (z : QueueState). z.window) c.admit.ensures.queues) c.enter.ensures.index c.enter.ensures.entries (ap (λ (z : KeyPlaces _ _). z.room) c.enter.ensures.kept) c.take_vacancy-slot.ensures.capacity
+    room (ap (λ (z : QueueState). z.small) c.admit.ensures.queues) (ap (λ (z : QueueState). z.main) c.admit.ensures.queues) in
+    d.machine ∙ ap (λ (z : CacheState _ _ _). let p = into_small c.args.key z.machine in (stored p.slot c.args.value p.machine)) c.self.view_is

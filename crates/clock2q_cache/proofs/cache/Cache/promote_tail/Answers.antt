@@ -1,35 +1,103 @@
 -- The tail goes on to Main, and the slot of Main's victim to the new key.
-use Rattle.std.proofs.Common.{◌∷◌, sym, arith}
-use Rattle.clock2q_cache.specs.CacheFields.{machine_of}
-use Rattle.clock2q_cache.specs.Machine.{promoting_tail}
-use Rattle.clock2q_cache.proofs.Kept.{kept_placed}
-use Rattle.clock2q_cache.proofs.Whole.{victim_made, placed-promoting}
-use Rattle.clock2q_cache.proofs.Placed.{tail_at, placed_by_promotion, stored_by_promotion, promotion_of_tail}
+use Rattle.std.proofs.Common.{◌≡◌, ◌+◌, ◌-◌, ◌<◌, ◌++◌, ◌∷◌, [], true, false, length, take, drop, Some, None, ap, sym, ◌∙◌, subst, arith}
+use Rattle.std.specs.List.{last_or}
+use Rattle.clock2q_queues.specs.Rings.{has}
+use Rattle.clock2q_queues.specs.Small.{admitted}
+use Rattle.clock2q_queues.specs.Queues.{slots_of}
+use Rattle.clock2q_queues.specs.Keys.{KeyPlaces}
+use Rattle.clock2q_queues.specs.Queues.{QueueState}
+use Rattle.clock2q_cache.specs.Hashes.{hash_of}
+use Rattle.clock2q_cache.specs.Machine.{into_small, stored}
+use Rattle.clock2q_cache.specs.CacheState.{CacheState}
+use Rattle.clock2q_cache.proofs.Kept.{length_in_small}
+use Rattle.clock2q_cache.proofs.Renewed.{resident-there, slot-below, no-tail, rest, victim-in, victim-not_in_front, victim-not_behind, tail-in, tail-not_in_front, tail-not_in_rest, promoted-done}
 use Rattle.clock2q_cache.proofs.cache.Cache.promote_tail.Goals as goal
 
-pub index_mut-requires : goal.index_mut-requires
-index_mut-requires g c =
-    let below = victim_made _ _ c.self.invariant.whole c.take_victim-victim.result _ (sym c.take_victim-victim.ensures.choice) in
-    omega arith
+pub unreachable-requires : goal.unreachable-requires
+unreachable-requires g c =
+    let k = c.self.invariant in
+    let some = rw (← c.self.view_is) at c.requires.some in
+    no-tail c.self.inside.queues.small (omega (arith, some, length_in_small _ g.met.K.Eq.laws _ _ _ _ _ _ _ _ k)) (c.in_default.ensures.tail ∙ ap (λ z. last_or None (slots_of z)) (ap (λ (z : QueueState). z.small) c.take_victim-victim.ensures.queues))
+
+pub append-requires-clause-slot_in : goal.append-requires-clause-slot_in
+append-requires-clause-slot_in g c =
+    let k = c.self.invariant in
+    let last = ap (λ z. last_or None (slots_of z)) (sym (ap (λ (z : QueueState). z.small) c.take_victim-victim.ensures.queues)) ∙ sym c.in-Some.ensures.tail in
+    let there = tail-in _ g.met.K.Eq.laws _ _ _ _ _ _ _ _ k c.in-Some.tail last in
+    let b = slot-below _ g.met.K.Eq.laws _ _ _ _ _ _ _ _ k c.in-Some.tail there in
+    omega (arith, b.1, k.sized.as_many, (ap (λ (z : QueueState). z.slots) c.take_victim-victim.ensures.queues), (ap (λ (z : QueueState). z.slots) c.in-Some.ensures.queues))
+
+pub append-requires-clause-not_in_small : goal.append-requires-clause-not_in_small
+append-requires-clause-not_in_small g c =
+    let k = c.self.invariant in
+    let last = ap (λ z. last_or None (slots_of z)) (sym (ap (λ (z : QueueState). z.small) c.take_victim-victim.ensures.queues)) ∙ sym c.in-Some.ensures.tail in
+    subst (λ z. has c.in-Some.tail (slots_of z) ≡ false) (sym ((ap (λ (z : QueueState). z.small) c.in-Some.ensures.queues) ∙ ap (λ z. take (length z - 1) z) (ap (λ (z : QueueState). z.small) c.take_victim-victim.ensures.queues))) (tail-not_in_front _ g.met.K.Eq.laws _ _ _ _ _ _ _ _ k c.in-Some.tail last)
+
+pub append-requires-clause-not_in_main : goal.append-requires-clause-not_in_main
+append-requires-clause-not_in_main g c =
+    let k = c.self.invariant in
+    let last = ap (λ z. last_or None (slots_of z)) (sym (ap (λ (z : QueueState). z.small) c.take_victim-victim.ensures.queues)) ∙ sym c.in-Some.ensures.tail in
+    subst (λ z. has c.in-Some.tail (slots_of z) ≡ false) (sym ((ap (λ (z : QueueState). z.main) c.in-Some.ensures.queues) ∙ (ap (λ (z : QueueState). z.main) c.take_victim-victim.ensures.queues))) (tail-not_in_rest _ g.met.K.Eq.laws _ _ _ _ _ _ _ _ k c.in-Some.tail last c.take_victim-victim.result c.take_victim-victim.ensures.victim)
+
+pub renew-requires-clause-resident : goal.renew-requires-clause-resident
+renew-requires-clause-resident g c =
+    let k = c.self.invariant in
+    let there = victim-in _ g.met.K.Eq.laws _ _ _ _ _ _ _ _ k c.take_victim-victim.result c.take_victim-victim.ensures.victim in
+    let b = slot-below _ g.met.K.Eq.laws _ _ _ _ _ _ _ _ k c.take_victim-victim.result there in
+    resident-there _ g.met.K.Eq.laws _ _ _ _ _ _ _ _ k c.take_victim-victim.result there
+
+pub renew-requires-clause-made : goal.renew-requires-clause-made
+renew-requires-clause-made g c =
+    let k = c.self.invariant in
+    let there = victim-in _ g.met.K.Eq.laws _ _ _ _ _ _ _ _ k c.take_victim-victim.result c.take_victim-victim.ensures.victim in
+    let b = slot-below _ g.met.K.Eq.laws _ _ _ _ _ _ _ _ k c.take_victim-victim.result there in
+    b.0
+
+pub admit-requires-clause-slot_in : goal.admit-requires-clause-slot_in
+admit-requires-clause-slot_in g c =
+    let k = c.self.invariant in
+    let there = victim-in _ g.met.K.Eq.laws _ _ _ _ _ _ _ _ k c.take_victim-victim.result c.take_victim-victim.ensures.victim in
+    let b = slot-below _ g.met.K.Eq.laws _ _ _ _ _ _ _ _ k c.take_victim-victim.result there in
+    omega (arith, b.1, k.sized.as_many, (ap (λ (z : QueueState). z.slots) c.take_victim-victim.ensures.queues), (ap (λ (z : QueueState). z.slots) c.in-Some.ensures.queues), (ap (λ (z : QueueState). z.slots) c.append.ensures.queues))
+
+pub admit-requires-clause-not_in_small : goal.admit-requires-clause-not_in_small
+admit-requires-clause-not_in_small g c =
+    let k = c.self.invariant in
+    let last = ap (λ z. last_or None (slots_of z)) (sym (ap (λ (z : QueueState). z.small) c.take_victim-victim.ensures.queues)) ∙ sym c.in-Some.ensures.tail in
+    subst (λ z. has c.take_victim-victim.result (slots_of z) ≡ false) (sym ((ap (λ (z : QueueState). z.small) c.append.ensures.queues) ∙ (ap (λ (z : QueueState). z.small) c.in-Some.ensures.queues) ∙ ap (λ z. take (length z - 1) z) (ap (λ (z : QueueState). z.small) c.take_victim-victim.ensures.queues))) (victim-not_in_front _ g.met.K.Eq.laws _ _ _ _ _ _ _ _ k c.in-Some.tail last c.take_victim-victim.result c.take_victim-victim.ensures.victim)
+
+pub admit-requires-clause-not_in_main : goal.admit-requires-clause-not_in_main
+admit-requires-clause-not_in_main g c =
+    let k = c.self.invariant in
+    let last = ap (λ z. last_or None (slots_of z)) (sym (ap (λ (z : QueueState). z.small) c.take_victim-victim.ensures.queues)) ∙ sym c.in-Some.ensures.tail in
+    subst (λ z. has c.take_victim-victim.result (slots_of z) ≡ false) (sym ((ap (λ (z : QueueState). z.main) c.append.ensures.queues) ∙ ap (λ z. z ++ (c.in-Some.tail, false) ∷ []) ((ap (λ (z : QueueState). z.main) c.in-Some.ensures.queues) ∙ (ap (λ (z : QueueState). z.main) c.take_victim-victim.ensures.queues)))) (victim-not_behind _ g.met.K.Eq.laws _ _ _ _ _ _ _ _ k c.in-Some.tail last c.take_victim-victim.result c.take_victim-victim.ensures.victim)
 
 pub invariant_of-self : goal.invariant_of-self
 invariant_of-self g c =
+    let k = c.self.invariant in
+    let same = c.requires.hash ∙ ap (λ (z : CacheState _ _ _). hash_of g.S.BuildHasher g.S.Hasher.Hasher z.hasher (g.K.Hash.hash_input c.args.key)) (sym c.self.view_is) in
+    let absent = rw (← c.self.view_is) at c.requires.absent in
+    let last = ap (λ z. last_or None (slots_of z)) (sym (ap (λ (z : QueueState). z.small) c.take_victim-victim.ensures.queues)) ∙ sym c.in-Some.ensures.tail in
+    let full = rw (← c.self.view_is) at c.requires.full in
+    let on = rw (← c.self.view_is) at c.requires.on in
     let i = c.self.inside in
-    let m = (machine_of i.shares i.small.items i.main.items i.history.items i.values.items) in
-    let kept = c.self.invariant in
-    let absent = (rw (← c.self.view_is) at c.requires.absent) in
-    let tail = c.take_tail-tail.result in
-    let at = tail_at i.small.items c.take_tail-tail.new.small.items tail c.take_tail-tail.ensures.parts in
-    let victim = c.take_victim-victim.result in
-    let others = c.take_victim-victim.new.main.items in
-    let choice = sym c.take_victim-victim.ensures.choice in
-    rw (c.admit.ensures.items, c.admit.ensures.capacity, c.window.ensures, c.push_reserved.ensures.items, c.push_reserved.ensures.capacity, c.into_main.ensures, c.slot-slot.ensures, c.take_tail-tail.ensures.capacity, c.take_victim-victim.ensures.capacity)
-    (kept_placed g.K.PartialEq.eq m _ _ _ _ kept g.met.K.Eq.laws c.args.key c.args.value (promoting_tail c.args.key tail (victim ∷ others) m) absent
-    (placed-promoting g.K.PartialEq.eq m kept.whole c.args.key tail at.0 at.1 victim others choice) _ (stored_by_promotion _ _ i.main.items _ _ _ _ _ tail c.take_tail-tail.ensures.front victim others (victim_made _ m kept.whole victim others choice)))
+    let small = (ap (λ (z : QueueState). z.small) c.admit.ensures.queues) ∙ ap (λ n. admitted n c.take_victim-victim.result c.append.new.self.small) ((ap (λ (z : QueueState). z.window) c.append.ensures.queues) ∙ (ap (λ (z : QueueState). z.window) c.in-Some.ensures.queues) ∙ (ap (λ (z : QueueState). z.window) c.take_victim-victim.ensures.queues)) ∙ ap (λ z. admitted i.queues.window c.take_victim-victim.result z) ((ap (λ (z : QueueState). z.small) c.append.ensures.queues) ∙ (ap (λ (z : QueueState). z.small) c.in-Some.ensures.queues) ∙ ap (λ z. take (length z - 1) z) (ap (λ (z : QueueState). z.small) c.take_victim-victim.ensures.queues)) in
+    let d = promoted-done _ g.met.K.Eq.laws _ _ _ _ _ _ _ _ k c.in-Some.tail last c.take_victim-victim.result c.take_victim-victim.ensures.victim c.args.key c.args.value c.args.hash _ same c.renew.ensures.hash c.admit.new.self c.renew.new.index.homes c.renew.new.keys absent
+    ((ap (λ (z : QueueState). z.slots) c.admit.ensures.queues) ∙ (ap (λ (z : QueueState). z.slots) c.append.ensures.queues) ∙ (ap (λ (z : QueueState). z.slots) c.in-Some.ensures.queues) ∙ (ap (λ (z : QueueState). z.slots) c.take_victim-victim.ensures.queues)) ((ap (λ (z : QueueState). z.window) c.admit.ensures.queues) ∙ (ap (λ (z : QueueState). z.window) c.append.ensures.queues) ∙ (ap (λ (z : QueueState). z.window) c.in-Some.ensures.queues) ∙ (ap (λ (z : QueueState). z.window) c.take_victim-victim.ensures.queues)) c.renew.ensures.index c.renew.ensures.entries (ap (λ (z : KeyPlaces _ _). z.room) c.renew.ensures.kept)
+    full on small ((ap (λ (z : QueueState). z.main) c.admit.ensures.queues) ∙ ((ap (λ (z : QueueState). z.main) c.append.ensures.queues) ∙ ap (λ z. z ++ (c.in-Some.tail, false) ∷ []) ((ap (λ (z : QueueState). z.main) c.in-Some.ensures.queues) ∙ (ap (λ (z : QueueState). z.main) c.take_victim-victim.ensures.queues)))) in
+    d.holds
 
 pub returns : goal.returns
 returns g c =
-    let below = victim_made _ _ c.self.invariant.whole c.take_victim-victim.result _ (sym c.take_victim-victim.ensures.choice) in
-    rw (c.admit.ensures.items, c.window.ensures, c.push_reserved.ensures.items, c.into_main.ensures, c.slot-slot.ensures, ← c.self.view_is)
-    (placed_by_promotion _ _ _ _ _ _ _ _ c.take_tail-tail.result c.take_tail-tail.ensures.front c.take_tail-tail.ensures.parts (rw (← c.self.view_is) at c.requires.full) c.take_victim-victim.result _
-    (promotion_of_tail _ _ _ c.take_tail-tail.result c.take_tail-tail.ensures.parts (rw (← c.self.view_is) at c.requires.on)) c.take_victim-victim.ensures.choice below)
+    let k = c.self.invariant in
+    let same = c.requires.hash ∙ ap (λ (z : CacheState _ _ _). hash_of g.S.BuildHasher g.S.Hasher.Hasher z.hasher (g.K.Hash.hash_input c.args.key)) (sym c.self.view_is) in
+    let absent = rw (← c.self.view_is) at c.requires.absent in
+    let last = ap (λ z. last_or None (slots_of z)) (sym (ap (λ (z : QueueState). z.small) c.take_victim-victim.ensures.queues)) ∙ sym c.in-Some.ensures.tail in
+    let full = rw (← c.self.view_is) at c.requires.full in
+    let on = rw (← c.self.view_is) at c.requires.on in
+    let i = c.self.inside in
+    let small = (ap (λ (z : QueueState). z.small) c.admit.ensures.queues) ∙ ap (λ n. admitted n c.take_victim-victim.result c.append.new.self.small) ((ap (λ (z : QueueState). z.window) c.append.ensures.queues) ∙ (ap (λ (z : QueueState). z.window) c.in-Some.ensures.queues) ∙ (ap (λ (z : QueueState). z.window) c.take_victim-victim.ensures.queues)) ∙ ap (λ z. admitted i.queues.window c.take_victim-victim.result z) ((ap (λ (z : QueueState). z.small) c.append.ensures.queues) ∙ (ap (λ (z : QueueState). z.small) c.in-Some.ensures.queues) ∙ ap (λ z. take (length z - 1) z) (ap (λ (z : QueueState). z.small) c.take_victim-victim.ensures.queues)) in
+    let d = promoted-done _ g.met.K.Eq.laws _ _ _ _ _ _ _ _ k c.in-Some.tail last c.take_victim-victim.result c.take_victim-victim.ensures.victim c.args.key c.args.value c.args.hash _ same c.renew.ensures.hash c.admit.new.self c.renew.new.index.homes c.renew.new.keys absent
+    ((ap (λ (z : QueueState). z.slots) c.admit.ensures.queues) ∙ (ap (λ (z : QueueState). z.slots) c.append.ensures.queues) ∙ (ap (λ (z : QueueState). z.slots) c.in-Some.ensures.queues) ∙ (ap (λ (z : QueueState). z.slots) c.take_victim-victim.ensures.queues)) ((ap (λ (z : QueueState). z.window) c.admit.ensures.queues) ∙ (ap (λ (z : QueueState). z.window) c.append.ensures.queues) ∙ (ap (λ (z : QueueState). z.window) c.in-Some.ensures.queues) ∙ (ap (λ (z : QueueState). z.window) c.take_victim-victim.ensures.queues)) c.renew.ensures.index c.renew.ensures.entries (ap (λ (z : KeyPlaces _ _). z.room) c.renew.ensures.kept)
+    full on small ((ap (λ (z : QueueState). z.main) c.admit.ensures.queues) ∙ ((ap (λ (z : QueueState). z.main) c.append.ensures.queues) ∙ ap (λ z. z ++ (c.in-Some.tail, false) ∷ []) ((ap (λ (z : QueueState). z.main) c.in-Some.ensures.queues) ∙ (ap (λ (z : QueueState). z.main) c.take_victim-victim.ensures.queues)))) in
+    d.machine ∙ ap (λ (z : CacheState _ _ _). let p = into_small c.args.key z.machine in (stored p.slot c.args.value p.machine)) c.self.view_is

@@ -1,5 +1,5 @@
 -- The key is resident with its value.
-use Rattle.std.proofs.Common.{◌≡◌, ℕ, Bool, Option, Some, None, sym, ◌∙◌, subst}
+use Rattle.std.proofs.Common.{◌≡◌, ℕ, Bool, Option, Some, None, sym, ap, ◌∙◌, subst}
 use Rattle.std.specs.Cmp.{IsEquivalence}
 use Rattle.clock2q_cache.specs.Machine.{Machine, slot_of, value_of, hit, stored, inserted}
 use Rattle.clock2q_cache.specs.Cache.{IsWhole}
@@ -16,8 +16,8 @@ module _ {K V : Type 0} (eq : K → K → Bool) (laws : IsEquivalence eq) (m : M
 
 pub returns-in_default-clause-resident : goal.returns-in_default-clause-resident
 returns-in_default-clause-resident g c =
-    brought_in g.K.PartialEq.eq g.met.K.Eq.laws c.args.self.now.machine c.find_slot.ensures.whole c.args.key c.args.value c.insert.new.self.machine c.find_slot.result c.find_slot.ensures.slot c.in_default.is c.insert.ensures
+    brought_in g.K.PartialEq.eq g.met.K.Eq.laws c.args.self.now.machine c.find.ensures.whole c.args.key c.args.value c.insert.new.self.machine c.find.result c.find.ensures.slot c.in_default.is (c.insert.ensures ∙ ap (λ z. inserted (g.K.PartialEq.eq c.args.key) c.args.key c.args.value z) c.find.ensures.machine)
 
 pub returns-clause-resident : goal.returns-clause-resident
 returns-clause-resident g c =
-    replaced_at g.K.PartialEq.eq g.met.K.Eq.laws c.args.self.now.machine c.find_slot.ensures.whole c.args.key c.args.value c.replace.new.self.machine c.find_slot.result c.find_slot.ensures.slot c.in-Some.slot c.in-Some.is c.record_hit.new.self.machine c.record_hit.ensures c.replace.ensures.machine
+    replaced_at g.K.PartialEq.eq g.met.K.Eq.laws c.args.self.now.machine c.find.ensures.whole c.args.key c.args.value c.replace.new.self.machine c.find.result c.find.ensures.slot c.in-Some.slot c.in-Some.is c.record_hit.new.self.machine (c.record_hit.ensures.machine ∙ ap (λ z. hit (g.K.PartialEq.eq c.args.key) z) c.find.ensures.machine) c.replace.ensures.machine

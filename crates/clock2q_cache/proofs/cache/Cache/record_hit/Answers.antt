@@ -1,9 +1,26 @@
--- A hit moves nothing.
-use Rattle.clock2q_cache.specs.CacheFields.{machine_of}
-use Rattle.clock2q_cache.proofs.Kept.{kept_after_hit}
+-- A hit on a slot is one on the key that is resident there.
+use Rattle.std.proofs.Common.{◌≡◌, ◌<◌, Some, ap, sym, ◌∙◌, subst, arith}
+use Rattle.clock2q_queues.specs.Queues.{QueueState}
+use Rattle.clock2q_cache.specs.Hashes.{hash_of}
+use Rattle.clock2q_cache.specs.CacheState.{CacheState}
+use Rattle.clock2q_cache.specs.Machine.{slot_of, hit}
+use Rattle.clock2q_cache.proofs.Finding.{found-there, either-queue, hit-machine, kept-hit}
 use Rattle.clock2q_cache.proofs.cache.Cache.record_hit.Goals as goal
+
+pub hit-requires : goal.hit-requires
+hit-requires g c =
+    let k = c.self.invariant in
+    let is = rw (← c.self.view_is) at c.requires in
+    record { resident = either-queue c.self.inside.queues c.args.slot (found-there _ g.met.K.Eq.laws _ _ _ _ _ _ _ _ k c.args.key.now c.args.slot is).0 }
 
 pub invariant_of-self : goal.invariant_of-self
 invariant_of-self g c =
-    rw (c.hit_in_small.ensures.items, c.hit_in_small.ensures.capacity, c.hit_in_main.ensures.items, c.hit_in_main.ensures.capacity)
-    (kept_after_hit g.K.PartialEq.eq (machine_of c.self.inside.shares c.self.inside.small.items c.self.inside.main.items c.self.inside.history.items c.self.inside.values.items) _ _ _ _ c.self.invariant (g.K.PartialEq.eq c.args.key.now))
+    let k = c.self.invariant in
+    let is = rw (← c.self.view_is) at c.requires in
+    kept-hit _ g.met.K.Eq.laws _ _ _ _ _ _ _ _ k c.args.key.now c.args.slot is c.hit.new.self (ap (λ (z : QueueState). z.small) c.hit.ensures.queues) (ap (λ (z : QueueState). z.main) c.hit.ensures.queues) (ap (λ (z : QueueState). z.slots) c.hit.ensures.queues) (ap (λ (z : QueueState). z.window) c.hit.ensures.queues)
+
+pub returns : goal.returns
+returns g c =
+    let k = c.self.invariant in
+    let is = rw (← c.self.view_is) at c.requires in
+    record { machine = hit-machine _ g.met.K.Eq.laws _ _ _ _ _ _ _ _ k c.args.key.now c.args.slot is c.hit.new.self (ap (λ (z : QueueState). z.small) c.hit.ensures.queues) (ap (λ (z : QueueState). z.main) c.hit.ensures.queues) ∙ ap (λ (z : CacheState _ _ _). hit (g.K.PartialEq.eq c.args.key.now) z.machine) c.self.view_is }

@@ -1,32 +1,69 @@
--- The victim's slot has been made, and the new key has its place.
-use Rattle.std.proofs.Common.{◌∷◌, sym, arith}
-use Rattle.clock2q_cache.specs.CacheFields.{machine_of}
-use Rattle.clock2q_cache.specs.Machine.{replacing_victim}
-use Rattle.clock2q_cache.proofs.Kept.{kept_placed}
-use Rattle.clock2q_cache.proofs.Whole.{victim_made, placed-replacing}
-use Rattle.clock2q_cache.proofs.Placed.{placed_for_victim, stored_for_victim}
+-- The key goes to the end of Main, at the victim's slot.
+use Rattle.std.proofs.Common.{◌≡◌, ◌+◌, ◌-◌, ◌<◌, ◌++◌, ◌∷◌, [], true, false, length, take, drop, Some, None, ap, sym, ◌∙◌, subst, arith}
+use Rattle.clock2q_queues.specs.Rings.{has}
+use Rattle.clock2q_queues.specs.Small.{admitted}
+use Rattle.clock2q_queues.specs.MainRing.{from_victim}
+use Rattle.clock2q_queues.specs.Queues.{QueueState, slots_of}
+use Rattle.clock2q_queues.specs.Keys.{KeyPlaces}
+use Rattle.clock2q_queues.specs.History.{Remembered, is_remembered}
+use Rattle.clock2q_cache.specs.Hashes.{hash_of}
+use Rattle.clock2q_cache.specs.Machine.{into_main, into_small, stored}
+use Rattle.clock2q_cache.specs.CacheState.{CacheState}
+use Rattle.clock2q_cache.proofs.Kept.{IsDone, length_in_small, length_in_main}
+use Rattle.clock2q_cache.proofs.Renewed.{resident-there, slot-below, victim-in, rest, victim-not_in_rest, victim-not_in_small, replaced-done}
 use Rattle.clock2q_cache.proofs.cache.Cache.replace_victim.Goals as goal
 
-pub index_mut-requires : goal.index_mut-requires
-index_mut-requires g c =
-    let below = victim_made _ _ c.self.invariant.whole c.take_victim-victim.result _ (sym c.take_victim-victim.ensures.choice) in
-    omega arith
+pub renew-requires-clause-resident : goal.renew-requires-clause-resident
+renew-requires-clause-resident g c =
+    let k = c.self.invariant in
+    let there = victim-in _ g.met.K.Eq.laws _ _ _ _ _ _ _ _ k c.take_victim-victim.result c.take_victim-victim.ensures.victim in
+    let b = slot-below _ g.met.K.Eq.laws _ _ _ _ _ _ _ _ k c.take_victim-victim.result there in
+    resident-there _ g.met.K.Eq.laws _ _ _ _ _ _ _ _ k c.take_victim-victim.result there
+
+pub renew-requires-clause-made : goal.renew-requires-clause-made
+renew-requires-clause-made g c =
+    let k = c.self.invariant in
+    let there = victim-in _ g.met.K.Eq.laws _ _ _ _ _ _ _ _ k c.take_victim-victim.result c.take_victim-victim.ensures.victim in
+    let b = slot-below _ g.met.K.Eq.laws _ _ _ _ _ _ _ _ k c.take_victim-victim.result there in
+    b.0
+
+pub append-requires-clause-slot_in : goal.append-requires-clause-slot_in
+append-requires-clause-slot_in g c =
+    let k = c.self.invariant in
+    let there = victim-in _ g.met.K.Eq.laws _ _ _ _ _ _ _ _ k c.take_victim-victim.result c.take_victim-victim.ensures.victim in
+    let b = slot-below _ g.met.K.Eq.laws _ _ _ _ _ _ _ _ k c.take_victim-victim.result there in
+    omega (arith, b.1, k.sized.as_many, (ap (λ (z : QueueState). z.slots) c.take_victim-victim.ensures.queues))
+
+pub append-requires-clause-not_in_small : goal.append-requires-clause-not_in_small
+append-requires-clause-not_in_small g c =
+    let k = c.self.invariant in
+    subst (λ z. has c.take_victim-victim.result (slots_of z) ≡ false) (sym (ap (λ (z : QueueState). z.small) c.take_victim-victim.ensures.queues)) (victim-not_in_small _ g.met.K.Eq.laws _ _ _ _ _ _ _ _ k c.take_victim-victim.result c.take_victim-victim.ensures.victim)
+
+pub append-requires-clause-not_in_main : goal.append-requires-clause-not_in_main
+append-requires-clause-not_in_main g c =
+    let k = c.self.invariant in
+    subst (λ z. has c.take_victim-victim.result (slots_of z) ≡ false) (sym (ap (λ (z : QueueState). z.main) c.take_victim-victim.ensures.queues)) (victim-not_in_rest _ g.met.K.Eq.laws _ _ _ _ _ _ _ _ k c.take_victim-victim.result c.take_victim-victim.ensures.victim)
 
 pub invariant_of-self : goal.invariant_of-self
 invariant_of-self g c =
-    let i = c.self.inside in
-    let m = (machine_of i.shares i.small.items i.main.items i.history.items i.values.items) in
-    let kept = c.self.invariant in
-    let absent = (rw (← c.self.view_is) at c.requires.absent) in
-    let victim = c.take_victim-victim.result in
-    let others = c.take_victim-victim.new.main.items in
-    let choice = sym c.take_victim-victim.ensures.choice in
-    rw (c.push_reserved.ensures.items, c.push_reserved.ensures.capacity, c.take_victim-victim.ensures.capacity, c.new.ensures, c.slot-slot.ensures)
-    (kept_placed g.K.PartialEq.eq m _ _ _ _ kept g.met.K.Eq.laws c.args.key c.args.value (replacing_victim c.args.key (victim ∷ others) m) absent
-    (placed-replacing g.K.PartialEq.eq m kept.whole c.args.key victim others choice) _ (stored_for_victim _ _ i.main.items _ _ _ _ victim others (victim_made _ m kept.whole victim others choice)))
+    let k = c.self.invariant in
+    let same = c.requires.hash ∙ ap (λ (z : CacheState _ _ _). hash_of g.S.BuildHasher g.S.Hasher.Hasher z.hasher (g.K.Hash.hash_input c.args.key)) (sym c.self.view_is) in
+    let absent = rw (← c.self.view_is) at c.requires.absent in
+    let full = rw (← c.self.view_is) at c.requires.full in
+    let main = (ap (λ (z : QueueState). z.main) c.append.ensures.queues) ∙ ap (λ z. z ++ (c.take_victim-victim.result, false) ∷ []) (ap (λ (z : QueueState). z.main) c.take_victim-victim.ensures.queues) in
+    let d = replaced-done _ g.met.K.Eq.laws _ _ _ _ _ _ _ _ k c.take_victim-victim.result c.take_victim-victim.ensures.victim c.args.key c.args.value c.args.hash _ same c.renew.ensures.hash c.append.new.self c.renew.new.index.homes c.renew.new.keys absent
+    ((ap (λ (z : QueueState). z.slots) c.append.ensures.queues) ∙ (ap (λ (z : QueueState). z.slots) c.take_victim-victim.ensures.queues)) ((ap (λ (z : QueueState). z.window) c.append.ensures.queues) ∙ (ap (λ (z : QueueState). z.window) c.take_victim-victim.ensures.queues)) c.renew.ensures.index c.renew.ensures.entries (ap (λ (z : KeyPlaces _ _). z.room) c.renew.ensures.kept)
+    full ((ap (λ (z : QueueState). z.small) c.append.ensures.queues) ∙ (ap (λ (z : QueueState). z.small) c.take_victim-victim.ensures.queues)) main in
+    d.holds
 
 pub returns : goal.returns
 returns g c =
-    let below = victim_made _ _ c.self.invariant.whole c.take_victim-victim.result _ (sym c.take_victim-victim.ensures.choice) in
-    rw (c.push_reserved.ensures.items, c.new.ensures, c.slot-slot.ensures, ← c.self.view_is)
-    (placed_for_victim _ _ _ _ _ _ _ _ _ (rw (← c.self.view_is) at c.requires.full) c.take_victim-victim.ensures.choice below)
+    let k = c.self.invariant in
+    let same = c.requires.hash ∙ ap (λ (z : CacheState _ _ _). hash_of g.S.BuildHasher g.S.Hasher.Hasher z.hasher (g.K.Hash.hash_input c.args.key)) (sym c.self.view_is) in
+    let absent = rw (← c.self.view_is) at c.requires.absent in
+    let full = rw (← c.self.view_is) at c.requires.full in
+    let main = (ap (λ (z : QueueState). z.main) c.append.ensures.queues) ∙ ap (λ z. z ++ (c.take_victim-victim.result, false) ∷ []) (ap (λ (z : QueueState). z.main) c.take_victim-victim.ensures.queues) in
+    let d = replaced-done _ g.met.K.Eq.laws _ _ _ _ _ _ _ _ k c.take_victim-victim.result c.take_victim-victim.ensures.victim c.args.key c.args.value c.args.hash _ same c.renew.ensures.hash c.append.new.self c.renew.new.index.homes c.renew.new.keys absent
+    ((ap (λ (z : QueueState). z.slots) c.append.ensures.queues) ∙ (ap (λ (z : QueueState). z.slots) c.take_victim-victim.ensures.queues)) ((ap (λ (z : QueueState). z.window) c.append.ensures.queues) ∙ (ap (λ (z : QueueState). z.window) c.take_victim-victim.ensures.queues)) c.renew.ensures.index c.renew.ensures.entries (ap (λ (z : KeyPlaces _ _). z.room) c.renew.ensures.kept)
+    full ((ap (λ (z : QueueState). z.small) c.append.ensures.queues) ∙ (ap (λ (z : QueueState). z.small) c.take_victim-victim.ensures.queues)) main in
+    d.machine ∙ ap (λ (z : CacheState _ _ _). let p = into_main c.args.key z.machine in (stored p.slot c.args.value p.machine)) c.self.view_is

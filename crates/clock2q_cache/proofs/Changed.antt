@@ -1,0 +1,260 @@
+-- What holds of a cache's fields goes on to hold where a key's history is erased or a value is replaced, and holds of a new cache.
+use Rattle.std.proofs.Common.{◌≡◌, ℕ, zero, suc, ◌+◌, ◌-◌, ◌*◌, ◌^◌, ◌<◌, ◌≤◌, ◌==◌, max, Bool, true, false, not, ◌||◌, ◌&&◌, cond, eqb, Option, Some, None, slice_get, List, [], ◌∷◌, ◌++◌, map, length, take, drop, reverse, inl, inr, refl, sym, ap, ◌∙◌, subst, arith, eqb-true, eq-eqb, ne_eqb}
+use Rattle.std.specs.Prelude.{if◌then◌else◌, nat_lt, nat_le, is_some, slice_set, IfSome}
+use Rattle.std.specs.Cmp.{IsEquivalence}
+use Rattle.std.specs.List.{filter, list_any, last_or, AllByRecursion}
+use Rattle.std.proofs.lemmas.Bool.{cases_Bool, both_ways, lt-ltb, eqb-false}
+use Rattle.clock2q_queues.specs.Ages.{Age, is_promoted}
+use Rattle.clock2q_queues.specs.declared.keys.cells.Entry.{Entry}
+use Rattle.clock2q_queues.specs.Rings.{has}
+use Rattle.clock2q_queues.proofs.Rings.{has_first, has_later}
+use Rattle.clock2q_queues.specs.Keys.{KeyPlaces, entry, written, hash_at, key_at, value_at, with_value}
+use Rattle.clock2q_queues.specs.Indexes.{IsIndex, HasHash, index_room}
+use Rattle.clock2q_handles.specs.TableStep.{made_for}
+use Rattle.clock2q_queues.specs.Queues.{QueueState, slots_of, tail_promoted}
+use Rattle.clock2q_queues.specs.History.{Remembered, is_remembered, forgotten}
+use Rattle.clock2q_queues.proofs.Entries.{slice_get-written, slice_get-written_other, length-written}
+use Rattle.clock2q_queues.proofs.Indexes.{IsIndex-kept, IsIndex-new, half_new}
+use Rattle.clock2q_cache.specs.Shares.{Shares, ghost_share}
+use Rattle.clock2q_cache.specs.Machine as cache
+use Rattle.clock2q_cache.specs.Machine.{Machine, stored, empty, vacancy, goes_to_main}
+use Rattle.clock2q_cache.specs.Entries.{SmallEntry}
+use Rattle.clock2q_cache.specs.Cache.{IsWhole}
+use Rattle.clock2q_cache.specs.CacheFields.{machine_of, places_of, with_keys_small, with_keys_main, IsStored, IsSized, IsKept}
+use Rattle.clock2q_cache.proofs.WithKeys.{small-agree, main-agree, small-last, small_with}
+use Rattle.clock2q_cache.proofs.Stored.{all-written, values-written, length-values, below-more}
+use Rattle.clock2q_cache.proofs.Kept.{small_have, length_in_small, length_in_main, sized-same, vacancy-here}
+use Rattle.clock2q_cache.proofs.Whole.{whole-forgotten, all_resident, small_share}
+use Rattle.clock2q_cache.proofs.Lasting.{whole-changed, lasting-empty}
+
+module _ {K : Type 0} (is : K → Bool) where
+  pub known-any : (es : List (ℕ × K)) → list_any (λ (e : ℕ × K). is e.1) es ≡ list_any is (map (λ (e : ℕ × K). e.1) es)
+  known-any [] = refl
+  known-any (e ∷ es) = ap (λ z. is e.1 || z) (known-any es)
+
+  keys-filtered : (es : List (ℕ × K)) → map (λ (e : ℕ × K). e.1) (filter (λ (e : ℕ × K). not (is e.1)) es) ≡ filter (λ k. not (is k)) (map (λ (e : ℕ × K). e.1) es)
+  keys-filtered [] = refl
+  keys-filtered (e ∷ es) = elim (cases_Bool (is e.1)) [
+    | inl t ↦ rw t (keys-filtered es)
+    | inr f ↦ rw f (ap (λ zs. e.1 ∷ zs) (keys-filtered es))
+  ]
+
+  all-filtered : (P : ℕ × K → Type 0) (es : List (ℕ × K)) → AllByRecursion P es → AllByRecursion P (filter (λ (e : ℕ × K). not (is e.1)) es)
+  all-filtered P [] a = tt
+  all-filtered P (e ∷ es) a = elim (cases_Bool (is e.1)) [
+    | inl t ↦ rw t (all-filtered P es a.1)
+    | inr f ↦ rw f ((a.0, all-filtered P es a.1))
+  ]
+
+hash-there : {K : Type 0} (eq : K → K → Bool) (hash : K → ℕ) (key : K) (hsh : ℕ) (es : List (ℕ × K)) → ((x y : K) → eq x y ≡ true → hash x ≡ hash y) → hsh ≡ hash key → AllByRecursion (λ (e : ℕ × K). e.0 ≡ hash e.1) es → HasHash eq hsh key es
+hash-there eq hash key hsh [] respects is a = tt
+hash-there eq hash key hsh (e ∷ es) respects is a = ((λ q. a.0 ∙ sym (respects key e.1 q) ∙ sym is), hash-there eq hash key hsh es respects is a.1)
+
+set-written : {E : Type 0} (s : ℕ) (e : E) (es : List E) → s < length es → slice_set es s e ≡ written s e es
+set-written s e [] h = absurd (omega arith)
+set-written zero e (x ∷ xs) h = refl
+set-written (suc s) e (x ∷ xs) h = ap (λ zs. x ∷ zs) (set-written s e xs (omega arith))
+
+module _ {K V : Type 0} where
+  -- a value that is replaced
+  record Replaces (slot : ℕ) (value : V) (es : List (Entry K V)) : Type 0 where
+    pub entry : Entry K V
+    pub at : slice_get es slot ≡ Some entry
+    pub written : with_value slot value es ≡ written slot (record entry { value = value }) es
+
+  pub value-there : (es : List (Entry K V)) (slot : ℕ) → slice_get (map (λ (e : Entry K V). e.value) es) slot ≡ value_at es slot
+  value-there [] slot = refl
+  value-there (e ∷ es) zero = refl
+  value-there (e ∷ es) (suc slot) = value-there es slot
+
+  replaces : (slot : ℕ) (value : V) (es : List (Entry K V)) → slot < length es → Replaces slot value es
+  replaces slot value es below = of (slice_get es slot) refl
+    where
+      inside : (xs : List (Entry K V)) (s : ℕ) → None ≡ slice_get xs s → s < length xs → ⊥
+      inside [] s e h = omega arith
+      inside (x ∷ xs) zero e h = cc
+      inside (x ∷ xs) (suc s) e h = inside xs s e (omega arith)
+
+      of : (o : Option (Entry K V)) → slice_get es slot ≡ o → Replaces slot value es
+      of None is = absurd (inside es slot (sym is) below)
+      of (Some e) is = record {
+        entry = e;
+        at = is;
+        written = ap (λ z. elim z [ None ↦ es | Some e ↦ slice_set es slot (entry e.hash e.key value) ]) is ∙ set-written slot (record e { value = value }) es below;
+      }
+
+  key-same : (slot : ℕ) (value : V) (es : List (Entry K V)) (r : Replaces slot value es) → slot < length es → (t : ℕ) → key_at (with_value slot value es) t ≡ key_at es t
+  key-same slot value es r below t =
+      ap (λ z. key_at z t) r.written ∙ elim (cases_Bool (eqb t slot)) [
+        | inl e ↦
+            let q : t ≡ slot = eqb-true t slot e in
+            subst (λ z. key_at (written slot (record r.entry { value = value }) es) z ≡ key_at es z) (sym q)
+            (ap (λ z. elim z [ None ↦ None | Some e ↦ Some e.key ]) (slice_get-written slot (record r.entry { value = value }) es (omega (arith, below)))
+            ∙ sym (ap (λ z. elim z [ None ↦ None | Some e ↦ Some e.key ]) r.at))
+        | inr e ↦ ap (λ z. elim z [ None ↦ None | Some e ↦ Some e.key ]) (slice_get-written_other slot t (record r.entry { value = value }) es (omega (arith, below)) (λ q. both_ways (eqb t slot) e (eq-eqb t slot q)))
+      ]
+
+  hash-same : (slot : ℕ) (value : V) (es : List (Entry K V)) (r : Replaces slot value es) → slot < length es → (t : ℕ) → hash_at (with_value slot value es) t ≡ hash_at es t
+  hash-same slot value es r below t =
+      ap (λ z. hash_at z t) r.written ∙ elim (cases_Bool (eqb t slot)) [
+        | inl e ↦
+            let q : t ≡ slot = eqb-true t slot e in
+            subst (λ z. hash_at (written slot (record r.entry { value = value }) es) z ≡ hash_at es z) (sym q)
+            (ap (λ z. elim z [ None ↦ None | Some e ↦ Some e.hash ]) (slice_get-written slot (record r.entry { value = value }) es (omega (arith, below)))
+            ∙ sym (ap (λ z. elim z [ None ↦ None | Some e ↦ Some e.hash ]) r.at))
+        | inr e ↦ ap (λ z. elim z [ None ↦ None | Some e ↦ Some e.hash ]) (slice_get-written_other slot t (record r.entry { value = value }) es (omega (arith, below)) (λ q. both_ways (eqb t slot) e (eq-eqb t slot q)))
+      ]
+
+  all-at : (P : Entry K V → Type 0) (es : List (Entry K V)) (slot : ℕ) (e : Entry K V) → AllByRecursion P es → slice_get es slot ≡ Some e → P e
+  all-at P [] slot e a h = absurd (cc)
+  all-at P (x ∷ xs) zero e a h = let q : x ≡ e = inner x e h in subst P q a.0
+    where
+      inner : (a b : Entry K V) → Some a ≡ Some b → a ≡ b
+      inner a b q = cc
+  all-at P (x ∷ xs) (suc slot) e a h = all-at P xs slot e a.1 h
+
+tail-has_from : (t : ℕ) (x : ℕ × Age) (xs : List (ℕ × Age)) (a : Age) → last_or (Some x) xs ≡ Some (t, a) → has t (x.0 ∷ slots_of xs) ≡ true
+tail-has_from t x [] a l =
+    let q : x ≡ (t, a) = inner x (t, a) l in
+    subst (λ (z : ℕ × Age). has t (z.0 ∷ []) ≡ true) (sym q) (has_first t [])
+  where
+    inner : (a b : ℕ × Age) → Some a ≡ Some b → a ≡ b
+    inner a b q = cc
+tail-has_from t x (y ∷ xs) a l = has_later t x.0 (slots_of (y ∷ xs)) (tail-has_from t y xs a l)
+
+tail-has : (t : ℕ) (xs : List (ℕ × Age)) (a : Age) → last_or None xs ≡ Some (t, a) → has t (slots_of xs) ≡ true
+tail-has t [] a l = absurd (cc)
+tail-has t (x ∷ xs) a l = tail-has_from t x xs a l
+
+module _ {K V : Type 0} (eq : K → K → Bool) (laws : IsEquivalence eq) (hash : K → ℕ) (shares : Shares) (q : QueueState) (h : Remembered K) (index : List (List (ℕ × ℕ))) (keys : KeyPlaces K V) (free : List ℕ) (room : ℕ)
+    (kept : IsKept eq hash shares q h index keys free room) where
+  abbrev m : Machine K V
+  m = machine_of shares q keys.entries h.entries free
+
+  -- keys are asked about
+  pub kept-asked : (keys' : KeyPlaces K V) → keys'.entries ≡ keys.entries → keys'.room ≡ keys.room → IsKept eq hash shares q h index keys' free room
+  kept-asked keys' entries keys_room = record {
+    whole = subst (λ z. IsWhole eq (machine_of shares q z h.entries free)) (sym entries) kept.whole;
+    stored = subst (λ z. IsStored hash index z (places_of q)) (sym entries) kept.stored;
+    hashed = kept.hashed;
+    sized = sized-same shares q q h.limit h.limit (length index) (length index) keys.room keys'.room room room kept.sized refl refl refl refl keys_room refl;
+  }
+
+  -- the key's history is erased
+  module _ (key : K) (h' : Remembered K) (entries : h'.entries ≡ forgotten eq key h.entries) where
+    pub forgotten-machine : machine_of shares q keys.entries h'.entries free ≡ cache.forgotten (eq key) m
+    forgotten-machine =
+        let r : map (λ (e : ℕ × K). e.1) h'.entries ≡ filter (λ k. not (eq key k)) m.history = ap (λ z. map (λ (e : ℕ × K). e.1) z) entries ∙ keys-filtered (eq key) h.entries in
+        cc
+
+    pub kept-forgotten : h'.limit ≡ h.limit → IsKept eq hash shares q h' index keys free room
+    kept-forgotten limit = record {
+      whole = subst (IsWhole eq) (sym forgotten-machine) (whole-forgotten eq m kept.whole (eq key));
+      stored = kept.stored;
+      hashed = subst (λ z. AllByRecursion (λ e. e.0 ≡ hash e.1) z) (sym entries) (all-filtered (eq key) (λ e. e.0 ≡ hash e.1) h.entries kept.hashed);
+      sized = sized-same shares q q h.limit h'.limit (length index) (length index) keys.room keys.room room room kept.sized refl refl limit refl refl refl;
+    }
+
+  pub discard-hash : (key : K) (hsh : ℕ) → ((x y : K) → eq x y ≡ true → hash x ≡ hash y) → hsh ≡ hash key → HasHash eq hsh key h.entries
+  discard-hash key hsh respects is = hash-there eq hash key hsh h.entries respects is kept.hashed
+
+  -- a slot's value is replaced
+  module _ (slot : ℕ) (value : V) (below : slot < length m.values) where
+    made : slot < length keys.entries
+    made = omega (arith, below, length-values keys.entries)
+
+    r : Replaces slot value keys.entries
+    r = replaces slot value keys.entries made
+
+    pub replaced-machine : machine_of shares q (with_value slot value keys.entries) h.entries free ≡ stored slot value m
+    replaced-machine =
+        let s : with_keys_small (key_at (with_value slot value keys.entries)) q.small ≡ m.small = small-agree (key_at keys.entries) (key_at (with_value slot value keys.entries)) q.small (λ t g. key-same slot value keys.entries r made t) in
+        let t : with_keys_main (key_at (with_value slot value keys.entries)) q.main ≡ m.main = main-agree (key_at keys.entries) (key_at (with_value slot value keys.entries)) q.main (λ t g. key-same slot value keys.entries r made t) in
+        let v = ap (λ z. map (λ (e : Entry K V). e.value) z) r.written ∙ values-written slot (record r.entry { value = value }) keys.entries (omega (arith, made)) in
+        cc
+
+    pub kept-replaced : (keys' : KeyPlaces K V) → keys'.entries ≡ with_value slot value keys.entries → keys'.room ≡ keys.room → IsKept eq hash shares q h index keys' free room
+    kept-replaced keys' is keys_room = record {
+      whole = subst (λ z. IsWhole eq (machine_of shares q z h.entries free)) (sym is) (subst (IsWhole eq) (sym replaced-machine) (whole-changed eq m kept.whole slot value below));
+      stored = subst (λ z. IsStored hash index z (places_of q)) (sym is) (record {
+        made = below-more (length keys.entries) (length (with_value slot value keys.entries)) (places_of q) (omega (arith, ap (λ (z : List (Entry K V)). length z) r.written, length-written slot (record r.entry { value = value }) keys.entries (omega (arith, made)))) kept.stored.made;
+        indexed = IsIndex-kept index keys.entries (with_value slot value keys.entries) (places_of q) (λ t g. hash-same slot value keys.entries r made t) kept.stored.indexed;
+        hashed = subst (λ z. AllByRecursion (λ e. e.hash ≡ hash e.key) z) (sym r.written) (all-written (λ e. e.hash ≡ hash e.key) slot (record r.entry { value = value }) keys.entries kept.stored.hashed (all-at (λ e. e.hash ≡ hash e.key) keys.entries slot r.entry kept.stored.hashed r.at));
+      });
+      hashed = kept.hashed;
+      sized = sized-same shares q q h.limit h.limit (length index) (length index) keys.room keys'.room room room kept.sized refl refl refl refl keys_room refl;
+    }
+
+  -- whether Small's tail goes on
+  pub tail-tells : 0 < length m.small → (b : Bool) → b ≡ tail_promoted (last_or None q.small) → IfSome (last_or None m.small) (λ tail. b ≡ is_promoted tail.age)
+  tail-tells some b is = of (last_or None q.small) refl
+    where
+      of : (o : Option (ℕ × Age)) → last_or None q.small ≡ o → IfSome (last_or None m.small) (λ tail. b ≡ is_promoted tail.age)
+      of None none = absurd (nothing q.small none (omega (arith, some, length_in_small eq laws hash shares q h index keys free room kept)))
+        where
+          last-some : (x : ℕ × Age) (xs : List (ℕ × Age)) → last_or (Some x) xs ≡ None → ⊥
+          last-some x [] e = cc
+          last-some x (y ∷ xs) e = last-some y xs e
+
+          nothing : (xs : List (ℕ × Age)) → last_or None xs ≡ None → 0 < length xs → ⊥
+          nothing [] e s = omega arith
+          nothing (x ∷ xs) e s = last-some x xs e
+      of (Some e) last =
+          let k = small_have eq laws hash shares q h index keys free room kept e.0 (tail-has e.0 q.small e.1 last) in
+          let l = small-last (key_at keys.entries) None None q.small e k.0 (small_have eq laws hash shares q h index keys free room kept) (λ e. absurd (cc)) last k.1 in
+          rw l (is ∙ ap (λ z. tail_promoted z) last)
+
+module _ {K V : Type 0} where
+  -- whether a key enters Main, where Small has a share and there is a vacancy
+  pub admits : (m : Machine K V) (known : Bool) (share n : ℕ) → share ≡ m.shares.small → known ≡ false → (share ≡ 0 → ⊥) → is_some (vacancy m) ≡ true → n ≡ length m.small → nat_le share n ≡ goes_to_main known m
+  admits m known share n at new some vacant is =
+      let share_some : (m.shares.small == 0) ≡ false = ne_eqb m.shares.small 0 (λ e. some (at ∙ e)) in
+      ap (λ z. nat_le z n) at ∙ ap (λ z. nat_le m.shares.small z) is
+      ∙ sym (ap (λ a. a || (m.shares.small == 0) || (is_some (vacancy m) && nat_le m.shares.small (length m.small))) new
+      ∙ ap (λ b. false || b || (is_some (vacancy m) && nat_le m.shares.small (length m.small))) share_some
+      ∙ ap (λ v. false || false || (v && nat_le m.shares.small (length m.small))) vacant)
+
+  -- a full cache has an entry in Small, where that has a share
+  pub small-some : (eq : K → K → Bool) (m : Machine K V) → IsWhole eq m → is_some (vacancy m) ≡ false → goes_to_main false m ≡ false → 0 < length m.small
+  small-some eq m whole none small = omega (arith, all_resident eq m whole (nothing (vacancy m) none), whole.main_within, whole.small_below, small_share m.shares.small (is_some (vacancy m) && nat_le m.shares.small (length m.small)) small)
+    where
+      nothing : (o : Option ℕ) → is_some o ≡ false → o ≡ None
+      nothing None h = refl
+      nothing (Some x) h = absurd (both_ways true h refl)
+
+  -- a new cache
+  pub kept-new : (eq : K → K → Bool) (laws : IsEquivalence eq) (hash : K → ℕ) (shares : Shares) (q : QueueState) (h : Remembered K) (index : List (List (ℕ × ℕ))) (keys : KeyPlaces K V) (free : List ℕ) (room : ℕ)
+      → shares.small < shares.capacity → (0 < shares.small → 0 < shares.window) → shares.capacity < 2 ^ 24
+      → q.small ≡ [] → q.main ≡ [] → q.slots ≡ shares.capacity → q.window ≡ shares.window → h.entries ≡ [] → h.limit ≡ ghost_share shares → index ≡ made_for (index_room shares.capacity)
+      → keys.entries ≡ [] → shares.capacity ≤ keys.room → free ≡ [] → shares.capacity ≤ room
+      → IsKept eq hash shares q h index keys free room × (machine_of shares q keys.entries h.entries free ≡ empty shares)
+  kept-new eq laws hash shares q h index keys free room below windowed short small main slots window entries limit homes keyed keys_room none free_room = (
+    record {
+      whole = subst (IsWhole eq) (sym is) (lasting-empty eq laws shares below);
+      stored = subst (λ (z : List (Entry K V)). IsStored hash index z (places_of q)) (sym keyed) (subst (λ z. IsStored {K = K} {V = V} hash index [] z) (sym places) (record { made = tt; indexed = subst (λ z. IsIndex {K = K} {V = V} z [] []) (sym homes) (IsIndex-new (index_room shares.capacity) []); hashed = tt }));
+      hashed = subst (λ z. AllByRecursion (λ e. e.0 ≡ hash e.1) z) (sym entries) tt;
+      sized = record {
+        as_many = slots;
+        window = window;
+        windowed = windowed;
+        remembers = limit;
+        half = omega (arith, half_new shares.capacity, ap (λ (z : List (List (ℕ × ℕ))). length z) homes);
+        room_for_keys = keys_room;
+        room_for_free = free_room;
+        short = short;
+      };
+    },
+    is,
+  )
+    where
+      places : places_of q ≡ []
+      places = ap (λ z. slots_of z ++ slots_of q.main) small ∙ ap (λ z. slots_of z) main
+
+      is : machine_of shares q keys.entries h.entries free ≡ empty shares
+      is =
+          let a : with_keys_small (key_at keys.entries) q.small ≡ [] = ap (λ z. with_keys_small (key_at keys.entries) z) small in
+          let b : with_keys_main (key_at keys.entries) q.main ≡ [] = ap (λ z. with_keys_main (key_at keys.entries) z) main in
+          let d : map (λ (e : ℕ × K). e.1) h.entries ≡ [] = ap (λ z. map (λ (e : ℕ × K). e.1) z) entries in
+          let e : reverse free ≡ [] = ap (λ (z : List ℕ). reverse z) none in
+          let f : map (λ (e : Entry K V). e.value) keys.entries ≡ [] = ap (λ z. map (λ (e : Entry K V). e.value) z) keyed in
+          cc

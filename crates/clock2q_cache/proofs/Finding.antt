@@ -1,0 +1,232 @@
+-- What a look-up through the index finds is the machine's slot of the key, and what a hit there makes of the machine.
+use Rattle.std.proofs.Common.{◌≡◌, ℕ, zero, suc, ◌+◌, ◌-◌, ◌*◌, ◌^◌, ◌<◌, ◌≤◌, ◌==◌, ◌⊎◌, Bool, true, false, not, ◌||◌, cond, eqb, Option, Some, None, slice_get, List, [], ◌∷◌, ◌++◌, map, length, take, drop, reverse, inl, inr, refl, sym, ap, ◌∙◌, subst, arith, eqb-true, eq-eqb, ne_eqb, length-append}
+use Rattle.std.specs.Prelude.{if◌then◌else◌, nat_lt, is_some, slice_set, IfSome}
+use Rattle.std.specs.Cmp.{IsEquivalence}
+use Rattle.std.specs.Option.{option_map}
+use Rattle.std.specs.List.{count_by, find, list_any, last_or, cons_option, AllByRecursion}
+use Rattle.std.proofs.lemmas.Bool.{cases_Bool, both_ways, or_cases}
+use Rattle.std.proofs.lemmas.List.Sums.{sum_by-cons, sum_by-append}
+use Rattle.std.proofs.Math.ListN.{length-set}
+use Rattle.clock2q_handles.specs.Homes.{candidates}
+use Rattle.clock2q_queues.specs.Ages.{Age, is_promoted}
+use Rattle.clock2q_queues.specs.declared.keys.cells.Entry.{Entry}
+use Rattle.clock2q_queues.specs.Rings.{has, AllApart, AllBelow}
+use Rattle.clock2q_queues.specs.Keys.{KeyPlaces, entry, hash_at, key_at, hashed_at, value_at, entries_of, is_key_at, with_value}
+use Rattle.clock2q_queues.specs.Indexes.{IsIndex, AllDistinct, HasHash, has_key}
+use Rattle.clock2q_queues.specs.Small.{small_hit_at}
+use Rattle.clock2q_queues.specs.MainRing.{main_hit_at}
+use Rattle.clock2q_queues.specs.Queues.{QueueState, slots_of, tail_promoted}
+use Rattle.clock2q_queues.specs.History.{Remembered}
+use Rattle.clock2q_queues.proofs.Rings.{has-append, has_first, has_later, below_of}
+use Rattle.clock2q_queues.proofs.Indexes.{candidate_there}
+use Rattle.clock2q_queues.proofs.Entries.{same_place}
+use Rattle.clock2q_queues.proofs.Lookups.{look-up, found_there}
+use Rattle.clock2q_cache.specs.Shares.{Shares}
+use Rattle.clock2q_cache.specs.Entries as machine
+use Rattle.clock2q_cache.specs.Entries.{SmallEntry, MainEntry}
+use Rattle.clock2q_cache.specs.Machine.{Machine, residents, slot_of, hit, stored}
+use Rattle.clock2q_cache.specs.Cache.{IsWhole, known_count}
+use Rattle.clock2q_cache.specs.CacheFields.{machine_of, places_of, with_keys_small, with_keys_main, IsStored, IsSized, IsKept}
+use Rattle.clock2q_cache.proofs.WithKeys.{HaveKeys, have_later, small_with, main_with, small-cons, main-cons, small-hit, main-hit}
+use Rattle.clock2q_cache.proofs.Stored.{entry_there, length-values}
+use Rattle.clock2q_cache.proofs.Slots.{length-places}
+use Rattle.clock2q_cache.proofs.Kept.{small_have, main_have, sized-same}
+use Rattle.clock2q_cache.proofs.Whole.{whole-hit}
+
+pub all-has : (P : ℕ → Type 0) (xs : List ℕ) → ((t : ℕ) → has t xs ≡ true → P t) → AllByRecursion P xs
+all-has P [] h = tt
+all-has P (x ∷ xs) h = (h x (has_first x xs), all-has P xs (λ t g. h t (has_later t x xs g)))
+
+none-has : {X : Type 0} (is : X → Bool) (es : List X) → count_by is es ≡ 0 → list_any is es ≡ false
+none-has is [] h = refl
+none-has is (e ∷ es) h = elim (cases_Bool (is e)) [
+  | inl t ↦ absurd (omega (arith, h, sum_by-cons (λ k. cond (is k) 1 0) e es, ap {B = ℕ} (λ b. cond b 1 0) t))
+  | inr f ↦ rw f (none-has is es (omega (arith, h, sum_by-cons (λ k. cond (is k) 1 0) e es)))
+]
+
+-- a test of slots that tells whether the key there passes
+module _ {K : Type 0} (key : ℕ → Option K) (is : K → Bool) (passes : ℕ → Bool) (tells : (t : ℕ) (k : K) → key t ≡ Some k → passes t ≡ is k) where
+  small-found : (es : List (ℕ × Age)) (rs : List (K × ℕ)) (ps : List ℕ) → HaveKeys key (slots_of es) → option_map (λ (r : K × ℕ). r.1) (find (λ r. is r.0) rs) ≡ find passes ps
+      → option_map (λ (r : K × ℕ). r.1) (find (λ r. is r.0) (map (λ (e : SmallEntry K). (e.key, e.slot)) (with_keys_small key es) ++ rs)) ≡ find passes (slots_of es ++ ps)
+  small-found [] rs ps h r = r
+  small-found (e ∷ es) rs ps h r =
+      let k = h e.0 (has_first e.0 (slots_of es)) in
+      let p : passes e.0 ≡ is k.0 = tells e.0 k.0 k.1 in
+      ap (λ z. option_map (λ (r : K × ℕ). r.1) (find (λ r. is r.0) (map (λ (e : SmallEntry K). (e.key, e.slot)) z ++ rs))) (small-cons key e es k.0 k.1)
+      ∙ elim (cases_Bool (is k.0)) [
+        | inl t ↦ rw (p, t) refl
+        | inr f ↦ rw (p, f) (small-found es rs ps (have_later key e.0 (slots_of es) h) r)
+      ]
+
+  main-found : (es : List (ℕ × Bool)) → HaveKeys key (slots_of es)
+      → option_map (λ (r : K × ℕ). r.1) (find (λ r. is r.0) (map (λ (e : MainEntry K). (e.key, e.slot)) (with_keys_main key es))) ≡ find passes (slots_of es)
+  main-found [] h = refl
+  main-found (e ∷ es) h =
+      let k = h e.0 (has_first e.0 (slots_of es)) in
+      let p : passes e.0 ≡ is k.0 = tells e.0 k.0 k.1 in
+      ap (λ z. option_map (λ (r : K × ℕ). r.1) (find (λ r. is r.0) (map (λ (e : MainEntry K). (e.key, e.slot)) z))) (main-cons key e es k.0 k.1)
+      ∙ elim (cases_Bool (is k.0)) [
+        | inl t ↦ rw (p, t) refl
+        | inr f ↦ rw (p, f) (main-found es (have_later key e.0 (slots_of es) h))
+      ]
+
+module _ {K V : Type 0} (entries : List (Entry K V)) where
+  pub record HasEntry (t : ℕ) (k : K) : Type 0 where
+    pub hash : ℕ
+    pub hashed : hashed_at entries t ≡ Some (hash, k)
+
+  hashed-there : (t : ℕ) (k : K) → key_at entries t ≡ Some k → HasEntry t k
+  hashed-there t k h = of (slice_get entries t) refl h
+    where
+      inner : (a b : K) → Some a ≡ Some b → a ≡ b
+      inner a b q = cc
+
+      of : (o : Option (Entry K V)) → slice_get entries t ≡ o → elim o [ None ↦ None | Some e ↦ Some e.key ] ≡ Some k → HasEntry t k
+      of None is h = absurd (cc)
+      of (Some e) is h = record {
+        hash = e.hash;
+        hashed = ap (λ z. elim z [ None ↦ None | Some e ↦ Some (e.hash, e.key) ]) is ∙ ap (λ (z : K). Some (e.hash, z)) (inner e.key k h);
+      }
+
+  -- whether a key is the one there
+  pub key-tells : (eq : K → K → Bool) (key : K) (t : ℕ) (k : K) → key_at entries t ≡ Some k → is_key_at eq key entries t ≡ eq key k
+  key-tells eq key t k h = of (slice_get entries t) h
+    where
+      inner : (a b : K) → Some a ≡ Some b → a ≡ b
+      inner a b q = cc
+
+      of : (o : Option (Entry K V)) → elim o [ None ↦ None | Some e ↦ Some e.key ] ≡ Some k → elim o [ None ↦ false | Some e ↦ eq key e.key ] ≡ eq key k
+      of None h = absurd (cc)
+      of (Some e) h = ap (λ z. eq key z) (inner e.key k h)
+
+  -- as many keys pass at the slots as in the queues
+  small-counted : (is : K → Bool) (es : List (ℕ × Age)) → HaveKeys (key_at entries) (slots_of es) → count_by (λ (e : ℕ × K). is e.1) (entries_of entries (slots_of es)) ≡ count_by (λ (e : SmallEntry K). is e.key) (with_keys_small (key_at entries) es)
+  small-counted is [] h = refl
+  small-counted is (e ∷ es) h =
+      let k = h e.0 (has_first e.0 (slots_of es)) in
+      let x = hashed-there e.0 k.0 k.1 in
+      ap (λ z. count_by (λ (e : ℕ × K). is e.1) (cons_option z (entries_of entries (slots_of es)))) x.hashed
+      ∙ omega (arith, sum_by-cons (λ (e : ℕ × K). cond (is e.1) 1 0) (x.hash, k.0) (entries_of entries (slots_of es)), sum_by-cons (λ (e : SmallEntry K). cond (is e.key) 1 0) (small_with (key_at entries) e k.0) (with_keys_small (key_at entries) es), small-counted is es (have_later (key_at entries) e.0 (slots_of es) h))
+      ∙ sym (ap (λ z. count_by (λ (e : SmallEntry K). is e.key) z) (small-cons (key_at entries) e es k.0 k.1))
+
+  main-counted : (is : K → Bool) (es : List (ℕ × Bool)) → HaveKeys (key_at entries) (slots_of es) → count_by (λ (e : ℕ × K). is e.1) (entries_of entries (slots_of es)) ≡ count_by (λ (e : MainEntry K). is e.key) (with_keys_main (key_at entries) es)
+  main-counted is [] h = refl
+  main-counted is (e ∷ es) h =
+      let k = h e.0 (has_first e.0 (slots_of es)) in
+      let x = hashed-there e.0 k.0 k.1 in
+      ap (λ z. count_by (λ (e : ℕ × K). is e.1) (cons_option z (entries_of entries (slots_of es)))) x.hashed
+      ∙ omega (arith, sum_by-cons (λ (e : ℕ × K). cond (is e.1) 1 0) (x.hash, k.0) (entries_of entries (slots_of es)), sum_by-cons (λ (e : MainEntry K). cond (is e.key) 1 0) (main_with (key_at entries) e k.0) (with_keys_main (key_at entries) es), main-counted is es (have_later (key_at entries) e.0 (slots_of es) h))
+      ∙ sym (ap (λ z. count_by (λ (e : MainEntry K). is e.key) z) (main-cons (key_at entries) e es k.0 k.1))
+
+  appended-counted : (is : K → Bool) (xs ys : List ℕ) → count_by (λ (e : ℕ × K). is e.1) (entries_of entries (xs ++ ys)) ≡ count_by (λ (e : ℕ × K). is e.1) (entries_of entries xs) + count_by (λ (e : ℕ × K). is e.1) (entries_of entries ys)
+  appended-counted is [] ys = omega arith
+  appended-counted is (x ∷ xs) ys = of (appended-counted is xs ys) (hashed_at entries x)
+    where
+      of : count_by (λ (e : ℕ × K). is e.1) (entries_of entries (xs ++ ys)) ≡ count_by (λ (e : ℕ × K). is e.1) (entries_of entries xs) + count_by (λ (e : ℕ × K). is e.1) (entries_of entries ys) → (o : Option (ℕ × K)) → count_by (λ (e : ℕ × K). is e.1) (cons_option o (entries_of entries (xs ++ ys))) ≡ count_by (λ (e : ℕ × K). is e.1) (cons_option o (entries_of entries xs)) + count_by (λ (e : ℕ × K). is e.1) (entries_of entries ys)
+      of r None = r
+      of r (Some e) = omega (arith, r, sum_by-cons (λ (e : ℕ × K). cond (is e.1) 1 0) e (entries_of entries (xs ++ ys)), sum_by-cons (λ (e : ℕ × K). cond (is e.1) 1 0) e (entries_of entries xs))
+
+-- where each key stands once at most, no two are the same
+distinct-once : {K : Type 0} (eq : K → K → Bool) → IsEquivalence eq → (es : List (ℕ × K)) → ((k : K) → count_by (λ (e : ℕ × K). eq k e.1) es ≤ 1) → AllDistinct eq es
+distinct-once eq laws [] h = tt
+distinct-once eq laws (e ∷ es) h = (
+  none-has (λ (x : ℕ × _). eq e.1 x.1) es (omega (arith, h e.1, sum_by-cons (λ (x : ℕ × _). cond (eq e.1 x.1) 1 0) e es, ap {B = ℕ} (λ b. cond b 1 0) (laws.refl e.1))),
+  distinct-once eq laws es (λ k. omega (arith, h k, sum_by-cons (λ (x : ℕ × _). cond (eq k x.1) 1 0) e es)),
+)
+
+-- each key has its hash, so equal ones the same
+hashes-same : {K V : Type 0} (eq : K → K → Bool) (hash : K → ℕ) (key : K) (entries : List (Entry K V)) (ps : List ℕ) → ((x y : K) → eq x y ≡ true → hash x ≡ hash y) → AllByRecursion (λ e. e.hash ≡ hash e.key) entries → HasHash eq (hash key) key (entries_of entries ps)
+hashes-same eq hash key entries [] respects a = tt
+hashes-same {K} {V} eq hash key entries (p ∷ ps) respects a = of (hashes-same eq hash key entries ps respects a) entries p a
+  where
+    of : HasHash eq (hash key) key (entries_of entries ps) → (es : List (Entry K V)) (t : ℕ) → AllByRecursion (λ e. e.hash ≡ hash e.key) es → HasHash eq (hash key) key (cons_option (hashed_at es t) (entries_of entries ps))
+    of r [] t b = r
+    of r (e ∷ es) zero b = ((λ q. b.0 ∙ sym (respects key e.key q)), r)
+    of r (e ∷ es) (suc t) b = of r es t b.1
+
+-- a resident's slot stands in one of the queues
+pub either-queue : (q : QueueState) (slot : ℕ) → has slot (places_of q) ≡ true → (has slot (slots_of q.small) ≡ true) ⊎ (has slot (slots_of q.main) ≡ true)
+either-queue q slot there = or_cases (has slot (slots_of q.small)) (has slot (slots_of q.main)) (sym (has-append slot (slots_of q.small) (slots_of q.main)) ∙ there)
+
+slots-small_hit : (slot : ℕ) (es : List (ℕ × Age)) → slots_of (small_hit_at slot es) ≡ slots_of es
+slots-small_hit slot [] = refl
+slots-small_hit slot (e ∷ es) = elim (cases_Bool (eqb e.0 slot)) [ inl q ↦ rw q (ap (λ zs. e.0 ∷ zs) (slots-small_hit slot es)) | inr q ↦ rw q (ap (λ zs. e.0 ∷ zs) (slots-small_hit slot es)) ]
+
+slots-main_hit : (slot : ℕ) (es : List (ℕ × Bool)) → slots_of (main_hit_at slot es) ≡ slots_of es
+slots-main_hit slot [] = refl
+slots-main_hit slot (e ∷ es) = elim (cases_Bool (eqb e.0 slot)) [ inl q ↦ rw q (ap (λ zs. e.0 ∷ zs) (slots-main_hit slot es)) | inr q ↦ rw q (ap (λ zs. e.0 ∷ zs) (slots-main_hit slot es)) ]
+
+module _ {K V : Type 0} (eq : K → K → Bool) (laws : IsEquivalence eq) (hash : K → ℕ) (shares : Shares) (q : QueueState) (h : Remembered K) (index : List (List (ℕ × ℕ))) (keys : KeyPlaces K V) (free : List ℕ) (room : ℕ)
+    (kept : IsKept eq hash shares q h index keys free room) where
+  abbrev m : Machine K V
+  m = machine_of shares q keys.entries h.entries free
+
+  -- each candidate has a key
+  pub candidates-there : (x : ℕ) → AllByRecursion (λ place. place < length keys.entries) (candidates index x)
+  candidates-there x = all-has (λ place. place < length keys.entries) (candidates index x) (λ t g. (candidate_there index keys.entries (places_of q) x t kept.stored.indexed g).1)
+
+  known_at : (is : K → Bool) → count_by (λ (e : ℕ × K). is e.1) (entries_of keys.entries (places_of q)) ≤ known_count is m
+  known_at is = omega (arith, appended-counted keys.entries is (slots_of q.small) (slots_of q.main), small-counted keys.entries is q.small (small_have eq laws hash shares q h index keys free room kept), main-counted keys.entries is q.main (main_have eq laws hash shares q h index keys free room kept))
+
+  pub distinct : AllDistinct eq (entries_of keys.entries (places_of q))
+  distinct = distinct-once eq laws (entries_of keys.entries (places_of q)) (λ k. omega (arith, known_at (eq k), kept.whole.keys_once k))
+
+  module _ (key : K) where
+    slot-among : slot_of (eq key) m ≡ find (is_key_at eq key keys.entries) (places_of q)
+    slot-among = small-found (key_at keys.entries) (eq key) (is_key_at eq key keys.entries) (key-tells keys.entries eq key) q.small (map (λ (e : MainEntry K). (e.key, e.slot)) m.main) (slots_of q.main) (small_have eq laws hash shares q h index keys free room kept)
+        (main-found (key_at keys.entries) (eq key) (is_key_at eq key keys.entries) (key-tells keys.entries eq key) q.main (main_have eq laws hash shares q h index keys free room kept))
+
+    -- what a look-up finds
+    pub found : ((x y : K) → eq x y ≡ true → hash x ≡ hash y) → (hsh : ℕ) → hsh ≡ hash key → find (is_key_at eq key keys.entries) (candidates index hsh) ≡ slot_of (eq key) m
+    found respects hsh is = ap (λ z. find (is_key_at eq key keys.entries) (candidates index z)) is
+        ∙ look-up eq (hash key) key index keys.entries (places_of q) kept.stored.indexed (hashes-same eq hash key keys.entries (places_of q) respects kept.stored.hashed) laws distinct ∙ sym slot-among
+
+    -- a slot that is found is a resident's
+    pub found-there : (slot : ℕ) → slot_of (eq key) m ≡ Some slot → (has slot (places_of q) ≡ true) × (is_key_at eq key keys.entries slot ≡ true)
+    found-there slot is = found_there (is_key_at eq key keys.entries) (places_of q) slot (sym is ∙ slot-among)
+
+    pub found-made : (o : Option ℕ) → o ≡ slot_of (eq key) m → IfSome o (λ slot. slot < length m.values)
+    found-made None is = tt
+    found-made (Some slot) is = omega (arith, below_of (length keys.entries) (places_of q) kept.stored.made slot (found-there slot (sym is)).0, length-values keys.entries)
+
+    -- a hit
+    module _ (slot : ℕ) (is : slot_of (eq key) m ≡ Some slot) where
+      key-there : (k : K) (t : ℕ) → has t (places_of q) ≡ true → key_at keys.entries t ≡ Some k → eq key k ≡ eqb t slot
+      key-there k t g at = elim (cases_Bool (eqb t slot)) [
+        | inl e ↦
+            let s : is_key_at eq key keys.entries t ≡ true = subst (λ z. is_key_at eq key keys.entries z ≡ true) (sym (eqb-true t slot e)) (found-there slot is).1 in
+            sym passed ∙ s ∙ sym e
+        | inr e ↦ elim (cases_Bool (eq key k)) [
+          | inl p ↦ absurd (both_ways (eqb t slot) e (same_place eq laws key keys.entries (places_of q) distinct t slot g (found-there slot is).0 (passed ∙ p) (found-there slot is).1))
+          | inr p ↦ p ∙ sym e
+        ]
+      ]
+        where
+          passed : is_key_at eq key keys.entries t ≡ eq key k
+          passed = key-tells keys.entries eq key t k at
+
+      pub hit-machine : (q' : QueueState) → q'.small ≡ small_hit_at slot q.small → q'.main ≡ main_hit_at slot q.main → machine_of shares q' keys.entries h.entries free ≡ hit (eq key) m
+      hit-machine q' small main =
+          let s : with_keys_small (key_at keys.entries) q'.small ≡ machine.small_hit (eq key) m.small =
+          ap (λ z. with_keys_small (key_at keys.entries) z) small ∙ sym (small-hit (key_at keys.entries) (eq key) slot q.small
+          (λ t k g at. key-there k t (has-append t (slots_of q.small) (slots_of q.main) ∙ rw g refl) at) (small_have eq laws hash shares q h index keys free room kept)) in
+          let t : with_keys_main (key_at keys.entries) q'.main ≡ machine.main_hit (eq key) m.main =
+          ap (λ z. with_keys_main (key_at keys.entries) z) main ∙ sym (main-hit (key_at keys.entries) (eq key) slot q.main
+          (λ t k g at. key-there k t (has-append t (slots_of q.small) (slots_of q.main) ∙ rw g (or_true (has t (slots_of q.small)))) at) (main_have eq laws hash shares q h index keys free room kept)) in
+          cc
+        where
+          or_true : (b : Bool) → (b || true) ≡ true
+          or_true true = refl
+          or_true false = refl
+
+      pub kept-hit : (q' : QueueState) → q'.small ≡ small_hit_at slot q.small → q'.main ≡ main_hit_at slot q.main → q'.slots ≡ q.slots → q'.window ≡ q.window → IsKept eq hash shares q' h index keys free room
+      kept-hit q' small main slots window = record {
+        whole = subst (IsWhole eq) (sym (hit-machine q' small main)) (whole-hit eq m kept.whole (eq key));
+        stored = subst (λ z. IsStored hash index keys.entries z) (sym places) kept.stored;
+        hashed = kept.hashed;
+        sized = sized-same shares q q' h.limit h.limit (length index) (length index) keys.room keys.room room room kept.sized slots window refl refl refl refl;
+      }
+        where
+          places : places_of q' ≡ places_of q
+          places = ap (λ z. slots_of z ++ slots_of q'.main) small ∙ ap (λ z. z ++ slots_of q'.main) (slots-small_hit slot q.small)
+              ∙ ap (λ z. slots_of q.small ++ slots_of z) main ∙ ap (λ z. slots_of q.small ++ z) (slots-main_hit slot q.main)

@@ -1,0 +1,182 @@
+-- How often a slot stands in a cache's queues, and which slots are apart.
+use Rattle.std.proofs.Common.{◌≡◌, ℕ, zero, suc, ◌+◌, ◌-◌, ◌<◌, ◌≤◌, ◌==◌, Bool, true, false, not, ◌||◌, cond, eqb, Option, Some, None, List, [], ◌∷◌, ◌++◌, map, length, take, drop, reverse, inl, inr, refl, sym, ap, ◌∙◌, subst, arith, eqb-true, eq-eqb, ne_eqb, length-append}
+use Rattle.std.specs.Prelude.{if◌then◌else◌, nat_lt, is_some}
+use Rattle.std.specs.List.{count_by, last_or}
+use Rattle.std.proofs.lemmas.Bool.{cases_Bool, cases_lt, both_ways, lt-ltb, le-ltb}
+use Rattle.std.proofs.lemmas.List.{length-reverse}
+use Rattle.std.proofs.lemmas.List.Sums.{sum_by-cons, sum_by-append}
+use Rattle.clock2q_queues.specs.Ages.{Age}
+use Rattle.clock2q_queues.specs.declared.keys.cells.Entry.{Entry}
+use Rattle.clock2q_queues.specs.Rings.{has, AllApart, AllBelow}
+use Rattle.clock2q_queues.specs.Keys.{key_at}
+use Rattle.clock2q_queues.specs.MainRing.{passed, from_victim}
+use Rattle.clock2q_queues.specs.Queues.{QueueState, slots_of}
+use Rattle.clock2q_queues.proofs.Rings.{has-append, has_first, has_later, eqb_self}
+use Rattle.clock2q_cache.specs.Shares.{Shares}
+use Rattle.clock2q_cache.specs.Machine.{Machine, vacancy, vacant_slot}
+use Rattle.clock2q_cache.specs.Cache.{IsWhole, standings}
+use Rattle.clock2q_cache.specs.CacheFields.{machine_of, places_of, IsStored}
+use Rattle.clock2q_cache.proofs.WithKeys.{HaveKeys, small-standing, main-standing, length-small, length-main}
+use Rattle.clock2q_cache.proofs.Stored.{have_keys, length-values}
+
+-- how often a slot stands among these
+abbrev pub times : ℕ → List ℕ → ℕ
+times t xs = count_by (λ s. s == t) xs
+
+pub times-cons : (t x : ℕ) (xs : List ℕ) → times t (x ∷ xs) ≡ cond (x == t) 1 0 + times t xs
+times-cons t x xs = sum_by-cons (λ s. cond (s == t) 1 0) x xs
+
+pub times-none : (t : ℕ) (xs : List ℕ) → times t xs ≡ 0 → has t xs ≡ false
+times-none t [] h = refl
+times-none t (x ∷ xs) h = elim (cases_Bool (eqb t x)) [
+  | inl e ↦ absurd (omega (arith, h, times-cons t x xs, ap {B = ℕ} (λ b. cond b 1 0) (eq-eqb x t (sym (eqb-true t x e)))))
+  | inr e ↦ rw e (times-none t xs (omega (arith, h, times-cons t x xs)))
+]
+
+pub times-some : (t : ℕ) (xs : List ℕ) → has t xs ≡ true → 0 < times t xs
+times-some t [] h = absurd (both_ways false refl h)
+times-some t (x ∷ xs) h = elim (cases_Bool (eqb t x)) [
+  | inl e ↦ omega (arith, times-cons t x xs, ap {B = ℕ} (λ b. cond b 1 0) (eq-eqb x t (sym (eqb-true t x e))))
+  | inr e ↦ omega (arith, times-cons t x xs, times-some t xs (rw e at h))
+]
+
+pub times-apart : (xs : List ℕ) → ((t : ℕ) → times t xs ≤ 1) → AllApart xs
+times-apart [] h = tt
+times-apart (x ∷ xs) h =
+    let own = times-cons x x xs in
+    (times-none x xs (omega (arith, h x, own, ap {B = ℕ} (λ b. cond b 1 0) (eqb_self x))), times-apart xs (λ t. omega (arith, h t, times-cons t x xs)))
+
+length-slots : {X : Type 0} (xs : List (ℕ × X)) → length (slots_of xs) ≡ length xs
+length-slots [] = refl
+length-slots (x ∷ xs) = ap suc (length-slots xs)
+
+-- the hand's choice moves entries, and takes none out
+has-split : (t n : ℕ) (main : List (ℕ × Bool)) → has t (slots_of main) ≡ (has t (slots_of (drop n main)) || has t (slots_of (map {B = ℕ × Bool} (λ e. (e.0, false)) (take n main))))
+has-split t zero main = or_none (has t (slots_of main))
+  where
+    or_none : (b : Bool) → b ≡ (b || false)
+    or_none true = refl
+    or_none false = refl
+has-split t (suc n) [] = refl
+has-split t (suc n) (e ∷ main) = ap (λ z. eqb t e.0 || z) (has-split t n main) ∙ swapped (eqb t e.0) (has t (slots_of (drop n main))) (has t (slots_of (map {B = ℕ × Bool} (λ e. (e.0, false)) (take n main))))
+  where
+    swapped : (a b c : Bool) → (a || (b || c)) ≡ (b || (a || c))
+    swapped true true c = refl
+    swapped true false c = refl
+    swapped false b c = refl
+
+slots-append : {X : Type 0} (xs ys : List (ℕ × X)) → slots_of (xs ++ ys) ≡ slots_of xs ++ slots_of ys
+slots-append [] ys = refl
+slots-append (x ∷ xs) ys = ap (λ zs. x.0 ∷ zs) (slots-append xs ys)
+
+pub has-appended : {X : Type 0} (t : ℕ) (xs ys : List (ℕ × X)) → has t (slots_of (xs ++ ys)) ≡ (has t (slots_of xs) || has t (slots_of ys))
+has-appended t xs ys = ap (λ z. has t z) (slots-append xs ys) ∙ has-append t (slots_of xs) (slots_of ys)
+
+pub has-from_victim : (t : ℕ) (main : List (ℕ × Bool)) → has t (slots_of (from_victim main)) ≡ has t (slots_of main)
+has-from_victim t main = has-appended t (drop (passed main) main) (map {B = ℕ × Bool} (λ e. (e.0, false)) (take (passed main) main)) ∙ sym (has-split t (passed main) main)
+
+length-split : (n : ℕ) (main : List (ℕ × Bool)) → length (drop n main) + length (map {B = ℕ × Bool} (λ (e : ℕ × Bool). (e.0, false)) (take n main)) ≡ length main
+length-split zero main = omega arith
+length-split (suc n) [] = refl
+length-split (suc n) (e ∷ main) = omega (arith, length-split n main)
+
+pub length-swept : (main : List (ℕ × Bool)) → length (from_victim main) ≡ length main
+length-swept main = length-append (drop (passed main) main) (map {B = ℕ × Bool} (λ (e : ℕ × Bool). (e.0, false)) (take (passed main) main)) ∙ length-split (passed main) main
+
+pub length-places : (q : QueueState) → length (places_of q) ≡ length q.small + length q.main
+length-places q = length-append (slots_of q.small) (slots_of q.main) ∙ ap (λ n. n + length (slots_of q.main)) (length-slots q.small) ∙ ap (λ n. length q.small + n) (length-slots q.main)
+
+module _ {K V : Type 0} (eq : K → K → Bool) (hash : K → ℕ) (shares : Shares) (q : QueueState) (index : List (List (ℕ × ℕ))) (entries : List (Entry K V)) (history : List (ℕ × K)) (free : List ℕ)
+    (whole : IsWhole eq (machine_of shares q entries history free)) (stored : IsStored hash index entries (places_of q)) where
+  abbrev m : Machine K V
+  m = machine_of shares q entries history free
+
+  pub small_keys : HaveKeys (key_at entries) (slots_of q.small)
+  small_keys = λ t g. have_keys entries (places_of q) stored.made t (has-append t (slots_of q.small) (slots_of q.main) ∙ rw g refl)
+
+  pub main_keys : HaveKeys (key_at entries) (slots_of q.main)
+  main_keys = λ t g. have_keys entries (places_of q) stored.made t (has-append t (slots_of q.small) (slots_of q.main) ∙ rw g (or_true (has t (slots_of q.small))))
+    where
+      or_true : (b : Bool) → (b || true) ≡ true
+      or_true true = refl
+      or_true false = refl
+
+  pub standing-times : (t : ℕ) → standings t m ≡ times t (places_of q) + times t (reverse free)
+  standing-times t =
+      omega (arith, small-standing (key_at entries) t q.small small_keys, main-standing (key_at entries) t q.main main_keys, sum_by-append (λ s. cond (s == t) 1 0) (slots_of q.small) (slots_of q.main))
+
+  once_at_most : (b : Bool) → (if b then 1 else 0) ≤ 1
+  once_at_most true = omega arith
+  once_at_most false = omega arith
+
+  pub at_most_once : (t : ℕ) → times t (places_of q) + times t (reverse free) ≤ 1
+  at_most_once t = omega (arith, standing-times t, whole.slots_once t, once_at_most (nat_lt t (length m.values)))
+
+  -- no slot is two residents'
+  pub places_apart : AllApart (places_of q)
+  places_apart = times-apart (places_of q) (λ t. omega (arith, at_most_once t))
+
+  -- a slot that is free has no resident, and was made
+  free_slot : (slot : ℕ) → 0 < times slot (reverse free) → (has slot (places_of q) ≡ false) × (slot < length entries)
+  free_slot slot some = (
+    times-none slot (places_of q) (omega (arith, some, at_most_once slot)),
+    elim (cases_lt slot (length m.values)) [
+      | inl below ↦ omega (arith, below, length-values entries)
+      | inr above ↦ absurd (omega (arith, some, standing-times slot, whole.slots_once slot, ap {B = ℕ} (λ b. if b then 1 else 0) (le-ltb slot (length m.values) above)))
+    ],
+  )
+
+  -- nor has the next slot
+  next_slot : has (length m.values) (places_of q) ≡ false
+  next_slot = times-none (length m.values) (places_of q) (omega (arith, standing-times (length m.values), whole.slots_once (length m.values), ap {B = ℕ} (λ b. if b then 1 else 0) (le-ltb (length m.values) (length m.values) (omega arith))))
+
+  -- a vacancy has no resident, and was made or is the next slot
+  pub record IsVacant (slot : ℕ) : Type 0 where
+    pub absent : has slot (places_of q) ≡ false
+    pub next : slot ≤ length entries
+    pub below : slot < shares.capacity
+
+  some_same : (x y : ℕ) → Some x ≡ Some y → x ≡ y
+  some_same x y e = cc
+
+  pub vacant : (slot : ℕ) → vacancy m ≡ Some slot → IsVacant slot
+  vacant slot is = of (reverse free) refl is
+    where
+      of : (fs : List ℕ) → reverse free ≡ fs → vacant_slot fs (length m.values) shares.capacity ≡ Some slot → IsVacant slot
+      of (s ∷ fs) at e =
+          let same : s ≡ slot = some_same s slot e in
+          let f = free_slot slot (omega (arith, ap (λ z. times slot z) at, times-cons slot s fs, ap {B = ℕ} (λ b. cond b 1 0) (eq-eqb s slot same))) in
+          record { absent = f.0; next = omega (arith, f.1); below = omega (arith, f.1, whole.made_within, length-values entries) }
+      of [] at e = elim (cases_lt (length m.values) shares.capacity) [
+        | inl below ↦
+            let same : length m.values ≡ slot = some_same (length m.values) slot (sym (ap (λ b. if b then Some (length m.values) else None) (lt-ltb (length m.values) shares.capacity below)) ∙ e) in
+            record { absent = subst (λ z. has z (places_of q) ≡ false) same next_slot; next = omega (arith, same, length-values entries); below = omega (arith, same, below) }
+        | inr above ↦ absurd (none_some slot (sym (ap (λ b. if b then Some (length m.values) else None) (le-ltb (length m.values) shares.capacity above)) ∙ e))
+      ]
+        where
+          none_some : (x : ℕ) → None ≡ Some x → ⊥
+          none_some x e = cc
+
+  -- the slot that is taken is the vacancy, where there is one
+  pub vacancy-taken : (slot : ℕ) → is_some (vacancy m) ≡ true → vacant_slot (reverse free) (length entries) (length entries + 1) ≡ Some slot → vacancy m ≡ Some slot
+  vacancy-taken slot some taken = of (reverse free) some taken
+    where
+      of : (fs : List ℕ) → is_some (vacant_slot fs (length m.values) shares.capacity) ≡ true → vacant_slot fs (length entries) (length entries + 1) ≡ Some slot → vacant_slot fs (length m.values) shares.capacity ≡ Some slot
+      of (s ∷ fs) some e = e
+      of [] some e = elim (cases_lt (length m.values) shares.capacity) [
+        | inl below ↦
+            ap (λ b. if b then Some (length m.values) else None) (lt-ltb (length m.values) shares.capacity below)
+            ∙ ap Some (length-values entries)
+            ∙ sym (ap (λ b. if b then Some (length entries) else None) (lt-ltb (length entries) (length entries + 1) (omega arith))) ∙ e
+        | inr above ↦ absurd (both_ways false refl (sym (ap (λ (z : Option ℕ). is_some z) (ap (λ b. if b then Some (length m.values) else None) (le-ltb (length m.values) shares.capacity above))) ∙ some))
+      ]
+
+  -- where fewer slots are residents' than there may be, there is a vacancy
+  pub vacancy-there : length q.small + length q.main < shares.capacity → is_some (vacancy m) ≡ true
+  vacancy-there few = of (reverse free) refl
+    where
+      of : (fs : List ℕ) → reverse free ≡ fs → is_some (vacant_slot fs (length m.values) shares.capacity) ≡ true
+      of (s ∷ fs) at = refl
+      of [] at =
+          let below : length m.values < shares.capacity = omega (arith, few, whole.slots_counted, length-small (key_at entries) q.small small_keys, length-main (key_at entries) q.main main_keys, ap (λ (z : List ℕ). length z) at) in
+          ap (λ (z : Option ℕ). is_some z) (ap (λ b. if b then Some (length m.values) else None) (lt-ltb (length m.values) shares.capacity below))

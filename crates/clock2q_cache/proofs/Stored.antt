@@ -1,0 +1,183 @@
+-- The keys by slot and their index: what becomes of them where a key enters or one is replaced.
+use Rattle.std.proofs.Common.{◌≡◌, ℕ, zero, suc, ◌+◌, ◌-◌, ◌^◌, ◌<◌, ◌≤◌, ◌==◌, Bool, true, false, not, ◌||◌, ◌&&◌, cond, eqb, max, Option, Some, None, slice_get, List, [], ◌∷◌, ◌++◌, map, length, take, drop, inl, inr, refl, sym, ap, ◌∙◌, subst, arith, eqb-true, length-append}
+use Rattle.std.specs.Prelude.{if◌then◌else◌, nat_lt, slice_set}
+use Rattle.std.specs.List.{AllByRecursion}
+use Rattle.std.proofs.lemmas.Bool.{cases_Bool, cases_lt, both_ways, lt-ltb, le-ltb}
+use Rattle.clock2q_handles.specs.Homes.{candidates, total, capacity, inserted, removed}
+use Rattle.clock2q_queues.specs.declared.keys.cells.Entry.{Entry}
+use Rattle.clock2q_queues.specs.Rings.{has, without, AllApart, AllBelow}
+use Rattle.clock2q_queues.specs.Keys.{entry, written, hash_at, key_at, value_at}
+use Rattle.clock2q_queues.specs.Indexes.{IsIndex, is_named}
+use Rattle.clock2q_queues.proofs.Rings.{has_first, has_later, has-append, eqb_self, below_of, differs}
+use Rattle.clock2q_queues.proofs.Joining.{length-without}
+use Rattle.clock2q_queues.proofs.Entries.{slice_get-written, slice_get-written_other, length-written}
+use Rattle.clock2q_queues.proofs.Indexes.{IsIndex-put, IsIndex-taken, has-without_test, length-put, length-taken}
+use Rattle.clock2q_cache.specs.CacheFields.{IsStored}
+use Rattle.clock2q_cache.proofs.WithKeys.{HaveKeys}
+
+module _ {K V : Type 0} where
+  -- each place that is below their number has an entry
+  pub entry_there : (entries : List (Entry K V)) (t : ℕ) → t < length entries → (e : Entry K V) × (slice_get entries t ≡ Some e)
+  entry_there [] t h = absurd (omega arith)
+  entry_there (e ∷ es) zero h = (e, refl)
+  entry_there (e ∷ es) (suc t) h = entry_there es t (omega arith)
+
+  pub have_keys : (entries : List (Entry K V)) (places : List ℕ) → AllBelow (length entries) places → HaveKeys (key_at entries) places
+  have_keys entries places b t h =
+      let e = entry_there entries t (below_of (length entries) places b t h) in
+      (e.0.key, ap (λ z. elim z [ None ↦ None | Some e ↦ Some e.key ]) e.1)
+
+  -- an entry that is written
+  module _ (s h : ℕ) (k : K) (v : V) (es : List (Entry K V)) (next : s ≤ length es) where
+    pub key_at-own : key_at (written s (entry h k v) es) s ≡ Some k
+    key_at-own = ap (λ z. elim z [ None ↦ None | Some e ↦ Some e.key ]) (slice_get-written s (entry h k v) es next)
+
+    pub hash_at-own : hash_at (written s (entry h k v) es) s ≡ Some h
+    hash_at-own = ap (λ z. elim z [ None ↦ None | Some e ↦ Some e.hash ]) (slice_get-written s (entry h k v) es next)
+
+    apart_places : (t : ℕ) (places : List ℕ) → has s places ≡ false → has t places ≡ true → t ≡ s → ⊥
+    apart_places t places absent g e = both_ways (has s places) absent (subst (λ z. has z places ≡ true) e g)
+
+    pub key_at-others : (places : List ℕ) → has s places ≡ false → (t : ℕ) → has t places ≡ true → key_at (written s (entry h k v) es) t ≡ key_at es t
+    key_at-others places absent t g = ap (λ z. elim z [ None ↦ None | Some e ↦ Some e.key ]) (slice_get-written_other s t (entry h k v) es next (apart_places t places absent g))
+
+    pub hash_at-others : (places : List ℕ) → has s places ≡ false → (t : ℕ) → has t places ≡ true → hash_at (written s (entry h k v) es) t ≡ hash_at es t
+    hash_at-others places absent t g = ap (λ z. elim z [ None ↦ None | Some e ↦ Some e.hash ]) (slice_get-written_other s t (entry h k v) es next (apart_places t places absent g))
+
+  pub all-written : (P : Entry K V → Type 0) (s : ℕ) (e : Entry K V) (es : List (Entry K V)) → AllByRecursion P es → P e → AllByRecursion P (written s e es)
+  all-written P s e [] a p = (p, tt)
+  all-written P zero e (x ∷ xs) a p = (p, a.1)
+  all-written P (suc s) e (x ∷ xs) a p = (a.0, all-written P s e xs a.1 p)
+
+  -- the values
+  values-next : (s : ℕ) (e : Entry K V) (es : List (Entry K V)) → s ≡ length es → map (λ e. e.value) (written s e es) ≡ map (λ e. e.value) es ++ e.value ∷ []
+  values-next s e [] h = refl
+  values-next zero e (x ∷ xs) h = absurd (omega arith)
+  values-next (suc s) e (x ∷ xs) h = ap (λ zs. x.value ∷ zs) (values-next s e xs (omega arith))
+
+  values-set : (s : ℕ) (e : Entry K V) (es : List (Entry K V)) → s < length es → map (λ e. e.value) (written s e es) ≡ slice_set (map (λ e. e.value) es) s e.value
+  values-set s e [] h = absurd (omega arith)
+  values-set zero e (x ∷ xs) h = refl
+  values-set (suc s) e (x ∷ xs) h = ap (λ zs. x.value ∷ zs) (values-set s e xs (omega arith))
+
+  pub length-values : (es : List (Entry K V)) → length (map (λ (e : Entry K V). e.value) es) ≡ length es
+  length-values [] = refl
+  length-values (e ∷ es) = ap suc (length-values es)
+
+  pub values-written : (s : ℕ) (e : Entry K V) (es : List (Entry K V)) → s ≤ length es
+      → map (λ e. e.value) (written s e es) ≡ (if nat_lt s (length (map (λ (e : Entry K V). e.value) es)) then slice_set (map (λ e. e.value) es) s e.value else map (λ e. e.value) es ++ e.value ∷ [])
+  values-written s e es h =
+      elim (cases_lt s (length es)) [
+        | inl below ↦ rw (lt-ltb s (length (map (λ (e : Entry K V). e.value) es)) (omega (arith, below, length-values es))) (values-set s e es below)
+        | inr above ↦ rw (le-ltb s (length (map (λ (e : Entry K V). e.value) es)) (omega (arith, above, length-values es))) (values-next s e es (omega (arith, above, h)))
+      ]
+
+pub below-more : (n m : ℕ) (places : List ℕ) → n ≤ m → AllBelow n places → AllBelow m places
+below-more n m [] le b = tt
+below-more n m (p ∷ ps) le b = (omega (arith, le, b.0), below-more n m ps le b.1)
+
+-- all that are there are below
+pub below-has : (n : ℕ) (places : List ℕ) → ((t : ℕ) → has t places ≡ true → t < n) → AllBelow n places
+below-has n [] h = tt
+below-has n (p ∷ ps) h = (h p (has_first p ps), below-has n ps (λ t g. h t (has_later t p ps g)))
+
+module _ {K V : Type 0} (hash : K → ℕ) where
+  -- the same places in another order
+  pub stored-same : (index : List (List (ℕ × ℕ))) (entries : List (Entry K V)) (places places' : List ℕ) → IsStored hash index entries places
+      → ((t : ℕ) → has t places' ≡ has t places) → length places' ≡ length places → IsStored hash index entries places'
+  stored-same index entries places places' i same as_many = record {
+    made = below-has (length entries) places' (λ t g. below_of (length entries) places i.made t (sym (same t) ∙ g));
+    indexed = record {
+      listed = λ x place. i.indexed.listed x place ∙ ap (λ b. b && is_named index entries x place) (sym (same place));
+      once = i.indexed.once;
+      counted = i.indexed.counted ∙ sym as_many;
+    };
+    hashed = i.hashed;
+  }
+
+  -- a key enters at a slot
+  pub stored-entered : (index : List (List (ℕ × ℕ))) (entries : List (Entry K V)) (places : List ℕ) (slot : ℕ) (key : K) (value : V) → IsStored hash index entries places → 0 < length index → has slot places ≡ false → slot ≤ length entries
+      → IsStored hash (inserted index (hash key) slot) (written slot (entry (hash key) key value) entries) (slot ∷ places)
+  stored-entered index entries places slot key value i some absent next =
+      let e = entry (hash key) key value in
+      let n = length-written slot e entries next in
+      record {
+        made = (omega (arith, n), below-more (length entries) (length (written slot e entries)) places (omega (arith, n)) i.made);
+        indexed = IsIndex-put index entries (written slot e entries) places slot (hash key) i.indexed some absent (hash_at-others slot (hash key) key value entries next places absent) (hash_at-own slot (hash key) key value entries next);
+        hashed = all-written (λ e. e.hash ≡ hash e.key) slot e entries i.hashed refl;
+      }
+
+  -- a resident's slot goes out of the index
+  pub stored-left : (index : List (List (ℕ × ℕ))) (entries : List (Entry K V)) (places : List ℕ) (slot old : ℕ) → IsStored hash index entries places → 0 < length index → AllApart places → hash_at entries slot ≡ Some old
+      → IsStored hash (removed eqb index old slot) entries (without slot places)
+  stored-left index entries places slot old i some apart at = record {
+    made = below-has (length entries) (without slot places) (λ t g. below_of (length entries) places i.made t (kept t g));
+    indexed = IsIndex-taken index entries places slot old i.indexed some apart at;
+    hashed = i.hashed;
+  }
+    where
+      kept : (t : ℕ) → has t (without slot places) ≡ true → has t places ≡ true
+      kept t g = left (has t places) (not (eqb t slot)) (sym (has-without_test t slot places) ∙ g)
+        where
+          left : (a b : Bool) → (a && b) ≡ true → a ≡ true
+          left true b h = refl
+          left false b h = absurd (both_ways false refl h)
+
+  -- a key takes the place of a resident
+  pub stored-renewed : (index : List (List (ℕ × ℕ))) (entries : List (Entry K V)) (places : List ℕ) (slot old : ℕ) (key : K) (value : V) → IsStored hash index entries places → 0 < length index → AllApart places → has slot places ≡ true → hash_at entries slot ≡ Some old
+      → IsStored hash (inserted (removed eqb index old slot) (hash key) slot) (written slot (entry (hash key) key value) entries) places
+  stored-renewed index entries places slot old key value i some apart there at =
+      let l = stored-left index entries places slot old i some apart at in
+      let gone : has slot (without slot places) ≡ false = has-without_test slot slot places ∙ rw (eqb_self slot) (and_none (has slot places)) in
+      let below : slot < length entries = below_of (length entries) places i.made slot there in
+      let e = stored-entered (removed eqb index old slot) entries (without slot places) slot key value l (omega (arith, some, length-taken index old slot)) gone (omega (arith, below)) in
+      stored-same (inserted (removed eqb index old slot) (hash key) slot) (written slot (entry (hash key) key value) entries) (slot ∷ without slot places) places e again (sym (omega (arith, length-without slot places apart there)))
+    where
+      and_none : (b : Bool) → (b && false) ≡ false
+      and_none true = refl
+      and_none false = refl
+
+      again : (t : ℕ) → has t places ≡ has t (slot ∷ without slot places)
+      again t = elim (cases_Bool (eqb t slot)) [
+        | inl e ↦ subst (λ z. has z places ≡ true) (sym (eqb-true t slot e)) there ∙ rw e refl
+        | inr e ↦ rw (e, has-without_test t slot places, e) (and_all (has t places))
+      ]
+        where
+          and_all : (b : Bool) → b ≡ (b && true)
+          and_all true = refl
+          and_all false = refl
+
+  -- how many there are in the index
+  pub stored-counted : (index : List (List (ℕ × ℕ))) (entries : List (Entry K V)) (places : List ℕ) → IsStored hash index entries places → total index ≡ length places
+  stored-counted index entries places i = i.indexed.counted
+
+-- one of the places goes out of an index: it has room for another
+pub left-room : {K V : Type 0} (index index' : List (List (ℕ × ℕ))) (entries : List (Entry K V)) (places : List ℕ) (slot old : ℕ) → IsIndex index entries places → AllApart places → has slot places ≡ true → hash_at entries slot ≡ Some old
+    → length places < 2 ^ 24 → length places ≤ capacity (length index) → index' ≡ removed eqb index old slot → (total index' < capacity (length index')) × (total index' + 1 < 2 ^ 24)
+left-room index index' entries places slot old i apart there at few room is =
+    let n = length-without slot places apart there in
+    let some : 0 < length index = some_homes (length index) (omega (arith, n, room)) in
+    let left = IsIndex-taken index entries places slot old i some apart at in
+    let homes : length index' ≡ length index = ap (λ (z : List (List (ℕ × ℕ))). length z) is ∙ length-taken index old slot in
+    let count : total index' ≡ length (without slot places) = ap (λ z. total z) is ∙ left.counted in
+    (rw homes (omega (arith, n, count, room)), omega (arith, n, count, few))
+  where
+    some_homes : (n : ℕ) → 0 < capacity n → 0 < n
+    some_homes zero h = absurd (omega arith)
+    some_homes (suc n) h = omega arith
+
+-- what holds of all entries holds of the one at a place
+module _ {K V : Type 0} (hash : K → ℕ) where
+  pub hash-of-key : (entries : List (Entry K V)) (t old : ℕ) (key : K) → AllByRecursion (λ e. e.hash ≡ hash e.key) entries → hash_at entries t ≡ Some old → key_at entries t ≡ Some key → old ≡ hash key
+  hash-of-key [] t old key a h k = absurd (cc)
+  hash-of-key (e ∷ es) zero old key a h k =
+      let x : e.hash ≡ old = inner e.hash old h in
+      let y : e.key ≡ key = inner_key e.key key k in
+      sym x ∙ a.0 ∙ ap hash y
+    where
+      inner : (a b : ℕ) → Some a ≡ Some b → a ≡ b
+      inner a b q = cc
+
+      inner_key : (a b : K) → Some a ≡ Some b → a ≡ b
+      inner_key a b q = cc
+  hash-of-key (e ∷ es) (suc t) old key a h k = hash-of-key es t old key a.1 h k

@@ -1,0 +1,14 @@
+-- There are as many residents as slots in the queues.
+use Rattle.std.proofs.Common.{arith}
+use Rattle.clock2q_cache.proofs.Kept.{length_in_small, length_in_main}
+use Rattle.clock2q_cache.proofs.cache.Cache.len.Goals as goal
+
+pub overflow_add-result : goal.overflow_add-result
+overflow_add-result g c =
+    let k = c.self.invariant in
+    omega (arith, c.small_len.ensures.len, c.main_len.ensures.len, length_in_small _ g.met.K.Eq.laws _ _ _ _ _ _ _ _ k, length_in_main _ g.met.K.Eq.laws _ _ _ _ _ _ _ _ k, k.whole.small_within, k.whole.main_within, k.whole.small_below, k.sized.short)
+
+pub returns-clause-count : goal.returns-clause-count
+returns-clause-count g c =
+    let k = c.self.invariant in
+    rw (← c.self.view_is) (omega (arith, c.small_len.ensures.len, c.main_len.ensures.len, length_in_small _ g.met.K.Eq.laws _ _ _ _ _ _ _ _ k, length_in_main _ g.met.K.Eq.laws _ _ _ _ _ _ _ _ k))

@@ -1,7 +1,0 @@
--- What `retain` keeps is what the filter keeps.
-use Rattle.std.proofs.Common.{rules}
-use Rattle.std.proofs.lemmas.Fn.{filter_same}
-use Rattle.clock2q_cache.proofs.queues.forget.Goals as goal
-
-pub returns-clause-others : goal.returns-clause-others
-returns-clause-others g c = filter_same _ _ _ (λ x b f' k. search rules) _ _ c.retain.ensures.filtered
