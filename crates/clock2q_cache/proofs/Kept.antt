@@ -13,8 +13,9 @@ use Rattle.clock2q_queues.specs.Small.{admitted}
 use Rattle.clock2q_queues.specs.MainRing.{from_victim}
 use Rattle.clock2q_queues.specs.Queues.{QueueState, slots_of}
 use Rattle.clock2q_queues.specs.History.{Remembered}
-use Rattle.clock2q_queues.proofs.Rings.{has-append, or_parts}
+use Rattle.clock2q_queues.proofs.Rings.{has-append}
 use Rattle.clock2q_queues.proofs.Indexes.{length-put, length-taken}
+use Rattle.clock2q_queues.proofs.Booleans.{or_parts}
 use Rattle.clock2q_cache.specs.Shares.{Shares, main_share, ghost_share}
 use Rattle.clock2q_cache.specs.Entries as machine
 use Rattle.clock2q_cache.specs.Machine.{Machine, Placement, vacancy, vacant_slot, into_main, into_small, into_small_at, joining_main, replacing_victim, evicting_tail, promoting_tail, stored}

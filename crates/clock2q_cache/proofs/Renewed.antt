@@ -15,8 +15,9 @@ use Rattle.clock2q_queues.specs.Small.{admitted}
 use Rattle.clock2q_queues.specs.MainRing.{passed, from_victim}
 use Rattle.clock2q_queues.specs.Queues.{QueueState, slots_of}
 use Rattle.clock2q_queues.specs.History.{Remembered, is_remembered}
-use Rattle.clock2q_queues.proofs.Rings.{has-append, or_parts, or_neither, eqb_self, has_first, below_of}
+use Rattle.clock2q_queues.proofs.Rings.{has-append, eqb_self, has_first, below_of}
 use Rattle.clock2q_queues.proofs.Indexes.{length-put, length-taken}
+use Rattle.clock2q_queues.proofs.Booleans.{or_parts, or_neither}
 use Rattle.clock2q_cache.specs.Shares.{Shares, main_share, ghost_share}
 use Rattle.clock2q_cache.specs.Entries as machine
 use Rattle.clock2q_cache.specs.Entries.{SmallEntry, MainEntry}

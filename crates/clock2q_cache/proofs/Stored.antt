@@ -8,10 +8,10 @@ use Rattle.clock2q_queues.specs.declared.keys.cells.Entry.{Entry}
 use Rattle.clock2q_queues.specs.Rings.{has, without, AllApart, AllBelow}
 use Rattle.clock2q_queues.specs.Keys.{entry, written, hash_at, key_at, value_at}
 use Rattle.clock2q_queues.specs.Indexes.{IsIndex, is_named}
-use Rattle.clock2q_queues.proofs.Rings.{has_first, has_later, has-append, eqb_self, below_of, differs}
+use Rattle.clock2q_queues.proofs.Rings.{has_first, has_later, has-append, eqb_self, below_of, differs, has-without_test}
 use Rattle.clock2q_queues.proofs.Joining.{length-without}
 use Rattle.clock2q_queues.proofs.Entries.{slice_get-written, slice_get-written_other, length-written}
-use Rattle.clock2q_queues.proofs.Indexes.{IsIndex-put, IsIndex-taken, has-without_test, length-put, length-taken}
+use Rattle.clock2q_queues.proofs.Indexes.{IsIndex-put, IsIndex-taken, length-put, length-taken}
 use Rattle.clock2q_cache.specs.CacheFields.{IsStored}
 use Rattle.clock2q_cache.proofs.WithKeys.{HaveKeys}
 
