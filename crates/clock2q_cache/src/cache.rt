@@ -1,5 +1,6 @@
 //! The cache itself: construction, look-ups, hits and `put`.
 
+mod debug;
 mod insertion;
 mod removal;
 

@@ -38,3 +38,19 @@ impl<K: Hash + Eq, V, S: BuildHasher, A: Allocator> Cache<K, V, S, A> {
         self.free.push_reserved(slot);
     }
 }
+
+impl<K: Hash + Eq + Drop, V: Drop, S: BuildHasher, A: Allocator> Cache<K, V, S, A> {
+    ghost use Rattle.std.specs.Prelude.{◌≡◌};
+    ghost use Rattle.clock2q_cache.specs.Machine.{cleared};
+
+    /// Removes all keys and values, and forgets the history. The cost is linear in the capacity.
+    pub fn clear(&mut self)
+        ensures machine { self.new.machine ≡ cleared self.old.machine }
+    {
+        self.keys.unindex(&mut self.index);
+        self.keys.clear();
+        self.queues.clear();
+        self.history.clear();
+        self.free.clear();
+    }
+}
