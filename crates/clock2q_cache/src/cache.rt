@@ -148,10 +148,10 @@ impl<K: Hash + Eq + Drop, V: Drop, S: BuildHasher + Drop, A: Allocator + Copy> C
 
 impl<K: Hash + Eq, V, S: BuildHasher, A: Allocator> Cache<K, V, S, A> {
     ghost use Rattle.std.specs.Prelude.{◌≡◌, IsTrue, ◌↔◌, IsSome, IfSome, Some, ◌<◌, length, slice_get};
-    ghost use Rattle.std.specs.Option.{option_copied};
+    ghost use Rattle.std.specs.Option.{option_copied, option_copied_mut};
     ghost use Rattle.std.specs.Borrow.{sem};
     ghost use Rattle.clock2q_cache.specs.Cache.{IsWhole};
-    ghost use Rattle.clock2q_cache.specs.CacheLends.{LeavesMachine};
+    ghost use Rattle.clock2q_cache.specs.CacheLends.{LeavesMachine, LendsHit, LendsSlot};
     ghost use Rattle.clock2q_cache.specs.Hashes.{hash_of};
     ghost use Rattle.std.specs.Bool.{then_some};
     ghost use Rattle.std.specs.List.{list_any};
@@ -219,6 +219,28 @@ impl<K: Hash + Eq, V, S: BuildHasher, A: Allocator> Cache<K, V, S, A> {
         let resident = self.find_at(slot, key)?;
         self.record_hit(resident, key);
         Some(self.value(resident))
+    }
+
+    /// The value of a resident key to write to, and records the hit, as [`get`](Cache::get) does.
+    ///
+    /// `None` says that the key isn't resident; then nothing changes.
+    pub fn get_mut(&mut self, key: &K) -> Option<&mut V>
+        ensures* writes_back { sem 𝓛 (LendsHit K.row V.row S.row A.row S.Hasher.row K.Hash S.BuildHasher S.Hasher.Hasher A.Allocator self.entry (K.eq key.now) result) }
+        ensures value { option_copied_mut result ≡ value_of (K.eq key.now) self.old.machine }
+    {
+        let hash = self.hash(key);
+        let slot = self.find(hash, key)?;
+        self.record_hit(slot, key);
+        Some(self.value_mut(slot))
+    }
+
+    /// Lends the value of a slot.
+    fn value_mut(&mut self, slot: u32) -> &mut V
+        requires { slot < length self.old.machine.values }
+        ensures* writes_back { sem 𝓛 (LendsSlot K.row V.row S.row A.row S.Hasher.row K.Hash S.BuildHasher S.Hasher.Hasher A.Allocator self.entry slot result) }
+        ensures value { slice_get self.old.machine.values slot ≡ Some result.now }
+    {
+        self.keys.value_mut(slot)
     }
 
     /// The slot, if the key is resident there.
