@@ -216,9 +216,9 @@ impl<K: Hash + Eq, V, S: BuildHasher, A: Allocator> Cache<K, V, S, A> {
         ensures* machine { sem 𝓛 (LeavesMachine K.row V.row S.row A.row S.Hasher.row K.Hash S.BuildHasher S.Hasher.Hasher A.Allocator self.entry (hit_at slot (K.eq key.now) self.old.machine)) }
         ensures value { option_copied result ≡ value_at slot (K.eq key.now) self.old.machine }
     {
-        let resident = self.find_at(slot, key)?;
-        self.record_hit(resident, key);
-        Some(self.value(resident))
+        let found = self.find_at(slot, key)?;
+        self.record_hit(found, key);
+        Some(self.value(found))
     }
 
     /// The value of a resident key to write to, and records the hit, as [`get`](Cache::get) does.
@@ -229,9 +229,9 @@ impl<K: Hash + Eq, V, S: BuildHasher, A: Allocator> Cache<K, V, S, A> {
         ensures value { option_copied_mut result ≡ value_of (K.eq key.now) self.old.machine }
     {
         let hash = self.hash(key);
-        let slot = self.find(hash, key)?;
-        self.record_hit(slot, key);
-        Some(self.value_mut(slot))
+        let resident = self.find(hash, key)?;
+        self.record_hit(resident, key);
+        Some(self.value_mut(resident))
     }
 
     /// Lends the value of a slot.
