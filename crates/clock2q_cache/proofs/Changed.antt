@@ -9,7 +9,7 @@ use Rattle.clock2q_queues.specs.declared.keys.cells.Entry.{Entry}
 use Rattle.clock2q_queues.specs.Rings.{has}
 use Rattle.clock2q_queues.proofs.Rings.{has_first, has_later}
 use Rattle.clock2q_queues.specs.Keys.{KeyPlaces, entry, written, hash_at, key_at, value_at, with_value}
-use Rattle.clock2q_queues.specs.Indexes.{IsIndex, HasHash, index_room}
+use Rattle.clock2q_queues.specs.Indexes.{IsIndex, HasHash, Empties, index_room}
 use Rattle.clock2q_handles.specs.TableStep.{made_for}
 use Rattle.clock2q_queues.specs.Queues.{QueueState, slots_of, tail_promoted}
 use Rattle.clock2q_queues.specs.History.{Remembered, is_remembered, forgotten}
@@ -23,7 +23,7 @@ use Rattle.clock2q_cache.specs.Cache.{IsWhole}
 use Rattle.clock2q_cache.specs.CacheFields.{machine_of, places_of, with_keys_small, with_keys_main, IsStored, IsSized, IsKept}
 use Rattle.clock2q_cache.proofs.WithKeys.{small-agree, main-agree, small-last, small_with}
 use Rattle.clock2q_cache.proofs.Stored.{all-written, values-written, length-values, below-more}
-use Rattle.clock2q_cache.proofs.Kept.{small_have, length_in_small, length_in_main, sized-same, vacancy-here}
+use Rattle.clock2q_cache.proofs.Kept.{apart, small_have, length_in_small, length_in_main, sized-same, vacancy-here}
 use Rattle.clock2q_cache.proofs.Whole.{whole-forgotten, all_resident, small_share}
 use Rattle.clock2q_cache.proofs.Lasting.{whole-changed, lasting-empty}
 
@@ -222,30 +222,17 @@ module _ {K V : Type 0} where
       nothing None h = refl
       nothing (Some x) h = absurd (both_ways true h refl)
 
-  -- a new cache
-  pub kept-new : (eq : K → K → Bool) (laws : IsEquivalence eq) (hash : K → ℕ) (shares : Shares) (q : QueueState) (h : Remembered K) (index : List (List (ℕ × ℕ))) (keys : KeyPlaces K V) (free : List ℕ) (room : ℕ)
-      → shares.small < shares.capacity → (0 < shares.small → 0 < shares.window) → shares.capacity < 2 ^ 24
-      → q.small ≡ [] → q.main ≡ [] → q.slots ≡ shares.capacity → q.window ≡ shares.window → h.entries ≡ [] → h.limit ≡ ghost_share shares → index ≡ made_for (index_room shares.capacity)
-      → keys.entries ≡ [] → shares.capacity ≤ keys.room → free ≡ [] → shares.capacity ≤ room
+  -- nothing is resident, remembered or free
+  pub kept-empty : (eq : K → K → Bool) (laws : IsEquivalence eq) (hash : K → ℕ) (shares : Shares) (q : QueueState) (h : Remembered K) (index : List (List (ℕ × ℕ))) (keys : KeyPlaces K V) (free : List ℕ) (room : ℕ)
+      → shares.small < shares.capacity → q.small ≡ [] → q.main ≡ [] → h.entries ≡ [] → IsIndex {K = K} {V = V} index [] [] → keys.entries ≡ [] → free ≡ [] → IsSized shares q h.limit (length index) keys.room room
       → IsKept eq hash shares q h index keys free room × (machine_of shares q keys.entries h.entries free ≡ empty shares)
-  kept-new eq laws hash shares q h index keys free room below windowed short small main slots window entries limit homes keyed keys_room none free_room = (
-    record {
-      whole = subst (IsWhole eq) (sym is) (lasting-empty eq laws shares below);
-      stored = subst (λ (z : List (Entry K V)). IsStored hash index z (places_of q)) (sym keyed) (subst (λ z. IsStored {K = K} {V = V} hash index [] z) (sym places) (record { made = tt; indexed = subst (λ z. IsIndex {K = K} {V = V} z [] []) (sym homes) (IsIndex-new (index_room shares.capacity) []); hashed = tt }));
-      hashed = subst (λ z. AllByRecursion (λ e. e.0 ≡ hash e.1) z) (sym entries) tt;
-      sized = record {
-        as_many = slots;
-        window = window;
-        windowed = windowed;
-        remembers = limit;
-        half = omega (arith, half_new shares.capacity, ap (λ (z : List (List (ℕ × ℕ))). length z) homes);
-        room_for_keys = keys_room;
-        room_for_free = free_room;
-        short = short;
-      };
-    },
-    is,
-  )
+  kept-empty eq laws hash shares q h index keys free room below small main entries indexed keyed none sized =
+      (record {
+        whole = subst (IsWhole eq) (sym is) (lasting-empty eq laws shares below);
+        stored = subst (λ (z : List (Entry K V)). IsStored hash index z (places_of q)) (sym keyed) (subst (λ z. IsStored {K = K} {V = V} hash index [] z) (sym places) (record { made = tt; indexed = indexed; hashed = tt }));
+        hashed = subst (λ z. AllByRecursion (λ e. e.0 ≡ hash e.1) z) (sym entries) tt;
+        sized = sized;
+      }, is)
     where
       places : places_of q ≡ []
       places = ap (λ z. slots_of z ++ slots_of q.main) small ∙ ap (λ z. slots_of z) main
@@ -258,3 +245,32 @@ module _ {K V : Type 0} where
           let e : reverse free ≡ [] = ap (λ (z : List ℕ). reverse z) none in
           let f : map (λ (e : Entry K V). e.value) keys.entries ≡ [] = ap (λ z. map (λ (e : Entry K V). e.value) z) keyed in
           cc
+
+  -- a new cache
+  pub kept-new : (eq : K → K → Bool) (laws : IsEquivalence eq) (hash : K → ℕ) (shares : Shares) (q : QueueState) (h : Remembered K) (index : List (List (ℕ × ℕ))) (keys : KeyPlaces K V) (free : List ℕ) (room : ℕ)
+      → shares.small < shares.capacity → (0 < shares.small → 0 < shares.window) → shares.capacity < 2 ^ 24
+      → q.small ≡ [] → q.main ≡ [] → q.slots ≡ shares.capacity → q.window ≡ shares.window → h.entries ≡ [] → h.limit ≡ ghost_share shares → index ≡ made_for (index_room shares.capacity)
+      → keys.entries ≡ [] → shares.capacity ≤ keys.room → free ≡ [] → shares.capacity ≤ room
+      → IsKept eq hash shares q h index keys free room × (machine_of shares q keys.entries h.entries free ≡ empty shares)
+  kept-new eq laws hash shares q h index keys free room below windowed short small main slots window entries limit homes keyed keys_room none free_room =
+      kept-empty eq laws hash shares q h index keys free room below small main entries (subst (λ z. IsIndex {K = K} {V = V} z [] []) (sym homes) (IsIndex-new (index_room shares.capacity) [])) keyed none
+      (record {
+        as_many = slots;
+        window = window;
+        windowed = windowed;
+        remembers = limit;
+        half = omega (arith, half_new shares.capacity, ap (λ (z : List (List (ℕ × ℕ))). length z) homes);
+        room_for_keys = keys_room;
+        room_for_free = free_room;
+        short = short;
+      })
+
+  -- a cleared cache
+  pub kept-cleared : (eq : K → K → Bool) (laws : IsEquivalence eq) (hash : K → ℕ) (shares : Shares) (q : QueueState) (h : Remembered K) (index : List (List (ℕ × ℕ))) (keys : KeyPlaces K V) (free : List ℕ) (room : ℕ) → IsKept eq hash shares q h index keys free room
+      → (q' : QueueState) (h' : Remembered K) (index' : List (List (ℕ × ℕ))) (keys' : KeyPlaces K V) (free' : List ℕ) (room' : ℕ)
+      → Empties index index' keys.entries → q'.small ≡ [] → q'.main ≡ [] → q'.slots ≡ q.slots → q'.window ≡ q.window → h'.entries ≡ [] → h'.limit ≡ h.limit → keys'.entries ≡ [] → keys'.room ≡ keys.room → free' ≡ [] → room' ≡ room
+      → IsKept eq hash shares q' h' index' keys' free' room' × (machine_of shares q' keys'.entries h'.entries free' ≡ empty shares)
+  kept-cleared eq laws hash shares q h index keys free room k q' h' index' keys' free' room' emptied small main slots window entries limit keyed keys_room none free_room =
+      kept-empty eq laws hash shares q' h' index' keys' free' room' k.whole.small_below small main entries
+      (IsIndex-kept index' keys.entries [] [] (λ t g. absurd (both_ways false refl g)) (emptied.emptied (places_of q) (apart eq laws hash shares q h index keys free room k) k.stored.made k.stored.indexed))
+      keyed none (sized-same shares q q' h.limit h'.limit (length index) (length index') keys.room keys'.room room room' k.sized slots window limit emptied.as_many keys_room free_room)

@@ -1,5 +1,5 @@
 -- What a look-up through the index finds is the machine's slot of the key, and what a hit there makes of the machine.
-use Rattle.std.proofs.Common.{◌≡◌, ℕ, zero, suc, ◌+◌, ◌-◌, ◌*◌, ◌^◌, ◌<◌, ◌≤◌, ◌==◌, ◌⊎◌, Bool, true, false, not, ◌||◌, cond, eqb, Option, Some, None, slice_get, List, [], ◌∷◌, ◌++◌, map, length, take, drop, reverse, inl, inr, refl, sym, ap, ◌∙◌, subst, arith, eqb-true, eq-eqb, ne_eqb, length-append}
+use Rattle.std.proofs.Common.{◌≡◌, ℕ, zero, suc, ◌+◌, ◌-◌, ◌*◌, ◌^◌, ◌<◌, ◌≤◌, ◌==◌, ◌⊎◌, Bool, true, false, not, ◌||◌, ◌&&◌, cond, eqb, Option, Some, None, slice_get, List, [], ◌∷◌, ◌++◌, map, length, take, drop, reverse, inl, inr, refl, sym, ap, ◌∙◌, subst, arith, eqb-true, eq-eqb, ne_eqb, length-append}
 use Rattle.std.specs.Prelude.{if◌then◌else◌, nat_lt, is_some, slice_set, IfSome}
 use Rattle.std.specs.Cmp.{IsEquivalence}
 use Rattle.std.specs.Option.{option_map}
@@ -15,16 +15,20 @@ use Rattle.clock2q_queues.specs.Keys.{KeyPlaces, entry, hash_at, key_at, hashed_
 use Rattle.clock2q_queues.specs.Indexes.{IsIndex, AllDistinct, HasHash, has_key}
 use Rattle.clock2q_queues.specs.Small.{small_hit_at}
 use Rattle.clock2q_queues.specs.MainRing.{main_hit_at}
-use Rattle.clock2q_queues.specs.Queues.{QueueState, slots_of, tail_promoted}
+use Rattle.std.specs.Bool.{then_some}
+use Rattle.clock2q_queues.specs.Queues.{QueueState, slots_of, tail_promoted, IsStanding}
+use Rattle.clock2q_queues.specs.declared.queues.Standing.{Standing}
+use Rattle.clock2q_queues.specs.declared.queues.Standing.TheVariants.{Free, Small, Main}
 use Rattle.clock2q_queues.specs.History.{Remembered}
 use Rattle.clock2q_queues.proofs.Rings.{has-append, has_first, has_later, below_of}
 use Rattle.clock2q_queues.proofs.Indexes.{candidate_there}
 use Rattle.clock2q_queues.proofs.Entries.{same_place}
-use Rattle.clock2q_queues.proofs.Lookups.{look-up, found_there}
+use Rattle.clock2q_queues.proofs.Lookups.{look-up, found_there, not_found}
 use Rattle.clock2q_cache.specs.Shares.{Shares}
 use Rattle.clock2q_cache.specs.Entries as machine
 use Rattle.clock2q_cache.specs.Entries.{SmallEntry, MainEntry}
 use Rattle.clock2q_cache.specs.Machine.{Machine, residents, slot_of, hit, stored}
+use Rattle.clock2q_cache.specs.Steps.{is_at}
 use Rattle.clock2q_cache.specs.Cache.{IsWhole, known_count}
 use Rattle.clock2q_cache.specs.CacheFields.{machine_of, places_of, with_keys_small, with_keys_main, IsStored, IsSized, IsKept}
 use Rattle.clock2q_cache.proofs.WithKeys.{HaveKeys, have_later, small_with, main_with, small-cons, main-cons, small-hit, main-hit}
@@ -148,6 +152,14 @@ hashes-same {K} {V} eq hash key entries (p ∷ ps) respects a = of (hashes-same 
 pub either-queue : (q : QueueState) (slot : ℕ) → has slot (places_of q) ≡ true → (has slot (slots_of q.small) ≡ true) ⊎ (has slot (slots_of q.main) ≡ true)
 either-queue q slot there = or_cases (has slot (slots_of q.small)) (has slot (slots_of q.main)) (sym (has-append slot (slots_of q.small) (slots_of q.main)) ∙ there)
 
+pub standing-there : (q : QueueState) (slot : ℕ) (r : Standing) → (r ≡ Small) ⊎ (r ≡ Main) → IsStanding r slot q → has slot (places_of q) ≡ true
+standing-there q slot Free some at = elim some [ inl e ↦ cc | inr e ↦ cc ]
+standing-there q slot Small some at = has-append slot (slots_of q.small) (slots_of q.main) ∙ rw at.0 refl
+standing-there q slot Main some at = has-append slot (slots_of q.small) (slots_of q.main) ∙ rw (at.0, at.1) refl
+
+pub standing-nowhere : (q : QueueState) (slot : ℕ) → IsStanding Free slot q → has slot (places_of q) ≡ false
+standing-nowhere q slot at = has-append slot (slots_of q.small) (slots_of q.main) ∙ rw (at.0, at.1) refl
+
 slots-small_hit : (slot : ℕ) (es : List (ℕ × Age)) → slots_of (small_hit_at slot es) ≡ slots_of es
 slots-small_hit slot [] = refl
 slots-small_hit slot (e ∷ es) = elim (cases_Bool (eqb e.0 slot)) [ inl q ↦ rw q (ap (λ zs. e.0 ∷ zs) (slots-small_hit slot es)) | inr q ↦ rw q (ap (λ zs. e.0 ∷ zs) (slots-small_hit slot es)) ]
@@ -188,6 +200,53 @@ module _ {K V : Type 0} (eq : K → K → Bool) (laws : IsEquivalence eq) (hash 
     pub found-made : (o : Option ℕ) → o ≡ slot_of (eq key) m → IfSome o (λ slot. slot < length m.values)
     found-made None is = tt
     found-made (Some slot) is = omega (arith, below_of (length keys.entries) (places_of q) kept.stored.made slot (found-there slot (sym is)).0, length-values keys.entries)
+
+    -- whether a slot is the key's
+    pub at-slot : (slot : ℕ) → is_at slot (slot_of (eq key) m) ≡ (has slot (places_of q) && is_key_at eq key keys.entries slot)
+    at-slot slot = of (slot_of (eq key) m) refl
+      where
+        nothing : (a b : Bool) → (a ≡ true → b ≡ true → ⊥) → false ≡ (a && b)
+        nothing true true h = absurd (h refl refl)
+        nothing true false h = refl
+        nothing false b h = refl
+
+        of : (o : Option ℕ) → slot_of (eq key) m ≡ o → is_at slot o ≡ (has slot (places_of q) && is_key_at eq key keys.entries slot)
+        of None none = nothing (has slot (places_of q)) (is_key_at eq key keys.entries slot) (λ there it. both_ways (is_key_at eq key keys.entries slot) (not_found (is_key_at eq key keys.entries) (places_of q) (sym none ∙ slot-among) slot there) it)
+        of (Some p) some =
+            let f = found-there p some in
+            elim (cases_Bool (eqb p slot)) [
+              | inl e ↦
+                  let same : p ≡ slot = eqb-true p slot e in
+                  let a : has slot (places_of q) ≡ true = subst (λ z. has z (places_of q) ≡ true) same f.0 in
+                  let b : is_key_at eq key keys.entries slot ≡ true = subst (λ z. is_key_at eq key keys.entries z ≡ true) same f.1 in
+                  rw (e, a, b) refl
+              | inr e ↦ e ∙ nothing (has slot (places_of q)) (is_key_at eq key keys.entries slot) (λ there it. both_ways (eqb p slot) e (same_place eq laws key keys.entries (places_of q) distinct p slot f.0 there f.1 it))
+            ]
+
+    pub at-places : (slot : ℕ) → has slot (places_of q) ≡ true → is_key_at eq key keys.entries slot ≡ is_at slot (slot_of (eq key) m)
+    at-places slot there = sym (at-slot slot ∙ rw there refl)
+
+    pub not-at : (slot : ℕ) → has slot (places_of q) ≡ false → None ≡ then_some (is_at slot (slot_of (eq key) m)) slot
+    not-at slot absent =
+        let none : is_at slot (slot_of (eq key) m) ≡ false = at-slot slot ∙ rw absent refl in
+        sym (ap (λ b. then_some b slot) none)
+
+    pub past-all : (slot : ℕ) → length keys.entries ≤ slot → has slot (places_of q) ≡ false
+    past-all slot past = elim (cases_Bool (has slot (places_of q))) [
+      | inl there ↦ absurd (omega (arith, past, below_of (length keys.entries) (places_of q) kept.stored.made slot there))
+      | inr absent ↦ absent
+    ]
+
+    pub slot-at : (slot : ℕ) → is_at slot (slot_of (eq key) m) ≡ true → slot_of (eq key) m ≡ Some slot
+    slot-at slot h = of (slot_of (eq key) m) h
+      where
+        of : (o : Option ℕ) → is_at slot o ≡ true → o ≡ Some slot
+        of None h = absurd (both_ways false refl h)
+        of (Some p) h = ap (λ z. Some z) (eqb-true p slot h)
+
+    pub found-at : (slot : ℕ) (b : Bool) → b ≡ is_at slot (slot_of (eq key) m) → IfSome (then_some b slot) (λ found. slot_of (eq key) m ≡ Some found) × IfSome (then_some b slot) (λ found. found < length m.values)
+    found-at slot true is = (slot-at slot (sym is), found-made (Some slot) (sym (slot-at slot (sym is))))
+    found-at slot false is = (tt, tt)
 
     -- a hit
     module _ (slot : ℕ) (is : slot_of (eq key) m ≡ Some slot) where

@@ -74,7 +74,7 @@ length-supplied (suc n) (v ∷ w ∷ values) = omega (arith, length-supplied n (
 
 module _ {K V : Type 0} where
   -- how often a slot is a resident's
-  abbrev held : ℕ → Machine K V → ℕ
+  abbrev pub held : ℕ → Machine K V → ℕ
   held slot m = count_by (λ e. e.slot == slot) m.small + count_by (λ e. e.slot == slot) m.main
 
   held-other : (slot other : ℕ) → (other ≡ slot → ⊥) → (m : Machine K V) → held other (vacated slot m) ≡ held other m
@@ -102,7 +102,7 @@ module _ {K V : Type 0} where
     whole-changed slot value made = rw (lt-ltb slot (length m.values) made) (revalued eq m h (slice_set m.values slot value) (length-set m.values slot value))
 
     -- a resident leaves
-    whole-vacated : (slot : ℕ) → 0 < held slot m → IsWhole eq (vacated slot m)
+    pub whole-vacated : (slot : ℕ) → 0 < held slot m → IsWhole eq (vacated slot m)
     whole-vacated slot some =
         let once = h.slots_once slot in
         let at : held slot m ≡ 1 = elim (cases_lt slot (length m.values)) [ inl below ↦ omega (arith, once, ap one_if (lt-ltb slot (length m.values) below), some) | inr above ↦ absurd (omega (arith, once, ap one_if (le-ltb slot (length m.values) above), some)) ] in

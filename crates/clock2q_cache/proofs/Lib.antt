@@ -19,3 +19,4 @@ pub mod WorkedCounts
 pub mod WorkedRuns
 pub mod WorkedSlots
 pub mod WorkedStates
+pub mod Vacated

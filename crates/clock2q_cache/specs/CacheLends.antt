@@ -1,12 +1,13 @@
 -- What a cache is left as by a call that lends a value of it.
-use Rattle.std.specs.Prelude.{◌≡◌, ⊤}
-use Rattle.std.specs.Borrow.{Fml, RattleType, MutBor, follows_so}
+use Rattle.std.specs.Prelude.{◌≡◌, ℕ, Bool, Option, Some, None, IfNone, ⊤}
+use Rattle.std.specs.Borrow.{Fml, RattleType, MutBor, Lends, LendsSo, follows_so}
 use Rattle.std.specs.HashMap.Lent.{HashMembers}
 use Rattle.std.specs.declared.alloc.Allocator as alloc
 use Rattle.std.specs.declared.hash.Hasher as hasher
 use Rattle.std.specs.declared.hash.BuildHasher as builder
 use mathlib.Core.Option.{none}
-use Rattle.clock2q_cache.specs.Machine.{Machine}
+use Rattle.clock2q_cache.specs.Machine.{Machine, stored}
+use Rattle.clock2q_cache.specs.Steps.{replaced}
 use Rattle.clock2q_cache.specs.CacheState.{CacheState}
 use Rattle.clock2q_cache.specs.contracts.cache.Cache.{the_row}
 
@@ -18,3 +19,11 @@ module _ (K V S A H : RattleType) (key : HashMembers K.Denot) (build : builder.G
   -- the machine is this one once the reference into the cache has ended
   abbrev pub LeavesMachine : MutBor (CacheState K.Denot V.Denot S.Denot) → Machine K.Denot V.Denot → Fml
   LeavesMachine c m = follows_so cache_row cache_row c.ghost_name none (λ _ _. ⊤) (λ n. n.machine ≡ m)
+
+  -- the value of that slot is what the caller leaves behind the reference, and nothing else changes
+  abbrev pub LendsSlot : MutBor (CacheState K.Denot V.Denot S.Denot) → ℕ → MutBor V.Denot → Fml
+  LendsSlot c slot r = Lends cache_row V c r (λ w. record c.now { machine = stored slot w c.now.machine })
+
+  -- the key is hit, and its value is what the caller leaves behind the reference; at `None` the machine is as it was
+  abbrev pub LendsHit : MutBor (CacheState K.Denot V.Denot S.Denot) → (K.Denot → Bool) → Option (MutBor V.Denot) → Fml
+  LendsHit c is r = LendsSo cache_row V c r (λ n w. n.machine ≡ replaced is w c.now.machine) (λ n. IfNone r (n.machine ≡ c.now.machine))

@@ -1,6 +1,8 @@
 //! The cache itself: construction, look-ups, hits and `put`.
 
+mod debug;
 mod insertion;
+mod removal;
 
 use crate::error::CacheError;
 use crate::hashes::hash_of;
@@ -9,7 +11,7 @@ use clock2q_count::Count;
 use clock2q_handles::Table;
 use clock2q_queues::history::History;
 use clock2q_queues::keys::{Keys, index_room};
-use clock2q_queues::queues::Queues;
+use clock2q_queues::queues::{Queues, Standing};
 use std::alloc::{Allocator, Global};
 use std::hash::{BuildHasher, BuildHasherDefault, FoldHasher, Hash};
 use std::marker::Model;
@@ -146,12 +148,15 @@ impl<K: Hash + Eq + Drop, V: Drop, S: BuildHasher + Drop, A: Allocator + Copy> C
 
 impl<K: Hash + Eq, V, S: BuildHasher, A: Allocator> Cache<K, V, S, A> {
     ghost use Rattle.std.specs.Prelude.{◌≡◌, IsTrue, ◌↔◌, IsSome, IfSome, Some, ◌<◌, length, slice_get};
-    ghost use Rattle.std.specs.Option.{option_copied};
+    ghost use Rattle.std.specs.Option.{option_copied, option_copied_mut};
     ghost use Rattle.std.specs.Borrow.{sem};
     ghost use Rattle.clock2q_cache.specs.Cache.{IsWhole};
-    ghost use Rattle.clock2q_cache.specs.CacheLends.{LeavesMachine};
+    ghost use Rattle.clock2q_cache.specs.CacheLends.{LeavesMachine, LendsHit, LendsSlot};
     ghost use Rattle.clock2q_cache.specs.Hashes.{hash_of};
-    ghost use Rattle.clock2q_cache.specs.Machine.{resident_count, slot_of, value_of, hit};
+    ghost use Rattle.std.specs.Bool.{then_some};
+    ghost use Rattle.std.specs.List.{list_any};
+    ghost use Rattle.clock2q_cache.specs.Machine.{resident_count, slot_of, value_of, hit, forgotten};
+    ghost use Rattle.clock2q_cache.specs.Steps.{is_at, hit_at, value_at};
 
     /// How many keys the cache can hold: the number that it was made with.
     pub fn capacity(&self) -> usize
@@ -203,8 +208,60 @@ impl<K: Hash + Eq, V, S: BuildHasher, A: Allocator> Cache<K, V, S, A> {
         Some(self.value(slot))
     }
 
+    /// The value of a key that is resident at this slot, and records the hit, as [`get`](Cache::get)
+    /// does. It compares the key with that one alone, and needs no hash.
+    ///
+    /// `None` says that the key isn't resident there, whatever the number; then nothing changes.
+    pub fn get_at(&mut self, slot: usize, key: &K) -> Option<&V>
+        ensures* machine { sem 𝓛 (LeavesMachine K.row V.row S.row A.row S.Hasher.row K.Hash S.BuildHasher S.Hasher.Hasher A.Allocator self.entry (hit_at slot (K.eq key.now) self.old.machine)) }
+        ensures value { option_copied result ≡ value_at slot (K.eq key.now) self.old.machine }
+    {
+        let found = self.find_at(slot, key)?;
+        self.record_hit(found, key);
+        Some(self.value(found))
+    }
+
+    /// The value of a resident key to write to, and records the hit, as [`get`](Cache::get) does.
+    ///
+    /// `None` says that the key isn't resident; then nothing changes.
+    pub fn get_mut(&mut self, key: &K) -> Option<&mut V>
+        ensures* writes_back { sem 𝓛 (LendsHit K.row V.row S.row A.row S.Hasher.row K.Hash S.BuildHasher S.Hasher.Hasher A.Allocator self.entry (K.eq key.now) result) }
+        ensures value { option_copied_mut result ≡ value_of (K.eq key.now) self.old.machine }
+    {
+        let hash = self.hash(key);
+        let resident = self.find(hash, key)?;
+        self.record_hit(resident, key);
+        Some(self.value_mut(resident))
+    }
+
+    /// Lends the value of a slot.
+    fn value_mut(&mut self, slot: u32) -> &mut V
+        requires { slot < length self.old.machine.values }
+        ensures* writes_back { sem 𝓛 (LendsSlot K.row V.row S.row A.row S.Hasher.row K.Hash S.BuildHasher S.Hasher.Hasher A.Allocator self.entry slot result) }
+        ensures value { slice_get self.old.machine.values slot ≡ Some result.now }
+    {
+        self.keys.value_mut(slot)
+    }
+
+    /// The slot, if the key is resident there.
+    fn find_at(&mut self, slot: usize, key: &K) -> Option<u32>
+        ensures slot { result ≡ then_some (is_at slot (slot_of (K.eq key.now) self.old.machine)) slot }
+        ensures found { IfSome result (λ found. slot_of (K.eq key.now) self.old.machine ≡ Some found) }
+        ensures made { IfSome result (λ found. found < length self.old.machine.values) }
+        ensures machine { self.new.machine ≡ self.old.machine }
+    {
+        if slot >= self.keys.len() {
+            return None;
+        }
+        let slot = slot as u32;
+        match self.queues.standing(slot) {
+            Standing::Free => None,
+            Standing::Small | Standing::Main => self.keys.is(slot, key).then_some(slot),
+        }
+    }
+
     /// The hash of a key.
-    fn hash(&self, key: &K) -> u64
+    pub(crate) fn hash(&self, key: &K) -> u64
         ensures { result ≡ hash_of S.BuildHasher S.Hasher.Hasher self.now.hasher (K.hash_input key.now) }
     {
         hash_of(&self.hasher, key)
@@ -222,7 +279,7 @@ impl<K: Hash + Eq, V, S: BuildHasher, A: Allocator> Cache<K, V, S, A> {
     }
 
     /// The slot of a resident key.
-    fn find(&mut self, hash: u64, key: &K) -> Option<u32>
+    pub(crate) fn find(&mut self, hash: u64, key: &K) -> Option<u32>
         requires { hash ≡ hash_of S.BuildHasher S.Hasher.Hasher self.old.hasher (K.hash_input key.now) }
         ensures slot { result ≡ slot_of (K.eq key.now) self.old.machine }
         ensures made { IfSome result (λ slot. slot < length self.old.machine.values) }
@@ -240,6 +297,16 @@ impl<K: Hash + Eq, V, S: BuildHasher, A: Allocator> Cache<K, V, S, A> {
     {
         let _ = key;
         self.queues.hit(slot);
+    }
+
+    /// Erases the key's history, and says whether it had any.
+    pub(crate) fn forget(&mut self, hash: u64, key: &K) -> bool
+        requires { hash ≡ hash_of S.BuildHasher S.Hasher.Hasher self.old.hasher (K.hash_input key.now) }
+        ensures known { result ≡ list_any (K.eq key.now) self.old.machine.history }
+        ensures machine { self.new.machine ≡ forgotten (K.eq key.now) self.old.machine }
+        ensures hasher { self.new.hasher ≡ self.old.hasher }
+    {
+        self.history.discard(hash, key)
     }
 
     /// The value of a slot.

@@ -44,16 +44,6 @@ impl<K: Hash + Eq + Drop, V: Drop, S: BuildHasher, A: Allocator> Cache<K, V, S, 
         known || share == 0 || (self.has_vacancy() && share <= self.queues.small_len())
     }
 
-    /// Erases the key's history, and says whether it had any.
-    fn forget(&mut self, hash: u64, key: &K) -> bool
-        requires { hash ≡ hash_of S.BuildHasher S.Hasher.Hasher self.old.hasher (K.hash_input key.now) }
-        ensures known { result ≡ list_any (K.eq key.now) self.old.machine.history }
-        ensures machine { self.new.machine ≡ forgotten (K.eq key.now) self.old.machine }
-        ensures hasher { self.new.hasher ≡ self.old.hasher }
-    {
-        self.history.discard(hash, key)
-    }
-
     /// Inserts a key into Main: in the slot of its victim where it has its share, else at a vacancy.
     fn insert_into_main(&mut self, hash: u64, key: K, value: V)
         requires hash { hash ≡ hash_of S.BuildHasher S.Hasher.Hasher self.old.hasher (K.hash_input key) }
