@@ -4,7 +4,7 @@ ghost use Rattle.std.specs.Prelude.{◌≡◌, ◌+◌, ◌*◌, ◌%◌};
 use crate::refusing::Refusing;
 use clock2q::command::{TableCommand, TableReply, run_table};
 use clock2q::handles::{Table, TableError};
-use std::alloc::{Allocator, Global};
+use std::alloc::{AllocError, Allocator, Global};
 use std::test::Fail;
 
 // More requests than any of the runs makes.
@@ -32,16 +32,9 @@ fn replies_of<A: Allocator + Copy>(
     run_table(alloc, &mut table, hash_of, commands)
 }
 
-#[test]
-fn worked_run(rt: HostRuntime) -> Result<(), Fail> {
-    let alloc = rt.alloc();
-    let mut commands: Vec<TableCommand<u64>> = Vec::new(alloc);
-    let mut wanted: Vec<TableReply<u64>> = Vec::new(alloc);
-    for handle in 0..12u64 {
-        commands.push(TableCommand::Insert(handle))?;
-        wanted.push(TableReply::Done)?;
-    }
-    for (command, reply) in [
+// Commands to a table that holds the handles from 0 to 11, each with its reply.
+fn worked_replies(alloc: Global) -> Result<[(TableCommand<u64>, TableReply<u64>); 10], AllocError> {
+    Ok([
         (
             TableCommand::Get(EVEN),
             TableReply::Handles(vec![in alloc; 0, 1, 2, 3, 4, 5, 6, 7, 8, 9, 10, 11]?),
@@ -76,7 +69,19 @@ fn worked_run(rt: HostRuntime) -> Result<(), Fail> {
             TableCommand::Get(EVEN),
             TableReply::Handles(vec![in alloc; 2, 4, 6, 8, 10, 0, 12]?),
         ),
-    ] {
+    ])
+}
+
+#[test]
+fn worked_run(rt: HostRuntime) -> Result<(), Fail> {
+    let alloc = rt.alloc();
+    let mut commands: Vec<TableCommand<u64>> = Vec::new(alloc);
+    let mut wanted: Vec<TableReply<u64>> = Vec::new(alloc);
+    for handle in 0..12u64 {
+        commands.push(TableCommand::Insert(handle))?;
+        wanted.push(TableReply::Done)?;
+    }
+    for (command, reply) in worked_replies(alloc)? {
         commands.push(command)?;
         wanted.push(reply)?;
     }
