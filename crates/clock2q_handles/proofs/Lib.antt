@@ -37,3 +37,4 @@ pub mod Cursors
 pub mod Carrying
 pub mod Wrapping
 pub mod Few
+pub mod Moving

@@ -68,6 +68,13 @@ module _ {H : Type 0} (slots : List (Option (Placed (ℕ × H)))) (len : ℕ) (t
         let sum = total-put_all key (no_entries m) (entries (take i slots)) (omega (arith, some, length-nothing (ℕ × H) m)) in
         omega (arith, sum, total-no_entries {H = H} key m, few, fits, ap capacity whole)
 
+    -- and fewer are in than there are
+    pub fewer : len ≤ capacity m → total (made i) < len
+    fewer fits =
+        let some : 0 < m = omega (arith, few, fits) in
+        let sum = total-put_all key (no_entries m) (entries (take i slots)) (omega (arith, some, length-nothing (ℕ × H) m)) in
+        omega (arith, sum, total-no_entries {H = H} key m, few)
+
     -- and no run becomes too long
     pub no_refusal : (k : ℕ) → m ≡ k * length (homes_of slots) → len ≤ capacity m → IsHashOf key (homes_of slots) → IsTooLong (inserted (made i) (key s.entry.1) s.entry.1) → ⊥
     no_refusal k multiple fits hashes long =
@@ -135,6 +142,11 @@ module _ {H : Type 0} (homes : List (List (ℕ × H))) (slots : List (Option (Pl
       step_room fits =
           let bound : len ≤ capacity m = omega (arith, fits, come.table.counted, ap total come.lists) in
           subst (λ hs. total hs < capacity (length hs)) (sym so_far) (room_for slots len come.table key m i come.within found.0 found.1 bound)
+
+      pub step_few : total homes ≤ capacity m → total made_so < total homes
+      step_few fits =
+          let bound : len ≤ capacity m = omega (arith, fits, come.table.counted, ap total come.lists) in
+          omega (arith, ap total so_far, fewer slots len come.table key m i come.within found.0 found.1 bound, come.table.counted, ap total come.lists)
 
       pub step_short : total homes ≤ capacity m → (0 < length homes → (k : ℕ) × (m ≡ k * length homes)) → IsTooLong (inserted made_so r v) → ⊥
       step_short fits multiple long =

@@ -1,8 +1,10 @@
 -- What a call over a view of both vectors comes to, told of the vectors.
 use Rattle.std.proofs.Common.{◌≡◌, ℕ, ◌%◌, Bool, ap, ◌∙◌, subst, List, length, Option}
 use Rattle.std.specs.Bool.{OnTrue}
+use Rattle.std.specs.Fn.{Mut}
 use Rattle.clock2q_handles.specs.Found.{TakesOut}
 use Rattle.clock2q_handles.specs.Layout.{Placed}
+use Rattle.clock2q_handles.specs.Moves.{MayMove, Moves}
 use Rattle.clock2q_handles.specs.Shifts.{PutsIn}
 use Rattle.clock2q_handles.specs.Slots.{cells}
 use Rattle.clock2q_handles.specs.declared.metadata.Metadata.{Metadata}
@@ -19,3 +21,10 @@ module _ {E : Type 0} where
   pub takes_along : (r : Bool) (test : E → Bool) {old old' new new' : List (Option (Placed E))} (x a : ℕ) {b b' : ℕ} → OnTrue r (TakesOut test old new (x % length old) b a) → old ≡ old' → new ≡ new' → b ≡ b' → OnTrue r (TakesOut test old' new' (x % length old') b' a)
   takes_along r test {old = old} {old' = old'} {new = new} {new' = new'} x a {b = b} {b' = b'} takes o n f =
       subst (λ s. OnTrue r (TakesOut test s new' (x % length s) b' a)) o (subst (λ s. OnTrue r (TakesOut test old s (x % length old) b' a)) n (subst (λ k. OnTrue r (TakesOut test old new (x % length old) k a)) f takes))
+
+module _ {F H : Type 0} (g : Mut F (H × Unit {0}) ℕ) where
+  pub movable_along : {f : F} {old old' new new' : List (Option (Placed (ℕ × H)))} → MayMove g f old new → old ≡ old' → new ≡ new' → MayMove g f old' new'
+  movable_along {f = f} {old = old} {new' = new'} may o n = subst (λ s. MayMove g f s new') o (subst (λ s. MayMove g f old s) n may)
+
+  pub moves_along : {f last : F} {old from from' new new' : List (Option (Placed (ℕ × H)))} → Moves g f last old from new → from ≡ from' → new ≡ new' → Moves g f last old from' new'
+  moves_along {f = f} {last = last} {old = old} {from = from} {new' = new'} moves b n = subst (λ s. Moves g f last old s new') b (subst (λ s. Moves g f last old from s) n moves)

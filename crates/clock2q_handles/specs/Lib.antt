@@ -8,6 +8,7 @@ pub mod Changes
 pub mod Shifts
 pub mod Found
 pub mod Rehash
+pub mod Moves
 pub mod Offers
 pub mod Candidates
 pub mod Partition

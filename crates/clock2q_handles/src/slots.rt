@@ -2,6 +2,7 @@
 ghost use Rattle.clock2q_handles.specs.Found.{TakesOut};
 ghost use Rattle.clock2q_handles.specs.Homes.{top, is_entry_of, listed};
 ghost use Rattle.clock2q_handles.specs.Layout.{IsTidy, slot_at, reach, homes_of};
+ghost use Rattle.clock2q_handles.specs.Moves.{MayMove, Moves};
 ghost use Rattle.clock2q_handles.specs.Shifts.{PutsIn};
 ghost use Rattle.clock2q_handles.specs.Slots.{cell, cells, told, IsSlotCount};
 ghost use Rattle.std.specs.Bool.{OnTrue, OnFalse};
@@ -172,6 +173,22 @@ impl<H: Copy + Default, A: Allocator> Slots<H, A> {
         );
     }
 
+    /// Puts each entry of other slots in, in the order of those slots, under the hash that `rehash`
+    /// gives its handle.
+    pub(super) fn put_all<F: FnMut(H) -> u64>(&mut self, old: SlotsRef<'_, H>, rehash: &mut F)
+        requires same { length old.handles.now ≡ length old.metadata.now }
+        requires movable { MayMove F.FnMut rehash.old (cells old.metadata.now old.handles.now) self.old.slots }
+        ensures moved { Moves F.FnMut rehash.old rehash.new (cells old.entry.metadata.now old.entry.handles.now) self.old.slots self.new.slots }
+    {
+        put_all_into(
+            self.metadata.as_mut_slice(),
+            self.handles.as_mut_slice(),
+            &mut self.writes,
+            old,
+            rehash,
+        );
+    }
+
     fn slot(&self, home: usize, distance: usize) -> usize
         requires home { home < length self.now.slots }
         requires distance { distance ≤ length self.now.slots }
@@ -260,6 +277,27 @@ fn put_into<H: Copy + Default>(
 {
     let mut slots = SlotsMut::new(metadata, handles, writes);
     slots.put(hash, handle);
+}
+
+/// Puts each entry of other slots in over one view of both vectors.
+#[inline(always)]
+fn put_all_into<H: Copy + Default, F: FnMut(H) -> u64>(
+    metadata: &mut [Metadata],
+    handles: &mut [H],
+    writes: &mut Count,
+    old: SlotsRef<'_, H>,
+    rehash: &mut F,
+)
+    requires same { length handles.old ≡ length metadata.old }
+    requires slot_count { IsSlotCount (length metadata.old) }
+    requires same_old { length old.handles.now ≡ length old.metadata.now }
+    requires movable { MayMove F.FnMut rehash.old (cells old.metadata.now old.handles.now) (cells metadata.old handles.old) }
+    ensures moved { Moves F.FnMut rehash.old rehash.new (cells old.entry.metadata.now old.entry.handles.now) (cells metadata.old handles.old) (cells metadata.new handles.new) }
+    ensures as_many { length handles.new ≡ length metadata.new }
+    ensures len { length metadata.new ≡ length metadata.old }
+{
+    let mut slots = SlotsMut::new(metadata, handles, writes);
+    slots.put_all(old, rehash);
 }
 
 /// Writes a slot over a view of both vectors.

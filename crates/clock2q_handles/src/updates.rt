@@ -2,15 +2,16 @@
 ghost use Rattle.clock2q_handles.specs.Found.{FindsAt, TakesOut};
 ghost use Rattle.clock2q_handles.specs.Homes.{top, is_entry_of, listed};
 ghost use Rattle.clock2q_handles.specs.Layout.{IsTidy, reach, slot_at, placed, homes_of};
+ghost use Rattle.clock2q_handles.specs.Moves.{MayMove, Moves};
 ghost use Rattle.clock2q_handles.specs.Shifts.{Opens, Closes, HasCome, IsVacancy, PutsIn};
-ghost use Rattle.clock2q_handles.specs.Slots.{told, sought};
+ghost use Rattle.clock2q_handles.specs.Slots.{cells, told, sought};
 ghost use Rattle.clock2q_handles.specs.Views.{shown, IsView, IsSameView};
 ghost use Rattle.std.specs.Bool.{OnTrue, OnFalse};
 ghost use Rattle.std.specs.List.{list_any};
 ghost use Rattle.std.specs.Prelude.{◌≡◌, ◌+◌, ◌%◌, ◌<◌, ◌≤◌, ℕ, false, Some, IfSome, IfNone, length};
 
 use crate::metadata::{MAX_DISPLACEMENT, Metadata, Wanted};
-use crate::slots::SlotsMut;
+use crate::slots::{SlotsMut, SlotsRef};
 
 impl<'a, H: Copy + Default> SlotsMut<'a, H> {
     /// Returns the slot of the first candidate of `hash` that equals `handle`.
@@ -152,5 +153,25 @@ impl<'a, H: Copy + Default> SlotsMut<'a, H> {
     {
         let (slot, wanted) = self.end(hash);
         self.carry(slot, wanted.metadata(), handle);
+    }
+
+    /// Puts each entry of other slots in, in the order of those slots, under the hash that `rehash`
+    /// gives its handle.
+    #[inline(always)]
+    pub(super) fn put_all<F: FnMut(H) -> u64>(&mut self, old: SlotsRef<'_, H>, rehash: &mut F)
+        requires view { IsView self.old }
+        requires same { length old.handles.now ≡ length old.metadata.now }
+        requires movable { MayMove F.FnMut rehash.old (cells old.metadata.now old.handles.now) (shown self.old) }
+        ensures same { IsSameView self.old self.new }
+        ensures view { IsView self.new }
+        ensures moved { Moves F.FnMut rehash.old rehash.new (cells old.entry.metadata.now old.entry.handles.now) (shown self.old) (shown self.new) }
+    {
+        for slot in 0..old.count() {
+            if !old.metadata(slot).is_empty() {
+                let handle = old.handle(slot);
+                let hash = rehash(handle);
+                self.put(hash, handle);
+            }
+        }
     }
 }

@@ -7,6 +7,7 @@ ghost use Rattle.clock2q_handles.specs.TableStep.{fit, rebuilt, doubled, reserve
 ghost use Rattle.std.specs.Prelude.{◌≡◌, ◌≢◌, Err, ◌*◌, ◌^◌, ◌<◌, ◌≤◌, ◌+◌, ◌↔◌, ℕ, IsOk, IsOkUnless, OnOk, OnErr, IfOk, IfSome, MatchOption, length};
 
 use crate::error::TableError;
+use crate::metadata::MAX_DISPLACEMENT;
 use crate::slots::Slots;
 use crate::table::Table;
 use std::alloc::Allocator;
@@ -114,6 +115,35 @@ impl<H: Copy + Eq + Default, A: Allocator + Copy> Table<H, A> {
     /// Returns a table of the same entries in `count` slots, each under the hash that `rehash`
     /// gives its handle.
     fn rebuilt<F: FnMut(H) -> u64>(
+        &self,
+        count: usize,
+        rehash: &mut F,
+    ) -> Result<Table<H, A>, TableError>
+        requires count { IsSlotCount count }
+        requires fits { total self.now.homes ≤ capacity count }
+        requires multiple { 0 < length self.now.homes → (k : ℕ) × (count ≡ k * length self.now.homes) }
+        requires asked { HashesKnown F.FnMut rehash.old self.now.homes }
+        ensures made { IfOk result (λ t. (key : H → ℕ) → GivesHashes F.FnMut key self.now.homes rehash.old → t.homes ≡ rebuilt key count self.now.homes) }
+        ensures asks { OnOk result (AsksHeld F.FnMut rehash.old self.now.homes rehash.new) }
+        ensures unasked { OnErr result (rehash.new ≡ rehash.old) }
+        ensures laid { IfOk result IsLaidOut }
+        ensures only { IsOkUnless result TableError.Memory }
+    {
+        if self.len > MAX_DISPLACEMENT {
+            return self.rebuilt_of_many(count, rehash);
+        }
+        let Ok(mut slots) = Slots::with_count(self.slots.allocator(), count) else {
+            return Err(TableError::Memory);
+        };
+        slots.put_all(self.slots.view(), rehash);
+        Ok(Table {
+            slots,
+            len: self.len,
+        })
+    }
+
+    /// Rebuilds a table of so many entries that a run may become too long.
+    fn rebuilt_of_many<F: FnMut(H) -> u64>(
         &self,
         count: usize,
         rehash: &mut F,

@@ -5,7 +5,7 @@ use Rattle.clock2q_handles.specs.Slots.{cells}
 use Rattle.clock2q_handles.specs.TableStep.{put_all, IsHashOf}
 use Rattle.clock2q_handles.specs.Changes.{IsLaidOut}
 use Rattle.clock2q_handles.specs.Rehash.{AnswersBy, Asks, Reaches, IsHeld}
-use Rattle.clock2q_handles.proofs.table.Table.rebuilt.Given as goal
+use Rattle.clock2q_handles.proofs.table.Table.rebuilt_of_many.Given as goal
 
 abbrev pub invariant-loop-slot : goal.invariant-loop-slot
 invariant-loop-slot g l = record {

@@ -1,0 +1,91 @@
+use Rattle.std.proofs.Common.{rules, ◌≡◌, ℕ, ◌+◌, ◌<◌, ◌≤◌, IfSome, length, refl, ap, ◌∙◌, subst, sym, arith}
+use Rattle.clock2q_handles.specs.Layout.{slot_at, reach}
+use Rattle.clock2q_handles.specs.Slots.{cells, mark_of}
+use Rattle.clock2q_handles.specs.Views.{shown, IsView, IsSameView}
+use Rattle.clock2q_handles.proofs.Cells.{length-cells}
+use Rattle.clock2q_handles.proofs.Moves.{occupied_told, vacant_told}
+use Rattle.clock2q_handles.proofs.Moving.{MovedSo, moving_begins, moving_past, moving_takes, moving_near, moving_some, moving_on, moving_ends}
+use Rattle.clock2q_handles.proofs.Rebuilds.{Holds}
+use Rattle.clock2q_handles.specs.Slots.{IsSlotCount}
+use Rattle.clock2q_handles.proofs.slots.view.SlotsMut.put_all.Given.{Over}
+use Rattle.clock2q_handles.proofs.slots.view.SlotsMut.put_all.Goals as goal
+use Rattle.clock2q_handles.proofs.slots.view.SlotsMut.put_all.Goals.{After-is_empty, After-handle-handle, After-rehash-hash, then-not-is_empty, else-not-is_empty}
+
+pub loop-slot-init : goal.loop-slot-init
+loop-slot-init g c = record {
+  same = search rules;
+  view = c.requires.view;
+  moved = moving_begins g.F.FnMut c.args.rehash.now (cells c.args.old.metadata.now c.args.old.handles.now) (shown c.args.self.now) c.requires.movable (subst IsSlotCount (sym (length-cells c.args.self.now.metadata.now c.args.self.now.handles.now c.requires.view.same)) c.requires.view.slot_count);
+}
+
+-- the slot by its number
+numbered : (n : ℕ) → n ≡ 0 + n
+numbered n = omega arith
+
+within : (g : Over) (c : After-is_empty g) → c.loop-slot.slot < length (cells c.args.old.metadata.now c.args.old.handles.now)
+within g c = omega (arith, c.loop-slot-test.true, c.count-slot-end.ensures, length-cells c.args.old.metadata.now c.args.old.handles.now c.requires.same)
+
+-- the entry there
+holds : (g : Over) (c : After-handle-handle g) → Holds (cells c.args.old.metadata.now c.args.old.handles.now) c.loop-slot.slot c.handle-handle.result
+holds g c =
+    let slots = cells c.args.old.metadata.now c.args.old.handles.now in
+    record {
+      occupied = occupied_told c.is_empty.result _ (slot_at slots (0 + c.loop-slot.slot)) c.is_empty.ensures c.if-not-is_empty.true (c.metadata.ensures ∙ ap (λ n. mark_of (slot_at slots n)) (numbered c.loop-slot.slot));
+      handle = subst (λ n. IfSome (slot_at slots n) (λ p. c.handle-handle.result ≡ p.entry.1)) (numbered c.loop-slot.slot) c.handle-handle.ensures;
+    }
+
+pub rehash-hash-requires : goal.rehash-hash-requires
+rehash-hash-requires g c =
+    let before = goal.at.rehash-hash-requires g c in
+    moving_takes g.F.FnMut c.args.rehash.now (cells c.args.old.metadata.now c.args.old.handles.now) (shown c.args.self.now) c.requires.movable c.loop-slot.rehash (shown c.loop-slot.self) c.loop-slot.slot c.loop-slot.invariant.moved
+    (within g before.After-is_empty) c.handle-handle.result (holds g before.After-handle-handle)
+
+pub put-requires-clause-near : goal.put-requires-clause-near
+put-requires-clause-near g c =
+    let before = goal.at.put-requires-clause-near g c in
+    moving_near g.F.FnMut c.args.rehash.now (cells c.args.old.metadata.now c.args.old.handles.now) (shown c.args.self.now) c.requires.movable c.loop-slot.rehash (shown c.loop-slot.self) c.loop-slot.slot c.loop-slot.invariant.moved
+    (within g before.After-is_empty) c.handle-handle.result (holds g before.After-handle-handle) c.rehash-hash.result c.rehash-hash.new.self c.rehash-hash.ensures
+
+pub put-requires-clause-some : goal.put-requires-clause-some
+put-requires-clause-some g c =
+    let before = goal.at.put-requires-clause-some g c in
+    moving_some g.F.FnMut c.args.rehash.now (cells c.args.old.metadata.now c.args.old.handles.now) (shown c.args.self.now) c.requires.movable c.loop-slot.rehash (shown c.loop-slot.self) c.loop-slot.slot c.loop-slot.invariant.moved
+    (within g before.After-is_empty) c.handle-handle.result (holds g before.After-handle-handle) c.rehash-hash.result c.rehash-hash.new.self c.rehash-hash.ensures
+
+pub loop-slot-preserved : goal.loop-slot-preserved
+loop-slot-preserved g c =
+    let before = goal.at.loop-slot-preserved g c in
+    let slots = cells c.args.old.metadata.now c.args.old.handles.now in
+    let from = shown c.args.self.now in
+    let inside = within g before.After-is_empty in
+    elim c.if-not-is_empty.branch [
+      | then-not-is_empty w ↦
+          let v = w.handle-handle.result in
+          let entry : Holds slots c.loop-slot.slot v = record {
+            occupied = occupied_told c.is_empty.result _ (slot_at slots (0 + c.loop-slot.slot)) c.is_empty.ensures w.if-not-is_empty.true (c.metadata.ensures ∙ ap (λ n. mark_of (slot_at slots n)) (numbered c.loop-slot.slot));
+            handle = subst (λ n. IfSome (slot_at slots n) (λ p. w.handle-handle.result ≡ p.entry.1)) (numbered c.loop-slot.slot) w.handle-handle.ensures;
+          } in
+          let moved = moving_on g.F.FnMut c.args.rehash.now slots from c.requires.movable c.loop-slot.rehash (shown c.loop-slot.self) c.loop-slot.slot c.loop-slot.invariant.moved
+              inside v entry w.rehash-hash.result w.rehash-hash.new.self w.rehash-hash.ensures (shown w.put.new.self) _ _ w.put.ensures.put in
+          record {
+            same = search rules;
+            view = subst (λ s. IsView s) (sym w.self-is) w.put.ensures.view;
+            moved = subst (λ f. MovedSo g.F.FnMut c.args.rehash.now f slots from (shown c.if-not-is_empty.self) (c.loop-slot.slot + 1)) (sym w.rehash-is)
+                (subst (λ s. MovedSo g.F.FnMut c.args.rehash.now w.rehash-hash.new.self slots from (shown s) (c.loop-slot.slot + 1)) (sym w.self-is) moved);
+          }
+      | else-not-is_empty w ↦
+          let empty = vacant_told _ (slot_at slots (0 + c.loop-slot.slot)) (c.is_empty.ensures.0 w.if-not-is_empty.false) (c.metadata.ensures ∙ ap (λ n. mark_of (slot_at slots n)) (numbered c.loop-slot.slot)) in
+          let moved = moving_past g.F.FnMut c.args.rehash.now slots from c.requires.movable c.loop-slot.rehash (shown c.loop-slot.self) c.loop-slot.slot c.loop-slot.invariant.moved inside empty in
+          record {
+            same = search rules;
+            view = subst (λ s. IsView s) (sym w.self-is) c.loop-slot.invariant.view;
+            moved = subst (λ f. MovedSo g.F.FnMut c.args.rehash.now f slots from (shown c.if-not-is_empty.self) (c.loop-slot.slot + 1)) (sym w.rehash-is)
+                (subst (λ s. MovedSo g.F.FnMut c.args.rehash.now c.loop-slot.rehash slots from (shown s) (c.loop-slot.slot + 1)) (sym w.self-is) moved);
+          }
+    ]
+
+pub returns-clause-moved : goal.returns-clause-moved
+returns-clause-moved g c =
+    let slots = cells c.args.old.metadata.now c.args.old.handles.now in
+    moving_ends g.F.FnMut c.args.rehash.now slots (shown c.args.self.now) c.requires.movable c.loop-slot.rehash (shown c.loop-slot.self) c.loop-slot.slot
+    (omega (arith, c.loop-slot-test.false, c.loop-slot.auto.slot-end, c.count-slot-end.ensures, length-cells c.args.old.metadata.now c.args.old.handles.now c.requires.same)) c.loop-slot.invariant.moved
