@@ -1,5 +1,6 @@
 -- Keys in a list, whose places a table holds: each under its key, once.
-use Rattle.std.proofs.Common.{◌≡◌, ◌≢◌, ℕ, suc, ◌<◌, inl, inr, refl, ap, sym, ◌∙◌, subst, arith, Bool, true, false, eqb, List, [], ◌∷◌, ◌++◌, length, length-append, Option, Some, None, Result, Ok, Err, slice_get}
+use Rattle.std.proofs.Common.{◌≡◌, ◌≢◌, ◌⊎◌, ℕ, zero, suc, ◌<◌, inl, inr, refl, ap, sym, ◌∙◌, subst, arith, Bool, true, false, eqb, List, [], ◌∷◌, ◌++◌, length, length-append, Option, Some, None, Result, Ok, Err, slice_get}
+use Rattle.std.proofs.lemmas.Option.{slice_get_within, get_or_from_slice_get}
 use Rattle.std.proofs.lemmas.Bool.{cases_lt, eqb-true, eqb-false}
 use Rattle.std.proofs.lemmas.List.{get_or_append_left}
 use Rattle.std.proofs.Math.Seq.{get_or-append_seam}
@@ -160,3 +161,44 @@ module _ (keys : List ℕ) (homes : List (List (ℕ × ℕ))) (key : ℕ) (is : 
     no_number memory Memory q = subst (IsInterned keys) (sym (memory q)) is
     no_number memory Size q = (told (λ m. let both = sym q ∙ m in absurd (cc))).refused Size q
     no_number memory RunTooLong q = (told (λ m. let both = sym q ∙ m in absurd (cc))).refused RunTooLong q
+
+-- what stands in a list that got one key more is an old key or that one
+pub last_or_old : (keys : List ℕ) (key number held : ℕ) → slice_get (keys ++ key ∷ []) number ≡ Some held → (slice_get keys number ≡ Some held) ⊎ (held ≡ key)
+last_or_old [] key zero held at = inr (cc)
+last_or_old [] key (suc number) held at = absurd (cc)
+last_or_old (k ∷ keys) key zero held at = inl at
+last_or_old (k ∷ keys) key (suc number) held at = last_or_old keys key number held at
+
+-- the places that are left to look at are those of keys, and the key's own is among them
+pub record IsSought (keys : List ℕ) (key : ℕ) (left : List ℕ) : Type 0 where
+  pub within : (i at : ℕ) → slice_get left i ≡ Some at → at < length keys
+  pub among : (at : ℕ) → at < length keys → key_at keys at ≡ key → (i : ℕ) × (slice_get left i ≡ Some at)
+
+-- at first they are the candidates
+pub sought_first : (keys : List ℕ) (homes : List (List (ℕ × ℕ))) (key : ℕ) → IsInterned keys homes → IsSought keys key (candidates homes (spread key))
+sought_first keys homes key is = record {
+  within = λ i at there. (is.1 at).0 (candidate_held homes (spread key) i at there);
+  among = λ at l same.
+      let r = held_candidate (hash_at keys) homes at is.0 ((is.1 at).1 l) in
+      (r.0, subst (λ k. slice_get (candidates homes (spread k)) r.0 ≡ Some at) same r.1);
+}
+
+-- and one that has another key is passed
+pub sought_next : (keys : List ℕ) (key place : ℕ) (left : List ℕ) → IsSought keys key (place ∷ left) → key_at keys place ≢ key → IsSought keys key left
+sought_next keys key place left s other = record {
+  within = λ i at there. s.within (suc i) at there;
+  among = λ at l same.
+      let r = s.among at l same in
+      later at same r.0 r.1;
+}
+  where
+    later : (at : ℕ) → key_at keys at ≡ key → (i : ℕ) → slice_get (place ∷ left) i ≡ Some at → (i : ℕ) × (slice_get left i ≡ Some at)
+    later at same zero is =
+        let q : place ≡ at = cc in
+        absurd (other (ap (key_at keys) q ∙ same))
+    later at same (suc i) is = (i, is)
+
+pub sought_none : (keys : List ℕ) (key : ℕ) → IsSought keys key [] → (number : ℕ) → slice_get keys number ≡ Some key → ⊥
+sought_none keys key s number is =
+    let r = s.among number (slice_get_within keys number key is) (get_or_from_slice_get keys number key 0 is) in
+    absurd (cc)

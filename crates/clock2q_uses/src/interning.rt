@@ -1,6 +1,6 @@
 //! Key interning: each key gets a small number, and equal keys get the same one.
 ghost use Rattle.clock2q_uses.specs.Interning.{spread};
-ghost use Rattle.std.specs.Prelude.{◌≡◌, ℕ, [], Some, IfOk, IfSome, IfNone, length, slice_get};
+ghost use Rattle.std.specs.Prelude.{◌≡◌, ◌≢◌, ◌⊎◌, ℕ, [], Some, IfOk, IfSome, IfNone, slice_get};
 
 use clock2q::handles::{Table, TableError};
 use std::alloc::Global;
@@ -36,10 +36,25 @@ impl Interner {
         }
     }
 
+    /// Returns the key's number, if it has one.
+    pub fn number_of(&self, key: u64) -> Option<usize>
+        ensures found { IfSome result (λ number. slice_get self.now number ≡ Some key) }
+        ensures none { IfNone result ((number : ℕ) → slice_get self.now number ≢ Some key) }
+    {
+        let mut candidates = self.numbers.get(hash_of(key));
+        while let Some(number) = candidates.next() {
+            if self.keys[number] == key {
+                return Some(number);
+            }
+        }
+        None
+    }
+
     /// Returns the key's number. A key that has none gets the next one.
     pub fn intern(&mut self, key: u64) -> Result<usize, TableError>
         ensures stands { IfOk result (λ number. slice_get self.new number ≡ Some key) }
         ensures same { IfOk result (λ number. (other : ℕ) → slice_get self.old other ≡ Some key → number ≡ other) }
+        ensures only { (number held : ℕ) → slice_get self.new number ≡ Some held → (slice_get self.old number ≡ Some held) ⊎ (held ≡ key) }
         ensures kept { (number held : ℕ) → slice_get self.old number ≡ Some held → slice_get self.new number ≡ Some held }
     {
         if self.keys.reserve(1).is_err() {
@@ -81,5 +96,7 @@ fn equal_keys_have_one_number(rt: HostRuntime) -> Result<(), Fail> {
     }
     assert_eq!(rt; interner.intern(23)?, 1);
     assert_eq!(rt; interner.intern(100)?, 5);
+    assert_eq!(rt; interner.number_of(23), Some(1));
+    assert_eq!(rt; interner.number_of(24), None);
     Ok(())
 }

@@ -1,10 +1,10 @@
-use Rattle.std.proofs.Common.{rules, arith, Err, ◌≢◌, ◌≡◌, ℕ, Some, slice_get, ◌<◌, get_or, length, List, [], ◌∷◌, ◌++◌, sym, ap, refl, ◌∙◌, subst, eqb}
+use Rattle.std.proofs.Common.{◌⊎◌, rules, arith, Err, ◌≢◌, ◌≡◌, ℕ, Some, slice_get, ◌<◌, get_or, length, List, [], ◌∷◌, ◌++◌, sym, ap, refl, ◌∙◌, subst, eqb}
 use Rattle.std.proofs.lemmas.Option.{slice_get_within, get_or_from_slice_get, slice_get-get_or}
 use Rattle.std.proofs.lemmas.Grind.{common_steps}
 use Rattle.clock2q_handles.specs.Offers.{Settles}
 use Rattle.clock2q_handles.proofs.Held.{slice_get-left, slice_get-last}
 use Rattle.clock2q_uses.specs.Interning.{spread, key_at, IsInterned}
-use Rattle.clock2q_uses.proofs.Numbering.{IsNumbered, numbered, next_number, old_number, no_number, candidate_within, hash_at}
+use Rattle.clock2q_uses.proofs.Numbering.{IsNumbered, last_or_old, numbered, next_number, old_number, no_number, candidate_within, hash_at}
 use Rattle.clock2q_handles.proofs.Keyed.{keyed_given_by}
 use Rattle.clock2q_handles.proofs.Offering.{IsFound, offered_held_by, offers_find}
 use Rattle.clock2q_handles.specs.Homes.{candidates}
@@ -124,3 +124,9 @@ returns-else-is_new-clause-same c other at =
     c.in_ok-number.number c.in_ok-number.is_new c.in_ok-number.was c.if-is_new.false in
     let there : slice_get keys other ≡ Some c.args.key = ap (λ ks. slice_get ks other) c.self.view_is ∙ at in
     c.self.invariant.2 c.in_ok-number.number other old.1 (slice_get_within keys other c.args.key there) (old.2 ∙ sym (get_or_from_slice_get keys other c.args.key 0 there))
+
+pub returns-then-is_new-clause-only : goal.returns-then-is_new-clause-only
+returns-then-is_new-clause-only c number held at =
+    let keys : List ℕ = c.self.inside.keys.items in
+    subst (λ ks. (slice_get ks number ≡ Some held) ⊎ (held ≡ c.args.key)) c.self.view_is
+    (last_or_old keys c.args.key number held (sym (ap (λ ks. slice_get ks number) (c.push_reserved.ensures.items ∙ ap (λ ks. ks ++ c.args.key ∷ []) c.reserve.ensures.items)) ∙ at))
