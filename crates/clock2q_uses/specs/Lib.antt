@@ -1,0 +1,2 @@
+pub mod Interning
+pub mod Replay

@@ -1,0 +1,5 @@
+//! Short callers of `clock2q`, each the shape of a real thing, with what its user relies on proved.
+#![tactic(auto)]
+
+pub mod interning;
+pub mod replay;

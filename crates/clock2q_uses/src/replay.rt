@@ -1,0 +1,64 @@
+//! A trace replayed: how many keys of a list hit in a new cache.
+ghost use Rattle.clock2q_uses.specs.Replay.{is_hit, put_of, trace_hits};
+ghost use Rattle.clock2q_command.specs.Commands.{call_of, answer_of};
+ghost use Rattle.std.specs.List.{count_by};
+ghost use Rattle.std.specs.NonZero.{non_zero_usize_get};
+ghost use Rattle.std.specs.Prelude.{◌≡◌, ◌<◌, IfOk, IsErrOf, map};
+
+use clock2q::command::{Command, Reply, run};
+use clock2q::{Cache, CacheError, MAX_CAPACITY};
+use std::alloc::Global;
+use std::num::NonZeroUsize;
+use std::test::Fail;
+
+/// Puts each key of the trace in a new cache, and returns how many were resident.
+pub fn replay(alloc: Global, capacity: NonZeroUsize, trace: &[u64]) -> Result<usize, CacheError>
+    ensures hits { IfOk result (λ hits. hits ≡ trace_hits (non_zero_usize_get capacity) trace.now) }
+    ensures capacity { MAX_CAPACITY < non_zero_usize_get capacity → IsErrOf result CacheError.Capacity }
+{
+    let mut cache = Cache::new(alloc, capacity)?;
+    let replies = run(alloc, &mut cache, puts_of(alloc, trace)?)?;
+    Ok(hit_count(&replies))
+}
+
+/// Returns a `Put` for each key, with the key as its value.
+pub fn puts_of(alloc: Global, keys: &[u64]) -> Result<Vec<Command<u64, u64>>, CacheError>
+    ensures puts { IfOk result (λ puts. map call_of puts.items ≡ map put_of keys.now) }
+{
+    let mut puts = Vec::with_capacity(alloc, keys.len())?;
+    for key in keys {
+        puts.push_reserved(Command::Put(*key, *key));
+    }
+    Ok(puts)
+}
+
+/// Returns how many of the replies have a value.
+pub fn hit_count(replies: &[Reply<u64>]) -> usize
+    ensures hits { result ≡ count_by is_hit (map answer_of replies.now) }
+{
+    let mut hits = 0;
+    for reply in replies {
+        if is_hit(reply) {
+            hits += 1;
+        }
+    }
+    hits
+}
+
+/// Returns true for a reply with a value.
+fn is_hit(reply: &Reply<u64>) -> bool
+    ensures hit { result ≡ is_hit (answer_of reply.now) }
+{
+    matches!(reply, Reply::Value(Some(_)))
+}
+
+#[test]
+fn hits(rt: HostRuntime) -> Result<(), Fail> {
+    let capacity = NonZeroUsize::new(2).ok_or("not zero")?;
+    assert_eq!(rt; replay(rt.alloc(), capacity, &[])?, 0);
+    assert_eq!(rt; replay(rt.alloc(), capacity, &[1, 1, 2, 1, 2])?, 3);
+    assert_eq!(rt; replay(rt.alloc(), capacity, &[1, 2, 3, 4])?, 0);
+    let too_large = NonZeroUsize::new(MAX_CAPACITY + 1).ok_or("not zero")?;
+    assert_eq!(rt; replay(rt.alloc(), too_large, &[1]), Err(CacheError::Capacity));
+    Ok(())
+}
