@@ -102,7 +102,7 @@ module _ {K V : Type 0} where
     whole-changed slot value made = rw (lt-ltb slot (length m.values) made) (revalued eq m h (slice_set m.values slot value) (length-set m.values slot value))
 
     -- a resident leaves
-    whole-vacated : (slot : ℕ) → 0 < held slot m → IsWhole eq (vacated slot m)
+    pub whole-vacated : (slot : ℕ) → 0 < held slot m → IsWhole eq (vacated slot m)
     whole-vacated slot some =
         let once = h.slots_once slot in
         let at : held slot m ≡ 1 = elim (cases_lt slot (length m.values)) [ inl below ↦ omega (arith, once, ap one_if (lt-ltb slot (length m.values) below), some) | inr above ↦ absurd (omega (arith, once, ap one_if (le-ltb slot (length m.values) above), some)) ] in
@@ -211,7 +211,7 @@ module _ {K V : Type 0} where
     }
 
     -- slots that were never made are made and free
-    lasting-prefilled : (made : List V) (m : Machine K V) → length m.values + length made ≤ m.shares.capacity → IsWhole eq m → IsWhole eq (prefilled made m)
+    pub lasting-prefilled : (made : List V) (m : Machine K V) → length m.values + length made ≤ m.shares.capacity → IsWhole eq m → IsWhole eq (prefilled made m)
     lasting-prefilled made m within h =
         let more : length (m.values ++ made) ≡ length m.values + length made = length-append m.values made in
         let range = range_with_len (length m.values) (length made) in

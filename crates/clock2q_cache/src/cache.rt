@@ -1,6 +1,9 @@
 //! The cache itself: construction, look-ups, hits and `put`.
 
+mod clearing;
+mod filling;
 mod insertion;
+mod removal;
 
 use crate::error::CacheError;
 use crate::hashes::hash_of;
