@@ -211,7 +211,7 @@ module _ {K V : Type 0} where
     }
 
     -- slots that were never made are made and free
-    lasting-prefilled : (made : List V) (m : Machine K V) → length m.values + length made ≤ m.shares.capacity → IsWhole eq m → IsWhole eq (prefilled made m)
+    pub lasting-prefilled : (made : List V) (m : Machine K V) → length m.values + length made ≤ m.shares.capacity → IsWhole eq m → IsWhole eq (prefilled made m)
     lasting-prefilled made m within h =
         let more : length (m.values ++ made) ≡ length m.values + length made = length-append m.values made in
         let range = range_with_len (length m.values) (length made) in

@@ -1,6 +1,8 @@
 pub mod Changed
+pub mod Cleared
 pub mod Clock
 pub mod Entering
+pub mod Filled
 pub mod Finding
 pub mod Kept
 pub mod Lasting
@@ -8,10 +10,12 @@ pub mod Laws
 pub mod Remembered
 pub mod Renewed
 pub mod Residents
+pub mod Retained
 pub mod SecondChance
 pub mod Slots
 pub mod Standing
 pub mod Stored
+pub mod Vacated
 pub mod Weights
 pub mod Whole
 pub mod WithKeys

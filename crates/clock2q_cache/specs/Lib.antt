@@ -9,6 +9,7 @@ pub mod CacheFields
 pub mod CacheState
 pub mod Hashes
 pub mod CacheLends
+pub mod Closures
 pub mod Policies
 pub use Rattle.clock2q_queues.specs.Ages
 pub use Rattle.clock2q_queues.specs.Hand

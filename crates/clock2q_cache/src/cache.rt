@@ -1,6 +1,8 @@
 //! The cache itself: construction, look-ups, hits and `put`.
 
+mod clearing;
 mod debug;
+mod filling;
 mod insertion;
 mod removal;
 

@@ -9,6 +9,7 @@
 
 mod cache;
 mod error;
+mod filling;
 mod hashes;
 mod index;
 mod shares;

@@ -1,56 +1,83 @@
-//! Removal of residents.
+//! Removal of residents: of one by its key, and of those that a closure refuses.
 use crate::cache::Cache;
+use clock2q_queues::queues::Standing;
 use std::alloc::Allocator;
 use std::hash::{BuildHasher, Hash};
 
 impl<K: Hash + Eq, V, S: BuildHasher, A: Allocator> Cache<K, V, S, A> {
-    ghost use Rattle.std.specs.Prelude.{◌≡◌, ◌↔◌, IsTrue, IsSome, Some};
-    ghost use Rattle.clock2q_cache.specs.Machine.{slot_of, removed, vacated};
+    ghost use Rattle.std.specs.Prelude.{◌≡◌, IsTrue, ◌↔◌, IsSome, ◌<◌, length, Some, is_some};
+    ghost use Rattle.clock2q_cache.specs.Closures.{Retains};
+    ghost use Rattle.clock2q_cache.specs.Hashes.{hash_of};
+    ghost use Rattle.clock2q_cache.specs.Machine.{slot_of, resident_at, vacated, removed};
 
-    /// Removes a key, and says whether it was resident. Its slot is the first to be taken again,
-    /// and holds the key and the value until then. Where the key isn't resident, its history is
-    /// erased.
+    /// Removes a key, and returns true if it was resident. Its slot is the next that a new key
+    /// takes, and keeps the value until then.
+    ///
+    /// A key that isn't resident is forgotten: if it comes back, it is as new.
     pub fn remove(&mut self, key: &K) -> bool
-        ensures resident { IsTrue result ↔ IsSome (slot_of (K.eq key.now) self.old.machine) }
+        ensures found { IsTrue result ↔ IsSome (slot_of (K.eq key.now) self.old.machine) }
         ensures machine { self.new.machine ≡ removed (K.eq key.now) self.old.machine }
     {
         let hash = self.hash(key);
-        match self.find(hash, key) {
-            Some(slot) => {
-                self.vacate(slot, key);
-                true
-            }
-            None => {
-                let _ = self.forget(hash, key);
-                false
+        let Some(slot) = self.find(hash, key) else {
+            self.forget(hash, key);
+            return false;
+        };
+        self.vacate(slot);
+        true
+    }
+
+    /// Keeps the residents at which `keep` returns true, and removes the others. It asks once for
+    /// each resident, by ascending slot.
+    ///
+    /// What the cache remembers of keys that were evicted stays.
+    pub fn retain<F: FnMut(&K, &V) -> bool>(&mut self, mut keep: F)
+        requires { F.IsAlwaysCallable keep }
+        ensures retained { Retains F.FnMut keep self.old.machine self.new.machine }
+    {
+        for slot in 0..self.made() {
+            if self.is_resident(slot) {
+                let stays = keep(self.key(slot), self.value(slot));
+                if !stays {
+                    self.vacate(slot);
+                }
             }
         }
     }
 
-    /// Removes the key that is resident at a slot.
-    fn vacate(&mut self, slot: u32, key: &K)
-        requires { slot_of (K.eq key.now) self.old.machine ≡ Some slot }
-        ensures machine { self.new.machine ≡ vacated slot self.old.machine }
+    /// How many slots were made.
+    fn made(&self) -> u32
+        ensures { result ≡ length self.now.machine.values }
     {
-        let _ = key;
+        self.keys.len() as u32
+    }
+
+    /// Whether a slot has a resident.
+    fn is_resident(&mut self, slot: u32) -> bool
+        requires { slot < length self.old.machine.values }
+        ensures resident { result ≡ is_some (resident_at self.old.machine slot) }
+        ensures machine { self.new.machine ≡ self.old.machine }
+        ensures hasher { self.new.hasher ≡ self.old.hasher }
+    {
+        !matches!(self.queues.standing(slot), Standing::Free)
+    }
+
+    /// The key of the resident at a slot.
+    fn key(&self, slot: u32) -> &K
+        requires { IsSome (resident_at self.now.machine slot) }
+        ensures { resident_at self.now.machine slot ≡ Some (result.now, slot) }
+    {
+        self.keys.key(slot)
+    }
+
+    /// Removes the resident at a slot, which is free then.
+    fn vacate(&mut self, slot: u32)
+        requires { IsSome (resident_at self.old.machine slot) }
+        ensures machine { self.new.machine ≡ vacated slot self.old.machine }
+        ensures hasher { self.new.hasher ≡ self.old.hasher }
+    {
         self.index.remove(self.keys.hash(slot), slot);
         self.queues.leave(slot);
         self.free.push_reserved(slot);
-    }
-}
-
-impl<K: Hash + Eq + Drop, V: Drop, S: BuildHasher, A: Allocator> Cache<K, V, S, A> {
-    ghost use Rattle.std.specs.Prelude.{◌≡◌};
-    ghost use Rattle.clock2q_cache.specs.Machine.{cleared};
-
-    /// Removes all keys and values, and forgets the history. The cost is linear in the capacity.
-    pub fn clear(&mut self)
-        ensures machine { self.new.machine ≡ cleared self.old.machine }
-    {
-        self.keys.unindex(&mut self.index);
-        self.keys.clear();
-        self.queues.clear();
-        self.history.clear();
-        self.free.clear();
     }
 }

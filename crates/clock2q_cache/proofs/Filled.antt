@@ -1,0 +1,143 @@
+-- Slots that were never made are made and free.
+use Rattle.std.proofs.Common.{◌≡◌, ℕ, zero, suc, ◌+◌, ◌-◌, ◌*◌, ◌<◌, ◌≤◌, ◌==◌, Bool, true, false, ◌&&◌, ◌||◌, eqb, Option, Some, None, slice_get, List, [], ◌∷◌, ◌++◌, map, length, reverse, inl, inr, refl, sym, ap, ◌∙◌, subst, arith, length-append}
+use Rattle.std.specs.Prelude.{if◌then◌else◌, nat_lt}
+use Rattle.std.specs.Cmp.{IsEquivalence}
+use Rattle.std.specs.Fn.{Mut, Called}
+use Rattle.std.specs.List.{FoldsTo, AllByRecursion, range_with_len}
+use Rattle.std.proofs.lemmas.Bool.{cases_Bool}
+use Rattle.std.proofs.lemmas.List.{append-nil, append_assoc, map-append, reverse-append, reverse-reverse}
+use Rattle.clock2q_handles.specs.Homes.{candidates}
+use Rattle.clock2q_queues.specs.Ages.{Age}
+use Rattle.clock2q_queues.specs.declared.keys.cells.Entry.{Entry}
+use Rattle.clock2q_queues.specs.Rings.{has, AllBelow}
+use Rattle.clock2q_queues.specs.Indexes.{IsIndex, is_named, is_alike}
+use Rattle.clock2q_queues.specs.Keys.{KeyPlaces, entry, hash_at, key_at}
+use Rattle.clock2q_queues.specs.Queues.{QueueState, slots_of}
+use Rattle.clock2q_queues.specs.History.{Remembered}
+use Rattle.clock2q_queues.proofs.Rings.{has-append, below_of}
+use Rattle.clock2q_cache.specs.Closures.{Fills}
+use Rattle.clock2q_cache.specs.Shares.{Shares}
+use Rattle.clock2q_cache.specs.Machine.{Machine, prefilled}
+use Rattle.clock2q_cache.specs.Cache.{IsWhole}
+use Rattle.clock2q_cache.specs.CacheFields.{machine_of, places_of, with_keys_small, with_keys_main, IsStored, IsKept}
+use Rattle.clock2q_cache.proofs.WithKeys.{small-agree, main-agree}
+use Rattle.clock2q_cache.proofs.Stored.{length-values, below-has}
+use Rattle.clock2q_cache.proofs.Kept.{sized-same}
+use Rattle.clock2q_cache.proofs.Lasting.{lasting-prefilled}
+
+-- Lists
+
+folds-more : {P X : Type 0} (R : P → X → P → Type 0) (p : P) (xs : List X) (q : P) (x : X) (last : P) → FoldsTo R p xs q → R q x last → FoldsTo R p (xs ++ x ∷ []) last
+folds-more R p [] q x last h r = (last, subst (λ z. R z x last) (sym h) r, refl)
+folds-more R p (y ∷ xs) q x last h r = (h.0, h.1, folds-more R h.0 xs q x last h.2 r)
+
+all-append : {X : Type 0} (P : X → Type 0) (xs ys : List X) → AllByRecursion P xs → AllByRecursion P ys → AllByRecursion P (xs ++ ys)
+all-append P [] ys a b = b
+all-append P (x ∷ xs) ys a b = (a.0, all-append P xs ys a.1 b)
+
+get-append : {X : Type 0} (xs ys : List X) (n : ℕ) → n < length xs → slice_get (xs ++ ys) n ≡ slice_get xs n
+get-append [] ys n h = absurd (omega arith)
+get-append (x ∷ xs) ys zero h = refl
+get-append (x ∷ xs) ys (suc n) h = get-append xs ys n (omega arith)
+
+-- one slot more is freed, below the others
+pub freed-more : (free : List ℕ) (slot to : ℕ) → slot < to → (free ++ reverse (range_with_len (slot + 1) (to - (slot + 1)))) ++ slot ∷ [] ≡ free ++ reverse (range_with_len slot (to - slot))
+freed-more free slot to h =
+    let n : to - slot ≡ suc (to - (slot + 1)) = omega (arith, h) in
+    append_assoc free (reverse (range_with_len (slot + 1) (to - (slot + 1)))) (slot ∷ [])
+    ∙ ap (λ z. free ++ z) (sym (ap (λ z. reverse (range_with_len slot z)) n ∙ reverse-append (slot ∷ []) (range_with_len (slot + 1) (to - (slot + 1)))))
+
+pub freed-none : (free : List ℕ) (to : ℕ) → free ≡ free ++ reverse (range_with_len to (to - to))
+freed-none free to = let n : to - to ≡ 0 = omega arith in sym (ap (λ z. free ++ reverse (range_with_len to z)) n ∙ append-nil free)
+
+module _ {F K V : Type 0} (g : Mut F Unit V) (f : F) (hash : K → ℕ) (old : List (Entry K V)) where
+  pub fills-none : (n : ℕ) → n ≡ length old → Fills g f hash n old old f
+  fills-none n h = record { added = []; is = sym (append-nil old); as_many = omega (arith, h); hashed = tt; called = refl }
+
+  pub fills-more : (n : ℕ) (now : List (Entry K V)) (p : F) (h : ℕ) (key : K) (value : V) (last : F) → Fills g f hash n old now p → h ≡ hash key → Called g p tt value last → Fills g f hash (n + 1) old (now ++ entry h key value ∷ []) last
+  fills-more n now p h key value last s is called = record {
+    added = s.added ++ entry h key value ∷ [];
+    is = ap (λ z. z ++ entry h key value ∷ []) s.is ∙ append_assoc old s.added (entry h key value ∷ []);
+    as_many = omega (arith, s.as_many, length-append s.added (entry h key value ∷ []));
+    hashed = all-append (λ e. e.hash ≡ hash e.key) s.added (entry h key value ∷ []) s.hashed (is, tt);
+    called = subst (λ z. FoldsTo (λ p value q. Called g p tt value q) f z last) (sym (map-append (λ (e : Entry K V). e.value) s.added (entry h key value ∷ [])))
+        (folds-more (λ p value q. Called g p tt value q) f (map (λ (e : Entry K V). e.value) s.added) p value last s.called called);
+  }
+
+  -- as many as there are
+  pub fills-length : (n : ℕ) (now : List (Entry K V)) (p : F) → Fills g f hash n old now p → length now ≡ n
+  fills-length n now p s = ap (λ (z : List (Entry K V)). length z) s.is ∙ length-append old s.added ∙ s.as_many
+
+-- An index stays one where entries come behind its places.
+module _ {K V : Type 0} (entries added : List (Entry K V)) where
+  abbrev more : List (Entry K V)
+  more = entries ++ added
+
+  key-before : (t : ℕ) → t < length entries → key_at more t ≡ key_at entries t
+  key-before t h = ap (λ z. elim z [ None ↦ None | Some e ↦ Some e.key ]) (get-append entries added t h)
+
+  hash-before : (t : ℕ) → t < length entries → hash_at more t ≡ hash_at entries t
+  hash-before t h = ap (λ z. elim z [ None ↦ None | Some e ↦ Some e.hash ]) (get-append entries added t h)
+
+  index-before : (index : List (List (ℕ × ℕ))) (places : List ℕ) → AllBelow (length entries) places → IsIndex index entries places → IsIndex index more places
+  index-before index places below i = record {
+    listed = λ x place. i.listed x place ∙ same x place;
+    once = i.once;
+    counted = i.counted;
+  }
+    where
+      same : (x place : ℕ) → (has place places && is_named index entries x place) ≡ (has place places && is_named index more x place)
+      same x place = elim (cases_Bool (has place places)) [
+        | inl e ↦ rw e (sym (ap (λ z. elim z [ None ↦ false | Some y ↦ is_alike index x y ]) (hash-before place (below_of (length entries) places below place e))))
+        | inr e ↦ rw e refl
+      ]
+
+module _ {K V : Type 0} (eq : K → K → Bool) (laws : IsEquivalence eq) (hash : K → ℕ) (shares : Shares) (q : QueueState) (h : Remembered K) (index : List (List (ℕ × ℕ))) (keys : KeyPlaces K V) (free : List ℕ) (room : ℕ)
+    (kept : IsKept eq hash shares q h index keys free room)
+    (added : List (Entry K V)) (keys' : KeyPlaces K V) (free' : List ℕ) (room' : ℕ)
+    (is : keys'.entries ≡ keys.entries ++ added) (as_many : length keys.entries + length added ≡ shares.capacity)
+    (freed : free' ≡ free ++ reverse (range_with_len (length keys.entries) (shares.capacity - length keys.entries))) where
+  abbrev m : Machine K V
+  m = machine_of shares q keys.entries h.entries free
+
+  abbrev made : List V
+  made = map (λ e. e.value) added
+
+  pub made-count : length m.values + length made ≡ shares.capacity
+  made-count = omega (arith, as_many, length-values keys.entries, length-values added)
+
+  in_small : (t : ℕ) → has t (slots_of q.small) ≡ true → t < length keys.entries
+  in_small t g = below_of (length keys.entries) (places_of q) kept.stored.made t (has-append t (slots_of q.small) (slots_of q.main) ∙ rw g refl)
+
+  in_main : (t : ℕ) → has t (slots_of q.main) ≡ true → t < length keys.entries
+  in_main t g = below_of (length keys.entries) (places_of q) kept.stored.made t (has-append t (slots_of q.small) (slots_of q.main) ∙ rw g (or_true (has t (slots_of q.small))))
+    where
+      or_true : (b : Bool) → (b || true) ≡ true
+      or_true true = refl
+      or_true false = refl
+
+  pub machine-prefilled : machine_of shares q keys'.entries h.entries free' ≡ prefilled made m
+  machine-prefilled =
+      let s : with_keys_small (key_at keys'.entries) q.small ≡ m.small =
+          ap (λ z. with_keys_small (key_at z) q.small) is ∙ small-agree (key_at keys.entries) (key_at (keys.entries ++ added)) q.small (λ t g. key-before keys.entries added t (in_small t g)) in
+      let t : with_keys_main (key_at keys'.entries) q.main ≡ m.main =
+          ap (λ z. with_keys_main (key_at z) q.main) is ∙ main-agree (key_at keys.entries) (key_at (keys.entries ++ added)) q.main (λ t g. key-before keys.entries added t (in_main t g)) in
+      let v : map (λ (e : Entry K V). e.value) keys'.entries ≡ m.values ++ made = ap (λ z. map (λ (e : Entry K V). e.value) z) is ∙ map-append (λ (e : Entry K V). e.value) keys.entries added in
+      let n : shares.capacity - length keys.entries ≡ length made = omega (arith, as_many, length-values added) in
+      let f : reverse free' ≡ range_with_len (length m.values) (length made) ++ reverse free =
+          ap (λ z. reverse z) freed ∙ reverse-append free (reverse (range_with_len (length keys.entries) (shares.capacity - length keys.entries)))
+          ∙ ap (λ z. z ++ reverse free) (reverse-reverse (range_with_len (length keys.entries) (shares.capacity - length keys.entries)))
+          ∙ ap (λ z. range_with_len (length keys.entries) z ++ reverse free) n ∙ ap (λ z. range_with_len z (length made) ++ reverse free) (sym (length-values keys.entries)) in
+      cc
+
+  pub kept-prefilled : AllByRecursion (λ e. e.hash ≡ hash e.key) added → keys'.room ≡ keys.room → room' ≡ room → IsKept eq hash shares q h index keys' free' room'
+  kept-prefilled hashed keys_room free_room = record {
+    whole = subst (IsWhole eq) (sym machine-prefilled) (lasting-prefilled eq laws made m (omega (arith, made-count)) kept.whole);
+    stored = subst (λ z. IsStored hash index z (places_of q)) (sym is) (record {
+      made = below-has (length (keys.entries ++ added)) (places_of q) (λ t g. omega (arith, below_of (length keys.entries) (places_of q) kept.stored.made t g, length-append keys.entries added));
+      indexed = index-before keys.entries added index (places_of q) kept.stored.made kept.stored.indexed;
+      hashed = all-append (λ e. e.hash ≡ hash e.key) keys.entries added kept.stored.hashed hashed;
+    });
+    hashed = kept.hashed;
+    sized = sized-same shares q q h.limit h.limit (length index) (length index) keys.room keys'.room room room' kept.sized refl refl refl refl keys_room free_room;
+  }

@@ -1,0 +1,159 @@
+-- The residents of the first slots were asked, and those that were refused left: one slot more, until all were asked.
+use Rattle.std.proofs.Common.{◌≡◌, ℕ, zero, suc, ◌+◌, ◌<◌, ◌≤◌, ◌==◌, Bool, true, false, not, cond, eqb, Option, Some, None, List, [], ◌∷◌, ◌++◌, map, length, inl, inr, refl, sym, ap, ◌∙◌, subst, arith, eqb-true, ne_eqb, length-append}
+use Rattle.std.specs.Prelude.{if◌then◌else◌, slice_get}
+use Rattle.std.specs.Borrow.{Bor}
+use Rattle.std.specs.Fn.{Mut, Called}
+use Rattle.std.specs.List.{filter, filter_map, cons_option, find, fold, range_with_len}
+use Rattle.std.specs.List.Retain.{ReturnsInTurn}
+use Rattle.std.proofs.lemmas.Bool.{cases_Bool}
+use Rattle.std.proofs.lemmas.List.{append-nil, map-append}
+use Rattle.std.proofs.lemmas.List.Elements.{filter_map-append}
+use Rattle.std.proofs.lemmas.List.Sums.{fold-append}
+use Rattle.clock2q_cache.specs.Closures.{AsksResident, Retains}
+use Rattle.clock2q_cache.specs.Entries.{SmallEntry, MainEntry}
+use Rattle.clock2q_cache.specs.Machine.{Machine, residents, resident_at, vacated, vacated_all}
+use Rattle.clock2q_cache.specs.Steps.{refused_slots}
+
+range-last : (a n : ℕ) → range_with_len a (suc n) ≡ range_with_len a n ++ (a + n) ∷ []
+range-last a zero = let e : a ≡ a + 0 = omega arith in ap (λ z. z ∷ []) e
+range-last a (suc n) = let e : a + 1 + n ≡ a + suc n = omega arith in ap (λ zs. a ∷ zs) (range-last (a + 1) n ∙ ap (λ z. range_with_len (a + 1) n ++ z ∷ []) e)
+
+returns-more : {X P : Type 0} (R : P → X → Bool → P → Type 0) (p : P) (bs : List Bool) (xs : List X) (q : P) (b : Bool) (x : X) (last : P) → length bs ≡ length xs → ReturnsInTurn R p bs xs q → R q x b last → ReturnsInTurn R p (bs ++ b ∷ []) (xs ++ x ∷ []) last
+returns-more R p [] [] q b x last many h r = (last, subst (λ z. R z x b last) (sym h) r, refl)
+returns-more R p [] (y ∷ xs) q b x last many h r = absurd (omega (arith, many))
+returns-more R p (c ∷ bs) [] q b x last many h r = absurd (omega (arith, many))
+returns-more R p (c ∷ bs) (y ∷ xs) q b x last many h r = (h.0, h.1, returns-more R h.0 bs xs q b x last (omega (arith, many)) h.2 r)
+
+refused-more : (bits : List Bool) (slots : List ℕ) (b : Bool) (s : ℕ) → length bits ≡ length slots → refused_slots (bits ++ b ∷ []) (slots ++ s ∷ []) ≡ refused_slots bits slots ++ cond b [] (s ∷ [])
+refused-more [] [] true s many = refl
+refused-more [] [] false s many = refl
+refused-more [] (t ∷ slots) b s many = absurd (omega (arith, many))
+refused-more (c ∷ bits) [] b s many = absurd (omega (arith, many))
+refused-more (true ∷ bits) (t ∷ slots) b s many = refused-more bits slots b s (omega (arith, many))
+refused-more (false ∷ bits) (t ∷ slots) b s many = ap (λ zs. t ∷ zs) (refused-more bits slots b s (omega (arith, many)))
+
+length-slots : {K : Type 0} (rs : List (K × ℕ)) → length (map (λ (r : K × ℕ). r.1) rs) ≡ length rs
+length-slots [] = refl
+length-slots (r ∷ rs) = ap suc (length-slots rs)
+
+-- a resident that leaves is another one's neighbour, and no more
+module _ {K X : Type 0} (at : X → K × ℕ) (s t : ℕ) (differ : eqb s t ≡ false) where
+  others : (es : List X) (rs rs' : List (K × ℕ)) → find (λ (r : K × ℕ). r.1 == t) rs' ≡ find (λ (r : K × ℕ). r.1 == t) rs
+      → find (λ (r : K × ℕ). r.1 == t) (map at (filter (λ e. not ((at e).1 == s)) es) ++ rs') ≡ find (λ (r : K × ℕ). r.1 == t) (map at es ++ rs)
+  others [] rs rs' h = h
+  others (e ∷ es) rs rs' h = elim (cases_Bool (eqb (at e).1 s)) [
+    | inl i ↦
+        let no : eqb (at e).1 t ≡ false = subst (λ z. eqb z t ≡ false) (sym (eqb-true (at e).1 s i)) differ in
+        rw (i, no) (others es rs rs' h)
+    | inr i ↦ elim (cases_Bool (eqb (at e).1 t)) [
+      | inl j ↦ rw (i, j) refl
+      | inr j ↦ rw (i, j) (others es rs rs' h)
+    ]
+  ]
+
+  last-others : (es : List X) → find (λ (r : K × ℕ). r.1 == t) (map at (filter (λ e. not ((at e).1 == s)) es)) ≡ find (λ (r : K × ℕ). r.1 == t) (map at es)
+  last-others [] = refl
+  last-others (e ∷ es) = elim (cases_Bool (eqb (at e).1 s)) [
+    | inl i ↦
+        let no : eqb (at e).1 t ≡ false = subst (λ z. eqb z t ≡ false) (sym (eqb-true (at e).1 s i)) differ in
+        rw (i, no) (last-others es)
+    | inr i ↦ elim (cases_Bool (eqb (at e).1 t)) [
+      | inl j ↦ rw (i, j) refl
+      | inr j ↦ rw (i, j) (last-others es)
+    ]
+  ]
+
+pub resident-other : {K V : Type 0} (m : Machine K V) (s t : ℕ) → eqb s t ≡ false → resident_at (vacated s m) t ≡ resident_at m t
+resident-other {K} {V} m s t differ =
+    others (λ (e : SmallEntry K). (e.key, e.slot)) s t differ m.small (map (λ (e : MainEntry K). (e.key, e.slot)) m.main) (map (λ (e : MainEntry K). (e.key, e.slot)) (filter (λ (e : MainEntry K). not (e.slot == s)) m.main))
+    (last-others (λ (e : MainEntry K). (e.key, e.slot)) s t differ m.main)
+
+module _ {F K V : Type 0} (g : Mut F (Bor K × (Bor V × Unit {0})) Bool) (f : F) (old : Machine K V) where
+  -- the residents at the slots below
+  abbrev pub below : ℕ → List (K × ℕ)
+  below n = filter_map (resident_at old) (range_with_len 0 n)
+
+  below-more : (n : ℕ) (o : Option (K × ℕ)) → resident_at old n ≡ o → below (n + 1) ≡ below n ++ cons_option o []
+  below-more n o at =
+      let e : n + 1 ≡ suc n = omega arith in
+      let start : 0 + n ≡ n = omega arith in
+      ap (λ z. below z) e ∙ ap (λ z. filter_map (resident_at old) z) (range-last 0 n ∙ ap (λ z. range_with_len 0 n ++ z ∷ []) start) ∙ filter_map-append (resident_at old) (range_with_len 0 n) (n ∷ [])
+      ∙ ap (λ z. below n ++ cons_option z []) at
+
+  -- these were asked, and those that were refused left
+  pub record RetainsOver (rs : List (K × ℕ)) (f' : F) (now : Machine K V) : Type 0 where
+    pub bits : List Bool
+    pub as_many : length bits ≡ length rs
+    pub asked : ReturnsInTurn (AsksResident g old.values) f bits rs f'
+    pub becomes : now ≡ vacated_all (refused_slots bits (map (λ r. r.1) rs)) old
+
+  over-more : (rs : List (K × ℕ)) (f' : F) (now : Machine K V) (r : K × ℕ) (b : Bool) (last : F) → RetainsOver rs f' now → AsksResident g old.values f' r b last → RetainsOver (rs ++ r ∷ []) last (cond b now (vacated r.1 now))
+  over-more rs f' now r b last h asks = record {
+    bits = h.bits ++ b ∷ [];
+    as_many = omega (arith, h.as_many, length-append h.bits (b ∷ []), length-append rs (r ∷ []));
+    asked = returns-more (AsksResident g old.values) f h.bits rs f' b r last h.as_many h.asked asks;
+    becomes = left b (refused_slots h.bits (map (λ r. r.1) rs)) h.becomes
+        ∙ sym (ap (λ z. vacated_all z old)
+            (ap (λ z. refused_slots (h.bits ++ b ∷ []) z) (map-append (λ (r : K × ℕ). r.1) rs (r ∷ []))
+            ∙ refused-more h.bits (map (λ r. r.1) rs) b r.1 (h.as_many ∙ sym (length-slots rs))));
+  }
+    where
+      left : (b : Bool) (ss : List ℕ) → now ≡ vacated_all ss old → cond b now (vacated r.1 now) ≡ vacated_all (ss ++ cond b [] (r.1 ∷ [])) old
+      left true ss e = e ∙ sym (fold-append (λ state slot. vacated slot state) old ss [])
+      left false ss e = ap (λ z. vacated r.1 z) e ∙ sym (fold-append (λ state slot. vacated slot state) old ss (r.1 ∷ []))
+
+  -- the residents below were asked, and nothing else changed
+  pub record RetainsBelow (n : ℕ) (f' : F) (now : Machine K V) : Type 0 where
+    pub over : RetainsOver (below n) f' now
+    pub later : (t : ℕ) → n ≤ t → resident_at now t ≡ resident_at old t
+    pub values : now.values ≡ old.values
+
+  pub retains-none : RetainsBelow 0 f old
+  retains-none = record {
+    over = record { bits = []; as_many = refl; asked = refl; becomes = refl };
+    later = λ t le. refl;
+    values = refl;
+  }
+
+  module _ (n : ℕ) (f' : F) (now : Machine K V) (h : RetainsBelow n f' now) where
+    -- there is no resident
+    pub retains-past : resident_at now n ≡ None → RetainsBelow (n + 1) f' now
+    retains-past none = record {
+      over = subst (λ z. RetainsOver z f' now) (sym (below-more n None (sym (h.later n (omega arith)) ∙ none) ∙ append-nil (below n))) h.over;
+      later = λ t le. h.later t (omega (arith, le));
+      values = h.values;
+    }
+
+    module _ (key : Bor K) (value : Bor V) (here : resident_at now n ≡ Some (key.now, n)) (shown : slice_get now.values n ≡ Some value.now) (last : F) where
+      asks : (b : Bool) → Called g f' (key, (value, tt)) b last → AsksResident g old.values f' (key.now, n) b last
+      asks b called = record {
+        key = key;
+        value = value;
+        shows = (refl, subst (λ z. slice_get z n ≡ Some value.now) h.values shown);
+        called = called;
+      }
+
+      among : below (n + 1) ≡ below n ++ (key.now, n) ∷ []
+      among = below-more n (Some (key.now, n)) (sym (h.later n (omega arith)) ∙ here)
+
+      -- the resident stays
+      pub retains-kept : Called g f' (key, (value, tt)) true last → RetainsBelow (n + 1) last now
+      retains-kept called = record {
+        over = subst (λ z. RetainsOver z last now) (sym among) (over-more (below n) f' now (key.now, n) true last h.over (asks true called));
+        later = λ t le. h.later t (omega (arith, le));
+        values = h.values;
+      }
+
+      -- it leaves
+      pub retains-refused : Called g f' (key, (value, tt)) false last → RetainsBelow (n + 1) last (vacated n now)
+      retains-refused called = record {
+        over = subst (λ z. RetainsOver z last (vacated n now)) (sym among) (over-more (below n) f' now (key.now, n) false last h.over (asks false called));
+        later = λ t le. resident-other now n t (ne_eqb n t (λ e. omega (arith, e, le))) ∙ h.later t (omega (arith, le));
+        values = h.values;
+      }
+
+  -- all were asked
+  pub retains-all : (n : ℕ) (f' : F) (now : Machine K V) → n ≡ length old.values → RetainsBelow n f' now → Retains g f old now
+  retains-all n f' now all h =
+      let o : RetainsOver (below (length old.values)) f' now = subst (λ z. RetainsOver (below z) f' now) all h.over in
+      record { bits = o.bits; last = f'; as_many = o.as_many; asked = o.asked; becomes = o.becomes }

@@ -1,0 +1,42 @@
+-- What the calls that are handed a closure ask of it.
+use Rattle.std.specs.Prelude.{◌≡◌, ℕ, ◌+◌, Bool, List, ◌++◌, map, length, slice_get, Some}
+use Rattle.std.specs.Borrow.{Bor}
+use Rattle.std.specs.Fn.{Mut, Called}
+use Rattle.std.specs.List.{FoldsTo, AllByRecursion}
+use Rattle.std.specs.List.Retain.{ReturnsInTurn}
+use Rattle.clock2q_queues.specs.declared.keys.cells.Entry.{Entry}
+use Rattle.clock2q_cache.specs.Machine.{Machine, by_slot, prefilled}
+use Rattle.clock2q_cache.specs.Steps.{retained}
+
+module _ {F K V : Type 0} (g : Mut F (Bor K × (Bor V × Unit {0})) Bool) where
+  -- a call at the key of a resident and the value of its slot gave b
+  pub record AsksResident (values : List V) (f : F) (resident : K × ℕ) (b : Bool) (f' : F) : Type 0 where
+    pub key : Bor K
+    pub value : Bor V
+    pub shows : (key.now ≡ resident.0) × (slice_get values resident.1 ≡ Some value.now)
+    pub called : Called g f (key, (value, tt)) b f'
+
+  -- there was one call for each resident, by ascending slot, and the residents at which it gave false left
+  pub record Retains (f : F) (old new : Machine K V) : Type 0 where
+    pub bits : List Bool
+    pub last : F
+    pub as_many : length bits ≡ length (by_slot old)
+    pub asked : ReturnsInTurn (AsksResident old.values) f bits (by_slot old) last
+    pub becomes : new ≡ retained bits old
+
+module _ {F K V : Type 0} (g : Mut F Unit V) where
+  -- there was one call for each slot that was never made, in order, and each of these slots has the value that it gave
+  pub record Prefills (f : F) (old new : Machine K V) : Type 0 where
+    pub made : List V
+    pub last : F
+    pub as_many : length old.values + length made ≡ old.shares.capacity
+    pub called : FoldsTo (λ p value q. Called g p tt value q) f made last
+    pub becomes : new ≡ prefilled made old
+
+  -- entries were added up to this many, each with the hash of its key and a value that the closure gave, in order
+  pub record Fills (f : F) (hash : K → ℕ) (many : ℕ) (old new : List (Entry K V)) (last : F) : Type 0 where
+    pub added : List (Entry K V)
+    pub is : new ≡ old ++ added
+    pub as_many : length old + length added ≡ many
+    pub hashed : AllByRecursion (λ e. e.hash ≡ hash e.key) added
+    pub called : FoldsTo (λ p value q. Called g p tt value q) f (map (λ e. e.value) added) last

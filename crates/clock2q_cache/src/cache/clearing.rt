@@ -1,0 +1,22 @@
+//! A cache emptied, with all that it remembered.
+use crate::cache::Cache;
+use std::alloc::Allocator;
+use std::hash::{BuildHasher, Hash};
+
+impl<K: Hash + Eq + Drop, V: Drop, S: BuildHasher, A: Allocator> Cache<K, V, S, A> {
+    ghost use Rattle.std.specs.Prelude.{◌≡◌};
+    ghost use Rattle.clock2q_cache.specs.Machine.{cleared};
+
+    /// Removes every key and every value, and what is remembered of keys that were evicted. The
+    /// cache is as new, and its memory stays.
+    pub fn clear(&mut self)
+        ensures machine { self.new.machine ≡ cleared self.old.machine }
+        ensures hasher { self.new.hasher ≡ self.old.hasher }
+    {
+        self.keys.unindex(&mut self.index);
+        self.queues.clear();
+        self.history.clear();
+        self.keys.clear();
+        self.free.clear();
+    }
+}
