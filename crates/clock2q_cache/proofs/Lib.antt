@@ -23,4 +23,3 @@ pub mod WorkedCounts
 pub mod WorkedRuns
 pub mod WorkedSlots
 pub mod WorkedStates
-pub mod Vacated

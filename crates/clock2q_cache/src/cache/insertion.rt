@@ -176,20 +176,3 @@ impl<K: Hash + Eq + Drop, V: Drop, S: BuildHasher, A: Allocator> Cache<K, V, S, 
         self.queues.admit(victim);
     }
 }
-
-impl<K: Hash + Eq, V, S: BuildHasher, A: Allocator> Cache<K, V, S, A> {
-    ghost use Rattle.std.specs.Prelude.{◌≡◌};
-    ghost use Rattle.std.specs.List.{list_any};
-    ghost use Rattle.clock2q_cache.specs.Hashes.{hash_of};
-    ghost use Rattle.clock2q_cache.specs.Machine.{forgotten};
-
-    /// Erases the key's history, and says whether it had any.
-    pub(crate) fn forget(&mut self, hash: u64, key: &K) -> bool
-        requires { hash ≡ hash_of S.BuildHasher S.Hasher.Hasher self.old.hasher (K.hash_input key.now) }
-        ensures known { result ≡ list_any (K.eq key.now) self.old.machine.history }
-        ensures machine { self.new.machine ≡ forgotten (K.eq key.now) self.old.machine }
-        ensures hasher { self.new.hasher ≡ self.old.hasher }
-    {
-        self.history.discard(hash, key)
-    }
-}
