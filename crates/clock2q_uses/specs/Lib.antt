@@ -1,2 +1,3 @@
 pub mod Interning
 pub mod Replay
+pub mod Split

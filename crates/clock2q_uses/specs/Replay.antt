@@ -1,5 +1,5 @@
 -- The hits of a trace: a list of keys that are put one after another.
-use Rattle.std.specs.Prelude.{ℕ, Bool, true, false, eqb, List, Some, None, map}
+use Rattle.std.specs.Prelude.{ℕ, Bool, true, false, eqb, List, Some, map}
 use Rattle.std.specs.List.{count_by}
 use Rattle.clock2q_cache.specs.Calls.{Call, Answer, Put, Value}
 use Rattle.clock2q_cache.specs.Machine.{empty}

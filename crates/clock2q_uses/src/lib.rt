@@ -3,3 +3,4 @@
 
 pub mod interning;
 pub mod replay;
+pub mod split;

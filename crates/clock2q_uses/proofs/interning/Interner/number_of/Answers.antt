@@ -1,8 +1,7 @@
-use Rattle.std.proofs.Common.{◌≡◌, ℕ, Some, [], List, length, slice_get, get_or, sym, ap, ◌∙◌, subst, arith, rules}
+use Rattle.std.proofs.Common.{Some, slice_get, sym, ap, ◌∙◌, subst, rules}
 use Rattle.std.proofs.lemmas.Option.{slice_get-get_or}
 use Rattle.std.proofs.lemmas.List.{get_or_default}
 use Rattle.clock2q_handles.specs.Homes.{candidates}
-use Rattle.clock2q_uses.specs.Interning.{key_at}
 use Rattle.clock2q_uses.proofs.Numbering.{IsSought, sought_first, sought_next, sought_none}
 use Rattle.clock2q_uses.proofs.interning.Interner.number_of.Goals as goal
 
