@@ -1,9 +1,12 @@
 //! The cache itself: construction, look-ups, hits and `put`.
 
 mod clearing;
+mod debug;
 mod filling;
 mod insertion;
 mod removal;
+#[cfg(test)]
+mod tests;
 
 use crate::error::CacheError;
 use crate::hashes::hash_of;
