@@ -1,9 +1,9 @@
 -- What holds of a cache's fields goes on to hold where a key's history is erased or a value is replaced, and holds of a new cache.
-use Rattle.std.proofs.Common.{◌≡◌, ℕ, zero, suc, ◌^◌, ◌<◌, ◌≤◌, ◌==◌, Bool, true, false, not, ◌||◌, ◌&&◌, eqb, Option, Some, None, slice_get, List, [], ◌∷◌, ◌++◌, map, length, reverse, inl, inr, refl, sym, ap, ◌∙◌, subst, arith, eqb-true, eq-eqb, ne_eqb}
-use Rattle.std.specs.Prelude.{nat_le, is_some, slice_set, IfSome}
+use Rattle.std.proofs.Common.{◌≡◌, ℕ, zero, suc, ◌+◌, ◌-◌, ◌*◌, ◌^◌, ◌<◌, ◌≤◌, ◌==◌, max, Bool, true, false, not, ◌||◌, ◌&&◌, cond, eqb, Option, Some, None, slice_get, List, [], ◌∷◌, ◌++◌, map, length, take, drop, reverse, inl, inr, refl, sym, ap, ◌∙◌, subst, arith, eqb-true, eq-eqb, ne_eqb}
+use Rattle.std.specs.Prelude.{if◌then◌else◌, nat_lt, nat_le, is_some, slice_set, IfSome}
 use Rattle.std.specs.Cmp.{IsEquivalence}
 use Rattle.std.specs.List.{filter, list_any, last_or, AllByRecursion}
-use Rattle.std.proofs.lemmas.Bool.{cases_Bool, both_ways}
+use Rattle.std.proofs.lemmas.Bool.{cases_Bool, both_ways, lt-ltb, eqb-false}
 use Rattle.clock2q_queues.specs.Ages.{Age, is_promoted}
 use Rattle.clock2q_queues.specs.declared.keys.cells.Entry.{Entry}
 use Rattle.clock2q_queues.specs.Rings.{has}
@@ -12,17 +12,18 @@ use Rattle.clock2q_queues.specs.Keys.{KeyPlaces, entry, written, hash_at, key_at
 use Rattle.clock2q_queues.specs.Indexes.{IsIndex, HasHash, index_room}
 use Rattle.clock2q_handles.specs.TableStep.{made_for}
 use Rattle.clock2q_queues.specs.Queues.{QueueState, slots_of, tail_promoted}
-use Rattle.clock2q_queues.specs.History.{Remembered, forgotten}
+use Rattle.clock2q_queues.specs.History.{Remembered, is_remembered, forgotten}
 use Rattle.clock2q_queues.proofs.Entries.{slice_get-written, slice_get-written_other, length-written}
 use Rattle.clock2q_queues.proofs.Indexes.{IsIndex-kept, IsIndex-new, half_new}
 use Rattle.clock2q_cache.specs.Shares.{Shares, ghost_share}
 use Rattle.clock2q_cache.specs.Machine as cache
 use Rattle.clock2q_cache.specs.Machine.{Machine, stored, empty, vacancy, goes_to_main}
+use Rattle.clock2q_cache.specs.Entries.{SmallEntry}
 use Rattle.clock2q_cache.specs.Cache.{IsWhole}
-use Rattle.clock2q_cache.specs.CacheFields.{machine_of, places_of, with_keys_small, with_keys_main, IsStored, IsKept}
-use Rattle.clock2q_cache.proofs.WithKeys.{small-agree, main-agree, small-last}
+use Rattle.clock2q_cache.specs.CacheFields.{machine_of, places_of, with_keys_small, with_keys_main, IsStored, IsSized, IsKept}
+use Rattle.clock2q_cache.proofs.WithKeys.{small-agree, main-agree, small-last, small_with}
 use Rattle.clock2q_cache.proofs.Stored.{all-written, values-written, length-values, below-more}
-use Rattle.clock2q_cache.proofs.Kept.{small_have, length_in_small, sized-same}
+use Rattle.clock2q_cache.proofs.Kept.{small_have, length_in_small, length_in_main, sized-same, vacancy-here}
 use Rattle.clock2q_cache.proofs.Whole.{whole-forgotten, all_resident, small_share}
 use Rattle.clock2q_cache.proofs.Lasting.{whole-changed, lasting-empty}
 

@@ -1,20 +1,21 @@
 -- What a look-up through the index finds is the machine's slot of the key, and what a hit there makes of the machine.
-use Rattle.std.proofs.Common.{◌≡◌, ℕ, zero, suc, ◌+◌, ◌<◌, ◌≤◌, ◌⊎◌, Bool, true, false, ◌||◌, cond, eqb, Option, Some, None, slice_get, List, [], ◌∷◌, ◌++◌, map, length, inl, inr, refl, sym, ap, ◌∙◌, subst, arith, eqb-true}
-use Rattle.std.specs.Prelude.{IfSome}
+use Rattle.std.proofs.Common.{◌≡◌, ℕ, zero, suc, ◌+◌, ◌-◌, ◌*◌, ◌^◌, ◌<◌, ◌≤◌, ◌==◌, ◌⊎◌, Bool, true, false, not, ◌||◌, cond, eqb, Option, Some, None, slice_get, List, [], ◌∷◌, ◌++◌, map, length, take, drop, reverse, inl, inr, refl, sym, ap, ◌∙◌, subst, arith, eqb-true, eq-eqb, ne_eqb, length-append}
+use Rattle.std.specs.Prelude.{if◌then◌else◌, nat_lt, is_some, slice_set, IfSome}
 use Rattle.std.specs.Cmp.{IsEquivalence}
 use Rattle.std.specs.Option.{option_map}
-use Rattle.std.specs.List.{count_by, find, list_any, cons_option, AllByRecursion}
+use Rattle.std.specs.List.{count_by, find, list_any, last_or, cons_option, AllByRecursion}
 use Rattle.std.proofs.lemmas.Bool.{cases_Bool, both_ways, or_cases}
-use Rattle.std.proofs.lemmas.List.Sums.{sum_by-cons}
+use Rattle.std.proofs.lemmas.List.Sums.{sum_by-cons, sum_by-append}
+use Rattle.std.proofs.Math.ListN.{length-set}
 use Rattle.clock2q_handles.specs.Homes.{candidates}
-use Rattle.clock2q_queues.specs.Ages.{Age}
+use Rattle.clock2q_queues.specs.Ages.{Age, is_promoted}
 use Rattle.clock2q_queues.specs.declared.keys.cells.Entry.{Entry}
-use Rattle.clock2q_queues.specs.Rings.{has}
-use Rattle.clock2q_queues.specs.Keys.{KeyPlaces, key_at, hashed_at, entries_of, is_key_at}
-use Rattle.clock2q_queues.specs.Indexes.{AllDistinct, HasHash}
+use Rattle.clock2q_queues.specs.Rings.{has, AllApart, AllBelow}
+use Rattle.clock2q_queues.specs.Keys.{KeyPlaces, entry, hash_at, key_at, hashed_at, value_at, entries_of, is_key_at, with_value}
+use Rattle.clock2q_queues.specs.Indexes.{IsIndex, AllDistinct, HasHash, has_key}
 use Rattle.clock2q_queues.specs.Small.{small_hit_at}
 use Rattle.clock2q_queues.specs.MainRing.{main_hit_at}
-use Rattle.clock2q_queues.specs.Queues.{QueueState, slots_of}
+use Rattle.clock2q_queues.specs.Queues.{QueueState, slots_of, tail_promoted}
 use Rattle.clock2q_queues.specs.History.{Remembered}
 use Rattle.clock2q_queues.proofs.Rings.{has-append, has_first, has_later, below_of}
 use Rattle.clock2q_queues.proofs.Indexes.{candidate_there}
@@ -23,11 +24,12 @@ use Rattle.clock2q_queues.proofs.Lookups.{look-up, found_there}
 use Rattle.clock2q_cache.specs.Shares.{Shares}
 use Rattle.clock2q_cache.specs.Entries as machine
 use Rattle.clock2q_cache.specs.Entries.{SmallEntry, MainEntry}
-use Rattle.clock2q_cache.specs.Machine.{Machine, slot_of, hit}
+use Rattle.clock2q_cache.specs.Machine.{Machine, residents, slot_of, hit, stored}
 use Rattle.clock2q_cache.specs.Cache.{IsWhole, known_count}
-use Rattle.clock2q_cache.specs.CacheFields.{machine_of, places_of, with_keys_small, with_keys_main, IsStored, IsKept}
+use Rattle.clock2q_cache.specs.CacheFields.{machine_of, places_of, with_keys_small, with_keys_main, IsStored, IsSized, IsKept}
 use Rattle.clock2q_cache.proofs.WithKeys.{HaveKeys, have_later, small_with, main_with, small-cons, main-cons, small-hit, main-hit}
-use Rattle.clock2q_cache.proofs.Stored.{length-values}
+use Rattle.clock2q_cache.proofs.Stored.{entry_there, length-values}
+use Rattle.clock2q_cache.proofs.Slots.{length-places}
 use Rattle.clock2q_cache.proofs.Kept.{small_have, main_have, sized-same}
 use Rattle.clock2q_cache.proofs.Whole.{whole-hit}
 

@@ -1,26 +1,28 @@
 -- What holds of a cache's fields goes on to hold after each change of the layers, and the machine becomes what it should.
-use Rattle.std.proofs.Common.{◌≡◌, ℕ, ◌+◌, ◌^◌, ◌<◌, ◌==◌, Bool, true, false, ◌||◌, eqb, Some, None, List, [], ◌∷◌, ◌++◌, length, drop, reverse, refl, sym, ap, ◌∙◌, subst, arith, ne_eqb, length-append}
-use Rattle.std.specs.Prelude.{if◌then◌else◌, is_some}
+use Rattle.std.proofs.Common.{◌≡◌, ℕ, zero, suc, ◌+◌, ◌-◌, ◌*◌, ◌^◌, ◌<◌, ◌≤◌, ◌==◌, Bool, true, false, not, ◌||◌, cond, eqb, Option, Some, None, List, [], ◌∷◌, ◌++◌, map, length, take, drop, reverse, inl, inr, refl, sym, ap, ◌∙◌, subst, arith, eqb-true, eq-eqb, ne_eqb, length-append}
+use Rattle.std.specs.Prelude.{if◌then◌else◌, nat_lt, is_some, slice_get, slice_set}
 use Rattle.std.specs.Cmp.{IsEquivalence}
-use Rattle.std.specs.List.{last_or, AllByRecursion}
-use Rattle.clock2q_handles.specs.Homes.{total, capacity, inserted}
-use Rattle.clock2q_queues.specs.Ages.{Age}
+use Rattle.std.specs.List.{filter, find, last_or, AllByRecursion}
+use Rattle.std.proofs.lemmas.Bool.{cases_Bool, cases_lt, both_ways, lt-ltb, le-ltb}
+use Rattle.clock2q_handles.specs.Homes.{total, capacity, inserted, removed}
+use Rattle.clock2q_queues.specs.Ages.{Age, is_promoted}
 use Rattle.clock2q_queues.specs.declared.keys.cells.Entry.{Entry}
 use Rattle.clock2q_queues.specs.Rings.{has, AllApart}
-use Rattle.clock2q_queues.specs.Keys.{KeyPlaces, entry, written, key_at}
+use Rattle.clock2q_queues.specs.Keys.{KeyPlaces, entry, written, hash_at, key_at}
 use Rattle.clock2q_queues.specs.Small.{admitted}
+use Rattle.clock2q_queues.specs.MainRing.{from_victim}
 use Rattle.clock2q_queues.specs.Queues.{QueueState, slots_of}
 use Rattle.clock2q_queues.specs.History.{Remembered}
 use Rattle.clock2q_queues.proofs.Rings.{has-append, or_parts}
-use Rattle.clock2q_queues.proofs.Indexes.{length-put}
-use Rattle.clock2q_cache.specs.Shares.{Shares, main_share}
+use Rattle.clock2q_queues.proofs.Indexes.{length-put, length-taken}
+use Rattle.clock2q_cache.specs.Shares.{Shares, main_share, ghost_share}
 use Rattle.clock2q_cache.specs.Entries as machine
-use Rattle.clock2q_cache.specs.Machine.{Machine, Placement, vacancy, vacant_slot, into_main, into_small, into_small_at, joining_main, replacing_victim, stored}
+use Rattle.clock2q_cache.specs.Machine.{Machine, Placement, vacancy, vacant_slot, into_main, into_small, into_small_at, joining_main, replacing_victim, evicting_tail, promoting_tail, stored}
 use Rattle.clock2q_cache.specs.Cache.{IsWhole, known_count}
 use Rattle.clock2q_cache.specs.CacheFields.{machine_of, places_of, with_keys_small, with_keys_main, IsStored, IsSized, IsKept}
 use Rattle.clock2q_cache.proofs.WithKeys.{HaveKeys, small-admitted, main-behind, small-agree, main-agree, length-small, length-main}
-use Rattle.clock2q_cache.proofs.Stored.{stored-entered, stored-same, key_at-own, key_at-others, values-written}
-use Rattle.clock2q_cache.proofs.Slots.{IsVacant, vacant, vacancy-taken, vacancy-there, places_apart, small_keys, main_keys, length-places, has-appended}
+use Rattle.clock2q_cache.proofs.Stored.{stored-entered, stored-renewed, stored-same, key_at-own, key_at-others, values-written, length-values}
+use Rattle.clock2q_cache.proofs.Slots.{IsVacant, vacant, vacancy-taken, vacancy-there, places_apart, small_keys, main_keys, length-places, has-appended, has-from_victim, length-swept}
 use Rattle.clock2q_cache.proofs.Whole.{IsPlaced, whole-stored, placed-admitted, placed-joining}
 
 or_turned : (a b c : Bool) → (a || (b || (c || false))) ≡ (c || (a || b))

@@ -1,11 +1,11 @@
 -- A key that takes the slot of another: Main's victim's, or that of Small's tail.
-use Rattle.std.proofs.Common.{◌≡◌, ℕ, zero, suc, ◌+◌, ◌-◌, ◌^◌, ◌<◌, ◌≤◌, ◌==◌, Bool, true, false, ◌||◌, cond, eqb, Option, Some, None, List, [], ◌∷◌, ◌++◌, map, length, take, drop, inl, inr, refl, sym, ap, ◌∙◌, subst, arith, eq-eqb, length-append}
-use Rattle.std.specs.Prelude.{if◌then◌else◌, slice_get, IfSome}
+use Rattle.std.proofs.Common.{◌≡◌, ℕ, zero, suc, ◌+◌, ◌-◌, ◌*◌, ◌^◌, ◌<◌, ◌≤◌, ◌==◌, Bool, true, false, not, ◌||◌, cond, eqb, Option, Some, None, List, [], ◌∷◌, ◌++◌, map, length, take, drop, reverse, inl, inr, refl, sym, ap, ◌∙◌, subst, arith, eqb-true, eq-eqb, ne_eqb, length-append}
+use Rattle.std.specs.Prelude.{if◌then◌else◌, nat_lt, is_some, slice_get, slice_set, IfSome}
 use Rattle.std.specs.Cmp.{IsEquivalence}
 use Rattle.std.specs.List.{count_by, list_any, last_or, AllByRecursion}
-use Rattle.std.proofs.lemmas.Bool.{cases_Bool}
+use Rattle.std.proofs.lemmas.Bool.{cases_Bool, both_ways}
 use Rattle.std.proofs.lemmas.List.Sums.{sum_by-cons, sum_by-append}
-use Rattle.clock2q_handles.specs.Homes.{capacity, inserted, removed}
+use Rattle.clock2q_handles.specs.Homes.{total, capacity, inserted, removed}
 use Rattle.clock2q_queues.specs.Ages.{Age, is_promoted}
 use Rattle.clock2q_queues.specs.declared.keys.cells.Entry.{Entry}
 use Rattle.clock2q_queues.specs.Rings.{has, AllApart}
@@ -21,11 +21,11 @@ use Rattle.clock2q_cache.specs.Shares.{Shares, main_share, ghost_share}
 use Rattle.clock2q_cache.specs.Entries as machine
 use Rattle.clock2q_cache.specs.Entries.{SmallEntry, MainEntry}
 use Rattle.clock2q_cache.specs.Machine.{Machine, Placement, vacancy, into_main, into_small, into_small_at, joining_main, replacing_victim, evicting_tail, promoting_tail, stored}
-use Rattle.clock2q_cache.specs.Cache.{known_count}
-use Rattle.clock2q_cache.specs.CacheFields.{machine_of, places_of, with_keys_small, with_keys_main, IsStored, IsKept}
-use Rattle.clock2q_cache.proofs.WithKeys.{main-cons, small-admitted, main-behind, small-agree, main-agree, small-take, small-last, main-from_victim}
+use Rattle.clock2q_cache.specs.Cache.{IsWhole, known_count}
+use Rattle.clock2q_cache.specs.CacheFields.{machine_of, places_of, with_keys_small, with_keys_main, IsStored, IsSized, IsKept}
+use Rattle.clock2q_cache.proofs.WithKeys.{HaveKeys, small_with, main_with, main-cons, small-admitted, main-behind, small-agree, main-agree, small-take, small-last, length-small, length-main, main-from_victim}
 use Rattle.clock2q_cache.proofs.Stored.{stored-renewed, stored-same, key_at-own, key_at-others, values-written, length-values}
-use Rattle.clock2q_cache.proofs.Slots.{times, times-cons, times-none, at_most_once, length-places, has-appended, has-from_victim, length-swept}
+use Rattle.clock2q_cache.proofs.Slots.{times, times-cons, times-none, times-some, at_most_once, length-places, has-appended, has-from_victim, length-swept}
 use Rattle.clock2q_cache.proofs.Kept.{length_in_small, length_in_main, small_have, main_have, apart, index_some, IsDone, kept-placed, sized-same}
 use Rattle.clock2q_cache.proofs.Whole.{IsPlaced, placed-replacing, placed-evicting, placed-promoting}
 use Rattle.clock2q_cache.proofs.Weights.{weight-last}

@@ -1,15 +1,17 @@
 -- How often a slot stands in a cache's queues, and which slots are apart.
-use Rattle.std.proofs.Common.{◌≡◌, ℕ, zero, suc, ◌+◌, ◌<◌, ◌≤◌, ◌==◌, Bool, true, false, ◌||◌, cond, eqb, Option, Some, None, List, [], ◌∷◌, ◌++◌, map, length, take, drop, reverse, inl, inr, refl, sym, ap, ◌∙◌, subst, arith, eqb-true, eq-eqb, length-append}
+use Rattle.std.proofs.Common.{◌≡◌, ℕ, zero, suc, ◌+◌, ◌-◌, ◌<◌, ◌≤◌, ◌==◌, Bool, true, false, not, ◌||◌, cond, eqb, Option, Some, None, List, [], ◌∷◌, ◌++◌, map, length, take, drop, reverse, inl, inr, refl, sym, ap, ◌∙◌, subst, arith, eqb-true, eq-eqb, ne_eqb, length-append}
 use Rattle.std.specs.Prelude.{if◌then◌else◌, nat_lt, is_some}
-use Rattle.std.specs.List.{count_by}
+use Rattle.std.specs.List.{count_by, last_or}
 use Rattle.std.proofs.lemmas.Bool.{cases_Bool, cases_lt, both_ways, lt-ltb, le-ltb}
+use Rattle.std.proofs.lemmas.List.{length-reverse}
 use Rattle.std.proofs.lemmas.List.Sums.{sum_by-cons, sum_by-append}
+use Rattle.clock2q_queues.specs.Ages.{Age}
 use Rattle.clock2q_queues.specs.declared.keys.cells.Entry.{Entry}
-use Rattle.clock2q_queues.specs.Rings.{has, AllApart}
+use Rattle.clock2q_queues.specs.Rings.{has, AllApart, AllBelow}
 use Rattle.clock2q_queues.specs.Keys.{key_at}
 use Rattle.clock2q_queues.specs.MainRing.{passed, from_victim}
 use Rattle.clock2q_queues.specs.Queues.{QueueState, slots_of}
-use Rattle.clock2q_queues.proofs.Rings.{has-append, eqb_self}
+use Rattle.clock2q_queues.proofs.Rings.{has-append, has_first, has_later, eqb_self}
 use Rattle.clock2q_cache.specs.Shares.{Shares}
 use Rattle.clock2q_cache.specs.Machine.{Machine, vacancy, vacant_slot}
 use Rattle.clock2q_cache.specs.Cache.{IsWhole, standings}

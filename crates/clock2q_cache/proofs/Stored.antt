@@ -1,17 +1,17 @@
 -- The keys by slot and their index: what becomes of them where a key enters or one is replaced.
-use Rattle.std.proofs.Common.{◌≡◌, ℕ, zero, suc, ◌+◌, ◌^◌, ◌<◌, ◌≤◌, Bool, true, false, not, ◌&&◌, eqb, Some, None, slice_get, List, [], ◌∷◌, ◌++◌, map, length, inl, inr, refl, sym, ap, ◌∙◌, subst, arith, eqb-true}
+use Rattle.std.proofs.Common.{◌≡◌, ℕ, zero, suc, ◌+◌, ◌-◌, ◌^◌, ◌<◌, ◌≤◌, ◌==◌, Bool, true, false, not, ◌||◌, ◌&&◌, cond, eqb, max, Option, Some, None, slice_get, List, [], ◌∷◌, ◌++◌, map, length, take, drop, inl, inr, refl, sym, ap, ◌∙◌, subst, arith, eqb-true, length-append}
 use Rattle.std.specs.Prelude.{if◌then◌else◌, nat_lt, slice_set}
 use Rattle.std.specs.List.{AllByRecursion}
 use Rattle.std.proofs.lemmas.Bool.{cases_Bool, cases_lt, both_ways, lt-ltb, le-ltb}
-use Rattle.clock2q_handles.specs.Homes.{total, capacity, inserted, removed}
+use Rattle.clock2q_handles.specs.Homes.{candidates, total, capacity, inserted, removed}
 use Rattle.clock2q_queues.specs.declared.keys.cells.Entry.{Entry}
 use Rattle.clock2q_queues.specs.Rings.{has, without, AllApart, AllBelow}
-use Rattle.clock2q_queues.specs.Keys.{entry, written, hash_at, key_at}
+use Rattle.clock2q_queues.specs.Keys.{entry, written, hash_at, key_at, value_at}
 use Rattle.clock2q_queues.specs.Indexes.{IsIndex, is_named}
-use Rattle.clock2q_queues.proofs.Rings.{has_first, has_later, eqb_self, below_of}
+use Rattle.clock2q_queues.proofs.Rings.{has_first, has_later, has-append, eqb_self, below_of, differs}
 use Rattle.clock2q_queues.proofs.Joining.{length-without}
 use Rattle.clock2q_queues.proofs.Entries.{slice_get-written, slice_get-written_other, length-written}
-use Rattle.clock2q_queues.proofs.Indexes.{IsIndex-put, IsIndex-taken, has-without_test, length-taken}
+use Rattle.clock2q_queues.proofs.Indexes.{IsIndex-put, IsIndex-taken, has-without_test, length-put, length-taken}
 use Rattle.clock2q_cache.specs.CacheFields.{IsStored}
 use Rattle.clock2q_cache.proofs.WithKeys.{HaveKeys}
 

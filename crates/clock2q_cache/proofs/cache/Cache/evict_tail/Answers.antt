@@ -1,17 +1,18 @@
 -- The tail's key goes into the history, and its slot to the new key.
-use Rattle.std.proofs.Common.{◌≡◌, false, ap, sym, ◌∙◌, subst, arith}
+use Rattle.std.proofs.Common.{◌≡◌, ◌+◌, ◌-◌, ◌<◌, ◌++◌, ◌∷◌, [], true, false, length, take, drop, Some, None, ap, sym, ◌∙◌, subst, arith}
 use Rattle.std.specs.List.{AllByRecursion}
 use Rattle.clock2q_queues.specs.Rings.{has}
 use Rattle.clock2q_queues.specs.Small.{admitted}
+use Rattle.clock2q_queues.specs.MainRing.{from_victim}
 use Rattle.clock2q_queues.specs.Queues.{QueueState, slots_of}
 use Rattle.clock2q_queues.specs.Keys.{KeyPlaces}
-use Rattle.clock2q_queues.specs.History.{Remembered}
+use Rattle.clock2q_queues.specs.History.{Remembered, is_remembered}
 use Rattle.clock2q_cache.specs.Hashes.{hash_of}
-use Rattle.clock2q_cache.specs.Machine.{into_small, stored}
+use Rattle.clock2q_cache.specs.Machine.{into_main, into_small, stored}
 use Rattle.clock2q_cache.specs.CacheState.{CacheState}
-use Rattle.clock2q_cache.proofs.Kept.{length_in_small}
+use Rattle.clock2q_cache.proofs.Kept.{IsDone, length_in_small, length_in_main}
 use Rattle.clock2q_cache.proofs.Stored.{hash-of-key}
-use Rattle.clock2q_cache.proofs.Renewed.{resident-there, slot-below, no-tail, all-taken, tail-in, tail-not_in_front, tail-not_in_main, tail-unremembered, evicted-done}
+use Rattle.clock2q_cache.proofs.Renewed.{resident-there, slot-below, no-tail, all-taken, front, tail-in, tail-not_in_front, tail-not_in_main, tail-unremembered, evicted-done}
 use Rattle.clock2q_cache.proofs.cache.Cache.evict_tail.Goals as goal
 
 pub unreachable-requires : goal.unreachable-requires

@@ -1,5 +1,5 @@
 -- The key's history is erased.
-use Rattle.std.proofs.Common.{ap, sym, ◌∙◌}
+use Rattle.std.proofs.Common.{◌≡◌, ap, sym, ◌∙◌}
 use Rattle.std.specs.List.{list_any}
 use Rattle.clock2q_queues.specs.History.{Remembered}
 use Rattle.clock2q_cache.specs.Hashes.{hash_of}

@@ -1,11 +1,14 @@
 -- The new key's slot is the vacancy.
-use Rattle.std.proofs.Common.{ap, sym, ◌∙◌, arith}
+use Rattle.std.proofs.Common.{◌≡◌, ◌+◌, ◌<◌, length, true, Some, ap, sym, ◌∙◌, subst, arith}
+use Rattle.std.specs.Prelude.{is_some}
 use Rattle.clock2q_queues.specs.Keys.{KeyPlaces}
+use Rattle.clock2q_cache.specs.Shares.{main_share}
 use Rattle.clock2q_queues.specs.Queues.{QueueState}
 use Rattle.clock2q_cache.specs.Hashes.{hash_of}
-use Rattle.clock2q_cache.specs.Machine.{into_small, stored}
+use Rattle.clock2q_cache.specs.Machine.{vacancy, into_small, stored}
 use Rattle.clock2q_cache.specs.CacheState.{CacheState}
-use Rattle.clock2q_cache.proofs.Kept.{few-small, index_room, index_few, taken-here, vacant-slot, vacant-apart, small-done}
+use Rattle.clock2q_cache.specs.CacheFields.{machine_of}
+use Rattle.clock2q_cache.proofs.Kept.{few-small, index_room, index_few, taken-here, vacancy-here, vacant-slot, vacant-apart, IsDone, small-done}
 use Rattle.clock2q_cache.proofs.cache.Cache.join_small.Goals as goal
 
 pub enter-requires-clause-next : goal.enter-requires-clause-next

@@ -1,5 +1,5 @@
 -- The tail goes on to Main, and the slot of Main's victim to the new key.
-use Rattle.std.proofs.Common.{◌≡◌, ◌-◌, ◌++◌, ◌∷◌, [], false, length, take, None, ap, sym, ◌∙◌, subst, arith}
+use Rattle.std.proofs.Common.{◌≡◌, ◌+◌, ◌-◌, ◌<◌, ◌++◌, ◌∷◌, [], true, false, length, take, drop, Some, None, ap, sym, ◌∙◌, subst, arith}
 use Rattle.std.specs.List.{last_or}
 use Rattle.clock2q_queues.specs.Rings.{has}
 use Rattle.clock2q_queues.specs.Small.{admitted}
@@ -10,7 +10,7 @@ use Rattle.clock2q_cache.specs.Hashes.{hash_of}
 use Rattle.clock2q_cache.specs.Machine.{into_small, stored}
 use Rattle.clock2q_cache.specs.CacheState.{CacheState}
 use Rattle.clock2q_cache.proofs.Kept.{length_in_small}
-use Rattle.clock2q_cache.proofs.Renewed.{resident-there, slot-below, no-tail, victim-in, victim-not_in_front, victim-not_behind, tail-in, tail-not_in_front, tail-not_in_rest, promoted-done}
+use Rattle.clock2q_cache.proofs.Renewed.{resident-there, slot-below, no-tail, rest, victim-in, victim-not_in_front, victim-not_behind, tail-in, tail-not_in_front, tail-not_in_rest, promoted-done}
 use Rattle.clock2q_cache.proofs.cache.Cache.promote_tail.Goals as goal
 
 pub unreachable-requires : goal.unreachable-requires

@@ -1,12 +1,16 @@
 -- The key goes to the end of Main, at the victim's slot.
-use Rattle.std.proofs.Common.{◌≡◌, ◌++◌, ◌∷◌, [], false, ap, sym, ◌∙◌, subst, arith}
+use Rattle.std.proofs.Common.{◌≡◌, ◌+◌, ◌-◌, ◌<◌, ◌++◌, ◌∷◌, [], true, false, length, take, drop, Some, None, ap, sym, ◌∙◌, subst, arith}
 use Rattle.clock2q_queues.specs.Rings.{has}
+use Rattle.clock2q_queues.specs.Small.{admitted}
+use Rattle.clock2q_queues.specs.MainRing.{from_victim}
 use Rattle.clock2q_queues.specs.Queues.{QueueState, slots_of}
 use Rattle.clock2q_queues.specs.Keys.{KeyPlaces}
+use Rattle.clock2q_queues.specs.History.{Remembered, is_remembered}
 use Rattle.clock2q_cache.specs.Hashes.{hash_of}
-use Rattle.clock2q_cache.specs.Machine.{into_main, stored}
+use Rattle.clock2q_cache.specs.Machine.{into_main, into_small, stored}
 use Rattle.clock2q_cache.specs.CacheState.{CacheState}
-use Rattle.clock2q_cache.proofs.Renewed.{resident-there, slot-below, victim-in, victim-not_in_rest, victim-not_in_small, replaced-done}
+use Rattle.clock2q_cache.proofs.Kept.{IsDone, length_in_small, length_in_main}
+use Rattle.clock2q_cache.proofs.Renewed.{resident-there, slot-below, victim-in, rest, victim-not_in_rest, victim-not_in_small, replaced-done}
 use Rattle.clock2q_cache.proofs.cache.Cache.replace_victim.Goals as goal
 
 pub renew-requires-clause-resident : goal.renew-requires-clause-resident

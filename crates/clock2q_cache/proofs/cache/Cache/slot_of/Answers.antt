@@ -1,7 +1,8 @@
 -- What the look-up through the index finds is the slot of the resident.
-use Rattle.std.proofs.Common.{◌<◌, length, ap, sym, ◌∙◌, subst}
+use Rattle.std.proofs.Common.{◌≡◌, ◌<◌, length, ap, sym, ◌∙◌, subst}
+use Rattle.std.specs.Prelude.{IfSome}
 use Rattle.std.specs.List.{find, AllByRecursion}
-use Rattle.clock2q_queues.specs.Keys.{is_key_at}
+use Rattle.clock2q_queues.specs.Keys.{KeyPlaces, is_key_at}
 use Rattle.clock2q_cache.specs.Hashes.{hash_of}
 use Rattle.clock2q_cache.specs.CacheState.{CacheState}
 use Rattle.clock2q_cache.specs.Machine.{slot_of}

@@ -1,4 +1,5 @@
 -- The tail's age is that of the machine's tail.
+use Rattle.std.proofs.Common.{◌<◌, length, sym}
 use Rattle.clock2q_cache.proofs.Changed.{tail-tells}
 use Rattle.clock2q_cache.proofs.cache.Cache.tail_is_promoted.Goals as goal
 

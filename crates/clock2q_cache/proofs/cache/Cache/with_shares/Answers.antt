@@ -1,5 +1,5 @@
 -- Nothing is resident, remembered or free, and the layers are as large as the shares say.
-use Rattle.std.proofs.Common.{◌≡◌, ap, ◌∙◌, arith, inl, inr}
+use Rattle.std.proofs.Common.{◌≡◌, ◌<◌, ◌≤◌, List, ap, sym, ◌∙◌, arith, inl, inr}
 use Rattle.std.specs.Prelude.{vec_capacity}
 use Rattle.std.proofs.lemmas.Bool.{cases_lt}
 use Rattle.clock2q_handles.specs.TableStep.{TableValue, made_for}
