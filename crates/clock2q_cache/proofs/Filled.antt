@@ -1,13 +1,10 @@
 -- Slots that were never made are made and free.
-use Rattle.std.proofs.Common.{◌≡◌, ℕ, zero, suc, ◌+◌, ◌-◌, ◌*◌, ◌<◌, ◌≤◌, ◌==◌, Bool, true, false, ◌&&◌, ◌||◌, eqb, Option, Some, None, slice_get, List, [], ◌∷◌, ◌++◌, map, length, reverse, inl, inr, refl, sym, ap, ◌∙◌, subst, arith, length-append}
-use Rattle.std.specs.Prelude.{if◌then◌else◌, nat_lt}
+use Rattle.std.proofs.Common.{◌≡◌, ℕ, zero, suc, ◌+◌, ◌-◌, ◌<◌, Bool, true, false, ◌&&◌, ◌||◌, Some, None, slice_get, List, [], ◌∷◌, ◌++◌, map, length, reverse, inl, inr, refl, sym, ap, ◌∙◌, subst, arith, length-append}
 use Rattle.std.specs.Cmp.{IsEquivalence}
 use Rattle.std.specs.Fn.{Mut, Called}
 use Rattle.std.specs.List.{FoldsTo, AllByRecursion, range_with_len}
 use Rattle.std.proofs.lemmas.Bool.{cases_Bool}
 use Rattle.std.proofs.lemmas.List.{append-nil, append_assoc, map-append, reverse-append, reverse-reverse}
-use Rattle.clock2q_handles.specs.Homes.{candidates}
-use Rattle.clock2q_queues.specs.Ages.{Age}
 use Rattle.clock2q_queues.specs.declared.keys.cells.Entry.{Entry}
 use Rattle.clock2q_queues.specs.Rings.{has, AllBelow}
 use Rattle.clock2q_queues.specs.Indexes.{IsIndex, is_named, is_alike}
@@ -119,15 +116,15 @@ module _ {K V : Type 0} (eq : K → K → Bool) (laws : IsEquivalence eq) (hash 
   pub machine-prefilled : machine_of shares q keys'.entries h.entries free' ≡ prefilled made m
   machine-prefilled =
       let s : with_keys_small (key_at keys'.entries) q.small ≡ m.small =
-          ap (λ z. with_keys_small (key_at z) q.small) is ∙ small-agree (key_at keys.entries) (key_at (keys.entries ++ added)) q.small (λ t g. key-before keys.entries added t (in_small t g)) in
+      ap (λ z. with_keys_small (key_at z) q.small) is ∙ small-agree (key_at keys.entries) (key_at (keys.entries ++ added)) q.small (λ t g. key-before keys.entries added t (in_small t g)) in
       let t : with_keys_main (key_at keys'.entries) q.main ≡ m.main =
-          ap (λ z. with_keys_main (key_at z) q.main) is ∙ main-agree (key_at keys.entries) (key_at (keys.entries ++ added)) q.main (λ t g. key-before keys.entries added t (in_main t g)) in
+      ap (λ z. with_keys_main (key_at z) q.main) is ∙ main-agree (key_at keys.entries) (key_at (keys.entries ++ added)) q.main (λ t g. key-before keys.entries added t (in_main t g)) in
       let v : map (λ (e : Entry K V). e.value) keys'.entries ≡ m.values ++ made = ap (λ z. map (λ (e : Entry K V). e.value) z) is ∙ map-append (λ (e : Entry K V). e.value) keys.entries added in
       let n : shares.capacity - length keys.entries ≡ length made = omega (arith, as_many, length-values added) in
       let f : reverse free' ≡ range_with_len (length m.values) (length made) ++ reverse free =
-          ap (λ z. reverse z) freed ∙ reverse-append free (reverse (range_with_len (length keys.entries) (shares.capacity - length keys.entries)))
-          ∙ ap (λ z. z ++ reverse free) (reverse-reverse (range_with_len (length keys.entries) (shares.capacity - length keys.entries)))
-          ∙ ap (λ z. range_with_len (length keys.entries) z ++ reverse free) n ∙ ap (λ z. range_with_len z (length made) ++ reverse free) (sym (length-values keys.entries)) in
+      ap (λ z. reverse z) freed ∙ reverse-append free (reverse (range_with_len (length keys.entries) (shares.capacity - length keys.entries)))
+      ∙ ap (λ z. z ++ reverse free) (reverse-reverse (range_with_len (length keys.entries) (shares.capacity - length keys.entries)))
+      ∙ ap (λ z. range_with_len (length keys.entries) z ++ reverse free) n ∙ ap (λ z. range_with_len z (length made) ++ reverse free) (sym (length-values keys.entries)) in
       cc
 
   pub kept-prefilled : AllByRecursion (λ e. e.hash ≡ hash e.key) added → keys'.room ≡ keys.room → room' ≡ room → IsKept eq hash shares q h index keys' free' room'

@@ -1,9 +1,9 @@
 -- The residents of the first slots were asked, and those that were refused left: one slot more, until all were asked.
-use Rattle.std.proofs.Common.{◌≡◌, ℕ, zero, suc, ◌+◌, ◌<◌, ◌≤◌, ◌==◌, Bool, true, false, not, cond, eqb, Option, Some, None, List, [], ◌∷◌, ◌++◌, map, length, inl, inr, refl, sym, ap, ◌∙◌, subst, arith, eqb-true, ne_eqb, length-append}
-use Rattle.std.specs.Prelude.{if◌then◌else◌, slice_get}
+use Rattle.std.proofs.Common.{◌≡◌, ℕ, zero, suc, ◌+◌, ◌≤◌, ◌==◌, Bool, true, false, not, cond, eqb, Option, Some, None, List, [], ◌∷◌, ◌++◌, map, length, inl, inr, refl, sym, ap, ◌∙◌, subst, arith, eqb-true, ne_eqb, length-append}
+use Rattle.std.specs.Prelude.{slice_get}
 use Rattle.std.specs.Borrow.{Bor}
 use Rattle.std.specs.Fn.{Mut, Called}
-use Rattle.std.specs.List.{filter, filter_map, cons_option, find, fold, range_with_len}
+use Rattle.std.specs.List.{filter, filter_map, cons_option, find, range_with_len}
 use Rattle.std.specs.List.Retain.{ReturnsInTurn}
 use Rattle.std.proofs.lemmas.Bool.{cases_Bool}
 use Rattle.std.proofs.lemmas.List.{append-nil, map-append}
@@ -11,7 +11,7 @@ use Rattle.std.proofs.lemmas.List.Elements.{filter_map-append}
 use Rattle.std.proofs.lemmas.List.Sums.{fold-append}
 use Rattle.clock2q_cache.specs.Closures.{AsksResident, Retains}
 use Rattle.clock2q_cache.specs.Entries.{SmallEntry, MainEntry}
-use Rattle.clock2q_cache.specs.Machine.{Machine, residents, resident_at, vacated, vacated_all}
+use Rattle.clock2q_cache.specs.Machine.{Machine, resident_at, vacated, vacated_all}
 use Rattle.clock2q_cache.specs.Steps.{refused_slots}
 
 range-last : (a n : ℕ) → range_with_len a (suc n) ≡ range_with_len a n ++ (a + n) ∷ []
@@ -94,8 +94,8 @@ module _ {F K V : Type 0} (g : Mut F (Bor K × (Bor V × Unit {0})) Bool) (f : F
     asked = returns-more (AsksResident g old.values) f h.bits rs f' b r last h.as_many h.asked asks;
     becomes = left b (refused_slots h.bits (map (λ r. r.1) rs)) h.becomes
         ∙ sym (ap (λ z. vacated_all z old)
-            (ap (λ z. refused_slots (h.bits ++ b ∷ []) z) (map-append (λ (r : K × ℕ). r.1) rs (r ∷ []))
-            ∙ refused-more h.bits (map (λ r. r.1) rs) b r.1 (h.as_many ∙ sym (length-slots rs))));
+        (ap (λ z. refused_slots (h.bits ++ b ∷ []) z) (map-append (λ (r : K × ℕ). r.1) rs (r ∷ []))
+        ∙ refused-more h.bits (map (λ r. r.1) rs) b r.1 (h.as_many ∙ sym (length-slots rs))));
   }
     where
       left : (b : Bool) (ss : List ℕ) → now ≡ vacated_all ss old → cond b now (vacated r.1 now) ≡ vacated_all (ss ++ cond b [] (r.1 ∷ [])) old

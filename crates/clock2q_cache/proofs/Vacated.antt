@@ -1,32 +1,30 @@
 -- Which slots have a resident, and what a cache's fields become where one of them leaves.
-use Rattle.std.proofs.Common.{◌≡◌, ℕ, zero, suc, ◌+◌, ◌<◌, ◌≤◌, ◌==◌, Bool, true, false, not, ◌||◌, cond, eqb, Option, Some, None, List, [], ◌∷◌, ◌++◌, map, length, reverse, inl, inr, refl, sym, ap, ◌∙◌, subst, arith, eqb-true, eq-eqb, length-append}
-use Rattle.std.specs.Prelude.{if◌then◌else◌, is_some, IsSome, nat_lt}
+use Rattle.std.proofs.Common.{◌≡◌, ℕ, ◌+◌, ◌<◌, ◌==◌, Bool, true, false, not, ◌||◌, cond, eqb, Option, Some, None, List, [], ◌∷◌, ◌++◌, map, length, reverse, inl, inr, refl, sym, ap, ◌∙◌, subst, arith, eqb-true, eq-eqb}
+use Rattle.std.specs.Prelude.{if◌then◌else◌, is_some, IsSome}
 use Rattle.std.specs.Cmp.{IsEquivalence}
 use Rattle.std.specs.Option.{option_map}
 use Rattle.std.specs.List.{filter, find, count_by}
 use Rattle.std.proofs.lemmas.Bool.{cases_Bool, both_ways}
-use Rattle.std.proofs.lemmas.List.{reverse-append, length-reverse}
 use Rattle.std.proofs.lemmas.List.Sums.{sum_by-append}
 use Rattle.clock2q_handles.specs.Homes.{removed}
 use Rattle.clock2q_queues.specs.Ages.{Age}
-use Rattle.clock2q_queues.specs.declared.keys.cells.Entry.{Entry}
 use Rattle.clock2q_queues.specs.declared.queues.Standing.{Standing}
 use Rattle.clock2q_queues.specs.declared.queues.Standing.TheVariants as standing
 use Rattle.clock2q_queues.specs.Rings.{has, without}
 use Rattle.clock2q_queues.specs.Keys.{KeyPlaces, hash_at, key_at}
 use Rattle.clock2q_queues.specs.Queues.{QueueState, slots_of, without_slot, IsStanding}
 use Rattle.clock2q_queues.specs.History.{Remembered}
-use Rattle.clock2q_queues.proofs.Rings.{has-append, has_first, has_later, eqb_swap, eqb_self, below_of}
+use Rattle.clock2q_queues.proofs.Rings.{has-append, has_first, eqb_swap, below_of}
 use Rattle.clock2q_queues.proofs.Indexes.{length-taken}
 use Rattle.clock2q_cache.specs.Shares.{Shares}
 use Rattle.clock2q_cache.specs.Entries.{SmallEntry, MainEntry}
 use Rattle.clock2q_cache.specs.Machine.{Machine, residents, resident_at, slot_of, vacated}
 use Rattle.clock2q_cache.specs.Cache.{IsWhole}
-use Rattle.clock2q_cache.specs.CacheFields.{machine_of, places_of, with_keys_small, with_keys_main, IsStored, IsSized, IsKept}
-use Rattle.clock2q_cache.proofs.WithKeys.{HaveKeys, have_later, small-cons, main-cons, small-standing, main-standing, length-small, length-main}
+use Rattle.clock2q_cache.specs.CacheFields.{machine_of, places_of, with_keys_small, with_keys_main, IsStored, IsKept}
+use Rattle.clock2q_cache.proofs.WithKeys.{HaveKeys, have_later, small-cons, main-cons, small-standing, main-standing}
 use Rattle.clock2q_cache.proofs.Stored.{stored-left, have_keys, length-values}
-use Rattle.clock2q_cache.proofs.Slots.{times, times-some, length-places}
-use Rattle.clock2q_cache.proofs.Kept.{small_have, main_have, length_in_small, length_in_main, apart, index_some, sized-same}
+use Rattle.clock2q_cache.proofs.Slots.{times-some}
+use Rattle.clock2q_cache.proofs.Kept.{small_have, main_have, apart, index_some, sized-same}
 use Rattle.clock2q_cache.proofs.Lasting.{whole-vacated}
 
 some_same : {X : Type 0} (x y : X) → Some x ≡ Some y → x ≡ y
@@ -63,7 +61,7 @@ module _ {K : Type 0} (key : ℕ → Option K) (t : ℕ) where
   -- the resident at a slot, among those of a queue and others
   small-at : (es : List (ℕ × Age)) (rs : List (K × ℕ)) → HaveKeys key (slots_of es)
       → find (λ (r : K × ℕ). r.1 == t) (map (λ (e : SmallEntry K). (e.key, e.slot)) (with_keys_small key es) ++ rs)
-        ≡ (if has t (slots_of es) then option_map (λ k. (k, t)) (key t) else find (λ (r : K × ℕ). r.1 == t) rs)
+      ≡ (if has t (slots_of es) then option_map (λ k. (k, t)) (key t) else find (λ (r : K × ℕ). r.1 == t) rs)
   small-at [] rs h = refl
   small-at (e ∷ es) rs h =
       let k = h e.0 (has_first e.0 (slots_of es)) in
@@ -173,18 +171,22 @@ module _ {K V : Type 0} (eq : K → K → Bool) (laws : IsEquivalence eq) (hash 
     resident-key k at = resident-at slot ∙ ap (λ b. if b then option_map (λ k. (k, slot)) (key_at keys.entries slot) else None) stands ∙ ap (λ z. option_map (λ (k : K). (k, slot)) z) at
 
     standing-counted : 0 < count_by (λ e. e.slot == slot) m.small + count_by (λ e. e.slot == slot) m.main
-    standing-counted = omega (arith, times-some slot (places_of q) stands, sum_by-append (λ s. cond (s == slot) 1 0) (slots_of q.small) (slots_of q.main),
-        small-standing (key_at keys.entries) slot q.small (small_have eq laws hash shares q h index keys free room kept), main-standing (key_at keys.entries) slot q.main (main_have eq laws hash shares q h index keys free room kept))
+    standing-counted = omega (
+      arith,
+      times-some slot (places_of q) stands,
+      sum_by-append (λ s. cond (s == slot) 1 0) (slots_of q.small) (slots_of q.main),
+      small-standing (key_at keys.entries) slot q.small (small_have eq laws hash shares q h index keys free room kept),
+      main-standing (key_at keys.entries) slot q.main (main_have eq laws hash shares q h index keys free room kept),
+    )
 
     -- the resident leaves
-    module _ (q' : QueueState) (index' : List (List (ℕ × ℕ))) (free' : List ℕ) (room' old : ℕ) (small : q'.small ≡ without_slot slot q.small) (main : q'.main ≡ without_slot slot q.main) (freed : free' ≡ free ++ slot ∷ []) where
+    module _ (q' : QueueState) (index' : List (List (ℕ × ℕ))) (free' : List ℕ) (room' old : ℕ) (small : q'.small ≡ without_slot slot q.small) (main : q'.main ≡ without_slot slot q.main) (freed : reverse free' ≡ slot ∷ reverse free) where
       pub vacated-machine : machine_of shares q' keys.entries h.entries free' ≡ vacated slot m
       vacated-machine =
           let s : with_keys_small (key_at keys.entries) q'.small ≡ filter (λ e. not (e.slot == slot)) m.small =
-              ap (λ z. with_keys_small (key_at keys.entries) z) small ∙ small-without (key_at keys.entries) slot q.small (small_have eq laws hash shares q h index keys free room kept) in
+          ap (λ z. with_keys_small (key_at keys.entries) z) small ∙ small-without (key_at keys.entries) slot q.small (small_have eq laws hash shares q h index keys free room kept) in
           let t : with_keys_main (key_at keys.entries) q'.main ≡ filter (λ e. not (e.slot == slot)) m.main =
-              ap (λ z. with_keys_main (key_at keys.entries) z) main ∙ main-without (key_at keys.entries) slot q.main (main_have eq laws hash shares q h index keys free room kept) in
-          let f : reverse free' ≡ slot ∷ reverse free = ap (λ z. reverse z) freed ∙ reverse-append free (slot ∷ []) in
+          ap (λ z. with_keys_main (key_at keys.entries) z) main ∙ main-without (key_at keys.entries) slot q.main (main_have eq laws hash shares q h index keys free room kept) in
           cc
 
       pub kept-vacated : hash_at keys.entries slot ≡ Some old → index' ≡ removed eqb index old slot → q'.slots ≡ q.slots → q'.window ≡ q.window → room' ≡ room → IsKept eq hash shares q' h index' keys free' room'

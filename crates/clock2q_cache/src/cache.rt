@@ -5,6 +5,8 @@ mod debug;
 mod filling;
 mod insertion;
 mod removal;
+#[cfg(test)]
+mod tests;
 
 use crate::error::CacheError;
 use crate::hashes::hash_of;

@@ -1,10 +1,10 @@
 //! The keys and values of the residents by slot, and the index that has each resident's slot under
 //! its key's hash.
-ghost use Rattle.std.specs.Prelude.{◌≡◌, ℕ, ◌+◌, ◌<◌, ◌≤◌, ◌^◌, ◌==◌, true, List, length, Some};
+ghost use Rattle.std.specs.Prelude.{◌≡◌, ℕ, ◌+◌, ◌<◌, ◌≤◌, ◌^◌, ◌==◌, true, List, [], length, Some};
 ghost use Rattle.clock2q_handles.specs.Homes.{total, capacity, inserted, removed};
 ghost use Rattle.clock2q_queues.specs.Rings.{has, AllApart};
 ghost use Rattle.clock2q_queues.specs.Keys.{entry, written, hash_at, key_at};
-ghost use Rattle.clock2q_queues.specs.Indexes.{IsIndex};
+ghost use Rattle.clock2q_queues.specs.Indexes.{IsIndex, Empties};
 
 use clock2q_handles::Table;
 use clock2q_queues::keys::Keys;
@@ -62,4 +62,17 @@ pub(crate) fn renew<K: Drop, V: Drop, A: Allocator>(
     keys.replace_value(slot, value);
     add(index, hash, slot);
     old
+}
+
+/// Removes every key, and its place from the index.
+pub(crate) fn empty<K: Drop, V: Drop, A: Allocator>(
+    index: &mut Table<u32, A>,
+    keys: &mut Keys<K, V, A>,
+)
+    requires countable { length keys.old.entries ≤ 2 ^ 32 }
+    ensures index { Empties index.old.homes index.new.homes keys.old.entries }
+    ensures keys { keys.new ≡ record keys.old { entries = [] } }
+{
+    keys.unindex(index);
+    keys.clear();
 }

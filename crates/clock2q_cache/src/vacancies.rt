@@ -1,5 +1,5 @@
 //! The free slots of a cache, and the slots that were never made.
-ghost use Rattle.std.specs.Prelude.{◌≡◌, ◌+◌, ◌<◌, ◌^◌, drop, reverse, Some, vec_capacity};
+ghost use Rattle.std.specs.Prelude.{◌≡◌, ◌∷◌, vec_len, ◌+◌, ◌<◌, ◌^◌, drop, reverse, Some, vec_capacity};
 ghost use Rattle.clock2q_cache.specs.Machine.{vacant_slot};
 
 use std::alloc::Allocator;
@@ -16,4 +16,13 @@ pub(crate) fn take_vacancy<A: Allocator>(free: &mut Vec<u32, A>, made: usize) ->
         Some(slot) => slot,
         None => made as u32,
     }
+}
+
+/// Puts a slot on top of the free ones.
+pub(crate) fn free_slot<A: Allocator>(free: &mut Vec<u32, A>, slot: u32)
+    requires room { vec_len free.old < vec_capacity free.old }
+    ensures top { reverse free.new.items ≡ slot ∷ reverse free.old.items }
+    ensures capacity { vec_capacity free.new ≡ vec_capacity free.old }
+{
+    free.push_reserved(slot);
 }

@@ -1,5 +1,6 @@
 //! A cache emptied, with all that it remembered.
 use crate::cache::Cache;
+use crate::index::empty;
 use std::alloc::Allocator;
 use std::hash::{BuildHasher, Hash};
 
@@ -13,10 +14,9 @@ impl<K: Hash + Eq + Drop, V: Drop, S: BuildHasher, A: Allocator> Cache<K, V, S, 
         ensures machine { self.new.machine ≡ cleared self.old.machine }
         ensures hasher { self.new.hasher ≡ self.old.hasher }
     {
-        self.keys.unindex(&mut self.index);
+        empty(&mut self.index, &mut self.keys);
         self.queues.clear();
         self.history.clear();
-        self.keys.clear();
         self.free.clear();
     }
 }

@@ -1,14 +1,15 @@
-//! The text of a cache.
+//! What a cache shows of itself.
 use crate::cache::Cache;
 use std::alloc::Allocator;
-use std::fmt;
+use std::fmt::{self, Debug, Formatter};
 use std::hash::{BuildHasher, Hash};
 
-impl<K: Hash + Eq, V, S: BuildHasher, A: Allocator> fmt::Debug for Cache<K, V, S, A> {
-    fn fmt<W: fmt::Write>(&self, f: &mut fmt::Formatter<W>) -> fmt::Result {
+/// Shows how many keys the cache and each of its lists hold, and how many each may hold.
+impl<K: Hash + Eq, V, S: BuildHasher, A: Allocator> Debug for Cache<K, V, S, A> {
+    fn fmt<W: fmt::Write>(&self, f: &mut Formatter<W>) -> fmt::Result {
         f.debug_struct("Cache")
             .field("len", &self.len())
-            .field("capacity", &self.shares.capacity())
+            .field("capacity", &self.capacity())
             .field("small", &self.queues.small_len())
             .field("small_capacity", &self.shares.small())
             .field("main", &self.queues.main_len())

@@ -65,14 +65,7 @@ impl<K: Hash + Eq + Drop, V: Drop, S: BuildHasher, A: Allocator> Cache<K, V, S, 
         ensures { self.new.machine ≡ (let p = into_main key self.old.machine in stored p.slot value p.machine) }
     {
         let victim = self.queues.take_victim();
-        renew(
-            &mut self.index,
-            &mut self.keys,
-            victim,
-            hash,
-            key,
-            value,
-        );
+        renew(&mut self.index, &mut self.keys, victim, hash, key, value);
         self.queues.append(victim);
     }
 
@@ -139,14 +132,7 @@ impl<K: Hash + Eq + Drop, V: Drop, S: BuildHasher, A: Allocator> Cache<K, V, S, 
         let Some(tail) = self.queues.take_tail() else {
             unreachable!()
         };
-        let (old_hash, old_key) = renew(
-            &mut self.index,
-            &mut self.keys,
-            tail,
-            hash,
-            key,
-            value,
-        );
+        let (old_hash, old_key) = renew(&mut self.index, &mut self.keys, tail, hash, key, value);
         self.history.push(old_hash, old_key);
         self.queues.admit(tail);
     }
@@ -165,14 +151,7 @@ impl<K: Hash + Eq + Drop, V: Drop, S: BuildHasher, A: Allocator> Cache<K, V, S, 
             unreachable!()
         };
         self.queues.append(tail);
-        renew(
-            &mut self.index,
-            &mut self.keys,
-            victim,
-            hash,
-            key,
-            value,
-        );
+        renew(&mut self.index, &mut self.keys, victim, hash, key, value);
         self.queues.admit(victim);
     }
 }

@@ -1,5 +1,6 @@
 //! Removal of residents: of one by its key, and of those that a closure refuses.
 use crate::cache::Cache;
+use crate::vacancies::free_slot;
 use clock2q_queues::queues::Standing;
 use std::alloc::Allocator;
 use std::hash::{BuildHasher, Hash};
@@ -78,6 +79,6 @@ impl<K: Hash + Eq, V, S: BuildHasher, A: Allocator> Cache<K, V, S, A> {
     {
         self.index.remove(self.keys.hash(slot), slot);
         self.queues.leave(slot);
-        self.free.push_reserved(slot);
+        free_slot(&mut self.free, slot);
     }
 }

@@ -1,5 +1,5 @@
 -- One entry more, with the next value.
-use Rattle.std.proofs.Common.{of_calls, ◌≡◌, ◌+◌, List, arith, length, refl, sym, ap, ◌∙◌, subst}
+use Rattle.std.proofs.Common.{of_calls, ◌≡◌, ◌+◌, arith, refl, sym, ap, ◌∙◌, subst}
 use denote.Param.Always.{always_mut}
 use Rattle.clock2q_queues.specs.Keys.{KeyPlaces}
 use Rattle.clock2q_cache.specs.Closures.{Fills}
@@ -23,11 +23,12 @@ loop-preserved g c =
     let i = c.loop.invariant in
     let can : always_mut g.F.FnMut c.loop.make = i.0 c.requires.callable in
     let more = fills-more _ _ _ _ _ _ _ _ _ _ _ i.1 c.hash_of-hash.ensures c.make.ensures in
-    let pushed = ap (λ (z : KeyPlaces _ _). z.entries) c.push.ensures.pushed in
-    ((λ a. search of_calls parts 8),
-    subst (λ z. Fills g.F.FnMut c.args.make (λ k. hash_of g.S.BuildHasher g.S.Hasher.Hasher c.args.hasher.now (g.K.Hash.hash_input k)) (c.loop.counter + 1) c.args.keys.now.entries z c.make.new.self) (sym pushed) more,
-    ap (λ (z : KeyPlaces _ _). z.room) c.push.ensures.pushed ∙ i.2,
-    ap (λ (z : KeyPlaces _ _). z.questions) c.push.ensures.pushed ∙ i.3)
+    let pushed = ap (λ (z : KeyPlaces _ _). z.entries) c.push.ensures.pushed in (
+      (λ a. search of_calls parts 8),
+      subst (λ z. Fills g.F.FnMut c.args.make (λ k. hash_of g.S.BuildHasher g.S.Hasher.Hasher c.args.hasher.now (g.K.Hash.hash_input k)) (c.loop.counter + 1) c.args.keys.now.entries z c.make.new.self) (sym pushed) more,
+      ap (λ (z : KeyPlaces _ _). z.room) c.push.ensures.pushed ∙ i.2,
+      ap (λ (z : KeyPlaces _ _). z.questions) c.push.ensures.pushed ∙ i.3,
+    )
 
 pub returns-clause-filled : goal.returns-clause-filled
 returns-clause-filled g c =

@@ -8,10 +8,11 @@ pub loop-slot-preserved : goal.loop-slot-preserved
 loop-slot-preserved g c =
     let i = c.loop-slot.invariant in
     let e : c.loop-slot.slot - 1 + 1 ≡ c.loop-slot.slot = omega (arith, c.loop-slot-test.true) in
-    let p = c.push_reserved.ensures in
-    (omega (arith, c.loop-slot-test.true),
-    omega (arith, i.1),
-    p.items ∙ ap (λ z. z ++ (c.loop-slot.slot - 1) ∷ []) (i.2 ∙ sym (ap (λ z. c.args.free.now.items ++ reverse (range_with_len z (c.args.to - z))) e))
-      ∙ freed-more c.args.free.now.items (c.loop-slot.slot - 1) c.args.to (omega (arith, c.loop-slot-test.true, i.1)),
-    omega (arith, p.len, i.3, c.loop-slot-test.true),
-    p.capacity ∙ i.4)
+    let p = c.push_reserved.ensures in (
+      omega (arith, c.loop-slot-test.true),
+      omega (arith, i.1),
+      p.items ∙ ap (λ z. z ++ (c.loop-slot.slot - 1) ∷ []) (i.2 ∙ sym (ap (λ z. c.args.free.now.items ++ reverse (range_with_len z (c.args.to - z))) e))
+          ∙ freed-more c.args.free.now.items (c.loop-slot.slot - 1) c.args.to (omega (arith, c.loop-slot-test.true, i.1)),
+      omega (arith, p.len, i.3, c.loop-slot-test.true),
+      p.capacity ∙ i.4,
+    )

@@ -1,6 +1,6 @@
 -- The slots that were never made are made and free.
-use Rattle.std.proofs.Common.{◌≡◌, ◌+◌, ◌-◌, ◌++◌, length, map, reverse, ap, sym, ◌∙◌, subst}
-use Rattle.std.specs.List.{AllByRecursion, range_with_len}
+use Rattle.std.proofs.Common.{◌-◌, ◌++◌, length, map, reverse, ap, ◌∙◌, subst}
+use Rattle.std.specs.List.{range_with_len}
 use Rattle.clock2q_cache.specs.Closures.{Prefills}
 use Rattle.clock2q_cache.specs.CacheState.{CacheState}
 use Rattle.clock2q_cache.specs.CacheFields.{machine_of}
@@ -12,16 +12,16 @@ invariant_of-self g c =
     let i = c.self.inside in
     let filled = c.fill.ensures.filled.1 in
     let freed = c.free_down.ensures.items ∙ ap (λ n. i.free.items ++ reverse (range_with_len n (c.capacity-capacity.result - n))) c.len-made.ensures.len
-        ∙ ap (λ n. i.free.items ++ reverse (range_with_len (length i.keys.entries) (n - length i.keys.entries))) c.capacity-capacity.ensures in
+    ∙ ap (λ n. i.free.items ++ reverse (range_with_len (length i.keys.entries) (n - length i.keys.entries))) c.capacity-capacity.ensures in
     kept-prefilled _ g.met.K.Eq.laws _ _ _ _ _ _ _ _ c.self.invariant filled.added c.fill.new.keys c.free_down.new.free.items _ filled.is (filled.as_many ∙ c.capacity-capacity.ensures) freed
-      filled.hashed c.fill.ensures.kept_room c.free_down.ensures.capacity
+    filled.hashed c.fill.ensures.kept_room c.free_down.ensures.capacity
 
 pub returns-clause-made : goal.returns-clause-made
 returns-clause-made g c =
     let i = c.self.inside in
     let filled = c.fill.ensures.filled.1 in
     let freed = c.free_down.ensures.items ∙ ap (λ n. i.free.items ++ reverse (range_with_len n (c.capacity-capacity.result - n))) c.len-made.ensures.len
-        ∙ ap (λ n. i.free.items ++ reverse (range_with_len (length i.keys.entries) (n - length i.keys.entries))) c.capacity-capacity.ensures in
+    ∙ ap (λ n. i.free.items ++ reverse (range_with_len (length i.keys.entries) (n - length i.keys.entries))) c.capacity-capacity.ensures in
     let count = made-count _ g.met.K.Eq.laws _ _ _ _ _ _ _ _ c.self.invariant filled.added c.fill.new.keys c.free_down.new.free.items 0 filled.is (filled.as_many ∙ c.capacity-capacity.ensures) freed in
     let machine = machine-prefilled _ g.met.K.Eq.laws _ _ _ _ _ _ _ _ c.self.invariant filled.added c.fill.new.keys c.free_down.new.free.items 0 filled.is (filled.as_many ∙ c.capacity-capacity.ensures) freed in
     subst (λ (z : CacheState _ _ _). Prefills g.F.FnMut c.args.make z.machine (machine_of i.shares i.queues c.fill.new.keys.entries i.history.entries c.free_down.new.free.items)) c.self.view_is (record {

@@ -1,5 +1,5 @@
 -- The key that is found stands at its slot.
-use Rattle.std.proofs.Common.{Some, sym, ap, ◌∙◌}
+use Rattle.std.proofs.Common.{sym, ap, ◌∙◌}
 use Rattle.clock2q_cache.specs.Machine.{Machine, slot_of}
 use Rattle.clock2q_cache.proofs.Vacated.{found-resident}
 use Rattle.clock2q_cache.proofs.cache.Cache.remove.Goals as goal
@@ -7,4 +7,4 @@ use Rattle.clock2q_cache.proofs.cache.Cache.remove.Goals as goal
 pub vacate-requires : goal.vacate-requires
 vacate-requires g c =
     found-resident (g.K.PartialEq.eq c.args.key.now) c.find.new.self.machine c.in-Some.slot
-      (ap (λ (z : Machine _ _). slot_of (g.K.PartialEq.eq c.args.key.now) z) c.in-Some.ensures.machine ∙ sym c.in-Some.ensures.slot)
+    (ap (λ (z : Machine _ _). slot_of (g.K.PartialEq.eq c.args.key.now) z) c.in-Some.ensures.machine ∙ sym c.in-Some.ensures.slot)

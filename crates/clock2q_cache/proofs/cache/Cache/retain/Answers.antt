@@ -25,25 +25,28 @@ loop-slot-preserved g c =
     let h = subst (λ z. RetainsBelow g.F.FnMut c.args.keep c.args.self.now.machine c.loop-slot.slot c.loop-slot.keep z) (sym same) r in
     let can : always_mut g.F.FnMut c.loop-slot.keep = c.loop-slot.invariant.0 c.requires in
     elim c.if-is_resident.branch [
-      | then-is_resident+then-not-stays w ↦
-          (λ a. subst (always_mut g.F.FnMut) (sym w.keep-is) (search of_calls parts 8),
-          subst (λ z. RetainsBelow g.F.FnMut c.args.keep c.args.self.now.machine (c.loop-slot.slot + 1) z c.if-is_resident.self.machine) (sym w.keep-is)
-          (subst (λ z. RetainsBelow g.F.FnMut c.args.keep c.args.self.now.machine (c.loop-slot.slot + 1) w.keep-stays.new.self z) (sym (ap (λ (z : CacheState _ _ _). z.machine) w.self-is ∙ w.vacate.ensures.machine))
-          (retains-refused g.F.FnMut c.args.keep c.args.self.now.machine c.loop-slot.slot c.loop-slot.keep c.is_resident.new.self.machine h w.key.result w.value.result w.key.ensures w.value.ensures w.keep-stays.new.self
-            (subst (λ b. Called g.F.FnMut c.loop-slot.keep (w.key.result, (w.value.result, tt)) b w.keep-stays.new.self) w.if-not-stays.true w.keep-stays.ensures))))
-      | then-is_resident+else-not-stays w ↦
-          (λ a. subst (always_mut g.F.FnMut) (sym w.keep-is) (search of_calls parts 8),
-          subst (λ z. RetainsBelow g.F.FnMut c.args.keep c.args.self.now.machine (c.loop-slot.slot + 1) z c.if-is_resident.self.machine) (sym w.keep-is)
-          (subst (λ z. RetainsBelow g.F.FnMut c.args.keep c.args.self.now.machine (c.loop-slot.slot + 1) w.keep-stays.new.self z) (sym (ap (λ (z : CacheState _ _ _). z.machine) w.self-is))
-          (retains-kept g.F.FnMut c.args.keep c.args.self.now.machine c.loop-slot.slot c.loop-slot.keep c.is_resident.new.self.machine h w.key.result w.value.result w.key.ensures w.value.ensures w.keep-stays.new.self
-            (subst (λ b. Called g.F.FnMut c.loop-slot.keep (w.key.result, (w.value.result, tt)) b w.keep-stays.new.self) w.if-not-stays.false w.keep-stays.ensures))))
-      | else-is_resident w ↦
-          (λ a. subst (always_mut g.F.FnMut) (sym w.keep-is) can,
-          subst (λ z. RetainsBelow g.F.FnMut c.args.keep c.args.self.now.machine (c.loop-slot.slot + 1) z c.if-is_resident.self.machine) (sym w.keep-is)
-          (subst (λ z. RetainsBelow g.F.FnMut c.args.keep c.args.self.now.machine (c.loop-slot.slot + 1) c.loop-slot.keep z) (sym (ap (λ (z : CacheState _ _ _). z.machine) w.self-is))
-          (retains-past g.F.FnMut c.args.keep c.args.self.now.machine c.loop-slot.slot c.loop-slot.keep c.is_resident.new.self.machine h
+      | then-is_resident+then-not-stays w ↦ (
+        λ a. subst (always_mut g.F.FnMut) (sym w.keep-is) (search of_calls parts 8),
+        subst (λ z. RetainsBelow g.F.FnMut c.args.keep c.args.self.now.machine (c.loop-slot.slot + 1) z c.if-is_resident.self.machine) (sym w.keep-is)
+            (subst (λ z. RetainsBelow g.F.FnMut c.args.keep c.args.self.now.machine (c.loop-slot.slot + 1) w.keep-stays.new.self z) (sym (ap (λ (z : CacheState _ _ _). z.machine) w.self-is ∙ w.vacate.ensures.machine))
+            (retains-refused g.F.FnMut c.args.keep c.args.self.now.machine c.loop-slot.slot c.loop-slot.keep c.is_resident.new.self.machine h w.key.result w.value.result w.key.ensures w.value.ensures w.keep-stays.new.self
+            (subst (λ b. Called g.F.FnMut c.loop-slot.keep (w.key.result, (w.value.result, tt)) b w.keep-stays.new.self) w.if-not-stays.true w.keep-stays.ensures))),
+      )
+      | then-is_resident+else-not-stays w ↦ (
+        λ a. subst (always_mut g.F.FnMut) (sym w.keep-is) (search of_calls parts 8),
+        subst (λ z. RetainsBelow g.F.FnMut c.args.keep c.args.self.now.machine (c.loop-slot.slot + 1) z c.if-is_resident.self.machine) (sym w.keep-is)
+            (subst (λ z. RetainsBelow g.F.FnMut c.args.keep c.args.self.now.machine (c.loop-slot.slot + 1) w.keep-stays.new.self z) (sym (ap (λ (z : CacheState _ _ _). z.machine) w.self-is))
+            (retains-kept g.F.FnMut c.args.keep c.args.self.now.machine c.loop-slot.slot c.loop-slot.keep c.is_resident.new.self.machine h w.key.result w.value.result w.key.ensures w.value.ensures w.keep-stays.new.self
+            (subst (λ b. Called g.F.FnMut c.loop-slot.keep (w.key.result, (w.value.result, tt)) b w.keep-stays.new.self) w.if-not-stays.false w.keep-stays.ensures))),
+      )
+      | else-is_resident w ↦ (
+        λ a. subst (always_mut g.F.FnMut) (sym w.keep-is) can,
+        subst (λ z. RetainsBelow g.F.FnMut c.args.keep c.args.self.now.machine (c.loop-slot.slot + 1) z c.if-is_resident.self.machine) (sym w.keep-is)
+            (subst (λ z. RetainsBelow g.F.FnMut c.args.keep c.args.self.now.machine (c.loop-slot.slot + 1) c.loop-slot.keep z) (sym (ap (λ (z : CacheState _ _ _). z.machine) w.self-is))
+            (retains-past g.F.FnMut c.args.keep c.args.self.now.machine c.loop-slot.slot c.loop-slot.keep c.is_resident.new.self.machine h
             (none-there (resident_at c.is_resident.new.self.machine c.loop-slot.slot)
-              (sym (ap (λ (z : Machine _ _). is_some (resident_at z c.loop-slot.slot)) (sym same)) ∙ sym c.is_resident.ensures.resident ∙ w.if-is_resident.false)))))
+            (sym (ap (λ (z : Machine _ _). is_some (resident_at z c.loop-slot.slot)) (sym same)) ∙ sym c.is_resident.ensures.resident ∙ w.if-is_resident.false)))),
+      )
     ]
   where
     none-there : {X : Type 0} (o : Option X) → is_some o ≡ false → o ≡ None

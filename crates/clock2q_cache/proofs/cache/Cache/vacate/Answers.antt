@@ -1,5 +1,5 @@
 -- The resident's slot goes out of the index and its queue, and is free.
-use Rattle.std.proofs.Common.{◌≡◌, IsSome, Some, ap, sym, ◌∙◌}
+use Rattle.std.proofs.Common.{ap, ◌∙◌}
 use Rattle.clock2q_queues.specs.Queues.{QueueState}
 use Rattle.clock2q_cache.specs.CacheState.{CacheState}
 use Rattle.clock2q_cache.specs.Machine.{vacated}
@@ -20,12 +20,12 @@ pub invariant_of-self : goal.invariant_of-self
 invariant_of-self g c =
     let there = rw (← c.self.view_is) at c.requires in
     let l = c.leave.ensures.queues in
-    kept-vacated _ g.met.K.Eq.laws _ _ _ _ _ _ _ _ c.self.invariant c.args.slot there c.leave.new.self c.remove.new.self.homes c.push_reserved.new.self.items _ _ (ap (λ (z : QueueState). z.small) l) (ap (λ (z : QueueState). z.main) l) c.push_reserved.ensures.items
-        c.hash.ensures.hash c.remove.ensures.removed (ap (λ (z : QueueState). z.slots) l) (ap (λ (z : QueueState). z.window) l) c.push_reserved.ensures.capacity
+    kept-vacated _ g.met.K.Eq.laws _ _ _ _ _ _ _ _ c.self.invariant c.args.slot there c.leave.new.self c.remove.new.self.homes c.free_slot.new.free.items _ _ (ap (λ (z : QueueState). z.small) l) (ap (λ (z : QueueState). z.main) l) c.free_slot.ensures.top
+    c.hash.ensures.hash c.remove.ensures.removed (ap (λ (z : QueueState). z.slots) l) (ap (λ (z : QueueState). z.window) l) c.free_slot.ensures.capacity
 
 pub returns-clause-machine : goal.returns-clause-machine
 returns-clause-machine g c =
     let there = rw (← c.self.view_is) at c.requires in
     let l = c.leave.ensures.queues in
-    vacated-machine _ g.met.K.Eq.laws _ _ _ _ _ _ _ _ c.self.invariant c.args.slot there c.leave.new.self c.remove.new.self.homes c.push_reserved.new.self.items 0 0 (ap (λ (z : QueueState). z.small) l) (ap (λ (z : QueueState). z.main) l) c.push_reserved.ensures.items
+    vacated-machine _ g.met.K.Eq.laws _ _ _ _ _ _ _ _ c.self.invariant c.args.slot there c.leave.new.self c.remove.new.self.homes c.free_slot.new.free.items 0 0 (ap (λ (z : QueueState). z.small) l) (ap (λ (z : QueueState). z.main) l) c.free_slot.ensures.top
     ∙ ap (λ (z : CacheState _ _ _). vacated c.args.slot z.machine) c.self.view_is
