@@ -59,6 +59,9 @@ fn hits(rt: HostRuntime) -> Result<(), Fail> {
     assert_eq!(rt; replay(rt.alloc(), capacity, &[1, 1, 2, 1, 2])?, 3);
     assert_eq!(rt; replay(rt.alloc(), capacity, &[1, 2, 3, 4])?, 0);
     let too_large = NonZeroUsize::new(MAX_CAPACITY + 1).ok_or("not zero")?;
-    assert_eq!(rt; replay(rt.alloc(), too_large, &[1]), Err(CacheError::Capacity));
+    assert_eq!(rt;
+        replay(rt.alloc(), too_large, &[1]),
+        Err(CacheError::Capacity)
+    );
     Ok(())
 }
