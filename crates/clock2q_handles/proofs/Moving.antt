@@ -1,11 +1,11 @@
 -- A rebuild of few entries over one view of the new slots, slot by slot.
-use Rattle.std.proofs.Common.{◌≡◌, ℕ, suc, ◌+◌, ◌%◌, ◌<◌, ◌≤◌, inl, inr, refl, ap, sym, ◌∙◌, subst, arith, List, [], ◌∷◌, ◌++◌, map, take, length, Option, Some, None}
+use Rattle.std.proofs.Common.{◌≡◌, ℕ, ◌+◌, ◌%◌, ◌<◌, ◌≤◌, inl, inr, refl, ap, sym, ◌∙◌, subst, arith, List, [], ◌∷◌, ◌++◌, map, take, length, Option, None}
 use Rattle.std.proofs.lemmas.Bool.{cases_lt}
 use Rattle.std.specs.Fn.{Called, Takes, Mut}
 use Rattle.clock2q_handles.specs.Homes.{top, capacity, total, no_entries}
 use Rattle.clock2q_handles.specs.Layout.{Placed, slot_at, reach, entries, layout, homes_of}
 use Rattle.clock2q_handles.specs.Moves.{MayMove, Moves}
-use Rattle.clock2q_handles.specs.Rehash.{AnswersBy, Asks, Reaches, IsHeld, held_handles}
+use Rattle.clock2q_handles.specs.Rehash.{AnswersBy, Asks, Reaches, IsHeld}
 use Rattle.clock2q_handles.specs.Shifts.{PutsIn}
 use Rattle.clock2q_handles.specs.Slots.{IsSlotCount}
 use Rattle.clock2q_handles.specs.Table.{IsTable}

@@ -1,7 +1,7 @@
-use Rattle.std.proofs.Common.{rules, ◌≡◌, ℕ, ◌+◌, ◌<◌, ◌≤◌, IfSome, length, refl, ap, ◌∙◌, subst, sym, arith}
-use Rattle.clock2q_handles.specs.Layout.{slot_at, reach}
+use Rattle.std.proofs.Common.{rules, ◌≡◌, ℕ, ◌+◌, ◌<◌, IfSome, length, ap, ◌∙◌, subst, sym, arith}
+use Rattle.clock2q_handles.specs.Layout.{slot_at}
 use Rattle.clock2q_handles.specs.Slots.{cells, mark_of}
-use Rattle.clock2q_handles.specs.Views.{shown, IsView, IsSameView}
+use Rattle.clock2q_handles.specs.Views.{shown, IsView}
 use Rattle.clock2q_handles.proofs.Cells.{length-cells}
 use Rattle.clock2q_handles.proofs.Moves.{occupied_told, vacant_told}
 use Rattle.clock2q_handles.proofs.Moving.{MovedSo, moving_begins, moving_past, moving_takes, moving_near, moving_some, moving_on, moving_ends}
@@ -66,7 +66,7 @@ loop-slot-preserved g c =
             handle = subst (λ n. IfSome (slot_at slots n) (λ p. w.handle-handle.result ≡ p.entry.1)) (numbered c.loop-slot.slot) w.handle-handle.ensures;
           } in
           let moved = moving_on g.F.FnMut c.args.rehash.now slots from c.requires.movable c.loop-slot.rehash (shown c.loop-slot.self) c.loop-slot.slot c.loop-slot.invariant.moved
-              inside v entry w.rehash-hash.result w.rehash-hash.new.self w.rehash-hash.ensures (shown w.put.new.self) _ _ w.put.ensures.put in
+          inside v entry w.rehash-hash.result w.rehash-hash.new.self w.rehash-hash.ensures (shown w.put.new.self) _ _ w.put.ensures.put in
           record {
             same = search rules;
             view = subst (λ s. IsView s) (sym w.self-is) w.put.ensures.view;
