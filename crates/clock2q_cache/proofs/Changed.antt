@@ -226,13 +226,15 @@ module _ {K V : Type 0} where
   pub kept-empty : (eq : K → K → Bool) (laws : IsEquivalence eq) (hash : K → ℕ) (shares : Shares) (q : QueueState) (h : Remembered K) (index : List (List (ℕ × ℕ))) (keys : KeyPlaces K V) (free : List ℕ) (room : ℕ)
       → shares.small < shares.capacity → q.small ≡ [] → q.main ≡ [] → h.entries ≡ [] → IsIndex {K = K} {V = V} index [] [] → keys.entries ≡ [] → free ≡ [] → IsSized shares q h.limit (length index) keys.room room
       → IsKept eq hash shares q h index keys free room × (machine_of shares q keys.entries h.entries free ≡ empty shares)
-  kept-empty eq laws hash shares q h index keys free room below small main entries indexed keyed none sized =
-      (record {
-        whole = subst (IsWhole eq) (sym is) (lasting-empty eq laws shares below);
-        stored = subst (λ (z : List (Entry K V)). IsStored hash index z (places_of q)) (sym keyed) (subst (λ z. IsStored {K = K} {V = V} hash index [] z) (sym places) (record { made = tt; indexed = indexed; hashed = tt }));
-        hashed = subst (λ z. AllByRecursion (λ e. e.0 ≡ hash e.1) z) (sym entries) tt;
-        sized = sized;
-      }, is)
+  kept-empty eq laws hash shares q h index keys free room below small main entries indexed keyed none sized = (
+    record {
+      whole = subst (IsWhole eq) (sym is) (lasting-empty eq laws shares below);
+      stored = subst (λ (z : List (Entry K V)). IsStored hash index z (places_of q)) (sym keyed) (subst (λ z. IsStored {K = K} {V = V} hash index [] z) (sym places) (record { made = tt; indexed = indexed; hashed = tt }));
+      hashed = subst (λ z. AllByRecursion (λ e. e.0 ≡ hash e.1) z) (sym entries) tt;
+      sized = sized;
+    },
+    is,
+  )
     where
       places : places_of q ≡ []
       places = ap (λ z. slots_of z ++ slots_of q.main) small ∙ ap (λ z. slots_of z) main

@@ -18,10 +18,14 @@ pub returns : goal.returns
 returns g c =
     let k = c.self.invariant in
     let below = rw (← c.self.view_is) at c.requires in
-    let i = c.self.inside in
-    ((refl, λ w. ap (λ z. cache_state z i.index.homes i.history.index i.hasher (counts_of i.queues i.history i.keys)) (replaced-machine _ g.met.K.Eq.laws _ _ _ _ _ _ _ _ k c.args.slot w below)
-        ∙ ap (λ (z : CacheState _ _ _). record z { machine = stored c.args.slot w z.machine }) c.self.view_is),
-    record {
-      writes_back = tt;
-      value = sym (ap (λ (z : CacheState _ _ _). slice_get z.machine.values c.args.slot) c.self.view_is) ∙ value-there i.keys.entries c.args.slot ∙ c.value_mut.ensures.value;
-    })
+    let i = c.self.inside in (
+      (
+        refl,
+        λ w. ap (λ z. cache_state z i.index.homes i.history.index i.hasher (counts_of i.queues i.history i.keys)) (replaced-machine _ g.met.K.Eq.laws _ _ _ _ _ _ _ _ k c.args.slot w below)
+            ∙ ap (λ (z : CacheState _ _ _). record z { machine = stored c.args.slot w z.machine }) c.self.view_is,
+      ),
+      record {
+        writes_back = tt;
+        value = sym (ap (λ (z : CacheState _ _ _). slice_get z.machine.values c.args.slot) c.self.view_is) ∙ value-there i.keys.entries c.args.slot ∙ c.value_mut.ensures.value;
+      },
+    )
