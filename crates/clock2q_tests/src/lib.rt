@@ -6,6 +6,8 @@ mod caches;
 #[cfg(test)]
 mod devices;
 #[cfg(test)]
+mod policies;
+#[cfg(test)]
 mod refused;
 #[cfg(test)]
 mod refused_queues;
