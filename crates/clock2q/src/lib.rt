@@ -1,5 +1,31 @@
-//! A fixed-capacity key-value cache with Clock2Q+ replacement, its calls as data, and a command
-//! text for them.
+//! A fixed-capacity key-value cache with Clock2Q+ replacement, its calls as data, and the handle
+//! table that it looks keys up through.
+//!
+//! A [`Cache`] shares its capacity out among two queues. New keys enter Small; what is hit there
+//! once it is no longer among the newest, the window, goes on to Main, a ring in which a hand gives
+//! each entry that was hit a second chance. Keys that leave Small are remembered for a while
+//! without their values, and one that comes back enters Main at once.
+//!
+//! | Capacity | Small | Main | Window | Remembered |
+//! |---|---|---|---|---|
+//! | 1 | 0 | 1 | 0 | 0 |
+//! | 2 | 1 | 1 | 1 | 1 |
+//! | 10 | 1 | 9 | 1 | 5 |
+//! | 100 | 10 | 90 | 5 | 50 |
+//! | 1,000,000 | 100,000 | 900,000 | 50,000 | 500,000 |
+//!
+//! [`Cache::with_policy`] takes other shares. All memory is taken by the constructor: no later call
+//! asks for any or refuses anything.
+//!
+//! ```rust
+//! let mut cache = Cache::new(rt.alloc(), capacity)?;
+//! cache.put(1u64, 10u64);
+//! if let Some(value) = cache.get(&1) {
+//!     println!(rt; "{value}")?;
+//! }
+//! ```
+//!
+//! The crate `clock2q_uses` of the repository has whole callers, each of them proved.
 #![tactic(auto)]
 
 pub use clock2q_cache as cache;

@@ -162,14 +162,15 @@ impl<K: Hash + Eq, V, S: BuildHasher, A: Allocator> Cache<K, V, S, A> {
     ghost use Rattle.clock2q_cache.specs.Machine.{resident_count, slot_of, value_of, hit, forgotten};
     ghost use Rattle.clock2q_cache.specs.Steps.{is_at, hit_at, value_at};
 
-    /// How many keys the cache can hold: the number that it was made with.
+    /// Returns how many keys the cache can hold: the number that it was made with.
     pub fn capacity(&self) -> usize
         ensures capacity { result ≡ self.now.machine.shares.capacity }
     {
         self.shares.capacity()
     }
 
-    /// How many keys the cache holds, at most its capacity. Keys that were evicted don't count.
+    /// Returns how many keys the cache holds, at most its capacity. Keys that were evicted don't
+    /// count.
     pub fn len(&self) -> usize
         ensures count { result ≡ resident_count self.now.machine }
         ensures whole { IsWhole K.eq self.now.machine }
@@ -177,21 +178,22 @@ impl<K: Hash + Eq, V, S: BuildHasher, A: Allocator> Cache<K, V, S, A> {
         self.queues.small_len() + self.queues.main_len()
     }
 
-    /// Whether the cache holds no key.
+    /// Returns true if the cache holds no key.
     pub fn is_empty(&self) -> bool
         ensures empty { IsTrue result ↔ (resident_count self.now.machine ≡ 0) }
     {
         self.len() == 0
     }
 
-    /// Whether the key is resident. This is no use of it, and so changes no later eviction.
+    /// Returns true if the key is resident. It records no hit, and so changes no later eviction.
     pub fn contains(&self, key: &K) -> bool
         ensures resident { IsTrue result ↔ IsSome (slot_of (K.eq key.now) self.now.machine) }
     {
         self.slot_of(key).is_some()
     }
 
-    /// The value of a resident key, or `None`. This is no use of it, and so changes no later eviction.
+    /// Returns the value of a resident key, or `None`. It records no hit, and so changes no later
+    /// eviction.
     pub fn peek(&self, key: &K) -> Option<&V>
         ensures value { option_copied result ≡ value_of (K.eq key.now) self.now.machine }
     {
@@ -199,9 +201,10 @@ impl<K: Hash + Eq, V, S: BuildHasher, A: Allocator> Cache<K, V, S, A> {
         Some(self.value(slot))
     }
 
-    /// The value of a resident key, and records the hit: it may save the key from a later eviction.
+    /// Returns the value of a resident key and records a hit, which may save the key from a later
+    /// eviction.
     ///
-    /// `None` says that the key isn't resident; then nothing changes.
+    /// Returns `None` and changes nothing if the key isn't resident.
     pub fn get(&mut self, key: &K) -> Option<&V>
         ensures* machine { sem 𝓛 (LeavesMachine K.row V.row S.row A.row S.Hasher.row K.Hash S.BuildHasher S.Hasher.Hasher A.Allocator self.entry (hit (K.eq key.now) self.old.machine)) }
         ensures value { option_copied result ≡ value_of (K.eq key.now) self.old.machine }
@@ -212,10 +215,10 @@ impl<K: Hash + Eq, V, S: BuildHasher, A: Allocator> Cache<K, V, S, A> {
         Some(self.value(slot))
     }
 
-    /// The value of a key that is resident at this slot, and records the hit, as [`get`](Cache::get)
-    /// does. It compares the key with that one alone, and needs no hash.
+    /// Returns the value of a key that is resident at this slot and records a hit, as
+    /// [`get`](Cache::get) does. It compares the key with that one alone, and needs no hash.
     ///
-    /// `None` says that the key isn't resident there, whatever the number; then nothing changes.
+    /// Returns `None` and changes nothing if the key isn't resident there, whatever the number.
     pub fn get_at(&mut self, slot: usize, key: &K) -> Option<&V>
         ensures* machine { sem 𝓛 (LeavesMachine K.row V.row S.row A.row S.Hasher.row K.Hash S.BuildHasher S.Hasher.Hasher A.Allocator self.entry (hit_at slot (K.eq key.now) self.old.machine)) }
         ensures value { option_copied result ≡ value_at slot (K.eq key.now) self.old.machine }
@@ -225,9 +228,10 @@ impl<K: Hash + Eq, V, S: BuildHasher, A: Allocator> Cache<K, V, S, A> {
         Some(self.value(found))
     }
 
-    /// The value of a resident key to write to, and records the hit, as [`get`](Cache::get) does.
+    /// Returns the value of a resident key to write to and records a hit, as [`get`](Cache::get)
+    /// does.
     ///
-    /// `None` says that the key isn't resident; then nothing changes.
+    /// Returns `None` and changes nothing if the key isn't resident.
     pub fn get_mut(&mut self, key: &K) -> Option<&mut V>
         ensures* writes_back { sem 𝓛 (LendsHit K.row V.row S.row A.row S.Hasher.row K.Hash S.BuildHasher S.Hasher.Hasher A.Allocator self.entry (K.eq key.now) result) }
         ensures value { option_copied_mut result ≡ value_of (K.eq key.now) self.old.machine }
@@ -327,10 +331,10 @@ impl<K: Hash + Eq + Drop, V: Drop, S: BuildHasher, A: Allocator> Cache<K, V, S, 
     ghost use Rattle.clock2q_cache.specs.Machine.{value_of, stored};
     ghost use Rattle.clock2q_cache.specs.Steps.{put};
 
-    /// Stores a value for a key, and answers the one that it replaces.
+    /// Stores a value for a key, and returns the one that it replaces.
     ///
     /// A resident key is hit, and its stored key stays; the key handed in is dropped. Another key
-    /// is inserted, and the answer is `None`. Where the cache is full one resident leaves for it,
+    /// is inserted, and `None` is returned. Where the cache is full one resident leaves for it,
     /// and so does one where a key comes back to a full Main.
     pub fn put(&mut self, key: K, value: V) -> Option<V>
         ensures value { result ≡ value_of (K.eq key) self.old.machine }
@@ -346,7 +350,7 @@ impl<K: Hash + Eq + Drop, V: Drop, S: BuildHasher, A: Allocator> Cache<K, V, S, 
         Some(self.replace(slot, value))
     }
 
-    /// Replaces the value of a slot, and answers the one before.
+    /// Replaces the value of a slot, and returns the one before.
     fn replace(&mut self, slot: u32, value: V) -> V
         requires { slot < length self.old.machine.values }
         ensures value { slice_get self.old.machine.values slot ≡ Some result }

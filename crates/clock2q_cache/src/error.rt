@@ -11,10 +11,10 @@ pub enum CacheError {
     /// A request for memory was refused.
     #[error("no memory")]
     Memory,
-    /// The capacity is above [`MAX_CAPACITY`](crate::MAX_CAPACITY). Only construction answers it.
+    /// The capacity is above [`MAX_CAPACITY`](crate::MAX_CAPACITY). Only construction returns it.
     #[error("capacity refused")]
     Capacity,
-    /// The shares can't be had together. Only construction answers it.
+    /// The shares can't be had together. Only construction returns it.
     #[error("policy refused")]
     Policy,
 }

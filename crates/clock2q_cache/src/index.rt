@@ -40,7 +40,7 @@ pub(crate) fn enter<K: Drop, V: Drop, A: Allocator>(
     add(index, hash, slot);
 }
 
-/// Puts a key with its value in place of a resident, and answers that one's key with its hash.
+/// Puts a key with its value in place of a resident, and returns that one's key with its hash.
 pub(crate) fn renew<K: Drop, V: Drop, A: Allocator>(
     index: &mut Table<u32, A>,
     keys: &mut Keys<K, V, A>,
