@@ -4,6 +4,7 @@ pub mod Machine
 pub mod Calls
 pub mod Steps
 pub mod Bounds
+pub mod Costs
 pub mod Cache
 pub mod CacheFields
 pub mod CacheState
