@@ -8,8 +8,14 @@ use Rattle.clock2q_queues.specs.Cells.{Rises}
 use Rattle.clock2q_cache.specs.Calls.{Call, Put, Get, GetAt, Set, With, Try, SlotFor, Remove, Retain, Clear, Prefill}
 use Rattle.clock2q_cache.specs.Machine.{Machine}
 use Rattle.clock2q_cache.specs.Bounds.{set_bits, inspections_of, main_victims, settings}
-use Rattle.clock2q_cache.specs.CacheState.{CacheState}
+use Rattle.clock2q_cache.specs.CacheState.{CacheState, Counts}
 use Rattle.clock2q_cache.specs.Hashes.{hash_of}
+
+-- the hand looked so many times, and at most so many links were accessed and keys asked about
+pub record Spends (looks links keys : ℕ) (old new : Counts) : Type 0 where
+  pub inspections : new.inspections ≡ old.inspections + looks
+  pub accesses : Rises 0 links old.accesses new.accesses
+  pub questions : Rises 0 keys old.questions new.questions
 
 -- how often a call may access links: 80 times beside the hand's looks, fewer times if it brings no key, and so often for each slot if it goes through all of them
 abbrev pub most_accesses : {K V : Type 0} → (K → K → Bool) → Call K V → Machine K V → ℕ
@@ -39,9 +45,7 @@ module _ {K V S H : Type 0} (key : HashMembers K) (build : builder.Ghosts S H) (
   most_questions (Remove k) c = alike k c
   most_questions other c = 0
 
-  -- the hand looked as often as the machine says, no more links were accessed and no more keys asked about than the call may, and each look was paid for: by Main's victim, or by a bit of Main that was set before or by the call
+  -- it spent no more than it may, and each look was paid for: by Main's victim, or by a bit of Main that was set before or by the call
   pub record Costs (call : Call K V) (old new : CacheState K V S) : Type 0 where
-    pub inspections : new.counts.inspections ≡ old.counts.inspections + inspections_of key.eq call old.machine
-    pub accesses : Rises 0 (most_accesses key.eq call old.machine) old.counts.accesses new.counts.accesses
-    pub questions : Rises 0 (most_questions call old) old.counts.questions new.counts.questions
+    pub counts : Spends (inspections_of key.eq call old.machine) (most_accesses key.eq call old.machine) (most_questions call old) old.counts new.counts
     pub clock : new.counts.inspections + set_bits new.machine ≤ old.counts.inspections + main_victims key.eq call old.machine + settings key.eq call old.machine + set_bits old.machine
