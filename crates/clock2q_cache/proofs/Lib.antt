@@ -4,6 +4,7 @@ pub mod Clock
 pub mod Entering
 pub mod Filled
 pub mod Finding
+pub mod Indexed
 pub mod Kept
 pub mod Lasting
 pub mod Laws
@@ -13,6 +14,7 @@ pub mod Residents
 pub mod Retained
 pub mod SecondChance
 pub mod Slots
+pub mod Spent
 pub mod Standing
 pub mod Stored
 pub mod Vacated

@@ -49,3 +49,7 @@ module _ {K V S H : Type 0} (key : HashMembers K) (build : builder.Ghosts S H) (
   pub record Costs (call : Call K V) (old new : CacheState K V S) : Type 0 where
     pub counts : Spends (inspections_of key.eq call old.machine) (most_accesses key.eq call old.machine) (most_questions call old) old.counts new.counts
     pub clock : new.counts.inspections + set_bits new.machine ≤ old.counts.inspections + main_victims key.eq call old.machine + settings key.eq call old.machine + set_bits old.machine
+
+  -- the machine becomes this one at the cost of the call, and the hasher stays
+  abbrev pub Becomes : Call K V → Machine K V → CacheState K V S → CacheState K V S → Type 0
+  Becomes call m old new = (new.machine ≡ m) × (new.hasher ≡ old.hasher) × Costs call old new

@@ -9,6 +9,7 @@ pub mod Cache
 pub mod CacheFields
 pub mod CacheState
 pub mod Hashes
+pub mod Indexed
 pub mod CacheLends
 pub mod Closures
 pub mod Policies
