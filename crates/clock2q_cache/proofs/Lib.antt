@@ -2,9 +2,11 @@ pub mod Changed
 pub mod Cleared
 pub mod Clock
 pub mod Entering
+pub mod Fetched
 pub mod Filled
 pub mod Finding
 pub mod Indexed
+pub mod Insertions
 pub mod Kept
 pub mod Lasting
 pub mod Laws

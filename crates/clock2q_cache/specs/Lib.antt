@@ -15,3 +15,4 @@ pub mod Closures
 pub mod Policies
 pub use Rattle.clock2q_queues.specs.Ages
 pub use Rattle.clock2q_queues.specs.Hand
+pub mod Insertions

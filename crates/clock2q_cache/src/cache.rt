@@ -2,6 +2,7 @@
 
 mod clearing;
 mod debug;
+mod fetching;
 mod filling;
 mod insertion;
 mod removal;
@@ -350,6 +351,8 @@ impl<K: Hash + Eq, V, S: BuildHasher, A: Allocator> Cache<K, V, S, A> {
 
 impl<K: Hash + Eq + Drop, V: Drop, S: BuildHasher, A: Allocator> Cache<K, V, S, A> {
     ghost use Rattle.std.specs.Prelude.{◌≡◌, ◌<◌, length, slice_get, Some};
+    ghost use Rattle.clock2q_cache.specs.Calls.{Put};
+    ghost use Rattle.clock2q_cache.specs.Costs.{Costs};
     ghost use Rattle.clock2q_cache.specs.Machine.{value_of, stored};
     ghost use Rattle.clock2q_cache.specs.Steps.{put};
 
@@ -362,6 +365,8 @@ impl<K: Hash + Eq + Drop, V: Drop, S: BuildHasher, A: Allocator> Cache<K, V, S, 
         ensures value { result ≡ value_of (K.eq key) self.old.machine }
         ensures machine { self.new.machine ≡ put (K.eq key) key value self.old.machine }
         ensures resident { value_of (K.eq key) self.new.machine ≡ Some value }
+        ensures hasher { self.new.hasher ≡ self.old.hasher }
+        ensures costs { Costs K.Hash S.BuildHasher S.Hasher.Hasher (Put key value) self.old self.new }
     {
         let hash = self.hash(&key);
         let Some(slot) = self.find(hash, &key) else {

@@ -9,6 +9,7 @@ use Rattle.clock2q_cache.specs.Machine.{vacancy, into_main, stored}
 use Rattle.clock2q_cache.specs.CacheState.{CacheState}
 use Rattle.clock2q_cache.specs.CacheFields.{machine_of}
 use Rattle.clock2q_cache.proofs.Kept.{few-main, index_room, index_few, taken-here, vacancy-here, vacant-slot, vacant-apart, IsDone, main-done}
+use Rattle.clock2q_cache.proofs.Insertions.{joined-spends}
 use Rattle.clock2q_cache.proofs.cache.Cache.join_main.Goals as goal
 
 pub enter-requires-clause-next : goal.enter-requires-clause-next
@@ -99,4 +100,9 @@ returns g c =
     let d = main-done _ g.met.K.Eq.laws _ _ _ _ _ _ _ _ k c.args.key c.args.value c.args.hash c.take_vacancy-slot.result c.take_vacancy-slot.new.free.items same taken c.take_vacancy-slot.ensures.others
     c.append.new.self c.enter.new.index.homes c.enter.new.keys _ absent (ap (λ (z : QueueState). z.slots) c.append.ensures.queues) (ap (λ (z : QueueState). z.window) c.append.ensures.queues) c.enter.ensures.index c.enter.ensures.entries (ap (λ (z : KeyPlaces _ _). z.room) c.enter.ensures.kept) c.take_vacancy-slot.ensures.capacity
     room (ap (λ (z : QueueState). z.small) c.append.ensures.queues) (ap (λ (z : QueueState). z.main) c.append.ensures.queues) in
-    d.machine ∙ ap (λ (z : CacheState _ _ _). let p = into_main c.args.key z.machine in (stored p.slot c.args.value p.machine)) c.self.view_is
+    record {
+      slot = d.at ∙ ap (λ (z : CacheState _ _ _). (into_main c.args.key z.machine).slot) c.self.view_is;
+      machine = d.machine ∙ ap (λ (z : CacheState _ _ _). let p = into_main c.args.key z.machine in (stored p.slot c.args.value p.machine)) c.self.view_is;
+      hasher = ap (λ (z : CacheState _ _ _). z.hasher) c.self.view_is;
+      counts = rw (← c.self.view_is) (joined-spends c.self.inside.queues c.self.inside.history c.self.inside.keys c.append.new.self c.enter.new.keys 1 6 (ap (λ (z : QueueState). z.inspections) c.append.ensures.queues) c.append.ensures.accesses (omega arith) (ap (λ (z : KeyPlaces _ _). z.questions) c.enter.ensures.kept));
+    }
