@@ -2,9 +2,10 @@
 use Rattle.std.proofs.Common.{◌≡◌, ℕ, false, eqb, List, [], ◌∷◌, ◌++◌, refl}
 use Rattle.std.specs.Prelude.{Some, None}
 use Rattle.clock2q_cache.specs.Machine.{Machine}
-use Rattle.clock2q_cache.specs.Calls.{Call, Put, Get, Contains, GetAt, Remove, SlotFor, Try, Value, Flag}
+use Rattle.clock2q_cache.specs.Calls.{Call, Put, Get, Contains, GetAt, Remove, Retain, Clear, SlotFor, Try, Value, Flag}
 use Rattle.clock2q_cache.specs.Steps.{answers, after_all}
 use Rattle.clock2q_cache.specs.Bounds.{set_bits, inspections_of, main_victims, settings, summed}
+use Rattle.clock2q_cache.specs.Costs.{most_accesses}
 use Rattle.clock2q_cache.proofs.WorkedRuns.{puts, gets, state, chosen}
 
 -- looks, victims and settings over a run
@@ -47,3 +48,7 @@ no_look_where_a_fetch_fails = refl
 
 a_hit_at_a_slot_sets_a_bit : counts (Put 1 10 ∷ GetAt 1 1 ∷ GetAt 0 1 ∷ []) (state 1 []) ≡ 0 ∷ 0 ∷ 1 ∷ []
 a_hit_at_a_slot_sets_a_bit = refl
+
+links_of_a_whole_round : let m = state 20 (puts 1 20 ++ gets 3 18 ++ Get 1 ∷ []) in
+    (most_accesses eqb (Put 21 21) m ≡ 99) × (most_accesses eqb (Put 20 20) m ≡ 80) × (most_accesses eqb (Get 1) m ≡ 0) × (most_accesses eqb (Retain (false ∷ [])) m ≡ 180) × (most_accesses eqb Clear m ≡ 21)
+links_of_a_whole_round = (refl, refl, refl, refl, refl)
