@@ -8,7 +8,6 @@ pub mod Growth
 pub mod Hashes
 pub mod Held
 pub mod Insertions
-pub mod Interned
 pub mod Keyed
 pub mod Laid
 pub mod Laps
