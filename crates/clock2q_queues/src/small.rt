@@ -23,7 +23,7 @@ pub struct Small {
 impl Small {
     ghost use Rattle.clock2q_queues.specs.Small.{IsSmallQueue, IsInSmall, GrowsOld, age_at, small_slots, small_entries, moved_on, admitted};
 
-    /// A queue with no slot.
+    /// Returns an empty queue.
     pub fn new() -> Self
         ensures empty { (l : LinkState) → small_entries l result ≡ [] }
         ensures whole { (l : LinkState) → IsBlank l → IsSmallQueue l result }
@@ -48,7 +48,7 @@ impl Small {
         self.cursor
     }
 
-    /// Returns the oldest slot.
+    /// Returns the oldest slot, or `None` if there is none.
     pub fn tail(&self) -> Option<u32>
         ensures { (l : LinkState) → IsSmallQueue l self.now → result ≡ last_or None (small_slots l self.now) }
     {
@@ -80,7 +80,7 @@ impl Small {
         }
     }
 
-    /// Admits a slot: it stands in front, young, and all other young ones grow older.
+    /// Admits a slot, as the newest and young. All other young slots grow older.
     pub fn push<A: Allocator>(&mut self, links: &mut Links<A>, slot: u32)
         requires whole { IsSmallQueue links.old self.old }
         requires slot_in { slot < length links.old.records.items }
@@ -134,7 +134,7 @@ impl Small {
         self.oldest = end_after(self.oldest, slot, self.len, was.previous);
     }
 
-    /// Returns whether a slot goes on to Main rather than out: it is old, and its bit is set.
+    /// Returns whether a slot goes on to Main instead of leaving: it is old, and its bit is set.
     pub fn is_promoted<A: Allocator>(&self, links: &mut Links<A>, slot: u32) -> bool
         requires slot_in { slot < length links.old.records.items }
         requires in_small { IsInSmall (standing_at links.old.records.items slot) }
@@ -144,7 +144,7 @@ impl Small {
         links.is_old_hit(slot)
     }
 
-    /// Leaves no slot in the queue. The records and the places are reset by the links.
+    /// Empties the queue. The links reset the records and the window's places.
     pub fn clear(&mut self)
         ensures empty { (l : LinkState) → small_entries l self.new ≡ [] }
         ensures whole { (l : LinkState) → IsBlank l → IsSmallQueue l self.new }
@@ -163,8 +163,8 @@ fn leave_place<A: Allocator>(links: &mut Links<A>, standing: Mark)
     }
 }
 
-// Returns an end of the queue after a slot left it: where the slot stood there, its neighbour, if
-// there is another slot.
+// Returns an end of the queue after a slot left it. If that slot stood at this end, the end is now
+// its neighbour, or `None` if no slot is left.
 fn end_after(end: Option<u32>, slot: u32, others: usize, neighbour: u32) -> Option<u32>
     ensures { result ≡ end_after end slot others neighbour }
 {
