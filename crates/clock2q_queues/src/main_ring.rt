@@ -43,7 +43,7 @@ impl MainRing {
         ensures entries { main_entries links.new self.new ≡ main_entries links.old self.old ++ (slot, false) ∷ [] }
         ensures others { IsSameBut (slot ∷ main_slots links.old self.old) links.old links.new }
         ensures window { links.new.window ≡ links.old.window }
-        ensures looks { links.new.bits.inspections ≡ links.old.bits.inspections }
+        ensures inspections { links.new.bits.inspections ≡ links.old.bits.inspections }
         ensures accesses { Rises 1 6 links.old.records.accesses links.new.records.accesses }
     {
         links.set_bit(slot, false);
@@ -91,7 +91,7 @@ impl MainRing {
         ensures victim { slice_get (main_entries links.new self.new) 0 ≡ Some (result, false) }
         ensures others { IsSameBut (main_slots links.old self.old) links.old links.new }
         ensures window { links.new.window ≡ links.old.window }
-        ensures looks { links.new.bits.inspections ≡ links.old.bits.inspections + inspections (main_entries links.old self.old) }
+        ensures inspections { links.new.bits.inspections ≡ links.old.bits.inspections + inspections (main_entries links.old self.old) }
         ensures accesses { links.new.records.accesses + 1 ≡ links.old.records.accesses + inspections (main_entries links.old self.old) }
     {
         let mut hand = self.hand.unwrap();

@@ -220,7 +220,7 @@ impl<A: Allocator> Queues<A> {
         requires some { 0 < length self.old.main }
         ensures victim { slice_get (from_victim self.old.main) 0 ≡ Some (result, false) }
         ensures queues { self.new ≡ record self.old { main = drop 1 (from_victim self.old.main); accesses = self.new.accesses; inspections = self.new.inspections } }
-        ensures looks { self.new.inspections ≡ self.old.inspections + inspections self.old.main }
+        ensures inspections { self.new.inspections ≡ self.old.inspections + inspections self.old.main }
         ensures accesses { self.new.accesses ≡ self.old.accesses + inspections self.old.main + 5 }
     {
         let victim = self.select();

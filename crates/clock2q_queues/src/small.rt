@@ -21,7 +21,7 @@ pub struct Small {
 }
 
 impl Small {
-    ghost use Rattle.clock2q_queues.specs.Small.{IsSmallQueue, IsInSmall, GrowsOld, age_at, small_slots, small_entries, moved_on, admitted};
+    ghost use Rattle.clock2q_queues.specs.Small.{IsSmallQueue, IsInSmall, GrowsOld, age_at, small_slots, small_entries, next_cursor, admitted};
 
     /// Returns an empty queue.
     pub fn new() -> Self
@@ -71,7 +71,7 @@ impl Small {
     // Returns the place after the cursor's.
     fn next_place(&self, window: u32) -> u32
         requires { self.now.cursor < window }
-        ensures { result ≡ moved_on window self.now.cursor }
+        ensures { result ≡ next_cursor window self.now.cursor }
     {
         if self.cursor + 1 < window {
             self.cursor + 1
@@ -91,7 +91,7 @@ impl Small {
             ≡ admitted (length links.old.window.items) slot (small_entries links.old self.old) }
         ensures others { IsSameBut (slot ∷ small_slots links.old self.old) links.old links.new }
         ensures window { length links.new.window.items ≡ length links.old.window.items }
-        ensures looks { links.new.bits.inspections ≡ links.old.bits.inspections }
+        ensures inspections { links.new.bits.inspections ≡ links.old.bits.inspections }
         ensures accesses { Rises 3 10 (accesses_of links.old) (accesses_of links.new) }
     {
         self.free_place(links);
@@ -124,7 +124,7 @@ impl Small {
         ensures freed { standing_at links.new.records.items slot ≡ Mark.Free }
         ensures others { IsSameBut (small_slots links.old self.old) links.old links.new }
         ensures window { length links.new.window.items ≡ length links.old.window.items }
-        ensures looks { links.new.bits.inspections ≡ links.old.bits.inspections }
+        ensures inspections { links.new.bits.inspections ≡ links.old.bits.inspections }
         ensures accesses { Rises 6 7 (accesses_of links.old) (accesses_of links.new) }
     {
         let was = links.detach(slot);
