@@ -143,8 +143,8 @@ impl<K, V, A: Allocator> Keys<K, V, A> {
         self.cells.replace(place, hash, key)
     }
 
-    /// Writes a key and a value to the next place, or to one that has a key. In that case the old
-    /// key and value are dropped.
+    /// Writes a key and a value to a place: to the next one, or over the key and value of one that has
+    /// them. The old ones are dropped.
     pub fn write(&mut self, place: u32, hash: u64, key: K, value: V)
     where
         K: Drop,
