@@ -7,7 +7,7 @@ use Rattle.clock2q_handles.specs.Layout.{Placed, placed, put_from, layout_upto, 
 use Rattle.clock2q_handles.specs.TableStep.{IsHashOf, rebuilt, reserved, fit}
 use Rattle.clock2q_handles.specs.declared.error.TableError.TheVariants.{Memory, Size, RunTooLong}
 use Rattle.clock2q_handles.proofs.Hashes.{entries-from, hash-at, hashes-none, hashes-put_all}
-use Rattle.clock2q_handles.proofs.Keyed.{fit_some, keyed_grown, keyed_inserted, keyed_removed}
+use Rattle.clock2q_handles.proofs.HashOfHandle.{fit_some, keyed_grown, keyed_inserted, keyed_removed}
 use Rattle.clock2q_command.specs.TableCommands.{IsReplied, AreReplied, Inserts}
 use Rattle.clock2q_command.specs.declared.table_commands.TableCommand.{TableCommand}
 use Rattle.clock2q_command.specs.declared.table_commands.TableCommand.TheVariants.{Insert, Remove, Find, Reserve, Get}

@@ -1,4 +1,8 @@
-//! Numbers and other values that contracts alone can see.
+//! Numbers and other values that only contracts can see.
+//!
+//! A contract often has to say how often something was done, or what went through a device, though
+//! the program keeps no such number. A [`Count`] or a [`Told`] carries it: it takes no bytes, no
+//! code can read it, and clauses name it as they name any field.
 #![tactic(auto)]
 
 ghost use Rattle.std.specs.Prelude.{◌≡◌, ℕ, ◌+◌, ◌≤◌};
@@ -9,8 +13,19 @@ use std::fmt;
 use std::marker::Model;
 pub use told::Told;
 
-/// How often something was done. It takes no bytes, and no code can read it: it stands inside the
-/// struct whose accesses it counts, and the accessors tick it.
+/// How often something was done. It takes no bytes, and no code can read it: it is a field of the
+/// struct whose accesses it counts, and the accessors tick it. It can only rise.
+///
+/// # Example
+///
+/// ```
+/// pub fn read(&mut self, at: u32) -> T
+///     ensures counted { self.new.accesses.total ≡ self.old.accesses.total + 1 }
+/// {
+///     self.accesses.tick();
+///     self.items[at as usize]
+/// }
+/// ```
 #[derive(Drop)]
 pub struct Count {
     told: Told<usize>,
@@ -25,7 +40,7 @@ impl Model for Count {
 }
 
 impl Count {
-    /// Makes a count of nothing.
+    /// Returns a count of zero.
     pub fn new() -> Count
         ensures zero { result.total ≡ 0 }
     {
@@ -34,14 +49,15 @@ impl Count {
         }
     }
 
-    /// Counts once more.
+    /// Adds one.
     pub fn tick(&mut self)
         ensures ticked { self.new.total ≡ self.old.total + 1 }
     {
         self.told.set(&());
     }
 
-    /// Raises the count to a bound that the proof of the call picks, from what `seen` refers to.
+    /// Raises the count to a bound that the proof of the call picks. The bound may depend on what
+    /// `seen` refers to.
     pub fn raise<X>(&mut self, seen: &X)
         ghost bound: { ℕ }
         requires reached { self.old.total ≤ bound }

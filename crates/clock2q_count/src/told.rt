@@ -3,9 +3,21 @@ ghost use Rattle.std.specs.Prelude.{◌≡◌};
 
 use std::marker::{Model, PhantomData};
 
-/// A value of a `T` that contracts alone can see. It takes no bytes, and no code can read it.
+/// A value of type `T` that only contracts can see. It takes no bytes, and no code can read it.
 ///
-/// Which value it is, the proof of each call picks, from what the call's arguments refer to.
+/// The proof of each call picks the value. It may depend on what the call's argument refers to.
+///
+/// # Example
+///
+/// A [Count](crate::Count) is one of these over a number:
+///
+/// ```
+/// struct Count {
+///     told: Told<usize>,
+/// }
+///
+/// self.told.set(&());
+/// ```
 #[derive(Drop)]
 pub struct Told<T> {
     of: PhantomData<T>,
@@ -17,7 +29,7 @@ impl<T> Model for Told<T> {
 }
 
 impl<T> Told<T> {
-    /// Makes one that tells the picked value.
+    /// Returns a `Told` with the picked value.
     pub fn new<X>(_seen: &X) -> Told<T>
         ghost picked: { T }
         ensures value { result.value ≡ picked }
@@ -25,7 +37,7 @@ impl<T> Told<T> {
         Told { of: PhantomData }
     }
 
-    /// Changes what it tells to the picked value.
+    /// Replaces the value with the picked one.
     pub fn set<X>(&mut self, seen: &X)
         ghost picked: { T }
         ensures value { self.new.value ≡ picked }

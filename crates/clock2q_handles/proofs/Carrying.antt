@@ -6,7 +6,7 @@ use Rattle.std.proofs.Math.Nat.{mod-eq_of_lt, mod-mod, add-mod_right}
 use Rattle.clock2q_handles.specs.Layout.{Placed, placed, slot_at, reach, IsTidy}
 use Rattle.clock2q_handles.specs.Shifts.{Opens, Closes, HasCome, IsVacancy, moved_on}
 use Rattle.clock2q_handles.specs.Slots.{Mark, cell, mark_of, mark_on, mark_back, mark_reach}
-use Rattle.clock2q_handles.proofs.Laps.{lap, lap-lt, lap-same, rem-same}
+use Rattle.clock2q_handles.proofs.Periods.{lap, lap-lt, lap-same, rem-same}
 use Rattle.clock2q_handles.proofs.Reading.{slot-again}
 use Rattle.clock2q_handles.proofs.Moves.{apart_on_lap, at_written, at_other, less_than_lap, MovingBack, moving_back_more, closed, cell-mark_on, cell-mark_back, reach_told, vacant_told}
 use Rattle.clock2q_handles.proofs.Cursors.{rem-plus, goes_on}

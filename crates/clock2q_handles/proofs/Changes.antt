@@ -7,11 +7,11 @@ use Rattle.clock2q_handles.specs.Homes.{capacity, home, listed, count, total, wi
 use Rattle.clock2q_handles.specs.Layout.{Placed, placed, spill, spill_of, slot_at, layout, reach, at_home, met, homes_of, run, IsTidy}
 use Rattle.clock2q_handles.proofs.Spill.{Roomy, spill-again, spill-lt}
 use Rattle.clock2q_handles.proofs.Tiles.{IsGap}
-use Rattle.clock2q_handles.proofs.Laps.{again-at, lap, lap-lt, lap-same, other_home}
+use Rattle.clock2q_handles.proofs.Periods.{again-at, lap, lap-lt, lap-same, other_home}
 use Rattle.clock2q_handles.proofs.Laid.{counts, IsLaid, met-add, none-gap, far-spilled, near-unspilled}
 use Rattle.clock2q_handles.proofs.Walk.{Stops, passed, stop-sum, met-count, met-stop}
 use Rattle.clock2q_handles.proofs.Reading.{slot-again, listed-again}
-use Rattle.clock2q_handles.proofs.Tidy.{capacity-lt, roomy-of, length-homes_of, listed-homes_of, laid-layout, tidy-vacant, tidy-total, read-laid-homes, layout-read, layout-tidy}
+use Rattle.clock2q_handles.proofs.TidyLayout.{capacity-lt, roomy-of, length-homes_of, listed-homes_of, laid-layout, tidy-vacant, tidy-total, read-laid-homes, layout-read, layout-tidy}
 use Rattle.clock2q_handles.proofs.Reaching.{run-is, run-above}
 use Rattle.clock2q_handles.proofs.Gaps.{IsOneMore, one-more, one-less}
 use Rattle.clock2q_handles.proofs.Shifts.{IsOpened, opened-laid, closed-laid}

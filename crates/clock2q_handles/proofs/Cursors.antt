@@ -8,7 +8,7 @@ use Rattle.clock2q_handles.specs.Homes.{top}
 use Rattle.clock2q_handles.specs.Layout.{Placed, slot_at, reach, met, homes_of, walk, IsTidy}
 use Rattle.clock2q_handles.specs.Candidates.{left_from, unread_from, home_back, left_at, unread_at, IsOnWalk, IsLookup}
 use Rattle.clock2q_handles.specs.Slots.{Mark, mark_of, mark_on, mark_reach}
-use Rattle.clock2q_handles.proofs.Laps.{rem-same}
+use Rattle.clock2q_handles.proofs.Periods.{rem-same}
 use Rattle.clock2q_handles.proofs.Reading.{slot-again}
 use Rattle.clock2q_handles.proofs.Steps.{past_home}
 use Rattle.clock2q_handles.proofs.Moves.{less_than_lap, refused, reach_told}

@@ -8,9 +8,9 @@ use Rattle.clock2q_handles.specs.Layout.{spill_of, IsBestPlaced}
 use Rattle.clock2q_handles.specs.TableStep.{rebuilt, grown, doubled, IsFull, IsHashOf}
 use Rattle.clock2q_handles.specs.Changes.{IsNearer}
 use Rattle.clock2q_handles.specs.Slots.{IsSlotCount}
-use Rattle.clock2q_handles.proofs.Tidy.{capacity-lt}
+use Rattle.clock2q_handles.proofs.TidyLayout.{capacity-lt}
 use Rattle.clock2q_handles.proofs.TooLong.{rebuilt-reach}
-use Rattle.clock2q_handles.proofs.Laps.{powers-divide}
+use Rattle.clock2q_handles.proofs.Periods.{powers-divide}
 use Rattle.clock2q_handles.proofs.Hashes.{rebuilt-length, rebuilt-total}
 use Rattle.clock2q_handles.proofs.Placement.{best-placed}
 

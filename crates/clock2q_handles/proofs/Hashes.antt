@@ -9,9 +9,9 @@ use Rattle.clock2q_handles.specs.Homes.{top, capacity, home, listed, total, no_e
 use Rattle.clock2q_handles.specs.Layout.{Placed, slot_at, layout, entries, homes_of, IsTidy, reach}
 use Rattle.clock2q_handles.specs.TableStep.{put_all, rebuilt, IsHashOf}
 use Rattle.clock2q_handles.proofs.Walk.{slice_get-append}
-use Rattle.clock2q_handles.proofs.Tidy.{layout-only, capacity-lt, length-homes_of, tidy-layout, tidy-total, layout-total, layout-tidy, layout-read}
+use Rattle.clock2q_handles.proofs.TidyLayout.{layout-only, capacity-lt, length-homes_of, tidy-layout, tidy-total, layout-total, layout-tidy, layout-read}
 use Rattle.clock2q_handles.proofs.Changes.{length-with_list, listed-with_same, listed-with_other}
-use Rattle.clock2q_handles.proofs.Rebuild.{length-put_all, total-put_all, total-no_entries}
+use Rattle.clock2q_handles.proofs.FewerEntries.{length-put_all, total-put_all, total-no_entries}
 
 module _ {E : Type 0} where
   -- the entries before a slot, once it is passed

@@ -11,7 +11,7 @@ use Rattle.clock2q_handles.specs.Layout.{Placed, placed, layout, entries, spill_
 use Rattle.clock2q_handles.specs.TableStep.{put_all, rebuilt, grown, doubled, IsHashOf}
 use Rattle.clock2q_handles.specs.Rehash.{IsHeld}
 use Rattle.clock2q_handles.proofs.Walk.{slice_get-append}
-use Rattle.clock2q_handles.proofs.Tidy.{layout-only, layout-standing, layout-total, capacity-lt}
+use Rattle.clock2q_handles.proofs.TidyLayout.{layout-only, layout-standing, layout-total, capacity-lt}
 use Rattle.clock2q_handles.proofs.Changes.{length-with_list, listed-with_same, listed-with_other}
 use Rattle.clock2q_handles.proofs.Hashes.{entries-from, hash-at}
 

@@ -7,7 +7,7 @@ use Rattle.clock2q_handles.specs.Shifts.{Opens, HasRoom, IsVacancy}
 use Rattle.clock2q_handles.specs.Slots.{IsSlotCount}
 use Rattle.clock2q_handles.specs.Table.{IsTable}
 use Rattle.clock2q_handles.specs.TableStep.{TableValue, table_value}
-use Rattle.clock2q_handles.proofs.Tidy.{length-homes_of}
+use Rattle.clock2q_handles.proofs.TidyLayout.{length-homes_of}
 use Rattle.clock2q_handles.proofs.Walk.{Stops}
 use Rattle.clock2q_handles.proofs.Changes.{IsMovedOn, inserted-run, inserted-total, inserted-tidy, inserted-homes}
 use Rattle.clock2q_handles.proofs.TooLong.{first-vacant, long-by-new, long-by-moved}

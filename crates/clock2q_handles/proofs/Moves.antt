@@ -5,9 +5,9 @@ use Rattle.std.proofs.lemmas.Nat.{mod_below}
 use Rattle.clock2q_handles.specs.Layout.{Placed, placed, slot_at, reach, IsTidy}
 use Rattle.clock2q_handles.specs.Shifts.{Opens, IsVacancy, moved_on}
 use Rattle.clock2q_handles.specs.Slots.{Mark, cell, mark_of, mark_on, mark_back, mark_reach}
-use Rattle.clock2q_handles.proofs.Laps.{lap, lap-lt, lap-same, rems-differ}
+use Rattle.clock2q_handles.proofs.Periods.{lap, lap-lt, lap-same, rems-differ}
 use Rattle.clock2q_handles.proofs.Reading.{slot-again}
-use Rattle.clock2q_handles.proofs.Tidy.{tidy-vacant}
+use Rattle.clock2q_handles.proofs.TidyLayout.{tidy-vacant}
 
 module _ {E : Type 0} (slots : List (Option (Placed E))) (x : Option (Placed E)) where
   -- the slot that was written

@@ -7,9 +7,9 @@ use Rattle.std.proofs.Math.Nat.{add-mod_right}
 use Rattle.clock2q_handles.specs.Homes.{capacity, count, total}
 use Rattle.clock2q_handles.specs.Layout.{window, spill_of, IsPlacement, StandsPast, IsBestPlaced}
 use Rattle.clock2q_handles.proofs.Spill.{spill-found}
-use Rattle.clock2q_handles.proofs.Laps.{rem-same, rems-differ}
+use Rattle.clock2q_handles.proofs.Periods.{rem-same, rems-differ}
 use Rattle.clock2q_handles.proofs.Reading.{count-again}
-use Rattle.clock2q_handles.proofs.Tidy.{capacity-lt}
+use Rattle.clock2q_handles.proofs.TidyLayout.{capacity-lt}
 
 -- g 0 .. g (n - 1), the last first, and then the rest
 abbrev row_onto : (ℕ → ℕ) → ℕ → List ℕ → List ℕ

@@ -7,9 +7,9 @@ use Rattle.clock2q_handles.specs.TableStep.{TableValue}
 use Rattle.clock2q_handles.specs.Table.{IsWhole}
 use Rattle.clock2q_handles.specs.Changes.{PutIn, IsLaidOut}
 use Rattle.clock2q_handles.specs.declared.error.TableError.{TableError}
-use Rattle.clock2q_handles.proofs.Tidy.{length-homes_of}
+use Rattle.clock2q_handles.proofs.TidyLayout.{length-homes_of}
 use Rattle.clock2q_handles.proofs.Changes.{length-with_list}
-use Rattle.clock2q_handles.proofs.Rebuild.{total-put_last}
+use Rattle.clock2q_handles.proofs.FewerEntries.{total-put_last}
 use Rattle.clock2q_handles.proofs.Placement.{best-placed}
 use Rattle.clock2q_handles.proofs.TooLong.{too-long-total}
 use Rattle.clock2q_handles.proofs.Removals.{restored-slots}

@@ -9,7 +9,7 @@ use Rattle.clock2q_handles.specs.Homes.{listed, count}
 use Rattle.clock2q_handles.specs.Layout.{Placed, placed, spill, spill_of, slot_at, put_from, layout_upto, layout}
 use Rattle.clock2q_handles.proofs.Spill.{Roomy, spill-again, spill-lt}
 use Rattle.clock2q_handles.proofs.Tiles.{IsGap, apart}
-use Rattle.clock2q_handles.proofs.Laps.{rem-same, rems-differ}
+use Rattle.clock2q_handles.proofs.Periods.{rem-same, rems-differ}
 use Rattle.clock2q_handles.proofs.Laid.{IsLaid}
 
 module _ {E : Type 0} where

@@ -4,8 +4,8 @@ use Rattle.std.specs.List.{list_any}
 use Rattle.std.proofs.Math.Seq.{set-get_or}
 use Rattle.clock2q_handles.specs.Homes.{top, capacity, home, listed, total, with_list, without_first, inserted, is_entry_of, removed, IsNew}
 use Rattle.clock2q_handles.specs.Layout.{Placed, placed, slot_at, walk, layout, homes_of, met, IsTidy}
-use Rattle.clock2q_handles.proofs.Tidy.{tidy-layout, length-homes_of}
-use Rattle.clock2q_handles.proofs.Rebuild.{shorter-walk}
+use Rattle.clock2q_handles.proofs.TidyLayout.{tidy-layout, length-homes_of}
+use Rattle.clock2q_handles.proofs.FewerEntries.{shorter-walk}
 use Rattle.clock2q_handles.proofs.Changes.{list_without, read-split, length-with_list, listed-with_same}
 
 module _ {E : Type 0} (test : E → Bool) where

@@ -5,7 +5,7 @@ use Rattle.std.proofs.lemmas.Option.{slice_get_within}
 use Rattle.clock2q_handles.specs.Layout.{Placed, placed, spill}
 use Rattle.clock2q_handles.proofs.Spill.{Roomy, spill-again}
 use Rattle.clock2q_handles.proofs.Tiles.{IsGap, apart}
-use Rattle.clock2q_handles.proofs.Laps.{lap, lap-lt, lap-same}
+use Rattle.clock2q_handles.proofs.Periods.{lap, lap-lt, lap-same}
 use Rattle.clock2q_handles.proofs.Laid.{counts, IsLaid}
 use Rattle.clock2q_handles.proofs.Gaps.{IsOneMore}
 

@@ -12,10 +12,10 @@ use Rattle.clock2q_handles.specs.Table.{IsTable}
 use Rattle.clock2q_handles.specs.TableStep.{table_value}
 use Rattle.clock2q_handles.specs.Changes.{IsLaidOut}
 use Rattle.clock2q_handles.specs.Found.{Finds, TakesOut}
-use Rattle.clock2q_handles.proofs.Laps.{rem-same, lap, lap-lt, lap-same}
+use Rattle.clock2q_handles.proofs.Periods.{rem-same, lap, lap-lt, lap-same}
 use Rattle.clock2q_handles.proofs.Laid.{met-same}
 use Rattle.clock2q_handles.proofs.Reading.{slot-again}
-use Rattle.clock2q_handles.proofs.Tidy.{length-homes_of, tidy-layout, tidy-room}
+use Rattle.clock2q_handles.proofs.TidyLayout.{length-homes_of, tidy-layout, tidy-room}
 use Rattle.clock2q_handles.proofs.Changes.{IsMovedOn, removed-run, removed-total, removed-tidy, removed-homes, list_without, read-split}
 use Rattle.clock2q_handles.proofs.Placement.{best-placed}
 use Rattle.clock2q_handles.proofs.Removals.{removed-found}

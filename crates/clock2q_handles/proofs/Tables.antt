@@ -10,7 +10,7 @@ use Rattle.clock2q_handles.specs.TableStep.{table_value, made_for, fit}
 use Rattle.clock2q_handles.specs.Slots.{IsSlotCount}
 use Rattle.clock2q_handles.specs.Table.{IsTable, IsWhole}
 use Rattle.clock2q_handles.proofs.Laid.{get_some}
-use Rattle.clock2q_handles.proofs.Tidy.{length-homes_of, tidy-vacant, tidy-layout, tidy-room, read-laid-homes, layout-tidy, layout-read}
+use Rattle.clock2q_handles.proofs.TidyLayout.{length-homes_of, tidy-vacant, tidy-layout, tidy-room, read-laid-homes, layout-tidy, layout-read}
 
 module _ (E : Type 0) where
   -- so many empty slots

@@ -6,14 +6,14 @@ use Rattle.clock2q_handles.specs.Layout.{Placed, spill, spill_of, slot_at, layou
 use Rattle.clock2q_handles.specs.TableStep.{put_all, rebuilt, IsHashOf}
 use Rattle.clock2q_handles.proofs.Spill.{Roomy, spill-again, spill-found, spill-lt, within_lap}
 use Rattle.clock2q_handles.proofs.Tiles.{IsGap, taken, apart}
-use Rattle.clock2q_handles.proofs.Laps.{lap, lap-lt, lap-same, rem-same}
+use Rattle.clock2q_handles.proofs.Periods.{lap, lap-lt, lap-same, rem-same}
 use Rattle.clock2q_handles.proofs.Laid.{IsLaid, get_some, part-reach, gap-reach, reach-none}
 use Rattle.clock2q_handles.proofs.Walk.{Stops, after, stop}
 use Rattle.clock2q_handles.proofs.Reading.{slot-again, count-again}
-use Rattle.clock2q_handles.proofs.Tidy.{capacity-lt, roomy-of, sum-window, length-homes_of, tidy-vacant, tidy-total, read-laid-homes}
+use Rattle.clock2q_handles.proofs.TidyLayout.{capacity-lt, roomy-of, sum-window, length-homes_of, tidy-vacant, tidy-total, read-laid-homes}
 use Rattle.clock2q_handles.proofs.Gaps.{IsOneMore}
 use Rattle.clock2q_handles.proofs.Changes.{length-with_list, listed-with_same, total-with_list, vacant_within, read-stop, one-put, roomy_at, other_at}
-use Rattle.clock2q_handles.proofs.Rebuild.{rebuilding-count, rebuilding-reach}
+use Rattle.clock2q_handles.proofs.FewerEntries.{rebuilding-count, rebuilding-reach}
 use Rattle.clock2q_handles.proofs.Hashes.{entries-all, rebuilt-length, rebuilt-total}
 
 module _ {E : Type 0} where

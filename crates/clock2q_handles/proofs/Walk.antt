@@ -5,7 +5,7 @@ use Rattle.std.proofs.lemmas.Option.{slice_get_within}
 use Rattle.clock2q_handles.specs.Layout.{Placed, placed, window, spill, reach, at_home, met, IsOrdered}
 use Rattle.clock2q_handles.proofs.Spill.{Roomy, spill-again, window-lap}
 use Rattle.clock2q_handles.proofs.Tiles.{unique}
-use Rattle.clock2q_handles.proofs.Laps.{lap, lap-lt, lap-same}
+use Rattle.clock2q_handles.proofs.Periods.{lap, lap-lt, lap-same}
 use Rattle.clock2q_handles.proofs.Laid.{counts, IsLaid, at_home-own, at_home-other, reach-none, met-last, met-add, met-again}
 
 -- the first n slots from h on hold entries more than t further from their homes than h is, and slot n doesn't

@@ -10,9 +10,9 @@ use Rattle.clock2q_handles.specs.Slots.{mark_of}
 use Rattle.clock2q_handles.proofs.Laid.{at_home-other, met-last, met-add}
 use Rattle.clock2q_handles.proofs.Walk.{Stops, after, stop}
 use Rattle.clock2q_handles.proofs.Reading.{slot-again}
-use Rattle.clock2q_handles.proofs.Tidy.{length-homes_of, listed-homes_of, tidy-vacant}
+use Rattle.clock2q_handles.proofs.TidyLayout.{length-homes_of, listed-homes_of, tidy-vacant}
 use Rattle.clock2q_handles.proofs.Changes.{read-stop}
-use Rattle.clock2q_handles.proofs.Rebuild.{walk-is}
+use Rattle.clock2q_handles.proofs.FewerEntries.{walk-is}
 use Rattle.clock2q_handles.proofs.Finding.{mark_parts}
 use Rattle.clock2q_handles.proofs.Steps.{listed-home, past_home}
 use Rattle.std.specs.Iterator.{MakesProgress, item_count}

@@ -9,8 +9,19 @@ use crate::slots::{Reader, Slots};
 use std::alloc::{Allocator, Global};
 use std::marker::Model;
 
-/// The candidates of a hash, in the order of their slots. Each step reads one word of metadata a
-/// slot, and a handle only where it yields one.
+/// An iterator over the candidates of a hash, in the order of their slots. It reads one word of
+/// metadata for each slot that it passes, and a handle only for each candidate.
+///
+/// # Example
+///
+/// ```
+/// let mut candidates = table.get(hash_of(key));
+/// while let Some(number) = candidates.next() {
+///     if keys[number] == key {
+///         return Some(number);
+///     }
+/// }
+/// ```
 #[derive(Drop)]
 pub struct Candidates<'a, H: Copy + Eq + Default, A: Allocator = Global> {
     reader: Reader<'a, H, A>,
@@ -36,7 +47,7 @@ impl<'a, H: Copy + Eq + Default, A: Allocator> Candidates<'a, H, A> {
     ghost use Rattle.clock2q_handles.specs.Layout.{reach, IsTidy};
     ghost use Rattle.std.specs.Prelude.{ℕ, ◌≤◌};
 
-    /// A lookup that has read nothing yet. Where there are no slots it has ended.
+    /// Returns a lookup that has read nothing yet. If there are no slots, it yields nothing.
     pub(super) fn new(slots: &'a Slots<H, A>, hash: u64) -> Candidates<'a, H, A>
         requires tidy { IsTidy slots.now.slots }
         requires near { (k : ℕ) → reach (slot_at slots.now.slots k) ≤ 16777215 }
@@ -56,7 +67,7 @@ impl<'a, H: Copy + Eq + Default, A: Allocator> Candidates<'a, H, A> {
 }
 
 impl<'a, H: Copy + Default, A: Allocator> Reader<'a, H, A> {
-    /// Takes a walk on to its next candidate: returns its slot, and what is looked
+    /// Takes a walk on to its next candidate. Returns the candidate's slot, and what the walk looks
     /// for there.
     #[inline(always)]
     fn candidate(&mut self, mut slot: usize, mut wanted: Wanted) -> Option<(usize, Wanted)>

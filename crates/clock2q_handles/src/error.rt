@@ -1,11 +1,21 @@
-//! What a table refuses.
+//! Why a table refuses a call.
 
 use thiserror::Error;
 
-/// Why a call of a [Table] was refused.
+/// The reason why a [Table](crate::Table) refused a call.
+///
+/// # Example
+///
+/// ```
+/// match table.insert(hash, handle, rehash) {
+///     Ok(()) => println!(rt; "inserted")?,
+///     Err(TableError::Memory) => println!(rt; "out of memory")?,
+///     Err(refusal) => println!(rt; "refused: {refusal}")?,
+/// }
+/// ```
 #[derive(Debug, Clone, Copy, PartialEq, Eq, Error)]
 pub enum TableError {
-    /// Memory for the slots can't be had.
+    /// There is no memory for the slots.
     #[error("no memory")]
     Memory,
     /// The entries, or the slots for them, are too many to count.

@@ -1,19 +1,44 @@
 //! A multimap from hashes of 64 bits to handles that its caller owns.
 //!
-//! A [`Table`] keeps no keys. The caller has them elsewhere, each behind a handle such as an index,
-//! and the table finds the handles that were put in under a hash. Of a hash it uses the low bits,
-//! which name a home slot, and the top byte, a fingerprint that it keeps. So a lookup yields
-//! [`Candidates`], which the caller tells apart by their keys, and a growth asks the caller for the
-//! hash of each held handle. Hashes have to be spread well over both parts; where someone else
-//! picks the keys, use a hasher with a secret seed.
+//! A [`Table`] keeps no keys. The caller keeps them elsewhere, each behind a handle such as an
+//! index, and the table finds the handles that were inserted under a hash. It uses two parts of a
+//! hash: the low bits name a home slot, and the top byte is a fingerprint, which it stores. A
+//! lookup therefore yields [`Candidates`], among which the caller finds the wanted key, and a
+//! growth asks the caller for the hash of each held handle. Hashes have to be spread well over both
+//! parts; where someone else picks the keys, use a hasher with a secret seed.
 //!
-//! Entries stand at their home slot or after it, those of earlier homes first, so a walk knows from
-//! a slot's metadata alone where it can stop. A removal moves the entries behind it back: where
-//! entries stand depends on what is held, and not on what was held before. Handles under one hash
-//! stand in a row, so an insertion or a removal among them takes time linear in their number.
+//! # Where entries stand
 //!
-//! A table has no slots at first, and then 16 or a larger power of two. It takes entries for three
-//! quarters of them and doubles when it is full; it never shrinks.
+//! The slots are those of a Robin Hood table. An entry stands at its home slot or after it, and
+//! entries of earlier homes stand first, so a lookup knows from a slot's metadata alone where it
+//! can stop. Here the handles 0 to 4 were inserted under the hashes 4, 4, 5, 7 and 7, into 16
+//! slots:
+//!
+//! ```text
+//! slot           3     4     5     6     7     8     9
+//!             +-----+-----+-----+-----+-----+-----+-----+
+//! handle      |     |  0  |  1  |  2  |  3  |  4  |     |
+//! home        |     |  4  |  4  |  5  |  7  |  7  |     |
+//! past home   |     |  0  |  1  |  1  |  0  |  1  |     |
+//!             +-----+-----+-----+-----+-----+-----+-----+
+//! ```
+//!
+//! A lookup of hash 5 reads three slots. The entry in slot 5 is one slot past its home, further
+//! than the lookup is from home 5, so the lookup goes on. The entry in slot 6 is as far past its
+//! home as the lookup is: handle 2 is a candidate. The entry in slot 7 is nearer to its home than
+//! the lookup is, so no entry of home 5 stands there or later, and the lookup ends.
+//!
+//! A removal moves the entries after it back by one slot, up to an empty slot or an entry at its
+//! home. Without handle 1, handle 2 stands in slot 5, slot 6 is empty, and handles 3 and 4 stay. So
+//! the slots depend on the entries that are held, and not on those that were held before.
+//!
+//! Handles under one hash stand side by side, so an insertion or a removal among them takes time
+//! linear in their number.
+//!
+//! # Size
+//!
+//! A new table has no slots; after that it has 16 or a larger power of two. It holds entries up to
+//! three quarters of its slots. A full table doubles its slots, and no table shrinks.
 #![tactic(auto)]
 
 mod candidates;

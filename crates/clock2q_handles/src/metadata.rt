@@ -1,12 +1,13 @@
-//! What a table keeps of an entry beside its handle: one word a slot.
+//! What a table keeps of an entry beside its handle: one word for each slot.
 ghost use Rattle.clock2q_handles.specs.Homes.{top};
 ghost use Rattle.std.specs.Prelude.{◌≡◌, ◌+◌, ◌≤◌, ◌<◌, ◌↔◌, IsTrue, IsSome, None, Some};
 
-/// One unit of reach, which is an entry's displacement and one more: a fingerprint stands below it.
+/// One unit of reach, which is an entry's displacement plus one. The fingerprint is in the bits
+/// below it.
 const UNIT: u32 = 1 << 8;
 
-/// An empty slot's word: any word below a unit says as much, and one that isn't made of equal bytes
-/// is filled in by words.
+/// An empty slot's word. Any word below a unit would do; this one isn't made of equal bytes, so
+/// that the compiler fills it in by words and not byte by byte.
 const EMPTY: u32 = 1;
 
 /// The furthest that an entry may stand past its home.
@@ -27,7 +28,7 @@ impl Metadata {
         Metadata { word: EMPTY }
     }
 
-    /// What an entry of that hash has, so far past its home.
+    /// Returns the metadata of an entry of `hash` that stands `displacement` slots past its home.
     pub(super) fn new(hash: u64, displacement: usize) -> Metadata
         requires { displacement ≤ MAX_DISPLACEMENT }
         ensures { told result ≡ Some (displacement, top hash) }
@@ -43,22 +44,22 @@ impl Metadata {
         self.word < UNIT
     }
 
-    /// Whether a walk that has come so far from its home ends here: the slot is empty, or its entry
-    /// is nearer to its own home.
+    /// Returns whether a walk that is `distance` slots past its home ends here: the slot is empty,
+    /// or its entry is nearer to its own home.
     pub(super) fn ends_walk(self, distance: usize) -> bool
         ensures { IsTrue result ↔ (mark_reach (told self) ≤ distance) }
     {
         (self.word / UNIT) as usize <= distance
     }
 
-    /// Whether a walk ends here that looks for `wanted` in this slot.
+    /// Returns whether a walk that looks for `wanted` in this slot ends here.
     pub(super) fn ends_walk_for(self, wanted: Wanted) -> bool
         ensures { IsTrue result ↔ (mark_reach (told self) < mark_reach (sought wanted)) }
     {
         u64::from(self.word) < wanted.word / WANTED_UNIT * WANTED_UNIT
     }
 
-    /// Whether the slot's entry is of the kind that is looked for.
+    /// Returns whether the slot's entry is of the kind that is looked for.
     pub(super) fn is(self, wanted: Wanted) -> bool
         requires { IsSome (sought wanted) }
         ensures { IsTrue result ↔ (told self ≡ sought wanted) }
@@ -66,7 +67,8 @@ impl Metadata {
         u64::from(self.word) == wanted.word
     }
 
-    /// The slot's entry has the home of a walk that has come so far, and the hash's fingerprint.
+    /// Returns whether the slot's entry has the fingerprint of `hash`, and the home of a walk that
+    /// is `distance` slots past it.
     pub(super) fn is_candidate(self, hash: u64, distance: usize) -> bool
         requires { distance ≤ MAX_DISPLACEMENT }
         ensures { IsTrue result ↔ (told self ≡ Some (distance, top hash)) }
@@ -74,14 +76,14 @@ impl Metadata {
         self.word == Metadata::new(hash, distance).word
     }
 
-    /// Whether the entry may stand one slot further past its home.
+    /// Returns whether the entry may move on by one slot.
     pub(super) fn can_move_on(self) -> bool
         ensures { IsTrue result ↔ (mark_reach (told self) ≤ MAX_DISPLACEMENT) }
     {
         (self.word / UNIT) as usize <= MAX_DISPLACEMENT
     }
 
-    /// Whether there is an entry, and it isn't at its home.
+    /// Returns whether there is an entry, and it isn't at its home.
     pub(super) fn can_move_back(self) -> bool
         ensures { IsTrue result ↔ (1 < mark_reach (told self)) }
     {
@@ -128,7 +130,7 @@ impl Wanted {
         Wanted { word: 0 }
     }
 
-    /// What a walk for the hash looks for at its home.
+    /// Returns what a walk for `hash` looks for at its home.
     pub(super) fn new(hash: u64) -> Wanted
         ensures { sought result ≡ Some (0, top hash) }
     {
@@ -143,7 +145,7 @@ impl Wanted {
         self.word < WANTED_UNIT
     }
 
-    /// What the walk looks for in the next slot.
+    /// Returns what the walk looks for in the next slot.
     pub(super) fn next(self) -> Wanted
         requires some { IsSome (sought self) }
         requires room { mark_reach (sought self) ≤ MAX_DISPLACEMENT + 1 }
@@ -154,7 +156,7 @@ impl Wanted {
         }
     }
 
-    /// Returns what an entry has that is put in where the walk ends.
+    /// Returns the metadata of an entry that is inserted where the walk ends.
     pub(super) fn metadata(self) -> Metadata
         requires { mark_reach (sought self) ≤ MAX_DISPLACEMENT + 1 }
         ensures { told result ≡ sought self }

@@ -1,10 +1,18 @@
-//! Which of several tables a hash belongs to.
+//! Splitting keys among several tables.
 ghost use Rattle.clock2q_handles.specs.Partition.{IsPartitionCount, IsGroupOf, SameMiddle};
 ghost use Rattle.std.specs.Prelude.{◌≡◌, ◌<◌, ℕ};
 
-/// Which of `partitions` groups `hash` falls in. The group comes from the bits just below the top
-/// byte, of which a table of fewer than 2^40 slots reads none, so keys that are split among tables
-/// by group stay spread over every home and fingerprint of their own table.
+/// Returns the group that `hash` falls in, below `partitions`, which is a power of two.
+///
+/// The group comes from the bits just below the top byte. A table of fewer than 2^40 slots reads
+/// none of them, so keys that are split among tables by group stay spread over every home and
+/// fingerprint of their own table.
+///
+/// # Example
+///
+/// ```
+/// let table = &mut tables[partition(hash, 16)];
+/// ```
 pub fn partition(hash: u64, partitions: usize) -> usize
     requires count { IsPartitionCount partitions }
     ensures group { IsGroupOf hash partitions result }

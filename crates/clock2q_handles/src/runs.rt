@@ -1,4 +1,4 @@
-//! Walks along a table's slots, and what moves entries within a run.
+//! Walks along a table's slots, and moves of entries within a run.
 ghost use Rattle.clock2q_handles.specs.Homes.{top, is_entry_of, listed};
 ghost use Rattle.clock2q_handles.specs.Candidates.{IsNextCandidate, left_from, matching};
 ghost use Rattle.clock2q_handles.specs.Found.{Finds};
@@ -15,8 +15,8 @@ use crate::slots::Slots;
 use std::alloc::Allocator;
 
 impl<H: Copy + Default, A: Allocator> Slots<H, A> {
-    /// How far from the home a walk ends: at the first empty slot or entry that is nearer to its
-    /// own home.
+    /// Returns how far from the home a walk ends: at the first slot that is empty, or whose entry
+    /// is nearer to its own home.
     pub(super) fn end(&self, home: usize) -> usize
         requires tidy { IsTidy self.now.slots }
         requires home { home < length self.now.slots }
@@ -31,8 +31,8 @@ impl<H: Copy + Default, A: Allocator> Slots<H, A> {
         distance
     }
 
-    /// Offers the candidates of `hash` up to the first that is accepted. Answers it, or else how
-    /// far from the home the walk ended.
+    /// Calls `matches` on the candidates of `hash`, up to the first that it accepts. Returns that
+    /// candidate, or else how far from the home the walk ended.
     pub(super) fn offer<F: FnMut(H) -> bool>(
         &self,
         home: usize,
@@ -65,8 +65,8 @@ impl<H: Copy + Default, A: Allocator> Slots<H, A> {
         }
     }
 
-    /// How far from the home the first empty slot is, from where a walk ended on, or None where an
-    /// entry on the way stands as far past its home as one may.
+    /// Returns how far from the home the first empty slot is, at or after the slot where a walk
+    /// ended. Returns `None` if an entry before it is already as far past its home as one may be.
     fn vacancy(&self, home: usize, from: usize) -> Option<usize>
         requires tidy { IsTidy self.now.slots }
         requires home { home < length self.now.slots }
@@ -92,9 +92,9 @@ impl<H: Copy + Default, A: Allocator> Slots<H, A> {
         }
     }
 
-    /// Puts an entry in at a distance from the home of its hash, where the walk for it ended. The
-    /// rest of the run moves on one slot. Answers whether no entry would come to stand too far
-    /// past its home; if one would, nothing changes.
+    /// Inserts an entry at a distance from the home of its hash, where the walk for it ended, and
+    /// returns true. The rest of the run moves on by one slot. If that would take an entry too far
+    /// past its home, changes nothing and returns false.
     pub(super) fn put_in(&mut self, home: usize, distance: usize, hash: u64, handle: H) -> bool
         requires tidy { IsTidy self.old.slots }
         requires home { home < length self.old.slots }
@@ -120,7 +120,7 @@ impl<H: Copy + Default, A: Allocator> Slots<H, A> {
         true
     }
 
-    /// Moves the entries from one distance up to another, where the slot is empty, on by one slot.
+    /// Moves the entries from the distance `from` up to the empty slot `vacancy` on by one slot.
     fn move_on(&mut self, home: usize, from: usize, vacancy: usize)
         requires home { home < length self.old.slots }
         requires from { from ≤ vacancy }

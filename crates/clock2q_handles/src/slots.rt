@@ -19,8 +19,8 @@ use std::alloc::{AllocError, Allocator};
 use std::marker::Model;
 pub(super) use view::{SlotsMut, SlotsRef};
 
-/// The slots: a power of two of them, or none. A slot is named by a home and a distance from it,
-/// counted circularly.
+/// The slots: a power of two of them, or none. Some methods name a slot by a home and a distance
+/// from it, and slot 0 follows the last.
 #[derive(Drop)]
 pub struct Slots<H, A: Allocator> {
     metadata: Vec<Metadata, A>,
@@ -44,7 +44,7 @@ impl<H, A: Allocator> Model for Slots<H, A> {
 impl<H: Copy + Default, A: Allocator> Slots<H, A> {
     ghost use Rattle.clock2q_handles.specs.Slots.{slots_value, mark_of};
 
-    /// No slots, and no memory.
+    /// Returns no slots, without taking memory.
     pub(super) fn new(alloc: A) -> Slots<H, A>
     where
         A: Copy,
@@ -57,7 +57,7 @@ impl<H: Copy + Default, A: Allocator> Slots<H, A> {
         }
     }
 
-    /// So many empty slots.
+    /// Returns `count` empty slots.
     pub(super) fn with_count(alloc: A, count: usize) -> Result<Slots<H, A>, AllocError>
     where
         A: Copy,
@@ -92,7 +92,7 @@ impl<H: Copy + Default, A: Allocator> Slots<H, A> {
         SlotsRef::new(self.metadata.as_slice(), self.handles.as_slice())
     }
 
-    /// How many slots there are.
+    /// Returns how many slots there are.
     pub(super) fn count(&self) -> usize
         ensures count { result ≡ length self.now.slots }
         ensures power { IsSlotCount (length self.now.slots) }
@@ -101,7 +101,7 @@ impl<H: Copy + Default, A: Allocator> Slots<H, A> {
         self.metadata.len()
     }
 
-    /// The home slot of a hash, where there are slots.
+    /// Returns the home slot of a hash, if there are slots.
     pub(super) fn home(&self, hash: u64) -> usize
         ensures home { 0 < length self.now.slots → result ≡ hash % length self.now.slots }
         ensures within { 0 < length self.now.slots → result < length self.now.slots }
@@ -111,7 +111,7 @@ impl<H: Copy + Default, A: Allocator> Slots<H, A> {
         hash as usize & mask
     }
 
-    /// The slot after another, which is slot 0 after the last.
+    /// Returns the slot after another: slot 0 after the last.
     fn after(&self, slot: usize) -> usize
         requires { slot < length self.now.slots }
         ensures after { result ≡ (slot + 1) % length self.now.slots }
@@ -135,7 +135,7 @@ impl<H: Copy + Default, A: Allocator> Slots<H, A> {
         self.handles[slot]
     }
 
-    /// Takes the first candidate of `hash` that equals `handle` out, and returns whether there was
+    /// Removes the first candidate of `hash` that equals `handle`, and returns whether there was
     /// one.
     #[inline(always)]
     pub(super) fn remove(&mut self, hash: u64, handle: H) -> bool
@@ -156,7 +156,7 @@ impl<H: Copy + Default, A: Allocator> Slots<H, A> {
         )
     }
 
-    /// Puts an entry in where no entry comes to stand too far past its home.
+    /// Inserts an entry into slots of which no entry is too far past its home to move on.
     #[inline(always)]
     pub(super) fn put(&mut self, hash: u64, handle: H)
         requires tidy { IsTidy self.old.slots }
@@ -173,8 +173,8 @@ impl<H: Copy + Default, A: Allocator> Slots<H, A> {
         );
     }
 
-    /// Puts each entry of other slots in, in the order of those slots, under the hash that `rehash`
-    /// gives its handle.
+    /// Inserts each entry of other slots, in the order of those slots, under the hash that `rehash`
+    /// returns for its handle.
     pub(super) fn put_all<F: FnMut(H) -> u64>(&mut self, old: SlotsRef<'_, H>, rehash: &mut F)
         requires same { length old.handles.now ≡ length old.metadata.now }
         requires movable { MayMove F.FnMut rehash.old (cells old.metadata.now old.handles.now) self.old.slots }
@@ -257,7 +257,7 @@ fn remove_from<H: Copy + Default + PartialEq>(
     slots.remove(hash, handle)
 }
 
-/// Puts an entry in over a view of both vectors.
+/// Inserts an entry over a view of both vectors.
 #[inline(always)]
 fn put_into<H: Copy + Default>(
     metadata: &mut [Metadata],
@@ -279,7 +279,7 @@ fn put_into<H: Copy + Default>(
     slots.put(hash, handle);
 }
 
-/// Puts each entry of other slots in over one view of both vectors.
+/// Inserts each entry of other slots over one view of both vectors.
 #[inline(always)]
 fn put_all_into<H: Copy + Default, F: FnMut(H) -> u64>(
     metadata: &mut [Metadata],

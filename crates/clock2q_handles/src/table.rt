@@ -20,7 +20,22 @@ use std::alloc::{Allocator, Global};
 use std::fmt;
 use std::marker::Model;
 
-/// A multimap from hashes of 64 bits to handles. See the [crate](crate) for what it keeps of them.
+/// A multimap from hashes of 64 bits to handles. The [crate](crate)'s page says what it keeps of
+/// them, and where.
+///
+/// # Example
+///
+/// ```
+/// let mut table: Table<usize> = Table::with_capacity(rt.alloc(), 12)?;
+/// table.insert(7, 70, |_| 7)?;
+/// table.insert(7, 71, |_| 7)?;
+/// let mut candidates = table.get(7);
+/// assert_eq!(rt; candidates.next(), Some(70));
+/// assert_eq!(rt; candidates.next(), Some(71));
+/// assert_eq!(rt; candidates.next(), None);
+/// assert!(rt; table.remove(7, 70));
+/// assert_eq!(rt; table.len(), 1);
+/// ```
 #[derive(Drop)]
 pub struct Table<H: Copy + Eq + Default, A: Allocator = Global> {
     slots: Slots<H, A>,
@@ -57,12 +72,15 @@ impl<H: Copy + Eq + Default, A: Allocator + Copy> Table<H, A> {
         }
     }
 
-    /// Returns an empty table that takes `entries` entries before it grows.
+    /// Returns an empty table that holds `entries` entries before it grows.
     ///
     /// # Errors
     ///
-    /// `Size` where the slots are too many to count, and `Memory` where there is no memory for
-    /// them.
+    /// `Size` if the slots are too many to count, and `Memory` if there is no memory for them.
+    ///
+    /// # Cost
+    ///
+    /// Linear in `entries`: every slot is filled in.
     pub fn with_capacity(alloc: A, entries: usize) -> Result<Table<H, A>, TableError>
         ensures made { IfOk result (λ t. t ≡ table_value (made_for entries) (layout (made_for entries)) 0) }
         ensures size { IsErrOf result TableError.Size ↔ ((0 < entries) × (2 ^ 64 ≤ fit entries)) }
@@ -82,19 +100,22 @@ impl<H: Copy + Eq + Default, A: Allocator + Copy> Table<H, A> {
     }
 
     /// Inserts `handle` under `hash`, last among the entries of its home. Handles and hashes may
-    /// repeat. A full table first grows to twice the slots: then, and only then, `rehash` is called
-    /// once on each held handle, in the order of their slots, for the hash that it was inserted
+    /// repeat.
+    ///
+    /// A full table first grows to twice the slots. Then, and only then, it calls `rehash` once on
+    /// each held handle, in the order of the slots, for the hash that the handle was inserted
     /// under.
     ///
     /// # Errors
     ///
-    /// `Memory` where the table is full and can't grow: it is unchanged. `RunTooLong` where an
-    /// entry would stand more than 2^24 - 2 slots past its home, which takes 2^24 entries: nothing
-    /// is inserted, but a full table has grown.
+    /// - `Memory` if the table is full and there is no memory to grow. The table is unchanged.
+    /// - `RunTooLong` if an entry would stand more than 2^24 - 2 slots past its home, which takes
+    ///   2^24 entries. Nothing is inserted, but a table that was full has grown.
     ///
     /// # Cost
     ///
-    /// Below capacity, writes the slots from the new entry's to the end of its run.
+    /// Below capacity it writes the slots from the new entry's to the end of its run. A growth is
+    /// linear in the number of slots.
     #[inline(always)]
     pub fn insert<F: FnMut(H) -> u64>(
         &mut self,
@@ -116,14 +137,20 @@ impl<H: Copy + Eq + Default, A: Allocator + Copy> Table<H, A> {
         self.insert_within_capacity(hash, handle)
     }
 
-    /// Returns the first candidate of `hash` that `matches` accepts, and false; where it accepts
-    /// none, inserts `handle` under `hash` as [insert](Table::insert) does, and returns it and
-    /// true. A full table grows first, whether or not a candidate is accepted. Then `matches` is
-    /// called on the candidates in order, up to the first that it accepts.
+    /// Returns the first candidate of `hash` that `matches` accepts, and false. If it accepts none,
+    /// inserts `handle` under `hash` as [insert](Table::insert) does, and returns it and true.
+    ///
+    /// A full table grows first, whether or not a candidate is accepted. Then `matches` is called
+    /// on the candidates in order, up to the first that it accepts.
     ///
     /// # Errors
     ///
-    /// As [insert](Table::insert); `RunTooLong` only where no candidate was accepted.
+    /// Those of [insert](Table::insert). `RunTooLong` comes only if no candidate was accepted.
+    ///
+    /// # Cost
+    ///
+    /// That of [get](Table::get), and that of [insert](Table::insert) if no candidate is accepted
+    /// or the table is full.
     pub fn find_or_insert<M: FnMut(H) -> bool, F: FnMut(H) -> u64>(
         &mut self,
         hash: u64,
@@ -161,14 +188,14 @@ impl<H: Copy + Eq + Default, A: Allocator> Table<H, A> {
         self.len
     }
 
-    /// Returns true if there is no entry.
+    /// Returns whether the table has no entry.
     pub fn is_empty(&self) -> bool
         ensures empty { IsTrue result ↔ (total self.now.homes ≡ 0) }
     {
         self.len() == 0
     }
 
-    /// Returns how many entries fit before the table grows: three quarters of the slots.
+    /// Returns how many entries the table holds before it grows: three quarters of its slots.
     pub fn capacity(&self) -> usize
         ensures capacity { result ≡ capacity (length self.now.homes) }
     {
@@ -176,13 +203,13 @@ impl<H: Copy + Eq + Default, A: Allocator> Table<H, A> {
     }
 
     /// Returns an iterator over the handles whose home and fingerprint are those of `hash`, in the
-    /// order of their slots: all that were inserted under it, and those under another hash that
-    /// agrees in both.
+    /// order of their slots. They are the handles that were inserted under `hash`, and those under
+    /// other hashes that agree with it in both.
     ///
     /// # Cost
     ///
-    /// An iterator that is drained reads the slots from the home of `hash` to the end of the walk:
-    /// to the first that is empty, or whose entry is nearer to its own home.
+    /// The iterator reads slots as it is advanced. Drained, it has read those from the home of
+    /// `hash` to the first that is empty or whose entry is nearer to its own home.
     pub fn get(&self, hash: u64) -> Candidates<'_, H, A>
         ensures candidates { result.left ≡ candidates self.now.homes hash }
         ensures reads { result.reads ≡ 0 }
@@ -191,23 +218,23 @@ impl<H: Copy + Eq + Default, A: Allocator> Table<H, A> {
         Candidates::new(&self.slots, hash)
     }
 
-    /// Tells the table that `hash` is looked up next. It changes nothing.
+    /// Hints that `hash` is looked up next. It changes nothing, and does nothing yet.
     pub fn prefetch(&self, hash: u64) {
         let _ = hash;
     }
 
     /// Inserts `handle` under `hash`, last among the entries of its home, in a table that is below
-    /// [capacity](Table::capacity). It takes no memory, and needs no hash of what is held. A table
-    /// that [with_capacity](Table::with_capacity) made for so many entries takes as many this way.
+    /// [capacity](Table::capacity). It takes no memory, and asks for no hash of a held handle. A
+    /// table from [with_capacity](Table::with_capacity) takes all its entries this way.
     ///
     /// # Errors
     ///
-    /// `RunTooLong` where an entry would stand more than 2^24 - 2 slots past its home, which takes
+    /// `RunTooLong` if an entry would stand more than 2^24 - 2 slots past its home, which takes
     /// 2^24 entries. The table is unchanged.
     ///
     /// # Cost
     ///
-    /// Writes the slots from the new entry's to the end of its run.
+    /// It writes the slots from the new entry's to the end of its run.
     #[inline(always)]
     pub fn insert_within_capacity(&mut self, hash: u64, handle: H) -> Result<(), TableError>
         requires room { IsBelowCapacity self.old.homes }
@@ -293,12 +320,13 @@ impl<H: Copy + Eq + Default, A: Allocator> Table<H, A> {
         Ok(())
     }
 
-    /// Removes the first candidate of `hash` that equals `handle`, and returns true if there was
-    /// one. The entries behind it in its run move back. It takes no memory and gives none back.
+    /// Removes the first candidate of `hash` that equals `handle`, and returns whether there was
+    /// one. The entries after it move back by one slot, up to an empty slot or an entry at its
+    /// home. The table keeps its memory.
     ///
     /// # Cost
     ///
-    /// Writes the slots from the entry's to the last that moves back.
+    /// It writes the slots from the removed entry's to that of the last entry that moves back.
     pub fn remove(&mut self, hash: u64, handle: H) -> bool
         ensures removed { self.new.homes ≡ removed H.PartialEq.eq self.old.homes hash handle }
         ensures found { result ≡ list_any (is_entry_of H.PartialEq.eq hash handle) (listed self.old.homes hash) }

@@ -1,4 +1,4 @@
-//! What puts entries into a table's slots and takes them out, over a view of both vectors.
+//! Insertion and removal of entries, over a view of both vectors of the slots.
 ghost use Rattle.clock2q_handles.specs.Found.{FindsAt, TakesOut};
 ghost use Rattle.clock2q_handles.specs.Homes.{top, is_entry_of, listed};
 ghost use Rattle.clock2q_handles.specs.Layout.{IsTidy, reach, slot_at, placed, homes_of};
@@ -43,7 +43,7 @@ impl<'a, H: Copy + Default> SlotsMut<'a, H> {
         }
     }
 
-    /// Takes the entry in a slot out. Those that follow it move back one slot, up to an empty slot
+    /// Removes the entry in a slot. The entries after it move back by one slot, up to an empty slot
     /// or an entry at its home.
     #[inline(always)]
     fn take_out(&mut self, slot: usize)
@@ -72,7 +72,7 @@ impl<'a, H: Copy + Default> SlotsMut<'a, H> {
         self.write(hole, Metadata::empty(), H::default());
     }
 
-    /// Takes the first candidate of `hash` that equals `handle` out, and returns whether there was
+    /// Removes the first candidate of `hash` that equals `handle`, and returns whether there was
     /// one.
     #[inline(always)]
     pub(super) fn remove(&mut self, hash: u64, handle: H) -> bool
@@ -113,8 +113,8 @@ impl<'a, H: Copy + Default> SlotsMut<'a, H> {
         (slot, wanted)
     }
 
-    /// Puts an entry into a slot, and each that stood there and after it into the next, up to an
-    /// empty slot.
+    /// Writes an entry to a slot, and moves the entries from there on by one slot, up to an empty
+    /// slot.
     #[inline(always)]
     fn carry(&mut self, mut slot: usize, mut metadata: Metadata, mut handle: H)
         requires view { IsView self.old }
@@ -140,7 +140,7 @@ impl<'a, H: Copy + Default> SlotsMut<'a, H> {
         self.write(slot, metadata, handle);
     }
 
-    /// Puts an entry in where no entry comes to stand too far past its home.
+    /// Inserts an entry into slots of which no entry is too far past its home to move on.
     #[inline(always)]
     pub(super) fn put(&mut self, hash: u64, handle: H)
         requires view { IsView self.old }
@@ -155,8 +155,8 @@ impl<'a, H: Copy + Default> SlotsMut<'a, H> {
         self.carry(slot, wanted.metadata(), handle);
     }
 
-    /// Puts each entry of other slots in, in the order of those slots, under the hash that `rehash`
-    /// gives its handle.
+    /// Inserts each entry of other slots, in the order of those slots, under the hash that `rehash`
+    /// returns for its handle.
     #[inline(always)]
     pub(super) fn put_all<F: FnMut(H) -> u64>(&mut self, old: SlotsRef<'_, H>, rehash: &mut F)
         requires view { IsView self.old }

@@ -14,7 +14,7 @@ use Rattle.clock2q_queues.proofs.Booleans.{and_parts, and_true, and_false, and_s
 use Rattle.clock2q_queues.proofs.Entries.{hash_in}
 use Rattle.clock2q_queues.proofs.Rings.{eqb_self, has_first, has_later, has-append, differs, AllApart-append, without_absent, has-without_test}
 use Rattle.clock2q_queues.proofs.Joining.{length-without}
-use Rattle.clock2q_handles.proofs.Rebuild.{total-no_entries}
+use Rattle.clock2q_handles.proofs.FewerEntries.{total-no_entries}
 use Rattle.clock2q_handles.proofs.Changes.{length-with_list, total-with_list}
 use Rattle.clock2q_handles.proofs.Lookups.{candidates-inserted, candidates-inserted_other, candidates-removed, candidates-removed_other}
 

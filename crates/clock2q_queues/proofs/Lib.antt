@@ -9,7 +9,7 @@ pub mod Histories
 pub mod Hits
 pub mod Indexes
 pub mod Joining
-pub mod Keeping
+pub mod QueuesApart
 pub mod Leaving
 pub mod Lookups
 pub mod Main

@@ -17,7 +17,7 @@ use Rattle.clock2q_queues.specs.Queues.{AreQueues, QueueState, IsWholeQueues, sl
 use Rattle.clock2q_queues.proofs.Rings.{has-append, differs, AllApart-append, AllBelow-append, has-without-back}
 use Rattle.clock2q_queues.proofs.Booleans.{or_parts, or_neither}
 use Rattle.clock2q_queues.proofs.Records.{get_or-same}
-use Rattle.clock2q_queues.proofs.Keeping.{KeepsMain-from, KeepsSmall-from, small_apart, main_apart}
+use Rattle.clock2q_queues.proofs.QueuesApart.{KeepsMain-from, KeepsSmall-from, small_apart, main_apart}
 use Rattle.clock2q_queues.proofs.SlotLists.{slots_of-entries, slots_of-mapped, slots_of-append, slots_of-filter, members-chosen}
 
 -- queues are their lists, what bounds them, and their counts

@@ -12,7 +12,7 @@ use Rattle.clock2q_queues.specs.Rings.{has, AllBelow}
 use Rattle.clock2q_queues.specs.declared.links.Record.{Record}
 use Rattle.clock2q_queues.specs.Cells.{Counted, written}
 use Rattle.clock2q_queues.specs.Links.{LinkState, IsBlank, IsLinked, IsSameBut, Attaches, record_at, next_at, previous_at, standing_at, bit_at, place_at}
-use Rattle.clock2q_queues.specs.Small.{IsSmall, IsSmallQueue, IsInSmall, GrowsOld, small_slots, small_entries, admissions_since, moved_on, age_of, age_at, admitted, is_there}
+use Rattle.clock2q_queues.specs.Small.{IsSmall, IsSmallQueue, IsInSmall, GrowsOld, small_slots, small_entries, admissions_since, next_cursor, age_of, age_at, admitted, is_there}
 use Rattle.clock2q_queues.proofs.Records.{changed}
 use Rattle.clock2q_queues.proofs.Rings.{IsRing-kept, eqb_self, has_first, has_later, differs}
 use Rattle.clock2q_queues.proofs.Joining.{Inserts, Inserts-before, Inserts-first, slots_from-is, IsLinked-turned, first_in, neighbours_fit, same_record}
@@ -21,13 +21,13 @@ use Rattle.clock2q_queues.proofs.Booleans.{or_left, or_parts}
 -- Ages
 
 -- the slot that is admitted has age 0
-pub admissions_since-own : (window cursor : ℕ) → cursor < window → admissions_since window (moved_on window cursor) cursor ≡ 0
+pub admissions_since-own : (window cursor : ℕ) → cursor < window → admissions_since window (next_cursor window cursor) cursor ≡ 0
 admissions_since-own window cursor h = elim (cases_lt (cursor + 1) window) [
   | inl l ↦
-      let a : moved_on window cursor ≡ cursor + 1 = rw (lt-ltb (cursor + 1) window l) refl in
+      let a : next_cursor window cursor ≡ cursor + 1 = rw (lt-ltb (cursor + 1) window l) refl in
       rw (a, lt-ltb cursor (cursor + 1) (omega arith)) (omega arith)
   | inr l ↦
-      let a : moved_on window cursor ≡ 0 = rw (le-ltb (cursor + 1) window l) refl in
+      let a : next_cursor window cursor ≡ 0 = rw (le-ltb (cursor + 1) window l) refl in
       rw (a, le-ltb cursor 0 (omega arith)) (omega arith)
 ]
 
@@ -37,16 +37,16 @@ admissions_since-cursor window cursor h = rw (le-ltb cursor cursor (omega arith)
 
 -- a young slot on another place is older by one, and still within the window
 pub admissions_since-other : (window cursor place : ℕ) → cursor < window → place < window → place ≢ cursor
-    → (admissions_since window (moved_on window cursor) place ≡ admissions_since window cursor place + 1) × (admissions_since window cursor place + 1 < window)
+    → (admissions_since window (next_cursor window cursor) place ≡ admissions_since window cursor place + 1) × (admissions_since window cursor place + 1 < window)
 admissions_since-other window cursor place h p d = elim (cases_lt (cursor + 1) window) [
   | inl l ↦
-      let a : moved_on window cursor ≡ cursor + 1 = rw (lt-ltb (cursor + 1) window l) refl in
+      let a : next_cursor window cursor ≡ cursor + 1 = rw (lt-ltb (cursor + 1) window l) refl in
       elim (cases_lt place cursor) [
         | inl q ↦ rw (a, lt-ltb place (cursor + 1) (omega arith), lt-ltb place cursor q) (omega arith, omega arith)
         | inr q ↦ rw (a, le-ltb place (cursor + 1) (omega arith), le-ltb place cursor q) (omega arith, omega arith)
       ]
   | inr l ↦
-      let a : moved_on window cursor ≡ 0 = rw (le-ltb (cursor + 1) window l) refl in
+      let a : next_cursor window cursor ≡ 0 = rw (le-ltb (cursor + 1) window l) refl in
       rw (a, le-ltb place 0 (omega arith), lt-ltb place cursor (omega arith)) (omega arith, omega arith)
 ]
 
@@ -64,7 +64,7 @@ is_there-own o t e = subst (λ z. is_there z t ≡ true) (sym e) (eqb_self t)
 
 aged_standing : (window cursor : ℕ) (standing : Mark) (bit : Bool) → cursor < window
     → ((place : ℕ) → standing ≡ Young place → (place < window) × (place ≢ cursor))
-    → age_of window (moved_on window cursor) standing bit ≡ grown window (age_of window cursor standing bit)
+    → age_of window (next_cursor window cursor) standing bit ≡ grown window (age_of window cursor standing bit)
 aged_standing window cursor Free bit h y = refl
 aged_standing window cursor Old bit h y = refl
 aged_standing window cursor Main bit h y = refl
@@ -110,7 +110,7 @@ module _ (slot : ℕ) (old : LinkState) (small : Small) (mid aged new : LinkStat
     (o : GrowsOld small.cursor old mid) (e : aged ≡ record mid { window = written small.cursor (Some slot) mid.window })
     (i : Inserts slot (Young small.cursor) (small_slots old small) mid.records.items new.records.items) (rest : new ≡ record aged { records = new.records })
     (newest : small'.newest ≡ Some slot) (oldest : small'.oldest ≡ last_or None (slot ∷ small_slots old small))
-    (count : small'.len ≡ small.len + 1) (cursor : small'.cursor ≡ moved_on (length old.window.items) small.cursor) where
+    (count : small'.len ≡ small.len + 1) (cursor : small'.cursor ≡ next_cursor (length old.window.items) small.cursor) where
   within : small.cursor < length old.window.items
   within = m.cursor_in w
 
@@ -284,7 +284,7 @@ module _ (slot : ℕ) (old : LinkState) (small : Small) (mid aged : LinkState) (
       subst (λ (z : Counted Record). (newest < length z.items) × (previous_at z.items newest < length z.items)) (sym records_aged) (f.0, f.2)
 
   module _ (new : LinkState) (small' : Small) (b : slot < length old.records.items) (absent : has slot (small_slots old small) ≡ false) (w : 0 < length old.window.items)
-      (rest : new ≡ record aged { records = new.records }) (n : small'.newest ≡ Some slot) (c : small'.len ≡ small.len + 1) (r : small'.cursor ≡ moved_on (length old.window.items) small.cursor) where
+      (rest : new ≡ record aged { records = new.records }) (n : small'.newest ≡ Some slot) (c : small'.len ≡ small.len + 1) (r : small'.cursor ≡ next_cursor (length old.window.items) small.cursor) where
     pub Admits-attached : (newest : ℕ) → small.newest ≡ Some newest → Attaches slot newest (Young small.cursor) aged.records new.records → small'.oldest ≡ small.oldest → Admits slot old small new small'
     Admits-attached newest h a d =
         let k = linked_still old mid (small_slots old small) small.cursor m.queue.linked o in

@@ -3,7 +3,7 @@ use Rattle.std.proofs.Common.{◌≡◌, ℕ, Bool, true, false, List, [], ◌�
 use Rattle.std.specs.List.{range_with_len}
 use Rattle.clock2q_queues.specs.Ages.{Age, Young, Old}
 use Rattle.clock2q_queues.specs.MainRing.{inspections, from_victim, main_hit_at}
-use Rattle.clock2q_queues.specs.Small.{admitted, small_hit_at, moved_on}
+use Rattle.clock2q_queues.specs.Small.{admitted, small_hit_at, next_cursor}
 use Rattle.clock2q_queues.specs.Queues.{without_slot}
 
 -- so many slots from the second on, each with this bit
@@ -48,5 +48,5 @@ emptied_places : let twice = admitted 2 3 (without_slot 3 (admitted 2 3 (without
 emptied_places = (refl, refl)
 
 -- the cursor goes round both places, one for each of the seven admissions
-seven_admissions : moved_on 2 (moved_on 2 (moved_on 2 (moved_on 2 (moved_on 2 (moved_on 2 (moved_on 2 0)))))) ≡ 1
+seven_admissions : next_cursor 2 (next_cursor 2 (next_cursor 2 (next_cursor 2 (next_cursor 2 (next_cursor 2 (next_cursor 2 0)))))) ≡ 1
 seven_admissions = refl

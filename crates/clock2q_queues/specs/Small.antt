@@ -10,8 +10,8 @@ use Rattle.clock2q_queues.specs.declared.links.Mark.TheVariants.{Free, Young, Ol
 use Rattle.clock2q_queues.specs.declared.small.Small.{Small}
 
 -- where the cursor goes from a place: to the next one, and from the last to the first
-abbrev pub moved_on : ℕ → ℕ → ℕ
-moved_on window cursor = if nat_lt (cursor + 1) window then cursor + 1 else 0
+abbrev pub next_cursor : ℕ → ℕ → ℕ
+next_cursor window cursor = if nat_lt (cursor + 1) window then cursor + 1 else 0
 
 -- how many admissions the cursor made since it stood on a place: each moved it on by one
 abbrev pub admissions_since : ℕ → ℕ → ℕ → ℕ

@@ -1,10 +1,14 @@
-//! The queues that a cache stands on: [`Queues`](queues::Queues), the two of its residents, which
-//! know slots alone, [`History`](history::History), the keys that left, and [`Keys`](keys::Keys),
-//! keys with their hashes, by which residents and history are found.
+//! What a cache is made of:
 //!
-//! All of them are lists over links by number: whatever is done to an entry takes as many steps
-//! however many there are. Their constructors take all the memory that they will ever have, and no
-//! later call refuses anything.
+//! - [`Queues`](queues::Queues): the two queues of its residents, which know slot numbers and no
+//!   keys;
+//! - [`History`](history::History): the keys that left the first queue;
+//! - [`Keys`](keys::Keys): keys with their hashes and values, by which residents and remembered
+//!   keys are found.
+//!
+//! Queues and history are linked lists whose links are numbers, so a step on one entry costs the
+//! same however many there are. Constructors take all the memory that will ever be needed, and no
+//! later call can fail.
 #![tactic(auto)]
 
 pub mod history;

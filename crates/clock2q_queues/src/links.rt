@@ -11,7 +11,7 @@ pub use cells::Cells;
 use std::alloc::{AllocError, Allocator, Global};
 use std::marker::Model;
 
-/// Where a slot stands, as its record has it.
+/// Where a slot stands, as its record says.
 #[derive(Clone, Copy, Debug, PartialEq, Eq)]
 pub enum Mark {
     /// In neither queue.
@@ -123,7 +123,7 @@ impl<A: Allocator> Model for Links<A> {
 }
 
 impl<A: Allocator> Links<A> {
-    /// Links for so many slots, and a window of so many places.
+    /// Returns links for `slots` slots, and a window of `window` places.
     pub fn new(alloc: A, slots: u32, window: u32) -> Result<Self, AllocError>
     where
         A: Clone,
@@ -219,7 +219,7 @@ impl<A: Allocator> Links<A> {
         self.bits.set(slot, bit);
     }
 
-    /// The hand's look at a slot: returns whether its bit was set, and clears it.
+    /// Returns whether a slot's bit was set, and clears it: the hand's look at a slot.
     pub fn inspect(&mut self, slot: u32) -> bool
         requires { slot < length self.old.records.items }
         ensures value { result ≡ bit_at self.old slot }
@@ -239,7 +239,7 @@ impl<A: Allocator> Links<A> {
         self.bits.is_old_hit(&mut self.records, slot)
     }
 
-    /// Sets every record and every place back to what a constructor makes.
+    /// Resets every record and every place to what the constructor makes.
     pub fn reset(&mut self)
         ensures records { self.new.records.items ≡ replicate (length self.old.records.items) vacant }
         ensures places { self.new.window.items ≡ replicate (length self.old.window.items) None }

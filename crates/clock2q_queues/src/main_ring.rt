@@ -1,4 +1,4 @@
-//! Main: a ring of slots with a hand, which looks for the slot to be given up.
+//! Main: a ring of slots with a hand, which looks for the slot that Main gives up.
 ghost use Rattle.std.specs.Prelude.{◌≡◌, ℕ, ◌+◌, ◌^◌, ◌<◌, ◌≤◌, ◌==◌, true, false, not, [], ◌∷◌, ◌++◌, length, Some, slice_get};
 ghost use Rattle.std.specs.List.{filter};
 ghost use Rattle.clock2q_queues.specs.Cells.{Rises};
@@ -19,7 +19,7 @@ pub struct MainRing {
 impl MainRing {
     ghost use Rattle.clock2q_queues.specs.MainRing.{IsMainRing, main_slots, main_entries, inspections, from_victim};
 
-    /// A ring with no slot.
+    /// Returns an empty ring.
     pub fn new() -> Self
         ensures empty { (l : LinkState) → main_entries l result ≡ [] }
         ensures whole { (l : LinkState) → length l.records.items < 2 ^ 32 → IsMainRing l result }
@@ -34,7 +34,7 @@ impl MainRing {
         self.len
     }
 
-    /// Puts a slot just before the hand, with a clear bit. In an empty ring it is the hand.
+    /// Puts a slot just before the hand, with a clear bit. In an empty ring the hand stands at it.
     pub fn push<A: Allocator>(&mut self, links: &mut Links<A>, slot: u32)
         requires whole { IsMainRing links.old self.old }
         requires slot_in { slot < length links.old.records.items }
@@ -43,7 +43,7 @@ impl MainRing {
         ensures entries { main_entries links.new self.new ≡ main_entries links.old self.old ++ (slot, false) ∷ [] }
         ensures others { IsSameBut (slot ∷ main_slots links.old self.old) links.old links.new }
         ensures window { links.new.window ≡ links.old.window }
-        ensures looks { links.new.bits.inspections ≡ links.old.bits.inspections }
+        ensures inspections { links.new.bits.inspections ≡ links.old.bits.inspections }
         ensures accesses { Rises 1 6 links.old.records.accesses links.new.records.accesses }
     {
         links.set_bit(slot, false);
@@ -81,8 +81,8 @@ impl MainRing {
         }
     }
 
-    /// Moves the hand on to the slot to be given up: it passes each entry whose bit is set, and
-    /// clears the bit.
+    /// Moves the hand on to the slot that Main gives up, and returns that slot. The hand passes
+    /// each slot whose bit is set, and clears the bit.
     pub fn select<A: Allocator>(&mut self, links: &mut Links<A>) -> u32
         requires whole { IsMainRing links.old self.old }
         requires occupied { 0 < length (main_slots links.old self.old) }
@@ -91,7 +91,7 @@ impl MainRing {
         ensures victim { slice_get (main_entries links.new self.new) 0 ≡ Some (result, false) }
         ensures others { IsSameBut (main_slots links.old self.old) links.old links.new }
         ensures window { links.new.window ≡ links.old.window }
-        ensures looks { links.new.bits.inspections ≡ links.old.bits.inspections + inspections (main_entries links.old self.old) }
+        ensures inspections { links.new.bits.inspections ≡ links.old.bits.inspections + inspections (main_entries links.old self.old) }
         ensures accesses { links.new.records.accesses + 1 ≡ links.old.records.accesses + inspections (main_entries links.old self.old) }
     {
         let mut hand = self.hand.unwrap();
@@ -102,7 +102,7 @@ impl MainRing {
         hand
     }
 
-    /// Leaves no slot in the ring. The records are reset by the links.
+    /// Empties the ring. The links reset the records.
     pub fn clear(&mut self)
         ensures empty { (l : LinkState) → main_entries l self.new ≡ [] }
         ensures whole { (l : LinkState) → length l.records.items < 2 ^ 32 → IsMainRing l self.new }

@@ -1,4 +1,4 @@
-//! Small and Main over the links that they share.
+//! The two queues of a cache's residents, Small and Main, over the links that they share.
 ghost use Rattle.std.specs.Prelude.{◌≡◌, ◌+◌, ◌-◌, ◌<◌, ◌⊎◌, false, true, [], ◌∷◌, ◌++◌, length, take, drop, slice_get, None, Some, IfOk};
 ghost use Rattle.std.specs.List.{last_or};
 ghost use Rattle.clock2q_queues.specs.Cells.{Rises};
@@ -17,6 +17,14 @@ use std::marker::Model;
 mod tests;
 
 /// The queue that a slot stands in.
+///
+/// # Example
+///
+/// ```
+/// if queues.standing(slot) == Standing::Free {
+///     queues.admit(slot);
+/// }
+/// ```
 #[derive(Clone, Copy, Debug, PartialEq, Eq)]
 pub enum Standing {
     /// Neither queue.
@@ -27,12 +35,28 @@ pub enum Standing {
     Main,
 }
 
-/// The two queues of a cache's residents, by slot number from 0. A slot stands in at most one of
-/// them.
+/// The two queues of a cache's residents. They hold slot numbers from 0, and a slot stands in at
+/// most one of them.
 ///
-/// Small has the newest slots, in the order of their admission; hits on one count once the window's
-/// number of admissions came after its own. Main is a ring with a hand, before which new slots are
-/// put.
+/// Small has the newest slots, in the order of their admission. The slots of the last admissions,
+/// as many as the window is long, are young: a hit on a young slot doesn't count. Main is a ring
+/// with a hand, and a new slot is put just before the hand.
+///
+/// # Example
+///
+/// ```
+/// let mut queues = Queues::new(rt.alloc(), 4, 2)?;
+/// queues.admit(0);
+/// queues.admit(1);
+/// queues.admit(2);
+/// queues.hit(0);
+/// assert_eq!(rt; queues.tail(), Some(0));
+/// assert!(rt; queues.tail_is_promoted());
+/// queues.leave(0);
+/// queues.append(0);
+/// assert_eq!(rt; queues.standing(0), Standing::Main);
+/// assert_eq!(rt; queues.take_victim(), 0);
+/// ```
 #[derive(Drop)]
 pub struct Queues<A: Allocator = Global> {
     links: Links<A>,
@@ -51,9 +75,15 @@ impl<A: Allocator> Model for Queues<A> {
 }
 
 impl<A: Allocator> Queues<A> {
-    /// Empty queues for so many slots, with a window of so many admissions.
+    /// Returns empty queues for the slots below `slots`, with a window of `window` admissions.
     ///
-    /// The error comes where a request for memory is refused; what was taken is given back.
+    /// # Errors
+    ///
+    /// `AllocError` if a request for memory is refused. What was taken until then is given back.
+    ///
+    /// # Cost
+    ///
+    /// Linear in `slots` and `window`.
     pub fn new(alloc: A, slots: u32, window: u32) -> Result<Self, AllocError>
     where
         A: Clone,
@@ -81,7 +111,7 @@ impl<A: Allocator> Queues<A> {
         self.main.len()
     }
 
-    /// Returns the oldest slot of Small.
+    /// Returns the oldest slot of Small, or `None` if Small is empty.
     pub fn tail(&self) -> Option<u32>
         ensures tail { result ≡ last_or None (slots_of self.now.small) }
         ensures whole { IsWholeQueues self.now }
@@ -89,8 +119,8 @@ impl<A: Allocator> Queues<A> {
         self.small.tail()
     }
 
-    /// Returns whether the oldest slot of Small goes on to Main rather than out: it is old, and its
-    /// bit is set.
+    /// Returns whether the oldest slot of Small goes on to Main instead of leaving: it is old, and
+    /// its bit is set.
     pub fn tail_is_promoted(&mut self) -> bool
         ensures value { result ≡ tail_promoted (last_or None self.old.small) }
         ensures queues { self.new ≡ record self.old { accesses = self.new.accesses } }
@@ -102,7 +132,7 @@ impl<A: Allocator> Queues<A> {
         }
     }
 
-    /// Admits a slot to Small, as its newest.
+    /// Admits a slot to Small, as its newest. All young slots grow older, and one may become old.
     pub fn admit(&mut self, slot: u32)
         requires slot_in { slot < self.old.slots }
         requires not_in_small { has slot (slots_of self.old.small) ≡ false }
@@ -138,8 +168,8 @@ impl<A: Allocator> Queues<A> {
         }
     }
 
-    // Moves the hand on to the slot that Main gives up next, which stays there until it is removed.
-    // It passes each slot that was hit, and takes that hit back; the cost is linear in those.
+    // Moves the hand on to the slot that Main gives up next, and leaves the slot in Main. The hand
+    // passes each slot whose bit is set, and clears the bit; the cost is linear in those.
     fn select(&mut self) -> u32
         requires some { 0 < length self.old.main }
         ensures victim { slice_get self.new.main 0 ≡ Some (result, false) }
@@ -167,7 +197,7 @@ impl<A: Allocator> Queues<A> {
         self.main.unlink(&mut self.links, slot);
     }
 
-    /// Removes Small's oldest slot, and returns it.
+    /// Removes Small's oldest slot, and returns it. Returns `None` if Small is empty.
     pub fn take_tail(&mut self) -> Option<u32>
         ensures tail { result ≡ last_or None (slots_of self.old.small) }
         ensures queues { self.new ≡ record self.old { small = take (length self.old.small - 1) self.old.small; accesses = self.new.accesses } }
@@ -178,13 +208,19 @@ impl<A: Allocator> Queues<A> {
         Some(tail)
     }
 
-    /// Removes from Main the slot that the hand chooses, and returns it. The hand passes each slot
-    /// that was hit, and takes that hit back; the cost is linear in those.
+    /// Removes the slot that the hand chooses from Main, and returns it.
+    ///
+    /// The hand passes each slot whose bit is set, and clears the bit. It chooses the first slot
+    /// whose bit is clear.
+    ///
+    /// # Cost
+    ///
+    /// Linear in the number of slots that the hand passes.
     pub fn take_victim(&mut self) -> u32
         requires some { 0 < length self.old.main }
         ensures victim { slice_get (from_victim self.old.main) 0 ≡ Some (result, false) }
         ensures queues { self.new ≡ record self.old { main = drop 1 (from_victim self.old.main); accesses = self.new.accesses; inspections = self.new.inspections } }
-        ensures looks { self.new.inspections ≡ self.old.inspections + inspections self.old.main }
+        ensures inspections { self.new.inspections ≡ self.old.inspections + inspections self.old.main }
         ensures accesses { self.new.accesses ≡ self.old.accesses + inspections self.old.main + 5 }
     {
         let victim = self.select();
@@ -192,7 +228,7 @@ impl<A: Allocator> Queues<A> {
         victim
     }
 
-    /// Removes a slot from the queue that it stands in, if it stands in one.
+    /// Removes a slot from its queue. If it stands in none, nothing changes.
     pub fn leave(&mut self, slot: u32)
         requires slot_in { slot < self.old.slots }
         ensures queues { self.new ≡ record self.old { small = without_slot slot self.old.small; main = without_slot slot self.old.main; accesses = self.new.accesses } }
@@ -205,7 +241,7 @@ impl<A: Allocator> Queues<A> {
         }
     }
 
-    /// Records a hit on a slot, which counts for nothing while the slot is young.
+    /// Records a hit on a slot. It doesn't count while the slot is young.
     pub fn hit(&mut self, slot: u32)
         requires resident { (has slot (slots_of self.old.small) ≡ true) ⊎ (has slot (slots_of self.old.main) ≡ true) }
         ensures queues { self.new ≡ record self.old { small = small_hit_at slot self.old.small; main = main_hit_at slot self.old.main } }
@@ -213,7 +249,11 @@ impl<A: Allocator> Queues<A> {
         self.links.set_bit(slot, true);
     }
 
-    /// Leaves no slot in either queue. The cost is linear in the number of slots that there are.
+    /// Removes every slot from both queues.
+    ///
+    /// # Cost
+    ///
+    /// Linear in the number of slots and the length of the window.
     pub fn clear(&mut self)
         ensures queues { self.new ≡ record self.old { small = []; main = []; accesses = self.old.accesses + self.old.slots + self.old.window } }
     {

@@ -21,9 +21,9 @@ pub struct Small {
 }
 
 impl Small {
-    ghost use Rattle.clock2q_queues.specs.Small.{IsSmallQueue, IsInSmall, GrowsOld, age_at, small_slots, small_entries, moved_on, admitted};
+    ghost use Rattle.clock2q_queues.specs.Small.{IsSmallQueue, IsInSmall, GrowsOld, age_at, small_slots, small_entries, next_cursor, admitted};
 
-    /// A queue with no slot.
+    /// Returns an empty queue.
     pub fn new() -> Self
         ensures empty { (l : LinkState) → small_entries l result ≡ [] }
         ensures whole { (l : LinkState) → IsBlank l → IsSmallQueue l result }
@@ -48,7 +48,7 @@ impl Small {
         self.cursor
     }
 
-    /// Returns the oldest slot.
+    /// Returns the oldest slot, or `None` if there is none.
     pub fn tail(&self) -> Option<u32>
         ensures { (l : LinkState) → IsSmallQueue l self.now → result ≡ last_or None (small_slots l self.now) }
     {
@@ -71,7 +71,7 @@ impl Small {
     // Returns the place after the cursor's.
     fn next_place(&self, window: u32) -> u32
         requires { self.now.cursor < window }
-        ensures { result ≡ moved_on window self.now.cursor }
+        ensures { result ≡ next_cursor window self.now.cursor }
     {
         if self.cursor + 1 < window {
             self.cursor + 1
@@ -80,7 +80,7 @@ impl Small {
         }
     }
 
-    /// Admits a slot: it stands in front, young, and all other young ones grow older.
+    /// Admits a slot, as the newest and young. All other young slots grow older.
     pub fn push<A: Allocator>(&mut self, links: &mut Links<A>, slot: u32)
         requires whole { IsSmallQueue links.old self.old }
         requires slot_in { slot < length links.old.records.items }
@@ -91,7 +91,7 @@ impl Small {
             ≡ admitted (length links.old.window.items) slot (small_entries links.old self.old) }
         ensures others { IsSameBut (slot ∷ small_slots links.old self.old) links.old links.new }
         ensures window { length links.new.window.items ≡ length links.old.window.items }
-        ensures looks { links.new.bits.inspections ≡ links.old.bits.inspections }
+        ensures inspections { links.new.bits.inspections ≡ links.old.bits.inspections }
         ensures accesses { Rises 3 10 (accesses_of links.old) (accesses_of links.new) }
     {
         self.free_place(links);
@@ -124,7 +124,7 @@ impl Small {
         ensures freed { standing_at links.new.records.items slot ≡ Mark.Free }
         ensures others { IsSameBut (small_slots links.old self.old) links.old links.new }
         ensures window { length links.new.window.items ≡ length links.old.window.items }
-        ensures looks { links.new.bits.inspections ≡ links.old.bits.inspections }
+        ensures inspections { links.new.bits.inspections ≡ links.old.bits.inspections }
         ensures accesses { Rises 6 7 (accesses_of links.old) (accesses_of links.new) }
     {
         let was = links.detach(slot);
@@ -134,7 +134,7 @@ impl Small {
         self.oldest = end_after(self.oldest, slot, self.len, was.previous);
     }
 
-    /// Returns whether a slot goes on to Main rather than out: it is old, and its bit is set.
+    /// Returns whether a slot goes on to Main instead of leaving: it is old, and its bit is set.
     pub fn is_promoted<A: Allocator>(&self, links: &mut Links<A>, slot: u32) -> bool
         requires slot_in { slot < length links.old.records.items }
         requires in_small { IsInSmall (standing_at links.old.records.items slot) }
@@ -144,7 +144,7 @@ impl Small {
         links.is_old_hit(slot)
     }
 
-    /// Leaves no slot in the queue. The records and the places are reset by the links.
+    /// Empties the queue. The links reset the records and the window's places.
     pub fn clear(&mut self)
         ensures empty { (l : LinkState) → small_entries l self.new ≡ [] }
         ensures whole { (l : LinkState) → IsBlank l → IsSmallQueue l self.new }
@@ -163,8 +163,8 @@ fn leave_place<A: Allocator>(links: &mut Links<A>, standing: Mark)
     }
 }
 
-// Returns an end of the queue after a slot left it: where the slot stood there, its neighbour, if
-// there is another slot.
+// Returns an end of the queue after a slot left it. If that slot stood at this end, the end is now
+// its neighbour, or `None` if no slot is left.
 fn end_after(end: Option<u32>, slot: u32, others: usize, neighbour: u32) -> Option<u32>
     ensures { result ≡ end_after end slot others neighbour }
 {

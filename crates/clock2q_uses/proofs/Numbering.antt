@@ -11,7 +11,7 @@ use Rattle.clock2q_handles.specs.TableStep.{IsHashOf, grown}
 use Rattle.clock2q_handles.specs.Rehash.{IsHeld}
 use Rattle.clock2q_handles.specs.Offers.{Settles}
 use Rattle.clock2q_handles.proofs.Hashes.{hashes-put_last}
-use Rattle.clock2q_handles.proofs.Keyed.{keyed_grown}
+use Rattle.clock2q_handles.proofs.HashOfHandle.{keyed_grown}
 use Rattle.clock2q_handles.proofs.Held.{entry_held, held_entry, entry_kept, entry_new, entry_from, grown_kept, grown_from, candidate_held, held_candidate}
 use Rattle.clock2q_handles.proofs.Offering.{IsFound}
 use Rattle.clock2q_uses.specs.Interning.{spread, key_at, IsInterned}

@@ -1,4 +1,4 @@
-//! What a lookup reads of a table's slots, counted.
+//! A lookup's way to a table's slots, which counts what it reads.
 ghost use Rattle.clock2q_handles.specs.Layout.{slot_at};
 ghost use Rattle.std.specs.Prelude.{◌≡◌, ◌+◌, ◌%◌, ◌<◌, IfSome, length};
 
@@ -18,7 +18,7 @@ pub struct Reader<'a, H, A: Allocator> {
 impl<'a, H: Copy + Default, A: Allocator> Reader<'a, H, A> {
     ghost use Rattle.clock2q_handles.specs.Slots.{told, mark_of};
 
-    /// Nothing is read yet.
+    /// Returns a reader that has read nothing yet.
     pub(crate) fn new(slots: &'a Slots<H, A>) -> Reader<'a, H, A>
         ensures slots { result.slots.now ≡ slots.now }
         ensures reads { result.reads.total ≡ 0 }
@@ -48,7 +48,7 @@ impl<'a, H: Copy + Default, A: Allocator> Reader<'a, H, A> {
         self.slots.handle_at(slot)
     }
 
-    /// Returns the slot after another, which is slot 0 after the last.
+    /// Returns the slot after another: slot 0 after the last.
     pub(crate) fn after(&self, slot: usize) -> usize
         requires { slot < length self.now.slots.now.slots }
         ensures after { result ≡ (slot + 1) % length self.now.slots.now.slots }

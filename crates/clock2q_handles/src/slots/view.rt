@@ -1,4 +1,4 @@
-//! A view of a table's slots, taken once a call that moves entries.
+//! Views of a table's slots. A call that moves entries takes one once.
 ghost use Rattle.clock2q_handles.specs.Layout.{slot_at};
 ghost use Rattle.clock2q_handles.specs.Views.{shown, IsView, IsSameView};
 ghost use Rattle.std.specs.Prelude.{◌≡◌, ◌+◌, ◌%◌, ◌<◌, IfSome, length, set};
@@ -42,7 +42,7 @@ impl<'a, H: Copy> SlotsMut<'a, H> {
         self.metadata.len()
     }
 
-    /// Returns the home slot of a hash, where there are slots.
+    /// Returns the home slot of a hash, if there are slots.
     pub(crate) fn home(&self, hash: u64) -> usize
         requires view { IsView self.now }
         requires some { 0 < length (shown self.now) }
@@ -53,7 +53,7 @@ impl<'a, H: Copy> SlotsMut<'a, H> {
         hash as usize & mask
     }
 
-    /// Returns the slot after another, which is slot 0 after the last.
+    /// Returns the slot after another: slot 0 after the last.
     pub(crate) fn after(&self, slot: usize) -> usize
         requires view { IsView self.now }
         requires within { slot < length (shown self.now) }

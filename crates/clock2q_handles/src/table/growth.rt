@@ -1,4 +1,4 @@
-//! Growth of a table: how many slots it gets, and its entries laid out in them anew.
+//! Growth of a table: how many slots it gets, and how its entries are laid out in them again.
 ghost use Rattle.clock2q_handles.specs.Changes.{IsLaidOut, IsNearer};
 ghost use Rattle.clock2q_handles.specs.Homes.{capacity, total};
 ghost use Rattle.clock2q_handles.specs.Rehash.{GivesHashes, HashesKnown, AsksHeld, AfterGrowth};
@@ -30,13 +30,18 @@ pub(super) fn slots_for(entries: usize) -> Option<usize>
 
 impl<H: Copy + Eq + Default, A: Allocator + Copy> Table<H, A> {
     /// Makes room for `additional` more entries, so that inserting them doesn't grow the table.
-    /// Where it has to grow for that, `rehash` is called once on each held handle, in the order of
-    /// their slots, for the hash that it was inserted under.
+    ///
+    /// If the table has to grow for that, it calls `rehash` once on each held handle, in the order
+    /// of the slots, for the hash that the handle was inserted under.
     ///
     /// # Errors
     ///
-    /// `Size` where the entries or their slots are too many to count, and `Memory` where there is
-    /// no memory for the slots. The table is unchanged.
+    /// `Size` if the entries or their slots are too many to count, and `Memory` if there is no
+    /// memory for the slots. The table is unchanged.
+    ///
+    /// # Cost
+    ///
+    /// Constant if there is room already, and otherwise linear in the number of slots.
     pub fn reserve<F: FnMut(H) -> u64>(
         &mut self,
         additional: usize,

@@ -4,7 +4,6 @@ ghost use Rattle.std.specs.Prelude.{◌≡◌};
 mod cells;
 mod growing;
 mod hashed;
-mod interned;
 mod plain;
 mod seeded;
 

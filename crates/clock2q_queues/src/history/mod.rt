@@ -1,4 +1,4 @@
-//! The history of the keys that went out of Small, which is called Ghost.
+//! The history of the keys that left Small, which the literature calls Ghost.
 ghost use Rattle.std.specs.Prelude.{◌≡◌, ℕ, ◌+◌, ◌^◌, ◌<◌, ◌≤◌, false, [], ◌∷◌, take, length, IfOk};
 ghost use Rattle.clock2q_handles.specs.Homes.{candidates};
 ghost use Rattle.clock2q_handles.specs.TableStep.{made_for};
@@ -17,11 +17,22 @@ use order::Order;
 use std::alloc::{AllocError, Allocator, Global};
 use std::marker::Model;
 
-/// A history of keys, the newest in front, of a limited length. Each key stands at a place with
-/// its hash, and an index has that place under the hash.
+/// A history of keys of limited length, the newest key first. Each key stands at a place, with its
+/// hash, and an index holds that place under the hash.
 ///
-/// The caller gives a key's hash with the key, the same each time. Where hashes are spread well, a
-/// call compares few keys and takes as long however many are remembered.
+/// The caller passes a key's hash with the key, the same hash each time. If hashes are spread well,
+/// a call compares few keys and costs the same however many are remembered.
+///
+/// # Example
+///
+/// ```
+/// let mut history: History<u64> = History::new(rt.alloc(), 2)?;
+/// history.push(hash_of(1), 1);
+/// history.push(hash_of(5), 5);
+/// assert!(rt; history.discard(hash_of(1), &1));
+/// assert!(rt; !history.discard(hash_of(1), &1));
+/// assert_eq!(rt; history.len(), 1);
+/// ```
 #[derive(Drop)]
 pub struct History<K: Eq, A: Allocator = Global> {
     index: Table<u32, A>,
@@ -43,10 +54,16 @@ impl<K: Eq, A: Allocator> Model for History<K, A> {
 }
 
 impl<K: Eq, A: Allocator + Copy> History<K, A> {
-    /// Makes a history for so many keys, and takes all the memory that it will ever have. There are
-    /// none yet.
+    /// Returns an empty history for up to `limit` keys. It takes all the memory that it will ever
+    /// need.
     ///
-    /// The error comes where a request for memory is refused; what was taken is given back.
+    /// # Errors
+    ///
+    /// `AllocError` if a request for memory is refused. What was taken until then is given back.
+    ///
+    /// # Cost
+    ///
+    /// Linear in `limit`.
     pub fn new(alloc: A, limit: usize) -> Result<Self, AllocError>
         requires short { limit < 2 ^ 24 }
         ensures made { IfOk result (λ h. h ≡ remembered [] limit (made_for (index_room limit)) 0 0) }
@@ -71,7 +88,8 @@ impl<K: Eq, A: Allocator> History<K, A> {
         self.order.len() as usize
     }
 
-    /// Puts a key in front. Where the history is full, the oldest key is forgotten.
+    /// Adds a key as the newest. If the history is full, the oldest key is forgotten and dropped. A
+    /// history for no keys drops the new one.
     pub fn push(&mut self, hash: u64, key: K)
     where
         K: Drop,
@@ -88,7 +106,8 @@ impl<K: Eq, A: Allocator> History<K, A> {
         let _ = self.index.insert_within_capacity(hash, place);
     }
 
-    /// Forgets a key, and returns whether it was remembered.
+    /// Forgets a key, and returns whether it was remembered. The history drops its own key when the
+    /// key's place is used again.
     pub fn discard(&mut self, hash: u64, key: &K) -> bool
         requires hash { HasHash K.eq hash key.now self.old.entries }
         ensures found { result ≡ is_remembered K.eq key.now self.old.entries }
@@ -104,7 +123,11 @@ impl<K: Eq, A: Allocator> History<K, A> {
         true
     }
 
-    /// Forgets every key. The cost is linear in the most keys that were remembered at a time.
+    /// Forgets every key.
+    ///
+    /// # Cost
+    ///
+    /// Linear in the number of places that were used since the history was made or cleared.
     pub fn clear(&mut self)
     where
         K: Drop,
@@ -116,8 +139,8 @@ impl<K: Eq, A: Allocator> History<K, A> {
     }
 }
 
-// Puts a place in front for a new key: where every place has one, that of the oldest key, which
-// goes out of the index.
+// Moves a place to the front for a new key. If every place has a key, it is that of the oldest key,
+// which is removed from the index.
 fn make_place<K, V, A: Allocator>(
     index: &mut Table<u32, A>,
     order: &mut Order<A>,

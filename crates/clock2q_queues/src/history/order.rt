@@ -1,4 +1,4 @@
-//! The order of the history's places, and the chain of the free ones.
+//! The order of the history's places, and the chain of the free places.
 ghost use Rattle.std.specs.Prelude.{◌≡◌, ℕ, ◌+◌, ◌-◌, ◌^◌, ◌<◌, true, false, List, [], ◌∷◌, take, drop, length, slice_get, Some, None, IfOk};
 ghost use Rattle.std.specs.List.{last_or};
 ghost use Rattle.clock2q_queues.specs.Cells.{Counted, Rises, written};
@@ -9,7 +9,7 @@ use crate::links::{Cells, Mark, Record, VACANT};
 use std::alloc::{AllocError, Allocator, Global};
 use std::marker::Model;
 
-/// Places that were given up, each with the next one in its record.
+/// Places that were given up. The record of each names the next.
 #[derive(Drop)]
 struct Chain {
     head: u32,
@@ -34,7 +34,7 @@ impl Chain {
         Some(place)
     }
 
-    // Makes a place that stands nowhere the head of the chain.
+    // Makes a place that stands nowhere the new head of the chain.
     fn put<A: Allocator>(&mut self, records: &mut Cells<Record, A>, place: u32)
         requires place_in { place < length records.old.items }
         requires absent { has place (free_places records.old.items self.old) ≡ false }
@@ -55,7 +55,7 @@ impl Chain {
 }
 
 /// The places that hold a key, the newest key's first, over records of their own. A place that is
-/// given up becomes the head of a chain, from which the next ones are taken.
+/// given up becomes the head of a chain, and new keys take their places from that chain first.
 #[derive(Drop)]
 pub struct Order<A: Allocator = Global> {
     records: Cells<Record, A>,
@@ -77,7 +77,7 @@ impl<A: Allocator> Model for Order<A> {
 impl<A: Allocator> Order<A> {
     ghost use Rattle.clock2q_queues.specs.Order.{IsWholeOrder, unused, next_place};
 
-    /// An order with no place in it, for so many places.
+    /// Returns an order of `limit` places, none of which holds a key.
     pub fn new(alloc: A, limit: u32) -> Result<Self, AllocError>
         ensures made { IfOk result (λ o. o ≡ unused limit) }
         ensures whole { IfOk result IsWholeOrder }
@@ -105,8 +105,8 @@ impl<A: Allocator> Order<A> {
         self.records.len() as u32
     }
 
-    /// Puts a place in front, and returns it: the head of the chain, or else the next one that was
-    /// not used yet.
+    /// Puts a free place in front, and returns it. It is the head of the chain, or the next unused
+    /// place if the chain is empty.
     pub fn push(&mut self) -> u32
         requires { length self.old.places < self.old.limit }
         ensures whole { IsWholeOrder self.new }
@@ -131,7 +131,7 @@ impl<A: Allocator> Order<A> {
         place
     }
 
-    /// Moves the last place to the front, for a new key instead of the oldest, and returns it.
+    /// Moves the last place to the front, and returns it: a new key takes the oldest key's place.
     pub fn reuse_oldest(&mut self) -> u32
         requires { 0 < length self.old.places }
         ensures whole { IsWholeOrder self.new }
@@ -158,7 +158,7 @@ impl<A: Allocator> Order<A> {
         }
     }
 
-    /// Leaves no place in the order, and none used.
+    /// Empties the order. Every place is unused again.
     pub fn clear(&mut self)
         ensures whole { IsWholeOrder self.new }
         ensures order { self.new ≡ record self.old { places = []; free = [] } }

@@ -1,4 +1,4 @@
-//! The entries themselves. Whatever of them is counted is counted here.
+//! The entries themselves, and every count of what is done to them.
 ghost use Rattle.std.specs.Prelude.{◌≡◌, ℕ, ◌+◌, ◌<◌, ◌≤◌, [], ◌∷◌, ◌++◌, length, Some, IfOk};
 ghost use Rattle.std.specs.Borrow.{sem};
 
@@ -37,7 +37,7 @@ impl<K, V, A: Allocator> Cells<K, V, A> {
     ghost use Rattle.clock2q_queues.specs.Keys.{cell_state, hash_at, key_at, value_at, entry, with_key, with_value};
     ghost use Rattle.clock2q_queues.specs.KeysLends.{LendsValue};
 
-    /// Makes room for so many entries. There are none yet.
+    /// Returns room for `room` entries, and no entry yet.
     pub fn new(alloc: A, room: usize) -> Result<Self, AllocError>
         ensures made { IfOk result (λ c. c ≡ cell_state [] room 0) }
     {
@@ -78,7 +78,7 @@ impl<K, V, A: Allocator> Cells<K, V, A> {
         &self.entries[place as usize].value
     }
 
-    /// Lends the value at a place to be changed.
+    /// Returns the value at a place, to read or to change.
     pub fn value_mut(&mut self, place: u32) -> &mut V
         requires used { place < length self.old.entries }
         ensures* writes_back { sem 𝓛 (LendsValue K.row V.row A.row A.Allocator self.entry place result) }
@@ -105,7 +105,7 @@ impl<K, V, A: Allocator> Cells<K, V, A> {
         self.entries.push_reserved(Entry { hash, key, value });
     }
 
-    /// Replaces the key at a place and its hash, and returns the old ones. The value stays.
+    /// Replaces the key and the hash at a place, and returns the old ones. The value stays.
     pub fn replace(&mut self, place: u32, hash: u64, key: K) -> (u64, K)
         requires used { place < length self.old.entries }
         ensures hash { hash_at self.old.entries place ≡ Some result.0 }
@@ -133,7 +133,7 @@ impl<K, V, A: Allocator> Cells<K, V, A> {
 impl<K: Eq, V, A: Allocator> Cells<K, V, A> {
     ghost use Rattle.clock2q_queues.specs.Keys.{is_key_at};
 
-    /// Asks whether a key is the one at a place, and counts the question.
+    /// Returns whether `key` equals the key at a place, and counts the question.
     pub fn is(&self, place: u32, key: &K, asked: &mut Count) -> bool
         requires used { place < length self.now.entries }
         ensures value { result ≡ is_key_at K.eq key.now self.now.entries place }

@@ -1,4 +1,4 @@
-//! Keys with their hashes, each at a place, and look-ups through an index of the places.
+//! Keys with their hashes and values, each at a place, and lookups through an index of the places.
 ghost use Rattle.std.specs.Prelude.{◌≡◌, ℕ, ◌+◌, ◌^◌, ◌<◌, ◌≤◌, [], ◌∷◌, ◌++◌, length, Some, IfOk};
 ghost use Rattle.std.specs.List.{find, AllByRecursion};
 ghost use Rattle.std.specs.Borrow.{sem};
@@ -16,8 +16,8 @@ use clock2q_handles::{Candidates, Table};
 use std::alloc::{AllocError, Allocator, Global};
 use std::marker::Model;
 
-/// Returns how many entries an index is made for where at most `limit` places stand in it: half as
-/// many again, so that it is never more than half full, and look-ups are short.
+/// Returns how many entries to make an index for that holds up to `limit` places: half as many
+/// again. Such an index is never more than half full, which keeps lookups short.
 pub fn index_room(limit: usize) -> usize
     requires countable { limit < 2 ^ 63 }
     ensures room { result ≡ index_room limit }
@@ -28,8 +28,19 @@ pub fn index_room(limit: usize) -> usize
 /// A key at each place, with its hash and a value. Places are numbered from 0, in the order in
 /// which they are first used.
 ///
-/// Keys are compared in one function, which counts each question, and written in two, which count
-/// each write.
+/// One function compares keys, and counts each comparison as a question. Two functions write keys,
+/// and count each write.
+///
+/// # Example
+///
+/// ```
+/// let mut keys: Keys<u64, u64> = Keys::new(rt.alloc(), 2)?;
+/// keys.push(7, 70, 700);
+/// assert!(rt; keys.is(0, &70));
+/// assert_eq!(rt; keys.replace(0, 9, 90), (7, 70));
+/// assert_eq!(rt; *keys.key(0), 90);
+/// assert_eq!(rt; *keys.value(0), 700);
+/// ```
 #[derive(Drop)]
 pub struct Keys<K, V, A: Allocator = Global> {
     cells: Cells<K, V, A>,
@@ -50,8 +61,12 @@ impl<K, V, A: Allocator> Keys<K, V, A> {
     ghost use Rattle.clock2q_queues.specs.Keys.{key_places, entry, hash_at, key_at, value_at, with_key, with_value, written};
     ghost use Rattle.clock2q_queues.specs.KeysLends.{LendsValueAt};
 
-    /// Makes room for so many keys, and takes all the memory that they will ever have. There are
-    /// none yet.
+    /// Returns room for `room` keys, and no key yet. It takes all the memory that the places will
+    /// ever need.
+    ///
+    /// # Errors
+    ///
+    /// `AllocError` if the request for memory is refused.
     pub fn new(alloc: A, room: usize) -> Result<Self, AllocError>
         ensures made { IfOk result (λ k. k ≡ key_places [] room 0 0) }
     {
@@ -61,7 +76,7 @@ impl<K, V, A: Allocator> Keys<K, V, A> {
         })
     }
 
-    /// Returns how many places were used.
+    /// Returns how many places have a key.
     pub fn len(&self) -> usize
         ensures len { result ≡ length self.now.entries }
     {
@@ -76,7 +91,7 @@ impl<K, V, A: Allocator> Keys<K, V, A> {
         self.cells.hash(place)
     }
 
-    /// Returns the key at a place. What is asked of it is not counted.
+    /// Returns the key at a place. What the caller then does with it is not counted.
     pub fn key(&self, place: u32) -> &K
         requires used { place < length self.now.entries }
         ensures key { key_at self.now.entries place ≡ Some result.now }
@@ -92,7 +107,7 @@ impl<K, V, A: Allocator> Keys<K, V, A> {
         self.cells.value(place)
     }
 
-    /// Returns the value at a place, to be changed.
+    /// Returns the value at a place, to read or to change.
     pub fn value_mut(&mut self, place: u32) -> &mut V
         requires used { place < length self.old.entries }
         ensures* writes_back { sem 𝓛 (LendsValueAt K.row V.row A.row A.Allocator self.entry place result) }
@@ -118,7 +133,7 @@ impl<K, V, A: Allocator> Keys<K, V, A> {
         self.cells.push(hash, key, value);
     }
 
-    /// Replaces the key at a place and its hash, and returns the old ones. The value stays.
+    /// Replaces the key and the hash at a place, and returns the old ones. The value stays.
     pub fn replace(&mut self, place: u32, hash: u64, key: K) -> (u64, K)
         requires used { place < length self.old.entries }
         ensures hash { hash_at self.old.entries place ≡ Some result.0 }
@@ -128,8 +143,8 @@ impl<K, V, A: Allocator> Keys<K, V, A> {
         self.cells.replace(place, hash, key)
     }
 
-    /// Writes a key and a value to a place: one that was used, whose key and value are dropped, or
-    /// the next one.
+    /// Writes a key and a value to a place: to the next one, or over the key and value of one that has
+    /// them. The old ones are dropped.
     pub fn write(&mut self, place: u32, hash: u64, key: K, value: V)
     where
         K: Drop,
@@ -146,7 +161,11 @@ impl<K, V, A: Allocator> Keys<K, V, A> {
         }
     }
 
-    /// Removes the place of every key from an index of them.
+    /// Removes the place of every key from an index of the places.
+    ///
+    /// # Cost
+    ///
+    /// One removal from the index for each place that has a key.
     pub fn unindex<B: Allocator>(&self, index: &mut Table<u32, B>)
         requires countable { length self.now.entries ≤ 2 ^ 32 }
         ensures emptied { Empties index.old.homes index.new.homes self.now.entries }
@@ -157,7 +176,7 @@ impl<K, V, A: Allocator> Keys<K, V, A> {
         }
     }
 
-    /// Drops every key and value. No place is used any more.
+    /// Drops every key and value. No place has a key then.
     pub fn clear(&mut self)
     where
         K: Drop,
@@ -171,7 +190,7 @@ impl<K, V, A: Allocator> Keys<K, V, A> {
 impl<K: Eq, V, A: Allocator> Keys<K, V, A> {
     ghost use Rattle.clock2q_queues.specs.Keys.{is_key_at, questions_of};
 
-    /// Asks whether a key is the one at a place, and counts the question.
+    /// Returns whether `key` equals the key at a place, and counts the question.
     pub fn is(&mut self, place: u32, key: &K) -> bool
         requires used { place < length self.old.entries }
         ensures value { result ≡ is_key_at K.eq key.now self.old.entries place }
@@ -180,7 +199,7 @@ impl<K: Eq, V, A: Allocator> Keys<K, V, A> {
         self.cells.is(place, key, &mut self.questions)
     }
 
-    /// Asks whether a key is the one at a place. The question is counted in `asked`, and not here.
+    /// Returns whether `key` equals the key at a place. The question is counted in `asked` instead.
     pub fn is_untold(&self, place: u32, key: &K, asked: &mut Count) -> bool
         requires used { place < length self.now.entries }
         ensures value { result ≡ is_key_at K.eq key.now self.now.entries place }
@@ -189,7 +208,7 @@ impl<K: Eq, V, A: Allocator> Keys<K, V, A> {
         self.cells.is(place, key, asked)
     }
 
-    /// Returns the first of these places that has a key, and counts each question.
+    /// Returns the first of `places` whose key equals `key`, and counts each question.
     pub fn find<B: Allocator>(&mut self, places: Candidates<'_, u32, B>, key: &K) -> Option<u32>
         requires used { AllByRecursion (λ place. place < length self.old.entries) places.left }
         ensures found { result ≡ find (is_key_at K.eq key.now self.old.entries) places.entry.left }
@@ -198,8 +217,8 @@ impl<K: Eq, V, A: Allocator> Keys<K, V, A> {
         first_with(&self.cells, places, key, &mut self.questions)
     }
 
-    /// Returns the first of these places that has a key. The questions are counted in `asked`, and
-    /// not here.
+    /// Returns the first of `places` whose key equals `key`. The questions are counted in `asked`
+    /// instead.
     pub fn find_untold<B: Allocator>(
         &self,
         places: Candidates<'_, u32, B>,
@@ -214,7 +233,7 @@ impl<K: Eq, V, A: Allocator> Keys<K, V, A> {
     }
 }
 
-// Returns the first of these places that has a key.
+// Returns the first of `places` whose key equals `key`.
 fn first_with<K: Eq, V, A: Allocator, B: Allocator>(
     cells: &Cells<K, V, A>,
     mut places: Candidates<'_, u32, B>,

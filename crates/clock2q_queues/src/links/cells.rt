@@ -1,5 +1,5 @@
-//! The vectors that the links stand on. Nothing reaches what they hold but these accessors, and
-//! each read or write of a cell, and each look of the hand at a bit, raises its count.
+//! The vectors that the links stand on. Only these accessors reach what the vectors hold, and each
+//! read or write of a cell, and each look of the hand at a bit, raises a count.
 ghost use Rattle.std.specs.Prelude.{◌≡◌, ◌+◌, ◌<◌, ◌&&◌, false, length, replicate, slice_index_or};
 ghost use Rattle.clock2q_queues.specs.Cells.{counted, accessed, written};
 
@@ -26,7 +26,7 @@ impl<T: Copy, A: Allocator> Model for Cells<T, A> {
 }
 
 impl<T: Copy, A: Allocator> Cells<T, A> {
-    /// Cells that hold these items, none of which was read or written yet.
+    /// Returns cells that hold these items, none of which was read or written yet.
     pub fn new(items: Vec<T, A>) -> Self
         ensures { result ≡ counted items.items 0 }
     {
@@ -93,7 +93,7 @@ impl<A: Allocator> Bits<A> {
     ghost use Rattle.clock2q_queues.specs.Cells.{hit_bits, bit_in, inspected, with_bit};
     ghost use Rattle.clock2q_queues.specs.Links.{vacant, is_old};
 
-    /// Bits at which the hand did not look yet.
+    /// Returns bits at which the hand did not look yet.
     pub fn new(bits: Vec<bool, A>) -> Self
         ensures { result ≡ hit_bits bits.items 0 }
     {
@@ -111,7 +111,7 @@ impl<A: Allocator> Bits<A> {
         self.bits[slot as usize] = bit;
     }
 
-    /// The hand's look at a slot: returns whether its bit was set, and clears it.
+    /// Returns whether a slot's bit was set, and clears it: the hand's look at a slot.
     pub fn inspect(&mut self, slot: u32) -> bool
         requires { slot < length self.old.items }
         ensures value { result ≡ bit_in self.old.items slot }

@@ -122,7 +122,7 @@ fn fill_main(queues: &mut Queues)
     requires main { queues.old.main ≡ [] }
     ensures slots { queues.new.slots ≡ 20 }
     ensures main { queues.new.main ≡ map (λ slot. (slot, true)) (range_with_len 2 18) }
-    ensures looks { queues.new.inspections ≡ queues.old.inspections }
+    ensures inspections { queues.new.inspections ≡ queues.old.inspections }
 {
     for slot in 2..20 {
         queues.append(slot);
@@ -138,7 +138,7 @@ fn go_round(queues: &mut Queues) -> u32
     ensures slots { queues.new.slots ≡ 20 }
     ensures victim { result ≡ 2 }
     ensures main { queues.new.main ≡ map (λ slot. (slot, false)) (range_with_len 2 18) }
-    ensures looks { queues.new.inspections ≡ queues.old.inspections + 19 }
+    ensures inspections { queues.new.inspections ≡ queues.old.inspections + 19 }
 {
     fill_main(queues);
     queues.select()
@@ -180,7 +180,7 @@ fn look_twice(queues: &mut Queues) -> u32
     ensures slots { queues.new.slots ≡ 1 }
     ensures victim { result ≡ 0 }
     ensures main { queues.new.main ≡ (0, false) ∷ [] }
-    ensures looks { queues.new.inspections ≡ queues.old.inspections + 2 }
+    ensures inspections { queues.new.inspections ≡ queues.old.inspections + 2 }
 {
     queues.append(0);
     queues.hit(0);

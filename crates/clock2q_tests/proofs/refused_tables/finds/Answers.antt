@@ -2,7 +2,7 @@ use Rattle.std.proofs.Common.{rules, ◌≡◌, sym, subst}
 use Rattle.clock2q_handles.specs.TableStep.{IsHashOf}
 use denote.Param.Always.{mut_total}
 use Rattle.clock2q_handles.proofs.Offering.{offered_always}
-use Rattle.clock2q_handles.proofs.Keyed.{keyed_given}
+use Rattle.clock2q_handles.proofs.HashOfHandle.{keyed_given}
 use Rattle.clock2q_tests.proofs.refused_tables.finds.Goals as goal
 
 pub find_or_insert-outcome-requires-clause-rehash : goal.find_or_insert-outcome-requires-clause-rehash

@@ -1,6 +1,6 @@
 use Rattle.std.proofs.Common.{rules, sym, subst}
 use Rattle.clock2q_handles.specs.TableStep.{IsHashOf}
-use Rattle.clock2q_handles.proofs.Keyed.{keyed_given}
+use Rattle.clock2q_handles.proofs.HashOfHandle.{keyed_given}
 use Rattle.clock2q_tests.proofs.refused_tables.insertions.Goals as goal
 
 pub insert-outcome-requires : goal.insert-outcome-requires

@@ -4,7 +4,7 @@ use Rattle.clock2q_handles.specs.Layout.{homes_of}
 use Rattle.clock2q_handles.specs.Changes.{IsLaidOut}
 use Rattle.clock2q_handles.specs.Offers.{Offers, MayBeOffered}
 use Rattle.clock2q_handles.specs.Candidates.{left_from}
-use Rattle.clock2q_handles.proofs.Tidy.{length-homes_of}
+use Rattle.clock2q_handles.proofs.TidyLayout.{length-homes_of}
 use Rattle.clock2q_handles.proofs.Steps.{table-laid}
 use Rattle.clock2q_handles.proofs.Yields.{left_at_start}
 use Rattle.clock2q_handles.proofs.Promises.{few_fit, restored_by}

@@ -4,7 +4,7 @@ use Rattle.clock2q_handles.specs.Layout.{homes_of}
 use Rattle.clock2q_handles.specs.TableStep.{rebuilt}
 use Rattle.clock2q_handles.specs.Changes.{IsLaidOut}
 use Rattle.clock2q_handles.specs.Slots.{IsSlotCount}
-use Rattle.clock2q_handles.proofs.Tidy.{length-homes_of, tidy-room}
+use Rattle.clock2q_handles.proofs.TidyLayout.{length-homes_of, tidy-room}
 use Rattle.clock2q_handles.proofs.Steps.{table-laid}
 use Rattle.clock2q_handles.proofs.Growth.{slot_count_doubled, doubled_is, doubled_more, doubled_multiple, rebuilt_room}
 use Rattle.clock2q_handles.proofs.Hashes.{rebuilt-total}

@@ -1,7 +1,7 @@
 use Rattle.std.proofs.Common.{◌<◌, length, sym, ap, ◌∙◌, subst, arith}
 use Rattle.clock2q_handles.specs.Homes.{total, capacity}
 use Rattle.clock2q_handles.specs.Layout.{homes_of}
-use Rattle.clock2q_handles.proofs.Tidy.{length-homes_of}
+use Rattle.clock2q_handles.proofs.TidyLayout.{length-homes_of}
 use Rattle.clock2q_handles.proofs.Promises.{ok_where_no_error, on_ok, put_ok, put_err, few_fit, restored_by}
 use Rattle.clock2q_handles.proofs.table.Table.insert_among_many.Goals as goal
 

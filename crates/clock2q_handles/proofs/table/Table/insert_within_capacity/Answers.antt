@@ -1,10 +1,10 @@
 use Rattle.std.proofs.Common.{◌≤◌, ◌+◌, ◌<◌, length, sym, ap, ◌∙◌, subst, arith}
 use Rattle.clock2q_handles.specs.Homes.{total, capacity, inserted}
 use Rattle.clock2q_handles.specs.Layout.{homes_of, run, IsTooLong}
-use Rattle.clock2q_handles.proofs.Tidy.{length-homes_of}
+use Rattle.clock2q_handles.proofs.TidyLayout.{length-homes_of}
 use Rattle.clock2q_handles.proofs.Steps.{table-laid}
 use Rattle.clock2q_handles.proofs.Insertions.{Insertion}
-use Rattle.clock2q_handles.proofs.Few.{near_few, insertion_few}
+use Rattle.clock2q_handles.proofs.FewEntries.{near_few, insertion_few}
 use Rattle.clock2q_handles.proofs.Promises.{restored_by}
 use Rattle.clock2q_handles.proofs.table.Table.insert_within_capacity.Given.{Over}
 use Rattle.clock2q_handles.proofs.table.Table.insert_within_capacity.Goals.{After-put}

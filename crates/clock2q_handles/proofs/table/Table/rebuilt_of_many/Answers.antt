@@ -7,12 +7,12 @@ use Rattle.clock2q_handles.specs.TableStep.{table_value, put_all}
 use Rattle.clock2q_handles.specs.Changes.{IsLaidOut}
 use Rattle.clock2q_handles.specs.Rehash.{Asks, Reaches, IsHeld, held_handles}
 use Rattle.clock2q_handles.specs.Table.{IsTable}
-use Rattle.clock2q_handles.proofs.Tidy.{tidy-layout}
+use Rattle.clock2q_handles.proofs.TidyLayout.{tidy-layout}
 use Rattle.clock2q_handles.proofs.Hashes.{entries-all}
 use Rattle.clock2q_handles.proofs.Steps.{table-laid}
 use Rattle.clock2q_handles.proofs.Moves.{occupied_told, vacant_told}
 use Rattle.clock2q_handles.proofs.Tables.{empty, table-empty, homes_of-empty}
-use Rattle.clock2q_handles.proofs.Rebuilds.{Reaches-push, Asks-push, step_empty, handles_empty, step_held, handles_more, step_made, step_room, step_short, HasCome, Holds}
+use Rattle.clock2q_handles.proofs.RebuildSteps.{Reaches-push, Asks-push, step_empty, handles_empty, step_held, handles_more, step_made, step_room, step_short, HasCome, Holds}
 use Rattle.clock2q_handles.proofs.table.Table.rebuilt_of_many.Given.{Over}
 use Rattle.clock2q_handles.proofs.table.Table.rebuilt_of_many.Goals as goal
 use Rattle.clock2q_handles.proofs.table.Table.rebuilt_of_many.Goals.{After-is_empty, After-handle-handle, After-rehash-hash, then-not-is_empty+in_ok-insert_within_capacity, else-not-is_empty}

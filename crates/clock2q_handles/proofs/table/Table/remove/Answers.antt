@@ -5,7 +5,7 @@ use Rattle.clock2q_handles.specs.Layout.{homes_of, walk, run}
 use Rattle.clock2q_handles.specs.Table.{IsTable}
 use Rattle.clock2q_handles.specs.TableStep.{table_value}
 use Rattle.clock2q_handles.specs.Changes.{IsLaidOut}
-use Rattle.clock2q_handles.proofs.Tidy.{tidy-room}
+use Rattle.clock2q_handles.proofs.TidyLayout.{tidy-room}
 use Rattle.clock2q_handles.proofs.Removals.{removed-none, removed-walk}
 use Rattle.clock2q_handles.proofs.Steps.{Removal, listed-home, table-laid, removal}
 use Rattle.clock2q_handles.proofs.table.Table.remove.Given.{Over}

@@ -2,7 +2,7 @@ use Rattle.std.proofs.Common.{◌≡◌, ◌<◌, ◌≤◌, ◌+◌, ◌*◌, l
 use Rattle.clock2q_handles.specs.Homes.{total, capacity, count}
 use Rattle.clock2q_handles.specs.Layout.{spill_of}
 use Rattle.clock2q_handles.proofs.Promises.{whole_laid}
-use Rattle.clock2q_handles.proofs.Tidy.{capacity-lt}
+use Rattle.clock2q_handles.proofs.TidyLayout.{capacity-lt}
 use Rattle.clock2q_handles.proofs.TooLong.{rebuilt-reach}
 use Rattle.clock2q_handles.proofs.Growth.{larger_multiple}
 use Rattle.clock2q_handles.proofs.table.Table.reserve.Given.{Over}

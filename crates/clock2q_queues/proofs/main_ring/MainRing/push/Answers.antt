@@ -47,6 +47,6 @@ returns g c =
       entries = pushed.entries;
       others = pushed.others;
       window = search rules;
-      looks = search rules;
+      inspections = search rules;
       accesses = search rules;
     }

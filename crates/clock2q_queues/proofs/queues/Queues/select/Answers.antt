@@ -14,4 +14,4 @@ returns-clause-whole g c = IsWholeQueues-from c.select.new.links c.self.inside.s
 pub returns-clause-queues : goal.returns-clause-queues
 returns-clause-queues g c =
     let q = queues_shown c.self.inside.links c.self.inside.small c.self.inside.main in
-    rw (← c.self.view_is) ((after_choice c.self.inside.links c.self.inside.small c.self.inside.main c.self.invariant c.select.new.links c.select.new.self c.select.ensures.whole c.select.ensures.entries c.select.ensures.others c.select.ensures.window).is ∙ ap (λ n. record q { main = from_victim q.main; accesses = accesses_of c.select.new.links; inspections = n }) c.select.ensures.looks)
+    rw (← c.self.view_is) ((after_choice c.self.inside.links c.self.inside.small c.self.inside.main c.self.invariant c.select.new.links c.select.new.self c.select.ensures.whole c.select.ensures.entries c.select.ensures.others c.select.ensures.window).is ∙ ap (λ n. record q { main = from_victim q.main; accesses = accesses_of c.select.new.links; inspections = n }) c.select.ensures.inspections)

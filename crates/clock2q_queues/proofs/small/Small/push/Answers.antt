@@ -1,7 +1,7 @@
 use Rattle.std.proofs.Common.{◌≡◌, ◌+◌, Some, length, refl, sym, ap, ◌∙◌, rules, arith}
 use Rattle.clock2q_queues.specs.declared.small.Small.{Small}
 use Rattle.clock2q_queues.specs.Links.{LinkState}
-use Rattle.clock2q_queues.specs.Small.{small_slots, moved_on}
+use Rattle.clock2q_queues.specs.Small.{small_slots, next_cursor}
 use Rattle.clock2q_queues.proofs.Joining.{count_fits}
 use Rattle.clock2q_queues.proofs.Window.{Admits, Admits-attached, Admits-alone, window_aged, first_fits}
 use Rattle.clock2q_queues.proofs.small.Small.push.Goals as goal
@@ -32,7 +32,7 @@ returns g c =
     let small' : Small = record { newest = Some c.args.slot; oldest = c.match-self.self.oldest; len = c.match-self.self.len + 1; cursor = c.next_place-self.result } in
     let window = window_aged c.args.slot old small mid aged c.requires.whole c.free_place.ensures.older c.set_place.ensures in
     let moved = (λ (n : length c.match-self.links.window.items ≡ length old.window.items) (k : c.match-self.self.cursor ≡ small.cursor).
-    c.next_place-self.ensures ∙ ap (λ z. moved_on z c.match-self.self.cursor) (c.window.ensures ∙ n) ∙ ap (λ z. moved_on (length old.window.items) z) k) in
+    c.next_place-self.ensures ∙ ap (λ z. next_cursor z c.match-self.self.cursor) (c.window.ensures ∙ n) ∙ ap (λ z. next_cursor (length old.window.items) z) k) in
     let pushed : Admits c.args.slot old small c.match-self.links small' =
     elim c.match-self.branch [
       | in-None w ↦
@@ -54,6 +54,6 @@ returns g c =
       entries = pushed.entries;
       others = pushed.others;
       window = search rules;
-      looks = search rules;
+      inspections = search rules;
       accesses = search rules;
     }

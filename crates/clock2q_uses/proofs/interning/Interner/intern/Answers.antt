@@ -5,7 +5,7 @@ use Rattle.clock2q_handles.specs.Offers.{Settles}
 use Rattle.clock2q_handles.proofs.Held.{slice_get-left, slice_get-last}
 use Rattle.clock2q_uses.specs.Interning.{spread, key_at, IsInterned}
 use Rattle.clock2q_uses.proofs.Numbering.{IsNumbered, last_or_old, numbered, next_number, old_number, no_number, candidate_within, hash_at}
-use Rattle.clock2q_handles.proofs.Keyed.{keyed_given_by}
+use Rattle.clock2q_handles.proofs.HashOfHandle.{keyed_given_by}
 use Rattle.clock2q_handles.proofs.Offering.{IsFound, offered_held_by, offers_find}
 use Rattle.clock2q_handles.specs.Homes.{candidates}
 use Rattle.clock2q_handles.specs.TableStep.{grown}

@@ -1,7 +1,7 @@
 use Rattle.std.proofs.Common.{rules, ◌≡◌, ◌+◌, length, arith, ap, sym, subst}
 use Rattle.clock2q_handles.specs.Slots.{cell, told}
 use Rattle.clock2q_handles.specs.Views.{shown}
-use Rattle.clock2q_handles.proofs.Laps.{lap}
+use Rattle.clock2q_handles.proofs.Periods.{lap}
 use Rattle.clock2q_handles.proofs.Moves.{refused}
 use Rattle.clock2q_handles.proofs.Carrying.{CarryState, carry_begins, carry_lap, carry_room, carry_goes, carry_ends}
 use Rattle.clock2q_handles.proofs.slots.view.SlotsMut.carry.Given.{Over}

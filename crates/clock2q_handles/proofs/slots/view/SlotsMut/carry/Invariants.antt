@@ -1,7 +1,7 @@
 use Rattle.std.proofs.Common.{◌-◌, length}
 use Rattle.clock2q_handles.specs.Slots.{cell, told}
 use Rattle.clock2q_handles.specs.Views.{shown, IsView, IsSameView}
-use Rattle.clock2q_handles.proofs.Laps.{lap}
+use Rattle.clock2q_handles.proofs.Periods.{lap}
 use Rattle.clock2q_handles.proofs.Carrying.{CarryState}
 use Rattle.clock2q_handles.proofs.slots.view.SlotsMut.carry.Given as goal
 

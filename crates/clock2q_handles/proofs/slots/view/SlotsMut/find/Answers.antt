@@ -5,7 +5,7 @@ use Rattle.clock2q_handles.specs.Layout.{slot_at, met, reach}
 use Rattle.clock2q_handles.specs.Shifts.{HasCome}
 use Rattle.clock2q_handles.specs.Slots.{sought, mark_reach, mark_of}
 use Rattle.clock2q_handles.specs.Views.{shown}
-use Rattle.clock2q_handles.proofs.Tidy.{listed-homes_of}
+use Rattle.clock2q_handles.proofs.TidyLayout.{listed-homes_of}
 use Rattle.clock2q_handles.proofs.Finding.{met_all, none_more, candidate, is_entry_of-candidate, any-other, any-failed}
 use Rattle.clock2q_handles.proofs.Moves.{refused}
 use Rattle.clock2q_handles.proofs.Carrying.{come_home, come_here, looks_on, looks_room, looks_end}

@@ -4,8 +4,8 @@ use Rattle.clock2q_handles.specs.Slots.{cells, mark_of}
 use Rattle.clock2q_handles.specs.Views.{shown, IsView}
 use Rattle.clock2q_handles.proofs.Cells.{length-cells}
 use Rattle.clock2q_handles.proofs.Moves.{occupied_told, vacant_told}
-use Rattle.clock2q_handles.proofs.Moving.{MovedSo, moving_begins, moving_past, moving_takes, moving_near, moving_some, moving_on, moving_ends}
-use Rattle.clock2q_handles.proofs.Rebuilds.{Holds}
+use Rattle.clock2q_handles.proofs.RebuildOverView.{MovedSo, moving_begins, moving_past, moving_takes, moving_near, moving_some, moving_on, moving_ends}
+use Rattle.clock2q_handles.proofs.RebuildSteps.{Holds}
 use Rattle.clock2q_handles.specs.Slots.{IsSlotCount}
 use Rattle.clock2q_handles.proofs.slots.view.SlotsMut.put_all.Given.{Over}
 use Rattle.clock2q_handles.proofs.slots.view.SlotsMut.put_all.Goals as goal

@@ -1,6 +1,6 @@
 use Rattle.clock2q_handles.specs.Slots.{cells}
 use Rattle.clock2q_handles.specs.Views.{shown, IsView, IsSameView}
-use Rattle.clock2q_handles.proofs.Moving.{MovedSo}
+use Rattle.clock2q_handles.proofs.RebuildOverView.{MovedSo}
 use Rattle.clock2q_handles.proofs.slots.view.SlotsMut.put_all.Given as goal
 
 abbrev pub invariant-loop-slot : goal.invariant-loop-slot

@@ -3,7 +3,7 @@ use Rattle.std.proofs.Math.ListN.{set}
 use Rattle.clock2q_handles.specs.Layout.{slot_at}
 use Rattle.clock2q_handles.specs.Slots.{cell, told}
 use Rattle.clock2q_handles.specs.Views.{shown}
-use Rattle.clock2q_handles.proofs.Laps.{lap}
+use Rattle.clock2q_handles.proofs.Periods.{lap}
 use Rattle.clock2q_handles.proofs.Moves.{near_told}
 use Rattle.clock2q_handles.proofs.Carrying.{CloseState, close_begins, close_lap, close_goes, close_ends}
 use Rattle.clock2q_handles.proofs.slots.view.SlotsMut.take_out.Given.{Over}

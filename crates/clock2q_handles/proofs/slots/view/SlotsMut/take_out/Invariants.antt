@@ -1,6 +1,6 @@
 use Rattle.std.proofs.Common.{◌-◌, length}
 use Rattle.clock2q_handles.specs.Views.{shown, IsView, IsSameView}
-use Rattle.clock2q_handles.proofs.Laps.{lap}
+use Rattle.clock2q_handles.proofs.Periods.{lap}
 use Rattle.clock2q_handles.proofs.Carrying.{CloseState}
 use Rattle.clock2q_handles.proofs.slots.view.SlotsMut.take_out.Given as goal
 

@@ -1,7 +1,7 @@
 use Rattle.std.proofs.Common.{rules, ap, refl}
 use denote.Param.Always.{mut_total}
 use Rattle.clock2q_handles.proofs.Offering.{offered_always}
-use Rattle.clock2q_handles.proofs.Keyed.{keyed_found, keyed_given}
+use Rattle.clock2q_handles.proofs.HashOfHandle.{keyed_found, keyed_given}
 use Rattle.clock2q_handles.proofs.table.tests.hashed.Hashed.find_or_insert.Goals as goal
 
 pub find_or_insert-requires-clause-rehash : goal.find_or_insert-requires-clause-rehash

@@ -1,5 +1,5 @@
 use Rattle.std.proofs.Common.{rules, ap, refl}
-use Rattle.clock2q_handles.proofs.Keyed.{keyed_put, keyed_given}
+use Rattle.clock2q_handles.proofs.HashOfHandle.{keyed_put, keyed_given}
 use Rattle.clock2q_handles.proofs.table.tests.hashed.Hashed.insert.Goals as goal
 
 pub insert-requires : goal.insert-requires

@@ -1,7 +1,7 @@
 use Rattle.std.proofs.Common.{sym, subst}
 use Rattle.clock2q_handles.specs.TableStep.{IsHashOf}
 use Rattle.clock2q_handles.specs.contracts.table.tests.hashed.HandlePartialEq.TheImpl as equals
-use Rattle.clock2q_handles.proofs.Keyed.{keyed_removed}
+use Rattle.clock2q_handles.proofs.HashOfHandle.{keyed_removed}
 use Rattle.clock2q_handles.proofs.table.tests.hashed.Hashed.remove.Goals as goal
 
 pub invariant_of-self : goal.invariant_of-self

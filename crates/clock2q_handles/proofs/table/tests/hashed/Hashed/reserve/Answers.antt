@@ -1,5 +1,5 @@
 use Rattle.std.proofs.Common.{rules, refl}
-use Rattle.clock2q_handles.proofs.Keyed.{keyed_reserved, keyed_given}
+use Rattle.clock2q_handles.proofs.HashOfHandle.{keyed_reserved, keyed_given}
 use Rattle.clock2q_handles.proofs.table.tests.hashed.Hashed.reserve.Goals as goal
 
 pub reserve-outcome-requires : goal.reserve-outcome-requires

@@ -8,7 +8,7 @@ use Rattle.std.proofs.Math.Nat.{add-mod_right}
 use Rattle.clock2q_handles.specs.Homes.{capacity, listed, count, total}
 use Rattle.clock2q_handles.specs.Layout.{placed, reach, spill_of, Placed, window, slot_at, layout, entries, met, read_upto, homes_of, IsOrdered, IsTidy}
 use Rattle.clock2q_handles.proofs.Spill.{Roomy, spill-lt, window-same}
-use Rattle.clock2q_handles.proofs.Laps.{rem-same}
+use Rattle.clock2q_handles.proofs.Periods.{rem-same}
 use Rattle.clock2q_handles.proofs.Tiles.{taken}
 use Rattle.clock2q_handles.proofs.Laid.{shows, gap-reach, IsLaid, laid-ordered, laid-met, laid-same, met-again}
 use Rattle.clock2q_handles.proofs.Walk.{lists-roomy, ordered-laid}

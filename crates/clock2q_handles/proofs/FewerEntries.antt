@@ -10,9 +10,9 @@ use Rattle.clock2q_handles.specs.Homes.{capacity, listed, count, total, no_entri
 use Rattle.clock2q_handles.specs.Layout.{Placed, window, spill, spill_of, walk, layout, entries}
 use Rattle.clock2q_handles.specs.TableStep.{put_all, IsHashOf}
 use Rattle.clock2q_handles.proofs.Spill.{Roomy, spill-again, spill-found, spill-step, window-le}
-use Rattle.clock2q_handles.proofs.Laps.{again-times, rem-same}
+use Rattle.clock2q_handles.proofs.Periods.{again-times, rem-same}
 use Rattle.clock2q_handles.proofs.Reading.{listed-again}
-use Rattle.clock2q_handles.proofs.Tidy.{capacity-lt, roomy-of, layout-sum}
+use Rattle.clock2q_handles.proofs.TidyLayout.{capacity-lt, roomy-of, layout-sum}
 use Rattle.clock2q_handles.proofs.Changes.{length-with_list, listed-with_same, listed-with_other, total-with_list}
 
 -- a window of any length holds no more than its slots and what is spilled after it

@@ -7,8 +7,8 @@ use Rattle.clock2q_handles.specs.Layout.{Placed, slot_at, reach, entries, homes_
 use Rattle.clock2q_handles.specs.TableStep.{put_all, IsHashOf}
 use Rattle.clock2q_handles.specs.Rehash.{IsHeld, Reaches, Asks}
 use Rattle.clock2q_handles.specs.Table.{IsTable}
-use Rattle.clock2q_handles.proofs.Tidy.{length-homes_of, tidy-layout, tidy-total, tidy-room, capacity-lt, layout-only}
-use Rattle.clock2q_handles.proofs.Rebuild.{length-put_all, total-put_all, put_all-push, total-no_entries}
+use Rattle.clock2q_handles.proofs.TidyLayout.{length-homes_of, tidy-layout, tidy-total, tidy-room, capacity-lt, layout-only}
+use Rattle.clock2q_handles.proofs.FewerEntries.{length-put_all, total-put_all, put_all-push, total-no_entries}
 use Rattle.clock2q_handles.proofs.TooLong.{rebuilding-short}
 use Rattle.clock2q_handles.proofs.Hashes.{entries-none, entries-some, entries-front, hash-slot}
 use Rattle.clock2q_handles.proofs.Tables.{table-short, length-nothing}

@@ -6,10 +6,10 @@ use Rattle.clock2q_handles.specs.Homes.{top, capacity, total}
 use Rattle.clock2q_handles.specs.Layout.{Placed, slot_at, reach, homes_of, IsTidy}
 use Rattle.clock2q_handles.specs.Shifts.{Opens, IsVacancy, PutsIn}
 use Rattle.clock2q_handles.specs.Table.{IsTable}
-use Rattle.clock2q_handles.proofs.Laps.{again-times}
+use Rattle.clock2q_handles.proofs.Periods.{again-times}
 use Rattle.clock2q_handles.proofs.Reading.{slot-again}
-use Rattle.clock2q_handles.proofs.Tidy.{length-homes_of, tidy-total, capacity-lt}
-use Rattle.clock2q_handles.proofs.Rebuild.{walk-is}
+use Rattle.clock2q_handles.proofs.TidyLayout.{length-homes_of, tidy-total, capacity-lt}
+use Rattle.clock2q_handles.proofs.FewerEntries.{walk-is}
 use Rattle.clock2q_handles.proofs.Yields.{walk-beyond}
 use Rattle.clock2q_handles.proofs.TooLong.{reach-total}
 use Rattle.clock2q_handles.proofs.Moves.{vacancy_same}

@@ -10,12 +10,12 @@ use Rattle.clock2q_handles.specs.Shifts.{PutsIn}
 use Rattle.clock2q_handles.specs.Slots.{IsSlotCount}
 use Rattle.clock2q_handles.specs.Table.{IsTable}
 use Rattle.clock2q_handles.specs.TableStep.{put_all, rebuilt, IsHashOf}
-use Rattle.clock2q_handles.proofs.Tidy.{length-homes_of, tidy-layout, tidy-room}
+use Rattle.clock2q_handles.proofs.TidyLayout.{length-homes_of, tidy-layout, tidy-room}
 use Rattle.clock2q_handles.proofs.Hashes.{entries-all, rebuilt-total}
 use Rattle.clock2q_handles.proofs.Tables.{table-empty, homes_of-empty}
-use Rattle.clock2q_handles.proofs.Few.{near_few, insertion_few}
+use Rattle.clock2q_handles.proofs.FewEntries.{near_few, insertion_few}
 use Rattle.clock2q_handles.proofs.Insertions.{Insertion}
-use Rattle.clock2q_handles.proofs.Rebuilds.{HasCome, Holds, Reaches-push, Asks-push, step_empty, handles_empty, step_held, handles_more, step_made, step_room, step_few}
+use Rattle.clock2q_handles.proofs.RebuildSteps.{HasCome, Holds, Reaches-push, Asks-push, step_empty, handles_empty, step_held, handles_more, step_made, step_room, step_few}
 
 module _ {F H : Type 0} (g : Mut F (H × Unit {0}) ℕ) where
   -- the first i slots of old have been moved, and f has become last
