@@ -1,0 +1,8 @@
+//! A function with its values remembered in a bounded cache.
+#![tactic(auto)]
+
+mod evaluator;
+mod memo;
+
+pub use evaluator::KeyFunction;
+pub use memo::{Memo, recall};
