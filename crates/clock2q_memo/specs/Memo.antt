@@ -2,7 +2,6 @@
 use Rattle.std.specs.Prelude.{◌≡◌, ℕ, Bool, true, Option, Some, is_some, if◌then◌else◌, refl}
 use Rattle.std.specs.Coded.{Coded, code_by, coded×, coded_ℕ}
 use Rattle.clock2q_cache.specs.Machine.{Machine, machine_code, slot_of, value_of, inserted}
-use Rattle.clock2q_cache.specs.Cache.{IsWhole}
 
 -- the machine of its cache, its function, and how often that was called
 pub record MemoState (K V F : Type 0) : Type 0 where
@@ -20,10 +19,6 @@ memo_code {K} {V} {F} key value function = code_by (Machine K V × (F × ℕ))
     (λ p. memo_state p.0 p.1.0 p.1.1)
     (λ _. refl)
 
--- it is accepted whichever key it is
-abbrev pub AcceptsAll : {K : Type 0} → (K → Type 0) → Type 0
-AcceptsAll {K} accepts = (key : K) → accepts key
-
 module _ {K V : Type 0} (eq : K → K → Bool) where
   -- whatever the function returns for a key is its value, and equal keys have equal values
   pub record Computes (returns : K → V → Type 0) (value : K → V) : Type 0 where
@@ -34,10 +29,9 @@ module _ {K V : Type 0} (eq : K → K → Bool) where
   abbrev pub Remembers : (K → V → Type 0) → Machine K V → Type 0
   Remembers returns m = (value : K → V) → Computes returns value → (key : K) (v : V) → value_of (eq key) m ≡ Some v → v ≡ value key
 
-  -- what holds of a memo's machine
-  pub record IsMemo (returns : K → V → Type 0) (m : Machine K V) : Type 0 where
-    pub whole : IsWhole eq m
-    pub remembers : Remembers returns m
+  -- it is the key's value, whichever the values are that the function computes, where each resident has its own
+  abbrev pub IsValueAt : (K → V → Type 0) → Machine K V → K → V → Type 0
+  IsValueAt returns m key v = Remembers returns m → (value : K → V) → Computes returns value → v ≡ value key
 
   -- a key that is not resident is inserted with the value, and nothing else changes
   abbrev pub looked_up : K → V → Machine K V → Machine K V

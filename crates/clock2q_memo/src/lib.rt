@@ -4,5 +4,4 @@
 mod evaluator;
 mod memo;
 
-pub use evaluator::KeyFunction;
 pub use memo::{Memo, recall};

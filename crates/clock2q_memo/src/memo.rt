@@ -1,5 +1,9 @@
 //! The memo: construction, the two look-ups, and a list of look-ups.
-use crate::evaluator::{Evaluator, KeyFunction};
+
+#[cfg(test)]
+mod tests;
+
+use crate::evaluator::Evaluator;
 use clock2q_cache::{Cache, CacheError, DefaultHashBuilder, MAX_CAPACITY};
 use std::alloc::{AllocError, Allocator, Global};
 use std::hash::{BuildHasher, BuildHasherDefault, Hash};
@@ -18,14 +22,14 @@ use std::num::NonZeroUsize;
 /// assert_eq!(rt; squares.get(12), 144); // and this time nothing was multiplied
 /// ```
 #[derive(Drop)]
-pub struct Memo<K: Hash + Eq, V, F: KeyFunction<K, V>, S: BuildHasher, A: Allocator = Global> {
+pub struct Memo<K: Hash + Eq, V, F, S: BuildHasher, A: Allocator = Global> {
     cache: Cache<K, V, S, A>,
     evaluator: Evaluator<F>,
 }
 
-impl<K: Hash + Eq, V, F: KeyFunction<K, V>, S: BuildHasher, A: Allocator> Model
-    for Memo<K, V, F, S, A> {
-    ghost use Rattle.clock2q_memo.specs.Memo.{MemoState, memo_state, memo_code, IsMemo, AcceptsAll};
+impl<K: Hash + Eq, V, F, S: BuildHasher, A: Allocator> Model for Memo<K, V, F, S, A> {
+    ghost use Rattle.clock2q_cache.specs.Cache.{IsWhole};
+    ghost use Rattle.clock2q_memo.specs.Memo.{MemoState, memo_state, memo_code};
 
     ghost Value = { MemoState K V F };
 
@@ -33,21 +37,22 @@ impl<K: Hash + Eq, V, F: KeyFunction<K, V>, S: BuildHasher, A: Allocator> Model
 
     ghost view = { λ memo. memo_state memo.cache.machine memo.evaluator.function memo.evaluator.evaluations.total };
 
-    ghost invariant = { λ memo. IsMemo K.eq (F.returns memo.evaluator.function) memo.cache.machine × AcceptsAll (F.accepts memo.evaluator.function) };
+    ghost invariant = { λ memo. IsWhole K.eq memo.cache.machine };
 }
 
-impl<K: Hash + Eq + Drop, V: Drop, F: KeyFunction<K, V> + Drop, A: Allocator + Copy> Memo<
-    K,
-    V,
-    F,
-    DefaultHashBuilder,
-    A,
-> {
+impl<K, V, F, A> Memo<K, V, F, DefaultHashBuilder, A>
+where
+    K: Hash + Eq + Drop,
+    V: Drop,
+    F: Fn(&K) -> V + Drop,
+    A: Allocator + Copy,
+{
     ghost use Rattle.std.specs.Prelude.{◌≡◌, ◌≢◌, ◌<◌, ◌↔◌, Err, IfOk, IsErrOf};
     ghost use Rattle.std.specs.NonZero.{non_zero_usize_get};
     ghost use Rattle.clock2q_cache.specs.Shares.{usual_shares};
     ghost use Rattle.clock2q_cache.specs.Machine.{empty};
-    ghost use Rattle.clock2q_memo.specs.Memo.{memo_state, AcceptsAll};
+    ghost use Rattle.std.specs.Fn.{FnReturnsAt};
+    ghost use Rattle.clock2q_memo.specs.Memo.{memo_state, Remembers};
 
     /// Makes a memo of `function` that remembers up to `capacity` values, as
     /// [`Cache::new`](clock2q_cache::Cache::new) makes a cache.
@@ -57,7 +62,7 @@ impl<K: Hash + Eq + Drop, V: Drop, F: KeyFunction<K, V> + Drop, A: Allocator + C
     /// `Capacity` above [`MAX_CAPACITY`](clock2q_cache::MAX_CAPACITY), before any memory is taken;
     /// `Memory` where a request for memory is refused. The function is dropped then.
     pub fn new(alloc: A, capacity: NonZeroUsize, function: F) -> Result<Self, CacheError>
-        requires callable { AcceptsAll (F.accepts function) }
+        ensures remembers { IfOk result (λ memo. Remembers K.eq (FnReturnsAt F.Fn memo.function) memo.machine) }
         ensures made { IfOk result (λ memo. memo ≡ memo_state (empty (usual_shares (non_zero_usize_get capacity))) function 0) }
         ensures capacity { IsErrOf result CacheError.Capacity ↔ (MAX_CAPACITY < non_zero_usize_get capacity) }
         ensures policy { result ≢ Err CacheError.Policy }
@@ -70,7 +75,7 @@ impl<K, V, F, S, A> Memo<K, V, F, S, A>
 where
     K: Hash + Eq + Drop,
     V: Drop,
-    F: KeyFunction<K, V> + Drop,
+    F: Fn(&K) -> V + Drop,
     S: BuildHasher + Drop,
     A: Allocator + Copy,
 {
@@ -78,7 +83,8 @@ where
     ghost use Rattle.std.specs.NonZero.{non_zero_usize_get};
     ghost use Rattle.clock2q_cache.specs.Shares.{usual_shares};
     ghost use Rattle.clock2q_cache.specs.Machine.{empty};
-    ghost use Rattle.clock2q_memo.specs.Memo.{memo_state, AcceptsAll};
+    ghost use Rattle.std.specs.Fn.{FnReturnsAt};
+    ghost use Rattle.clock2q_memo.specs.Memo.{memo_state, Remembers};
 
     /// Makes a memo as [`new`](Memo::new) does, whose cache has this hasher.
     ///
@@ -91,7 +97,7 @@ where
         hasher: S,
         function: F,
     ) -> Result<Self, CacheError>
-        requires callable { AcceptsAll (F.accepts function) }
+        ensures remembers { IfOk result (λ memo. Remembers K.eq (FnReturnsAt F.Fn memo.function) memo.machine) }
         ensures made { IfOk result (λ memo. memo ≡ memo_state (empty (usual_shares (non_zero_usize_get capacity))) function 0) }
         ensures capacity { IsErrOf result CacheError.Capacity ↔ (MAX_CAPACITY < non_zero_usize_get capacity) }
         ensures policy { result ≢ Err CacheError.Policy }
@@ -104,10 +110,9 @@ where
     }
 }
 
-impl<K: Hash + Eq, V, F: KeyFunction<K, V>, S: BuildHasher, A: Allocator> Memo<K, V, F, S, A> {
+impl<K: Hash + Eq, V, F, S: BuildHasher, A: Allocator> Memo<K, V, F, S, A> {
     ghost use Rattle.std.specs.Prelude.{◌≡◌, IsTrue, ◌↔◌, IsSome};
     ghost use Rattle.clock2q_cache.specs.Machine.{resident_count, slot_of};
-    ghost use Rattle.clock2q_memo.specs.Memo.{Remembers};
 
     /// Returns how many values can be remembered: the number that the memo was made with.
     pub fn capacity(&self) -> usize
@@ -119,7 +124,6 @@ impl<K: Hash + Eq, V, F: KeyFunction<K, V>, S: BuildHasher, A: Allocator> Memo<K
     /// Returns how many values are remembered.
     pub fn len(&self) -> usize
         ensures count { result ≡ resident_count self.now.machine }
-        ensures remembers { Remembers K.eq (F.returns self.now.function) self.now.machine }
     {
         self.cache.len()
     }
@@ -144,20 +148,23 @@ impl<K, V, F, S, A> Memo<K, V, F, S, A>
 where
     K: Hash + Eq + Drop,
     V: Copy,
-    F: KeyFunction<K, V>,
+    F: Fn(&K) -> V,
     S: BuildHasher,
     A: Allocator,
 {
     ghost use Rattle.std.specs.Prelude.{◌≡◌, ◌+◌, None, Some};
     ghost use Rattle.clock2q_cache.specs.Machine.{slot_of, value_of, inserted, cleared};
     ghost use Rattle.clock2q_cache.specs.Steps.{fetched};
-    ghost use Rattle.clock2q_memo.specs.Memo.{Computes, evaluations_for, looked_up};
+    ghost use Rattle.std.specs.Fn.{FnReturnsAt};
+    ghost use Rattle.clock2q_memo.specs.Memo.{Remembers, IsValueAt, evaluations_for, looked_up};
 
     /// Returns the function's value at the key. A remembered value is returned as
     /// [`Cache::peek`](clock2q_cache::Cache::peek) does, and nothing changes; else the function is
     /// called once, and the value is remembered.
     pub fn get(&mut self, key: K) -> V
-        ensures value { (value : K → V) → Computes K.eq (F.returns self.old.function) value → result ≡ value key }
+        requires callable { F.IsAlwaysCallable self.old.function }
+        ensures value { IsValueAt K.eq (FnReturnsAt F.Fn self.old.function) self.old.machine key result }
+        ensures remembers { Remembers K.eq (FnReturnsAt F.Fn self.old.function) self.old.machine → Remembers K.eq (FnReturnsAt F.Fn self.new.function) self.new.machine }
         ensures machine { self.new.machine ≡ looked_up K.eq key result self.old.machine }
         ensures resident { value_of (K.eq key) self.new.machine ≡ Some result }
         ensures evaluations { self.new.evaluations ≡ self.old.evaluations + evaluations_for K.eq key self.old.machine }
@@ -172,7 +179,9 @@ where
     /// Returns the function's value at the key, as [`get`](Memo::get) does. A remembered value is
     /// hit, which may save it from a later eviction.
     pub fn get_recorded(&mut self, key: K) -> V
-        ensures value { (value : K → V) → Computes K.eq (F.returns self.old.function) value → result ≡ value key }
+        requires callable { F.IsAlwaysCallable self.old.function }
+        ensures value { IsValueAt K.eq (FnReturnsAt F.Fn self.old.function) self.old.machine key result }
+        ensures remembers { Remembers K.eq (FnReturnsAt F.Fn self.old.function) self.old.machine → Remembers K.eq (FnReturnsAt F.Fn self.new.function) self.new.machine }
         ensures machine { self.new.machine ≡ fetched (K.eq key) key result self.old.machine }
         ensures resident { value_of (K.eq key) self.new.machine ≡ Some result }
         ensures evaluations { self.new.evaluations ≡ self.old.evaluations + evaluations_for K.eq key self.old.machine }
@@ -186,8 +195,10 @@ where
 
     /// Calls the function at a key that is not resident, and remembers the value.
     fn remember(&mut self, key: K) -> V
+        requires callable { F.IsAlwaysCallable self.old.function }
         requires absent { slot_of (K.eq key) self.old.machine ≡ None }
-        ensures value { F.returns self.old.function key result }
+        ensures value { FnReturnsAt F.Fn self.old.function key result }
+        ensures remembers { Remembers K.eq (FnReturnsAt F.Fn self.old.function) self.old.machine → Remembers K.eq (FnReturnsAt F.Fn self.new.function) self.new.machine }
         ensures machine { self.new.machine ≡ inserted (K.eq key) key result self.old.machine }
         ensures resident { value_of (K.eq key) self.new.machine ≡ Some result }
         ensures evaluations { self.new.evaluations ≡ self.old.evaluations + 1 }
@@ -201,6 +212,7 @@ where
     /// Forgets every value. The memory stays.
     pub fn clear(&mut self)
         ensures machine { self.new.machine ≡ cleared self.old.machine }
+        ensures remembers { Remembers K.eq (FnReturnsAt F.Fn self.new.function) self.new.machine }
         ensures evaluations { self.new.evaluations ≡ self.old.evaluations }
         ensures function { self.new.function ≡ self.old.function }
     {
@@ -212,7 +224,6 @@ impl<K, V, F, S, A> Memo<K, V, F, S, A>
 where
     K: Hash + Eq + Drop,
     V: Drop,
-    F: KeyFunction<K, V>,
     S: BuildHasher + Drop,
     A: Allocator,
 {
@@ -226,8 +237,9 @@ where
     }
 }
 
-ghost use Rattle.std.specs.Prelude.{◌≡◌, IfOk, map, length};
-ghost use Rattle.clock2q_memo.specs.Memo.{Computes};
+ghost use Rattle.std.specs.Prelude.{◌≡◌, IfOk, map};
+ghost use Rattle.std.specs.Fn.{FnReturnsAt};
+ghost use Rattle.clock2q_memo.specs.Memo.{Computes, Remembers};
 
 /// Returns the function's value at each of the keys, each got by [`Memo::get_recorded`] in turn.
 ///
@@ -242,10 +254,13 @@ pub fn recall<K, V, F, S, A>(
 where
     K: Hash + Eq + Drop,
     V: Copy,
-    F: KeyFunction<K, V>,
+    F: Fn(&K) -> V,
     S: BuildHasher,
     A: Allocator,
-    ensures values { IfOk result (λ values. (value : K → V) → Computes K.eq (F.returns memo.old.function) value → values.items ≡ map value keys.items) }
+    requires callable { F.IsAlwaysCallable memo.old.function }
+    ensures values { Remembers K.eq (FnReturnsAt F.Fn memo.old.function) memo.old.machine → IfOk result (λ values. (value : K → V) → Computes K.eq (FnReturnsAt F.Fn memo.old.function) value → values.items ≡ map value keys.items) }
+    ensures remembers { Remembers K.eq (FnReturnsAt F.Fn memo.old.function) memo.old.machine → Remembers K.eq (FnReturnsAt F.Fn memo.new.function) memo.new.machine }
+    ensures function { memo.new.function ≡ memo.old.function }
 {
     let mut values = Vec::with_capacity(alloc, keys.len())?;
     for key in keys {

@@ -1,8 +1,7 @@
 use Rattle.std.proofs.Common.{rules, subst, sym}
-use Rattle.clock2q_memo.specs.Memo.{IsMemo}
-use Rattle.clock2q_memo.proofs.Keeping.{kept-usual}
+use Rattle.clock2q_cache.specs.Cache.{IsWhole}
+use Rattle.clock2q_memo.proofs.Keeping.{whole-usual}
 use Rattle.clock2q_memo.proofs.memo.Memo.with_hasher.Goals as goal
 
 pub invariant_of-result : goal.invariant_of-result
-invariant_of-result g c = rw (c.new.ensures.function)
-    (subst (IsMemo g.K.PartialEq.eq (g.F.KeyFunction.returns c.args.function)) (sym c.in_ok-cache.ensures.made) (kept-usual g.K.PartialEq.eq g.met.K.Eq.laws _ c.args.capacity.value (search rules)), c.requires.callable)
+invariant_of-result g c = subst (IsWhole g.K.PartialEq.eq) (sym c.in_ok-cache.ensures.made) (whole-usual g.K.PartialEq.eq g.met.K.Eq.laws c.args.capacity.value (search rules))
