@@ -1,0 +1,42 @@
+-- What contracts see of a memo, and what it keeps.
+use Rattle.std.specs.Prelude.{◌≡◌, ℕ, Bool, true, Option, Some, is_some, if◌then◌else◌, refl}
+use Rattle.std.specs.Coded.{Coded, code_by, coded×, coded_ℕ}
+use Rattle.clock2q_cache.specs.Machine.{Machine, machine_code, slot_of, value_of, inserted}
+
+-- the machine of its cache, its function, and how often that was called
+pub record MemoState (K V F : Type 0) : Type 0 where
+  pub machine : Machine K V
+  pub function : F
+  pub evaluations : ℕ
+
+abbrev pub memo_state : {K V F : Type 0} → Machine K V → F → ℕ → MemoState K V F
+memo_state machine function evaluations = record { machine = machine; function = function; evaluations = evaluations }
+
+abbrev pub memo_code : {K V F : Type 0} → Coded K → Coded V → Coded F → Coded (MemoState K V F)
+memo_code {K} {V} {F} key value function = code_by (Machine K V × (F × ℕ))
+    (coded× (machine_code key value) (coded× function coded_ℕ))
+    (λ m. (m.machine, (m.function, m.evaluations)))
+    (λ p. memo_state p.0 p.1.0 p.1.1)
+    (λ _. refl)
+
+module _ {K V : Type 0} (eq : K → K → Bool) where
+  -- whatever the function returns for a key is its value, and equal keys have equal values
+  pub record Computes (returns : K → V → Type 0) (value : K → V) : Type 0 where
+    pub one : (key : K) (v : V) → returns key v → v ≡ value key
+    pub equal : (key other : K) → eq key other ≡ true → value key ≡ value other
+
+  -- each resident has its key's value, whichever the values are that the function computes
+  abbrev pub Remembers : (K → V → Type 0) → Machine K V → Type 0
+  Remembers returns m = (value : K → V) → Computes returns value → (key : K) (v : V) → value_of (eq key) m ≡ Some v → v ≡ value key
+
+  -- it is the key's value, whichever the values are that the function computes, where each resident has its own
+  abbrev pub IsValueAt : (K → V → Type 0) → Machine K V → K → V → Type 0
+  IsValueAt returns m key v = Remembers returns m → (value : K → V) → Computes returns value → v ≡ value key
+
+  -- a key that is not resident is inserted with the value, and nothing else changes
+  abbrev pub looked_up : K → V → Machine K V → Machine K V
+  looked_up key value m = if is_some (slot_of (eq key) m) then m else inserted (eq key) key value m
+
+  -- a key that is not resident costs one call of the function, and a resident none
+  abbrev pub evaluations_for : K → Machine K V → ℕ
+  evaluations_for key m = if is_some (slot_of (eq key) m) then 0 else 1

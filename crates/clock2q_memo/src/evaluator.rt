@@ -1,0 +1,36 @@
+//! The function of a memo, and how often it was called.
+use clock2q_count::Count;
+
+/// A function that counts its calls. It is called by [`evaluate`](Evaluator::evaluate) alone.
+#[derive(Drop)]
+pub(crate) struct Evaluator<F> {
+    pub(crate) function: F,
+    pub(crate) evaluations: Count,
+}
+
+impl<F> Evaluator<F> {
+    ghost use Rattle.std.specs.Prelude.{◌≡◌, ◌+◌};
+    ghost use Rattle.std.specs.Fn.{FnReturnsAt};
+
+    pub(crate) fn new(function: F) -> Self
+        ensures function { result.function ≡ function }
+        ensures none { result.evaluations.total ≡ 0 }
+    {
+        Evaluator {
+            function,
+            evaluations: Count::new(),
+        }
+    }
+
+    pub(crate) fn evaluate<K, V>(&mut self, key: &K) -> V
+    where
+        F: Fn(&K) -> V,
+        requires { F.IsAlwaysCallable self.old.function }
+        ensures value { FnReturnsAt F.Fn self.old.function key.now result }
+        ensures function { self.new.function ≡ self.old.function }
+        ensures counted { self.new.evaluations.total ≡ self.old.evaluations.total + 1 }
+    {
+        self.evaluations.tick();
+        (self.function)(key)
+    }
+}

@@ -1,0 +1,270 @@
+//! The memo: construction, the two look-ups, and a list of look-ups.
+
+#[cfg(test)]
+mod tests;
+
+use crate::evaluator::Evaluator;
+use clock2q_cache::{Cache, CacheError, DefaultHashBuilder, MAX_CAPACITY};
+use std::alloc::{AllocError, Allocator, Global};
+use std::hash::{BuildHasher, BuildHasherDefault, Hash};
+use std::marker::Model;
+use std::num::NonZeroUsize;
+
+/// A function of keys with a bounded cache of its values.
+///
+/// It stands in the place of its function: [`get`](Memo::get) returns what the function returns,
+/// and calls it only where the key isn't resident. The function has to give equal keys equal
+/// values, and the same at each call; for one that doesn't, nothing is said of the values.
+///
+/// ```rust
+/// let mut squares = Memo::new(rt.alloc(), capacity, |n: &u64| n.wrapping_mul(*n))?;
+/// assert_eq!(rt; squares.get(12), 144);
+/// assert_eq!(rt; squares.get(12), 144); // and this time nothing was multiplied
+/// ```
+#[derive(Drop)]
+pub struct Memo<K: Hash + Eq, V, F, S: BuildHasher, A: Allocator = Global> {
+    cache: Cache<K, V, S, A>,
+    evaluator: Evaluator<F>,
+}
+
+impl<K: Hash + Eq, V, F, S: BuildHasher, A: Allocator> Model for Memo<K, V, F, S, A> {
+    ghost use Rattle.clock2q_cache.specs.Cache.{IsWhole};
+    ghost use Rattle.clock2q_memo.specs.Memo.{MemoState, memo_state, memo_code};
+
+    ghost Value = { MemoState K V F };
+
+    ghost coded = { memo_code K.code V.code F.code };
+
+    ghost view = { λ memo. memo_state memo.cache.machine memo.evaluator.function memo.evaluator.evaluations.total };
+
+    ghost invariant = { λ memo. IsWhole K.eq memo.cache.machine };
+}
+
+impl<K, V, F, A> Memo<K, V, F, DefaultHashBuilder, A>
+where
+    K: Hash + Eq + Drop,
+    V: Drop,
+    F: Fn(&K) -> V + Drop,
+    A: Allocator + Copy,
+{
+    ghost use Rattle.std.specs.Prelude.{◌≡◌, ◌≢◌, ◌<◌, ◌↔◌, Err, IfOk, IsErrOf};
+    ghost use Rattle.std.specs.NonZero.{non_zero_usize_get};
+    ghost use Rattle.clock2q_cache.specs.Shares.{usual_shares};
+    ghost use Rattle.clock2q_cache.specs.Machine.{empty};
+    ghost use Rattle.std.specs.Fn.{FnReturnsAt};
+    ghost use Rattle.clock2q_memo.specs.Memo.{memo_state, Remembers};
+
+    /// Makes a memo of `function` that remembers up to `capacity` values, as
+    /// [`Cache::new`](clock2q_cache::Cache::new) makes a cache.
+    ///
+    /// # Errors
+    ///
+    /// `Capacity` above [`MAX_CAPACITY`](clock2q_cache::MAX_CAPACITY), before any memory is taken;
+    /// `Memory` where a request for memory is refused. The function is dropped then.
+    pub fn new(alloc: A, capacity: NonZeroUsize, function: F) -> Result<Self, CacheError>
+        ensures remembers { IfOk result (λ memo. Remembers K.eq (FnReturnsAt F.Fn memo.function) memo.machine) }
+        ensures made { IfOk result (λ memo. memo ≡ memo_state (empty (usual_shares (non_zero_usize_get capacity))) function 0) }
+        ensures capacity { IsErrOf result CacheError.Capacity ↔ (MAX_CAPACITY < non_zero_usize_get capacity) }
+        ensures policy { result ≢ Err CacheError.Policy }
+    {
+        Memo::with_hasher(alloc, capacity, BuildHasherDefault::new(), function)
+    }
+}
+
+impl<K, V, F, S, A> Memo<K, V, F, S, A>
+where
+    K: Hash + Eq + Drop,
+    V: Drop,
+    F: Fn(&K) -> V + Drop,
+    S: BuildHasher + Drop,
+    A: Allocator + Copy,
+{
+    ghost use Rattle.std.specs.Prelude.{◌≡◌, ◌≢◌, ◌<◌, ◌↔◌, Err, IfOk, IsErrOf};
+    ghost use Rattle.std.specs.NonZero.{non_zero_usize_get};
+    ghost use Rattle.clock2q_cache.specs.Shares.{usual_shares};
+    ghost use Rattle.clock2q_cache.specs.Machine.{empty};
+    ghost use Rattle.std.specs.Fn.{FnReturnsAt};
+    ghost use Rattle.clock2q_memo.specs.Memo.{memo_state, Remembers};
+
+    /// Makes a memo as [`new`](Memo::new) does, whose cache has this hasher.
+    ///
+    /// # Errors
+    ///
+    /// Those of [`new`](Memo::new).
+    pub fn with_hasher(
+        alloc: A,
+        capacity: NonZeroUsize,
+        hasher: S,
+        function: F,
+    ) -> Result<Self, CacheError>
+        ensures remembers { IfOk result (λ memo. Remembers K.eq (FnReturnsAt F.Fn memo.function) memo.machine) }
+        ensures made { IfOk result (λ memo. memo ≡ memo_state (empty (usual_shares (non_zero_usize_get capacity))) function 0) }
+        ensures capacity { IsErrOf result CacheError.Capacity ↔ (MAX_CAPACITY < non_zero_usize_get capacity) }
+        ensures policy { result ≢ Err CacheError.Policy }
+    {
+        let cache = Cache::with_hasher(alloc, capacity, hasher)?;
+        Ok(Memo {
+            cache,
+            evaluator: Evaluator::new(function),
+        })
+    }
+}
+
+impl<K: Hash + Eq, V, F, S: BuildHasher, A: Allocator> Memo<K, V, F, S, A> {
+    ghost use Rattle.std.specs.Prelude.{◌≡◌, IsTrue, ◌↔◌, IsSome};
+    ghost use Rattle.clock2q_cache.specs.Machine.{resident_count, slot_of};
+
+    /// Returns how many values can be remembered: the number that the memo was made with.
+    pub fn capacity(&self) -> usize
+        ensures capacity { result ≡ self.now.machine.shares.capacity }
+    {
+        self.cache.capacity()
+    }
+
+    /// Returns how many values are remembered.
+    pub fn len(&self) -> usize
+        ensures count { result ≡ resident_count self.now.machine }
+    {
+        self.cache.len()
+    }
+
+    /// Returns true if no value is remembered.
+    pub fn is_empty(&self) -> bool
+        ensures empty { IsTrue result ↔ (resident_count self.now.machine ≡ 0) }
+    {
+        self.cache.is_empty()
+    }
+
+    /// Returns true if the key's value is remembered, so that [`get`](Memo::get) wouldn't call the
+    /// function. It changes no later eviction.
+    pub fn contains(&self, key: &K) -> bool
+        ensures resident { IsTrue result ↔ IsSome (slot_of (K.eq key.now) self.now.machine) }
+    {
+        self.cache.contains(key)
+    }
+}
+
+impl<K, V, F, S, A> Memo<K, V, F, S, A>
+where
+    K: Hash + Eq + Drop,
+    V: Copy,
+    F: Fn(&K) -> V,
+    S: BuildHasher,
+    A: Allocator,
+{
+    ghost use Rattle.std.specs.Prelude.{◌≡◌, ◌+◌, None, Some};
+    ghost use Rattle.clock2q_cache.specs.Machine.{slot_of, value_of, inserted, cleared};
+    ghost use Rattle.clock2q_cache.specs.Steps.{fetched};
+    ghost use Rattle.std.specs.Fn.{FnReturnsAt};
+    ghost use Rattle.clock2q_memo.specs.Memo.{Remembers, IsValueAt, evaluations_for, looked_up};
+
+    /// Returns the function's value at the key. A remembered value is returned as
+    /// [`Cache::peek`](clock2q_cache::Cache::peek) does, and nothing changes; else the function is
+    /// called once, and the value is remembered.
+    pub fn get(&mut self, key: K) -> V
+        requires callable { F.IsAlwaysCallable self.old.function }
+        ensures value { IsValueAt K.eq (FnReturnsAt F.Fn self.old.function) self.old.machine key result }
+        ensures remembers { Remembers K.eq (FnReturnsAt F.Fn self.old.function) self.old.machine → Remembers K.eq (FnReturnsAt F.Fn self.new.function) self.new.machine }
+        ensures machine { self.new.machine ≡ looked_up K.eq key result self.old.machine }
+        ensures resident { value_of (K.eq key) self.new.machine ≡ Some result }
+        ensures evaluations { self.new.evaluations ≡ self.old.evaluations + evaluations_for K.eq key self.old.machine }
+        ensures function { self.new.function ≡ self.old.function }
+    {
+        match self.cache.peek(&key) {
+            Some(value) => *value,
+            None => self.remember(key),
+        }
+    }
+
+    /// Returns the function's value at the key, as [`get`](Memo::get) does. A remembered value is
+    /// hit, which may save it from a later eviction.
+    pub fn get_recorded(&mut self, key: K) -> V
+        requires callable { F.IsAlwaysCallable self.old.function }
+        ensures value { IsValueAt K.eq (FnReturnsAt F.Fn self.old.function) self.old.machine key result }
+        ensures remembers { Remembers K.eq (FnReturnsAt F.Fn self.old.function) self.old.machine → Remembers K.eq (FnReturnsAt F.Fn self.new.function) self.new.machine }
+        ensures machine { self.new.machine ≡ fetched (K.eq key) key result self.old.machine }
+        ensures resident { value_of (K.eq key) self.new.machine ≡ Some result }
+        ensures evaluations { self.new.evaluations ≡ self.old.evaluations + evaluations_for K.eq key self.old.machine }
+        ensures function { self.new.function ≡ self.old.function }
+    {
+        match self.cache.get(&key) {
+            Some(value) => *value,
+            None => self.remember(key),
+        }
+    }
+
+    /// Calls the function at a key that is not resident, and remembers the value.
+    fn remember(&mut self, key: K) -> V
+        requires callable { F.IsAlwaysCallable self.old.function }
+        requires absent { slot_of (K.eq key) self.old.machine ≡ None }
+        ensures value { FnReturnsAt F.Fn self.old.function key result }
+        ensures remembers { Remembers K.eq (FnReturnsAt F.Fn self.old.function) self.old.machine → Remembers K.eq (FnReturnsAt F.Fn self.new.function) self.new.machine }
+        ensures machine { self.new.machine ≡ inserted (K.eq key) key result self.old.machine }
+        ensures resident { value_of (K.eq key) self.new.machine ≡ Some result }
+        ensures evaluations { self.new.evaluations ≡ self.old.evaluations + 1 }
+        ensures function { self.new.function ≡ self.old.function }
+    {
+        let value = self.evaluator.evaluate(&key);
+        self.cache.put(key, value);
+        value
+    }
+
+    /// Forgets every value. The memory stays.
+    pub fn clear(&mut self)
+        ensures machine { self.new.machine ≡ cleared self.old.machine }
+        ensures remembers { Remembers K.eq (FnReturnsAt F.Fn self.new.function) self.new.machine }
+        ensures evaluations { self.new.evaluations ≡ self.old.evaluations }
+        ensures function { self.new.function ≡ self.old.function }
+    {
+        self.cache.clear();
+    }
+}
+
+impl<K, V, F, S, A> Memo<K, V, F, S, A>
+where
+    K: Hash + Eq + Drop,
+    V: Drop,
+    S: BuildHasher + Drop,
+    A: Allocator,
+{
+    ghost use Rattle.std.specs.Prelude.{◌≡◌};
+
+    /// Returns the function, and drops what was remembered.
+    pub fn into_function(self) -> F
+        ensures function { result ≡ self.function }
+    {
+        self.evaluator.function
+    }
+}
+
+ghost use Rattle.std.specs.Prelude.{◌≡◌, IfOk, map};
+ghost use Rattle.std.specs.Fn.{FnReturnsAt};
+ghost use Rattle.clock2q_memo.specs.Memo.{Computes, Remembers};
+
+/// Returns the function's value at each of the keys, each got by [`Memo::get_recorded`] in turn.
+///
+/// # Errors
+///
+/// `AllocError` where the list of values can't be reserved; no value was got then.
+pub fn recall<K, V, F, S, A>(
+    alloc: A,
+    memo: &mut Memo<K, V, F, S, A>,
+    keys: Vec<K, A>,
+) -> Result<Vec<V, A>, AllocError>
+where
+    K: Hash + Eq + Drop,
+    V: Copy,
+    F: Fn(&K) -> V,
+    S: BuildHasher,
+    A: Allocator,
+    requires callable { F.IsAlwaysCallable memo.old.function }
+    ensures values { Remembers K.eq (FnReturnsAt F.Fn memo.old.function) memo.old.machine → IfOk result (λ values. (value : K → V) → Computes K.eq (FnReturnsAt F.Fn memo.old.function) value → values.items ≡ map value keys.items) }
+    ensures remembers { Remembers K.eq (FnReturnsAt F.Fn memo.old.function) memo.old.machine → Remembers K.eq (FnReturnsAt F.Fn memo.new.function) memo.new.machine }
+    ensures function { memo.new.function ≡ memo.old.function }
+{
+    let mut values = Vec::with_capacity(alloc, keys.len())?;
+    for key in keys {
+        values.push_reserved(memo.get_recorded(key));
+    }
+    Ok(values)
+}
