@@ -1,2 +1,3 @@
 pub mod Stamping
 pub mod Holding
+pub mod Counting
