@@ -10,6 +10,8 @@ mod plain;
 mod progress;
 mod row;
 mod simulation;
+#[cfg(test)]
+mod tests;
 mod texts;
 mod trace;
 

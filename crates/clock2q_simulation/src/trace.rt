@@ -1,5 +1,7 @@
 //! A trace: keys of any bytes, told by numbers.
-ghost use Rattle.std.specs.Prelude.{◌≡◌, ℕ, [], ◌∷◌, ◌++◌, OnOk, OnErr};
+ghost use Rattle.std.specs.Prelude.{◌≡◌, ◌<◌, ◌≤◌, ℕ, [], ◌∷◌, ◌++◌, IfOk, OnOk, OnErr};
+ghost use Rattle.std.specs.HashMap.{hash_map_len, values};
+ghost use Rattle.std.specs.List.{All};
 ghost use Rattle.clock2q_simulation.specs.Policies.{AreBelow};
 
 use crate::error::SimulationError;
@@ -48,14 +50,7 @@ impl Trace {
         ensures added { OnOk result ((number : ℕ) × (self.new.numbers ≡ self.old.numbers ++ number ∷ [])) }
         ensures refused { OnErr result (self.new.numbers ≡ self.old.numbers) }
     {
-        let next = self.known.len();
-        let number = match self.known.get(key.as_slice()) {
-            Some(number) => *number,
-            None => {
-                self.known.insert(key, next)?;
-                next
-            }
-        };
+        let number = number_of(&mut self.known, key)?;
         self.numbers.push(number)?;
         Ok(())
     }
@@ -74,6 +69,21 @@ impl Trace {
     {
         self.known.len()
     }
+}
+
+// Returns the number of a key. One that has none gets the next.
+fn number_of(known: &mut HashMap<Vec<u8>, usize>, key: Vec<u8>) -> Result<usize, AllocError>
+    requires below { All (λ n. n < hash_map_len known.old) (values known.old) }
+    ensures below { All (λ n. n < hash_map_len known.new) (values known.new) }
+    ensures number { IfOk result (λ n. n < hash_map_len known.new) }
+    ensures kept { hash_map_len known.old ≤ hash_map_len known.new }
+{
+    if let Some(number) = known.get(key.as_slice()) {
+        return Ok(*number);
+    }
+    let next = known.len();
+    known.insert(key, next)?;
+    Ok(next)
 }
 
 /// Reads a trace to its end: a key a line. A line ends with the byte 10, which the last one may lack.
