@@ -1,4 +1,5 @@
 //! A picture of hit ratios over capacities.
+ghost use Rattle.std.specs.Prelude.{◌<◌};
 
 use crate::axis::Axis;
 use crate::row::Row;
@@ -13,9 +14,6 @@ const RIGHT: f64 = 690.0;
 const TOP: f64 = 84.0;
 
 const BOTTOM: f64 = 410.0;
-
-// How many parts the vertical axis has.
-const PARTS: u32 = 5;
 
 const HEAD: &str =
     "<svg xmlns=\"http://www.w3.org/2000/svg\" width=\"720\" height=\"480\" viewBox=\"0 0 720 480\" font-family=\"sans-serif\" font-size=\"13\">
@@ -49,12 +47,30 @@ impl Curve {
         }
     }
 
-    // Returns the lengths of the dashes and the gaps, and the colour.
-    fn stroke(self) -> &'static str {
+    fn colour(self) -> &'static str {
         match self {
-            Curve::Clock2Q => "stroke=\"#0b5cad\" stroke-width=\"2\"",
-            Curve::LeastRecent => "stroke=\"#c8500a\" stroke-width=\"2\" stroke-dasharray=\"9 5\"",
-            Curve::FirstIn => "stroke=\"#2a7d2e\" stroke-width=\"2\" stroke-dasharray=\"2 4\"",
+            Curve::Clock2Q => "#0b5cad",
+            Curve::LeastRecent => "#c8500a",
+            Curve::FirstIn => "#2a7d2e",
+        }
+    }
+
+    // Returns the lengths of the dashes and of the gaps between them.
+    fn dashes(self) -> &'static str {
+        match self {
+            Curve::Clock2Q => "none",
+            Curve::LeastRecent => "9 5",
+            Curve::FirstIn => "2 4",
+        }
+    }
+
+    // Returns the radius of the ring round each point. They differ, so that each is seen where
+    // curves meet.
+    fn radius(self) -> u32 {
+        match self {
+            Curve::Clock2Q => 2,
+            Curve::LeastRecent => 4,
+            Curve::FirstIn => 6,
         }
     }
 
@@ -68,11 +84,11 @@ impl Curve {
     }
 }
 
-// Where capacities and ratios stand.
+// Where capacities and ratios stand. The vertical axis ends at `top` percent.
 #[derive(Drop)]
 struct Frame {
     axis: Axis,
-    top: f64,
+    top: u32,
 }
 
 impl Frame {
@@ -90,13 +106,24 @@ impl Frame {
         LEFT + self.axis.place(capacity) * (RIGHT - LEFT)
     }
 
-    fn y(&self, ratio: f64) -> f64 {
-        BOTTOM - ratio / self.top * (BOTTOM - TOP)
+    fn y(&self, percent: f64) -> f64 {
+        BOTTOM - percent / f64::from(self.top) * (BOTTOM - TOP)
+    }
+
+    // Returns how many percent there are from one line across the picture to the next.
+    fn step(&self) -> usize
+        ensures positive { 0 < result }
+    {
+        match self.top {
+            0..=20 => 2,
+            21..=50 => 5,
+            _ => 10,
+        }
     }
 }
 
-// Returns the highest ratio of the rows, rounded up to a tenth.
-fn top_of(rows: &[Row]) -> f64 {
+// Returns the highest ratio of the rows in percent, rounded up to a multiple of ten.
+fn top_of(rows: &[Row]) -> u32 {
     let mut most = 0.0;
     for row in rows {
         let hits = row.clock2q.max(row.least_recent).max(row.first_in);
@@ -104,10 +131,12 @@ fn top_of(rows: &[Row]) -> f64 {
             most = row.ratio(hits);
         }
     }
-    (1..10)
-        .map(|tenths: u32| f64::from(tenths) / 10.0)
-        .find(|top| most <= *top)
-        .unwrap_or(1.0)
+    for top in [10u8, 20, 30, 40, 50, 60, 70, 80, 90] {
+        if most * 100.0 <= f64::from(top) {
+            return u32::from(top);
+        }
+    }
+    100
 }
 
 /// Returns the hit ratio of each policy over the capacities, as an SVG text.
@@ -124,6 +153,7 @@ pub(crate) fn picture(alloc: Global, rows: &[Row]) -> Result<String, AllocError>
     write_capacities(alloc, &mut text, &frame)?;
     for curve in Curve::ALL {
         write_curve(&mut text, &frame, &sorted, curve)?;
+        write_rings(&mut text, &frame, &sorted, curve)?;
         write_legend(&mut text, curve)?;
     }
     text.push_str("</svg>\n")?;
@@ -139,10 +169,10 @@ fn write_title(text: &mut String, rows: &[Row]) -> Result<(), AllocError> {
     )
 }
 
-// Writes the vertical axis.
+// Writes the vertical axis, with lines across the picture.
 fn write_ratios(text: &mut String, frame: &Frame) -> Result<(), AllocError> {
-    for part in 0..=PARTS {
-        write_ratio(text, frame, frame.top * f64::from(part) / f64::from(PARTS))?;
+    for percent in (0..=frame.top).step_by(frame.step()) {
+        write_ratio(text, frame.y(f64::from(percent)), percent)?;
     }
     writeln!(
         text,
@@ -150,18 +180,16 @@ fn write_ratios(text: &mut String, frame: &Frame) -> Result<(), AllocError> {
     )
 }
 
-// Writes a ratio of the axis, and a line across the picture.
-fn write_ratio(text: &mut String, frame: &Frame, ratio: f64) -> Result<(), AllocError> {
-    let y = frame.y(ratio);
+// Writes a ratio of the axis, and its line.
+fn write_ratio(text: &mut String, y: f64, percent: u32) -> Result<(), AllocError> {
     let baseline = y + 4.5;
-    let percent = ratio * 100.0;
     writeln!(
         text,
         "<path d=\"M {LEFT:.0} {y:.1} H {RIGHT:.0}\" stroke=\"#d0d0d0\"/>"
     )?;
     writeln!(
         text,
-        "<text x=\"72\" y=\"{baseline:.1}\" text-anchor=\"end\">{percent:.0}%</text>"
+        "<text x=\"72\" y=\"{baseline:.1}\" text-anchor=\"end\">{percent}%</text>"
     )
 }
 
@@ -193,30 +221,66 @@ fn write_capacities(alloc: Global, text: &mut String, frame: &Frame) -> Result<(
     )
 }
 
-// Writes a curve through the points of its policy, and a ring round each.
+// Writes a curve through the points of its policy.
 fn write_curve(
     text: &mut String,
     frame: &Frame,
     rows: &[Row],
     curve: Curve,
 ) -> Result<(), AllocError> {
-    let stroke = curve.stroke();
-    write!(text, "<polyline fill=\"none\" {stroke} points=\"")?;
+    write!(text, "<polyline fill=\"none\" ")?;
+    write_pen(text, curve)?;
+    write!(text, " points=\"")?;
     for row in rows {
         let x = frame.x(row.capacity.get());
-        let y = frame.y(row.ratio(curve.hits(row)));
+        let y = frame.y(row.ratio(curve.hits(row)) * 100.0);
         write!(text, " {x:.1},{y:.1}")?;
     }
     writeln!(text, "\"/>")
 }
 
-// Writes a curve's name beside a piece of its line.
-fn write_legend(text: &mut String, curve: Curve) -> Result<(), AllocError> {
-    let left = curve.legend();
-    let stroke = curve.stroke();
-    let name = curve.name();
+// Writes a ring round each point of a policy.
+fn write_rings(
+    text: &mut String,
+    frame: &Frame,
+    rows: &[Row],
+    curve: Curve,
+) -> Result<(), AllocError> {
+    for row in rows {
+        let x = frame.x(row.capacity.get());
+        let y = frame.y(row.ratio(curve.hits(row)) * 100.0);
+        write_ring(text, x, y, curve)?;
+    }
+    Ok(())
+}
+
+fn write_ring(text: &mut String, x: f64, y: f64, curve: Curve) -> Result<(), AllocError> {
+    let radius = curve.radius();
+    let colour = curve.colour();
     writeln!(
         text,
-        "<g transform=\"translate({left} 58)\"><path d=\"M 0 0 h 40\" {stroke}/><text x=\"48\" y=\"4.5\">{name}</text></g>"
+        "<circle cx=\"{x:.1}\" cy=\"{y:.1}\" r=\"{radius}\" fill=\"none\" stroke=\"{colour}\"/>"
     )
+}
+
+// Writes how a curve's line is drawn.
+fn write_pen(text: &mut String, curve: Curve) -> Result<(), AllocError> {
+    let colour = curve.colour();
+    let dashes = curve.dashes();
+    write!(
+        text,
+        "stroke=\"{colour}\" stroke-width=\"2\" stroke-dasharray=\"{dashes}\""
+    )
+}
+
+// Writes a curve's name beside a piece of its line with a ring.
+fn write_legend(text: &mut String, curve: Curve) -> Result<(), AllocError> {
+    let left = curve.legend();
+    let name = curve.name();
+    write!(text, "<path d=\"M {left} 58 h 40\" ")?;
+    write_pen(text, curve)?;
+    writeln!(text, "/>")?;
+    write_ring(text, f64::from(left) + 20.0, 58.0, curve)?;
+    let start = f64::from(left) + 48.0;
+    writeln!(text, "<text x=\"{start:.0}\" y=\"62.5\">{name}</text>")
 }
