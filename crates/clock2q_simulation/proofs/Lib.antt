@@ -1,0 +1,3 @@
+pub mod Stamping
+pub mod Holding
+pub mod Counting

@@ -1,0 +1,237 @@
+-- The list that stamps tell: who is in it, and what a new stamp or a later beginning makes of it.
+use Rattle.std.proofs.Common.{◌≡◌, ◌≢◌, ◌⊎◌, ℕ, zero, suc, ◌-◌, ◌<◌, ◌≤◌, inl, inr, refl, sym, ap, ◌∙◌, subst, arith, Bool, true, false, cond, ◌||◌, ◌&&◌, eqb, ltb, List, [], ◌∷◌, ◌++◌, length, length-append, take, get_or, set, get_or-set_same, get_or-set_other}
+use Rattle.std.proofs.lemmas.Bool.{cases_Bool, cases_eq, cases_lt, eqb-true, eqb-false, ltb-true, ltb-false, eq-eqb, ne_eqb, lt-ltb, le-ltb, and_parts, and_from, and_left, and_right, and_cases, or_left, or_from, or_cases, or_parts, or_right, false_from_ne_true}
+use Rattle.clock2q_simulation.specs.Policies.{is_in, without, brought}
+use Rattle.clock2q_simulation.specs.Stamps.{is_newest, held_at, AreStamps}
+
+-- a key that isn't in a list is not taken out of it
+pub without-absent : (key : ℕ) (held : List ℕ) → is_in key held ≡ false → without key held ≡ held
+without-absent key [] absent = refl
+without-absent key (first ∷ held) absent =
+    let parts = or_parts (eqb first key) (is_in key held) absent in
+    rw parts.0 (ap (λ rest. first ∷ rest) (without-absent key held parts.1))
+
+module _ (trace stamps : List ℕ) (left : ℕ) where
+  abbrev key_at : ℕ → ℕ
+  key_at place = get_or trace place 0
+
+  abbrev stamp_of : ℕ → ℕ
+  stamp_of key = get_or stamps key 0
+
+  newest_stamp : (place : ℕ) → is_newest trace stamps left place ≡ true → (stamp_of (key_at place) ≡ suc place) × (left < suc place)
+  newest_stamp place newest =
+      let parts = and_parts (eqb (stamp_of (key_at place)) (suc place)) (ltb left (suc place)) newest in
+      (eqb-true (stamp_of (key_at place)) (suc place) parts.0, ltb-true left (suc place) parts.1)
+
+  stamp_newest : (place : ℕ) → stamp_of (key_at place) ≡ suc place → left < suc place → is_newest trace stamps left place ≡ true
+  stamp_newest place stamped later =
+      and_from (eqb (stamp_of (key_at place)) (suc place)) (ltb left (suc place)) (eq-eqb (stamp_of (key_at place)) (suc place) stamped) (lt-ltb left (suc place) later)
+
+  -- who is in the list has a stamp that says so
+  pub in_stamped : (key at : ℕ) → is_in key (held_at trace stamps left at) ≡ true → (left < stamp_of key) × (stamp_of key ≤ at)
+  in_stamped key zero is = absurd (cc)
+  in_stamped key (suc place) is = elim (cases_Bool (is_newest trace stamps left place)) [
+    | inl newest ↦
+        let stamped = newest_stamp place newest in
+        elim (or_cases (eqb (key_at place) key) (is_in key (held_at trace stamps left place)) (rw newest at is)) [
+          | inl first ↦
+              let same : key_at place ≡ key = eqb-true (key_at place) key first in
+              let stamp : stamp_of key ≡ suc place = sym (ap stamp_of same) ∙ stamped.0 in
+              (omega (arith, stamp, stamped.1), omega (arith, stamp))
+          | inr later ↦
+              let below = in_stamped key place later in
+              (below.0, omega (arith, below.1))
+        ]
+    | inr old ↦
+        let below = in_stamped key place (rw old at is) in
+        (below.0, omega (arith, below.1))
+  ]
+
+  -- and who has such a stamp is in it
+  pub stamped_in : (key place at : ℕ) → key_at place ≡ key → stamp_of key ≡ suc place → left < suc place → place < at → is_in key (held_at trace stamps left at) ≡ true
+  stamped_in key place zero same stamp later before = absurd (omega arith)
+  stamped_in key place (suc last) same stamp later before = elim (cases_eq place last) [
+    | inl is ↦
+        let here : key_at last ≡ key = sym (ap key_at is) ∙ same in
+        let newest : is_newest trace stamps left last ≡ true = stamp_newest last (ap stamp_of here ∙ stamp ∙ ap suc is) (omega (arith, is, later)) in
+        rw newest (or_left (eqb (key_at last) key) (is_in key (held_at trace stamps left last)) (eq-eqb (key_at last) key here))
+    | inr other ↦
+        let inside : is_in key (held_at trace stamps left last) ≡ true = stamped_in key place last same stamp later (omega (arith, other, before)) in
+        elim (cases_Bool (is_newest trace stamps left last)) [
+          | inl newest ↦ rw newest (or_right (eqb (key_at last) key) (is_in key (held_at trace stamps left last)) inside)
+          | inr old ↦ rw old inside
+        ]
+  ]
+
+  -- so the stamp tells
+  pub is_in-stamp : (key at : ℕ) → AreStamps trace stamps at → is_in key (held_at trace stamps left at) ≡ ltb left (stamp_of key)
+  is_in-stamp key at are = elim (cases_lt left (stamp_of key)) [
+    | inl held ↦
+        let stamp : stamp_of key ≡ suc (stamp_of key - 1) = omega (arith, held) in
+        stamped_in key (stamp_of key - 1) at (are.own key (stamp_of key - 1) stamp) stamp (omega (arith, held)) (omega (arith, held, are.bound key)) ∙ sym (lt-ltb left (stamp_of key) held)
+    | inr gone ↦
+        false_from_ne_true (is_in key (held_at trace stamps left at)) (λ is. omega (arith, gone, (in_stamped key at is).0)) ∙ sym (le-ltb left (stamp_of key) gone)
+  ]
+
+  -- a new stamp takes a key out of its earlier place
+  pub held-stamped : (key stamp at : ℕ) → key < length stamps → at < stamp → held_at trace (set stamps key stamp) left at ≡ without key (held_at trace stamps left at)
+  held-stamped key stamp zero within above = refl
+  held-stamped key stamp (suc place) within above =
+      let rest : held_at trace (set stamps key stamp) left place ≡ without key (held_at trace stamps left place) = held-stamped key stamp place within (omega (arith, above)) in
+      elim (cases_eq (key_at place) key) [
+        | inl same ↦
+            let changed : get_or (set stamps key stamp) (key_at place) 0 ≡ stamp = ap (λ k. get_or (set stamps key stamp) k 0) same ∙ get_or-set_same stamps key stamp 0 within in
+            let old : is_newest trace (set stamps key stamp) left place ≡ false = and_left (eqb (get_or (set stamps key stamp) (key_at place) 0) (suc place)) (ltb left (suc place)) (ne_eqb (get_or (set stamps key stamp) (key_at place) 0) (suc place) (λ e. omega (arith, changed, e, above))) in
+            rw old (rest ∙ sym (elim (cases_Bool (is_newest trace stamps left place)) as (λ w. without key (cond (is_newest trace stamps left place) (key_at place ∷ held_at trace stamps left place) (held_at trace stamps left place)) ≡ without key (held_at trace stamps left place)) [
+              | inl newest ↦ rw (newest, eq-eqb (key_at place) key same) refl
+              | inr gone ↦ rw gone refl
+            ]))
+        | inr other ↦
+            let kept : get_or (set stamps key stamp) (key_at place) 0 ≡ stamp_of (key_at place) = get_or-set_other stamps key (key_at place) stamp 0 other in
+            let still : is_newest trace (set stamps key stamp) left place ≡ is_newest trace stamps left place = ap (λ s. eqb s (suc place) && ltb left (suc place)) kept in
+            elim (cases_Bool (is_newest trace stamps left place)) [
+              | inl newest ↦ rw (still, newest, ne_eqb (key_at place) key other) (ap (λ held. key_at place ∷ held) rest)
+              | inr gone ↦ rw (still, gone) rest
+            ]
+      ]
+
+  -- a key stands in the list once
+  pub once : (key at : ℕ) → AreStamps trace stamps at → is_in key (held_at trace stamps left at) ≡ true → suc (length (without key (held_at trace stamps left at))) ≡ length (held_at trace stamps left at)
+  once key at are is =
+      let stamp = in_stamped key at is in
+      counted at stamp.1 where
+        counted : (upto : ℕ) → stamp_of key ≤ upto → suc (length (without key (held_at trace stamps left upto))) ≡ length (held_at trace stamps left upto)
+        counted zero above = absurd (omega (arith, (in_stamped key at is).0, above))
+        counted (suc place) above = elim (cases_eq (stamp_of key) (suc place)) [
+          | inl here ↦
+              let same : key_at place ≡ key = are.own key place here in
+              let newest : is_newest trace stamps left place ≡ true = stamp_newest place (ap stamp_of same ∙ here) (omega (arith, here, (in_stamped key at is).0)) in
+              let absent : is_in key (held_at trace stamps left place) ≡ false = false_from_ne_true (is_in key (held_at trace stamps left place)) (λ inside. omega (arith, here, (in_stamped key place inside).1)) in
+              rw (newest, eq-eqb (key_at place) key same, without-absent key (held_at trace stamps left place) absent) refl
+          | inr elsewhere ↦
+              let rest = counted place (omega (arith, elsewhere, above)) in
+              elim (cases_Bool (is_newest trace stamps left place)) [
+                | inl newest ↦
+                    let other : key_at place ≢ key = λ same. elsewhere (sym (ap stamp_of same) ∙ (newest_stamp place newest).0) in
+                    rw (newest, ne_eqb (key_at place) key other) (ap suc rest)
+                | inr old ↦ rw old rest
+              ]
+        ]
+
+  -- nothing stands before the beginning
+  pub held-none : (at : ℕ) → at ≤ left → held_at trace stamps left at ≡ []
+  held-none zero before = refl
+  held-none (suc place) before =
+      rw (and_right (eqb (stamp_of (key_at place)) (suc place)) (ltb left (suc place)) (le-ltb left (suc place) before)) (held-none place (omega (arith, before)))
+
+module _ (trace stamps : List ℕ) (left : ℕ) where
+  same_test : (place : ℕ) → left ≢ place → is_newest trace stamps (suc left) place ≡ is_newest trace stamps left place
+  same_test place other = ap (λ b. eqb (get_or stamps (get_or trace place 0) 0) (suc place) && b) (elim (cases_lt left place) as (λ w. ltb (suc left) (suc place) ≡ ltb left (suc place)) [
+    | inl below ↦ lt-ltb (suc left) (suc place) (omega (arith, below)) ∙ sym (lt-ltb left (suc place) (omega (arith, below)))
+    | inr above ↦
+        let past : place < left = omega (arith, above, other) in
+        le-ltb (suc left) (suc place) (omega (arith, past)) ∙ sym (le-ltb left (suc place) (omega (arith, past)))
+  ])
+
+  -- a place whose key has a later stamp is passed over
+  pub held-stale : (at : ℕ) → get_or stamps (get_or trace left 0) 0 ≢ suc left → held_at trace stamps (suc left) at ≡ held_at trace stamps left at
+  held-stale zero stale = refl
+  held-stale (suc place) stale = elim (cases_eq left place) [
+    | inl here ↦
+        let stamp : get_or stamps (get_or trace place 0) 0 ≢ suc place = λ e. stale (ap (λ p. get_or stamps (get_or trace p 0) 0) here ∙ e ∙ ap suc (sym here)) in
+        let no = ne_eqb (get_or stamps (get_or trace place 0) 0) (suc place) stamp in
+        rw (no) (held-stale place stale)
+    | inr other ↦ elim (cases_Bool (is_newest trace stamps left place)) [
+      | inl newest ↦ rw (same_test place other, newest) (ap (λ held. get_or trace place 0 ∷ held) (held-stale place stale))
+      | inr old ↦ rw (same_test place other, old) (held-stale place stale)
+    ]
+  ]
+
+  -- and one whose key has no later stamp has the last of the list
+  pub held-oldest : (at : ℕ) → get_or stamps (get_or trace left 0) 0 ≡ suc left → left < at → held_at trace stamps left at ≡ held_at trace stamps (suc left) at ++ get_or trace left 0 ∷ []
+  held-oldest zero stamp before = absurd (omega arith)
+  held-oldest (suc place) stamp before = elim (cases_eq left place) [
+    | inl here ↦
+        let newest : is_newest trace stamps left place ≡ true = stamp_newest trace stamps left place (sym (ap (λ p. get_or stamps (get_or trace p 0) 0) here) ∙ stamp ∙ ap suc here) (omega (arith, here)) in
+        let first : held_at trace stamps left (suc place) ≡ get_or trace place 0 ∷ [] = rw (newest, held-none trace stamps left place (omega (arith, here))) refl in
+        let none : held_at trace stamps (suc left) (suc place) ≡ [] = held-none trace stamps (suc left) (suc place) (omega (arith, here)) in
+        let last : get_or trace place 0 ≡ get_or trace left 0 = ap (λ p. get_or trace p 0) (sym here) in
+        first ∙ subst (λ held. get_or trace place 0 ∷ [] ≡ held ++ get_or trace left 0 ∷ []) (sym none) (ap (λ key. key ∷ []) last)
+    | inr other ↦
+        let rest = held-oldest place stamp (omega (arith, other, before)) in
+        elim (cases_Bool (is_newest trace stamps left place)) [
+          | inl newest ↦ rw (same_test place other, newest) (ap (λ held. get_or trace place 0 ∷ held) rest)
+          | inr old ↦ rw (same_test place other, old) rest
+        ]
+  ]
+
+-- a list without its last
+take-all : (n : ℕ) (front : List ℕ) (last : ℕ) → n ≡ length front → take n (front ++ last ∷ []) ≡ front
+take-all n [] last long = rw long refl
+take-all n (first ∷ front) last long = rw long (ap (λ rest. first ∷ rest) (take-all (length front) front last refl))
+
+pub front-taken : (held front : List ℕ) (last : ℕ) → held ≡ front ++ last ∷ [] → front ≡ take (length held - 1) held
+front-taken held front last is =
+    let long : length held - 1 ≡ length front = omega (arith, ap length is, length-append front (last ∷ [])) in
+    sym (ap (take (length held - 1)) is ∙ take-all (length held - 1) front last long)
+
+pub none-taken : (held : List ℕ) → held ≡ [] → [] ≡ take (length held - 1) held
+none-taken [] is = refl
+none-taken (first ∷ held) is = absurd (cc)
+
+-- nor is it in a part of the list
+pub absent-taken : (key n : ℕ) (held : List ℕ) → is_in key held ≡ false → is_in key (take n held) ≡ false
+absent-taken key zero held absent = refl
+absent-taken key (suc n) [] absent = refl
+absent-taken key (suc n) (first ∷ held) absent =
+    let parts = or_parts (eqb first key) (is_in key held) absent in
+    or_from (eqb first key) (is_in key (take n held)) parts.0 (absent-taken key n held parts.1)
+
+-- a key comes in front, with room for it or without
+pub brought-room : (capacity key : ℕ) (held : List ℕ) → length held < capacity → brought capacity key held ≡ key ∷ held
+brought-room zero key held room = absurd (omega arith)
+brought-room (suc capacity) key held room = ap (λ rest. key ∷ rest) (all capacity held (omega (arith, room))) where
+  all : (n : ℕ) (held : List ℕ) → length held ≤ n → take n held ≡ held
+  all zero [] long = refl
+  all zero (first ∷ held) long = absurd (omega (arith, long))
+  all (suc n) [] long = refl
+  all (suc n) (first ∷ held) long = ap (λ rest. first ∷ rest) (all n held (omega (arith, long)))
+
+pub brought-full : (capacity key : ℕ) (held : List ℕ) → 0 < capacity → length held ≡ capacity → brought capacity key held ≡ key ∷ take (length held - 1) held
+brought-full zero key held some full = absurd (omega arith)
+brought-full (suc capacity) key held some full =
+    let n : capacity ≡ length held - 1 = omega (arith, full) in
+    ap (λ m. key ∷ take m held) n
+
+module _ (trace stamps : List ℕ) (left key at : ℕ) (are : AreStamps trace stamps at) (here : get_or trace at 0 ≡ key) where
+  -- a key that is stamped comes in front
+  pub stamped-front : key < length stamps → left ≤ at → held_at trace (set stamps key (suc at)) left (suc at) ≡ key ∷ without key (held_at trace stamps left at)
+  stamped-front within begun =
+      let stamp : get_or (set stamps key (suc at)) (get_or trace at 0) 0 ≡ suc at = ap (λ k. get_or (set stamps key (suc at)) k 0) here ∙ get_or-set_same stamps key (suc at) 0 within in
+      let newest : is_newest trace (set stamps key (suc at)) left at ≡ true = stamp_newest trace (set stamps key (suc at)) left at stamp (omega (arith, begun)) in
+      let rest : held_at trace (set stamps key (suc at)) left at ≡ without key (held_at trace stamps left at) = held-stamped trace stamps left key (suc at) at within (omega arith) in
+      rw newest (ap (λ k. k ∷ held_at trace (set stamps key (suc at)) left at) here ∙ ap (λ held. key ∷ held) rest)
+
+  -- and one that isn't stays where it is
+  pub unstamped : held_at trace stamps left (suc at) ≡ held_at trace stamps left at
+  unstamped =
+      let old : is_newest trace stamps left at ≡ false = and_left (eqb (get_or stamps (get_or trace at 0) 0) (suc at)) (ltb left (suc at)) (ne_eqb (get_or stamps (get_or trace at 0) 0) (suc at) (λ e. omega (arith, e, are.bound (get_or trace at 0)))) in
+      rw old refl
+
+  pub stamps-later : AreStamps trace stamps (suc at)
+  stamps-later = record { bound = λ k. omega (arith, are.bound k); own = are.own }
+
+  pub stamps-set : key < length stamps → AreStamps trace (set stamps key (suc at)) (suc at)
+  stamps-set within = record {
+    bound = λ k. elim (cases_eq k key) [
+      | inl same ↦ omega (arith, ap (λ k. get_or (set stamps key (suc at)) k 0) same ∙ get_or-set_same stamps key (suc at) 0 within)
+      | inr other ↦ omega (arith, are.bound k, get_or-set_other stamps key k (suc at) 0 other)
+    ];
+    own = λ k place stamp. elim (cases_eq k key) [
+      | inl same ↦
+          let new : get_or (set stamps key (suc at)) k 0 ≡ suc at = ap (λ k. get_or (set stamps key (suc at)) k 0) same ∙ get_or-set_same stamps key (suc at) 0 within in
+          let is : place ≡ at = omega (arith, new, stamp) in
+          ap (λ p. get_or trace p 0) is ∙ here ∙ sym same
+      | inr other ↦ are.own k place (sym (get_or-set_other stamps key k (suc at) 0 other) ∙ stamp)
+    ];
+  }

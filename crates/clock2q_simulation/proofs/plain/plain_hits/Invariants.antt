@@ -1,0 +1,13 @@
+-- The hits so far and those to come are all hits.
+use Rattle.std.proofs.Common.{◌≡◌, ◌+◌, ◌≤◌, [], drop}
+use Rattle.std.specs.NonZero.{non_zero_usize_get}
+use Rattle.clock2q_simulation.specs.Policies.{hits, is_in, plain_after, plain_hits}
+use Rattle.clock2q_simulation.specs.Residents.{held_by, IsHolding}
+use Rattle.clock2q_simulation.proofs.plain.plain_hits.Given as goal
+
+abbrev pub invariant-loop-at : goal.invariant-loop-at
+invariant-loop-at l = record {
+  holding : IsHolding (non_zero_usize_get l.capacity) l.trace l.at l.residents;
+  few : l.hits ≤ l.at;
+  told : l.hits + hits is_in (plain_after l.policy (non_zero_usize_get l.capacity)) (drop l.at l.trace) (held_by l.trace l.at l.residents) ≡ plain_hits l.policy (non_zero_usize_get l.capacity) l.trace;
+}

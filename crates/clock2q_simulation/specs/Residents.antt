@@ -1,0 +1,16 @@
+-- What the stamps of a plain cache tell.
+use Rattle.std.specs.Prelude.{◌≡◌, ℕ, ◌≤◌, List, length}
+use Rattle.clock2q_simulation.specs.declared.plain.Residents.{Residents}
+use Rattle.clock2q_simulation.specs.Stamps.{held_at, AreStamps, AreKnown}
+
+-- the keys held after so many of a trace, newest first
+abbrev pub held_by : List ℕ → ℕ → Residents → List ℕ
+held_by trace at residents = held_at trace residents.stamps.items residents.left at
+
+-- they are told by stamps and counted, and there are no more than the capacity
+pub record IsHolding (capacity : ℕ) (trace : List ℕ) (at : ℕ) (residents : Residents) : Type 0 where
+  pub known : AreKnown trace residents.stamps.items
+  pub stamped : AreStamps trace residents.stamps.items at
+  pub begun : residents.left ≤ at
+  pub counted : residents.count ≡ length (held_by trace at residents)
+  pub room : residents.count ≤ capacity

@@ -1,0 +1,32 @@
+//! Clock2Q+ on a trace.
+ghost use Rattle.std.specs.Prelude.{◌≡◌, ◌<◌, IfOk, IsErrOf};
+ghost use Rattle.std.specs.NonZero.{non_zero_usize_get};
+ghost use Rattle.clock2q_simulation.specs.Policies.{machine_hits};
+
+use clock2q_cache::{Cache, CacheError, MAX_CAPACITY};
+use std::alloc::Global;
+use std::num::NonZeroUsize;
+
+/// Returns how many keys of a trace a new cache of the usual shares holds as they come.
+///
+/// # Errors
+///
+/// `Capacity` where the capacity is above `MAX_CAPACITY`, and `Memory` where a request for memory is
+/// refused.
+pub fn clock2q_hits(
+    alloc: Global,
+    capacity: NonZeroUsize,
+    trace: &[usize],
+) -> Result<usize, CacheError>
+    ensures hits { IfOk result (λ hits. hits ≡ machine_hits (non_zero_usize_get capacity) trace.now) }
+    ensures capacity { MAX_CAPACITY < non_zero_usize_get capacity → IsErrOf result CacheError.Capacity }
+{
+    let mut cache = Cache::new(alloc, capacity)?;
+    let mut hits = 0;
+    for key in trace {
+        if cache.put(*key, ()).is_some() {
+            hits += 1;
+        }
+    }
+    Ok(hits)
+}

@@ -1,0 +1,25 @@
+//! Traces of keys replayed in caches of several policies, and what comes of it as a table or a picture.
+#![tactic(auto)]
+
+mod axis;
+mod clock;
+mod error;
+mod options;
+mod picture;
+mod plain;
+mod progress;
+mod row;
+mod simulation;
+#[cfg(test)]
+mod tests;
+mod texts;
+mod trace;
+
+pub use clock::clock2q_hits;
+pub use error::SimulationError;
+pub use options::{Format, Options, parse_options};
+pub use plain::{Policy, plain_hits};
+pub use progress::Progress;
+pub use row::{Row, replay};
+pub use simulation::simulate;
+pub use trace::{Trace, read_trace};

@@ -1,0 +1,126 @@
+//! The plain policies that Clock2Q+ is compared with.
+ghost use Rattle.std.specs.Prelude.{◌≡◌, ◌+◌, ◌-◌, ◌<◌, ◌≤◌, IfOk, false, true, length, take, slice_index};
+ghost use Rattle.std.specs.NonZero.{non_zero_usize_get};
+ghost use Rattle.clock2q_simulation.specs.Policies.{is_in, after_hit, brought, plain_after, plain_hits, AreBelow};
+ghost use Rattle.clock2q_simulation.specs.Stamps.{held_at, AreKnown};
+ghost use Rattle.clock2q_simulation.specs.Residents.{held_by, IsHolding};
+
+use std::alloc::{AllocError, Global};
+use std::num::NonZeroUsize;
+
+/// What a hit changes in a cache that evicts the last key of a list.
+#[derive(Clone, Copy, Debug, PartialEq, Eq)]
+pub enum Policy {
+    /// A hit moves the key to the front of the list.
+    LeastRecentlyUsed,
+    /// A hit changes nothing.
+    FirstInFirstOut,
+}
+
+// The keys that a plain cache holds. A key's stamp is one more than the place of the trace at which
+// it was last put in front; it is held while its stamp is above `left`.
+#[derive(Drop)]
+struct Residents {
+    stamps: Vec<usize>,
+    left: usize,
+    count: usize,
+}
+
+impl Residents {
+    // Tells whether the key at a place of the trace is held, and makes what the policy makes of it.
+    fn access(&mut self, policy: Policy, capacity: NonZeroUsize, trace: &[usize], at: usize) -> bool
+        requires at { at < length trace.now }
+        requires holding { IsHolding (non_zero_usize_get capacity) trace.now at self.old }
+        ensures hit { result ≡ is_in (slice_index trace.now at) (held_by trace.now at self.old) }
+        ensures held { held_by trace.now (at + 1) self.new ≡ plain_after policy
+            (non_zero_usize_get capacity) (slice_index trace.now at) (held_by trace.now at self.old) }
+        ensures holding { IsHolding (non_zero_usize_get capacity) trace.now (at + 1) self.new }
+    {
+        let key = trace[at];
+        let is_hit = self.left < self.stamps[key];
+        if is_hit {
+            self.hit(policy, capacity, trace, at);
+        } else {
+            self.bring(capacity, trace, at);
+        }
+        is_hit
+    }
+
+    // Moves a held key to the front, where the policy does so.
+    fn hit(&mut self, policy: Policy, capacity: NonZeroUsize, trace: &[usize], at: usize)
+        requires at { at < length trace.now }
+        requires holding { IsHolding (non_zero_usize_get capacity) trace.now at self.old }
+        requires held { is_in (slice_index trace.now at) (held_by trace.now at self.old) ≡ true }
+        ensures held { held_by trace.now (at + 1) self.new
+            ≡ after_hit policy (slice_index trace.now at) (held_by trace.now at self.old) }
+        ensures holding { IsHolding (non_zero_usize_get capacity) trace.now (at + 1) self.new }
+    {
+        match policy {
+            Policy::LeastRecentlyUsed => self.stamps[trace[at]] = at + 1,
+            Policy::FirstInFirstOut => {}
+        }
+    }
+
+    // Puts a key that isn't held in front. Where there is no room the oldest key leaves.
+    fn bring(&mut self, capacity: NonZeroUsize, trace: &[usize], at: usize)
+        requires at { at < length trace.now }
+        requires holding { IsHolding (non_zero_usize_get capacity) trace.now at self.old }
+        requires absent { is_in (slice_index trace.now at) (held_by trace.now at self.old) ≡ false }
+        ensures held { held_by trace.now (at + 1) self.new ≡ brought
+            (non_zero_usize_get capacity) (slice_index trace.now at) (held_by trace.now at self.old) }
+        ensures holding { IsHolding (non_zero_usize_get capacity) trace.now (at + 1) self.new }
+    {
+        if self.count == capacity.get() {
+            self.left = after_oldest(trace, &self.stamps, self.left, at);
+        } else {
+            self.count += 1;
+        }
+        self.stamps[trace[at]] = at + 1;
+    }
+}
+
+// Returns where the list begins once its oldest key has left.
+fn after_oldest(trace: &[usize], stamps: &[usize], left: usize, at: usize) -> usize
+    requires left { left ≤ at }
+    requires at { at ≤ length trace.now }
+    requires known { AreKnown trace.now stamps.now }
+    ensures front { held_at trace.now stamps.now result at
+        ≡ take (length (held_at trace.now stamps.now left at) - 1)
+        (held_at trace.now stamps.now left at) }
+    ensures within { result ≤ at }
+{
+    for place in left..at {
+        if stamps[trace[place]] == place + 1 {
+            return place + 1;
+        }
+    }
+    at
+}
+
+/// Returns how many keys of a trace a new cache of a plain policy holds as they come. The keys are
+/// numbers below `keys`.
+///
+/// It takes time in proportion to the trace, and memory in proportion to `keys`.
+pub fn plain_hits(
+    alloc: Global,
+    policy: Policy,
+    capacity: NonZeroUsize,
+    trace: &[usize],
+    keys: usize,
+) -> Result<usize, AllocError>
+    requires below { AreBelow keys trace.now }
+    ensures hits { IfOk result (λ hits. hits ≡ plain_hits policy (non_zero_usize_get capacity) trace.now) }
+{
+    let mut residents = Residents {
+        stamps: vec![in alloc; 0; keys]?,
+        left: 0,
+        count: 0,
+    };
+    let mut hits = 0;
+    for at in 0..trace.len() {
+        if residents.access(policy, capacity, trace, at) {
+            hits += 1;
+        }
+    }
+    Ok(hits)
+}

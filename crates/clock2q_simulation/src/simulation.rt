@@ -1,0 +1,55 @@
+//! The program's whole work: from a trace to a text.
+
+use crate::error::SimulationError;
+use crate::options::{Format, Options};
+use crate::picture::picture;
+use crate::progress::Progress;
+use crate::row::{Row, replay};
+use crate::texts::{csv_text, table_text};
+use crate::trace::{Trace, read_trace};
+use std::alloc::{AllocError, Global};
+use std::io::{BufRead, Write};
+use std::num::NonZeroUsize;
+
+/// Reads a trace, replays it in caches of each capacity, and writes the result.
+pub fn simulate<R: BufRead + Drop, W: Write, P: Write>(
+    alloc: Global,
+    options: &Options,
+    reader: R,
+    writer: &mut W,
+    progress: &mut Progress<P>,
+) -> Result<(), SimulationError> {
+    let trace = read_trace(alloc, reader, progress)?;
+    let rows = rows_of(alloc, &trace, &options.capacities, progress)?;
+    let text = text_of(alloc, options.format, &rows)?;
+    match writer.write_all(text.as_bytes()) {
+        Ok(()) => {}
+        Err(_) => return Err(SimulationError::Write),
+    }
+    writer.flush().map_err(|_| SimulationError::Write)
+}
+
+// Returns a row for each capacity, in order.
+fn rows_of<P: Write>(
+    alloc: Global,
+    trace: &Trace,
+    capacities: &[NonZeroUsize],
+    progress: &mut Progress<P>,
+) -> Result<Vec<Row>, SimulationError> {
+    let mut rows = Vec::new(alloc);
+    for capacity in capacities {
+        progress.replay(trace.numbers().len(), capacity.get());
+        rows.push(replay(alloc, *capacity, trace)?)
+            .map_err(AllocError::from)?;
+    }
+    Ok(rows)
+}
+
+// Returns the rows in the form that is asked for.
+fn text_of(alloc: Global, format: Format, rows: &[Row]) -> Result<String, AllocError> {
+    match format {
+        Format::Table => table_text(alloc, rows),
+        Format::Csv => csv_text(alloc, rows),
+        Format::Svg => picture(alloc, rows),
+    }
+}

@@ -1,0 +1,102 @@
+//! A trace: keys of any bytes, told by numbers.
+ghost use Rattle.std.specs.Prelude.{◌≡◌, ◌<◌, ◌≤◌, ℕ, [], ◌∷◌, ◌++◌, IfOk, OnOk, OnErr};
+ghost use Rattle.std.specs.HashMap.{hash_map_len, values};
+ghost use Rattle.std.specs.List.{All};
+ghost use Rattle.clock2q_simulation.specs.Policies.{AreBelow};
+
+use crate::error::SimulationError;
+use crate::progress::Progress;
+use std::alloc::{AllocError, Global};
+use std::collections::HashMap;
+use std::io::{BufRead, Write};
+use std::marker::Model;
+
+/// Keys in the order in which they come, each told by a number: equal keys by the same one, and
+/// different keys by different ones.
+#[derive(Drop)]
+pub struct Trace {
+    numbers: Vec<usize>,
+    known: HashMap<Vec<u8>, usize>,
+}
+
+impl Model for Trace {
+    ghost use Rattle.std.specs.Prelude.{◌<◌};
+    ghost use Rattle.std.specs.List.{All};
+    ghost use Rattle.std.specs.HashMap.{hash_map_len, values};
+    ghost use Rattle.clock2q_simulation.specs.Policies.{AreBelow};
+    ghost use Rattle.clock2q_simulation.specs.Trace.{Numbered};
+
+    ghost Value = { Numbered };
+
+    ghost view = { λ t. record { numbers = t.numbers.items; keys = hash_map_len t.known } };
+
+    ghost invariant = { λ t. AreBelow (hash_map_len t.known) t.numbers.items
+        × All (λ n. n < hash_map_len t.known) (values t.known) };
+}
+
+impl Trace {
+    /// Returns a trace without keys.
+    pub fn new(alloc: Global) -> Trace
+        ensures empty { result.numbers ≡ [] }
+    {
+        Trace {
+            numbers: Vec::new(alloc),
+            known: HashMap::new(alloc),
+        }
+    }
+
+    /// Adds a key at the end.
+    pub fn push(&mut self, key: Vec<u8>) -> Result<(), AllocError>
+        ensures added { OnOk result ((number : ℕ) × (self.new.numbers ≡ self.old.numbers ++ number ∷ [])) }
+        ensures refused { OnErr result (self.new.numbers ≡ self.old.numbers) }
+    {
+        let number = number_of(&mut self.known, key)?;
+        self.numbers.push(number)?;
+        Ok(())
+    }
+
+    /// Returns the numbers of the keys, in order.
+    pub fn numbers(&self) -> &[usize]
+        ensures numbers { result.now ≡ self.now.numbers }
+        ensures below { AreBelow self.now.keys result.now }
+    {
+        &self.numbers
+    }
+
+    /// Returns how many different keys there are.
+    pub fn key_count(&self) -> usize
+        ensures keys { result ≡ self.now.keys }
+    {
+        self.known.len()
+    }
+}
+
+// Returns the number of a key. One that has none gets the next.
+fn number_of(known: &mut HashMap<Vec<u8>, usize>, key: Vec<u8>) -> Result<usize, AllocError>
+    requires below { All (λ n. n < hash_map_len known.old) (values known.old) }
+    ensures below { All (λ n. n < hash_map_len known.new) (values known.new) }
+    ensures number { IfOk result (λ n. n < hash_map_len known.new) }
+    ensures kept { hash_map_len known.old ≤ hash_map_len known.new }
+{
+    if let Some(number) = known.get(key.as_slice()) {
+        return Ok(*number);
+    }
+    let next = known.len();
+    known.insert(key, next)?;
+    Ok(next)
+}
+
+/// Reads a trace to its end: a key a line. A line ends with the byte 10, which the last one may lack.
+pub fn read_trace<R: BufRead + Drop, W: Write>(
+    alloc: Global,
+    reader: R,
+    progress: &mut Progress<W>,
+) -> Result<Trace, SimulationError> {
+    let mut trace = Trace::new(alloc);
+    for key in reader.split(alloc, b'\n') {
+        let key = key.map_err(|error| SimulationError::of_read(&error))?;
+        trace.push(key)?;
+        progress.read(trace.numbers.len());
+    }
+    Ok(trace)
+}
