@@ -1,9 +1,14 @@
 //! The work that the cache is measured by.
 ghost use Rattle.std.specs.Prelude.{◌<◌, ◌≤◌};
 
+use crate::hashing::Multiplying;
 use crate::mixing::mix;
-use clock2q::{Cache, DefaultHashBuilder};
+use clock2q::Cache;
 use std::alloc::{AllocError, Global};
+use std::hash::BuildHasherDefault;
+
+/// What makes the hashers of a measured cache.
+pub(crate) type Hashers = BuildHasherDefault<Multiplying>;
 
 /// What a run over a trace comes to: how many keys were resident, and the sum of their values,
 /// modulo 2^64.
@@ -33,7 +38,7 @@ pub(crate) fn trace(alloc: Global, length: usize, spread: u64) -> Result<Vec<u64
 
 /// Looks each key up, and puts those that aren't resident, each with its place in the trace.
 #[inline(never)]
-pub(crate) fn access_all(cache: &mut Cache<u64, u64, DefaultHashBuilder>, keys: &[u64]) -> Hits {
+pub(crate) fn access_all(cache: &mut Cache<u64, u64, Hashers>, keys: &[u64]) -> Hits {
     let mut hits = Hits { count: 0, sum: 0 };
     for place in 0..keys.len() {
         let key = keys[place];

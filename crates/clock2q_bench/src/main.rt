@@ -6,12 +6,14 @@ ghost use Rattle.std.specs.Prelude.{◌<◌, ◌≤◌};
 
 mod caches;
 mod error;
+mod hashing;
 mod mixing;
 mod tables;
 
 use clock2q::Cache;
 use clock2q::handles::Table;
 use error::BenchError;
+use std::hash::BuildHasherDefault;
 use std::num::NonZeroUsize;
 use std::time::Instant;
 
@@ -63,7 +65,7 @@ fn measure_cache(
     let Some(size) = NonZeroUsize::new(capacity) else {
         return Ok(());
     };
-    let mut cache = Cache::new(rt.alloc(), size)?;
+    let mut cache = Cache::with_hasher(rt.alloc(), size, BuildHasherDefault::new())?;
     let start = Instant::now(rt)?;
     let hits = caches::access_all(&mut cache, &keys);
     let taken = start.elapsed(rt)?;
