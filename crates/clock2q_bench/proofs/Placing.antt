@@ -1,5 +1,5 @@
 -- A table whose handles are places of a list of hashes goes on to be one.
-use Rattle.std.proofs.Common.{◌≡◌, ℕ, zero, suc, ◌<◌, inl, inr, refl, ap, sym, ◌∙◌, subst, arith, List, [], length, get_or, Result, Ok, Err, ◌≢◌}
+use Rattle.std.proofs.Common.{◌≡◌, ℕ, ◌<◌, inl, inr, ap, sym, ◌∙◌, subst, arith, List, [], length, get_or, Result, Ok, Err, ◌≢◌}
 use Rattle.clock2q_handles.specs.declared.error.TableError.{TableError}
 use Rattle.clock2q_handles.specs.declared.error.TableError.TheVariants.{Memory}
 use Rattle.std.specs.Fn.{Mut}

@@ -1,4 +1,4 @@
-use Rattle.std.proofs.Common.{rules, ◌≡◌, ◌<◌, ℕ, suc, length, slice_get, Some, subst, sym, ap, refl, ◌∙◌}
+use Rattle.std.proofs.Common.{rules, ◌≡◌, suc, slice_get, Some, subst, ap, ◌∙◌}
 use Rattle.clock2q_handles.proofs.Held.{candidate_held}
 use Rattle.clock2q_bench.proofs.tables.find.Goals as goal
 

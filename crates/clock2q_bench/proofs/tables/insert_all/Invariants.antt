@@ -1,5 +1,4 @@
 -- The table holds places of the hashes.
-use Rattle.std.proofs.Common.{◌≡◌, ◌≤◌, length}
 use Rattle.clock2q_bench.specs.Places.{HoldsPlaces}
 use Rattle.clock2q_bench.proofs.tables.insert_all.Given as goal
 
