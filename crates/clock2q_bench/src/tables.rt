@@ -1,0 +1,73 @@
+//! The work that the handle table is measured by: each loop is a function of its own, so that its
+//! instructions can be counted.
+ghost use Rattle.clock2q_bench.specs.Places.{HoldsPlaces};
+ghost use Rattle.std.specs.Prelude.{◌≡◌, ◌<◌, [], IfOk, length, All};
+
+use clock2q::handles::{Table, TableError};
+use std::alloc::{AllocError, Global};
+
+/// Returns the handles below `count` in the order of look-ups and removals.
+pub(crate) fn order(alloc: Global, count: usize) -> Result<Vec<usize>, AllocError>
+    ensures below { IfOk result (λ order. All (λ at. at < count) order.items) }
+{
+    let mut order = Vec::with_capacity(alloc, count)?;
+    for i in 0..count {
+        order.push(i.wrapping_mul(7919) % count)?;
+    }
+    Ok(order)
+}
+
+/// Inserts each place of `hashes` under the hash there, upwards.
+#[inline(never)]
+pub(crate) fn insert_all(table: &mut Table<usize>, hashes: &[u64]) -> Result<(), TableError>
+    requires empty { table.old.homes ≡ [] }
+    ensures held { IfOk result (λ _. HoldsPlaces hashes.now table.new.homes) }
+{
+    for handle in 0..hashes.len() {
+        table.insert(hashes[handle], handle, |at| hashes[at])?;
+    }
+    Ok(())
+}
+
+/// Returns the sum of the handles that are found, modulo 2^64.
+#[inline(never)]
+pub(crate) fn find_all(table: &Table<usize>, hashes: &[u64], order: &[usize]) -> usize
+    requires held { HoldsPlaces hashes.now table.now.homes }
+    requires below { All (λ at. at < length hashes.now) order.now }
+{
+    let mut sum: usize = 0;
+    for handle in order {
+        if let Some(found) = find(table, hashes, hashes[*handle]) {
+            sum = sum.wrapping_add(found);
+        }
+    }
+    sum
+}
+
+/// Returns the first candidate of `hash` that has this very hash.
+#[inline(always)]
+fn find(table: &Table<usize>, hashes: &[u64], hash: u64) -> Option<usize>
+    requires held { HoldsPlaces hashes.now table.now.homes }
+{
+    let mut candidates = table.get(hash);
+    while let Some(handle) = candidates.next() {
+        if hashes[handle] == hash {
+            return Some(handle);
+        }
+    }
+    None
+}
+
+/// Returns how many of the handles are removed.
+#[inline(never)]
+pub(crate) fn remove_all(table: &mut Table<usize>, hashes: &[u64], order: &[usize]) -> usize
+    requires below { All (λ at. at < length hashes.now) order.now }
+{
+    let mut removed: usize = 0;
+    for handle in order {
+        if table.remove(hashes[*handle], *handle) {
+            removed = removed.wrapping_add(1);
+        }
+    }
+    removed
+}
