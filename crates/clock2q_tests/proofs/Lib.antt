@@ -1,2 +1,1 @@
-mod Asked
-pub mod Made
+mod Made

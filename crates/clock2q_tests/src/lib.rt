@@ -8,13 +8,6 @@ mod devices;
 #[cfg(test)]
 mod policies;
 #[cfg(test)]
-mod refused;
-#[cfg(test)]
-mod refused_queues;
-#[cfg(test)]
-mod refused_tables;
-pub mod refusing;
-#[cfg(test)]
 mod table_commands;
 #[cfg(test)]
 mod texts;

@@ -1,14 +1,10 @@
 //! Lists of commands to handle tables.
 ghost use Rattle.std.specs.Prelude.{◌≡◌, ◌+◌, ◌*◌, ◌%◌};
 
-use crate::refusing::Refusing;
 use clock2q::command::{TableCommand, TableReply, run_table};
 use clock2q::handles::{Table, TableError};
 use std::alloc::{AllocError, Allocator, Global};
 use std::test::Fail;
-
-// More requests than any of the runs makes.
-const MANY: u64 = 100;
 
 const EVEN: u64 = 0xAB00_0000_0000_000F;
 
@@ -93,43 +89,5 @@ fn worked_run(rt: HostRuntime) -> Result<(), Fail> {
 fn nothing_to_run(rt: HostRuntime) -> Result<(), Fail> {
     let replies = replies_of(rt.alloc(), 0, &[])?;
     assert!(rt; replies.is_empty());
-    Ok(())
-}
-
-// Each request for memory is refused in turn, with all later ones: those of the table's
-// construction, the list of replies, the larger table, and the list of a look-up.
-#[test]
-fn requests_refused(rt: HostRuntime) -> Result<(), Fail> {
-    let alloc = Refusing::new(rt.alloc());
-    let commands: [TableCommand<u64, Vec<u64, &Refusing<Global>>>; 3] = [
-        TableCommand::Insert(0),
-        TableCommand::Reserve(20),
-        TableCommand::Get(EVEN),
-    ];
-    let mut enough = 0;
-    let mut partly = 0u64;
-    for granted in 0..MANY {
-        alloc.refuse_after(granted);
-        let outcome = replies_of(&alloc, 1, &commands);
-        let Ok(replies) = outcome else {
-            continue;
-        };
-        assert_eq!(rt; replies.len(), 3, "{granted} granted");
-        let is_inserted = matches!(replies.first(), Some(TableReply::Done));
-        assert!(rt; is_inserted, "{granted} granted");
-        let is_refused = matches!(
-            replies.get(2),
-            Some(TableReply::Refused(TableError::Memory))
-        );
-        if !is_refused {
-            let is_reserved = matches!(replies.get(1), Some(TableReply::Done));
-            assert!(rt; is_reserved, "{granted} granted");
-            enough = granted;
-            break;
-        }
-        partly = partly.saturating_add(1);
-    }
-    assert!(rt; enough > 4, "{enough}");
-    assert!(rt; partly > 2, "{partly}");
     Ok(())
 }

@@ -1,0 +1,7 @@
+//! Tests of tables, queues and histories whose requests for memory are refused.
+#![tactic(auto)]
+
+#[cfg(test)]
+mod queues;
+#[cfg(test)]
+mod tables;

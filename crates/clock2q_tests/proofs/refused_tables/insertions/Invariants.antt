@@ -1,5 +1,0 @@
-use Rattle.clock2q_handles.specs.TableStep.{IsHashOf}
-use Rattle.clock2q_tests.proofs.refused_tables.insertions.Given as goal
-
-abbrev pub invariant-loop-granted : goal.invariant-loop-granted
-invariant-loop-granted g l = IsHashOf (λ handle. handle) l.table.homes
