@@ -1,5 +1,5 @@
 -- A command of the library as the call that it makes, and a reply as the answer that it tells.
-use Rattle.std.specs.Prelude.{[]}
+use Rattle.std.specs.Prelude.{⊤, []}
 use Rattle.clock2q_cache.specs.Calls as call
 use Rattle.clock2q_cache.specs.Calls.{Call, Answer}
 use Rattle.clock2q_command.specs.declared.commands.Command.{Command}
