@@ -1,7 +1,7 @@
 //! Commands to a cache as data, their replies, and the run of a list of them.
-ghost use Rattle.std.specs.Prelude.{◌≡◌, ◌<◌, IfOk, IfErr, OnOk, OnErr, length, map};
+ghost use Rattle.std.specs.Prelude.{◌≡◌, ◌<◌, IfOk, IfErr, OnOk, OnErr, true, drop, length, map};
 ghost use Rattle.clock2q_command.specs.Commands.{call_of, answer_of, IsSupplied};
-ghost use Rattle.std.specs.List.{All};
+ghost use Rattle.std.specs.List.{All, first_or};
 ghost use Rattle.clock2q_cache.specs.Machine.{value_of};
 ghost use Rattle.clock2q_cache.specs.Steps.{answer, after, answers, after_all, replaced, retained, prefilled_with};
 
@@ -122,7 +122,7 @@ where
         Command::With(..) | Command::Try(..) | Command::Slot(..) => unreachable!(),
         Command::Remove(key) => Reply::Flag(cache.remove(&key)),
         Command::Retain(bits) => {
-            retain(cache, bits);
+            retain(cache, &bits);
             Reply::Done
         }
         Command::Clear => {
@@ -156,15 +156,28 @@ where
 }
 
 /// Keeps the residents whose bit is true, and those past the end of the bits.
-fn retain<K, V, S, A>(cache: &mut Cache<K, V, S, A>, bits: Vec<bool, A>)
+fn retain<K, V, S, A>(cache: &mut Cache<K, V, S, A>, bits: &[bool])
 where
     K: Hash + Eq,
     S: BuildHasher,
     A: Allocator,
-    ensures machine { cache.new.machine ≡ retained bits.items cache.old.machine }
+    ensures machine { cache.new.machine ≡ retained bits.now cache.old.machine }
 {
-    let mut answers = bits.into_iter();
-    cache.retain(|_, _| answers.next().unwrap_or(true));
+    let mut rest = bits;
+    cache.retain(
+        move |_, _|
+            ensures bit { result ≡ first_or true rest.entry.now }
+            ensures rest { rest.exit.now ≡ drop 1 rest.entry.now }
+        {
+            match rest.split_first() {
+                Some((bit, others)) => {
+                    rest = others;
+                    *bit
+                }
+                None => true,
+            }
+        },
+    );
 }
 
 /// Makes the slots that were never made with these values, the last one again and again.
@@ -177,12 +190,19 @@ where
     requires some { 0 < length values.now }
     ensures machine { cache.new.machine ≡ prefilled_with values.now cache.old.machine }
 {
-    let mut next = values.iter();
+    let mut rest = values;
     let mut last = values[0];
-    cache.prefill(|| {
-        if let Some(value) = next.next() {
-            last = *value;
-        }
-        last
-    });
+    cache.prefill(
+        move ||
+            ensures value { result ≡ first_or last.entry rest.entry.now }
+            ensures last { last.exit ≡ first_or last.entry rest.entry.now }
+            ensures rest { rest.exit.now ≡ drop 1 rest.entry.now }
+        {
+            if let Some((value, others)) = rest.split_first() {
+                rest = others;
+                last = *value;
+            }
+            last
+        },
+    );
 }
