@@ -2,6 +2,7 @@ pub mod Answering
 pub mod Calling
 pub mod Cutting
 pub mod Hashing
+pub mod InTurn
 pub mod Numbers
 pub mod Rehashing
 pub mod Served

@@ -1,7 +1,7 @@
 //! Commands to a cache as data, their replies, and the run of a list of them.
-ghost use Rattle.std.specs.Prelude.{◌≡◌, ◌<◌, IfOk, IfErr, OnOk, OnErr, true, drop, length, map};
+ghost use Rattle.std.specs.Prelude.{◌≡◌, ◌<◌, IfOk, IfErr, OnOk, OnErr, true, drop, get_or, length, map};
 ghost use Rattle.clock2q_command.specs.Commands.{call_of, answer_of, IsSupplied};
-ghost use Rattle.std.specs.List.{All, first_or};
+ghost use Rattle.std.specs.List.{All};
 ghost use Rattle.clock2q_cache.specs.Machine.{value_of};
 ghost use Rattle.clock2q_cache.specs.Steps.{answer, after, answers, after_all, replaced, retained, prefilled_with};
 
@@ -166,7 +166,7 @@ where
     let mut rest = bits;
     cache.retain(
         move |_, _|
-            ensures bit { result ≡ first_or true rest.entry.now }
+            ensures bit { result ≡ get_or rest.entry.now 0 true }
             ensures rest { rest.exit.now ≡ drop 1 rest.entry.now }
         {
             match rest.split_first() {
@@ -194,8 +194,8 @@ where
     let mut last = values[0];
     cache.prefill(
         move ||
-            ensures value { result ≡ first_or last.entry rest.entry.now }
-            ensures last { last.exit ≡ first_or last.entry rest.entry.now }
+            ensures value { result ≡ get_or rest.entry.now 0 last.entry }
+            ensures last { last.exit ≡ get_or rest.entry.now 0 last.entry }
             ensures rest { rest.exit.now ≡ drop 1 rest.entry.now }
         {
             if let Some((value, others)) = rest.split_first() {
