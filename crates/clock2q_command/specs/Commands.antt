@@ -1,5 +1,6 @@
 -- A command of the library as the call that it makes, and a reply as the answer that it tells.
-use Rattle.std.specs.Prelude.{⊤, []}
+use Rattle.std.specs.Prelude.{⊤, List, []}
+use Rattle.std.specs.List.{AllByRecursion}
 use Rattle.clock2q_cache.specs.Calls as call
 use Rattle.clock2q_cache.specs.Calls.{Call, Answer}
 use Rattle.clock2q_command.specs.declared.commands.Command.{Command}
@@ -41,3 +42,6 @@ module _ {K V : Type 0} where
   abbrev pub IsSupplied : Call K V → Type 0
   IsSupplied (call.Prefill []) = ⊥
   IsSupplied other = ⊤
+
+  abbrev pub AreSupplied : List (Call K V) → Type 0
+  AreSupplied = AllByRecursion IsSupplied

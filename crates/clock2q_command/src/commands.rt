@@ -1,7 +1,6 @@
 //! Commands to a cache as data, their replies, and the run of a list of them.
 ghost use Rattle.std.specs.Prelude.{◌≡◌, ◌<◌, IfOk, IfErr, OnOk, OnErr, true, drop, get_or, length, map};
-ghost use Rattle.clock2q_command.specs.Commands.{call_of, answer_of, IsSupplied};
-ghost use Rattle.std.specs.List.{All};
+ghost use Rattle.clock2q_command.specs.Commands.{call_of, answer_of, IsSupplied, AreSupplied};
 ghost use Rattle.clock2q_cache.specs.Machine.{value_of};
 ghost use Rattle.clock2q_cache.specs.Steps.{answer, after, answers, after_all, replaced, retained, prefilled_with};
 
@@ -88,7 +87,7 @@ where
     V: Copy,
     S: BuildHasher,
     A: Allocator,
-    requires prefills { All IsSupplied (map call_of commands.items) }
+    requires prefills { AreSupplied (map call_of commands.items) }
     ensures replies { IfOk result (λ replies. map answer_of replies.items ≡ answers K.eq (map call_of commands.items) cache.old.machine) }
     ensures machine { OnOk result (cache.new.machine ≡ after_all K.eq (map call_of commands.items) cache.old.machine) }
     ensures memory { IfErr result (λ e. e ≡ CacheError.Memory) }
