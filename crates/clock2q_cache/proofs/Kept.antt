@@ -96,9 +96,10 @@ module _ {K V : Type 0} (eq : K → K → Bool) (laws : IsEquivalence eq) (hash 
   few-main some = omega (arith, some, kept.whole.small_within, kept.whole.small_below, length_in_small, length_in_main)
 
   -- a key at its slot: what holds goes on to hold, and the machine is as it should be
-  pub record IsDone (value : V) (p : Placement K V) (q' : QueueState) (h' : Remembered K) (index' : List (List (ℕ × ℕ))) (keys' : KeyPlaces K V) (free' : List ℕ) (room' : ℕ) : Type 0 where
+  pub record IsDone (slot : ℕ) (value : V) (p : Placement K V) (q' : QueueState) (h' : Remembered K) (index' : List (List (ℕ × ℕ))) (keys' : KeyPlaces K V) (free' : List ℕ) (room' : ℕ) : Type 0 where
     pub holds : IsKept eq hash shares q' h' index' keys' free' room'
     pub machine : machine_of shares q' keys'.entries h'.entries free' ≡ stored p.slot value p.machine
+    pub at : slot ≡ p.slot
 
   -- a key that was not known is placed, and its value stored
   pub kept-placed : (key : K) (value : V) (p : Placement K V) → known_count (eq key) m ≡ 0 → IsPlaced key m p
@@ -191,24 +192,25 @@ module _ {K V : Type 0} (eq : K → K → Bool) (laws : IsEquivalence eq) (hash 
           (ap (λ (z : List (List (ℕ × ℕ))). length z) indexed ∙ length-put index hsh slot) keys_room free_room
 
       done : (p : Placement K V) → IsPlaced key m p → machine_of shares q' entries' h.entries free' ≡ stored p.slot value p.machine → IsStored hash (inserted index hsh slot) entries' (places_of q')
-          → IsDone value p q' h index' keys' free' room'
-      done p placed e st =
+          → slot ≡ p.slot → IsDone slot value p q' h index' keys' free' room'
+      done p placed e st at =
           let same : machine_of shares q' keys'.entries h.entries free' ≡ stored p.slot value p.machine = ap (λ z. machine_of shares q' z h.entries free') wrote ∙ e in
           record {
             holds = kept-placed key value p absent placed q' h index' keys' free' room' same
                 (subst (λ z. IsStored hash z keys'.entries (places_of q')) (sym indexed) (subst (λ z. IsStored hash (inserted index hsh slot) z (places_of q')) (sym wrote) st)) kept.hashed sized;
             machine = same;
+            at = at;
           }
 
-      pub small-done : length m.small < shares.small → q'.small ≡ admitted q.window slot q.small → q'.main ≡ q.main → IsDone value (into_small key m) q' h index' keys' free' room'
+      pub small-done : length m.small < shares.small → q'.small ≡ admitted q.window slot q.small → q'.main ≡ q.main → IsDone slot value (into_small key m) q' h index' keys' free' room'
       small-done some small main =
           let at : into_small key m ≡ into_small_at key (Some slot) None m = ap (λ v. into_small_at key v (last_or None m.small) m) taken in
-          subst (λ p. IsDone value p q' h index' keys' free' room') (sym at)
-          (done (into_small_at key (Some slot) None m) (placed-admitted eq m kept.whole key slot None taken some) (joined_small q' small main) (joined_small_stored q' small main))
+          subst (λ p. IsDone slot value p q' h index' keys' free' room') (sym at)
+          (done (into_small_at key (Some slot) None m) (placed-admitted eq m kept.whole key slot None taken some) (joined_small q' small main) (joined_small_stored q' small main) refl)
 
-      pub main-done : length m.main < main_share shares → q'.small ≡ q.small → q'.main ≡ q.main ++ (slot, false) ∷ [] → IsDone value (into_main key m) q' h index' keys' free' room'
+      pub main-done : length m.main < main_share shares → q'.small ≡ q.small → q'.main ≡ q.main ++ (slot, false) ∷ [] → IsDone slot value (into_main key m) q' h index' keys' free' room'
       main-done some small main =
           let below : (length m.main == main_share shares) ≡ false = ne_eqb (length m.main) (main_share shares) (λ e. omega (arith, e, some)) in
           let at : into_main key m ≡ joining_main key (Some slot) m = ap (λ b. if b then replacing_victim key (machine.from_victim m.main) m else joining_main key (vacancy m) m) below ∙ ap (λ v. joining_main key v m) taken in
-          subst (λ p. IsDone value p q' h index' keys' free' room') (sym at)
-          (done (joining_main key (Some slot) m) (placed-joining eq m kept.whole key slot taken some) (joined_main q' small main) (joined_main_stored q' small main))
+          subst (λ p. IsDone slot value p q' h index' keys' free' room') (sym at)
+          (done (joining_main key (Some slot) m) (placed-joining eq m kept.whole key slot taken some) (joined_main q' small main) (joined_main_stored q' small main) refl)

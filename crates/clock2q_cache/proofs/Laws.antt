@@ -33,10 +33,14 @@ module _ {K V : Type 0} (eq : K → K → Bool) where
     value_found n k slot found = ap (option_and_then (slice_get n.values)) found
 
     module _ (key : K) (absent : slot_of (eq key) m ≡ None) where
-      slot_at_most : (placement (eq key) key m).slot ≤ length (placement (eq key) key m).machine.values
+      pub slot_at_most : (placement (eq key) key m).slot ≤ length (placement (eq key) key m).machine.values
       slot_at_most =
           let placed = placed-key eq laws key m h absent in
           elim placed.slots [ inl keeps ↦ omega (arith, keeps.made, ap (length {A = V}) placed.values) | inr makes ↦ omega (arith, makes.next, ap (length {A = V}) placed.values) ]
+
+      -- and so does the slot that it took
+      pub inserted_value : (value : V) → let p = placement (eq key) key m in slice_get (inserted (eq key) key value m).values p.slot ≡ Some value
+      inserted_value value = stored_there (placement (eq key) key m).machine (placement (eq key) key m).slot value slot_at_most
 
       pub inserted_there : (value : V) → value_of (eq key) (inserted (eq key) key value m) ≡ Some value
       inserted_there value =

@@ -2,6 +2,7 @@ pub mod Changed
 pub mod Cleared
 pub mod Clock
 pub mod Entering
+pub mod Fetched
 pub mod Filled
 pub mod Finding
 pub mod Kept

@@ -236,9 +236,9 @@ module _ {K V : Type 0} (eq : K → K → Bool) (laws : IsEquivalence eq) (hash 
     module _ (q' : QueueState) (h' : Remembered K) (index2 : List (List (ℕ × ℕ))) (keys' : KeyPlaces K V) (absent : known_count (eq key) m ≡ 0)
         (slots : q'.slots ≡ q.slots) (window : q'.window ≡ q.window) (limit : h'.limit ≡ h.limit) (indexed : index2 ≡ index') (wrote : keys'.entries ≡ entries') (keys_room : keys'.room ≡ keys.room) where
       done : (p : Placement K V) → IsPlaced key m p → machine_of shares q' entries' h'.entries free ≡ stored p.slot value p.machine
-          → ((t : ℕ) → has t (places_of q') ≡ has t (places_of q)) → length (places_of q') ≡ length (places_of q) → AllByRecursion (λ e. e.0 ≡ hash e.1) h'.entries
-          → IsDone eq laws hash shares q h index keys free room kept value p q' h' index2 keys' free room
-      done p placed e same as_many hashed =
+          → ((t : ℕ) → has t (places_of q') ≡ has t (places_of q)) → length (places_of q') ≡ length (places_of q) → AllByRecursion (λ e. e.0 ≡ hash e.1) h'.entries → slot ≡ p.slot
+          → IsDone eq laws hash shares q h index keys free room kept slot value p q' h' index2 keys' free room
+      done p placed e same as_many hashed at =
           let result : machine_of shares q' keys'.entries h'.entries free ≡ stored p.slot value p.machine = ap (λ z. machine_of shares q' z h'.entries free) wrote ∙ e in
           let st = stored-same hash index' entries' (places_of q) (places_of q') renewed same as_many in
           let sized = sized-same shares q q' h.limit h'.limit (length index) (length index2) keys.room keys'.room room room kept.sized slots window limit
@@ -247,6 +247,7 @@ module _ {K V : Type 0} (eq : K → K → Bool) (laws : IsEquivalence eq) (hash 
             holds = kept-placed eq laws hash shares q h index keys free room kept key value p absent placed q' h' index2 keys' free room result
                 (subst (λ z. IsStored hash z keys'.entries (places_of q')) (sym indexed) (subst (λ z. IsStored hash index' z (places_of q')) (sym wrote) st)) hashed sized;
             machine = result;
+            at = at;
           }
 
   -- a key that takes the slot of Main's victim
@@ -258,7 +259,7 @@ module _ {K V : Type 0} (eq : K → K → Bool) (laws : IsEquivalence eq) (hash 
 
     -- goes to the end of Main
     pub replaced-done : length m.main ≡ main_share shares → q'.small ≡ q.small → q'.main ≡ rest victim first ++ (victim, false) ∷ []
-        → IsDone eq laws hash shares q h index keys free room kept value (into_main key m) q' h index2 keys' free room
+        → IsDone eq laws hash shares q h index keys free room kept victim value (into_main key m) q' h index2 keys' free room
     replaced-done full small main =
         let es = entries' key value hsh victim old is there at in
         let s : with_keys_small (key_at es) q'.small ≡ m.small = ap (λ z. with_keys_small (key_at es) z) small ∙ small_other key value hsh victim old is there at q.small (victim-not_in_small victim first) in
@@ -269,7 +270,7 @@ module _ {K V : Type 0} (eq : K → K → Bool) (laws : IsEquivalence eq) (hash 
         let p = replacing_victim key (victim_entry victim first ∷ others victim first) m in
         let e : machine_of shares q' es h.entries free ≡ stored p.slot value p.machine = cc in
         let is_p : into_main key m ≡ p = ap (λ b. if b then replacing_victim key (machine.from_victim m.main) m else joining_main key (vacancy m) m) (eq-eqb (length m.main) (main_share shares) full) ∙ ap (λ z. replacing_victim key z m) (choice victim first) in
-        subst (λ z. IsDone eq laws hash shares q h index keys free room kept value z q' h index2 keys' free room) (sym is_p)
+        subst (λ z. IsDone eq laws hash shares q h index keys free room kept victim value z q' h index2 keys' free room) (sym is_p)
         (done key value hsh victim old is there at q' h index2 keys' absent slots window refl indexed wrote keys_room p
         (placed-replacing eq m kept.whole key (victim_entry victim first) (others victim first) (choice victim first)) e
         (λ u. has-append u (slots_of q'.small) (slots_of q'.main)
@@ -280,7 +281,7 @@ module _ {K V : Type 0} (eq : K → K → Bool) (laws : IsEquivalence eq) (hash 
         ∙ ap (λ z. has u (slots_of q.small) || z) (sym (rest-in_main victim first u))
         ∙ sym (has-append u (slots_of q.small) (slots_of q.main)))
         (omega (arith, length-places q', length-places q, ap (λ (z : List (ℕ × Age)). length z) small, ap (λ (z : List (ℕ × Bool)). length z) main, length-append (rest victim first) ((victim, false) ∷ []), length-rest victim first))
-        kept.hashed)
+        kept.hashed refl)
 
   -- Small's tail
   module _ (tail : ℕ) (last : last_or None (slots_of q.small) ≡ Some tail) where
@@ -369,7 +370,7 @@ module _ {K V : Type 0} (eq : K → K → Bool) (laws : IsEquivalence eq) (hash 
 
       pub evicted-done : vacancy m ≡ None → IfSome (last_or None m.small) (λ tail. is_promoted tail.age ≡ false) → q'.small ≡ admitted q.window tail front → q'.main ≡ q.main
           → h'.entries ≡ take h.limit ((old, old_key) ∷ h.entries) → AllByRecursion (λ e. e.0 ≡ hash e.1) h'.entries
-          → IsDone eq laws hash shares q h index keys free room kept value (into_small key m) q' h' index2 keys' free room
+          → IsDone eq laws hash shares q h index keys free room kept tail value (into_small key m) q' h' index2 keys' free room
       evicted-done none out small main pushed hashed =
           let es = entries' key value hsh tail old is tail-in at in
           let s : with_keys_small (key_at es) q'.small ≡ machine.small_admitted shares.window key tail (take (length m.small - 1) m.small) =
@@ -386,7 +387,7 @@ module _ {K V : Type 0} (eq : K → K → Bool) (laws : IsEquivalence eq) (hash 
           let out' : is_promoted tail_at.0 ≡ false = subst (λ z. IfSome z (λ tail. is_promoted tail.age ≡ false)) last_entry out in
           let is_p : into_small key m ≡ p = ap (λ z. into_small_at key z (last_or None m.small) m) none ∙ ap (λ z. into_small_at key None z m) last_entry
           ∙ ap (λ b. if b then promoting_tail key tail_entry (machine.from_victim m.main) m else evicting_tail key tail_entry m) out' in
-          subst (λ z. IsDone eq laws hash shares q h index keys free room kept value z q' h' index2 keys' free room) (sym is_p)
+          subst (λ z. IsDone eq laws hash shares q h index keys free room kept tail value z q' h' index2 keys' free room) (sym is_p)
           (done key value hsh tail old is tail-in at q' h' index2 keys' absent slots window limit indexed wrote keys_room p
           (placed-evicting eq m kept.whole key tail_entry last_entry small_some) e
           (λ u. has-append u (slots_of q'.small) (slots_of q'.main)
@@ -397,14 +398,14 @@ module _ {K V : Type 0} (eq : K → K → Bool) (laws : IsEquivalence eq) (hash 
           ∙ ap (λ z. z || has u (slots_of q.main)) (sym (tail-in_small u))
           ∙ sym (has-append u (slots_of q.small) (slots_of q.main)))
           (omega (arith, length-places q', length-places q, ap (λ (z : List (ℕ × Age)). length z) small, ap (λ (z : List (ℕ × Bool)). length z) main, length-grown q.window tail front, length-front))
-          hashed)
+          hashed refl)
 
     -- a key that takes the slot of Main's victim, while the tail goes to the end of Main
     module _ (victim : ℕ) (first : slice_get (from_victim q.main) 0 ≡ Some (victim, false)) (key : K) (value : V) (hsh old : ℕ) (is : hsh ≡ hash key) (at : hash_at keys.entries victim ≡ Some old)
         (q' : QueueState) (index2 : List (List (ℕ × ℕ))) (keys' : KeyPlaces K V) (absent : known_count (eq key) m ≡ 0)
         (slots : q'.slots ≡ q.slots) (window : q'.window ≡ q.window) (indexed : index2 ≡ inserted (removed eqb index old victim) hsh victim) (wrote : keys'.entries ≡ written victim (entry hsh key value) keys.entries) (keys_room : keys'.room ≡ keys.room) where
       pub promoted-done : vacancy m ≡ None → IfSome (last_or None m.small) (λ tail. is_promoted tail.age ≡ true) → q'.small ≡ admitted q.window victim front → q'.main ≡ rest victim first ++ (tail, false) ∷ []
-          → IsDone eq laws hash shares q h index keys free room kept value (into_small key m) q' h index2 keys' free room
+          → IsDone eq laws hash shares q h index keys free room kept victim value (into_small key m) q' h index2 keys' free room
       promoted-done none on small main =
           let there : has victim (places_of q) ≡ true = victim-in victim first in
           let es = entries' key value hsh victim old is there at in
@@ -423,7 +424,7 @@ module _ {K V : Type 0} (eq : K → K → Bool) (laws : IsEquivalence eq) (hash 
           let is_p : into_small key m ≡ p = ap (λ z. into_small_at key z (last_or None m.small) m) none ∙ ap (λ z. into_small_at key None z m) last_entry
           ∙ ap (λ b. if b then promoting_tail key tail_entry (machine.from_victim m.main) m else evicting_tail key tail_entry m) on'
           ∙ ap (λ z. promoting_tail key tail_entry z m) (choice victim first) in
-          subst (λ z. IsDone eq laws hash shares q h index keys free room kept value z q' h index2 keys' free room) (sym is_p)
+          subst (λ z. IsDone eq laws hash shares q h index keys free room kept victim value z q' h index2 keys' free room) (sym is_p)
           (done key value hsh victim old is there at q' h index2 keys' absent slots window refl indexed wrote keys_room p
           (placed-promoting eq m kept.whole key tail_entry last_entry small_some (victim_entry victim first) (others victim first) (choice victim first)) e
           (λ u. has-append u (slots_of q'.small) (slots_of q'.main)
@@ -436,4 +437,4 @@ module _ {K V : Type 0} (eq : K → K → Bool) (laws : IsEquivalence eq) (hash 
           ∙ ap (λ z. has u (slots_of q.small) || z) (sym (rest-in_main victim first u))
           ∙ sym (has-append u (slots_of q.small) (slots_of q.main)))
           (omega (arith, length-places q', length-places q, ap (λ (z : List (ℕ × Age)). length z) small, ap (λ (z : List (ℕ × Bool)). length z) main, length-grown q.window victim front, length-front, length-append (rest victim first) ((tail, false) ∷ []), length-rest victim first))
-          kept.hashed)
+          kept.hashed refl)

@@ -1,13 +1,13 @@
 -- What a cache is left as by a call that lends a value of it.
-use Rattle.std.specs.Prelude.{◌≡◌, ℕ, Bool, Option, Some, None, IfNone, ⊤}
-use Rattle.std.specs.Borrow.{Fml, RattleType, MutBor, Lends, LendsSo, follows_so}
+use Rattle.std.specs.Prelude.{◌≡◌, ℕ, Bool, Option, Some, None, IfNone, Result, ⊤}
+use Rattle.std.specs.Borrow.{Fml, RattleType, MutBor, Lends, LendsSo, LendsSoOk, follows_so}
 use Rattle.std.specs.HashMap.Lent.{HashMembers}
 use Rattle.std.specs.declared.alloc.Allocator as alloc
 use Rattle.std.specs.declared.hash.Hasher as hasher
 use Rattle.std.specs.declared.hash.BuildHasher as builder
 use mathlib.Core.Option.{none}
 use Rattle.clock2q_cache.specs.Machine.{Machine, stored}
-use Rattle.clock2q_cache.specs.Steps.{replaced}
+use Rattle.clock2q_cache.specs.Steps.{replaced, put}
 use Rattle.clock2q_cache.specs.CacheState.{CacheState}
 use Rattle.clock2q_cache.specs.contracts.cache.Cache.{the_row}
 
@@ -27,3 +27,7 @@ module _ (K V S A H : RattleType) (key : HashMembers K.Denot) (build : builder.G
   -- the key is hit, and its value is what the caller leaves behind the reference; at `None` the machine is as it was
   abbrev pub LendsHit : MutBor (CacheState K.Denot V.Denot S.Denot) → (K.Denot → Bool) → Option (MutBor V.Denot) → Fml
   LendsHit c is r = LendsSo cache_row V c r (λ n w. n.machine ≡ replaced is w c.now.machine) (λ n. IfNone r (n.machine ≡ c.now.machine))
+
+  -- the key has the value that the caller leaves behind the reference, as after `put`; at `Err` the machine is as it was
+  abbrev pub LendsPut : {E : Type 0} → MutBor (CacheState K.Denot V.Denot S.Denot) → K.Denot → Result (MutBor V.Denot) E → Fml
+  LendsPut c k r = LendsSoOk cache_row V c r (λ n w. n.machine ≡ put (key.eq k) k w c.now.machine) (λ n. n.machine ≡ c.now.machine)

@@ -2,11 +2,12 @@
 use Rattle.std.specs.Prelude.{◌≡◌, ℕ, ◌+◌, Bool, List, ◌++◌, map, length, slice_get, Some}
 use Rattle.std.specs.Borrow.{Bor}
 use Rattle.std.specs.Fn.{Mut, Called}
+use Rattle.std.specs.Option.{UnwrapsOrElse}
 use Rattle.std.specs.List.{FoldsTo, AllByRecursion}
 use Rattle.std.specs.List.Retain.{ReturnsInTurn}
 use Rattle.clock2q_queues.specs.declared.keys.cells.Entry.{Entry}
-use Rattle.clock2q_cache.specs.Machine.{Machine, by_slot, prefilled}
-use Rattle.clock2q_cache.specs.Steps.{retained}
+use Rattle.clock2q_cache.specs.Machine.{Machine, value_of, stored, by_slot, prefilled}
+use Rattle.clock2q_cache.specs.Steps.{put, fetched, retained}
 
 module _ {F K V : Type 0} (g : Mut F (Bor K × (Bor V × Unit {0})) Bool) where
   -- a call at the key of a resident and the value of its slot gave b
@@ -40,3 +41,12 @@ module _ {F K V : Type 0} (g : Mut F Unit V) where
     pub as_many : length old + length added ≡ many
     pub hashed : AllByRecursion (λ e. e.hash ≡ hash e.key) added
     pub called : FoldsTo (λ p value q. Called g p tt value q) f (map (λ e. e.value) added) last
+
+module _ {K V : Type 0} (is : K → Bool) (key : K) (made : V → Type 0) where
+  -- the key is hit, or else inserted with a value that was made; the value that it has stands at this slot, and another one there is as if it were put
+  pub record Fetches (old : Machine K V) (slot : ℕ) (new : Machine K V) : Type 0 where
+    pub value : V
+    pub had : UnwrapsOrElse (value_of is old) made value
+    pub there : slice_get new.values slot ≡ Some value
+    pub becomes : new ≡ fetched is key value old
+    pub writes : (w : V) → stored slot w new ≡ put is key w old

@@ -2,6 +2,7 @@
 
 mod clearing;
 mod debug;
+mod fetching;
 mod filling;
 mod insertion;
 mod removal;

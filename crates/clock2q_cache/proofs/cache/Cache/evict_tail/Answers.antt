@@ -87,4 +87,7 @@ returns g c =
     let d = evicted-done _ g.met.K.Eq.laws _ _ _ _ _ _ _ _ k c.in-Some.tail (sym c.in-Some.ensures.tail) c.args.key c.args.value c.args.hash _ same c.renew-old_hash.ensures.hash _ c.renew-old_hash.ensures.key c.admit.new.self c.push.new.self c.renew-old_hash.new.index.homes c.renew-old_hash.new.keys absent
     ((ap (λ (z : QueueState). z.slots) c.admit.ensures.queues) ∙ (ap (λ (z : QueueState). z.slots) c.in-Some.ensures.queues)) ((ap (λ (z : QueueState). z.window) c.admit.ensures.queues) ∙ (ap (λ (z : QueueState). z.window) c.in-Some.ensures.queues)) (ap (λ (z : Remembered _). z.limit) c.push.ensures.pushed) c.renew-old_hash.ensures.index c.renew-old_hash.ensures.entries (ap (λ (z : KeyPlaces _ _). z.room) c.renew-old_hash.ensures.kept)
     full out small ((ap (λ (z : QueueState). z.main) c.admit.ensures.queues) ∙ (ap (λ (z : QueueState). z.main) c.in-Some.ensures.queues)) (ap (λ (z : Remembered _). z.entries) c.push.ensures.pushed) hashed in
-    d.machine ∙ ap (λ (z : CacheState _ _ _). let p = into_small c.args.key z.machine in (stored p.slot c.args.value p.machine)) c.self.view_is
+    record {
+      slot = d.at ∙ ap (λ (z : CacheState _ _ _). (into_small c.args.key z.machine).slot) c.self.view_is;
+      machine = d.machine ∙ ap (λ (z : CacheState _ _ _). let p = into_small c.args.key z.machine in (stored p.slot c.args.value p.machine)) c.self.view_is;
+    }

@@ -99,4 +99,7 @@ returns g c =
     let d = main-done _ g.met.K.Eq.laws _ _ _ _ _ _ _ _ k c.args.key c.args.value c.args.hash c.take_vacancy-slot.result c.take_vacancy-slot.new.free.items same taken c.take_vacancy-slot.ensures.others
     c.append.new.self c.enter.new.index.homes c.enter.new.keys _ absent (ap (λ (z : QueueState). z.slots) c.append.ensures.queues) (ap (λ (z : QueueState). z.window) c.append.ensures.queues) c.enter.ensures.index c.enter.ensures.entries (ap (λ (z : KeyPlaces _ _). z.room) c.enter.ensures.kept) c.take_vacancy-slot.ensures.capacity
     room (ap (λ (z : QueueState). z.small) c.append.ensures.queues) (ap (λ (z : QueueState). z.main) c.append.ensures.queues) in
-    d.machine ∙ ap (λ (z : CacheState _ _ _). let p = into_main c.args.key z.machine in (stored p.slot c.args.value p.machine)) c.self.view_is
+    record {
+      slot = d.at ∙ ap (λ (z : CacheState _ _ _). (into_main c.args.key z.machine).slot) c.self.view_is;
+      machine = d.machine ∙ ap (λ (z : CacheState _ _ _). let p = into_main c.args.key z.machine in (stored p.slot c.args.value p.machine)) c.self.view_is;
+    }

@@ -100,4 +100,7 @@ returns g c =
     let d = promoted-done _ g.met.K.Eq.laws _ _ _ _ _ _ _ _ k c.in-Some.tail last c.take_victim-victim.result c.take_victim-victim.ensures.victim c.args.key c.args.value c.args.hash _ same c.renew.ensures.hash c.admit.new.self c.renew.new.index.homes c.renew.new.keys absent
     ((ap (λ (z : QueueState). z.slots) c.admit.ensures.queues) ∙ (ap (λ (z : QueueState). z.slots) c.append.ensures.queues) ∙ (ap (λ (z : QueueState). z.slots) c.in-Some.ensures.queues) ∙ (ap (λ (z : QueueState). z.slots) c.take_victim-victim.ensures.queues)) ((ap (λ (z : QueueState). z.window) c.admit.ensures.queues) ∙ (ap (λ (z : QueueState). z.window) c.append.ensures.queues) ∙ (ap (λ (z : QueueState). z.window) c.in-Some.ensures.queues) ∙ (ap (λ (z : QueueState). z.window) c.take_victim-victim.ensures.queues)) c.renew.ensures.index c.renew.ensures.entries (ap (λ (z : KeyPlaces _ _). z.room) c.renew.ensures.kept)
     full on small ((ap (λ (z : QueueState). z.main) c.admit.ensures.queues) ∙ ((ap (λ (z : QueueState). z.main) c.append.ensures.queues) ∙ ap (λ z. z ++ (c.in-Some.tail, false) ∷ []) ((ap (λ (z : QueueState). z.main) c.in-Some.ensures.queues) ∙ (ap (λ (z : QueueState). z.main) c.take_victim-victim.ensures.queues)))) in
-    d.machine ∙ ap (λ (z : CacheState _ _ _). let p = into_small c.args.key z.machine in (stored p.slot c.args.value p.machine)) c.self.view_is
+    record {
+      slot = d.at ∙ ap (λ (z : CacheState _ _ _). (into_small c.args.key z.machine).slot) c.self.view_is;
+      machine = d.machine ∙ ap (λ (z : CacheState _ _ _). let p = into_small c.args.key z.machine in (stored p.slot c.args.value p.machine)) c.self.view_is;
+    }

@@ -16,7 +16,7 @@ module _ {K V : Type 0} (eq : K → K → Bool) (laws : IsEquivalence eq) (m : M
 
 pub returns-in_default-clause-resident : goal.returns-in_default-clause-resident
 returns-in_default-clause-resident g c =
-    brought_in g.K.PartialEq.eq g.met.K.Eq.laws c.args.self.now.machine c.find.ensures.whole c.args.key c.args.value c.insert.new.self.machine c.find.result c.find.ensures.slot c.in_default.is (c.insert.ensures ∙ ap (λ z. inserted (g.K.PartialEq.eq c.args.key) c.args.key c.args.value z) c.find.ensures.machine)
+    brought_in g.K.PartialEq.eq g.met.K.Eq.laws c.args.self.now.machine c.find.ensures.whole c.args.key c.args.value c.insert.new.self.machine c.find.result c.find.ensures.slot c.in_default.is (c.insert.ensures.machine ∙ ap (λ z. inserted (g.K.PartialEq.eq c.args.key) c.args.key c.args.value z) c.find.ensures.machine)
 
 pub returns-clause-resident : goal.returns-clause-resident
 returns-clause-resident g c =

@@ -66,4 +66,7 @@ returns g c =
     let d = replaced-done _ g.met.K.Eq.laws _ _ _ _ _ _ _ _ k c.take_victim-victim.result c.take_victim-victim.ensures.victim c.args.key c.args.value c.args.hash _ same c.renew.ensures.hash c.append.new.self c.renew.new.index.homes c.renew.new.keys absent
     ((ap (λ (z : QueueState). z.slots) c.append.ensures.queues) ∙ (ap (λ (z : QueueState). z.slots) c.take_victim-victim.ensures.queues)) ((ap (λ (z : QueueState). z.window) c.append.ensures.queues) ∙ (ap (λ (z : QueueState). z.window) c.take_victim-victim.ensures.queues)) c.renew.ensures.index c.renew.ensures.entries (ap (λ (z : KeyPlaces _ _). z.room) c.renew.ensures.kept)
     full ((ap (λ (z : QueueState). z.small) c.append.ensures.queues) ∙ (ap (λ (z : QueueState). z.small) c.take_victim-victim.ensures.queues)) main in
-    d.machine ∙ ap (λ (z : CacheState _ _ _). let p = into_main c.args.key z.machine in (stored p.slot c.args.value p.machine)) c.self.view_is
+    record {
+      slot = d.at ∙ ap (λ (z : CacheState _ _ _). (into_main c.args.key z.machine).slot) c.self.view_is;
+      machine = d.machine ∙ ap (λ (z : CacheState _ _ _). let p = into_main c.args.key z.machine in (stored p.slot c.args.value p.machine)) c.self.view_is;
+    }

@@ -1,0 +1,25 @@
+-- The value stands at the slot where the key was found, or at the one that it took.
+use Rattle.std.proofs.Common.{sym, ap, ◌∙◌, subst, Ok}
+use Rattle.std.proofs.lemmas.Option.{slice_get_within}
+use Rattle.clock2q_cache.specs.Closures.{Fetches}
+use Rattle.clock2q_cache.specs.Machine.{hit, inserted}
+use Rattle.clock2q_cache.proofs.Fetched.{hit-fetches, new-fetches}
+use Rattle.clock2q_cache.proofs.cache.Cache.try_find_or_insert.Goals as goal
+
+pub returns-in-Some-clause-fetched : goal.returns-in-Some-clause-fetched
+returns-in-Some-clause-fetched g c =
+    let eq = g.K.PartialEq.eq in let m = c.args.self.now.machine in
+    let now = c.record_hit.ensures.machine ∙ ap (hit (eq c.args.key)) c.find.ensures.machine in
+    subst (Fetches (eq c.args.key) c.args.key (λ v. goal.F-post g c.args.f (Ok v)) m c.in-Some.slot) (sym now)
+    (hit-fetches eq g.met.K.Eq.laws m c.find.ensures.whole c.args.key (λ v. goal.F-post g c.args.f (Ok v)) c.in-Some.slot (sym c.in-Some.ensures.slot))
+
+pub returns-clause-fetched : goal.returns-clause-fetched
+returns-clause-fetched g c =
+    let eq = g.K.PartialEq.eq in let m = c.args.self.now.machine in
+    let now = c.insert.ensures.machine ∙ ap (inserted (eq c.args.key) c.args.key c.in_ok-value.value) c.find.ensures.machine in
+    let gave = subst (goal.F-post g c.args.f) c.in_ok-value.was c.f.ensures in
+    rw (now, c.insert.ensures.slot, c.find.ensures.machine)
+    (new-fetches eq g.met.K.Eq.laws m c.find.ensures.whole c.args.key (λ v. goal.F-post g c.args.f (Ok v)) (sym c.in_default.ensures.slot) c.in_ok-value.value gave)
+
+pub returns-clause-made : goal.returns-clause-made
+returns-clause-made g c = let f = returns-clause-fetched g c in slice_get_within _ _ f.value f.there
