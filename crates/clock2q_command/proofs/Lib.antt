@@ -1,6 +1,7 @@
 pub mod Answering
 pub mod Calling
 pub mod Cutting
+pub mod Fetching
 pub mod Hashing
 pub mod InTurn
 pub mod Numbers

@@ -2,7 +2,7 @@
 ghost use Rattle.std.specs.Prelude.{◌≡◌, ◌<◌, IfOk, IfErr, OnOk, OnErr, true, drop, get_or, length, map};
 ghost use Rattle.clock2q_command.specs.Commands.{call_of, answer_of, IsSupplied, AreSupplied};
 ghost use Rattle.clock2q_cache.specs.Machine.{value_of};
-ghost use Rattle.clock2q_cache.specs.Steps.{answer, after, answers, after_all, replaced, retained, prefilled_with};
+ghost use Rattle.clock2q_cache.specs.Steps.{answer, after, answers, after_all, replaced, fetched, fetched_value, tried, tried_value, retained, prefilled_with};
 
 use clock2q_cache::{Cache, CacheError};
 use std::alloc::{Allocator, Global};
@@ -118,7 +118,9 @@ where
         Command::Contains(key) => Reply::Flag(cache.contains(&key)),
         Command::GetAt(slot, key) => Reply::Value(cache.get_at(slot, &key).copied()),
         Command::Set(key, value) => Reply::Value(set(cache, &key, value)),
-        Command::With(..) | Command::Try(..) | Command::Slot(..) => unreachable!(),
+        Command::With(key, value) => Reply::Stored(fetch(cache, key, value)),
+        Command::Try(key, offered) => Reply::Tried(try_fetch(cache, key, offered)),
+        Command::Slot(..) => unreachable!(),
         Command::Remove(key) => Reply::Flag(cache.remove(&key)),
         Command::Retain(bits) => {
             retain(cache, &bits);
@@ -152,6 +154,35 @@ where
     let before = *place;
     *place = value;
     Some(before)
+}
+
+/// Returns the value of a key, which is inserted with this one if it isn't resident.
+fn fetch<K, V, S, A>(cache: &mut Cache<K, V, S, A>, key: K, value: V) -> V
+where
+    K: Hash + Eq + Drop,
+    V: Copy,
+    S: BuildHasher,
+    A: Allocator,
+    ensures value { result ≡ fetched_value (value_of (K.eq key) cache.old.machine) value }
+    ensures machine { cache.new.machine ≡ fetched (K.eq key) key value cache.old.machine }
+{
+    *cache.get_or_insert_with(key, || value)
+}
+
+/// The same with a value that may be missing. Then a key that isn't resident is not inserted.
+fn try_fetch<K, V, S, A>(cache: &mut Cache<K, V, S, A>, key: K, offered: Option<V>) -> Option<V>
+where
+    K: Hash + Eq + Drop,
+    V: Copy,
+    S: BuildHasher,
+    A: Allocator,
+    ensures value { result ≡ tried_value (value_of (K.eq key) cache.old.machine) offered }
+    ensures machine { cache.new.machine ≡ tried (K.eq key) key offered cache.old.machine }
+{
+    match cache.try_get_or_insert_with_mut(key, || offered.ok_or(())) {
+        Ok(value) => Some(*value),
+        Err(()) => None,
+    }
 }
 
 /// Keeps the residents whose bit is true, and those past the end of the bits.
