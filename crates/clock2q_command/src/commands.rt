@@ -1,6 +1,7 @@
 //! Commands to a cache as data, their replies, and the run of a list of them.
 ghost use Rattle.std.specs.Prelude.{◌≡◌, ◌<◌, IfOk, IfErr, OnOk, OnErr, true, drop, get_or, length, map};
 ghost use Rattle.clock2q_command.specs.Commands.{call_of, answer_of, IsSupplied, AreSupplied};
+ghost use Rattle.clock2q_cache.specs.Bounds.{IsRunBounded};
 ghost use Rattle.clock2q_cache.specs.Machine.{value_of};
 ghost use Rattle.clock2q_cache.specs.Steps.{answer, after, answers, after_all, replaced, fetched, fetched_value, tried, tried_value, retained, prefilled_with};
 
@@ -90,6 +91,7 @@ where
     requires prefills { AreSupplied (map call_of commands.items) }
     ensures replies { IfOk result (λ replies. map answer_of replies.items ≡ answers K.eq (map call_of commands.items) cache.old.machine) }
     ensures machine { OnOk result (cache.new.machine ≡ after_all K.eq (map call_of commands.items) cache.old.machine) }
+    ensures clock { OnOk result (IsRunBounded K.eq (map call_of commands.items) cache.old.machine) }
     ensures memory { IfErr result (λ e. e ≡ CacheError.Memory) }
     ensures unchanged { OnErr result (cache.new.machine ≡ cache.old.machine) }
 {
