@@ -11,6 +11,7 @@ loop-command-init g c = record {
   ends = search rules;
   told = search rules;
   rest = search rules;
+  looked = search rules;
   supplied = subst (λ items. AreSupplied (map call_of items)) (search rules) c.requires.prefills;
   room = search rules;
 }
@@ -24,6 +25,7 @@ loop-command-preserved g c = record {
   ends = search rules;
   told = grind (arith, common_steps);
   rest = grind (arith, common_steps);
+  looked = grind (arith, common_steps);
   supplied = (subst (λ items. AreSupplied (map call_of items)) c.in-Some.ensures.steps.0 c.loop-command.invariant.supplied).1;
   room = grind (arith, common_steps);
 }
