@@ -161,7 +161,7 @@ impl<K: Hash + Eq + Drop, V: Drop, S: BuildHasher + Drop, A: Allocator + Copy> C
 }
 
 impl<K: Hash + Eq, V, S: BuildHasher, A: Allocator> Cache<K, V, S, A> {
-    ghost use Rattle.std.specs.Prelude.{◌≡◌, IsTrue, ◌↔◌, IsSome, IfSome, Some, ◌<◌, length, slice_get};
+    ghost use Rattle.std.specs.Prelude.{◌≡◌, IsTrue, ◌↔◌, IsSome, IfSome, IfNone, Some, None, ◌<◌, length, slice_get};
     ghost use Rattle.std.specs.Option.{option_copied, option_copied_mut};
     ghost use Rattle.std.specs.Borrow.{sem};
     ghost use Rattle.clock2q_cache.specs.Cache.{IsWhole};
@@ -251,6 +251,7 @@ impl<K: Hash + Eq, V, S: BuildHasher, A: Allocator> Cache<K, V, S, A> {
     pub fn get_mut(&mut self, key: &K) -> Option<&mut V>
         ensures* writes_back { sem 𝓛 (LendsHit K.row V.row S.row A.row S.Hasher.row K.Hash S.BuildHasher S.Hasher.Hasher A.Allocator self.entry key.now result) }
         ensures value { option_copied_mut result ≡ value_of (K.eq key.now) self.old.machine }
+        ensures missed { IfNone result (slot_of (K.eq key.now) self.old.machine ≡ None) }
     {
         let hash = self.hash(key);
         let resident = self.find(hash, key)?;

@@ -1,7 +1,9 @@
 pub mod Answering
 pub mod Calling
 pub mod Cutting
+pub mod Fetching
 pub mod Hashing
+pub mod InTurn
 pub mod Numbers
 pub mod Rehashing
 pub mod Served

@@ -23,5 +23,5 @@ Parses view (Ok x) spelled = spelled ≡ Ok (view x)
 Parses view (Err refusal) spelled = Refuses refusal spelled
 
 -- a capacity and commands as the script that they are
-abbrev pub script_value : NonZeroUsize → List (Command ℕ ℕ) → Script
+abbrev pub script_value : {A : Type 0} → NonZeroUsize → List (Command ℕ ℕ A) → Script
 script_value capacity commands = record { capacity = non_zero_usize_get capacity; calls = map call_of commands }

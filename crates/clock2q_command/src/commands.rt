@@ -1,15 +1,19 @@
 //! Commands to a cache as data, their replies, and the run of a list of them.
-ghost use Rattle.std.specs.Prelude.{◌≡◌, IfOk, IfErr, OnOk, OnErr, map};
-ghost use Rattle.clock2q_command.specs.Commands.{call_of, answer_of};
-ghost use Rattle.clock2q_cache.specs.Steps.{answer, after, answers, after_all};
+ghost use Rattle.std.specs.Prelude.{◌≡◌, ◌+◌, ◌<◌, IfOk, IfErr, OnOk, OnErr, true, drop, get_or, length, map};
+ghost use Rattle.clock2q_command.specs.Commands.{call_of, answer_of, IsSupplied, AreSupplied};
+ghost use Rattle.clock2q_cache.specs.Bounds.{inspections_for, inspections_of, summed, IsRunBounded};
+ghost use Rattle.clock2q_cache.specs.Calls.{Try};
+ghost use Rattle.clock2q_cache.specs.Machine.{value_of};
+ghost use Rattle.clock2q_cache.specs.Steps.{answer, after, answers, after_all, replaced, fetched, fetched_value, tried, tried_value, retained, prefilled_with};
 
 use clock2q_cache::{Cache, CacheError};
-use std::alloc::Allocator;
+use std::alloc::{Allocator, Global};
 use std::hash::{BuildHasher, Hash};
 
-/// A call of a [`Cache`](clock2q_cache::Cache) as a value, to be made by [`run`].
-#[derive(Clone, Debug, Drop, PartialEq)]
-pub enum Command<K, V> {
+/// A call of a [`Cache`](clock2q_cache::Cache) as a value, to be made by [`run`]. What a closure would
+/// return is part of it.
+#[derive(Debug, Drop, PartialEq)]
+pub enum Command<K, V, A: Allocator = Global> {
     /// Stores a value for a key. Replied to with `Value`, with the value that it replaces.
     Put(K, V),
     /// Asks for a key's value, and records the hit. Replied to with `Value`.
@@ -18,6 +22,31 @@ pub enum Command<K, V> {
     Peek(K),
     /// Asks whether a key is resident. Replied to with `Flag`.
     Contains(K),
+    /// Asks for the value of a key that is resident at this slot, and records the hit. Replied to
+    /// with `Value`.
+    GetAt(usize, K),
+    /// Replaces the value of a resident key, and records the hit. Replied to with `Value`, with the
+    /// value that it replaces; `None` where the key isn't resident, and nothing changes.
+    Set(K, V),
+    /// Asks for a key's value, and inserts the key with this one if it isn't resident. Replied to
+    /// with `Stored`.
+    With(K, V),
+    /// Does the same with a value that may be missing, as after an error: then a key that isn't
+    /// resident is not inserted. Replied to with `Tried`.
+    Try(K, Option<V>),
+    /// Asks for a key's slot and the value there, and inserts the key if it isn't resident. A slot
+    /// that was made before keeps its value, and a new one gets this value. Replied to with `Slot`.
+    Slot(K, V),
+    /// Removes a key, or what is remembered of it. Replied to with `Flag`: whether it was resident.
+    Remove(K),
+    /// Keeps the residents whose bit is true, by ascending slot, and those past the end of the list;
+    /// removes the others. Replied to with `Done`.
+    Retain(Vec<bool, A>),
+    /// Removes every key and value, and what is remembered. Replied to with `Done`.
+    Clear,
+    /// Makes every slot that was never made, with these values in order; the last one repeats.
+    /// Replied to with `Done`. [`run`] asks that the list isn't empty.
+    Prefill(Vec<V, A>),
     /// Asks how many keys are resident. Replied to with `Number`.
     Len,
     /// Asks whether no key is. Replied to with `Flag`.
@@ -31,10 +60,18 @@ pub enum Command<K, V> {
 pub enum Reply<V> {
     /// The value asked for, or the one replaced; `None` where the key wasn't resident.
     Value(Option<V>),
+    /// The value that the key has now.
+    Stored(V),
+    /// The same; `None` where the key isn't resident and no value came.
+    Tried(Option<V>),
+    /// The slot that the key has now, and the value there.
+    Slot(usize, V),
     /// Whether it is so.
     Flag(bool),
     /// How many keys.
     Number(usize),
+    /// The command was carried out.
+    Done,
 }
 
 /// Runs the commands in order, and returns one reply to each, in the same order.
@@ -45,17 +82,20 @@ pub enum Reply<V> {
 pub fn run<K, V, S, A>(
     alloc: A,
     cache: &mut Cache<K, V, S, A>,
-    commands: Vec<Command<K, V>, A>,
+    commands: Vec<Command<K, V, A>, A>,
 ) -> Result<Vec<Reply<V>, A>, CacheError>
 where
-    K: Hash + Eq + Drop,
+    K: Hash + Eq + Default + Drop,
     V: Copy,
     S: BuildHasher,
     A: Allocator,
+    requires prefills { AreSupplied (map call_of commands.items) }
     ensures replies { IfOk result (λ replies. map answer_of replies.items ≡ answers K.eq (map call_of commands.items) cache.old.machine) }
     ensures machine { OnOk result (cache.new.machine ≡ after_all K.eq (map call_of commands.items) cache.old.machine) }
+    ensures inspections { OnOk result (cache.new.counts.inspections ≡ cache.old.counts.inspections + summed K.eq (inspections_of K.eq) (map call_of commands.items) cache.old.machine) }
+    ensures clock { OnOk result (IsRunBounded K.eq (map call_of commands.items) cache.old.machine) }
     ensures memory { IfErr result (λ e. e ≡ CacheError.Memory) }
-    ensures unchanged { OnErr result (cache.new.machine ≡ cache.old.machine) }
+    ensures unchanged { OnErr result (cache.new ≡ cache.old) }
 {
     let mut replies = Vec::with_capacity(alloc, commands.len())?;
     for command in commands {
@@ -65,22 +105,144 @@ where
 }
 
 /// Makes the call that a command stands for.
-fn execute<K, V, S, A>(cache: &mut Cache<K, V, S, A>, command: Command<K, V>) -> Reply<V>
+fn execute<K, V, S, A>(cache: &mut Cache<K, V, S, A>, command: Command<K, V, A>) -> Reply<V>
 where
-    K: Hash + Eq + Drop,
+    K: Hash + Eq + Default + Drop,
     V: Copy,
     S: BuildHasher,
     A: Allocator,
+    requires prefill { IsSupplied (call_of command) }
     ensures reply { answer_of result ≡ answer K.eq (call_of command) cache.old.machine }
     ensures machine { cache.new.machine ≡ after K.eq (call_of command) cache.old.machine }
+    ensures inspections { cache.new.counts.inspections ≡ cache.old.counts.inspections + inspections_of K.eq (call_of command) cache.old.machine }
 {
     match command {
         Command::Put(key, value) => Reply::Value(cache.put(key, value)),
         Command::Get(key) => Reply::Value(cache.get(&key).copied()),
         Command::Peek(key) => Reply::Value(cache.peek(&key).copied()),
         Command::Contains(key) => Reply::Flag(cache.contains(&key)),
+        Command::GetAt(slot, key) => Reply::Value(cache.get_at(slot, &key).copied()),
+        Command::Set(key, value) => Reply::Value(set(cache, &key, value)),
+        Command::With(key, value) => Reply::Stored(fetch(cache, key, value)),
+        Command::Try(key, offered) => Reply::Tried(try_fetch(cache, key, offered)),
+        Command::Slot(..) => unreachable!(),
+        Command::Remove(key) => Reply::Flag(cache.remove(&key)),
+        Command::Retain(bits) => {
+            retain(cache, &bits);
+            Reply::Done
+        }
+        Command::Clear => {
+            cache.clear();
+            Reply::Done
+        }
+        Command::Prefill(values) => {
+            prefill(cache, &values);
+            Reply::Done
+        }
         Command::Len => Reply::Number(cache.len()),
         Command::IsEmpty => Reply::Flag(cache.is_empty()),
         Command::Capacity => Reply::Number(cache.capacity()),
     }
+}
+
+/// Replaces the value of a resident key, and returns the one before.
+fn set<K, V, S, A>(cache: &mut Cache<K, V, S, A>, key: &K, value: V) -> Option<V>
+where
+    K: Hash + Eq,
+    V: Copy,
+    S: BuildHasher,
+    A: Allocator,
+    ensures value { result ≡ value_of (K.eq key.now) cache.old.machine }
+    ensures machine { cache.new.machine ≡ replaced (K.eq key.now) value cache.old.machine }
+    ensures inspections { cache.new.counts.inspections ≡ cache.old.counts.inspections }
+{
+    let place = cache.get_mut(key)?;
+    let before = *place;
+    *place = value;
+    Some(before)
+}
+
+/// Returns the value of a key, which is inserted with this one if it isn't resident.
+fn fetch<K, V, S, A>(cache: &mut Cache<K, V, S, A>, key: K, value: V) -> V
+where
+    K: Hash + Eq + Drop,
+    V: Copy,
+    S: BuildHasher,
+    A: Allocator,
+    ensures value { result ≡ fetched_value (value_of (K.eq key) cache.old.machine) value }
+    ensures machine { cache.new.machine ≡ fetched (K.eq key) key value cache.old.machine }
+    ensures inspections { cache.new.counts.inspections ≡ cache.old.counts.inspections + inspections_for (K.eq key) cache.old.machine }
+{
+    *cache.get_or_insert_with(key, || value)
+}
+
+/// The same with a value that may be missing. Then a key that isn't resident is not inserted.
+fn try_fetch<K, V, S, A>(cache: &mut Cache<K, V, S, A>, key: K, offered: Option<V>) -> Option<V>
+where
+    K: Hash + Eq + Drop,
+    V: Copy,
+    S: BuildHasher,
+    A: Allocator,
+    ensures value { result ≡ tried_value (value_of (K.eq key) cache.old.machine) offered }
+    ensures machine { cache.new.machine ≡ tried (K.eq key) key offered cache.old.machine }
+    ensures inspections { cache.new.counts.inspections ≡ cache.old.counts.inspections + inspections_of K.eq (Try key offered) cache.old.machine }
+{
+    match cache.try_get_or_insert_with_mut(key, || offered.ok_or(())) {
+        Ok(value) => Some(*value),
+        Err(()) => None,
+    }
+}
+
+/// Keeps the residents whose bit is true, and those past the end of the bits.
+fn retain<K, V, S, A>(cache: &mut Cache<K, V, S, A>, bits: &[bool])
+where
+    K: Hash + Eq,
+    S: BuildHasher,
+    A: Allocator,
+    ensures machine { cache.new.machine ≡ retained bits.now cache.old.machine }
+    ensures inspections { cache.new.counts.inspections ≡ cache.old.counts.inspections }
+{
+    let mut rest = bits;
+    cache.retain(
+        move |_, _|
+            ensures bit { result ≡ get_or rest.entry.now 0 true }
+            ensures rest { rest.exit.now ≡ drop 1 rest.entry.now }
+        {
+            match rest.split_first() {
+                Some((bit, others)) => {
+                    rest = others;
+                    *bit
+                }
+                None => true,
+            }
+        },
+    );
+}
+
+/// Makes the slots that were never made with these values, the last one again and again.
+fn prefill<K, V, S, A>(cache: &mut Cache<K, V, S, A>, values: &[V])
+where
+    K: Hash + Eq + Default,
+    V: Copy,
+    S: BuildHasher,
+    A: Allocator,
+    requires some { 0 < length values.now }
+    ensures machine { cache.new.machine ≡ prefilled_with values.now cache.old.machine }
+    ensures inspections { cache.new.counts.inspections ≡ cache.old.counts.inspections }
+{
+    let mut rest = values;
+    let mut last = values[0];
+    cache.prefill(
+        move ||
+            ensures value { result ≡ get_or rest.entry.now 0 last.entry }
+            ensures last { last.exit ≡ get_or rest.entry.now 0 last.entry }
+            ensures rest { rest.exit.now ≡ drop 1 rest.entry.now }
+        {
+            if let Some((value, others)) = rest.split_first() {
+                rest = others;
+                last = *value;
+            }
+            last
+        },
+    );
 }

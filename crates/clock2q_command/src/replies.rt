@@ -15,8 +15,13 @@ fn push_reply<A: Allocator>(text: &mut String<A>, reply: Reply<u64>) -> Result<(
     match reply {
         Reply::Value(None) => writeln!(text, "none"),
         Reply::Value(Some(value)) => writeln!(text, "some {value}"),
+        Reply::Stored(value) => writeln!(text, "{value}"),
+        Reply::Tried(None) => writeln!(text, "failed"),
+        Reply::Tried(Some(value)) => writeln!(text, "ok {value}"),
+        Reply::Slot(slot, value) => writeln!(text, "{slot} {value}"),
         Reply::Flag(flag) => writeln!(text, "{flag}"),
         Reply::Number(number) => writeln!(text, "{number}"),
+        Reply::Done => writeln!(text, "ok"),
     }
 }
 

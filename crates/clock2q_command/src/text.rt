@@ -86,17 +86,17 @@ fn two_numbers(arguments: Option<&[u8]>) -> Option<(u64, u64)>
 }
 
 // The command that a name and what stands after it spell.
-fn named(name: &[u8], arguments: Option<&[u8]>) -> Option<Command<u64, u64>>
+fn named<A: Allocator>(name: &[u8], arguments: Option<&[u8]>) -> Option<Command<u64, u64, A>>
     ensures { option_map call_of result ≡ call_in (name.now ∷ words_after arguments.entry) }
 {
     if name == b"put".as_slice() {
         two_numbers(arguments).map(|(key, value)| Command::Put(key, value))
     } else if name == b"get".as_slice() {
-        one_number(arguments).map(Command::Get)
+        one_number(arguments).map(|key| Command::Get(key))
     } else if name == b"peek".as_slice() {
-        one_number(arguments).map(Command::Peek)
+        one_number(arguments).map(|key| Command::Peek(key))
     } else if name == b"contains".as_slice() {
-        one_number(arguments).map(Command::Contains)
+        one_number(arguments).map(|key| Command::Contains(key))
     } else if name == b"len".as_slice() {
         arguments.is_none().then_some(Command::Len)
     } else if name == b"is_empty".as_slice() {
@@ -109,7 +109,7 @@ fn named(name: &[u8], arguments: Option<&[u8]>) -> Option<Command<u64, u64>>
 }
 
 // The command that a line spells.
-fn command_of(line: &[u8]) -> Option<Command<u64, u64>>
+fn command_of<A: Allocator>(line: &[u8]) -> Option<Command<u64, u64, A>>
     ensures { option_map call_of result ≡ call_in (words_of line.now) }
 {
     let (name, arguments) = cut(line, b' ');
@@ -129,7 +129,10 @@ fn capacity_of(line: &[u8]) -> Option<NonZeroUsize>
 }
 
 // The commands that lines spell, of which the first is line 2.
-fn commands_of<A: Allocator>(alloc: A, text: &[u8]) -> Result<Vec<Command<u64, u64>, A>, ServeError>
+fn commands_of<A: Allocator>(
+    alloc: A,
+    text: &[u8],
+) -> Result<Vec<Command<u64, u64, A>, A>, ServeError>
     requires { length text.now + 1 < 2 ^ 64 }
     ensures { Parses (λ v. map call_of v.items) result (calls_from 2 (lines_of text.now)) }
 {
@@ -149,7 +152,7 @@ fn commands_of<A: Allocator>(alloc: A, text: &[u8]) -> Result<Vec<Command<u64, u
 #[derive(Drop)]
 pub(super) struct Script<A: Allocator> {
     pub(super) capacity: NonZeroUsize,
-    pub(super) commands: Vec<Command<u64, u64>, A>,
+    pub(super) commands: Vec<Command<u64, u64, A>, A>,
 }
 
 /// The script that a text spells, or its first bad line. It takes time in proportion to the text.

@@ -10,7 +10,7 @@ returns g c = (
     (λ w. lent-becomes (record { eq = g.K.PartialEq.eq; hash_input = g.K.Hash.hash_input }) g.S.BuildHasher g.S.Hasher.Hasher c.args.key.now c.hash-hash.result c.in_ok-resident.resident w c.args.self.now c.find.new.self c.record_hit.new.self c.hash-hash.ensures c.in_ok-resident.ensures.slot c.find.ensures.kept c.find.ensures.counts c.record_hit.ensures.kept c.record_hit.ensures.machine),
     tt,
   ),
-  record { writes_back = tt; value = search rules },
+  record { writes_back = tt; value = search rules; missed = tt },
 )
 
 pub returns-in_err-resident : goal.returns-in_err-resident
@@ -22,5 +22,5 @@ returns-in_err-resident g c =
         (λ w. unlent-becomes (record { eq = g.K.PartialEq.eq; hash_input = g.K.Hash.hash_input }) g.S.BuildHasher g.S.Hasher.Hasher c.args.key.now c.hash-hash.result w c.args.self.now c.find.new.self c.hash-hash.ensures absent c.find.ensures.kept c.find.ensures.counts),
         rw c.from_residual.ensures unhit,
       ),
-      record { writes_back = tt; value = search rules },
+      record { writes_back = tt; value = search rules; missed = rw c.from_residual.ensures absent },
     )
