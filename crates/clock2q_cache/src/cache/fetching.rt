@@ -100,9 +100,9 @@ impl<K: Hash + Eq + Drop, V: Drop, S: BuildHasher, A: Allocator> Cache<K, V, S, 
         ensures asked { OnErr result (Spends 0 0 (alike K.Hash S.BuildHasher S.Hasher.Hasher key self.old) self.old.counts self.new.counts) }
     {
         let hash = self.hash(&key);
-        if let Some(slot) = self.find(hash, &key) {
-            self.record_hit(slot, &key);
-            return Ok(slot);
+        if let Some(resident) = self.find(hash, &key) {
+            self.record_hit(resident, &key);
+            return Ok(resident);
         }
         let value = f()?;
         Ok(self.insert(hash, key, value))

@@ -12,8 +12,8 @@ pub returns-in-Some-clause-fetched : goal.returns-in-Some-clause-fetched
 returns-in-Some-clause-fetched g c =
     let eq = g.K.PartialEq.eq in let m = c.args.self.now.machine in
     let now = c.record_hit.ensures.machine ∙ ap (hit (eq c.args.key)) c.find.ensures.machine in
-    subst (Fetches (eq c.args.key) c.args.key (λ v. goal.F-post g c.args.f (Ok v)) m c.in-Some.slot) (sym now)
-    (hit-fetches eq g.met.K.Eq.laws m c.find.ensures.whole c.args.key (λ v. goal.F-post g c.args.f (Ok v)) c.in-Some.slot (sym c.in-Some.ensures.slot))
+    subst (Fetches (eq c.args.key) c.args.key (λ v. goal.F-post g c.args.f (Ok v)) m c.in-Some.resident) (sym now)
+    (hit-fetches eq g.met.K.Eq.laws m c.find.ensures.whole c.args.key (λ v. goal.F-post g c.args.f (Ok v)) c.in-Some.resident (sym c.in-Some.ensures.slot))
 
 pub returns-clause-fetched : goal.returns-clause-fetched
 returns-clause-fetched g c =
@@ -29,7 +29,7 @@ returns-clause-made g c = let f = returns-clause-fetched g c in slice_get_within
 pub returns-in-Some-clause-counts : goal.returns-in-Some-clause-counts
 returns-in-Some-clause-counts g c =
     hit-spends (record { eq = g.K.PartialEq.eq; hash_input = g.K.Hash.hash_input }) g.S.BuildHasher g.S.Hasher.Hasher c.args.key c.hash-hash.result c.args.self.now c.find.new.self c.hash-hash.ensures c.find.ensures.kept c.find.ensures.counts
-    c.in-Some.slot c.in-Some.ensures.slot c.record_hit.new.self.counts (ap (λ (z : CacheState _ _ _). z.counts) c.record_hit.ensures.kept)
+    c.in-Some.resident c.in-Some.ensures.slot c.record_hit.new.self.counts (ap (λ (z : CacheState _ _ _). z.counts) c.record_hit.ensures.kept)
 
 pub returns-clause-counts : goal.returns-clause-counts
 returns-clause-counts g c =
