@@ -64,8 +64,6 @@ fn named_with_numbers<A: Allocator>(name: &[u8], words: &[u8]) -> Option<Command
         two_numbers(words).map(|(key, value)| Command::With(key, value))
     } else if name == b"try".as_slice() {
         number_or_fail(words).map(|(key, value)| Command::Try(key, value))
-    } else if name == b"slot".as_slice() {
-        two_numbers(words).map(|(key, value)| Command::Slot(key, value))
     } else if name == b"remove".as_slice() {
         one_number(words).map(|key| Command::Remove(key))
     } else {
