@@ -5,6 +5,8 @@ pub mod Entering
 pub mod Fetched
 pub mod Filled
 pub mod Finding
+pub mod Indexed
+pub mod Insertions
 pub mod Kept
 pub mod Lasting
 pub mod Laws
@@ -14,6 +16,7 @@ pub mod Residents
 pub mod Retained
 pub mod SecondChance
 pub mod Slots
+pub mod Spent
 pub mod Standing
 pub mod Stored
 pub mod Vacated

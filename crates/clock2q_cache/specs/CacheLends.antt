@@ -1,11 +1,13 @@
 -- What a cache is left as by a call that lends a value of it.
-use Rattle.std.specs.Prelude.{◌≡◌, ℕ, Bool, Option, Some, None, IfNone, Result, ⊤}
+use Rattle.std.specs.Prelude.{ℕ, Option, None, IfNone, Result, ⊤}
 use Rattle.std.specs.Borrow.{Fml, RattleType, MutBor, Lends, LendsSo, LendsSoOk, follows_so}
 use Rattle.std.specs.HashMap.Lent.{HashMembers}
 use Rattle.std.specs.declared.alloc.Allocator as alloc
 use Rattle.std.specs.declared.hash.Hasher as hasher
 use Rattle.std.specs.declared.hash.BuildHasher as builder
 use mathlib.Core.Option.{none}
+use Rattle.clock2q_cache.specs.Calls.{Call, Put, Get, Set, Try}
+use Rattle.clock2q_cache.specs.Costs.{Becomes}
 use Rattle.clock2q_cache.specs.Machine.{Machine, stored}
 use Rattle.clock2q_cache.specs.Steps.{replaced, put}
 use Rattle.clock2q_cache.specs.CacheState.{CacheState}
@@ -16,18 +18,18 @@ module _ (K V S A H : RattleType) (key : HashMembers K.Denot) (build : builder.G
   abbrev pub cache_row : RattleType
   cache_row = the_row K V S A H (record { hash_input = key.hash_input }) (record { eq = key.eq }) build hash heap
 
-  -- the machine is this one once the reference into the cache has ended
-  abbrev pub LeavesMachine : MutBor (CacheState K.Denot V.Denot S.Denot) → Machine K.Denot V.Denot → Fml
-  LeavesMachine c m = follows_so cache_row cache_row c.ghost_name none (λ _ _. ⊤) (λ n. n.machine ≡ m)
+  -- the machine is this one once the reference into the cache has ended, at the cost of the call
+  abbrev pub LeavesMachine : MutBor (CacheState K.Denot V.Denot S.Denot) → Call K.Denot V.Denot → Machine K.Denot V.Denot → Fml
+  LeavesMachine c call m = follows_so cache_row cache_row c.ghost_name none (λ _ _. ⊤) (Becomes key build hash call m c.now)
 
   -- the value of that slot is what the caller leaves behind the reference, and nothing else changes
   abbrev pub LendsSlot : MutBor (CacheState K.Denot V.Denot S.Denot) → ℕ → MutBor V.Denot → Fml
   LendsSlot c slot r = Lends cache_row V c r (λ w. record c.now { machine = stored slot w c.now.machine })
 
   -- the key is hit, and its value is what the caller leaves behind the reference; at `None` the machine is as it was
-  abbrev pub LendsHit : MutBor (CacheState K.Denot V.Denot S.Denot) → (K.Denot → Bool) → Option (MutBor V.Denot) → Fml
-  LendsHit c is r = LendsSo cache_row V c r (λ n w. n.machine ≡ replaced is w c.now.machine) (λ n. IfNone r (n.machine ≡ c.now.machine))
+  abbrev pub LendsHit : MutBor (CacheState K.Denot V.Denot S.Denot) → K.Denot → Option (MutBor V.Denot) → Fml
+  LendsHit c k r = LendsSo cache_row V c r (λ n w. Becomes key build hash (Set k w) (replaced (key.eq k) w c.now.machine) c.now n) (λ n. IfNone r (Becomes key build hash (Get k) c.now.machine c.now n))
 
   -- the key has the value that the caller leaves behind the reference, as after `put`; at `Err` the machine is as it was
   abbrev pub LendsPut : {E : Type 0} → MutBor (CacheState K.Denot V.Denot S.Denot) → K.Denot → Result (MutBor V.Denot) E → Fml
-  LendsPut c k r = LendsSoOk cache_row V c r (λ n w. n.machine ≡ put (key.eq k) k w c.now.machine) (λ n. n.machine ≡ c.now.machine)
+  LendsPut c k r = LendsSoOk cache_row V c r (λ n w. Becomes key build hash (Put k w) (put (key.eq k) k w c.now.machine) c.now n) (λ n. Becomes key build hash (Try k None) c.now.machine c.now n)

@@ -9,6 +9,10 @@ pub record Counts : Type 0 where
   pub accesses : ℕ
   pub questions : ℕ
 
+-- nothing was counted
+abbrev pub uncounted : Counts
+uncounted = record { inspections = 0; accesses = 0; questions = 0 }
+
 abbrev pub counts_code : Coded Counts
 counts_code = code_by (ℕ × (ℕ × ℕ)) (coded× coded_ℕ (coded× coded_ℕ coded_ℕ)) (λ c. (c.inspections, (c.accesses, c.questions))) (λ p. record { inspections = p.0; accesses = p.1.0; questions = p.1.1 }) (λ _. refl)
 

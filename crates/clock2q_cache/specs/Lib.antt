@@ -4,12 +4,15 @@ pub mod Machine
 pub mod Calls
 pub mod Steps
 pub mod Bounds
+pub mod Costs
 pub mod Cache
 pub mod CacheFields
 pub mod CacheState
 pub mod Hashes
+pub mod Indexed
 pub mod CacheLends
 pub mod Closures
 pub mod Policies
 pub use Rattle.clock2q_queues.specs.Ages
 pub use Rattle.clock2q_queues.specs.Hand
+pub mod Insertions

@@ -64,6 +64,7 @@ impl<K: Hash + Eq + Drop, V: Drop, A: Allocator + Copy> Cache<K, V, DefaultHashB
     ghost use Rattle.std.specs.Prelude.{◌≡◌, ◌≢◌, ◌<◌, ◌↔◌, Err, IfOk, IsErrOf};
     ghost use Rattle.std.specs.NonZero.{non_zero_usize_get};
     ghost use Rattle.clock2q_cache.specs.Shares.{usual_shares};
+    ghost use Rattle.clock2q_cache.specs.CacheState.{uncounted};
     ghost use Rattle.clock2q_cache.specs.Machine.{empty};
 
     /// Makes an empty cache for `capacity` keys, and takes all the memory that it will ever use
@@ -73,6 +74,7 @@ impl<K: Hash + Eq + Drop, V: Drop, A: Allocator + Copy> Cache<K, V, DefaultHashB
     /// a request for memory is refused; what was taken before is given back.
     pub fn new(alloc: A, capacity: NonZeroUsize) -> Result<Self, CacheError>
         ensures made { IfOk result (λ cache. cache.machine ≡ empty (usual_shares (non_zero_usize_get capacity))) }
+        ensures counts { IfOk result (λ cache. cache.counts ≡ uncounted) }
         ensures capacity { IsErrOf result CacheError.Capacity ↔ (MAX_CAPACITY < non_zero_usize_get capacity) }
         ensures policy { result ≢ Err CacheError.Policy }
     {
@@ -85,11 +87,14 @@ impl<K: Hash + Eq + Drop, V: Drop, S: BuildHasher + Drop, A: Allocator + Copy> C
     ghost use Rattle.std.specs.NonZero.{non_zero_usize_get};
     ghost use Rattle.clock2q_cache.specs.Shares.{usual_shares};
     ghost use Rattle.clock2q_cache.specs.Policies.{IsPolicy, shares_of};
+    ghost use Rattle.clock2q_cache.specs.CacheState.{uncounted};
     ghost use Rattle.clock2q_cache.specs.Machine.{empty};
 
     /// Makes an empty cache as [`new`](Cache::new) does, with this hasher.
     pub fn with_hasher(alloc: A, capacity: NonZeroUsize, hasher: S) -> Result<Self, CacheError>
         ensures made { IfOk result (λ cache. cache.machine ≡ empty (usual_shares (non_zero_usize_get capacity))) }
+        ensures hasher { IfOk result (λ cache. cache.hasher ≡ hasher) }
+        ensures counts { IfOk result (λ cache. cache.counts ≡ uncounted) }
         ensures capacity { IsErrOf result CacheError.Capacity ↔ (MAX_CAPACITY < non_zero_usize_get capacity) }
         ensures policy { result ≢ Err CacheError.Policy }
     {
@@ -113,6 +118,8 @@ impl<K: Hash + Eq + Drop, V: Drop, S: BuildHasher + Drop, A: Allocator + Copy> C
         hasher: S,
     ) -> Result<Self, CacheError>
         ensures made { IfOk result (λ cache. cache.machine ≡ empty (shares_of (non_zero_usize_get capacity) small window)) }
+        ensures hasher { IfOk result (λ cache. cache.hasher ≡ hasher) }
+        ensures counts { IfOk result (λ cache. cache.counts ≡ uncounted) }
         ensures capacity { IsErrOf result CacheError.Capacity ↔ (MAX_CAPACITY < non_zero_usize_get capacity) }
         ensures policy { IsErrOf result CacheError.Policy ↔ ((non_zero_usize_get capacity ≤ MAX_CAPACITY) × ¬ IsPolicy (shares_of (non_zero_usize_get capacity) small window)) }
     {
@@ -129,6 +136,8 @@ impl<K: Hash + Eq + Drop, V: Drop, S: BuildHasher + Drop, A: Allocator + Copy> C
     fn with_shares(alloc: A, shares: Shares, hasher: S) -> Result<Self, CacheError>
         requires { shares.capacity ≤ MAX_CAPACITY }
         ensures made { IfOk result (λ cache. cache.machine ≡ empty shares) }
+        ensures hasher { IfOk result (λ cache. cache.hasher ≡ hasher) }
+        ensures counts { IfOk result (λ cache. cache.counts ≡ uncounted) }
         ensures only { IsOkUnless result CacheError.Memory }
     {
         let slots = shares.capacity();
@@ -156,8 +165,12 @@ impl<K: Hash + Eq, V, S: BuildHasher, A: Allocator> Cache<K, V, S, A> {
     ghost use Rattle.std.specs.Option.{option_copied, option_copied_mut};
     ghost use Rattle.std.specs.Borrow.{sem};
     ghost use Rattle.clock2q_cache.specs.Cache.{IsWhole};
+    ghost use Rattle.clock2q_handles.specs.Homes.{candidates};
+    ghost use Rattle.clock2q_cache.specs.Calls.{Get, GetAt};
     ghost use Rattle.clock2q_cache.specs.CacheLends.{LeavesMachine, LendsHit, LendsSlot};
+    ghost use Rattle.clock2q_cache.specs.Costs.{Spends};
     ghost use Rattle.clock2q_cache.specs.Hashes.{hash_of};
+    ghost use Rattle.clock2q_cache.specs.Indexed.{IsIndexed};
     ghost use Rattle.std.specs.Bool.{then_some};
     ghost use Rattle.std.specs.List.{list_any};
     ghost use Rattle.clock2q_cache.specs.Machine.{resident_count, slot_of, value_of, hit, forgotten};
@@ -175,7 +188,9 @@ impl<K: Hash + Eq, V, S: BuildHasher, A: Allocator> Cache<K, V, S, A> {
     pub fn len(&self) -> usize
         ensures count { result ≡ resident_count self.now.machine }
         ensures whole { IsWhole K.eq self.now.machine }
+        ensures indexed { IsIndexed K.Hash S.BuildHasher S.Hasher.Hasher self.now }
     {
+        let _ = self.history.len();
         self.queues.small_len() + self.queues.main_len()
     }
 
@@ -207,7 +222,7 @@ impl<K: Hash + Eq, V, S: BuildHasher, A: Allocator> Cache<K, V, S, A> {
     ///
     /// Returns `None` and changes nothing if the key isn't resident.
     pub fn get(&mut self, key: &K) -> Option<&V>
-        ensures* machine { sem 𝓛 (LeavesMachine K.row V.row S.row A.row S.Hasher.row K.Hash S.BuildHasher S.Hasher.Hasher A.Allocator self.entry (hit (K.eq key.now) self.old.machine)) }
+        ensures* machine { sem 𝓛 (LeavesMachine K.row V.row S.row A.row S.Hasher.row K.Hash S.BuildHasher S.Hasher.Hasher A.Allocator self.entry (Get key.now) (hit (K.eq key.now) self.old.machine)) }
         ensures value { option_copied result ≡ value_of (K.eq key.now) self.old.machine }
     {
         let hash = self.hash(key);
@@ -221,7 +236,7 @@ impl<K: Hash + Eq, V, S: BuildHasher, A: Allocator> Cache<K, V, S, A> {
     ///
     /// Returns `None` and changes nothing if the key isn't resident there, whatever the number.
     pub fn get_at(&mut self, slot: usize, key: &K) -> Option<&V>
-        ensures* machine { sem 𝓛 (LeavesMachine K.row V.row S.row A.row S.Hasher.row K.Hash S.BuildHasher S.Hasher.Hasher A.Allocator self.entry (hit_at slot (K.eq key.now) self.old.machine)) }
+        ensures* machine { sem 𝓛 (LeavesMachine K.row V.row S.row A.row S.Hasher.row K.Hash S.BuildHasher S.Hasher.Hasher A.Allocator self.entry (GetAt slot key.now) (hit_at slot (K.eq key.now) self.old.machine)) }
         ensures value { option_copied result ≡ value_at slot (K.eq key.now) self.old.machine }
     {
         let found = self.find_at(slot, key)?;
@@ -234,7 +249,7 @@ impl<K: Hash + Eq, V, S: BuildHasher, A: Allocator> Cache<K, V, S, A> {
     ///
     /// Returns `None` and changes nothing if the key isn't resident.
     pub fn get_mut(&mut self, key: &K) -> Option<&mut V>
-        ensures* writes_back { sem 𝓛 (LendsHit K.row V.row S.row A.row S.Hasher.row K.Hash S.BuildHasher S.Hasher.Hasher A.Allocator self.entry (K.eq key.now) result) }
+        ensures* writes_back { sem 𝓛 (LendsHit K.row V.row S.row A.row S.Hasher.row K.Hash S.BuildHasher S.Hasher.Hasher A.Allocator self.entry key.now result) }
         ensures value { option_copied_mut result ≡ value_of (K.eq key.now) self.old.machine }
         ensures missed { IfNone result (slot_of (K.eq key.now) self.old.machine ≡ None) }
     {
@@ -259,6 +274,8 @@ impl<K: Hash + Eq, V, S: BuildHasher, A: Allocator> Cache<K, V, S, A> {
         ensures found { IfSome result (λ found. slot_of (K.eq key.now) self.old.machine ≡ Some found) }
         ensures made { IfSome result (λ found. found < length self.old.machine.values) }
         ensures machine { self.new.machine ≡ self.old.machine }
+        ensures kept { self.new ≡ record self.old { counts = self.new.counts } }
+        ensures counts { Spends 0 1 1 self.old.counts self.new.counts }
     {
         if slot >= self.keys.len() {
             return None;
@@ -296,6 +313,8 @@ impl<K: Hash + Eq, V, S: BuildHasher, A: Allocator> Cache<K, V, S, A> {
         ensures machine { self.new.machine ≡ self.old.machine }
         ensures whole { IsWhole K.eq self.old.machine }
         ensures hasher { self.new.hasher ≡ self.old.hasher }
+        ensures kept { self.new ≡ record self.old { counts = self.new.counts } }
+        ensures counts { Spends 0 0 (length (candidates self.old.residents hash)) self.old.counts self.new.counts }
     {
         self.keys.find(self.index.get(hash), key)
     }
@@ -304,6 +323,7 @@ impl<K: Hash + Eq, V, S: BuildHasher, A: Allocator> Cache<K, V, S, A> {
     fn record_hit(&mut self, slot: u32, key: &K)
         requires { slot_of (K.eq key.now) self.old.machine ≡ Some slot }
         ensures machine { self.new.machine ≡ hit (K.eq key.now) self.old.machine }
+        ensures kept { self.new ≡ record self.old { machine = self.new.machine } }
     {
         let _ = key;
         self.queues.hit(slot);
@@ -315,6 +335,8 @@ impl<K: Hash + Eq, V, S: BuildHasher, A: Allocator> Cache<K, V, S, A> {
         ensures known { result ≡ list_any (K.eq key.now) self.old.machine.history }
         ensures machine { self.new.machine ≡ forgotten (K.eq key.now) self.old.machine }
         ensures hasher { self.new.hasher ≡ self.old.hasher }
+        ensures residents { self.new.residents ≡ self.old.residents }
+        ensures counts { Spends 0 7 (length (candidates self.old.remembered hash)) self.old.counts self.new.counts }
     {
         self.history.discard(hash, key)
     }
@@ -330,6 +352,8 @@ impl<K: Hash + Eq, V, S: BuildHasher, A: Allocator> Cache<K, V, S, A> {
 
 impl<K: Hash + Eq + Drop, V: Drop, S: BuildHasher, A: Allocator> Cache<K, V, S, A> {
     ghost use Rattle.std.specs.Prelude.{◌≡◌, ◌<◌, length, slice_get, Some};
+    ghost use Rattle.clock2q_cache.specs.Calls.{Put};
+    ghost use Rattle.clock2q_cache.specs.Costs.{Costs};
     ghost use Rattle.clock2q_cache.specs.Machine.{value_of, stored};
     ghost use Rattle.clock2q_cache.specs.Steps.{put};
 
@@ -342,6 +366,8 @@ impl<K: Hash + Eq + Drop, V: Drop, S: BuildHasher, A: Allocator> Cache<K, V, S, 
         ensures value { result ≡ value_of (K.eq key) self.old.machine }
         ensures machine { self.new.machine ≡ put (K.eq key) key value self.old.machine }
         ensures resident { value_of (K.eq key) self.new.machine ≡ Some value }
+        ensures hasher { self.new.hasher ≡ self.old.hasher }
+        ensures costs { Costs K.Hash S.BuildHasher S.Hasher.Hasher (Put key value) self.old self.new }
     {
         let hash = self.hash(&key);
         let Some(slot) = self.find(hash, &key) else {
@@ -357,6 +383,7 @@ impl<K: Hash + Eq + Drop, V: Drop, S: BuildHasher, A: Allocator> Cache<K, V, S, 
         requires { slot < length self.old.machine.values }
         ensures value { slice_get self.old.machine.values slot ≡ Some result }
         ensures machine { self.new.machine ≡ stored slot value self.old.machine }
+        ensures kept { self.new ≡ record self.old { machine = self.new.machine } }
     {
         self.keys.replace_value(slot, value)
     }

@@ -2,6 +2,7 @@ pub mod Answering
 pub mod Calling
 pub mod Cutting
 pub mod Decimals
+pub mod Fetching
 pub mod Hashing
 pub mod InTurn
 pub mod Listing

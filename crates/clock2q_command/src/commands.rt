@@ -1,8 +1,10 @@
 //! Commands to a cache as data, their replies, and the run of a list of them.
-ghost use Rattle.std.specs.Prelude.{◌≡◌, ◌<◌, IfOk, IfErr, OnOk, OnErr, true, drop, get_or, length, map};
+ghost use Rattle.std.specs.Prelude.{◌≡◌, ◌+◌, ◌<◌, IfOk, IfErr, OnOk, OnErr, true, drop, get_or, length, map};
 ghost use Rattle.clock2q_command.specs.Commands.{call_of, answer_of, IsSupplied, AreSupplied};
+ghost use Rattle.clock2q_cache.specs.Bounds.{inspections_for, inspections_of, summed, IsRunBounded};
+ghost use Rattle.clock2q_cache.specs.Calls.{Try};
 ghost use Rattle.clock2q_cache.specs.Machine.{value_of};
-ghost use Rattle.clock2q_cache.specs.Steps.{answer, after, answers, after_all, replaced, retained, prefilled_with};
+ghost use Rattle.clock2q_cache.specs.Steps.{answer, after, answers, after_all, replaced, fetched, fetched_value, tried, tried_value, retained, prefilled_with};
 
 use clock2q_cache::{Cache, CacheError};
 use std::alloc::{Allocator, Global};
@@ -90,8 +92,10 @@ where
     requires prefills { AreSupplied (map call_of commands.items) }
     ensures replies { IfOk result (λ replies. map answer_of replies.items ≡ answers K.eq (map call_of commands.items) cache.old.machine) }
     ensures machine { OnOk result (cache.new.machine ≡ after_all K.eq (map call_of commands.items) cache.old.machine) }
+    ensures inspections { OnOk result (cache.new.counts.inspections ≡ cache.old.counts.inspections + summed K.eq (inspections_of K.eq) (map call_of commands.items) cache.old.machine) }
+    ensures clock { OnOk result (IsRunBounded K.eq (map call_of commands.items) cache.old.machine) }
     ensures memory { IfErr result (λ e. e ≡ CacheError.Memory) }
-    ensures unchanged { OnErr result (cache.new.machine ≡ cache.old.machine) }
+    ensures unchanged { OnErr result (cache.new ≡ cache.old) }
 {
     let mut replies = Vec::with_capacity(alloc, commands.len())?;
     for command in commands {
@@ -110,6 +114,7 @@ where
     requires prefill { IsSupplied (call_of command) }
     ensures reply { answer_of result ≡ answer K.eq (call_of command) cache.old.machine }
     ensures machine { cache.new.machine ≡ after K.eq (call_of command) cache.old.machine }
+    ensures inspections { cache.new.counts.inspections ≡ cache.old.counts.inspections + inspections_of K.eq (call_of command) cache.old.machine }
 {
     match command {
         Command::Put(key, value) => Reply::Value(cache.put(key, value)),
@@ -118,7 +123,9 @@ where
         Command::Contains(key) => Reply::Flag(cache.contains(&key)),
         Command::GetAt(slot, key) => Reply::Value(cache.get_at(slot, &key).copied()),
         Command::Set(key, value) => Reply::Value(set(cache, &key, value)),
-        Command::With(..) | Command::Try(..) | Command::Slot(..) => unreachable!(),
+        Command::With(key, value) => Reply::Stored(fetch(cache, key, value)),
+        Command::Try(key, offered) => Reply::Tried(try_fetch(cache, key, offered)),
+        Command::Slot(..) => unreachable!(),
         Command::Remove(key) => Reply::Flag(cache.remove(&key)),
         Command::Retain(bits) => {
             retain(cache, &bits);
@@ -147,11 +154,43 @@ where
     A: Allocator,
     ensures value { result ≡ value_of (K.eq key.now) cache.old.machine }
     ensures machine { cache.new.machine ≡ replaced (K.eq key.now) value cache.old.machine }
+    ensures inspections { cache.new.counts.inspections ≡ cache.old.counts.inspections }
 {
     let place = cache.get_mut(key)?;
     let before = *place;
     *place = value;
     Some(before)
+}
+
+/// Returns the value of a key, which is inserted with this one if it isn't resident.
+fn fetch<K, V, S, A>(cache: &mut Cache<K, V, S, A>, key: K, value: V) -> V
+where
+    K: Hash + Eq + Drop,
+    V: Copy,
+    S: BuildHasher,
+    A: Allocator,
+    ensures value { result ≡ fetched_value (value_of (K.eq key) cache.old.machine) value }
+    ensures machine { cache.new.machine ≡ fetched (K.eq key) key value cache.old.machine }
+    ensures inspections { cache.new.counts.inspections ≡ cache.old.counts.inspections + inspections_for (K.eq key) cache.old.machine }
+{
+    *cache.get_or_insert_with(key, || value)
+}
+
+/// The same with a value that may be missing. Then a key that isn't resident is not inserted.
+fn try_fetch<K, V, S, A>(cache: &mut Cache<K, V, S, A>, key: K, offered: Option<V>) -> Option<V>
+where
+    K: Hash + Eq + Drop,
+    V: Copy,
+    S: BuildHasher,
+    A: Allocator,
+    ensures value { result ≡ tried_value (value_of (K.eq key) cache.old.machine) offered }
+    ensures machine { cache.new.machine ≡ tried (K.eq key) key offered cache.old.machine }
+    ensures inspections { cache.new.counts.inspections ≡ cache.old.counts.inspections + inspections_of K.eq (Try key offered) cache.old.machine }
+{
+    match cache.try_get_or_insert_with_mut(key, || offered.ok_or(())) {
+        Ok(value) => Some(*value),
+        Err(()) => None,
+    }
 }
 
 /// Keeps the residents whose bit is true, and those past the end of the bits.
@@ -161,6 +200,7 @@ where
     S: BuildHasher,
     A: Allocator,
     ensures machine { cache.new.machine ≡ retained bits.now cache.old.machine }
+    ensures inspections { cache.new.counts.inspections ≡ cache.old.counts.inspections }
 {
     let mut rest = bits;
     cache.retain(
@@ -188,6 +228,7 @@ where
     A: Allocator,
     requires some { 0 < length values.now }
     ensures machine { cache.new.machine ≡ prefilled_with values.now cache.old.machine }
+    ensures inspections { cache.new.counts.inspections ≡ cache.old.counts.inspections }
 {
     let mut rest = values;
     let mut last = values[0];

@@ -3,13 +3,11 @@
 use crate::refusing::Refusing;
 use clock2q::command::{Command, Device, Reply, ServeError, run, serve};
 use clock2q::{Cache, CacheError, DefaultHashBuilder};
-use std::alloc::{AllocError, Global};
+use std::alloc::Global;
 use std::num::NonZeroUsize;
 use std::test::Fail;
 
 type RefusedCache<'a> = Cache<u64, u64, DefaultHashBuilder, &'a Refusing<Global>>;
-
-type Commands<'a> = Vec<Command<u64, u64>, &'a Refusing<Global>>;
 
 // More requests than any of the calls makes.
 const MANY: u64 = 100;
@@ -58,54 +56,47 @@ fn nothing_asked_after_construction(rt: HostRuntime) -> Result<(), Fail> {
     Ok(())
 }
 
-// Four keys, of which two are hit.
-const FIRST: [Command<u64, u64>; 6] = [
-    Command::Put(1, 1),
-    Command::Put(2, 2),
-    Command::Put(3, 3),
-    Command::Put(4, 4),
-    Command::Get(4),
-    Command::Get(3),
+// What a run replies, once four keys were put and two of them hit.
+const REPLIES_THEN: [Reply<u64>; 9] = [
+    Reply::Value(None),
+    Reply::Value(None),
+    Reply::Value(None),
+    Reply::Value(None),
+    Reply::Value(None),
+    Reply::Value(None),
+    Reply::Value(Some(3)),
+    Reply::Value(Some(4)),
+    Reply::Number(4),
 ];
-
-const THEN: [(Command<u64, u64>, Reply<u64>); 9] = [
-    (Command::Put(5, 5), Reply::Value(None)),
-    (Command::Put(1, 1), Reply::Value(None)),
-    (Command::Put(6, 6), Reply::Value(None)),
-    (Command::Put(5, 5), Reply::Value(None)),
-    (Command::Peek(1), Reply::Value(None)),
-    (Command::Peek(2), Reply::Value(None)),
-    (Command::Peek(3), Reply::Value(Some(3))),
-    (Command::Peek(4), Reply::Value(Some(4))),
-    (Command::Len, Reply::Number(4)),
-];
-
-fn first(alloc: &Refusing<Global>) -> Result<Commands<'_>, AllocError> {
-    let mut commands = Vec::new(alloc);
-    for command in FIRST {
-        commands.push(command)?;
-    }
-    Ok(commands)
-}
-
-fn then(alloc: &Refusing<Global>) -> Result<Commands<'_>, AllocError> {
-    let mut commands = Vec::new(alloc);
-    for (command, _) in THEN {
-        commands.push(command)?;
-    }
-    Ok(commands)
-}
 
 #[test]
 fn runs(rt: HostRuntime) -> Result<(), Fail> {
     let alloc = Refusing::new(rt.alloc());
     let mut cache = new_cache(&alloc, 4)?;
-    run(&alloc, &mut cache, first(&alloc)?)?;
+    let commands = vec![in &alloc;
+        Command::Put(1, 1),
+        Command::Put(2, 2),
+        Command::Put(3, 3),
+        Command::Put(4, 4),
+        Command::Get(4),
+        Command::Get(3),
+    ]?;
+    run(&alloc, &mut cache, commands)?;
     let held = alloc.held();
     let mut enough = 0;
     for granted in 0..MANY {
         alloc.grant();
-        let commands = then(&alloc)?;
+        let commands = vec![in &alloc;
+            Command::Put(5, 5),
+            Command::Put(1, 1),
+            Command::Put(6, 6),
+            Command::Put(5, 5),
+            Command::Peek(1),
+            Command::Peek(2),
+            Command::Peek(3),
+            Command::Peek(4),
+            Command::Len,
+        ]?;
         alloc.refuse_after(granted);
         match run(&alloc, &mut cache, commands) {
             Err(error) => {
@@ -114,9 +105,7 @@ fn runs(rt: HostRuntime) -> Result<(), Fail> {
             }
             Ok(replies) => {
                 enough = granted;
-                for (reply, (command, expected)) in replies.into_iter().zip(THEN) {
-                    assert_eq!(rt; reply, expected, "{command:?}");
-                }
+                assert_eq!(rt; replies.as_slice(), REPLIES_THEN.as_slice());
                 break;
             }
         }

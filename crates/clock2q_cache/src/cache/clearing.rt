@@ -6,6 +6,8 @@ use std::hash::{BuildHasher, Hash};
 
 impl<K: Hash + Eq + Drop, V: Drop, S: BuildHasher, A: Allocator> Cache<K, V, S, A> {
     ghost use Rattle.std.specs.Prelude.{◌≡◌};
+    ghost use Rattle.clock2q_cache.specs.Calls.{Clear};
+    ghost use Rattle.clock2q_cache.specs.Costs.{Costs};
     ghost use Rattle.clock2q_cache.specs.Machine.{cleared};
 
     /// Removes every key and every value, and what is remembered of keys that were evicted. The
@@ -13,6 +15,7 @@ impl<K: Hash + Eq + Drop, V: Drop, S: BuildHasher, A: Allocator> Cache<K, V, S, 
     pub fn clear(&mut self)
         ensures machine { self.new.machine ≡ cleared self.old.machine }
         ensures hasher { self.new.hasher ≡ self.old.hasher }
+        ensures costs { Costs K.Hash S.BuildHasher S.Hasher.Hasher Clear self.old self.new }
     {
         empty(&mut self.index, &mut self.keys);
         self.queues.clear();

@@ -4,11 +4,14 @@ use std::alloc::Allocator;
 use std::hash::{BuildHasher, Hash};
 
 impl<K: Hash + Eq + Drop, V: Drop, S: BuildHasher, A: Allocator> Cache<K, V, S, A> {
-    ghost use Rattle.std.specs.Prelude.{◌≡◌, ◌<◌, length, None, Ok, Err, IfOk, IfErr, OnErr};
+    ghost use Rattle.std.specs.Prelude.{◌≡◌, ◌+◌, ◌<◌, length, None, Ok, Err, IfOk, IfErr, OnOk, OnErr};
     ghost use Rattle.std.specs.Option.{UnwrapsOrElse};
     ghost use Rattle.std.specs.Borrow.{sem};
+    ghost use Rattle.clock2q_cache.specs.Bounds.{inspections_for};
+    ghost use Rattle.clock2q_cache.specs.Calls.{With};
     ghost use Rattle.clock2q_cache.specs.CacheLends.{LeavesMachine, LendsPut};
     ghost use Rattle.clock2q_cache.specs.Closures.{Fetches};
+    ghost use Rattle.clock2q_cache.specs.Costs.{Spends, alike};
     ghost use Rattle.clock2q_cache.specs.Machine.{slot_of, value_of};
     ghost use Rattle.clock2q_cache.specs.Steps.{put, fetched};
 
@@ -18,7 +21,7 @@ impl<K: Hash + Eq + Drop, V: Drop, S: BuildHasher, A: Allocator> Cache<K, V, S, 
     /// `f` isn't called where the key is resident, and else before anything changes.
     pub fn get_or_insert_with<F: FnOnce() -> V>(&mut self, key: K, f: F) -> &V
         requires { slot_of (K.eq key) self.old.machine ≡ None → F.pre f }
-        ensures* machine { sem 𝓛 (LeavesMachine K.row V.row S.row A.row S.Hasher.row K.Hash S.BuildHasher S.Hasher.Hasher A.Allocator self.entry (fetched (K.eq key) key result.now self.old.machine)) }
+        ensures* machine { sem 𝓛 (LeavesMachine K.row V.row S.row A.row S.Hasher.row K.Hash S.BuildHasher S.Hasher.Hasher A.Allocator self.entry (With key result.now) (fetched (K.eq key) key result.now self.old.machine)) }
         ensures value { UnwrapsOrElse (value_of (K.eq key) self.old.machine) (F.post f) result.now }
     {
         let slot = self.find_or_insert(key, f);
@@ -72,6 +75,8 @@ impl<K: Hash + Eq + Drop, V: Drop, S: BuildHasher, A: Allocator> Cache<K, V, S, 
         requires { slot_of (K.eq key) self.old.machine ≡ None → F.pre f }
         ensures fetched { Fetches (K.eq key) key (F.post f) self.old.machine result self.new.machine }
         ensures made { result < length self.new.machine.values }
+        ensures hasher { self.new.hasher ≡ self.old.hasher }
+        ensures counts { let looks = inspections_for (K.eq key) self.old.machine in Spends looks (looks + 80) (alike K.Hash S.BuildHasher S.Hasher.Hasher key self.old) self.old.counts self.new.counts }
     {
         let hash = self.hash(&key);
         if let Some(slot) = self.find(hash, &key) {
@@ -90,6 +95,9 @@ impl<K: Hash + Eq + Drop, V: Drop, S: BuildHasher, A: Allocator> Cache<K, V, S, 
         ensures err { IfErr result (λ e. F.post f (Err e)) }
         ensures absent { OnErr result (slot_of (K.eq key) self.old.machine ≡ None) }
         ensures machine { OnErr result (self.new.machine ≡ self.old.machine) }
+        ensures hasher { self.new.hasher ≡ self.old.hasher }
+        ensures counts { OnOk result (let looks = inspections_for (K.eq key) self.old.machine in Spends looks (looks + 80) (alike K.Hash S.BuildHasher S.Hasher.Hasher key self.old) self.old.counts self.new.counts) }
+        ensures asked { OnErr result (Spends 0 0 (alike K.Hash S.BuildHasher S.Hasher.Hasher key self.old) self.old.counts self.new.counts) }
     {
         let hash = self.hash(&key);
         if let Some(slot) = self.find(hash, &key) {

@@ -6,12 +6,17 @@ use std::alloc::Allocator;
 use std::hash::{BuildHasher, Hash};
 
 impl<K: Hash + Eq + Drop, V: Drop, S: BuildHasher, A: Allocator> Cache<K, V, S, A> {
-    ghost use Rattle.std.specs.Prelude.{◌≡◌, ◌==◌, ◌<◌, ◌≤◌, length, true, false, None, IfSome, is_some};
+    ghost use Rattle.std.specs.Prelude.{◌≡◌, ◌==◌, ◌+◌, ◌<◌, ◌≤◌, length, true, false, None, IfSome, is_some};
     ghost use Rattle.std.specs.List.{last_or};
     ghost use Rattle.clock2q_cache.specs.Shares.{main_share};
     ghost use Rattle.clock2q_queues.specs.Ages.{is_promoted};
     ghost use Rattle.clock2q_cache.specs.Cache.{IsWhole, known_count};
+    ghost use Rattle.clock2q_handles.specs.Homes.{candidates};
+    ghost use Rattle.clock2q_cache.specs.Bounds.{inspections_for};
+    ghost use Rattle.clock2q_cache.specs.Costs.{Spends};
+    ghost use Rattle.clock2q_cache.specs.Entries.{inspections};
     ghost use Rattle.clock2q_cache.specs.Hashes.{hash_of};
+    ghost use Rattle.clock2q_cache.specs.Insertions.{main_looks, small_looks};
     ghost use Rattle.clock2q_cache.specs.Machine.{slot_of, vacancy, goes_to_main, into_main, into_small, forgotten, placement, inserted, stored};
 
     /// Inserts a key that is not resident.
@@ -20,6 +25,8 @@ impl<K: Hash + Eq + Drop, V: Drop, S: BuildHasher, A: Allocator> Cache<K, V, S, 
         requires absent { slot_of (K.eq key) self.old.machine ≡ None }
         ensures slot { result ≡ (placement (K.eq key) key self.old.machine).slot }
         ensures machine { self.new.machine ≡ inserted (K.eq key) key value self.old.machine }
+        ensures hasher { self.new.hasher ≡ self.old.hasher }
+        ensures counts { Spends (inspections_for (K.eq key) self.old.machine) (inspections_for (K.eq key) self.old.machine + 80) (length (candidates self.old.remembered hash)) self.old.counts self.new.counts }
     {
         let known = self.forget(hash, &key);
         if self.admits_to_main(known) {
@@ -51,6 +58,8 @@ impl<K: Hash + Eq + Drop, V: Drop, S: BuildHasher, A: Allocator> Cache<K, V, S, 
         requires absent { known_count (K.eq key) self.old.machine ≡ 0 }
         ensures slot { result ≡ (into_main key self.old.machine).slot }
         ensures machine { self.new.machine ≡ (let p = into_main key self.old.machine in stored p.slot value p.machine) }
+        ensures hasher { self.new.hasher ≡ self.old.hasher }
+        ensures counts { Spends (main_looks self.old.machine) (main_looks self.old.machine + 28) 0 self.old.counts self.new.counts }
     {
         if self.queues.main_len() == self.shares.main() {
             self.replace_victim(hash, key, value)
@@ -66,6 +75,8 @@ impl<K: Hash + Eq + Drop, V: Drop, S: BuildHasher, A: Allocator> Cache<K, V, S, 
         requires full { length self.old.machine.main ≡ main_share self.old.machine.shares }
         ensures slot { result ≡ (into_main key self.old.machine).slot }
         ensures machine { self.new.machine ≡ (let p = into_main key self.old.machine in stored p.slot value p.machine) }
+        ensures hasher { self.new.hasher ≡ self.old.hasher }
+        ensures counts { Spends (inspections self.old.machine.main) (inspections self.old.machine.main + 28) 0 self.old.counts self.new.counts }
     {
         let victim = self.queues.take_victim();
         renew(&mut self.index, &mut self.keys, victim, hash, key, value);
@@ -80,6 +91,8 @@ impl<K: Hash + Eq + Drop, V: Drop, S: BuildHasher, A: Allocator> Cache<K, V, S, 
         requires room { length self.old.machine.main < main_share self.old.machine.shares }
         ensures slot { result ≡ (into_main key self.old.machine).slot }
         ensures machine { self.new.machine ≡ (let p = into_main key self.old.machine in stored p.slot value p.machine) }
+        ensures hasher { self.new.hasher ≡ self.old.hasher }
+        ensures counts { Spends 0 28 0 self.old.counts self.new.counts }
     {
         let slot = take_vacancy(&mut self.free, self.keys.len());
         enter(&mut self.index, &mut self.keys, slot, hash, key, value);
@@ -94,6 +107,8 @@ impl<K: Hash + Eq + Drop, V: Drop, S: BuildHasher, A: Allocator> Cache<K, V, S, 
         requires small { goes_to_main false self.old.machine ≡ false }
         ensures slot { result ≡ (into_small key self.old.machine).slot }
         ensures machine { self.new.machine ≡ (let p = into_small key self.old.machine in stored p.slot value p.machine) }
+        ensures hasher { self.new.hasher ≡ self.old.hasher }
+        ensures counts { Spends (small_looks self.old.machine) (small_looks self.old.machine + 29) 0 self.old.counts self.new.counts }
     {
         if self.has_vacancy() {
             self.join_small(hash, key, value)
@@ -112,6 +127,8 @@ impl<K: Hash + Eq + Drop, V: Drop, S: BuildHasher, A: Allocator> Cache<K, V, S, 
         requires vacant { is_some (vacancy self.old.machine) ≡ true }
         ensures slot { result ≡ (into_small key self.old.machine).slot }
         ensures machine { self.new.machine ≡ (let p = into_small key self.old.machine in stored p.slot value p.machine) }
+        ensures hasher { self.new.hasher ≡ self.old.hasher }
+        ensures counts { Spends 0 28 0 self.old.counts self.new.counts }
     {
         let slot = take_vacancy(&mut self.free, self.keys.len());
         enter(&mut self.index, &mut self.keys, slot, hash, key, value);
@@ -125,6 +142,7 @@ impl<K: Hash + Eq + Drop, V: Drop, S: BuildHasher, A: Allocator> Cache<K, V, S, 
         ensures value { IfSome (last_or None self.old.machine.small) (λ tail. result ≡ is_promoted tail.age) }
         ensures machine { self.new.machine ≡ self.old.machine }
         ensures hasher { self.new.hasher ≡ self.old.hasher }
+        ensures counts { Spends 0 1 0 self.old.counts self.new.counts }
     {
         self.queues.tail_is_promoted()
     }
@@ -138,6 +156,8 @@ impl<K: Hash + Eq + Drop, V: Drop, S: BuildHasher, A: Allocator> Cache<K, V, S, 
         requires out { IfSome (last_or None self.old.machine.small) (λ tail. is_promoted tail.age ≡ false) }
         ensures slot { result ≡ (into_small key self.old.machine).slot }
         ensures machine { self.new.machine ≡ (let p = into_small key self.old.machine in stored p.slot value p.machine) }
+        ensures hasher { self.new.hasher ≡ self.old.hasher }
+        ensures counts { Spends 0 28 0 self.old.counts self.new.counts }
     {
         let Some(tail) = self.queues.take_tail() else {
             unreachable!()
@@ -157,6 +177,8 @@ impl<K: Hash + Eq + Drop, V: Drop, S: BuildHasher, A: Allocator> Cache<K, V, S, 
         requires on { IfSome (last_or None self.old.machine.small) (λ tail. is_promoted tail.age ≡ true) }
         ensures slot { result ≡ (into_small key self.old.machine).slot }
         ensures machine { self.new.machine ≡ (let p = into_small key self.old.machine in stored p.slot value p.machine) }
+        ensures hasher { self.new.hasher ≡ self.old.hasher }
+        ensures counts { Spends (inspections self.old.machine.main) (inspections self.old.machine.main + 28) 0 self.old.counts self.new.counts }
     {
         let victim = self.queues.take_victim();
         let Some(tail) = self.queues.take_tail() else {

@@ -6,8 +6,10 @@ use std::alloc::Allocator;
 use std::hash::{BuildHasher, Hash};
 
 impl<K: Hash + Eq, V, S: BuildHasher, A: Allocator> Cache<K, V, S, A> {
-    ghost use Rattle.std.specs.Prelude.{◌≡◌, IsTrue, ◌↔◌, IsSome, ◌<◌, length, Some, is_some};
+    ghost use Rattle.std.specs.Prelude.{◌≡◌, IsTrue, ◌↔◌, IsSome, ◌<◌, length, Some, is_some, List, Bool};
+    ghost use Rattle.clock2q_cache.specs.Calls.{Remove, Retain};
     ghost use Rattle.clock2q_cache.specs.Closures.{Retains};
+    ghost use Rattle.clock2q_cache.specs.Costs.{Spends, Costs};
     ghost use Rattle.clock2q_cache.specs.Hashes.{hash_of};
     ghost use Rattle.clock2q_cache.specs.Machine.{slot_of, resident_at, vacated, removed};
 
@@ -18,6 +20,8 @@ impl<K: Hash + Eq, V, S: BuildHasher, A: Allocator> Cache<K, V, S, A> {
     pub fn remove(&mut self, key: &K) -> bool
         ensures found { IsTrue result ↔ IsSome (slot_of (K.eq key.now) self.old.machine) }
         ensures machine { self.new.machine ≡ removed (K.eq key.now) self.old.machine }
+        ensures hasher { self.new.hasher ≡ self.old.hasher }
+        ensures costs { Costs K.Hash S.BuildHasher S.Hasher.Hasher (Remove key.now) self.old self.new }
     {
         let hash = self.hash(key);
         let Some(slot) = self.find(hash, key) else {
@@ -35,6 +39,8 @@ impl<K: Hash + Eq, V, S: BuildHasher, A: Allocator> Cache<K, V, S, A> {
     pub fn retain<F: FnMut(&K, &V) -> bool>(&mut self, mut keep: F)
         requires { F.IsAlwaysCallable keep }
         ensures retained { Retains F.FnMut keep self.old.machine self.new.machine }
+        ensures hasher { self.new.hasher ≡ self.old.hasher }
+        ensures costs { (bits : List Bool) → Costs K.Hash S.BuildHasher S.Hasher.Hasher (Retain bits) self.old self.new }
     {
         for slot in 0..self.made() {
             if self.is_resident(slot) {
@@ -59,6 +65,7 @@ impl<K: Hash + Eq, V, S: BuildHasher, A: Allocator> Cache<K, V, S, A> {
         ensures resident { result ≡ is_some (resident_at self.old.machine slot) }
         ensures machine { self.new.machine ≡ self.old.machine }
         ensures hasher { self.new.hasher ≡ self.old.hasher }
+        ensures counts { Spends 0 1 0 self.old.counts self.new.counts }
     {
         !matches!(self.queues.standing(slot), Standing::Free)
     }
@@ -76,6 +83,7 @@ impl<K: Hash + Eq, V, S: BuildHasher, A: Allocator> Cache<K, V, S, A> {
         requires { IsSome (resident_at self.old.machine slot) }
         ensures machine { self.new.machine ≡ vacated slot self.old.machine }
         ensures hasher { self.new.hasher ≡ self.old.hasher }
+        ensures counts { Spends 0 8 0 self.old.counts self.new.counts }
     {
         self.index.remove(self.keys.hash(slot), slot);
         self.queues.leave(slot);

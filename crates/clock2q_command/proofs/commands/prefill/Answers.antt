@@ -1,7 +1,10 @@
 -- The values were asked for in turn.
-use Rattle.std.proofs.Common.{rules}
+use Rattle.std.proofs.Common.{rules, arith, []}
 use Rattle.clock2q_command.proofs.InTurn.{prefilled-given}
 use Rattle.clock2q_command.proofs.commands.prefill.Goals as goal
 
 pub returns : goal.returns
-returns g c = record { machine = prefilled-given _ (λ f. f.0.now) (λ f. f.1) (λ f v f' called. search rules) _ _ _ c.requires.some c.prefill.ensures.made }
+returns g c = record {
+  machine = prefilled-given _ (λ f. f.0.now) (λ f. f.1) (λ f v f' called. search rules) _ _ _ c.requires.some c.prefill.ensures.made;
+  inspections = omega (arith, (c.prefill.ensures.costs []).counts.inspections);
+}

@@ -1,7 +1,8 @@
--- The replies so far and those to what is left are those to all, and there is room for them; and what is left brings its values.
+-- The replies so far and those to what is left are those to all, and there is room for them; so are the looks of the hand; and what is left brings its values.
 use Rattle.std.proofs.Common.{◌≡◌, ◌+◌, ◌≤◌, ◌++◌, map, length, vec_len, vec_capacity}
 use Rattle.std.specs.Vec.Iter.{into_iter_items}
 use Rattle.clock2q_command.specs.Commands.{call_of, answer_of, AreSupplied}
+use Rattle.clock2q_cache.specs.Bounds.{summed, inspections_of}
 use Rattle.clock2q_cache.specs.Steps.{answers, after_all}
 use Rattle.clock2q_command.proofs.commands.run.Given as goal
 
@@ -11,6 +12,7 @@ invariant-loop-command g l = record {
   ends : (goal.iterator-loop-command g).is_finite l.command-iterator;
   told : map answer_of l.replies.items ++ answers g.K.PartialEq.eq (map call_of (into_iter_items l.command-iterator)) l.cache.machine ≡ answers g.K.PartialEq.eq (map call_of l.fn.commands.items) l.fn.cache.machine;
   rest : after_all g.K.PartialEq.eq (map call_of (into_iter_items l.command-iterator)) l.cache.machine ≡ after_all g.K.PartialEq.eq (map call_of l.fn.commands.items) l.fn.cache.machine;
+  looked : l.cache.counts.inspections + summed g.K.PartialEq.eq (inspections_of g.K.PartialEq.eq) (map call_of (into_iter_items l.command-iterator)) l.cache.machine ≡ l.fn.cache.counts.inspections + summed g.K.PartialEq.eq (inspections_of g.K.PartialEq.eq) (map call_of l.fn.commands.items) l.fn.cache.machine;
   supplied : AreSupplied (map call_of (into_iter_items l.command-iterator));
   room : vec_len l.replies + length (into_iter_items l.command-iterator) ≤ vec_capacity l.replies;
 }

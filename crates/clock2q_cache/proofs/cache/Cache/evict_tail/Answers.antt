@@ -13,6 +13,7 @@ use Rattle.clock2q_cache.specs.CacheState.{CacheState}
 use Rattle.clock2q_cache.proofs.Kept.{IsDone, length_in_small, length_in_main}
 use Rattle.clock2q_cache.proofs.Stored.{hash-of-key}
 use Rattle.clock2q_cache.proofs.Renewed.{resident-there, slot-below, no-tail, all-taken, front, tail-in, tail-not_in_front, tail-not_in_main, tail-unremembered, evicted-done}
+use Rattle.clock2q_cache.proofs.Insertions.{evicted-spends}
 use Rattle.clock2q_cache.proofs.cache.Cache.evict_tail.Goals as goal
 
 pub unreachable-requires : goal.unreachable-requires
@@ -90,4 +91,6 @@ returns g c =
     record {
       slot = d.at ∙ ap (λ (z : CacheState _ _ _). (into_small c.args.key z.machine).slot) c.self.view_is;
       machine = d.machine ∙ ap (λ (z : CacheState _ _ _). let p = into_small c.args.key z.machine in (stored p.slot c.args.value p.machine)) c.self.view_is;
+      hasher = ap (λ (z : CacheState _ _ _). z.hasher) c.self.view_is;
+      counts = rw (← c.self.view_is) (evicted-spends c.self.inside.queues c.self.inside.history c.self.inside.keys c.take_tail.new.self c.admit.new.self c.push.new.self c.renew-old_hash.new.keys (ap (λ (z : QueueState). z.inspections) c.in-Some.ensures.queues) c.in-Some.ensures.accesses (ap (λ (z : QueueState). z.inspections) c.admit.ensures.queues) c.admit.ensures.accesses c.push.ensures.accesses (ap (λ (z : Remembered _). z.questions) c.push.ensures.pushed) (ap (λ (z : KeyPlaces _ _). z.questions) c.renew-old_hash.ensures.kept));
     }

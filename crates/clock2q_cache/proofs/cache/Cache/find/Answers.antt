@@ -1,14 +1,13 @@
 -- What the look-up through the index finds is the slot of the resident.
-use Rattle.std.proofs.Common.{◌≡◌, ◌<◌, length, ap, sym, ◌∙◌, subst}
-use Rattle.std.specs.Prelude.{IfSome}
+use Rattle.std.proofs.Common.{◌<◌, length, ap, sym, ◌∙◌, subst}
 use Rattle.std.specs.List.{find, AllByRecursion}
 use Rattle.clock2q_queues.specs.Keys.{KeyPlaces, is_key_at}
 use Rattle.clock2q_cache.specs.Hashes.{hash_of}
 use Rattle.clock2q_cache.specs.CacheState.{CacheState}
-use Rattle.clock2q_cache.specs.CacheFields.{machine_of, IsKept}
 use Rattle.clock2q_cache.specs.Machine.{slot_of}
 use Rattle.clock2q_cache.proofs.Changed.{kept-asked}
 use Rattle.clock2q_cache.proofs.Finding.{candidates-there, found, found-made}
+use Rattle.clock2q_cache.proofs.Spent.{asked-spends}
 use Rattle.clock2q_cache.proofs.cache.Cache.find.Goals as goal
 
 pub find-requires : goal.find-requires
@@ -35,3 +34,8 @@ returns-clause-made g c =
     let same = c.requires ∙ ap (λ (z : CacheState _ _ _). hash_of g.S.BuildHasher g.S.Hasher.Hasher z.hasher (g.K.Hash.hash_input c.args.key.now)) (sym c.self.view_is) in
     let is = c.find.ensures.found ∙ ap (λ z. find (is_key_at g.K.PartialEq.eq c.args.key.now c.self.inside.keys.entries) z) c.get.ensures.candidates ∙ found _ g.met.K.Eq.laws _ _ _ _ _ _ _ _ k c.args.key.now (λ x y e. ap (λ z. hash_of g.S.BuildHasher g.S.Hasher.Hasher c.self.inside.hasher z) (g.met.K.Hash.respects_eq x y e)) c.args.hash same in
     rw (← c.self.view_is) (found-made _ g.met.K.Eq.laws _ _ _ _ _ _ _ _ k c.args.key.now c.find.result is)
+
+pub returns-clause-counts : goal.returns-clause-counts
+returns-clause-counts g c =
+    let i = c.self.inside in
+    rw (← c.self.view_is) (asked-spends i.queues i.history i.keys c.find.new.self (is_key_at g.K.PartialEq.eq c.args.key.now i.keys.entries) _ _ c.get.ensures.candidates c.find.ensures.counted)

@@ -1,13 +1,10 @@
 -- A key is resident at a slot where the slot is a resident's and the key is the one there.
-use Rattle.std.proofs.Common.{◌≡◌, ◌≤◌, Some, None, ap, sym, ◌∙◌, arith}
+use Rattle.std.proofs.Common.{ap, ◌∙◌, arith}
 use Rattle.std.specs.Bool.{then_some}
-use Rattle.std.specs.Option.{IfSome}
 use Rattle.clock2q_queues.specs.Keys.{KeyPlaces}
 use Rattle.clock2q_queues.specs.Queues.{QueueState}
 use Rattle.clock2q_cache.specs.CacheState.{CacheState}
 use Rattle.clock2q_cache.specs.CacheFields.{machine_of}
-use Rattle.clock2q_cache.specs.Machine.{slot_of}
-use Rattle.clock2q_cache.specs.Steps.{is_at}
 use Rattle.clock2q_cache.proofs.Finding.{at-places, not-at, past-all, found-at, standing-there, standing-nowhere}
 use Rattle.clock2q_cache.proofs.cache.Cache.find_at.Goals as goal
 
@@ -22,18 +19,30 @@ returns-in-Free-clause-slot g c =
     let k = c.self.invariant in
     rw (← c.self.view_is) (not-at _ g.met.K.Eq.laws _ _ _ _ _ _ _ _ k c.args.key.now c.args.slot (standing-nowhere c.self.inside.queues c.args.slot c.in-Free.ensures.value))
 
-pub returns-in-Small : goal.returns-in-Small
-returns-in-Small g c =
+pub returns-in-Small-clause-slot : goal.returns-in-Small-clause-slot
+returns-in-Small-clause-slot g c =
     let k = c.self.invariant in
-    let i = c.self.inside in
-    let there = standing-there i.queues c.args.slot c.standing.result c.in-Small.is c.standing.ensures.value in
+    let there = standing-there c.self.inside.queues c.args.slot c.standing.result c.in-Small.is c.standing.ensures.value in
     let is = c.is.ensures.value ∙ at-places _ g.met.K.Eq.laws _ _ _ _ _ _ _ _ k c.args.key.now c.args.slot there in
-    let f = found-at _ g.met.K.Eq.laws _ _ _ _ _ _ _ _ k c.args.key.now c.args.slot c.is.result is in
-    record {
-      slot = rw (← c.self.view_is) (c.then_some.ensures ∙ ap (λ b. then_some b c.args.slot) is);
-      found = rw (← c.self.view_is, c.then_some.ensures) f.0;
-      made = rw (← c.self.view_is, c.then_some.ensures) f.1;
-      machine = ap (λ (z : QueueState). machine_of i.shares z c.is.new.self.entries i.history.entries i.free.items) c.standing.ensures.queues
-          ∙ ap (λ (z : KeyPlaces _ _). machine_of i.shares i.queues z.entries i.history.entries i.free.items) c.is.ensures.counted
-          ∙ ap (λ (z : CacheState _ _ _). z.machine) c.self.view_is;
-    }
+    rw (← c.self.view_is) (c.then_some.ensures ∙ ap (λ b. then_some b c.args.slot) is)
+
+pub returns-in-Small-clause-found : goal.returns-in-Small-clause-found
+returns-in-Small-clause-found g c =
+    let k = c.self.invariant in
+    let there = standing-there c.self.inside.queues c.args.slot c.standing.result c.in-Small.is c.standing.ensures.value in
+    let is = c.is.ensures.value ∙ at-places _ g.met.K.Eq.laws _ _ _ _ _ _ _ _ k c.args.key.now c.args.slot there in
+    rw (← c.self.view_is, c.then_some.ensures) (found-at _ g.met.K.Eq.laws _ _ _ _ _ _ _ _ k c.args.key.now c.args.slot c.is.result is).0
+
+pub returns-in-Small-clause-made : goal.returns-in-Small-clause-made
+returns-in-Small-clause-made g c =
+    let k = c.self.invariant in
+    let there = standing-there c.self.inside.queues c.args.slot c.standing.result c.in-Small.is c.standing.ensures.value in
+    let is = c.is.ensures.value ∙ at-places _ g.met.K.Eq.laws _ _ _ _ _ _ _ _ k c.args.key.now c.args.slot there in
+    rw (← c.self.view_is, c.then_some.ensures) (found-at _ g.met.K.Eq.laws _ _ _ _ _ _ _ _ k c.args.key.now c.args.slot c.is.result is).1
+
+pub returns-in-Small-clause-machine : goal.returns-in-Small-clause-machine
+returns-in-Small-clause-machine g c =
+    let i = c.self.inside in
+    ap (λ (z : QueueState). machine_of i.shares z c.is.new.self.entries i.history.entries i.free.items) c.standing.ensures.queues
+    ∙ ap (λ (z : KeyPlaces _ _). machine_of i.shares i.queues z.entries i.history.entries i.free.items) c.is.ensures.counted
+    ∙ ap (λ (z : CacheState _ _ _). z.machine) c.self.view_is

@@ -9,6 +9,7 @@ use Rattle.clock2q_cache.specs.Machine.{vacancy, into_main, stored}
 use Rattle.clock2q_cache.specs.CacheState.{CacheState}
 use Rattle.clock2q_cache.specs.CacheFields.{machine_of}
 use Rattle.clock2q_cache.proofs.Kept.{few-main, index_room, index_few, taken-here, vacancy-here, vacant-slot, vacant-apart, IsDone, main-done}
+use Rattle.clock2q_cache.proofs.Insertions.{joined-spends}
 use Rattle.clock2q_cache.proofs.cache.Cache.join_main.Goals as goal
 
 pub enter-requires-clause-next : goal.enter-requires-clause-next
@@ -102,4 +103,6 @@ returns g c =
     record {
       slot = d.at ∙ ap (λ (z : CacheState _ _ _). (into_main c.args.key z.machine).slot) c.self.view_is;
       machine = d.machine ∙ ap (λ (z : CacheState _ _ _). let p = into_main c.args.key z.machine in (stored p.slot c.args.value p.machine)) c.self.view_is;
+      hasher = ap (λ (z : CacheState _ _ _). z.hasher) c.self.view_is;
+      counts = rw (← c.self.view_is) (joined-spends c.self.inside.queues c.self.inside.history c.self.inside.keys c.append.new.self c.enter.new.keys 1 6 (ap (λ (z : QueueState). z.inspections) c.append.ensures.queues) c.append.ensures.accesses (omega arith) (ap (λ (z : KeyPlaces _ _). z.questions) c.enter.ensures.kept));
     }

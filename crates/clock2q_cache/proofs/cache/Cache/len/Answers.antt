@@ -1,6 +1,9 @@
 -- There are as many residents as slots in the queues.
-use Rattle.std.proofs.Common.{arith}
+use Rattle.std.proofs.Common.{arith, subst}
+use Rattle.clock2q_cache.specs.CacheState.{CacheState}
+use Rattle.clock2q_cache.specs.Indexed.{IsIndexed}
 use Rattle.clock2q_cache.proofs.Kept.{length_in_small, length_in_main}
+use Rattle.clock2q_cache.proofs.Indexed.{residents-have, remembers}
 use Rattle.clock2q_cache.proofs.cache.Cache.len.Goals as goal
 
 pub overflow_add-result : goal.overflow_add-result
@@ -12,3 +15,14 @@ pub returns-clause-count : goal.returns-clause-count
 returns-clause-count g c =
     let k = c.self.invariant in
     rw (← c.self.view_is) (omega (arith, c.small_len.ensures.len, c.main_len.ensures.len, length_in_small _ g.met.K.Eq.laws _ _ _ _ _ _ _ _ k, length_in_main _ g.met.K.Eq.laws _ _ _ _ _ _ _ _ k))
+
+pub returns-clause-indexed : goal.returns-clause-indexed
+returns-clause-indexed g c =
+    let k = c.self.invariant in
+    let r = remembers _ g.met.K.Eq.laws _ _ _ _ _ _ _ _ k c.len.ensures.whole in
+    subst (λ (z : CacheState _ _ _). IsIndexed (record { eq = g.K.PartialEq.eq; hash_input = g.K.Hash.hash_input }) g.S.BuildHasher g.S.Hasher.Hasher z) c.self.view_is (record {
+      residents = residents-have _ g.met.K.Eq.laws _ _ _ _ _ _ _ _ k;
+      places = r.places;
+      as_many = r.as_many;
+      remembered = r.have;
+    })

@@ -5,6 +5,7 @@ use Rattle.clock2q_cache.specs.Closures.{Prefills}
 use Rattle.clock2q_cache.specs.CacheState.{CacheState}
 use Rattle.clock2q_cache.specs.CacheFields.{machine_of}
 use Rattle.clock2q_cache.proofs.Filled.{made-count, machine-prefilled, kept-prefilled}
+use Rattle.clock2q_cache.proofs.Spent.{made-spends, prefill-costs}
 use Rattle.clock2q_cache.proofs.cache.Cache.prefill.Goals as goal
 
 pub invariant_of-self : goal.invariant_of-self
@@ -31,3 +32,12 @@ returns-clause-made g c =
       called = filled.called;
       becomes = machine;
     })
+
+pub returns-clause-costs : goal.returns-clause-costs
+returns-clause-costs g c values =
+    let i = c.self.inside in
+    let filled = c.fill.ensures.filled.1 in
+    let freed = c.free_down.ensures.items ∙ ap (λ n. i.free.items ++ reverse (range_with_len n (c.capacity-capacity.result - n))) c.len-made.ensures.len
+    ∙ ap (λ n. i.free.items ++ reverse (range_with_len (length i.keys.entries) (n - length i.keys.entries))) c.capacity-capacity.ensures in
+    let machine = machine-prefilled _ g.met.K.Eq.laws _ _ _ _ _ _ _ _ c.self.invariant filled.added c.fill.new.keys c.free_down.new.free.items 0 filled.is (filled.as_many ∙ c.capacity-capacity.ensures) freed in
+    rw (← c.self.view_is) (prefill-costs (record { eq = g.K.PartialEq.eq; hash_input = g.K.Hash.hash_input }) g.S.BuildHasher g.S.Hasher.Hasher values _ _ _ machine (made-spends i.queues i.history i.keys c.fill.new.keys c.fill.ensures.questions))

@@ -11,6 +11,7 @@ use Rattle.clock2q_cache.specs.Machine.{into_small, stored}
 use Rattle.clock2q_cache.specs.CacheState.{CacheState}
 use Rattle.clock2q_cache.proofs.Kept.{length_in_small}
 use Rattle.clock2q_cache.proofs.Renewed.{resident-there, slot-below, no-tail, rest, victim-in, victim-not_in_front, victim-not_behind, tail-in, tail-not_in_front, tail-not_in_rest, promoted-done}
+use Rattle.clock2q_cache.proofs.Insertions.{promoted-spends}
 use Rattle.clock2q_cache.proofs.cache.Cache.promote_tail.Goals as goal
 
 pub unreachable-requires : goal.unreachable-requires
@@ -103,4 +104,6 @@ returns g c =
     record {
       slot = d.at ∙ ap (λ (z : CacheState _ _ _). (into_small c.args.key z.machine).slot) c.self.view_is;
       machine = d.machine ∙ ap (λ (z : CacheState _ _ _). let p = into_small c.args.key z.machine in (stored p.slot c.args.value p.machine)) c.self.view_is;
+      hasher = ap (λ (z : CacheState _ _ _). z.hasher) c.self.view_is;
+      counts = rw (← c.self.view_is) (promoted-spends _ g.met.K.Eq.laws _ _ _ _ _ _ _ _ k c.take_victim-victim.new.self c.take_tail.new.self c.append.new.self c.admit.new.self c.renew.new.keys c.take_victim-victim.ensures.looks c.take_victim-victim.ensures.accesses (ap (λ (z : QueueState). z.inspections) c.in-Some.ensures.queues) c.in-Some.ensures.accesses (ap (λ (z : QueueState). z.inspections) c.append.ensures.queues) c.append.ensures.accesses (ap (λ (z : QueueState). z.inspections) c.admit.ensures.queues) c.admit.ensures.accesses (ap (λ (z : KeyPlaces _ _). z.questions) c.renew.ensures.kept));
     }

@@ -1,9 +1,8 @@
 -- A hit on a slot is one on the key that is resident there.
-use Rattle.std.proofs.Common.{◌≡◌, ◌<◌, Some, ap, sym, ◌∙◌, subst, arith}
+use Rattle.std.proofs.Common.{ap, ◌∙◌}
 use Rattle.clock2q_queues.specs.Queues.{QueueState}
-use Rattle.clock2q_cache.specs.Hashes.{hash_of}
 use Rattle.clock2q_cache.specs.CacheState.{CacheState}
-use Rattle.clock2q_cache.specs.Machine.{slot_of, hit}
+use Rattle.clock2q_cache.specs.Machine.{hit}
 use Rattle.clock2q_cache.proofs.Finding.{found-there, either-queue, hit-machine, kept-hit}
 use Rattle.clock2q_cache.proofs.cache.Cache.record_hit.Goals as goal
 
@@ -19,8 +18,8 @@ invariant_of-self g c =
     let is = rw (← c.self.view_is) at c.requires in
     kept-hit _ g.met.K.Eq.laws _ _ _ _ _ _ _ _ k c.args.key.now c.args.slot is c.hit.new.self (ap (λ (z : QueueState). z.small) c.hit.ensures.queues) (ap (λ (z : QueueState). z.main) c.hit.ensures.queues) (ap (λ (z : QueueState). z.slots) c.hit.ensures.queues) (ap (λ (z : QueueState). z.window) c.hit.ensures.queues)
 
-pub returns : goal.returns
-returns g c =
+pub returns-clause-machine : goal.returns-clause-machine
+returns-clause-machine g c =
     let k = c.self.invariant in
     let is = rw (← c.self.view_is) at c.requires in
-    record { machine = hit-machine _ g.met.K.Eq.laws _ _ _ _ _ _ _ _ k c.args.key.now c.args.slot is c.hit.new.self (ap (λ (z : QueueState). z.small) c.hit.ensures.queues) (ap (λ (z : QueueState). z.main) c.hit.ensures.queues) ∙ ap (λ (z : CacheState _ _ _). hit (g.K.PartialEq.eq c.args.key.now) z.machine) c.self.view_is }
+    hit-machine _ g.met.K.Eq.laws _ _ _ _ _ _ _ _ k c.args.key.now c.args.slot is c.hit.new.self (ap (λ (z : QueueState). z.small) c.hit.ensures.queues) (ap (λ (z : QueueState). z.main) c.hit.ensures.queues) ∙ ap (λ (z : CacheState _ _ _). hit (g.K.PartialEq.eq c.args.key.now) z.machine) c.self.view_is

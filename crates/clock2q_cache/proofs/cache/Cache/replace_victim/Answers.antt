@@ -11,6 +11,7 @@ use Rattle.clock2q_cache.specs.Machine.{into_main, into_small, stored}
 use Rattle.clock2q_cache.specs.CacheState.{CacheState}
 use Rattle.clock2q_cache.proofs.Kept.{IsDone, length_in_small, length_in_main}
 use Rattle.clock2q_cache.proofs.Renewed.{resident-there, slot-below, victim-in, rest, victim-not_in_rest, victim-not_in_small, replaced-done}
+use Rattle.clock2q_cache.proofs.Insertions.{replaced-spends}
 use Rattle.clock2q_cache.proofs.cache.Cache.replace_victim.Goals as goal
 
 pub renew-requires-clause-resident : goal.renew-requires-clause-resident
@@ -69,4 +70,6 @@ returns g c =
     record {
       slot = d.at ∙ ap (λ (z : CacheState _ _ _). (into_main c.args.key z.machine).slot) c.self.view_is;
       machine = d.machine ∙ ap (λ (z : CacheState _ _ _). let p = into_main c.args.key z.machine in (stored p.slot c.args.value p.machine)) c.self.view_is;
+      hasher = ap (λ (z : CacheState _ _ _). z.hasher) c.self.view_is;
+      counts = rw (← c.self.view_is) (replaced-spends _ g.met.K.Eq.laws _ _ _ _ _ _ _ _ k c.take_victim-victim.new.self c.append.new.self c.renew.new.keys c.take_victim-victim.ensures.looks c.take_victim-victim.ensures.accesses (ap (λ (z : QueueState). z.inspections) c.append.ensures.queues) c.append.ensures.accesses (ap (λ (z : KeyPlaces _ _). z.questions) c.renew.ensures.kept));
     }

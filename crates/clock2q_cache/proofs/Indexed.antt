@@ -1,0 +1,177 @@
+-- What stands in the indexes, in terms of the machine.
+use Rattle.std.proofs.Common.{◌≡◌, ℕ, suc, ◌≤◌, ◌==◌, Bool, true, false, ◌||◌, ◌&&◌, eqb, Option, Some, None, slice_get, List, [], ◌∷◌, ◌++◌, map, length, inl, inr, refl, sym, ap, ◌∙◌, subst, arith, eqb-true}
+use Rattle.std.specs.Option.{option_map}
+use Rattle.std.specs.List.{list_any, zip, filter_map, cons_option, AllByRecursion}
+use Rattle.std.proofs.lemmas.Bool.{cases_Bool}
+use Rattle.std.proofs.lemmas.List.{length-map}
+use Rattle.std.specs.Cmp.{IsEquivalence}
+use Rattle.clock2q_queues.specs.Ages.{Age}
+use Rattle.clock2q_queues.specs.declared.keys.cells.Entry.{Entry}
+use Rattle.clock2q_queues.specs.Rings.{has, AllBelow}
+use Rattle.clock2q_queues.specs.Keys.{KeyPlaces, key_at, hash_at, hashed_at, entries_of}
+use Rattle.clock2q_queues.specs.Indexes.{IsIndex, is_named, is_alike}
+use Rattle.clock2q_queues.specs.Queues.{QueueState, slots_of}
+use Rattle.clock2q_queues.specs.History.{Remembered, IsWholeHistory}
+use Rattle.clock2q_queues.proofs.Rings.{has_first}
+use Rattle.clock2q_cache.specs.Entries.{SmallEntry, MainEntry}
+use Rattle.clock2q_cache.specs.Shares.{Shares}
+use Rattle.clock2q_cache.specs.Machine.{residents}
+use Rattle.clock2q_cache.specs.CacheFields.{machine_of, places_of, with_keys_small, with_keys_main, IsKept}
+use Rattle.clock2q_cache.specs.Indexed.{HasPlaces}
+use Rattle.clock2q_cache.proofs.WithKeys.{HaveKeys, have_later, small-cons, main-cons}
+use Rattle.clock2q_cache.proofs.Stored.{entry_there, hash-of-key}
+use Rattle.clock2q_cache.proofs.Kept.{small_have, main_have}
+
+absorb : (n a : Bool) → n ≡ (n || (a && n))
+absorb true a = refl
+absorb false true = refl
+absorb false false = refl
+
+module _ {K : Type 0} (key : ℕ → Option K) where
+  -- the keys that stand at these places, each with its place
+  abbrev pub paired : List ℕ → List (K × ℕ)
+  paired places = filter_map (λ s. option_map (λ k. (k, s)) (key s)) places
+
+  paired-cons : (s : ℕ) (ss : List ℕ) (k : K) → key s ≡ Some k → paired (s ∷ ss) ≡ (k, s) ∷ paired ss
+  paired-cons s ss k h = ap (λ o. cons_option (option_map (λ (k : K). (k, s)) o) (paired ss)) h
+
+  pub length-paired : (places : List ℕ) → HaveKeys key places → length (paired places) ≡ length places
+  length-paired [] h = refl
+  length-paired (s ∷ ss) h =
+      let k = h s (has_first s ss) in
+      ap (λ (z : List (K × ℕ)). length z) (paired-cons s ss k.0 k.1) ∙ ap suc (length-paired ss (have_later key s ss h))
+
+  pub main-paired : (es : List (ℕ × Bool)) → HaveKeys key (slots_of es) → map (λ (e : MainEntry K). (e.key, e.slot)) (with_keys_main key es) ≡ paired (slots_of es)
+  main-paired [] h = refl
+  main-paired (e ∷ es) h =
+      let k = h e.0 (has_first e.0 (slots_of es)) in
+      ap (λ (z : List (MainEntry K)). map (λ (e : MainEntry K). (e.key, e.slot)) z) (main-cons key e es k.0 k.1)
+      ∙ ap (λ zs. (k.0, e.0) ∷ zs) (main-paired es (have_later key e.0 (slots_of es) h))
+      ∙ sym (paired-cons e.0 (slots_of es) k.0 k.1)
+
+  pub small-paired : (es : List (ℕ × Age)) (rs : List (K × ℕ)) (ps : List ℕ) → HaveKeys key (slots_of es) → rs ≡ paired ps
+      → map (λ (e : SmallEntry K). (e.key, e.slot)) (with_keys_small key es) ++ rs ≡ paired (slots_of es ++ ps)
+  small-paired [] rs ps h r = r
+  small-paired (e ∷ es) rs ps h r =
+      let k = h e.0 (has_first e.0 (slots_of es)) in
+      ap (λ (z : List (SmallEntry K)). map (λ (e : SmallEntry K). (e.key, e.slot)) z ++ rs) (small-cons key e es k.0 k.1)
+      ∙ ap (λ zs. (k.0, e.0) ∷ zs) (small-paired es rs ps (have_later key e.0 (slots_of es) h) r)
+      ∙ sym (paired-cons e.0 (slots_of es ++ ps) k.0 k.1)
+
+module _ {K V : Type 0} (hash : K → ℕ) (entries : List (Entry K V)) where
+  -- a key stands at a place with its hash
+  abbrev pub Stands : ℕ → Type 0
+  Stands s = (k : K) × (hashed_at entries s ≡ Some (hash k, k))
+
+  inner : (a b : ℕ × K) → Some a ≡ Some b → a ≡ b
+  inner a b q = cc
+
+  key-of : (s : ℕ) (h : ℕ) (k : K) → hashed_at entries s ≡ Some (h, k) → key_at entries s ≡ Some k
+  key-of s h k = of (slice_get entries s)
+    where
+      of : (o : Option (Entry K V)) → ◌≡◌ {A = Option (ℕ × K)} (elim o [ None ↦ None | Some e ↦ Some (e.hash, e.key) ]) (Some (h, k)) → elim o [ None ↦ None | Some e ↦ Some e.key ] ≡ Some k
+      of None q = absurd (cc)
+      of (Some e) q = ap (λ (z : ℕ × K). Some z.1) (inner (e.hash, e.key) (h, k) q)
+
+  hash-of : (s : ℕ) (h : ℕ) (k : K) → hashed_at entries s ≡ Some (h, k) → hash_at entries s ≡ Some h
+  hash-of s h k = of (slice_get entries s)
+    where
+      of : (o : Option (Entry K V)) → ◌≡◌ {A = Option (ℕ × K)} (elim o [ None ↦ None | Some e ↦ Some (e.hash, e.key) ]) (Some (h, k)) → elim o [ None ↦ None | Some e ↦ Some e.hash ] ≡ Some h
+      of None q = absurd (cc)
+      of (Some e) q = ap (λ (z : ℕ × K). Some z.0) (inner (e.hash, e.key) (h, k) q)
+
+  pub stand_have : (places : List ℕ) → AllByRecursion Stands places → HaveKeys (key_at entries) places
+  stand_have [] a t g = absurd (cc)
+  stand_have (s ∷ ss) a t g = elim (cases_Bool (eqb t s)) [
+    | inl is ↦ let e : t ≡ s = eqb-true t s is in (a.0.0, ap (λ z. key_at entries z) e ∙ key-of s (hash a.0.0) a.0.0 a.0.1)
+    | inr differ ↦ stand_have ss a.1 t (subst (λ b. (b || has t ss) ≡ true) differ g)
+  ]
+
+  -- where every key has its hash, each place that was used has one
+  stored_stand : (places : List ℕ) → AllBelow (length entries) places → AllByRecursion (λ e. e.hash ≡ hash e.key) entries → AllByRecursion Stands places
+  stored_stand [] below all = tt
+  stored_stand (s ∷ ss) below all =
+      let e = entry_there entries s below.0 in
+      let h = hash-of-key hash entries s e.0.hash e.0.key all (ap (λ z. elim z [ None ↦ None | Some e ↦ Some e.hash ]) e.1) (ap (λ z. elim z [ None ↦ None | Some e ↦ Some e.key ]) e.1) in
+      let at : hashed_at entries s ≡ Some (e.0.hash, e.0.key) = ap (λ z. elim z [ None ↦ None | Some e ↦ Some (e.hash, e.key) ]) e.1 in
+      ((e.0.key, at ∙ ap (λ n. Some (n, e.0.key)) h), stored_stand ss below.1 all)
+
+  module _ (index : List (List (ℕ × ℕ))) where
+    named : (x place : ℕ) (places : List ℕ) → AllByRecursion Stands places
+        → (has place places && is_named index entries x place) ≡ list_any (λ e. (place == e.1) && is_alike index x (hash e.0)) (paired (key_at entries) places)
+    named x place [] a = refl
+    named x place (s ∷ ss) a =
+        let k = a.0.0 in
+        let there = ap (λ zs. list_any (λ e. (place == e.1) && is_alike index x (hash e.0)) zs) (paired-cons (key_at entries) s ss k (key-of s (hash k) k a.0.1)) in
+        let later = named x place ss a.1 in
+        elim (cases_Bool (eqb place s)) [
+          | inl is ↦
+              let e : place ≡ s = eqb-true place s is in
+              let n : is_named index entries x place ≡ is_alike index x (hash k) = ap (λ z. elim (hash_at entries z) [ None ↦ false | Some y ↦ is_alike index x y ]) e ∙ ap (λ o. elim o [ None ↦ false | Some y ↦ is_alike index x y ]) (hash-of s (hash k) k a.0.1) in
+              let rest = list_any (λ e. (place == e.1) && is_alike index x (hash e.0)) (paired (key_at entries) ss) in
+              ap (λ b. (b || has place ss) && is_named index entries x place) is ∙ n ∙ absorb (is_alike index x (hash k)) (has place ss)
+              ∙ ap (λ z. is_alike index x (hash k) || (has place ss && z)) (sym n) ∙ ap (λ z. is_alike index x (hash k) || z) later
+              ∙ ap (λ b. (b && is_alike index x (hash k)) || rest) (sym is) ∙ sym there
+          | inr differ ↦
+              let rest = list_any (λ e. (place == e.1) && is_alike index x (hash e.0)) (paired (key_at entries) ss) in
+              ap (λ b. (b || has place ss) && is_named index entries x place) differ ∙ later ∙ ap (λ b. (b && is_alike index x (hash k)) || rest) (sym differ) ∙ sym there
+        ]
+
+    pub has-places : (places : List ℕ) → AllByRecursion Stands places → IsIndex index entries places → HasPlaces hash index (paired (key_at entries) places)
+    has-places places a is = record {
+      found = λ x place. is.listed x place ∙ named x place places a;
+      once = is.once;
+      counted = is.counted ∙ sym (length-paired (key_at entries) places (stand_have places a));
+    }
+
+  -- every key of a list of places that has as many keys stands with its hash
+  entries_within : (places : List ℕ) → length (entries_of entries places) ≤ length places
+  entries_within [] = omega arith
+  entries_within (s ∷ ss) = of (hashed_at entries s) (entries_within ss)
+    where
+      of : (o : Option (ℕ × K)) → length (entries_of entries ss) ≤ length ss → length (cons_option o (entries_of entries ss)) ≤ suc (length ss)
+      of None l = omega (arith, l)
+      of (Some e) l = omega (arith, l)
+
+  -- what the history tells: its keys stand at its places
+  pub record Told (places : List ℕ) : Type 0 where
+    pub stand : AllByRecursion Stands places
+    pub zipped : zip (map (λ (e : ℕ × K). e.1) (entries_of entries places)) places ≡ paired (key_at entries) places
+
+  pub told : (places : List ℕ) → length (entries_of entries places) ≡ length places → AllByRecursion (λ (e : ℕ × K). e.0 ≡ hash e.1) (entries_of entries places) → Told places
+  told [] many a = record { stand = tt; zipped = refl }
+  told (s ∷ ss) many a = of (hashed_at entries s) refl (λ n b. told ss n b) many a
+    where
+      of : (o : Option (ℕ × K)) → hashed_at entries s ≡ o → (length (entries_of entries ss) ≡ length ss → AllByRecursion (λ (e : ℕ × K). e.0 ≡ hash e.1) (entries_of entries ss) → Told ss) → length (cons_option o (entries_of entries ss)) ≡ suc (length ss) → AllByRecursion (λ (e : ℕ × K). e.0 ≡ hash e.1) (cons_option o (entries_of entries ss)) → Told (s ∷ ss)
+      of None is next many a = absurd (omega (arith, many, entries_within ss))
+      of (Some e) is next many a =
+          let later = next (omega (arith, many)) a.1 in
+          record {
+            stand = ((e.1, is ∙ ap (λ h. Some (h, e.1)) a.0), later.stand);
+            zipped = ap (λ o. zip (map (λ (e : ℕ × K). e.1) (cons_option o (entries_of entries ss))) (s ∷ ss)) is
+                ∙ ap (λ zs. (e.1, s) ∷ zs) later.zipped ∙ sym (paired-cons (key_at entries) s ss e.1 (key-of s e.0 e.1 is));
+          }
+
+module _ {K V : Type 0} (eq : K → K → Bool) (laws : IsEquivalence eq) (hash : K → ℕ) (shares : Shares) (q : QueueState) (h : Remembered K) (index : List (List (ℕ × ℕ))) (keys : KeyPlaces K V) (free : List ℕ) (room : ℕ) (kept : IsKept eq hash shares q h index keys free room) where
+  -- the index of the residents
+  pub residents-have : HasPlaces hash index (residents (machine_of shares q keys.entries h.entries free))
+  residents-have =
+      let main = main-paired (key_at keys.entries) q.main (main_have eq laws hash shares q h index keys free room kept) in
+      let all = small-paired (key_at keys.entries) q.small _ (slots_of q.main) (small_have eq laws hash shares q h index keys free room kept) main in
+      subst (λ z. HasPlaces hash index z) (sym all) (has-places hash keys.entries index (places_of q) (stored_stand hash keys.entries (places_of q) kept.stored.made kept.stored.hashed) kept.stored.indexed)
+
+  -- the index of the history
+  pub record Remembers : Type 0 where
+    pub places : List ℕ
+    pub as_many : length places ≡ length (map (λ (e : ℕ × K). e.1) h.entries)
+    pub have : HasPlaces hash h.index (zip (map (λ (e : ℕ × K). e.1) h.entries) places)
+
+  pub remembers : IsWholeHistory eq h → Remembers
+  remembers whole =
+      let w = whole.indexed in
+      let t = told hash w.0 w.1 (ap (λ (z : List (ℕ × K)). length z) (sym w.2) ∙ w.3) (subst (λ z. AllByRecursion (λ (e : ℕ × K). e.0 ≡ hash e.1) z) w.2 kept.hashed) in
+      record {
+        places = w.1;
+        as_many = sym w.3 ∙ sym (length-map h.entries (λ (e : ℕ × K). e.1));
+        have = subst (λ z. HasPlaces hash h.index z) (sym (ap (λ (z : List (ℕ × K)). zip (map (λ (e : ℕ × K). e.1) z) w.1) w.2 ∙ t.zipped)) (has-places hash w.0 h.index w.1 t.stand w.4);
+      }

@@ -1,0 +1,152 @@
+-- What the insertion of a key spends.
+use Rattle.std.proofs.Common.{◌≡◌, ℕ, ◌+◌, ◌<◌, ◌≤◌, ◌==◌, Bool, true, false, not, ◌&&◌, List, [], ◌∷◌, length, Option, Some, None, refl, ap, sym, ◌∙◌, subst, arith, eq-eqb, ne_eqb}
+use Rattle.std.specs.Prelude.{if◌then◌else◌, is_some, IfSome}
+use Rattle.std.specs.List.{list_any, last_or}
+use Rattle.std.specs.Cmp.{IsEquivalence}
+use Rattle.clock2q_queues.specs.Cells.{Rises}
+use Rattle.clock2q_queues.specs.Keys.{KeyPlaces, key_at}
+use Rattle.clock2q_queues.specs.MainRing.{inspections}
+use Rattle.clock2q_queues.specs.Queues.{QueueState}
+use Rattle.clock2q_queues.specs.History.{Remembered}
+use Rattle.std.specs.declared.hash.Hasher as hasher
+use Rattle.std.specs.declared.hash.BuildHasher as builder
+use Rattle.std.specs.HashMap.Lent.{HashMembers}
+use Rattle.clock2q_handles.specs.Homes.{candidates}
+use Rattle.clock2q_queues.specs.Ages.{is_promoted}
+use Rattle.clock2q_queues.proofs.Joining.{last_some}
+use Rattle.clock2q_cache.specs.Shares.{Shares, main_share}
+use Rattle.clock2q_cache.specs.Entries as machine
+use Rattle.clock2q_cache.specs.Entries.{SmallEntry}
+use Rattle.clock2q_cache.specs.Machine.{Machine, slot_of, vacancy, goes_to_main}
+use Rattle.clock2q_cache.specs.Bounds.{goes_on, takes_victim, inspections_for}
+use Rattle.clock2q_cache.specs.Insertions.{main_looks, small_looks}
+use Rattle.clock2q_cache.specs.CacheFields.{machine_of, IsKept, counts_of}
+use Rattle.clock2q_cache.specs.CacheState.{CacheState, Counts}
+use Rattle.clock2q_cache.specs.Costs.{Spends, alike}
+use Rattle.clock2q_cache.specs.Hashes.{hash_of}
+use Rattle.clock2q_cache.proofs.WithKeys.{main-inspections}
+use Rattle.clock2q_cache.proofs.Kept.{main_have}
+use Rattle.clock2q_cache.proofs.Whole.{none_is}
+
+module _ {K V : Type 0} (q : QueueState) (h : Remembered K) (keys : KeyPlaces K V) where
+  -- a key that joins a queue
+  pub joined-spends : (q' : QueueState) (keys' : KeyPlaces K V) (least most : ℕ) → q'.inspections ≡ q.inspections → Rises least most q.accesses q'.accesses → most ≤ 28 → keys'.questions ≡ keys.questions
+      → Spends 0 28 0 (counts_of q h keys) (counts_of q' h keys')
+  joined-spends q' keys' least most looks links few asked = record {
+    inspections = omega (arith, looks);
+    accesses = (omega (arith, links.0), omega (arith, links.1, few));
+    questions = (omega (arith, asked), omega (arith, asked));
+  }
+
+  -- one that takes the slot of Small's tail, which goes out
+  pub evicted-spends : (q1 q2 : QueueState) (h' : Remembered K) (keys' : KeyPlaces K V) → q1.inspections ≡ q.inspections → Rises 0 7 q.accesses q1.accesses → q2.inspections ≡ q1.inspections → Rises 3 10 q1.accesses q2.accesses
+      → Rises 0 8 h.accesses h'.accesses → h'.questions ≡ h.questions → keys'.questions ≡ keys.questions → Spends 0 28 0 (counts_of q h keys) (counts_of q2 h' keys')
+  evicted-spends q1 q2 h' keys' looks links looks2 links2 pushed asked asked2 = record {
+    inspections = omega (arith, looks, looks2);
+    accesses = (omega (arith, links.0, links2.0, pushed.0), omega (arith, links.1, links2.1, pushed.1));
+    questions = (omega (arith, asked, asked2), omega (arith, asked, asked2));
+  }
+
+module _ {K V : Type 0} (eq : K → K → Bool) (laws : IsEquivalence eq) (hash : K → ℕ) (shares : Shares) (q : QueueState) (h : Remembered K) (index : List (List (ℕ × ℕ))) (keys : KeyPlaces K V) (free : List ℕ) (room : ℕ)
+    (kept : IsKept eq hash shares q h index keys free room) where
+  abbrev m : Machine K V
+  m = machine_of shares q keys.entries h.entries free
+
+  looked : machine.inspections m.main ≡ inspections q.main
+  looked = main-inspections (key_at keys.entries) q.main (main_have eq laws hash shares q h index keys free room kept)
+
+  -- one that takes the slot of Main's victim
+  pub replaced-spends : (q1 q2 : QueueState) (keys' : KeyPlaces K V) → q1.inspections ≡ q.inspections + inspections q.main → q1.accesses ≡ q.accesses + inspections q.main + 5 → q2.inspections ≡ q1.inspections → Rises 1 6 q1.accesses q2.accesses
+      → keys'.questions ≡ keys.questions → Spends (machine.inspections m.main) (machine.inspections m.main + 28) 0 (counts_of q h keys) (counts_of q2 h keys')
+  replaced-spends q1 q2 keys' looks links looks2 links2 asked = record {
+    inspections = omega (arith, looked, looks, looks2);
+    accesses = (omega (arith, looked, links, links2.0), omega (arith, looked, links, links2.1));
+    questions = (omega (arith, asked), omega (arith, asked));
+  }
+
+  -- one that takes the slot of Main's victim while Small's tail goes on
+  pub promoted-spends : (q1 q2 q3 q4 : QueueState) (keys' : KeyPlaces K V) → q1.inspections ≡ q.inspections + inspections q.main → q1.accesses ≡ q.accesses + inspections q.main + 5
+      → q2.inspections ≡ q1.inspections → Rises 0 7 q1.accesses q2.accesses → q3.inspections ≡ q2.inspections → Rises 1 6 q2.accesses q3.accesses → q4.inspections ≡ q3.inspections → Rises 3 10 q3.accesses q4.accesses
+      → keys'.questions ≡ keys.questions → Spends (machine.inspections m.main) (machine.inspections m.main + 28) 0 (counts_of q h keys) (counts_of q4 h keys')
+  promoted-spends q1 q2 q3 q4 keys' looks links looks2 links2 looks3 links3 looks4 links4 asked = record {
+    inspections = omega (arith, looked, looks, looks2, looks3, looks4);
+    accesses = (omega (arith, looked, links, links2.0, links3.0, links4.0), omega (arith, looked, links, links2.1, links3.1, links4.1));
+    questions = (omega (arith, asked), omega (arith, asked));
+  }
+
+no_last : {X : Type 0} (xs : List X) → 0 < length xs → last_or None xs ≡ None → ⊥
+no_last [] some none = omega (arith, some)
+no_last (x ∷ xs) some none = let l = last_some xs x in none_is l.0 (sym none ∙ l.1)
+
+module _ {K V : Type 0} (m : Machine K V) where
+  -- into a full Main, and into one with room
+  pub full-looks : length m.main ≡ main_share m.shares → main_looks m ≡ machine.inspections m.main
+  full-looks full = ap (λ b. if b then machine.inspections m.main else 0) (eq-eqb (length m.main) (main_share m.shares) full)
+
+  pub room-looks : length m.main < main_share m.shares → main_looks m ≡ 0
+  room-looks room = ap (λ b. if b then machine.inspections m.main else 0) (ne_eqb (length m.main) (main_share m.shares) (λ e. omega (arith, e, room)))
+
+  -- into a full Small, whose tail goes on or out
+  tail-goes : (b : Bool) → 0 < length m.small → IfSome (last_or None m.small) (λ tail. b ≡ is_promoted tail.age) → goes_on (last_or None m.small) ≡ b
+  tail-goes b some at = of (last_or None m.small) refl at where
+    of : (o : Option (SmallEntry K)) → last_or None m.small ≡ o → IfSome o (λ tail. b ≡ is_promoted tail.age) → goes_on o ≡ b
+    of None none at = absurd (no_last m.small some none)
+    of (Some tail) is at = sym at
+
+  pub tail-looks : (b : Bool) → is_some (vacancy m) ≡ false → 0 < length m.small → IfSome (last_or None m.small) (λ tail. b ≡ is_promoted tail.age) → small_looks m ≡ (if b then machine.inspections m.main else 0)
+  tail-looks b none some at = ap (λ v. if not v && goes_on (last_or None m.small) then machine.inspections m.main else 0) none ∙ ap (λ v. if v then machine.inspections m.main else 0) (tail-goes b some at)
+
+  -- into either
+  module _ (is : K → Bool) (absent : slot_of is m ≡ None) where
+    looks_of : inspections_for is m ≡ (if takes_victim is m then machine.inspections m.main else 0)
+    looks_of = ap (λ o. if is_some o then 0 else (if takes_victim is m then machine.inspections m.main else 0)) absent
+
+    pub main-insertion : goes_to_main (list_any is m.history) m ≡ true → inspections_for is m ≡ main_looks m
+    main-insertion goes = looks_of ∙ ap (λ b. if (if b then length m.main == main_share m.shares else not (is_some (vacancy m)) && goes_on (last_or None m.small)) then machine.inspections m.main else 0) goes
+
+    pub small-insertion : goes_to_main (list_any is m.history) m ≡ false → inspections_for is m ≡ small_looks m
+    small-insertion goes = looks_of ∙ ap (λ b. if (if b then length m.main == main_share m.shares else not (is_some (vacancy m)) && goes_on (last_or None m.small)) then machine.inspections m.main else 0) goes
+
+-- after Small's tail was looked at
+pub looked-spends : (looks : ℕ) (a b c : Counts) → Spends 0 1 0 a b → Spends looks (looks + 28) 0 b c → Spends looks (looks + 29) 0 a c
+looked-spends looks a b c before after = record {
+  inspections = omega (arith, before.inspections, after.inspections);
+  accesses = (omega (arith, before.accesses.0, after.accesses.0), omega (arith, before.accesses.1, after.accesses.1));
+  questions = (omega (arith, before.questions.0, after.questions.0), omega (arith, before.questions.1, after.questions.1));
+}
+
+-- after the key's history was erased
+pub forgotten-spends : (looks most keys : ℕ) (a b c : Counts) → most ≤ looks + 73 → Spends 0 7 keys a b → Spends looks most 0 b c → Spends looks (looks + 80) keys a c
+forgotten-spends looks most keys a b c few before after = record {
+  inspections = omega (arith, before.inspections, after.inspections);
+  accesses = (omega (arith, before.accesses.0, after.accesses.0), omega (arith, few, before.accesses.1, after.accesses.1));
+  questions = (omega (arith, before.questions.0, after.questions.0), omega (arith, before.questions.1, after.questions.1));
+}
+
+-- a look-up spends no more than a call may
+pub asked-spends : (keys : ℕ) (a b : Counts) → Spends 0 0 keys a b → Spends 0 80 keys a b
+asked-spends keys a b asked = record { inspections = asked.inspections; accesses = (asked.accesses.0, omega (arith, asked.accesses.1)); questions = asked.questions }
+
+-- A key is looked up, and is hit or inserted.
+module _ {K V S H : Type 0} (key : HashMembers K) (build : builder.Ghosts S H) (hash : hasher.Ghosts H) (k : K) (x : ℕ) (old found : CacheState K V S) (same : x ≡ hash_of build hash old.hasher (key.hash_input k))
+    (kept : found ≡ record old { counts = found.counts }) (asked : Spends 0 0 (length (candidates old.residents x)) old.counts found.counts) where
+  asked_there : length (candidates old.residents x) ≡ length (candidates old.residents (hash_of build hash old.hasher (key.hash_input k)))
+  asked_there = ap (λ y. length (candidates old.residents y)) same
+
+  pub hit-spends : (slot : ℕ) → Some slot ≡ slot_of (key.eq k) old.machine → (new : Counts) → new ≡ found.counts
+      → Spends (inspections_for (key.eq k) old.machine) (inspections_for (key.eq k) old.machine + 80) (alike key build hash k old) old.counts new
+  hit-spends slot there new is =
+      let none : inspections_for (key.eq k) old.machine ≡ 0 = sym (ap (λ o. if is_some o then 0 else (if takes_victim (key.eq k) old.machine then machine.inspections old.machine.main else 0)) there) in
+      rw (is, none) (record { inspections = asked.inspections; accesses = (asked.accesses.0, omega (arith, asked.accesses.1)); questions = (asked.questions.0, omega (arith, asked.questions.1, asked_there)) })
+
+  pub insert-spends : (new : Counts) → Spends (inspections_for (key.eq k) found.machine) (inspections_for (key.eq k) found.machine + 80) (length (candidates found.remembered x)) found.counts new
+      → Spends (inspections_for (key.eq k) old.machine) (inspections_for (key.eq k) old.machine + 80) (alike key build hash k old) old.counts new
+  insert-spends new spent =
+      let looks = ap (λ (z : CacheState K V S). inspections_for (key.eq k) z.machine) kept in
+      let places = ap (λ (z : CacheState K V S). length (candidates z.remembered x)) kept in
+      let places_there = ap (λ y. length (candidates old.remembered y)) same in
+      record {
+        inspections = omega (arith, asked.inspections, spent.inspections, looks);
+        accesses = (omega (arith, asked.accesses.0, spent.accesses.0), omega (arith, asked.accesses.1, spent.accesses.1, looks));
+        questions = (omega (arith, asked.questions.0, spent.questions.0), omega (arith, asked.questions.1, spent.questions.1, asked_there, places, places_there));
+      }

@@ -1,0 +1,55 @@
+-- What a call costs a cache: looks of the hand, accesses of links, questions to keys.
+use Rattle.std.specs.Prelude.{◌≡◌, ℕ, ◌+◌, ◌*◌, ◌≤◌, Bool, length}
+use Rattle.std.specs.declared.hash.Hasher as hasher
+use Rattle.std.specs.declared.hash.BuildHasher as builder
+use Rattle.std.specs.HashMap.Lent.{HashMembers}
+use Rattle.clock2q_handles.specs.Homes.{candidates}
+use Rattle.clock2q_queues.specs.Cells.{Rises}
+use Rattle.clock2q_cache.specs.Calls.{Call, Put, Get, GetAt, Set, With, Try, SlotFor, Remove, Retain, Clear, Prefill}
+use Rattle.clock2q_cache.specs.Machine.{Machine}
+use Rattle.clock2q_cache.specs.Bounds.{set_bits, inspections_of, main_victims, settings}
+use Rattle.clock2q_cache.specs.CacheState.{CacheState, Counts}
+use Rattle.clock2q_cache.specs.Hashes.{hash_of}
+
+-- the hand looked so many times, and at most so many links were accessed and keys asked about
+pub record Spends (looks links keys : ℕ) (old new : Counts) : Type 0 where
+  pub inspections : new.inspections ≡ old.inspections + looks
+  pub accesses : Rises 0 links old.accesses new.accesses
+  pub questions : Rises 0 keys old.questions new.questions
+
+-- how often a call may access links: 80 times beside the hand's looks, fewer times if it brings no key, and so often for each slot if it goes through all of them
+abbrev pub most_accesses : {K V : Type 0} → (K → K → Bool) → Call K V → Machine K V → ℕ
+most_accesses eq (Get key) m = 0
+most_accesses eq (Set key value) m = 0
+most_accesses eq (GetAt slot key) m = 1
+most_accesses eq (Remove key) m = 8
+most_accesses eq (Retain bits) m = 9 * length m.values
+most_accesses eq Clear m = m.shares.capacity + m.shares.window
+most_accesses eq (Prefill values) m = 0
+most_accesses eq call m = inspections_of eq call m + 80
+
+module _ {K V S H : Type 0} (key : HashMembers K) (build : builder.Ghosts S H) (hash : hasher.Ghosts H) where
+  -- how many places stand in the two indexes under the hash of a key
+  abbrev pub alike : K → CacheState K V S → ℕ
+  alike k c = let x = hash_of build hash c.hasher (key.hash_input k) in length (candidates c.residents x) + length (candidates c.remembered x)
+
+  -- how many keys a call may ask about: those under the hash of its own, or the one at its slot
+  abbrev pub most_questions : Call K V → CacheState K V S → ℕ
+  most_questions (Put k value) c = alike k c
+  most_questions (Get k) c = alike k c
+  most_questions (GetAt slot k) c = 1
+  most_questions (Set k value) c = alike k c
+  most_questions (With k value) c = alike k c
+  most_questions (Try k value) c = alike k c
+  most_questions (SlotFor k value) c = alike k c
+  most_questions (Remove k) c = alike k c
+  most_questions other c = 0
+
+  -- it spent no more than it may, and each look was paid for: by Main's victim, or by a bit of Main that was set before or by the call
+  pub record Costs (call : Call K V) (old new : CacheState K V S) : Type 0 where
+    pub counts : Spends (inspections_of key.eq call old.machine) (most_accesses key.eq call old.machine) (most_questions call old) old.counts new.counts
+    pub clock : new.counts.inspections + set_bits new.machine ≤ old.counts.inspections + main_victims key.eq call old.machine + settings key.eq call old.machine + set_bits old.machine
+
+  -- the machine becomes this one at the cost of the call, and the hasher stays
+  abbrev pub Becomes : Call K V → Machine K V → CacheState K V S → CacheState K V S → Type 0
+  Becomes call m old new = (new.machine ≡ m) × (new.hasher ≡ old.hasher) × Costs call old new

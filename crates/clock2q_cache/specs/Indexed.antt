@@ -1,0 +1,26 @@
+-- What stands in the two indexes of a cache: the place of each key under the key's hash, and nothing else.
+use Rattle.std.specs.Prelude.{◌≡◌, ℕ, ◌==◌, ◌&&◌, List, length}
+use Rattle.std.specs.List.{list_any, zip}
+use Rattle.std.specs.declared.hash.Hasher as hasher
+use Rattle.std.specs.declared.hash.BuildHasher as builder
+use Rattle.std.specs.HashMap.Lent.{HashMembers}
+use Rattle.clock2q_handles.specs.Homes.{candidates, total}
+use Rattle.clock2q_queues.specs.Rings.{has, AllApart}
+use Rattle.clock2q_queues.specs.Indexes.{is_alike}
+use Rattle.clock2q_cache.specs.Machine.{residents}
+use Rattle.clock2q_cache.specs.CacheState.{CacheState}
+use Rattle.clock2q_cache.specs.Hashes.{hash_of}
+
+-- a look-up of a hash finds the places of the keys whose hash is like it, each once, and there are as many entries as keys
+pub record HasPlaces {K : Type 0} (hash : K → ℕ) (index : List (List (ℕ × ℕ))) (keys : List (K × ℕ)) : Type 0 where
+  pub found : (x place : ℕ) → has place (candidates index x) ≡ list_any (λ e. (place == e.1) && is_alike index x (hash e.0)) keys
+  pub once : (x : ℕ) → AllApart (candidates index x)
+  pub counted : total index ≡ length keys
+
+module _ {K V S H : Type 0} (key : HashMembers K) (build : builder.Ghosts S H) (hash : hasher.Ghosts H) where
+  -- one index has the residents' slots, the other a place for each key of the history
+  pub record IsIndexed (c : CacheState K V S) : Type 0 where
+    pub residents : HasPlaces (λ k. hash_of build hash c.hasher (key.hash_input k)) c.residents (residents c.machine)
+    pub places : List ℕ
+    pub as_many : length places ≡ length c.machine.history
+    pub remembered : HasPlaces (λ k. hash_of build hash c.hasher (key.hash_input k)) c.remembered (zip c.machine.history places)

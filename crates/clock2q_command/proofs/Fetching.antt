@@ -1,0 +1,68 @@
+-- A key that is fetched with a value that stands in a command.
+use Rattle.std.proofs.Common.{◌≡◌, ℕ, Bool, Option, Some, None, Result, Err, OnErr, refl, sym, ap, ◌∙◌, subst}
+use Rattle.std.specs.Prelude.{if◌then◌else◌, IfNone, is_some, slice_get}
+use Rattle.std.specs.Option.{UnwrapsOrElse, option_and_then}
+use Rattle.clock2q_cache.specs.Bounds.{takes_victim, inspections_for, inspections_of}
+use Rattle.clock2q_cache.specs.Calls.{Try}
+use Rattle.clock2q_cache.specs.Entries.{inspections}
+use Rattle.clock2q_cache.specs.Machine.{Machine, slot_of, value_of, hit, inserted}
+use Rattle.clock2q_cache.specs.Steps.{fetched, fetched_value, tried, tried_value}
+use Rattle.clock2q_cache.proofs.Residents.{hit-absent}
+
+-- what holds at an error or at `None` holds where there is one
+pub at_err : {T E : Type 0} {P : Type 0} (r : Result T E) (e : E) → r ≡ Err e → OnErr r P → P
+at_err {P = P} r e is h = subst (λ r. OnErr r P) is h
+
+pub at_none : {T : Type 0} {P : Type 0} (r : Option T) → r ≡ None → IfNone r P → P
+at_none {P = P} r is h = subst (λ r. IfNone r P) is h
+
+module _ {K V : Type 0} (is : K → Bool) (key : K) (m : Machine K V) where
+  fetched-resident : (slot : ℕ) (v : V) → slot_of is m ≡ Some slot → fetched is key v m ≡ hit is m
+  fetched-resident slot v e = ap (λ o. if is_some o then hit is m else inserted is key v m) e
+
+  module _ (made : V → Type 0) (v : V) (value : V) (gives : (w : V) → made w → w ≡ value) where
+    is_fetched : (had : Option V) → UnwrapsOrElse had made v → v ≡ fetched_value had value
+    is_fetched None h = gives v h
+    is_fetched (Some had) h = h
+
+    becomes_fetched : (o : Option ℕ) → slot_of is m ≡ o → UnwrapsOrElse (option_and_then (slice_get m.values) o) made v → fetched is key v m ≡ fetched is key value m
+    becomes_fetched None e h = ap (λ w. fetched is key w m) (gives v h)
+    becomes_fetched (Some slot) e h = fetched-resident slot v e ∙ sym (fetched-resident slot value e)
+
+    -- the value is the one given, where a new one was made
+    pub fetched-given : UnwrapsOrElse (value_of is m) made v → (v ≡ fetched_value (value_of is m) value) × (fetched is key v m ≡ fetched is key value m)
+    fetched-given h = (is_fetched (value_of is m) h, becomes_fetched (slot_of is m) refl h)
+
+  module _ (made : V → Type 0) (v : V) (offered : Option V) (gives : (w : V) → made w → offered ≡ Some w) where
+    is_tried : (had : Option V) → UnwrapsOrElse had made v → Some v ≡ tried_value had offered
+    is_tried None h = sym (gives v h)
+    is_tried (Some had) h = ap Some h
+
+    tried-resident : (slot : ℕ) (o : Option V) → slot_of is m ≡ Some slot → fetched is key v m ≡ tried is key o m
+    tried-resident slot None e = fetched-resident slot v e
+    tried-resident slot (Some w) e = fetched-resident slot v e ∙ sym (fetched-resident slot w e)
+
+    becomes_tried : (o : Option ℕ) → slot_of is m ≡ o → UnwrapsOrElse (option_and_then (slice_get m.values) o) made v → fetched is key v m ≡ tried is key offered m
+    becomes_tried None e h = subst (λ o. fetched is key v m ≡ tried is key o m) (sym (gives v h)) refl
+    becomes_tried (Some slot) e h = tried-resident slot offered e
+
+    -- the same where one may be offered
+    pub tried-given : UnwrapsOrElse (value_of is m) made v → (Some v ≡ tried_value (value_of is m) offered) × (fetched is key v m ≡ tried is key offered m)
+    tried-given h = (is_tried (value_of is m) h, becomes_tried (slot_of is m) refl h)
+
+  -- and where none is offered for a key that isn't resident
+  pub untried : slot_of is m ≡ None → (None ≡ tried_value (value_of is m) None) × (m ≡ tried is key None m)
+  untried absent = (sym (ap (λ o. tried_value (option_and_then (slice_get m.values) o) None) absent), sym (hit-absent is m absent))
+
+-- the hand looks as often as for a value that is offered, and not at all where the key is resident
+module _ {K V : Type 0} (eq : K → K → Bool) (key : K) (m : Machine K V) (made : V → Type 0) (v : V) (offered : Option V) (gives : (w : V) → made w → offered ≡ Some w) where
+  resident_looks : (slot : ℕ) (o : Option V) → slot_of (eq key) m ≡ Some slot → inspections_for (eq key) m ≡ inspections_of eq (Try key o) m
+  resident_looks slot None e = ap (λ z. if is_some z then 0 else (if takes_victim (eq key) m then inspections m.main else 0)) e
+  resident_looks slot (Some w) e = refl
+
+  looks_tried : (o : Option ℕ) → slot_of (eq key) m ≡ o → UnwrapsOrElse (option_and_then (slice_get m.values) o) made v → inspections_for (eq key) m ≡ inspections_of eq (Try key offered) m
+  looks_tried None e h = subst (λ o. inspections_for (eq key) m ≡ inspections_of eq (Try key o) m) (sym (gives v h)) refl
+  looks_tried (Some slot) e h = resident_looks slot offered e
+
+  pub looks-given : UnwrapsOrElse (value_of (eq key) m) made v → inspections_for (eq key) m ≡ inspections_of eq (Try key offered) m
+  looks-given h = looks_tried (slot_of (eq key) m) refl h

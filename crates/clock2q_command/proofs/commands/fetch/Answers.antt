@@ -1,0 +1,9 @@
+-- The value is the one of the command, where the key is new.
+use Rattle.std.proofs.Common.{rules, ◌∙◌}
+use Rattle.clock2q_command.proofs.Fetching.{fetched-given}
+use Rattle.clock2q_command.proofs.commands.fetch.Goals as goal
+
+pub returns : goal.returns
+returns g c =
+    let h = fetched-given (g.K.PartialEq.eq c.args.key) c.args.key c.args.cache.now.machine _ c.get_or_insert_with.result.now c.args.value (λ w gave. search rules) c.get_or_insert_with.ensures.value in
+    record { value = h.0; machine = c.get_or_insert_with.follows.holds-at-none.0 ∙ h.1; inspections = c.get_or_insert_with.follows.holds-at-none.2.counts.inspections }

@@ -1,0 +1,33 @@
+-- The value is the one of the command, where the key is new and there is one.
+use Rattle.std.proofs.Common.{rules, ◌≡◌, ◌+◌, None, refl, sym, subst, ap, ◌∙◌}
+use Rattle.std.specs.Result.{IsOk}
+use Rattle.clock2q_cache.specs.Bounds.{inspections_of}
+use Rattle.clock2q_cache.specs.Calls.{Try}
+use Rattle.clock2q_cache.specs.Steps.{tried}
+use Rattle.clock2q_command.proofs.Fetching.{at_err, tried-given, untried, looks-given}
+use Rattle.clock2q_command.proofs.commands.try_fetch.Goals as goal
+
+pub returns-in-Ok : goal.returns-in-Ok
+returns-in-Ok g c =
+    let eq = g.K.PartialEq.eq in
+    let m = c.args.cache.now.machine in
+    let becomes = c.try_get_or_insert_with_mut.follows.holds c.in-Ok.value.now (subst IsOk (sym c.in-Ok.is) refl) in
+    let h = tried-given (eq c.args.key) c.args.key m _ c.in-Ok.value.now c.args.offered (λ w gave. search rules) c.in-Ok.ensures.value in
+    record {
+      value = h.0;
+      machine = becomes.0 ∙ c.in-Ok.ensures.unwritten ∙ h.1;
+      inspections = becomes.2.counts.inspections ∙ ap (λ n. c.args.cache.now.counts.inspections + n) (looks-given eq c.args.key m _ c.in-Ok.value.now c.args.offered (λ w gave. search rules) c.in-Ok.ensures.value);
+    }
+
+pub returns-in-Err : goal.returns-in-Err
+returns-in-Err g c =
+    let eq = g.K.PartialEq.eq in
+    let m = c.args.cache.now.machine in
+    let none : c.args.offered ≡ None = search rules in
+    let becomes = at_err c.try_get_or_insert_with_mut.result _ c.in-Err.is c.try_get_or_insert_with_mut.follows.holds-at-none in
+    let h = untried (eq c.args.key) c.args.key m c.in-Err.ensures.absent in
+    record {
+      value = search rules;
+      machine = becomes.0 ∙ subst (λ o. m ≡ tried (eq c.args.key) c.args.key o m) (sym none) h.1;
+      inspections = becomes.2.counts.inspections ∙ ap (λ o. c.args.cache.now.counts.inspections + inspections_of eq (Try c.args.key o) m) (sym none);
+    }
