@@ -17,4 +17,8 @@ pub mod refusing;
 #[cfg(test)]
 mod table_commands;
 #[cfg(test)]
+mod text_edges;
+#[cfg(test)]
+mod text_lines;
+#[cfg(test)]
 mod texts;

@@ -1,6 +1,6 @@
 use Rattle.std.proofs.Common.{sym, eqb}
 use Rattle.clock2q_command.proofs.Cutting.{slice_split_cut, slice_split_whole}
-use Rattle.clock2q_command.proofs.text.cut.Goals as goal
+use Rattle.clock2q_command.proofs.text.words.cut.Goals as goal
 
 pub returns-in-Some-clause-parts : goal.returns-in-Some-clause-parts
 returns-in-Some-clause-parts c =
