@@ -1,18 +1,16 @@
 -- Which call a command's name and its arguments spell.
-use Rattle.std.proofs.Common.{◌≡◌, ℕ, true, false, cond, eqb, List, [], ◌∷◌, Option, Some, None, refl, sym, ap, ◌∙◌, subst, arith}
+use Rattle.std.proofs.Common.{◌≡◌, ℕ, Bool, true, false, cond, eqb, List, [], ◌∷◌, Option, Some, None, refl, sym, ap, ◌∙◌, subst, arith}
 use Rattle.std.specs.Prelude.{codes}
 use Rattle.std.specs.Borrow.{Bor}
 use Rattle.std.specs.List.{slice_split}
-use Rattle.std.specs.Option.{is_none, option_and_then, option_map}
-use Rattle.std.specs.Option.{MatchOption}
-use Rattle.std.specs.NonZero.{non_zero_usize_get}
-use Rattle.std.specs.declared.num.NonZeroUsize.{NonZeroUsize}
+use Rattle.std.specs.Option.{option_and_then, option_map, option_or}
 use Rattle.std.specs.Str.{bytes_eq}
-use Rattle.std.proofs.lemmas.Bool.{eq-eqb, ne_eqb}
+use Rattle.std.specs.List.{join_with_byte}
+use Rattle.std.proofs.lemmas.List.Splits.{join_with_byte-slice_split}
 use Rattle.std.proofs.lemmas.Slice.Eq.{bytes_eq-Decides}
-use Rattle.clock2q_cache.specs.Calls.{Call, Put, Get, Peek, Contains, Len, IsEmpty, Capacity}
-use Rattle.clock2q_command.specs.Cut.{parts_after, words_after}
-use Rattle.clock2q_command.specs.Text.{words_of, number_of, without, with_one, with_two, call_in, capacity_in, positive}
+use Rattle.clock2q_cache.specs.Calls.{Call, Put, Get, Peek, Contains, GetAt, Set, With, Try, Remove, Retain, Clear, Prefill, Len, IsEmpty, Capacity}
+use Rattle.clock2q_command.specs.Cut.{parts_after, words_after, number_first}
+use Rattle.clock2q_command.specs.Text.{words_of, number_of, tried_of, bit_of, some_read, with_one, with_two, numbers_call, list_call, lone_call, call_in}
 use Rattle.clock2q_command.proofs.Cutting.{parts_are_some}
 
 -- a line's first word, and those of what a cut leaves
@@ -22,13 +20,9 @@ words_of-cut line word None e = e
 words_of-cut line word (Some rest) e = e
 
 -- the words of a line are never none
-words_are_some : (line : List ℕ) → words_of line ≡ [] → ⊥
+pub words_are_some : (line : List ℕ) → words_of line ≡ [] → ⊥
 unfolding words_of
 words_are_some line e = parts_are_some (λ b. eqb b 32) line e
-
--- the same of arguments
-pub words_after-cut : (arguments : Option (Bor (List ℕ))) (rest : Bor (List ℕ)) (word : List ℕ) (after : Option (Bor (List ℕ))) → arguments ≡ Some rest → slice_split (λ b. eqb b 32) rest.now ≡ word ∷ parts_after 32 after → words_after arguments ≡ word ∷ words_after after
-words_after-cut arguments rest word after e cut = ap words_after e ∙ words_of-cut rest.now word after cut
 
 -- an argument read, and then made something of
 pub with_one-mapped : {X Y : Type 0} (read : List ℕ → Option Y) (make : Y → X) (words : List (List ℕ)) → with_one read make words ≡ option_map make (with_one read (λ y. y) words)
@@ -39,128 +33,193 @@ with_one-mapped {Y = Y} read make (word ∷ []) = mapped (read word) where
   mapped (Some y) = refl
 with_one-mapped read make (word ∷ other ∷ words) = refl
 
--- the one word
-pub with_one-last : {Y : Type 0} (read : List ℕ → Option Y) (word : List ℕ) → with_one read (λ y. y) (word ∷ []) ≡ read word
-with_one-last {Y} read word = same (read word) where
-  same : (o : Option Y) → option_map (λ y. y) o ≡ o
+-- the one word after a number was read
+abbrev pub last_number : ℕ × List (List ℕ) → Option ℕ
+last_number (n, []) = Some n
+last_number (n, word ∷ words) = None
+
+-- one number, as the first of the words
+pub with_one-first : (words : List (List ℕ)) → with_one number_of (λ n. n) words ≡ option_and_then last_number (number_first words)
+with_one-first [] = refl
+with_one-first (word ∷ []) = same (number_of word) where
+  same : (o : Option ℕ) → option_map (λ n. n) o ≡ option_and_then last_number (option_map (λ n. (n, [])) o)
   same None = refl
-  same (Some y) = refl
+  same (Some n) = refl
+with_one-first (word ∷ other ∷ words) = none (number_of word) where
+  none : (o : Option ℕ) → None ≡ option_and_then last_number (option_map (λ n. (n, other ∷ words)) o)
+  none None = refl
+  none (Some n) = refl
 
--- more than one word
-pub with_one-more : {X Y : Type 0} (read : List ℕ → Option Y) (make : Y → X) (word : List ℕ) (words : List (List ℕ)) → (words ≡ [] → ⊥) → with_one read make (word ∷ words) ≡ None
-with_one-more read make word [] h = absurd (h refl)
-with_one-more read make word (other ∷ words) h = refl
+-- more than one
+pub one_number-more : (words : List (List ℕ)) (n : ℕ) (after : Option (Bor (List ℕ))) (rest : Bor (List ℕ)) → Some (n, words_after after) ≡ number_first words → after ≡ Some rest → with_one number_of (λ n. n) words ≡ None
+one_number-more words n after rest e some =
+    with_one-first words ∙ ap (option_and_then last_number) (sym e) ∙ ap (λ o. last_number (n, words_after o)) some ∙ none (words_of rest.now) (words_are_some rest.now) where
+      none : (others : List (List ℕ)) → (others ≡ [] → ⊥) → last_number (n, others) ≡ None
+      none [] h = absurd (h refl)
+      none (word ∷ others) h = refl
 
--- no argument, told by what a cut leaves
-pub without-told : {X : Type 0} (call : X) (arguments : Option (Bor (List ℕ))) → without call (words_after arguments) ≡ cond (is_none arguments) (Some call) None
-without-told call None = refl
-without-told {X} call (Some rest) = some (words_of rest.now) (words_are_some rest.now) where
-  some : (words : List (List ℕ)) → (words ≡ [] → ⊥) → without call words ≡ None
-  some [] h = absurd (h refl)
-  some (word ∷ words) h = refl
-
--- the one number of arguments that end with a word, or go on
-pub one_number-last : (arguments : Option (Bor (List ℕ))) (rest : Bor (List ℕ)) (word : List ℕ) (after : Option (Bor (List ℕ))) → arguments ≡ Some rest → slice_split (λ b. eqb b 32) rest.now ≡ word ∷ parts_after 32 after → after ≡ None → with_one number_of (λ n. n) (words_after arguments) ≡ number_of word
-one_number-last arguments rest word after e cut none =
-    ap (with_one number_of (λ n. n)) (words_after-cut arguments rest word after e cut ∙ ap (λ o. word ∷ words_after o) none) ∙ with_one-last number_of word
-
-pub one_number-more : (arguments : Option (Bor (List ℕ))) (rest : Bor (List ℕ)) (word : List ℕ) (after : Option (Bor (List ℕ))) (more : Bor (List ℕ)) → arguments ≡ Some rest → slice_split (λ b. eqb b 32) rest.now ≡ word ∷ parts_after 32 after → after ≡ Some more → with_one number_of (λ n. n) (words_after arguments) ≡ None
-one_number-more arguments rest word after more e cut some =
-    ap (with_one number_of (λ n. n)) (words_after-cut arguments rest word after e cut ∙ ap (λ o. word ∷ words_after o) some)
-    ∙ with_one-more number_of (λ n. n) word (words_of more.now) (words_are_some more.now)
-
--- two numbers of arguments with a first word
-abbrev pub pair : ℕ → ℕ → ℕ × ℕ
-pair n m = (n, m)
-
-abbrev pub second_after : ℕ → Option (Bor (List ℕ)) → Option (ℕ × ℕ)
-second_after n after = option_map (pair n) (with_one number_of (λ m. m) (words_after after))
-
-pub two_numbers-cut : (arguments : Option (Bor (List ℕ))) (rest : Bor (List ℕ)) (word : List ℕ) (after : Option (Bor (List ℕ))) → arguments ≡ Some rest → slice_split (λ b. eqb b 32) rest.now ≡ word ∷ parts_after 32 after
-    → with_two number_of pair (words_after arguments) ≡ option_and_then (λ n. second_after n after) (number_of word)
-two_numbers-cut arguments rest word after e cut =
-    ap (with_two number_of pair) (words_after-cut arguments rest word after e cut) ∙ second (number_of word) where
-      second : (o : Option ℕ) → option_and_then (λ n. with_one number_of (pair n) (words_after after)) o ≡ option_and_then (λ n. second_after n after) o
-      second None = refl
-      second (Some n) = with_one-mapped number_of (pair n) (words_after after)
+-- two arguments, the number first
+pub with_two-first : {X Y : Type 0} (read : List ℕ → Option Y) (make : ℕ → Y → X) (words : List (List ℕ)) → with_two read make words ≡ option_and_then (λ p. with_one read (make p.0) p.1) (number_first words)
+with_two-first read make [] = refl
+with_two-first {X = X} read make (word ∷ words) = same (number_of word) where
+  same : (o : Option ℕ) → option_and_then (λ n. with_one read (make n) words) o ≡ option_and_then (λ (p : ℕ × List (List ℕ)). with_one read (make p.0) p.1) (option_map (λ n. (n, words)) o)
+  same None = refl
+  same (Some n) = refl
 
 -- words that are equal as bytes
-same_word : (name text : List ℕ) → bytes_eq name text ≡ true → name ≡ text
+pub same_word : (name text : List ℕ) → bytes_eq name text ≡ true → name ≡ text
 same_word name text e = (bytes_eq-Decides name text).0 e
 
--- two numbers and one, each made something of
-pub with_two-mapped : (make : ℕ → ℕ → Call ℕ ℕ) (words : List (List ℕ)) → with_two number_of make words ≡ option_map (λ (p : ℕ × ℕ). make p.0 p.1) (with_two number_of (λ n m. (n, m)) words)
-with_two-mapped make [] = refl
-with_two-mapped make (word ∷ words) = first (number_of word) where
-  joined : (n : ℕ) (o : Option ℕ) → option_map (make n) o ≡ option_map (λ (p : ℕ × ℕ). make p.0 p.1) (option_map (λ m. (n, m)) o)
-  joined n None = refl
-  joined n (Some m) = refl
+-- a number with a value or the word `fail`
+abbrev pub tried : ℕ → Option ℕ → ℕ × Option ℕ
+tried n value = (n, value)
 
-  first : (o : Option ℕ) → option_and_then (λ n. with_one number_of (make n) words) o ≡ option_map (λ (p : ℕ × ℕ). make p.0 p.1) (option_and_then (λ n. with_one number_of (λ m. (n, m)) words) o)
+-- what the words after the number are
+tried-after : (words : List (List ℕ)) (n : ℕ) (rest : List ℕ) → Some (n, words_of rest) ≡ number_first words → with_two tried_of tried words ≡ with_one tried_of (tried n) (words_of rest)
+tried-after words n rest e = with_two-first tried_of tried words ∙ ap (option_and_then (λ p. with_one tried_of (tried p.0) p.1)) (sym e)
+
+pub tried-fail : (words : List (List ℕ)) (n : ℕ) (rest : List ℕ) → Some (n, words_of rest) ≡ number_first words → bytes_eq rest (codes "fail") ≡ true → Some (n, None) ≡ with_two tried_of tried words
+unfolding words_of
+tried-fail words n rest e fail =
+    sym (tried-after words n rest e ∙ ap (λ xs. with_one tried_of (tried n) (words_of xs)) (same_word rest (codes "fail") fail))
+
+-- a word alone is the whole text
+pub word_alone : (rest word : List ℕ) → words_of rest ≡ word ∷ [] → word ≡ rest
+unfolding words_of
+word_alone rest word e = sym (ap (join_with_byte 32) e) ∙ join_with_byte-slice_split 32 rest
+
+pub tried-number : (words : List (List ℕ)) (n : ℕ) (rest : List ℕ) → Some (n, words_of rest) ≡ number_first words → bytes_eq rest (codes "fail") ≡ false → with_two tried_of tried words ≡ option_map (λ m. (n, Some m)) (with_one number_of (λ m. m) (words_of rest))
+tried-number words n rest e other = tried-after words n rest e ∙ told (words_of rest) refl where
+  as_number : (o : Option ℕ) → option_map (tried n) (option_map Some o) ≡ option_map (λ m. (n, Some m)) (option_map (λ m. m) o)
+  as_number None = refl
+  as_number (Some m) = refl
+
+  told : (others : List (List ℕ)) → words_of rest ≡ others → with_one tried_of (tried n) others ≡ option_map (λ m. (n, Some m)) (with_one number_of (λ m. m) others)
+  told [] is = refl
+  told (word ∷ []) is =
+      let unlike : bytes_eq word (codes "fail") ≡ false = ap (λ w. bytes_eq w (codes "fail")) (word_alone rest word is) ∙ other in
+      rw unlike (as_number (number_of word))
+  told (word ∷ more ∷ others) is = refl
+
+-- two arguments, and then made something of
+pub with_two-mapped : {X Y : Type 0} (read : List ℕ → Option Y) (make : ℕ → Y → X) (words : List (List ℕ)) → with_two read make words ≡ option_map (λ (p : ℕ × Y). make p.0 p.1) (with_two read (λ n y. (n, y)) words)
+with_two-mapped read make [] = refl
+with_two-mapped {X = X} {Y = Y} read make (word ∷ words) = first (number_of word) where
+  joined : (n : ℕ) (o : Option Y) → option_map (make n) o ≡ option_map (λ (p : ℕ × Y). make p.0 p.1) (option_map (λ y. (n, y)) o)
+  joined n None = refl
+  joined n (Some y) = refl
+
+  first : (o : Option ℕ) → option_and_then (λ n. with_one read (make n) words) o ≡ option_map (λ (p : ℕ × Y). make p.0 p.1) (option_and_then (λ n. with_one read (λ y. (n, y)) words) o)
   first None = refl
-  first (Some n) = with_one-mapped number_of (make n) words ∙ joined n (with_one number_of (λ m. m) words) ∙ ap (option_map (λ (p : ℕ × ℕ). make p.0 p.1)) (sym (with_one-mapped number_of (λ m. (n, m)) words))
+  first (Some n) = with_one-mapped read (make n) words ∙ joined n (with_one read (λ y. y) words) ∙ ap (option_map (λ (p : ℕ × Y). make p.0 p.1)) (sym (with_one-mapped read (λ y. (n, y)) words))
 
 -- the call by its name: two numbers
-module _ (name : List ℕ) (arguments : List (List ℕ)) where
+module _ (name : List ℕ) (words : List (List ℕ)) where
   abbrev SpellsTwo : (ℕ → ℕ → Call ℕ ℕ) → List ℕ → Type 0
-  SpellsTwo make x = call_in (x ∷ arguments) ≡ option_map (λ (p : ℕ × ℕ). make p.0 p.1) (with_two number_of (λ n m. (n, m)) arguments)
+  SpellsTwo make x = numbers_call x words ≡ option_map (λ (p : ℕ × ℕ). make p.0 p.1) (with_two number_of (λ n m. (n, m)) words)
 
-  pub call_in-put : bytes_eq name (codes "put") ≡ true → SpellsTwo Put name
-  unfolding call_in
-  call_in-put e = subst (SpellsTwo Put) (sym (same_word name (codes "put") e)) (with_two-mapped Put arguments)
+  pub call-put : bytes_eq name (codes "put") ≡ true → SpellsTwo Put name
+  call-put e = subst (SpellsTwo Put) (sym (same_word name (codes "put") e)) (with_two-mapped number_of Put words)
 
--- one number
-module _ (name : List ℕ) (arguments : List (List ℕ)) where
+  pub call-get_at : bytes_eq name (codes "get_at") ≡ true → SpellsTwo GetAt name
+  call-get_at e = subst (SpellsTwo GetAt) (sym (same_word name (codes "get_at") e)) (with_two-mapped number_of GetAt words)
+
+  pub call-set : bytes_eq name (codes "set") ≡ true → SpellsTwo Set name
+  call-set e = subst (SpellsTwo Set) (sym (same_word name (codes "set") e)) (with_two-mapped number_of Set words)
+
+  pub call-with : bytes_eq name (codes "with") ≡ true → SpellsTwo With name
+  call-with e = subst (SpellsTwo With) (sym (same_word name (codes "with") e)) (with_two-mapped number_of With words)
+
+  -- a number and a value, or the word `fail`
+  abbrev SpellsTried : List ℕ → Type 0
+  SpellsTried x = numbers_call x words ≡ option_map (λ (p : ℕ × Option ℕ). Try p.0 p.1) (with_two tried_of (λ n v. (n, v)) words)
+
+  pub call-try : bytes_eq name (codes "try") ≡ true → SpellsTried name
+  call-try e = subst SpellsTried (sym (same_word name (codes "try") e)) (with_two-mapped tried_of Try words)
+
+  -- one number
   abbrev SpellsOne : (ℕ → Call ℕ ℕ) → List ℕ → Type 0
-  SpellsOne make x = call_in (x ∷ arguments) ≡ option_map make (with_one number_of (λ n. n) arguments)
+  SpellsOne make x = numbers_call x words ≡ option_map make (with_one number_of (λ n. n) words)
 
-  pub call_in-get : bytes_eq name (codes "get") ≡ true → SpellsOne Get name
-  unfolding call_in
-  call_in-get e = subst (SpellsOne Get) (sym (same_word name (codes "get") e)) (with_one-mapped number_of Get arguments)
+  pub call-get : bytes_eq name (codes "get") ≡ true → SpellsOne Get name
+  call-get e = subst (SpellsOne Get) (sym (same_word name (codes "get") e)) (with_one-mapped number_of Get words)
 
-  pub call_in-peek : bytes_eq name (codes "peek") ≡ true → SpellsOne Peek name
-  unfolding call_in
-  call_in-peek e = subst (SpellsOne Peek) (sym (same_word name (codes "peek") e)) (with_one-mapped number_of Peek arguments)
+  pub call-peek : bytes_eq name (codes "peek") ≡ true → SpellsOne Peek name
+  call-peek e = subst (SpellsOne Peek) (sym (same_word name (codes "peek") e)) (with_one-mapped number_of Peek words)
 
-  pub call_in-contains : bytes_eq name (codes "contains") ≡ true → SpellsOne Contains name
-  unfolding call_in
-  call_in-contains e = subst (SpellsOne Contains) (sym (same_word name (codes "contains") e)) (with_one-mapped number_of Contains arguments)
+  pub call-contains : bytes_eq name (codes "contains") ≡ true → SpellsOne Contains name
+  call-contains e = subst (SpellsOne Contains) (sym (same_word name (codes "contains") e)) (with_one-mapped number_of Contains words)
 
--- none
-module _ (name : List ℕ) (arguments : Option (Bor (List ℕ))) where
-  abbrev SpellsNone : Call ℕ ℕ → List ℕ → Type 0
-  SpellsNone call x = call_in (x ∷ words_after arguments) ≡ cond (is_none arguments) (Some call) None
+  pub call-remove : bytes_eq name (codes "remove") ≡ true → SpellsOne Remove name
+  call-remove e = subst (SpellsOne Remove) (sym (same_word name (codes "remove") e)) (with_one-mapped number_of Remove words)
 
-  pub call_in-len : bytes_eq name (codes "len") ≡ true → SpellsNone Len name
-  unfolding call_in
-  call_in-len e = subst (SpellsNone Len) (sym (same_word name (codes "len") e)) (without-told Len arguments)
+  -- a list
+  abbrev SpellsBits : List ℕ → Type 0
+  SpellsBits x = list_call x words ≡ option_map Retain (with_one (some_read bit_of) (λ bits. bits) words)
 
-  pub call_in-is_empty : bytes_eq name (codes "is_empty") ≡ true → SpellsNone IsEmpty name
-  unfolding call_in
-  call_in-is_empty e = subst (SpellsNone IsEmpty) (sym (same_word name (codes "is_empty") e)) (without-told IsEmpty arguments)
+  pub call-retain : bytes_eq name (codes "retain") ≡ true → SpellsBits name
+  call-retain e = subst SpellsBits (sym (same_word name (codes "retain") e)) (with_one-mapped (some_read bit_of) Retain words)
 
-  pub call_in-capacity : bytes_eq name (codes "capacity") ≡ true → SpellsNone Capacity name
-  unfolding call_in
-  call_in-capacity e = subst (SpellsNone Capacity) (sym (same_word name (codes "capacity") e)) (without-told Capacity arguments)
+  abbrev SpellsValues : List ℕ → Type 0
+  SpellsValues x = list_call x words ≡ option_map Prefill (some_read number_of words)
 
--- no command of this name
-pub call_in-other : (name : List ℕ) (arguments : List (List ℕ)) → bytes_eq name (codes "put") ≡ false → bytes_eq name (codes "get") ≡ false → bytes_eq name (codes "peek") ≡ false → bytes_eq name (codes "contains") ≡ false → bytes_eq name (codes "len") ≡ false → bytes_eq name (codes "is_empty") ≡ false → bytes_eq name (codes "capacity") ≡ false → call_in (name ∷ arguments) ≡ None
+  pub call-prefill : bytes_eq name (codes "prefill") ≡ true → SpellsValues name
+  call-prefill e = subst SpellsValues (sym (same_word name (codes "prefill") e)) refl
+
+-- a name alone
+module _ (name : List ℕ) where
+  abbrev SpellsAlone : Call ℕ ℕ → List ℕ → Type 0
+  SpellsAlone call x = lone_call x [] ≡ Some call
+
+  pub call-len : bytes_eq name (codes "len") ≡ true → SpellsAlone Len name
+  call-len e = subst (SpellsAlone Len) (sym (same_word name (codes "len") e)) refl
+
+  pub call-is_empty : bytes_eq name (codes "is_empty") ≡ true → SpellsAlone IsEmpty name
+  call-is_empty e = subst (SpellsAlone IsEmpty) (sym (same_word name (codes "is_empty") e)) refl
+
+  pub call-capacity : bytes_eq name (codes "capacity") ≡ true → SpellsAlone Capacity name
+  call-capacity e = subst (SpellsAlone Capacity) (sym (same_word name (codes "capacity") e)) refl
+
+  pub call-clear : bytes_eq name (codes "clear") ≡ true → SpellsAlone Clear name
+  call-clear e = subst (SpellsAlone Clear) (sym (same_word name (codes "clear") e)) refl
+
+-- tests that all lead to none
+abbrev nones : List Bool → Option (Call ℕ ℕ)
+nones [] = None
+nones (test ∷ tests) = cond test None (nones tests)
+
+all_none : (tests : List Bool) → nones tests ≡ None
+all_none [] = refl
+all_none (true ∷ tests) = refl
+all_none (false ∷ tests) = all_none tests
+
+-- no name spells numbers or a list alone
+numbers-alone : (name : List ℕ) → numbers_call name [] ≡ None
+numbers-alone name = all_none (bytes_eq name (codes "put") ∷ bytes_eq name (codes "get") ∷ bytes_eq name (codes "peek") ∷ bytes_eq name (codes "contains") ∷ bytes_eq name (codes "get_at") ∷ bytes_eq name (codes "set") ∷ bytes_eq name (codes "with") ∷ bytes_eq name (codes "try") ∷ bytes_eq name (codes "remove") ∷ [])
+
+list-alone : (name : List ℕ) → list_call name [] ≡ None
+list-alone name = all_none (bytes_eq name (codes "retain") ∷ bytes_eq name (codes "prefill") ∷ [])
+
+-- what a name spells alone
+pub call_in-alone : (name : List ℕ) → call_in (name ∷ []) ≡ lone_call name []
 unfolding call_in
-call_in-other name arguments a b c d e f g = rw (a, b, c, d, e, f, g) refl
+call_in-alone name = ap (λ o. option_or o (option_or (list_call name []) (lone_call name []))) (numbers-alone name) ∙ ap (λ o. option_or o (lone_call name [])) (list-alone name)
 
--- a capacity by its name
-module _ (name : List ℕ) (arguments : List (List ℕ)) where
-  pub capacity_in-new : bytes_eq name (codes "new") ≡ true → capacity_in (name ∷ arguments) ≡ option_and_then positive (with_one number_of (λ n. n) arguments)
-  unfolding capacity_in
-  capacity_in-new e = rw e refl
+-- what a name spells with numbers
+pub call_in-numbers : (name : List ℕ) (words : List (List ℕ)) (call : Call ℕ ℕ) → numbers_call name words ≡ Some call → call_in (name ∷ words) ≡ Some call
+unfolding call_in
+call_in-numbers name words call e = ap (λ o. option_or o (option_or (list_call name words) (lone_call name words))) e
 
-  pub capacity_in-other : bytes_eq name (codes "new") ≡ false → capacity_in (name ∷ arguments) ≡ None
-  unfolding capacity_in
-  capacity_in-other e = rw e refl
+-- no name that spells a call alone spells one with words
+lone-words : (name word : List ℕ) (words : List (List ℕ)) → lone_call name (word ∷ words) ≡ None
+lone-words name word words = all_none (bytes_eq name (codes "len") ∷ bytes_eq name (codes "is_empty") ∷ bytes_eq name (codes "capacity") ∷ bytes_eq name (codes "clear") ∷ [])
 
--- a number that isn't 0, where it is one
-pub positive-made : (n : ℕ) (made : Option NonZeroUsize) → MatchOption made (n ≡ 0) (λ x. non_zero_usize_get x ≡ n) → option_map non_zero_usize_get made ≡ positive n
-positive-made n None e = rw (eq-eqb n 0 e) refl
-positive-made n (Some x) e =
-    let some : eqb n 0 ≡ false = ne_eqb n 0 (λ z. omega (arith, x.ok)) in
-    rw some (ap Some e)
+or_none : (o : Option (Call ℕ ℕ)) → option_or o None ≡ o
+or_none None = refl
+or_none (Some call) = refl
+
+-- what a name spells with other words, which aren't none
+pub call_in-list : (name : List ℕ) (words : List (List ℕ)) → (words ≡ [] → ⊥) → numbers_call name words ≡ None → call_in (name ∷ words) ≡ list_call name words
+unfolding call_in
+call_in-list name [] some e = absurd (some refl)
+call_in-list name (word ∷ words) some e = ap (λ o. option_or o (option_or (list_call name (word ∷ words)) (lone_call name (word ∷ words)))) e ∙ ap (option_or (list_call name (word ∷ words))) (lone-words name word words) ∙ or_none (list_call name (word ∷ words))

@@ -1,17 +1,12 @@
 -- A text sent on, and a text answered.
-use Rattle.std.proofs.Common.{◌≡◌, ℕ, ◌+◌, ◌<◌, Bool, false, true, List, [], ◌++◌, length, take, Option, Some, None, Result, Ok, Err, inr, ap, ◌∙◌, arith, append-nil, nat_eq, ⊎_elim}
+use Rattle.std.proofs.Common.{◌≡◌, ℕ, ◌+◌, Bool, false, true, List, [], ◌++◌, length, take, Option, Some, None, Result, Ok, Err, inr, ap, ◌∙◌, arith, append-nil}
 use Rattle.std.specs.Result.{IfErr}
 use Rattle.std.specs.Io.KnownBytes.{Appends, Keeps}
-use Rattle.std.proofs.lemmas.Bool.{cases_lt}
 use Rattle.std.proofs.lemmas.List.{take_all}
 use Rattle.clock2q_command.specs.Ports.{Passed, passed_by, one_if}
 use Rattle.clock2q_command.specs.Transfer.{TookAll, TookSome}
-use Rattle.clock2q_command.specs.Serve.{IsReadWhole, IsAnswered, IsSent, Sends, HasNoText, IsRefused, Answers, RepliesTo, output_for}
-use Rattle.clock2q_cache.specs.Shares.{usual_shares}
-use Rattle.clock2q_cache.specs.Calls.{Call, Answer}
-use Rattle.clock2q_cache.specs.Machine.{Machine, empty}
-use Rattle.clock2q_cache.specs.Steps.{answers}
-use Rattle.clock2q_command.specs.Text.{Script, script_of, output_of}
+use Rattle.clock2q_command.specs.Serve.{IsReadWhole, IsAnswered, IsSent, Sends, HasNoText, IsRefused, Answers, RepliesTo}
+use Rattle.clock2q_command.specs.Text.{Script, script_of}
 use Rattle.clock2q_command.specs.declared.serve_error.ServeError.{ServeError}
 use Rattle.clock2q_command.specs.declared.serve_error.ServeError.TheVariants.{BadLine, Memory, Capacity, Policy, Read, Write}
 
@@ -52,7 +47,7 @@ Answers-replied old new left remain input script bytes (Ok text) whole is h = re
 Answers-replied old new left remain input script bytes (Err (BadLine line)) whole is h = absurd h
 Answers-replied old new left remain input script bytes (Err Memory) whole is h = inr (record { input = input; read = whole; good = λ line e. cc })
 Answers-replied old new left remain input script bytes (Err Capacity) whole is h = record { input = input; script = script; read = whole; spelled = is; large = h }
-Answers-replied old new left remain input script bytes (Err Policy) whole is h = absurd h
+Answers-replied old new left remain input script bytes (Err Policy) whole is h = record { input = input; script = script; read = whole; spelled = is; within = h.0; no_policy = h.1 }
 Answers-replied old new left remain input script bytes (Err Read) whole is h = absurd h
 Answers-replied old new left remain input script bytes (Err Write) whole is h = absurd h
 
@@ -62,7 +57,7 @@ IsRefused-early given gives left remain took takes held holds Write h = absurd h
 IsRefused-early given gives left remain took takes held holds (BadLine line) h = h
 IsRefused-early given gives left remain took takes held holds Memory h = h
 IsRefused-early given gives left remain took takes held holds Capacity h = h
-IsRefused-early given gives left remain took takes held holds Policy h = absurd h
+IsRefused-early given gives left remain took takes held holds Policy h = h
 IsRefused-early given gives left remain took takes held holds Read h = h
 
 -- with a text it is refused where sending fails
@@ -74,12 +69,3 @@ IsRefused-late given gives left remain took takes held holds text (Err Capacity)
 IsRefused-late given gives left remain took takes held holds text (Err Policy) answered h = absurd h
 IsRefused-late given gives left remain took takes held holds text (Err Read) answered h = absurd h
 IsRefused-late given gives left remain took takes held holds text (Err Write) answered h = record { text = text; count = h.0; answered = answered; written = h.1 }
-
--- where more would be refused, and isn't, there's no more
-pub within : (n : ℕ) (Refused : Type 0) → (16777215 < n → Refused) → (Refused → ⊥) → n < 16777216
-within n Refused refuses h = ⊎_elim (λ less. less) (λ more. absurd (h (refuses (omega arith)))) (cases_lt n 16777216)
-
--- the text of the answers of a cache that was empty
-pub output_for-answers : (capacity : ℕ) (calls : List (Call ℕ ℕ)) (m : Machine ℕ ℕ) (told : List (Answer ℕ)) → m ≡ empty (usual_shares capacity) → told ≡ answers nat_eq calls m → output_of told ≡ output_for (record { capacity = capacity; calls = calls })
-unfolding output_for
-output_for-answers capacity calls m told e f = ap output_of (f ∙ ap (answers nat_eq calls) e)

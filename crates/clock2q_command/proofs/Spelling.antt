@@ -1,13 +1,13 @@
 -- The calls that lines spell, as a loop over the lines gathers them.
 use Rattle.std.proofs.Common.{◌≡◌, ℕ, ◌+◌, ◌<◌, ◌≤◌, List, [], ◌∷◌, ◌++◌, Option, Some, None, Result, Ok, Err, refl, sym, ap, ◌∙◌, subst, append_assoc, arith}
+use Rattle.std.specs.Prelude.{IsSome}
 use Rattle.std.specs.Borrow.{Bor}
-use Rattle.std.specs.NonZero.{non_zero_usize_get}
 use Rattle.std.specs.Option.{ok_or, option_map}
-use Rattle.std.specs.declared.num.NonZeroUsize.{NonZeroUsize}
 use Rattle.clock2q_cache.specs.Calls.{Call}
+use Rattle.clock2q_cache.specs.Shares.{Shares}
 use Rattle.clock2q_command.specs.Cut.{first_and_others}
 use Rattle.clock2q_command.specs.Parsing.{Refuses}
-use Rattle.clock2q_command.specs.Text.{lines_of, words_of, capacity_in, call_in, call_then, with_call, calls_from, script_in, script_of, script_then, script_with}
+use Rattle.clock2q_command.specs.Text.{lines_of, words_of, shares_in, call_in, call_then, with_call, calls_from, script_in, script_of, script_then, script_with}
 use Rattle.clock2q_command.specs.declared.serve_error.ServeError.{ServeError}
 use Rattle.clock2q_command.specs.declared.serve_error.ServeError.TheVariants.{BadLine, Memory, Capacity, Policy, Read, Write}
 
@@ -29,24 +29,24 @@ gathered-more front call (Err line) = refl
 pub lines_of-found : (text : List ℕ) (found : Option (Bor (List ℕ) × Bor (List ℕ))) (first others : Bor (List ℕ)) → lines_of text ≡ first_and_others found → found ≡ Some (first, others) → lines_of text ≡ first.now ∷ lines_of others.now
 lines_of-found text found first others e some = e ∙ ap first_and_others some
 
--- the capacity of words in which one was found
-pub capacity_in-found : (words : List (List ℕ)) (found : Option NonZeroUsize) (capacity : NonZeroUsize) → option_map non_zero_usize_get found ≡ capacity_in words → found ≡ Some capacity → capacity_in words ≡ Some (non_zero_usize_get capacity)
-capacity_in-found words found capacity e some = sym e ∙ ap (option_map non_zero_usize_get) some
+-- the shares of words in which some were found
+pub shares_in-found : {X : Type 0} (view : X → Shares) (words : List (List ℕ)) (found : Option X) (x : X) → option_map view found ≡ shares_in words → found ≡ Some x → shares_in words ≡ Some (view x)
+shares_in-found view words found x e some = sym e ∙ ap (option_map view) some
 
 -- a text without lines
 pub script_of-empty : (text : List ℕ) → lines_of text ≡ [] → script_of text ≡ Err 1
 unfolding script_of
 script_of-empty text e = ap script_in e
 
--- a first line that is no capacity
-pub script_of-bad : (text first : List ℕ) (lines : List (List ℕ)) → lines_of text ≡ first ∷ lines → capacity_in (words_of first) ≡ None → script_of text ≡ Err 1
+-- a first line that spells no shares
+pub script_of-bad : (text first : List ℕ) (lines : List (List ℕ)) → lines_of text ≡ first ∷ lines → shares_in (words_of first) ≡ None → script_of text ≡ Err 1
 unfolding script_of
 script_of-bad text first lines e none = ap script_in e ∙ ap (λ c. script_then c (calls_from 2 lines)) none
 
 -- a first line that is one
-pub script_of-good : (text first : List ℕ) (lines : List (List ℕ)) (capacity : ℕ) → lines_of text ≡ first ∷ lines → capacity_in (words_of first) ≡ Some capacity → script_of text ≡ script_with capacity (calls_from 2 lines)
+pub script_of-good : (text first : List ℕ) (lines : List (List ℕ)) (shares : Shares) → lines_of text ≡ first ∷ lines → shares_in (words_of first) ≡ Some shares → script_of text ≡ script_with shares (calls_from 2 lines)
 unfolding script_of
-script_of-good text first lines capacity e some = ap script_in e ∙ ap (λ c. script_then c (calls_from 2 lines)) some
+script_of-good text first lines shares e some = ap script_in e ∙ ap (λ c. script_then c (calls_from 2 lines)) some
 
 -- the first bad line isn't above the first line
 calls_from-below : (n : ℕ) (lines : List (List ℕ)) (bad : ℕ) → calls_from n lines ≡ Err bad → n ≤ bad
@@ -66,15 +66,22 @@ gathered-later front n lines line others call bad e some h =
       later (Ok calls) b h = cc
       later (Err line) b h = omega (arith, b h)
 
+-- the same, where it spells one at least
+pub gathered-spelled : (front : List (Call ℕ ℕ)) (n : ℕ) (lines : List (List ℕ)) (line : List ℕ) (others : List (List ℕ)) (bad : ℕ) → lines ≡ line ∷ others → IsSome (call_in (words_of line)) → gathered front (calls_from n lines) ≡ Err bad → n < bad
+gathered-spelled front n lines line others bad e some h = spelled (call_in (words_of line)) refl some where
+  spelled : (o : Option (Call ℕ ℕ)) → call_in (words_of line) ≡ o → IsSome o → n < bad
+  spelled None is k = cc
+  spelled (Some call) is k = gathered-later front n lines line others call bad e is h
+
 -- a refusal of the calls is one of the script
-pub Refuses-script : (capacity : ℕ) (read : Result (List (Call ℕ ℕ)) ℕ) (refusal : ServeError) → Refuses refusal read → Refuses refusal (script_with capacity read)
-Refuses-script capacity read (BadLine line) h = ap (script_with capacity) h
-Refuses-script capacity (Ok calls) Memory h = λ line e. cc
-Refuses-script capacity (Err bad) Memory h = λ line e. let same : bad ≡ line = cc in h line (ap Err same)
-Refuses-script capacity read Capacity h = h
-Refuses-script capacity read Policy h = h
-Refuses-script capacity read Read h = h
-Refuses-script capacity read Write h = h
+pub Refuses-script : (shares : Shares) (read : Result (List (Call ℕ ℕ)) ℕ) (refusal : ServeError) → Refuses refusal read → Refuses refusal (script_with shares read)
+Refuses-script shares read (BadLine line) h = ap (script_with shares) h
+Refuses-script shares (Ok calls) Memory h = λ line e. cc
+Refuses-script shares (Err bad) Memory h = λ line e. let same : bad ≡ line = cc in h line (ap Err same)
+Refuses-script shares read Capacity h = h
+Refuses-script shares read Policy h = h
+Refuses-script shares read Read h = h
+Refuses-script shares read Write h = h
 
 -- line 1 is refused where something isn't there
 pub Refuses-first : {X Y : Type 0} (o : Option X) (refusal : ServeError) (spelled : Result Y ℕ) → ◌≡◌ {A = Result X ServeError} (Err refusal) (ok_or o (BadLine 1)) → (o ≡ None → spelled ≡ Err 1) → Refuses refusal spelled

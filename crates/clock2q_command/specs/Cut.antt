@@ -2,7 +2,8 @@
 use Rattle.std.specs.Prelude.{ℕ, ◌==◌, List, [], ◌∷◌, Option, Some, None}
 use Rattle.std.specs.Borrow.{Bor}
 use Rattle.std.specs.List.{slice_split}
-use Rattle.clock2q_command.specs.Text.{lines_of, words_of}
+use Rattle.std.specs.Option.{option_map}
+use Rattle.clock2q_command.specs.Text.{lines_of, words_of, number_of}
 
 -- the parts of what stands after a separator, if there was one
 abbrev pub parts_after : ℕ → Option (Bor (List ℕ)) → List (List ℕ)
@@ -18,3 +19,8 @@ words_after (Some rest) = words_of rest.now
 abbrev pub first_and_others : Option (Bor (List ℕ) × Bor (List ℕ)) → List (List ℕ)
 first_and_others None = []
 first_and_others (Some found) = found.0.now ∷ lines_of found.1.now
+
+-- the number that the first word writes, and the other words
+abbrev pub number_first : List (List ℕ) → Option (ℕ × List (List ℕ))
+number_first [] = None
+number_first (word ∷ words) = option_map (λ n. (n, words)) (number_of word)

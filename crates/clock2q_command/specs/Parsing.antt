@@ -1,10 +1,13 @@
 -- What the parser answers against what the text spells.
-use Rattle.std.specs.Prelude.{List, map, ◌≡◌, ◌<◌, ℕ, Result, Ok, Err}
+use Rattle.std.specs.Prelude.{List, map, ◌≡◌, ◌<◌, ℕ, Option, Some, None, IsSome, Result, Ok, Err}
 use Rattle.std.specs.NonZero.{non_zero_usize_get}
 use Rattle.std.specs.declared.num.NonZeroUsize.{NonZeroUsize}
+use Rattle.clock2q_cache.specs.Shares.{Shares, usual_shares}
+use Rattle.clock2q_cache.specs.Policies.{shares_of}
 use Rattle.clock2q_command.specs.Commands.{call_of}
 use Rattle.clock2q_command.specs.Text.{Script}
 use Rattle.clock2q_command.specs.declared.commands.Command.{Command}
+use Rattle.clock2q_command.specs.declared.text.ChosenShares.{ChosenShares}
 use Rattle.clock2q_command.specs.declared.serve_error.ServeError.{ServeError}
 use Rattle.clock2q_command.specs.declared.serve_error.ServeError.TheVariants.{BadLine, Memory, Capacity, Policy, Read, Write}
 
@@ -22,6 +25,17 @@ abbrev pub Parses : {X Y : Type 0} → (X → Y) → Result X ServeError → Res
 Parses view (Ok x) spelled = spelled ≡ Ok (view x)
 Parses view (Err refusal) spelled = Refuses refusal spelled
 
--- a capacity and commands as the script that they are
-abbrev pub script_value : {A : Type 0} → NonZeroUsize → List (Command ℕ ℕ A) → Script
-script_value capacity commands = record { capacity = non_zero_usize_get capacity; calls = map call_of commands }
+-- a capacity with shares of its own, or with the usual ones
+abbrev pub shares_value : NonZeroUsize → Option ChosenShares → Shares
+shares_value capacity None = usual_shares (non_zero_usize_get capacity)
+shares_value capacity (Some chosen) = shares_of (non_zero_usize_get capacity) chosen.small chosen.window
+
+-- what the first line and the others spell, as the script that they are
+abbrev pub script_value : {A : Type 0} → Shares → List (Command ℕ ℕ A) → Script
+script_value shares commands = record { shares = shares; calls = map call_of commands }
+
+-- no line is spelled; or what was read, seen by `view`; or there was no memory for its list
+abbrev pub Spells : {X Y E : Type 0} → (X → Y) → Option (Result X E) → Option Y → Type 0
+Spells view None spelled = spelled ≡ None
+Spells view (Some (Ok x)) spelled = spelled ≡ Some (view x)
+Spells view (Some (Err e)) spelled = IsSome spelled

@@ -1,8 +1,11 @@
 -- What `serve` reads, what it answers, and what it writes.
-use Rattle.std.specs.Prelude.{◌≡◌, ◌⊎◌, ℕ, ◌^◌, ◌<◌, ◌≤◌, true, false, List, nat_eq, Option, Result, Ok, Err}
+use Rattle.std.specs.Prelude.{◌≡◌, ◌⊎◌, ℕ, ◌^◌, ◌<◌, true, false, List, nat_eq, Option, Result, Ok, Err}
 use Rattle.std.specs.Io.KnownBytes.{Appends, Consumes, IsAtEnd}
-use Rattle.clock2q_cache.specs.Shares.{usual_shares}
-use Rattle.clock2q_cache.specs.Machine.{empty}
+use Rattle.clock2q_cache.specs.Policies.{IsPolicy}
+use Rattle.clock2q_cache.specs.Machine.{Machine, empty}
+use Rattle.clock2q_cache.specs.Shares.{Shares}
+use Rattle.clock2q_cache.specs.declared.error.CacheError.{CacheError}
+use Rattle.clock2q_cache.specs.declared.error.CacheError.TheVariants as cache
 use Rattle.clock2q_cache.specs.Steps.{answers}
 use Rattle.clock2q_command.specs.Ports.{Passed, passed_by}
 use Rattle.clock2q_command.specs.Transfer.{TookSome, FailsWith, GivesUp}
@@ -10,9 +13,17 @@ use Rattle.clock2q_command.specs.Text.{Script, script_of, output_of}
 use Rattle.clock2q_command.specs.declared.serve_error.ServeError.{ServeError}
 use Rattle.clock2q_command.specs.declared.serve_error.ServeError.TheVariants.{BadLine, Memory, Capacity, Policy, Read, Write}
 
--- what is written for a script: `ok`, and the answers of a new cache of its capacity
+-- what is written for a script: `ok`, and the answers of a new cache with its shares
 unfoldable pub output_for : Script → List ℕ
-output_for script = output_of (answers nat_eq script.calls (empty (usual_shares script.capacity)))
+output_for script = output_of (answers nat_eq script.calls (empty script.shares))
+
+-- a cache may have so large a capacity
+abbrev pub IsWithin : Shares → Type 0
+IsWithin shares = shares.capacity < 2 ^ 24
+
+-- a cache may have these shares
+abbrev pub CanBeHad : Shares → Type 0
+CanBeHad shares = IsWithin shares × IsPolicy shares
 
 -- the whole input was read, once up to its end, and the source never failed
 pub record IsReadWhole (old new : Passed) (left remain : Option (List ℕ)) (input : List ℕ) : Type 0 where
@@ -27,7 +38,7 @@ module _ (old new : Passed) (left remain : Option (List ℕ)) where
     pub script : Script
     pub read : IsReadWhole old new left remain input
     pub spelled : script_of input ≡ Ok script
-    pub served : script.capacity < 2 ^ 24
+    pub served : CanBeHad script.shares
     pub told : text ≡ output_for script
 
   -- the whole input was read, and this line is its first bad one
@@ -42,7 +53,16 @@ module _ (old new : Passed) (left remain : Option (List ℕ)) where
     pub script : Script
     pub read : IsReadWhole old new left remain input
     pub spelled : script_of input ≡ Ok script
-    pub large : 2 ^ 24 ≤ script.capacity
+    pub large : ¬ IsWithin script.shares
+
+  -- the whole input was read, all its lines are good, the capacity is within its limit, and the shares can't be had together
+  pub record HasNoPolicy : Type 0 where
+    pub input : List ℕ
+    pub script : Script
+    pub read : IsReadWhole old new left remain input
+    pub spelled : script_of input ≡ Ok script
+    pub within : IsWithin script.shares
+    pub no_policy : ¬ IsPolicy script.shares
 
   -- the whole input was read, and neither of its first two lines is a bad one
   pub record HasGoodStart : Type 0 where
@@ -55,7 +75,7 @@ module _ (old new : Passed) (left remain : Option (List ℕ)) where
   HasNoText (BadLine line) = HasBadLine line
   HasNoText Memory = GivesUp old new Memory ⊎ HasGoodStart
   HasNoText Capacity = IsTooLarge
-  HasNoText Policy = ⊥
+  HasNoText Policy = HasNoPolicy
   HasNoText Read = GivesUp old new Read
   HasNoText Write = ⊥
 
@@ -75,15 +95,30 @@ module _ (old new : Passed) (held holds : Option (List ℕ)) (text : List ℕ) w
   Sends (Ok done) = IsSent
   Sends (Err refusal) = FailsWith old new held holds text refusal
 
--- a new cache answered the script; or its capacity was too large, or memory ran out
+-- why no cache with these shares was made: its capacity is too large, or its shares can't be had together, or memory ran out
+abbrev pub IsUnmade : Shares → CacheError → Type 0
+IsUnmade shares cache.Memory = CanBeHad shares
+IsUnmade shares cache.Capacity = ¬ IsWithin shares
+IsUnmade shares cache.Policy = IsWithin shares × ¬ IsPolicy shares
+
+-- a new cache with these shares, or why there's none
+abbrev pub Makes : {X K V : Type 0} → Shares → (X → Machine K V) → Result X CacheError → Type 0
+Makes shares machine (Ok cache) = CanBeHad shares × (machine cache ≡ empty shares)
+Makes shares machine (Err refusal) = IsUnmade shares refusal
+
+-- why a script with these shares isn't answered, likewise
+abbrev pub IsUnanswered : Shares → ServeError → Type 0
+IsUnanswered shares (BadLine line) = ⊥
+IsUnanswered shares Memory = CanBeHad shares
+IsUnanswered shares Capacity = ¬ IsWithin shares
+IsUnanswered shares Policy = IsWithin shares × ¬ IsPolicy shares
+IsUnanswered shares Read = ⊥
+IsUnanswered shares Write = ⊥
+
+-- a new cache answered the script, or was refused
 abbrev pub RepliesTo : {X : Type 0} → Script → (X → List ℕ) → Result X ServeError → Type 0
-RepliesTo script bytes (Ok text) = (script.capacity < 2 ^ 24) × (bytes text ≡ output_for script)
-RepliesTo script bytes (Err (BadLine line)) = ⊥
-RepliesTo script bytes (Err Memory) = script.capacity < 2 ^ 24
-RepliesTo script bytes (Err Capacity) = 2 ^ 24 ≤ script.capacity
-RepliesTo script bytes (Err Policy) = ⊥
-RepliesTo script bytes (Err Read) = ⊥
-RepliesTo script bytes (Err Write) = ⊥
+RepliesTo script bytes (Ok text) = CanBeHad script.shares × (bytes text ≡ output_for script)
+RepliesTo script bytes (Err refusal) = IsUnanswered script.shares refusal
 
 module _ (given gives : Passed) (left remain : Option (List ℕ)) (took takes : Passed) (held holds : Option (List ℕ)) where
   -- the whole input was read, it spells a script that a cache can serve, and the text of its answers was written and sent on

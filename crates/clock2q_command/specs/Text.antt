@@ -1,10 +1,12 @@
 -- The command text: what is a line, which line is which command, and the text of the replies.
 use Rattle.std.specs.Prelude.{ℕ, ◌+◌, ◌^◌, Bool, true, false, ◌&&◌, ◌==◌, nat_lt, if◌then◌else◌, List, [], ◌∷◌, ◌++◌, length, Option, Some, None, Result, Ok, Err, codes, decimal}
-use Rattle.std.specs.Option.{option_and_then, option_map}
-use Rattle.std.specs.List.{slice_split, list_any, flat_map}
+use Rattle.std.specs.Option.{option_and_then, option_map, option_or}
+use Rattle.std.specs.List.{slice_split, flat_map}
 use Rattle.std.specs.Str.{bytes_eq, all_ascii_digits}
 use Rattle.std.specs.Str.Parse.{digits_value}
-use Rattle.clock2q_cache.specs.Calls.{Call, Answer, Put, Get, Peek, Contains, GetAt, Set, With, Try, SlotFor, Remove, Retain, Clear, Prefill, Len, IsEmpty, Capacity, Value, Stored, Tried, Slot, Flag, Number, Done}
+use Rattle.clock2q_cache.specs.Shares.{Shares, usual_shares}
+use Rattle.clock2q_cache.specs.Policies.{shares_of}
+use Rattle.clock2q_cache.specs.Calls.{Call, Answer, Put, Get, Peek, Contains, GetAt, Set, With, Try, Remove, Retain, Clear, Prefill, Len, IsEmpty, Capacity, Value, Stored, Tried, Slot, Flag, Number, Done}
 
 -- the parts round the line ends, but nothing after the last line end is no line
 abbrev pub lines_of_parts : List (List ℕ) → List (List ℕ)
@@ -64,9 +66,9 @@ module _ {X : Type 0} where
 abbrev pub tried_of : List ℕ → Option (Option ℕ)
 tried_of word = if bytes_eq word (codes "fail") then Some None else option_map Some (number_of word)
 
--- the call that a command's name and its arguments spell
-abbrev pub call_named : List ℕ → List (List ℕ) → Option (Call ℕ ℕ)
-call_named name arguments =
+-- the call that a name spells with one number or two; the program has no `slot` yet
+abbrev pub numbers_call : List ℕ → List (List ℕ) → Option (Call ℕ ℕ)
+numbers_call name arguments =
     if bytes_eq name (codes "put") then with_two number_of Put arguments
     else if bytes_eq name (codes "get") then with_one number_of Get arguments
     else if bytes_eq name (codes "peek") then with_one number_of Peek arguments
@@ -75,37 +77,50 @@ call_named name arguments =
     else if bytes_eq name (codes "set") then with_two number_of Set arguments
     else if bytes_eq name (codes "with") then with_two number_of With arguments
     else if bytes_eq name (codes "try") then with_two tried_of Try arguments
-    else if bytes_eq name (codes "slot") then with_two number_of SlotFor arguments
     else if bytes_eq name (codes "remove") then with_one number_of Remove arguments
-    else if bytes_eq name (codes "retain") then with_one (some_read bit_of) Retain arguments
-    else if bytes_eq name (codes "clear") then without Clear arguments
-    else if bytes_eq name (codes "prefill") then option_map Prefill (some_read number_of arguments)
-    else if bytes_eq name (codes "len") then without Len arguments
-    else if bytes_eq name (codes "is_empty") then without IsEmpty arguments
-    else if bytes_eq name (codes "capacity") then without Capacity arguments
     else None
 
--- the names of the commands that the program has
-abbrev pub names_there : List (List ℕ)
-names_there = codes "put" ∷ codes "get" ∷ codes "peek" ∷ codes "contains" ∷ codes "len" ∷ codes "is_empty" ∷ codes "capacity" ∷ []
+-- with a list
+abbrev pub list_call : List ℕ → List (List ℕ) → Option (Call ℕ ℕ)
+list_call name arguments =
+    if bytes_eq name (codes "retain") then with_one (some_read bit_of) Retain arguments
+    else if bytes_eq name (codes "prefill") then option_map Prefill (some_read number_of arguments)
+    else None
 
--- the call that words spell, where the program has the command
+-- alone
+abbrev pub lone_call : List ℕ → List (List ℕ) → Option (Call ℕ ℕ)
+lone_call name arguments =
+    if bytes_eq name (codes "len") then without Len arguments
+    else if bytes_eq name (codes "is_empty") then without IsEmpty arguments
+    else if bytes_eq name (codes "capacity") then without Capacity arguments
+    else if bytes_eq name (codes "clear") then without Clear arguments
+    else None
+
+-- the call that a command's name and its arguments spell
+abbrev pub call_named : List ℕ → List (List ℕ) → Option (Call ℕ ℕ)
+call_named name arguments = option_or (numbers_call name arguments) (option_or (list_call name arguments) (lone_call name arguments))
+
+-- the call that words spell
 unfoldable pub call_in : List (List ℕ) → Option (Call ℕ ℕ)
 call_in [] = None
-call_in (name ∷ arguments) = if list_any (bytes_eq name) names_there then call_named name arguments else None
+call_in (name ∷ arguments) = call_named name arguments
 
--- a capacity is 1 at least
-abbrev pub positive : ℕ → Option ℕ
-positive n = if n == 0 then None else Some n
+-- the shares that the numbers after `new` choose: a capacity with its usual shares, or a capacity, Small's share and the window; a capacity is 1 at least
+abbrev pub shares_from : List ℕ → Option Shares
+shares_from [] = None
+shares_from (capacity ∷ []) = if capacity == 0 then None else Some (usual_shares capacity)
+shares_from (capacity ∷ small ∷ []) = None
+shares_from (capacity ∷ small ∷ window ∷ []) = if capacity == 0 then None else Some (shares_of capacity small window)
+shares_from (capacity ∷ small ∷ window ∷ other ∷ numbers) = None
 
--- the capacity that the words `new C` spell
-unfoldable pub capacity_in : List (List ℕ) → Option ℕ
-capacity_in [] = None
-capacity_in (name ∷ arguments) = if bytes_eq name (codes "new") then option_and_then positive (with_one number_of (λ n. n) arguments) else None
+-- the shares that the words `new C` or `new C S W` spell
+unfoldable pub shares_in : List (List ℕ) → Option Shares
+shares_in [] = None
+shares_in (name ∷ arguments) = if bytes_eq name (codes "new") then option_and_then shares_from (all_read number_of arguments) else None
 
--- what a text asks for: a cache of this capacity, and these calls of it
+-- what a text asks for: a cache with these shares, and these calls of it
 pub record Script : Type 0 where
-  pub capacity : ℕ
+  pub shares : Shares
   pub calls : List (Call ℕ ℕ)
 
 -- one call more in front
@@ -123,20 +138,20 @@ abbrev pub calls_from : ℕ → List (List ℕ) → Result (List (Call ℕ ℕ))
 calls_from n [] = Ok []
 calls_from n (line ∷ lines) = call_then n (call_in (words_of line)) (calls_from (n + 1) lines)
 
--- a capacity before the calls
-abbrev pub script_with : ℕ → Result (List (Call ℕ ℕ)) ℕ → Result Script ℕ
-script_with capacity (Ok calls) = Ok (record { capacity = capacity; calls = calls })
-script_with capacity (Err line) = Err line
+-- shares before the calls
+abbrev pub script_with : Shares → Result (List (Call ℕ ℕ)) ℕ → Result Script ℕ
+script_with shares (Ok calls) = Ok (record { shares = shares; calls = calls })
+script_with shares (Err line) = Err line
 
--- the first line's capacity before the calls of the others; line 1 is bad where it spells none
-abbrev pub script_then : Option ℕ → Result (List (Call ℕ ℕ)) ℕ → Result Script ℕ
+-- the first line's shares before the calls of the others; line 1 is bad where it spells none
+abbrev pub script_then : Option Shares → Result (List (Call ℕ ℕ)) ℕ → Result Script ℕ
 script_then None read = Err 1
-script_then (Some capacity) read = script_with capacity read
+script_then (Some shares) read = script_with shares read
 
 -- the script that lines spell, or the number of the first bad one, which is 1 where there is no line
 abbrev pub script_in : List (List ℕ) → Result Script ℕ
 script_in [] = Err 1
-script_in (line ∷ lines) = script_then (capacity_in (words_of line)) (calls_from 2 lines)
+script_in (line ∷ lines) = script_then (shares_in (words_of line)) (calls_from 2 lines)
 
 -- the script that a text spells, or the number of its first bad line
 unfoldable pub script_of : List ℕ → Result Script ℕ

@@ -34,9 +34,6 @@ pub enum Command<K, V, A: Allocator = Global> {
     /// Does the same with a value that may be missing, as after an error: then a key that isn't
     /// resident is not inserted. Replied to with `Tried`.
     Try(K, Option<V>),
-    /// Asks for a key's slot and the value there, and inserts the key if it isn't resident. A slot
-    /// that was made before keeps its value, and a new one gets this value. Replied to with `Slot`.
-    Slot(K, V),
     /// Removes a key, or what is remembered of it. Replied to with `Flag`: whether it was resident.
     Remove(K),
     /// Keeps the residents whose bit is true, by ascending slot, and those past the end of the list;
@@ -125,7 +122,6 @@ where
         Command::Set(key, value) => Reply::Value(set(cache, &key, value)),
         Command::With(key, value) => Reply::Stored(fetch(cache, key, value)),
         Command::Try(key, offered) => Reply::Tried(try_fetch(cache, key, offered)),
-        Command::Slot(..) => unreachable!(),
         Command::Remove(key) => Reply::Flag(cache.remove(&key)),
         Command::Retain(bits) => {
             retain(cache, &bits);

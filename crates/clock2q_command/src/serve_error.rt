@@ -19,8 +19,8 @@ pub enum ServeError {
     /// [`MAX_CAPACITY`](clock2q_cache::MAX_CAPACITY).
     #[error("capacity refused")]
     Capacity,
-    /// The shares can't be had together. No line asks for shares of its own yet, so
-    /// [`serve`](crate::serve) never gives this.
+    /// All lines are good, the capacity is within its limit, and the shares that the first line
+    /// chooses can't be had together.
     #[error("policy refused")]
     Policy,
     /// The source failed, before its end was reached.

@@ -1,27 +1,51 @@
 //! The program's whole work: from the bytes of a command text to the bytes of its replies.
-ghost use Rattle.std.specs.Prelude.{◌≡◌, ◌≢◌, ◌↔◌, ◌<◌, OnOk, IfErr, IsErrOf, string_bytes};
-ghost use Rattle.clock2q_command.specs.Parsing.{script_value};
-ghost use Rattle.clock2q_command.specs.Serve.{Answers, Sends, RepliesTo, IsServed, IsRefused};
+ghost use Rattle.std.specs.Prelude.{◌≡◌, ◌≢◌, ◌↔◌, ◌<◌, OnOk, IfErr, IsErrOf, map};
+ghost use Rattle.clock2q_command.specs.Commands.{call_of, AreSupplied};
+ghost use Rattle.clock2q_command.specs.Parsing.{shares_value, script_value};
+ghost use Rattle.clock2q_command.specs.Serve.{Answers, Sends, Makes, RepliesTo, IsServed, IsRefused};
 
 use crate::commands::run;
 use crate::ports::{Sink, Source};
 use crate::replies::reply_text;
 use crate::serve_error::ServeError;
-use crate::text::{Script, parse};
+use crate::text::{ChosenShares, Script, parse};
 use crate::transfer::{read_all, write_all};
-use clock2q_cache::{Cache, DefaultHashBuilder};
+use clock2q_cache::{Cache, CacheError, DefaultHashBuilder};
 use std::alloc::Allocator;
+use std::num::NonZeroUsize;
+
+// Makes the cache that a first line asks for.
+fn new_cache<A: Allocator>(
+    alloc: &A,
+    capacity: NonZeroUsize,
+    chosen: Option<ChosenShares>,
+) -> Result<Cache<u64, u64, DefaultHashBuilder, &A>, CacheError>
+    ensures { Makes (shares_value capacity chosen) (λ cache. cache.machine) result }
+{
+    match chosen {
+        None => Cache::new(alloc, capacity),
+        Some(chosen) => {
+            let hasher = DefaultHashBuilder::new();
+            Cache::with_policy(alloc, capacity, chosen.small, chosen.window, hasher)
+        }
+    }
+}
 
 // Returns the text of a new cache's replies to a script.
 fn reply_to<'a, A: Allocator>(
     alloc: &'a A,
     script: Script<&'a A>,
-) -> Result<String<&'a A>, ServeError>
-    ensures { RepliesTo (script_value script.entry.capacity script.entry.commands.items)
-        string_bytes result }
+) -> Result<Vec<u8, &'a A>, ServeError>
+    requires { AreSupplied (map call_of script.commands.items) }
+    ensures { RepliesTo (script_value (shares_value script.entry.capacity script.entry.chosen) script.entry.commands.items)
+        (λ text. text.items) result }
 {
-    let Script { capacity, commands } = script;
-    let mut cache: Cache<u64, u64, DefaultHashBuilder, &A> = Cache::new(alloc, capacity)?;
+    let Script {
+        capacity,
+        chosen,
+        commands,
+    } = script;
+    let mut cache = new_cache(alloc, capacity, chosen)?;
     let replies = run(alloc, &mut cache, commands)?;
     Ok(reply_text(alloc, &replies)?)
 }
@@ -30,9 +54,9 @@ fn reply_to<'a, A: Allocator>(
 fn answer<'a, R: Source, A: Allocator>(
     alloc: &'a A,
     reader: &mut R,
-) -> Result<String<&'a A>, ServeError>
+) -> Result<Vec<u8, &'a A>, ServeError>
     ensures { Answers (R.given reader.old) (R.given reader.new)
-        (R.remaining reader.old) (R.remaining reader.new) string_bytes result }
+        (R.remaining reader.old) (R.remaining reader.new) (λ text. text.items) result }
 {
     let input = read_all(alloc, reader)?;
     let script = parse(alloc, &input)?;
@@ -54,8 +78,8 @@ fn send<W: Sink>(writer: &mut W, text: &[u8]) -> Result<(), ServeError>
 /// Reads a command text to its end, runs its commands on a new cache, and writes the replies.
 ///
 /// The first of these that applies is returned: `Read` where a read fails; `BadLine` where a line
-/// is no command in its place; `Capacity` where the cache would be too large; `Write` where a write
-/// or the flush fails. `Memory` comes at whatever step a request for memory is refused: while the
+/// is no command in its place; `Capacity` where the cache would be too large; `Policy` where its
+/// shares can't be had together; `Write` where a write or the flush fails. `Memory` comes at whatever step a request for memory is refused: while the
 /// input is read, or where none of its first two lines is bad. All lines are read before the cache
 /// is made, and the whole reply text is made before any of it is written, so a refusal other than
 /// `Write` has written nothing. `Write` may come after a beginning of the text. No failed read,
@@ -89,5 +113,5 @@ pub fn serve<R: Source, W: Sink, A: Allocator>(
     ensures unwritten { IfErr result (λ refusal. (refusal ≢ ServeError.Write) → writer.new ≡ writer.old) }
 {
     let text = answer(&alloc, reader)?;
-    send(writer, text.as_bytes())
+    send(writer, &text)
 }

@@ -10,4 +10,8 @@ mod policies;
 #[cfg(test)]
 mod table_commands;
 #[cfg(test)]
+mod text_edges;
+#[cfg(test)]
+mod text_lines;
+#[cfg(test)]
 mod texts;

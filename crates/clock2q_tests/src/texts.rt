@@ -5,7 +5,7 @@ use std::alloc::{AllocError, Global};
 use std::test::Fail;
 
 // What `serve` answers to a text, and what it writes.
-fn served(alloc: Global, text: &[u8]) -> (Result<(), ServeError>, Vec<u8>) {
+pub(crate) fn served(alloc: Global, text: &[u8]) -> (Result<(), ServeError>, Vec<u8>) {
     let mut reader = Device::new(text);
     let mut writer = Device::new(Vec::new(alloc));
     let outcome = serve(alloc, &mut reader, &mut writer);
@@ -13,7 +13,7 @@ fn served(alloc: Global, text: &[u8]) -> (Result<(), ServeError>, Vec<u8>) {
 }
 
 // A text from a row in which `;` stands for a line end.
-fn lines(alloc: Global, row: &str) -> Result<String, AllocError> {
+pub(crate) fn lines(alloc: Global, row: &str) -> Result<String, AllocError> {
     let mut text = String::new(alloc);
     for line in row.split(';') {
         text.push_str(line.trim())?;
@@ -169,28 +169,6 @@ const BAD_LINES: [(&[u8], usize); 64] = [
     (b"new 18446744073709551615\nlen\nbogus", 3),
 ];
 
-// Lines that are bad after the first one: of commands that the program does not have yet, well or badly written, and `new`.
-const NOT_THERE: [&str; 18] = [
-    "get_at 0",
-    "get_at 0 1",
-    "set 1 2",
-    "with 1 2",
-    "try 1 2",
-    "try 1 fail",
-    "try 1 FAIL",
-    "slot 1 2",
-    "remove 1",
-    "retain",
-    "retain 01",
-    "retain 012",
-    "clear",
-    "prefill",
-    "prefill 1 2",
-    "prefill 1  2",
-    "new 2",
-    "new 2 1 1",
-];
-
 #[test]
 fn bad_lines(rt: HostRuntime) -> Result<(), Fail> {
     for (text, line) in BAD_LINES {
@@ -198,17 +176,11 @@ fn bad_lines(rt: HostRuntime) -> Result<(), Fail> {
         assert_eq!(rt; outcome, Err(ServeError::BadLine(line)), "{text:?}");
         assert_eq!(rt; written.len(), 0, "{text:?}");
     }
-    for line in NOT_THERE {
-        let text = format!(in rt.alloc(); "new 2\n{line}\nlen\n")?;
-        let (outcome, written) = served(rt.alloc(), text.as_bytes());
-        assert_eq!(rt; outcome, Err(ServeError::BadLine(2)), "{line}");
-        assert_eq!(rt; written.len(), 0, "{line}");
-    }
     Ok(())
 }
 
 // Refused texts, the line that says why, and the status.
-const REFUSED: [(&[u8], &str, u8); 10] = [
+const REFUSED: [(&[u8], &str, u8); 17] = [
     (b"", "line 1: bad command", 2),
     (b"new 0", "line 1: bad command", 2),
     (b"new 2\nput 1", "line 2: bad command", 2),
@@ -223,6 +195,13 @@ const REFUSED: [(&[u8], &str, u8); 10] = [
     (b"new 16777216\nput 1 10\nlen\n", "capacity refused", 3),
     (b"new 18446744073709551615", "capacity refused", 3),
     (b"new 018446744073709551615\n", "capacity refused", 3),
+    (b"new 16777216 99999999 0", "capacity refused", 3),
+    (b"new 2 2 1", "policy refused", 5),
+    (b"new 2 1 0", "policy refused", 5),
+    (b"new 2 1 2", "policy refused", 5),
+    (b"new 2 0 1\nlen", "policy refused", 5),
+    (b"new 2 2 1\nbogus", "line 2: bad command", 2),
+    (b"new 0 0 0", "line 1: bad command", 2),
 ];
 
 #[test]
@@ -248,6 +227,7 @@ fn told(rt: HostRuntime) -> Result<(), Fail> {
         (ServeError::BadLine(1), "line 1: bad command", 2),
         (ServeError::BadLine(10), "line 10: bad command", 2),
         (ServeError::Capacity, "capacity refused", 3),
+        (ServeError::Policy, "policy refused", 5),
         (ServeError::Memory, "no memory", 3),
         (ServeError::Read, "read failed", 4),
         (ServeError::Write, "write failed", 4),

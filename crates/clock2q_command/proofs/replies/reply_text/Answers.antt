@@ -6,7 +6,7 @@ use Rattle.clock2q_command.proofs.Answering.{output_of-none, output_of-more}
 use Rattle.clock2q_command.proofs.replies.reply_text.Goals as goal
 
 pub loop-reply-init : goal.loop-reply-init
-loop-reply-init g c = c.in_ok-push_str.ensures.bytes ∙ ap (λ xs. xs ++ codes "ok\n") c.new-text.ensures.bytes ∙ sym output_of-none
+loop-reply-init g c = c.in_ok-extend_from_slice.ensures.items ∙ ap (λ xs. xs ++ codes "ok\n") c.new-text.ensures.items ∙ sym output_of-none
 
 pub loop-reply-preserved : goal.loop-reply-preserved
 loop-reply-preserved g c =

@@ -1,4 +1,3 @@
-use Rattle.std.specs.String.{string_bytes}
 use Rattle.std.proofs.lemmas.Result.{err_from_is_err_and}
 use Rattle.clock2q_command.proofs.Served.{IsRefused-early, IsRefused-late}
 use Rattle.clock2q_command.proofs.serving.serve.Goals as goal
@@ -10,4 +9,4 @@ returns-in_err-text-clause-err g c =
 
 pub returns-clause-err : goal.returns-clause-err
 returns-clause-err g c =
-    IsRefused-late _ _ _ _ _ _ _ _ (string_bytes c.in_ok-text.text) c.send.result c.in_ok-text.ensures (rw c.as_bytes.ensures.value at c.send.ensures)
+    IsRefused-late _ _ _ _ _ _ _ _ c.in_ok-text.text.items c.send.result c.in_ok-text.ensures (rw c.deref.ensures.value at c.send.ensures)

@@ -1,0 +1,79 @@
+-- A cache that is made with the shares of a script, or refused, and what it replies.
+use Rattle.std.proofs.Common.{◌≡◌, ℕ, ◌+◌, ◌/◌, ◌<◌, ◌≤◌, Bool, true, false, cond, eqb, ltb, max, List, [], ◌∷◌, Option, Some, None, Result, Ok, Err, refl, ap, ◌∙◌, subst, arith, nat_eq, ⊎_elim, ◌⊎◌, inl, inr}
+use Rattle.std.specs.Prelude.{◌↔◌, ◌≢◌, IfOk, IsErrOf}
+use Rattle.std.proofs.lemmas.Bool.{cases_lt, ltb-true, ltb-false}
+use Rattle.clock2q_cache.specs.Shares.{Shares, usual_shares, usual_small, usual_window}
+use Rattle.clock2q_cache.specs.Policies.{IsPolicy}
+use Rattle.clock2q_cache.specs.Calls.{Call, Answer}
+use Rattle.clock2q_cache.specs.Machine.{Machine, empty}
+use Rattle.clock2q_cache.specs.Steps.{answers}
+use Rattle.clock2q_cache.specs.declared.error.CacheError.{CacheError}
+use Rattle.clock2q_cache.specs.declared.error.CacheError.TheVariants.{Memory, Capacity, Policy}
+use Rattle.clock2q_command.specs.Serve.{IsUnmade, IsUnanswered, Makes, output_for}
+use Rattle.clock2q_command.specs.ServeError.{refusal_of}
+use Rattle.clock2q_command.specs.Text.{output_of}
+
+-- where more would be refused, and isn't, there's no more
+within : (n : ℕ) (Refused : Type 0) → (16777215 < n → Refused) → (Refused → ⊥) → n < 16777216
+within n Refused refuses h = ⊎_elim (λ less. less) (λ more. absurd (h (refuses (omega arith)))) (cases_lt n 16777216)
+
+-- the usual shares can be had together
+usual_policy : (n small : ℕ) → 0 < n → small ≡ usual_small n → IsPolicy (record { capacity = n; small = small; window = (small + 1) / 2 })
+usual_policy n small some is = record {
+  below = below (ltb 1 n) refl (is);
+  both = ((λ e. omega (arith, e)), (λ e. omega (arith, e)));
+  within = omega arith;
+} where
+  below : (b : Bool) → ltb 1 n ≡ b → small ≡ cond b (max (n / 10) 1) 0 → small < n
+  below true t e = let more : 1 < n = ltb-true 1 n t in omega (arith, e, more)
+  below false t e = omega (arith, e, some)
+
+pub IsPolicy-usual : (n : ℕ) → 0 < n → IsPolicy (usual_shares n)
+IsPolicy-usual n some = usual_policy n (usual_small n) some refl
+
+-- shares can be had together, or they can't
+policy_cases : (shares : Shares) → IsPolicy shares ⊎ (IsPolicy shares → ⊥)
+policy_cases shares = ⊎_elim (λ below. ⊎_elim (λ longer. inr (λ p. omega (arith, longer, p.within))) (λ short. windowed below short (cases_lt 0 shares.window)) (cases_lt shares.small shares.window)) (λ above. inr (λ p. omega (arith, above, p.below))) (cases_lt shares.small shares.capacity) where
+  small : shares.small < shares.capacity → shares.window ≤ shares.small → shares.window ≤ 0 → (0 < shares.small) ⊎ (shares.small ≤ 0) → IsPolicy shares ⊎ (IsPolicy shares → ⊥)
+  small below short none (inl some) = inr (λ p. let empty_small : shares.small ≡ 0 = p.both.1 (omega (arith, none)) in omega (arith, empty_small, some))
+  small below short none (inr empty_small) = inl (record { below = below; both = ((λ e. omega (arith, none)), (λ e. omega (arith, empty_small))); within = short })
+
+  windowed : shares.small < shares.capacity → shares.window ≤ shares.small → (0 < shares.window) ⊎ (shares.window ≤ 0) → IsPolicy shares ⊎ (IsPolicy shares → ⊥)
+  windowed below short (inl some) = inl (record { below = below; both = ((λ e. omega (arith, e, some, short)), (λ e. omega (arith, e, some))); within = short })
+  windowed below short (inr none) = small below short none (cases_lt 0 shares.small)
+
+module _ {X K V : Type 0} (machine : X → Machine K V) where
+  -- a cache that `new` made, or refused
+  pub Makes-usual : (n : ℕ) (r : Result X CacheError) → 0 < n → IfOk r (λ cache. machine cache ≡ empty (usual_shares n)) → IsErrOf r Capacity ↔ (16777215 < n) → r ≢ Err Policy → Makes (usual_shares n) machine r
+  Makes-usual n (Ok cache) some made capacity policy = ((within n _ capacity.1 (λ e. cc), IsPolicy-usual n some), made)
+  Makes-usual n (Err Memory) some made capacity policy = (within n _ capacity.1 (λ e. cc), IsPolicy-usual n some)
+  Makes-usual n (Err Capacity) some made capacity policy = λ less. let more : 16777215 < n = capacity.0 refl in omega (arith, less, more)
+  Makes-usual n (Err Policy) some made capacity policy = absurd (policy refl)
+
+  -- one that `with_policy` did
+  pub Makes-chosen : (shares : Shares) (r : Result X CacheError) → IfOk r (λ cache. machine cache ≡ empty shares) → IsErrOf r Capacity ↔ (16777215 < shares.capacity) → IsErrOf r Policy ↔ ((shares.capacity ≤ 16777215) × (IsPolicy shares → ⊥)) → Makes shares machine r
+  Makes-chosen shares (Ok cache) made capacity policy =
+      let few : shares.capacity < 16777216 = within shares.capacity _ capacity.1 (λ e. cc) in
+      ((few, ⊎_elim (λ p. p) (λ no_policy. absurd (no (policy.1 (omega (arith, few), no_policy)))) (policy_cases shares)), made) where
+        no : IsErrOf {T = X} (Ok cache) Policy → ⊥
+        no e = cc
+  Makes-chosen shares (Err Memory) made capacity policy =
+      let few : shares.capacity < 16777216 = within shares.capacity _ capacity.1 (λ e. cc) in
+      (few, ⊎_elim (λ p. p) (λ no_policy. absurd (no (policy.1 (omega (arith, few), no_policy)))) (policy_cases shares)) where
+        no : IsErrOf {T = X} (Err Memory) Policy → ⊥
+        no e = cc
+  Makes-chosen shares (Err Capacity) made capacity policy = λ less. let more : 16777215 < shares.capacity = capacity.0 refl in omega (arith, less, more)
+  Makes-chosen shares (Err Policy) made capacity policy =
+      let p = policy.0 refl in
+      (omega (arith, p.0), p.1)
+
+-- the text of the answers of a cache that was empty
+pub output_for-answers : (shares : Shares) (calls : List (Call ℕ ℕ)) (m : Machine ℕ ℕ) (told : List (Answer ℕ)) → m ≡ empty shares → told ≡ answers nat_eq calls m → output_of told ≡ output_for (record { shares = shares; calls = calls })
+unfolding output_for
+output_for-answers shares calls m told e f = ap output_of (f ∙ ap (answers nat_eq calls) e)
+
+-- where no cache is made nothing is answered
+pub IsUnanswered-unmade : (shares : Shares) (refusal : CacheError) → IsUnmade shares refusal → IsUnanswered shares (refusal_of refusal)
+IsUnanswered-unmade shares Memory h = h
+IsUnanswered-unmade shares Capacity h = h
+IsUnanswered-unmade shares Policy h = h

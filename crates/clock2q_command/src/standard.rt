@@ -1,0 +1,21 @@
+//! The program: `serve` between standard input and standard output.
+
+use crate::ports::Device;
+use crate::serving::serve;
+use std::process::ExitCode;
+
+/// Serves standard input to standard output, and returns the program's status.
+///
+/// A refusal is told in one line on standard error, and its status is that of
+/// [`ServeError::status`](crate::ServeError::status).
+pub fn serve_standard(rt: HostRuntime) -> ExitCode {
+    let mut reader = Device::new(rt.stdin());
+    let mut writer = Device::new(rt.stdout());
+    match serve(rt.alloc(), &mut reader, &mut writer) {
+        Ok(()) => ExitCode::SUCCESS,
+        Err(refusal) => {
+            let _ = eprintln!(rt; "{refusal}");
+            ExitCode::from(refusal.status())
+        }
+    }
+}
