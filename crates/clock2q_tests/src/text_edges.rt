@@ -131,8 +131,16 @@ fn other_answer(
 #[test]
 fn bad_lines(rt: HostRuntime) -> Result<(), Fail> {
     for line in BAD_LINES {
-        assert_eq!(rt; other_answer(rt.alloc(), b"new 2\n", line, 2)?, None, "{line:?}");
-        assert_eq!(rt; other_answer(rt.alloc(), b"new 2\nprefill 1 2\nretain 01\n", line, 4)?, None, "{line:?}");
+        assert_eq!(rt;
+            other_answer(rt.alloc(), b"new 2\n", line, 2)?,
+            None,
+            "{line:?}"
+        );
+        assert_eq!(rt;
+            other_answer(rt.alloc(), b"new 2\nprefill 1 2\nretain 01\n", line, 4)?,
+            None,
+            "{line:?}"
+        );
     }
     Ok(())
 }

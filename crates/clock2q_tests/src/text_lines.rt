@@ -133,13 +133,7 @@ const CHOSEN_SHARES: [Row; 4] = [
         "get 1; put 4 4; put 2 2; contains 3; get_at 1 4; get_at 2 2; len",
         "some 1; none; none; false; some 4; some 2; 3",
     ),
-    (
-        "new 1 0 0",
-        0,
-        0,
-        "",
-        "",
-    ),
+    ("new 1 0 0", 0, 0, "", ""),
 ];
 
 // A line of each command and each form of a reply.
