@@ -23,6 +23,10 @@ pub use Rattle.clock2q_cache.specs.CacheFields
 pub use Rattle.clock2q_cache.specs.CacheState
 pub use Rattle.clock2q_cache.specs.Hashes
 pub use Rattle.clock2q_cache.specs.CacheLends
+pub use Rattle.clock2q_cache.specs.Costs
+pub use Rattle.clock2q_cache.specs.Indexed
+pub use Rattle.clock2q_cache.specs.Closures
+pub use Rattle.clock2q_cache.specs.Insertions
 pub use Rattle.clock2q_cache.specs.Policies
 pub use Rattle.clock2q_cache.specs.Ages
 pub use Rattle.clock2q_cache.specs.Hand
@@ -35,3 +39,4 @@ pub use Rattle.clock2q_command.specs.Parsing
 pub use Rattle.clock2q_command.specs.Transfer
 pub use Rattle.clock2q_command.specs.Serve
 pub use Rattle.clock2q_command.specs.TableCommands
+pub use Rattle.clock2q_memo.specs.Memo

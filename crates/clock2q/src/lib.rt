@@ -32,3 +32,5 @@ pub use clock2q_cache as cache;
 pub use clock2q_cache::{Cache, CacheError, DefaultHashBuilder, MAX_CAPACITY};
 pub use clock2q_command as command;
 pub use clock2q_handles as handles;
+pub use clock2q_memo as memo;
+pub use clock2q_memo::Memo;

@@ -7,7 +7,7 @@ use Rattle.clock2q_handles.specs.Homes.{top, inserted}
 use Rattle.clock2q_handles.specs.TableStep.{grown}
 use Rattle.clock2q_handles.specs.Rehash.{IsHeld, AfterGrowth, GivesHashes}
 use Rattle.clock2q_handles.specs.Changes.{PutIn}
-use Rattle.clock2q_handles.proofs.Keyed.{keyed_grown, keyed_inserted}
+use Rattle.clock2q_handles.proofs.HashOfHandle.{keyed_grown, keyed_inserted}
 use Rattle.clock2q_handles.proofs.Held.{entry_held, held_entry, entry_from, grown_from}
 use Rattle.clock2q_bench.specs.Places.{HoldsPlaces}
 

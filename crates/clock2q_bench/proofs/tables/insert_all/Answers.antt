@@ -1,6 +1,6 @@
 use Rattle.std.proofs.Common.{rules, ◌≡◌, ◌<◌, length, get_or, subst, sym, ap, refl, ◌∙◌}
 use Rattle.std.proofs.lemmas.List.{get_or_default}
-use Rattle.clock2q_handles.proofs.Keyed.{keyed_given_by}
+use Rattle.clock2q_handles.proofs.HashOfHandle.{keyed_given_by}
 use Rattle.clock2q_bench.proofs.Placing.{hash_at, places_put}
 use Rattle.clock2q_bench.proofs.tables.insert_all.Goals as goal
 

@@ -71,5 +71,5 @@ returns g c =
       slot = d.at ∙ ap (λ (z : CacheState _ _ _). (into_main c.args.key z.machine).slot) c.self.view_is;
       machine = d.machine ∙ ap (λ (z : CacheState _ _ _). let p = into_main c.args.key z.machine in (stored p.slot c.args.value p.machine)) c.self.view_is;
       hasher = ap (λ (z : CacheState _ _ _). z.hasher) c.self.view_is;
-      counts = rw (← c.self.view_is) (replaced-spends _ g.met.K.Eq.laws _ _ _ _ _ _ _ _ k c.take_victim-victim.new.self c.append.new.self c.renew.new.keys c.take_victim-victim.ensures.looks c.take_victim-victim.ensures.accesses (ap (λ (z : QueueState). z.inspections) c.append.ensures.queues) c.append.ensures.accesses (ap (λ (z : KeyPlaces _ _). z.questions) c.renew.ensures.kept));
+      counts = rw (← c.self.view_is) (replaced-spends _ g.met.K.Eq.laws _ _ _ _ _ _ _ _ k c.take_victim-victim.new.self c.append.new.self c.renew.new.keys c.take_victim-victim.ensures.inspections c.take_victim-victim.ensures.accesses (ap (λ (z : QueueState). z.inspections) c.append.ensures.queues) c.append.ensures.accesses (ap (λ (z : KeyPlaces _ _). z.questions) c.renew.ensures.kept));
     }
