@@ -1,5 +1,5 @@
 //! The same commands under two hashers.
-ghost use Rattle.clock2q_command.specs.Commands.{call_of, answer_of};
+ghost use Rattle.clock2q_command.specs.Commands.{call_of, answer_of, AreSupplied};
 ghost use Rattle.std.specs.Prelude.{◌≡◌, IfOk, map};
 
 use clock2q::command::{Command, Reply, run};
@@ -13,16 +13,17 @@ pub fn run_on_both<K, V, S, T, A>(
     alloc: A,
     one: &mut Cache<K, V, S, A>,
     other: &mut Cache<K, V, T, A>,
-    commands: Vec<Command<K, V>, A>,
-    again: Vec<Command<K, V>, A>,
+    commands: Vec<Command<K, V, A>, A>,
+    again: Vec<Command<K, V, A>, A>,
 ) -> Result<(Vec<Reply<V>, A>, Vec<Reply<V>, A>), CacheError>
 where
-    K: Hash + Eq + Drop,
+    K: Hash + Eq + Default + Drop,
     V: Copy,
     S: BuildHasher,
     T: BuildHasher,
     A: Allocator + Copy,
     requires alike { other.old.machine ≡ one.old.machine }
+    requires prefills { AreSupplied (map call_of commands.items) }
     requires same { map call_of again.items ≡ map call_of commands.items }
     ensures replies { IfOk result (λ both. map answer_of both.1.items ≡ map answer_of both.0.items) }
     ensures machine { IfOk result (λ both. other.new.machine ≡ one.new.machine) }
