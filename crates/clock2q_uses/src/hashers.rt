@@ -24,6 +24,7 @@ where
     A: Allocator + Copy,
     requires prefills { AreSupplied (map call_of commands.items) }
     requires alike { other.old.machine ≡ one.old.machine }
+    requires prefills { AreSupplied (map call_of commands.items) }
     requires same { map call_of again.items ≡ map call_of commands.items }
     ensures replies { IfOk result (λ both. map answer_of both.1.items ≡ map answer_of both.0.items) }
     ensures machine { IfOk result (λ both. other.new.machine ≡ one.new.machine) }
