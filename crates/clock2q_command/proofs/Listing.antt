@@ -45,8 +45,8 @@ module _ {X Y : Type 0} where
       → IsReadUpTo read whole rest refuses others
   IsReadUpTo-more read whole x rest y refused refuses items others so e pushed = record {
     kept = λ h.
-      let p = pushed h in
-      ap (λ front. read_before front (all_read read rest)) p.1 ∙ sym (one_before items y (all_read read rest)) ∙ ap (read_before items) (sym (read-first read x rest y e)) ∙ so.kept p.0;
+        let p = pushed h in
+        ap (λ front. read_before front (all_read read rest)) p.1 ∙ sym (one_before items y (all_read read rest)) ∙ ap (read_before items) (sym (read-first read x rest y e)) ∙ so.kept p.0;
     good = λ h. so.good (subst (λ o. IsSome o) (sym (read-first read x rest y e)) (some_before y (all_read read rest) h));
     bad = λ h. so.bad (read-first read x rest y e ∙ ap (option_map (λ ys. y ∷ ys)) h);
   }

@@ -64,7 +64,8 @@ goes_over (b ∷ bytes) (suc i) h all other =
     let digits = both (is_ascii_digit b) (all_ascii_digits (take i bytes)) all in
     let rest : GoesOver bytes i = goes_over bytes i (omega (arith, h)) digits.1 other in
     record {
-      word = b ∷ rest.word; others = rest.others;
+      word = b ∷ rest.word;
+      others = rest.others;
       split = parts_on b bytes (rest.word ∷ rest.others) (ne_eqb b 32 (digit_is_no_space b digits.0)) rest.split;
       longer = omega (arith, rest.longer);
       front = ap (λ xs. b ∷ xs) rest.front;
