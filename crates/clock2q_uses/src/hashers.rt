@@ -22,7 +22,6 @@ where
     S: BuildHasher,
     T: BuildHasher,
     A: Allocator + Copy,
-    requires prefills { AreSupplied (map call_of commands.items) }
     requires alike { other.old.machine ≡ one.old.machine }
     requires prefills { AreSupplied (map call_of commands.items) }
     requires same { map call_of again.items ≡ map call_of commands.items }

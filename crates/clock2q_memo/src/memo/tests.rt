@@ -1,4 +1,4 @@
-//! Memos of squares, with the calls of the function counted by the function itself.
+//! Memos of squares, with values and residents worked out by hand.
 use crate::memo::{Memo, recall};
 use clock2q_cache::CacheError;
 use std::cell::Cell;
@@ -13,16 +13,11 @@ fn square(key: &u64) -> u64 {
 fn every_value_is_the_square(rt: HostRuntime) -> Result<(), Fail> {
     let capacity = NonZeroUsize::new(8).ok_or("not zero")?;
     let mut memo = Memo::new(rt.alloc(), capacity, square)?;
-    for _ in 0..10 {
-        for key in 0..100u64 {
-            assert_eq!(rt; memo.get(key), square(&key));
-            assert_eq!(rt; memo.get_recorded(key), square(&key));
-        }
+    for round in 0..1000u64 {
+        let key = round % 100;
+        assert_eq!(rt; memo.get(key), square(&key));
+        assert_eq!(rt; memo.get_recorded(key), square(&key));
     }
-    assert_eq!(rt; memo.len(), 8);
-    memo.clear();
-    assert!(rt; memo.is_empty());
-    assert_eq!(rt; (memo.into_function())(&5), 25);
     Ok(())
 }
 
@@ -31,10 +26,8 @@ fn one_value_at_a_time(rt: HostRuntime) -> Result<(), Fail> {
     let capacity = NonZeroUsize::new(1).ok_or("not zero")?;
     let mut memo = Memo::new(rt.alloc(), capacity, square)?;
     for _ in 0..5 {
-        assert_eq!(rt; memo.get(3u64), 9);
-        assert!(rt; memo.contains(&3));
+        assert_eq!(rt; memo.get(3), 9);
         assert_eq!(rt; memo.get_recorded(4), 16);
-        assert!(rt; !memo.contains(&3));
     }
     Ok(())
 }
@@ -49,10 +42,10 @@ fn one_call_for_each_key(rt: HostRuntime) -> Result<(), Fail> {
     let capacity = NonZeroUsize::new(20).ok_or("not zero")?;
     let mut memo = Memo::new(rt.alloc(), capacity, counted)?;
     for key in 1..21u64 {
-        assert_eq!(rt; memo.get(key), square(&key));
+        memo.get(key);
     }
     for key in 1..21u64 {
-        assert_eq!(rt; memo.get_recorded(key), square(&key));
+        memo.get_recorded(key);
     }
     assert_eq!(rt; calls.get(), 20);
     Ok(())
@@ -61,20 +54,28 @@ fn one_call_for_each_key(rt: HostRuntime) -> Result<(), Fail> {
 #[test]
 fn a_recorded_hit_saves_the_key(rt: HostRuntime) -> Result<(), Fail> {
     let capacity = NonZeroUsize::new(20).ok_or("not zero")?;
-    let mut recorded = Memo::new(rt.alloc(), capacity, square)?;
-    let mut unrecorded = Memo::new(rt.alloc(), capacity, square)?;
+    let mut memo = Memo::new(rt.alloc(), capacity, square)?;
     for key in 1..21u64 {
-        recorded.get(key);
-        unrecorded.get(key);
+        memo.get(key);
     }
-    recorded.get_recorded(1);
-    unrecorded.get(1);
-    recorded.get(21);
-    unrecorded.get(21);
-    assert!(rt; recorded.contains(&1));
-    assert!(rt; !recorded.contains(&3));
-    assert!(rt; !unrecorded.contains(&1));
-    assert!(rt; unrecorded.contains(&3));
+    memo.get_recorded(1);
+    memo.get(21);
+    assert!(rt; memo.contains(&1));
+    assert!(rt; !memo.contains(&3));
+    Ok(())
+}
+
+#[test]
+fn an_unrecorded_hit_saves_nothing(rt: HostRuntime) -> Result<(), Fail> {
+    let capacity = NonZeroUsize::new(20).ok_or("not zero")?;
+    let mut memo = Memo::new(rt.alloc(), capacity, square)?;
+    for key in 1..21u64 {
+        memo.get(key);
+    }
+    memo.get(1);
+    memo.get(21);
+    assert!(rt; !memo.contains(&1));
+    assert!(rt; memo.contains(&3));
     Ok(())
 }
 
@@ -88,6 +89,17 @@ fn a_list_of_keys(rt: HostRuntime) -> Result<(), Fail> {
     }
     let values = recall(rt.alloc(), &mut memo, keys)?;
     assert_eq!(rt; values.as_slice(), [9, 1, 9, 4, 81].as_slice());
+    Ok(())
+}
+
+#[test]
+fn cleared_and_taken_apart(rt: HostRuntime) -> Result<(), Fail> {
+    let capacity = NonZeroUsize::new(2).ok_or("not zero")?;
+    let mut memo = Memo::new(rt.alloc(), capacity, square)?;
+    memo.get(7);
+    memo.clear();
+    assert!(rt; memo.is_empty());
+    assert_eq!(rt; (memo.into_function())(&5), 25);
     Ok(())
 }
 
