@@ -3,6 +3,8 @@ use Rattle.std.proofs.Common.{◌≡◌, ◌↔◌, Bool, true, false, IsTrue, �
 use Rattle.std.proofs.lemmas.Bool.{cases_lt}
 use Rattle.std.proofs.lemmas.Nat.{mod_below}
 use Rattle.std.proofs.Math.Nat.{mod-eq_of_lt, mod-mod, add-mod_right}
+use Rattle.clock2q_handles.specs.Candidates.{IsWalkFor}
+use Rattle.clock2q_handles.specs.Homes.{top}
 use Rattle.clock2q_handles.specs.Layout.{Placed, placed, slot_at, reach, IsTidy}
 use Rattle.clock2q_handles.specs.Shifts.{Opens, Closes, HasCome, IsVacancy, moved_on}
 use Rattle.clock2q_handles.specs.Slots.{Mark, cell, mark_of, mark_on, mark_back, mark_reach}
@@ -378,3 +380,16 @@ module _ {H : Type 0} (slots : List (Option (Placed (ℕ × H)))) (tidy : IsTidy
   pub looks_end : (d s : ℕ) (b : Bool) (wanted mark : Mark) → wanted ≡ Some (d, f) → IsTrue b ↔ (mark_reach mark < mark_reach wanted) → b ≡ true → mark ≡ mark_of (slot_at slots s) → reach (slot_at slots s) ≤ d
   looks_end d s true wanted mark is test on told = omega (arith, test.0 refl, ap mark_reach is, reach_told mark (slot_at slots s) told)
   looks_end d s false wanted mark is test on told = absurd (cc)
+
+module _ {H : Type 0} (slots : List (Option (Placed (ℕ × H)))) (tidy : IsTidy slots) where
+  -- a walk for a hash goes on
+  pub walks_on : (x : ℕ) (s s' : Mark) (n n' : ℕ) → IsWalkFor slots x s n → mark_reach s ≤ reach (slot_at slots n) → s' ≡ mark_on s → n' ≡ (n + 1) % length slots → IsWalkFor slots x s' n'
+  walks_on x s s' n n' walk far more on = record {
+    distance = suc walk.distance;
+    come = come_on slots tidy (x % length slots) walk.distance n n' walk.come (omega (arith, far, ap mark_reach walk.mark)) on;
+    mark = more ∙ ap mark_on walk.mark;
+  }
+
+  -- and begins at the home
+  pub walks_begin : (x : ℕ) (s : Mark) (n : ℕ) → 0 < length slots → n ≡ x % length slots → s ≡ Some (0, top x) → IsWalkFor slots x s n
+  walks_begin x s n some at is = record { distance = 0; come = come_home slots tidy (x % length slots) (top x) n at (mod_below x (length slots) some); mark = is }

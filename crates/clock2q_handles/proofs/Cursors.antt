@@ -175,3 +175,19 @@ module _ {H : Type 0} (slots : List (Option (Placed (ℕ × H)))) where
     | inl ends ↦ absurd (refused b test off ends)
     | inr on ↦ omega (arith, on, reach_told t (slot_at slots n) is)
   ]
+
+-- a walk that looked for s in slot n has found the handle r in slot n', where it looks for s', and has read slots on from w up to w'
+pub record HasFound {H : Type 0} (slots : List (Option (Placed (ℕ × H)))) (s s' : Mark) (n n' : ℕ) (r : H) (w w' : ℕ) : Type 0 where
+  pub far : mark_reach s' ≤ reach (slot_at slots n')
+  pub read : w' + unread_at slots s' n' ≡ w + unread_at slots s n + 1
+  pub on : (t : Mark) (k : ℕ) → t ≡ mark_on s' → k ≡ (n' + 1) % length slots → HasStepped slots s' t n' k × (left_at slots s n ≡ r ∷ left_at slots t k)
+
+pub has_found : {H : Type 0} (slots : List (Option (Placed (ℕ × H)))) (s s' : Mark) (n n' : ℕ) (r : H) (w w' : ℕ) → IsLookup slots s' n' → IsSome s' → mark_of (slot_at slots n') ≡ s' → left_at slots s n ≡ left_at slots s' n' → IfSome (slot_at slots n') (λ p. r ≡ p.entry.1)
+    → w' + unread_at slots s' n' ≡ w + unread_at slots s n + 1 → HasFound slots s s' n n' r w w'
+has_found slots s s' n n' r w w' lookup some found left handle read =
+    let far : mark_reach s' ≤ reach (slot_at slots n') = omega (arith, reach_told s' (slot_at slots n') (sym found)) in
+    record {
+      far = far;
+      read = read;
+      on = λ t k more at. let step = lookup_steps slots s' t n' k some more at lookup far in (step, left ∙ step.takes r found handle);
+    }

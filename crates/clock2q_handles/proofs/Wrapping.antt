@@ -2,11 +2,12 @@
 use Rattle.std.proofs.Common.{◌≡◌, ℕ, ◌%◌, Bool, ap, ◌∙◌, subst, List, length, Option}
 use Rattle.std.specs.Bool.{OnTrue}
 use Rattle.std.specs.Fn.{Mut}
+use Rattle.clock2q_handles.specs.Candidates.{EndsAt}
 use Rattle.clock2q_handles.specs.Found.{TakesOut}
 use Rattle.clock2q_handles.specs.Layout.{Placed}
 use Rattle.clock2q_handles.specs.Moves.{MayMove, Moves}
 use Rattle.clock2q_handles.specs.Shifts.{PutsIn}
-use Rattle.clock2q_handles.specs.Slots.{cells}
+use Rattle.clock2q_handles.specs.Slots.{Mark, cells}
 use Rattle.clock2q_handles.specs.declared.metadata.Metadata.{Metadata}
 
 module _ {H : Type 0} where
@@ -21,6 +22,9 @@ module _ {E : Type 0} where
   pub takes_along : (r : Bool) (test : E → Bool) {old old' new new' : List (Option (Placed E))} (x a : ℕ) {b b' : ℕ} → OnTrue r (TakesOut test old new (x % length old) b a) → old ≡ old' → new ≡ new' → b ≡ b' → OnTrue r (TakesOut test old' new' (x % length old') b' a)
   takes_along r test {old = old} {old' = old'} {new = new} {new' = new'} x a {b = b} {b' = b'} takes o n f =
       subst (λ s. OnTrue r (TakesOut test s new' (x % length s) b' a)) o (subst (λ s. OnTrue r (TakesOut test old s (x % length old) b' a)) n (subst (λ k. OnTrue r (TakesOut test old new (x % length old) k a)) f takes))
+
+pub ends_along : {H : Type 0} {old old' : List (Option (Placed (ℕ × H)))} {x n : ℕ} {s : Mark} → EndsAt old x s n → old ≡ old' → EndsAt old' x s n
+ends_along {x = x} {n = n} {s = s} ends o = subst (λ slots. EndsAt slots x s n) o ends
 
 module _ {F H : Type 0} (g : Mut F (H × Unit {0}) ℕ) where
   pub movable_along : {f : F} {old old' new new' : List (Option (Placed (ℕ × H)))} → MayMove g f old new → old ≡ old' → new ≡ new' → MayMove g f old' new'

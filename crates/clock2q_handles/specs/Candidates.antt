@@ -3,7 +3,8 @@ use Rattle.std.specs.Prelude.{◌≡◌, ℕ, ◌+◌, ◌-◌, ◌%◌, ◌<◌
 use Rattle.std.specs.Iterator.{YieldsFirst}
 use Rattle.std.specs.Coded.{Coded, code_by, coded×, coded_ℕ, coded_list}
 use Rattle.clock2q_handles.specs.Homes.{top}
-use Rattle.clock2q_handles.specs.Slots.{Mark}
+use Rattle.clock2q_handles.specs.Slots.{Mark, mark_reach}
+use Rattle.clock2q_handles.specs.Shifts.{HasCome}
 use Rattle.clock2q_handles.specs.Layout.{Placed, placed, slot_at, reach, met, homes_of, walk, IsTidy}
 use mathlib.Core.Path.{refl}
 
@@ -68,6 +69,17 @@ module _ {H : Type 0} where
     pub tidy : IsTidy slots
     pub near : (k : ℕ) → reach (slot_at slots k) ≤ 16777215
     pub walk : LooksFor slots wanted n
+
+  -- a walk for x has come to slot n, and looks for the mark there
+  pub record IsWalkFor (slots : List (Option (Placed (ℕ × H)))) (x : ℕ) (wanted : Mark) (n : ℕ) : Type 0 where
+    pub distance : ℕ
+    pub come : HasCome slots (x % length slots) distance n
+    pub mark : wanted ≡ Some (distance, top x)
+
+  -- and ends there
+  pub record EndsAt (slots : List (Option (Placed (ℕ × H)))) (x : ℕ) (wanted : Mark) (n : ℕ) : Type 0 where
+    pub walk : IsWalkFor slots x wanted n
+    pub stop : reach (slot_at slots n) < mark_reach wanted
 
   -- n slots past the home g of x stands its next candidate from d on
   pub record IsNextCandidate (slots : List (Option (Placed (ℕ × H)))) (g x d n : ℕ) : Type 0 where

@@ -67,15 +67,6 @@ impl Metadata {
         u64::from(self.word) == wanted.word
     }
 
-    /// Returns whether the slot's entry has the fingerprint of `hash`, and the home of a walk that
-    /// is `distance` slots past it.
-    pub(super) fn is_candidate(self, hash: u64, distance: usize) -> bool
-        requires { distance ≤ MAX_DISPLACEMENT }
-        ensures { IsTrue result ↔ (told self ≡ Some (distance, top hash)) }
-    {
-        self.word == Metadata::new(hash, distance).word
-    }
-
     /// Returns whether the entry may move on by one slot.
     pub(super) fn can_move_on(self) -> bool
         ensures { IsTrue result ↔ (mark_reach (told self) ≤ MAX_DISPLACEMENT) }
@@ -90,7 +81,8 @@ impl Metadata {
         2 * UNIT <= self.word
     }
 
-    pub(super) fn moved_on(self) -> Metadata
+    /// Returns the metadata of the same entry one slot further past its home.
+    pub(super) fn one_further(self) -> Metadata
         requires some { IsSome (told self) }
         requires room { mark_reach (told self) ≤ MAX_DISPLACEMENT }
         ensures { told result ≡ mark_on (told self) }
@@ -100,13 +92,25 @@ impl Metadata {
         }
     }
 
-    pub(super) fn moved_back(self) -> Metadata
+    /// Returns the metadata of the same entry one slot nearer to its home.
+    pub(super) fn one_nearer(self) -> Metadata
         requires { 1 < mark_reach (told self) }
         ensures { told result ≡ mark_back (told self) }
     {
         Metadata {
             word: self.word - UNIT,
         }
+    }
+}
+
+#[cfg(test)]
+impl Metadata {
+    /// Returns whether this is the metadata of an entry of `hash` that stands `displacement` slots
+    /// past its home.
+    pub(super) fn is_of(self, hash: u64, displacement: usize) -> bool
+        requires { displacement ≤ MAX_DISPLACEMENT }
+    {
+        self.word == Metadata::new(hash, displacement).word
     }
 }
 

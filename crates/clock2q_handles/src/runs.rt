@@ -1,14 +1,9 @@
 //! Walks along a table's slots, and moves of entries within a run.
-ghost use Rattle.clock2q_handles.specs.Homes.{top, is_entry_of, listed};
-ghost use Rattle.clock2q_handles.specs.Candidates.{IsNextCandidate, left_from, matching};
-ghost use Rattle.clock2q_handles.specs.Found.{Finds};
-ghost use Rattle.clock2q_handles.specs.Layout.{IsTidy, reach, slot_at, placed, homes_of, met, walk};
-ghost use Rattle.clock2q_handles.specs.Shifts.{Opens, Closes, HasRoom, IsVacancy, moved_on};
-ghost use Rattle.clock2q_handles.specs.Offers.{Offers, MayBeOffered};
+ghost use Rattle.clock2q_handles.specs.Homes.{top};
+ghost use Rattle.clock2q_handles.specs.Layout.{IsTidy, reach, slot_at};
+ghost use Rattle.clock2q_handles.specs.Shifts.{Opens, HasRoom, IsVacancy, moved_on};
 ghost use Rattle.std.specs.Bool.{OnTrue, OnFalse};
-ghost use Rattle.std.specs.Result.{result_ok};
-ghost use Rattle.std.specs.List.{list_any};
-ghost use Rattle.std.specs.Prelude.{◌≡◌, ◌+◌, ◌-◌, ◌%◌, ◌^◌, ◌<◌, ◌≤◌, ℕ, suc, [], false, Some, None, IfSome, IfNone, IfErr, length};
+ghost use Rattle.std.specs.Prelude.{◌≡◌, ◌+◌, ◌^◌, ◌<◌, ◌≤◌, ℕ, suc, IfSome, IfNone, length};
 
 use crate::metadata::{MAX_DISPLACEMENT, Metadata};
 use crate::slots::Slots;
@@ -29,40 +24,6 @@ impl<H: Copy + Default, A: Allocator> Slots<H, A> {
             distance += 1;
         }
         distance
-    }
-
-    /// Calls `matches` on the candidates of `hash`, up to the first that it accepts. Returns that
-    /// candidate, or else how far from the home the walk ended.
-    pub(super) fn offer<F: FnMut(H) -> bool>(
-        &self,
-        home: usize,
-        hash: u64,
-        matches: &mut F,
-    ) -> Result<H, usize>
-        requires tidy { IsTidy self.now.slots }
-        requires near { (n : ℕ) → reach (slot_at self.now.slots n) ≤ 16777215 }
-        requires some { 0 < length self.now.slots }
-        requires home { home ≡ hash % length self.now.slots }
-        requires callable { MayBeOffered F.FnMut matches.old (left_from self.now.slots hash 0) }
-        ensures offers { Offers F.FnMut matches.old (left_from self.now.slots hash 0) (result_ok result) matches.new }
-        ensures within { IfErr result (λ d. d < length self.now.slots) }
-        ensures passed { IfErr result (λ d. (j : ℕ) → j < d → j < reach (slot_at self.now.slots (home + j))) }
-        ensures stop { IfErr result (λ d. reach (slot_at self.now.slots (home + d)) ≤ d) }
-    {
-        let mut distance = 0;
-        loop {
-            let metadata = self.metadata(home, distance);
-            if metadata.ends_walk(distance) {
-                return Err(distance);
-            }
-            if metadata.is_candidate(hash, distance) {
-                let handle = self.handle(home, distance);
-                if matches(handle) {
-                    return Ok(handle);
-                }
-            }
-            distance += 1;
-        }
     }
 
     /// Returns how far from the home the first empty slot is, at or after the slot where a walk
@@ -137,7 +98,7 @@ impl<H: Copy + Default, A: Allocator> Slots<H, A> {
         while from < distance {
             let metadata = self.metadata(home, distance - 1);
             let handle = self.handle(home, distance - 1);
-            self.write(home, distance, metadata.moved_on(), handle);
+            self.write(home, distance, metadata.one_further(), handle);
             distance -= 1;
         }
     }

@@ -1,10 +1,11 @@
 //! A table's slots, as two vectors side by side.
+ghost use Rattle.clock2q_handles.specs.Candidates.{EndsAt};
 ghost use Rattle.clock2q_handles.specs.Found.{TakesOut};
 ghost use Rattle.clock2q_handles.specs.Homes.{top, is_entry_of, listed};
 ghost use Rattle.clock2q_handles.specs.Layout.{IsTidy, slot_at, reach, homes_of};
 ghost use Rattle.clock2q_handles.specs.Moves.{MayMove, Moves};
 ghost use Rattle.clock2q_handles.specs.Shifts.{PutsIn};
-ghost use Rattle.clock2q_handles.specs.Slots.{cell, cells, told, IsSlotCount};
+ghost use Rattle.clock2q_handles.specs.Slots.{cell, cells, told, sought, IsSlotCount};
 ghost use Rattle.std.specs.Bool.{OnTrue, OnFalse};
 ghost use Rattle.std.specs.List.{list_any};
 ghost use Rattle.std.specs.Prelude.{false, ◌≡◌, ◌+◌, ◌%◌, ◌^◌, ◌<◌, ◌≤◌, [], ℕ, None, IfOk, IfSome, length, replicate, set};
@@ -12,7 +13,7 @@ ghost use Rattle.std.specs.Prelude.{false, ◌≡◌, ◌+◌, ◌%◌, ◌^◌,
 mod reader;
 mod view;
 
-use crate::metadata::{MAX_DISPLACEMENT, Metadata};
+use crate::metadata::{MAX_DISPLACEMENT, Metadata, Wanted};
 use clock2q_count::Count;
 pub(super) use reader::Reader;
 use std::alloc::{AllocError, Allocator};
@@ -173,6 +174,24 @@ impl<H: Copy + Default, A: Allocator> Slots<H, A> {
         );
     }
 
+    /// Inserts an entry in the slot where the walk for it ends.
+    #[inline(always)]
+    pub(super) fn put_at(&mut self, slot: usize, wanted: Wanted, handle: H)
+        requires tidy { IsTidy self.old.slots }
+        requires near { (n : ℕ) → reach (slot_at self.old.slots n) ≤ MAX_DISPLACEMENT }
+        requires ends { (x : ℕ) × EndsAt self.old.slots x (sought wanted) slot }
+        ensures put { (x : ℕ) → EndsAt self.old.slots x (sought wanted) slot → PutsIn self.old.slots self.new.slots (x % length self.old.slots) (top x, handle) self.old.writes self.new.writes }
+    {
+        put_at_into(
+            self.metadata.as_mut_slice(),
+            self.handles.as_mut_slice(),
+            &mut self.writes,
+            slot,
+            wanted,
+            handle,
+        );
+    }
+
     /// Inserts each entry of other slots, in the order of those slots, under the hash that `rehash`
     /// returns for its handle.
     pub(super) fn put_all<F: FnMut(H) -> u64>(&mut self, old: SlotsRef<'_, H>, rehash: &mut F)
@@ -277,6 +296,29 @@ fn put_into<H: Copy + Default>(
 {
     let mut slots = SlotsMut::new(metadata, handles, writes);
     slots.put(hash, handle);
+}
+
+/// Inserts an entry where the walk for it ends, over a view of both vectors.
+#[inline(always)]
+fn put_at_into<H: Copy + Default>(
+    metadata: &mut [Metadata],
+    handles: &mut [H],
+    writes: &mut Count,
+    slot: usize,
+    wanted: Wanted,
+    handle: H,
+)
+    requires same { length handles.old ≡ length metadata.old }
+    requires slot_count { IsSlotCount (length metadata.old) }
+    requires tidy { IsTidy (cells metadata.old handles.old) }
+    requires near { (n : ℕ) → reach (slot_at (cells metadata.old handles.old) n) ≤ MAX_DISPLACEMENT }
+    requires ends { (x : ℕ) × EndsAt (cells metadata.old handles.old) x (sought wanted) slot }
+    ensures put { (x : ℕ) → EndsAt (cells metadata.old handles.old) x (sought wanted) slot → PutsIn (cells metadata.old handles.old) (cells metadata.new handles.new) (x % length (cells metadata.old handles.old)) (top x, handle) writes.old.total writes.new.total }
+    ensures as_many { length handles.new ≡ length metadata.new }
+    ensures len { length metadata.new ≡ length metadata.old }
+{
+    let mut slots = SlotsMut::new(metadata, handles, writes);
+    slots.put_at(slot, wanted, handle);
 }
 
 /// Inserts each entry of other slots over one view of both vectors.

@@ -1,8 +1,10 @@
 //! A multimap from hashes of 64 bits to handles that its caller owns.
+ghost use Rattle.clock2q_handles.specs.Candidates.{EndsAt};
 ghost use Rattle.clock2q_handles.specs.Changes.{PutIn, WritesAtMost, Restores, IsLaidOut};
 ghost use Rattle.clock2q_handles.specs.Homes.{candidates, capacity, total};
 ghost use Rattle.clock2q_handles.specs.Layout.{run};
 ghost use Rattle.clock2q_handles.specs.Offers.{FindsOrPuts, MayBeOffered};
+ghost use Rattle.clock2q_handles.specs.Slots.{sought};
 ghost use Rattle.clock2q_handles.specs.TableStep.{fit, IsBelowCapacity};
 ghost use Rattle.std.specs.Bool.{OnFalse};
 ghost use Rattle.std.specs.Prelude.{◌≡◌, ◌≢◌, Err, ◌%◌, ◌^◌, ◌<◌, ◌≤◌, ◌+◌, ◌↔◌, ℕ, [], IsTrue, IsOk, IsErrOf, OnOk, OnErr, IfOk, length};
@@ -13,8 +15,8 @@ mod tests;
 
 use crate::candidates::Candidates;
 use crate::error::TableError;
-use crate::metadata::MAX_DISPLACEMENT;
-use crate::slots::Slots;
+use crate::metadata::{MAX_DISPLACEMENT, Wanted};
+use crate::slots::{Reader, Slots};
 use crate::table::growth::slots_for;
 use std::alloc::{Allocator, Global};
 use std::fmt;
@@ -285,14 +287,40 @@ impl<H: Copy + Eq + Default, A: Allocator> Table<H, A> {
         ensures restores { IfOk result (λ r. IsTrue r.1 → Restores H.PartialEq.eq hash handle self.old self.new) }
         ensures laid { IsLaidOut self.new }
     {
-        let home = self.slots.home(hash);
-        match self.slots.offer(home, hash, matches) {
+        let mut reader = Reader::new(&self.slots);
+        match reader.offer(hash, matches) {
             Ok(found) => Ok((found, false)),
-            Err(distance) => match self.place(home, distance, hash, handle) {
+            Err((slot, wanted)) => match self.insert_at(slot, wanted, hash, handle) {
                 Ok(()) => Ok((handle, true)),
                 Err(refusal) => Err(refusal),
             },
         }
+    }
+
+    /// Inserts an entry in the slot where the walk for it ends.
+    #[inline(always)]
+    fn insert_at(
+        &mut self,
+        slot: usize,
+        wanted: Wanted,
+        hash: u64,
+        handle: H,
+    ) -> Result<(), TableError>
+        requires room { IsBelowCapacity self.old.homes }
+        requires ends { EndsAt self.old.slots hash (sought wanted) slot }
+        ensures put { PutIn self.old.homes hash handle result self.new.homes }
+        ensures refused { OnErr result (self.new ≡ self.old) }
+        ensures few { total self.old.homes + 1 < 2 ^ 24 → IsOk result }
+        ensures writes { WritesAtMost (run self.old.slots hash + 1) self.old self.new }
+        ensures restores { OnOk result (Restores H.PartialEq.eq hash handle self.old self.new) }
+        ensures laid { IsLaidOut self.new }
+    {
+        if self.len <= MAX_DISPLACEMENT {
+            self.slots.put_at(slot, wanted, handle);
+            self.len += 1;
+            return Ok(());
+        }
+        self.insert_among_many(hash, handle)
     }
 
     /// Inserts an entry where the walk for it ended.

@@ -1,4 +1,5 @@
 //! Insertion and removal of entries, over a view of both vectors of the slots.
+ghost use Rattle.clock2q_handles.specs.Candidates.{EndsAt};
 ghost use Rattle.clock2q_handles.specs.Found.{FindsAt, TakesOut};
 ghost use Rattle.clock2q_handles.specs.Homes.{top, is_entry_of, listed};
 ghost use Rattle.clock2q_handles.specs.Layout.{IsTidy, reach, slot_at, placed, homes_of};
@@ -66,7 +67,7 @@ impl<'a, H: Copy + Default> SlotsMut<'a, H> {
                 break;
             }
             let handle = self.handle(next);
-            self.write(hole, metadata.moved_back(), handle);
+            self.write(hole, metadata.one_nearer(), handle);
             hole = next;
         }
         self.write(hole, Metadata::empty(), H::default());
@@ -101,8 +102,7 @@ impl<'a, H: Copy + Default> SlotsMut<'a, H> {
         requires tidy { IsTidy (shown self.now) }
         requires near { (n : ℕ) → reach (slot_at (shown self.now) n) ≤ 16777215 }
         requires some { 0 < length (shown self.now) }
-        ensures end { (n : ℕ) × HasCome (shown self.now) (hash % length (shown self.now)) n result.0
-            × (sought result.1 ≡ Some (n, top hash)) × (reach (slot_at (shown self.now) result.0) ≤ n) }
+        ensures end { EndsAt (shown self.now) hash (sought result.1) result.0 }
     {
         let mut slot = self.home(hash);
         let mut wanted = Wanted::new(hash);
@@ -132,7 +132,7 @@ impl<'a, H: Copy + Default> SlotsMut<'a, H> {
         while !there.is_empty() {
             let held = self.handle(slot);
             self.write(slot, metadata, handle);
-            metadata = there.moved_on();
+            metadata = there.one_further();
             handle = held;
             slot = self.after(slot);
             there = self.metadata(slot);
@@ -152,6 +152,20 @@ impl<'a, H: Copy + Default> SlotsMut<'a, H> {
         ensures put { PutsIn (shown self.old) (shown self.new) (hash % length (shown self.old)) (top hash, handle) self.old.writes.now.total self.new.writes.now.total }
     {
         let (slot, wanted) = self.end(hash);
+        self.put_at(slot, wanted, handle);
+    }
+
+    /// Inserts an entry in the slot where the walk for it ends.
+    #[inline(always)]
+    pub(super) fn put_at(&mut self, slot: usize, wanted: Wanted, handle: H)
+        requires view { IsView self.old }
+        requires tidy { IsTidy (shown self.old) }
+        requires near { (n : ℕ) → reach (slot_at (shown self.old) n) ≤ MAX_DISPLACEMENT }
+        requires ends { (x : ℕ) × EndsAt (shown self.old) x (sought wanted) slot }
+        ensures same { IsSameView self.old self.new }
+        ensures view { IsView self.new }
+        ensures put { (x : ℕ) → EndsAt (shown self.old) x (sought wanted) slot → PutsIn (shown self.old) (shown self.new) (x % length (shown self.old)) (top x, handle) self.old.writes.now.total self.new.writes.now.total }
+    {
         self.carry(slot, wanted.metadata(), handle);
     }
 

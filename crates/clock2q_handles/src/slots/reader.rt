@@ -29,6 +29,15 @@ impl<'a, H: Copy + Default, A: Allocator> Reader<'a, H, A> {
         }
     }
 
+    /// Returns the home slot of a hash.
+    pub(crate) fn home(&self, hash: u64) -> usize
+        requires { 0 < length self.now.slots.now.slots }
+        ensures home { result ≡ hash % length self.now.slots.now.slots }
+        ensures within { result < length self.now.slots.now.slots }
+    {
+        self.slots.home(hash)
+    }
+
     /// Reads the metadata of a slot.
     pub(crate) fn read(&mut self, slot: usize) -> Metadata
         requires { slot < length self.old.slots.now.slots }

@@ -176,7 +176,7 @@ impl Hashed {
                 "{shown}: slot {slot}"
             );
             assert!(rt;
-                metadata.is_candidate(standing.handle.hash, standing.displacement),
+                metadata.is_of(standing.handle.hash, standing.displacement),
                 "{shown}: slot {slot}"
             );
             assert_eq!(rt;

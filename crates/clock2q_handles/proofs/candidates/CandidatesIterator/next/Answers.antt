@@ -10,18 +10,18 @@ use Rattle.clock2q_handles.proofs.candidates.CandidatesIterator.next.Goals.{Afte
 use Rattle.clock2q_handles.proofs.candidates.CandidatesIterator.next.Goals as goal
 
 -- the candidate's slot doesn't end the walk
-far : (g : Over) (c : After-handle-handle g) → mark_reach (sought c.in-Some.wanted) ≤ reach (slot_at c.self.inside.reader.slots.now.slots c.in-Some.slot)
-far g c = omega (arith, reach_told (sought c.in-Some.wanted) (slot_at c.self.inside.reader.slots.now.slots c.in-Some.slot) (sym c.in-Some.ensures.found))
+far : (g : Over) (c : After-handle-handle g) → mark_reach (sought c.in-Ok.wanted) ≤ reach (slot_at c.self.inside.reader.slots.now.slots c.in-Ok.slot)
+far g c = omega (arith, reach_told (sought c.in-Ok.wanted) (slot_at c.self.inside.reader.slots.now.slots c.in-Ok.slot) (sym c.in-Ok.ensures.found))
 
 pub next-self-inside-requires-clause-room : goal.next-self-inside-requires-clause-room
-next-self-inside-requires-clause-room g c = omega (arith, far g (goal.at.next-self-inside-requires-clause-room g c).After-handle-handle, c.in-Some.ensures.lookup.near c.in-Some.slot)
+next-self-inside-requires-clause-room g c = omega (arith, far g (goal.at.next-self-inside-requires-clause-room g c).After-handle-handle, c.in-Ok.ensures.lookup.near c.in-Ok.slot)
 
 -- the walk goes on to the slot after
-on : (g : Over) (c : After-next-self-inside g) → mark_reach (sought c.in-Some.wanted) ≤ reach (slot_at c.self.inside.reader.slots.now.slots c.in-Some.slot)
-    → HasStepped c.self.inside.reader.slots.now.slots (sought c.in-Some.wanted) (sought c.next-self-inside.result) c.in-Some.slot c.after-self-inside.result
+on : (g : Over) (c : After-next-self-inside g) → mark_reach (sought c.in-Ok.wanted) ≤ reach (slot_at c.self.inside.reader.slots.now.slots c.in-Ok.slot)
+    → HasStepped c.self.inside.reader.slots.now.slots (sought c.in-Ok.wanted) (sought c.next-self-inside.result) c.in-Ok.slot c.after-self-inside.result
 on g c far =
-    lookup_steps c.self.inside.reader.slots.now.slots (sought c.in-Some.wanted) (sought c.next-self-inside.result) c.in-Some.slot c.after-self-inside.result c.in-Some.ensures.some c.next-self-inside.ensures
-    (c.after-self-inside.ensures.after ∙ ap (λ s. (c.in-Some.slot + 1) % length s.now.slots) c.candidate.ensures.same) c.in-Some.ensures.lookup far
+    lookup_steps c.self.inside.reader.slots.now.slots (sought c.in-Ok.wanted) (sought c.next-self-inside.result) c.in-Ok.slot c.after-self-inside.result c.in-Ok.ensures.some c.next-self-inside.ensures
+    (c.after-self-inside.ensures.after ∙ ap (λ s. (c.in-Ok.slot + 1) % length s.now.slots) c.candidate.ensures.same) c.in-Ok.ensures.lookup far
 
 pub invariant_of-self-2 : goal.invariant_of-self-2
 invariant_of-self-2 g c =
@@ -35,9 +35,9 @@ returns-clause-steps g c =
     let v = c.handle-handle.result in
     let same = ap (λ s. s.now.slots) (sym c.candidate.ensures.same) in
     let next = on g before.After-next-self-inside (far g before.After-handle-handle) in
-    let handle = subst (λ s. IfSome (slot_at s.now.slots c.in-Some.slot) (λ p. v ≡ p.entry.1)) c.candidate.ensures.same c.handle-handle.ensures in (
-      ap (λ t. t.left) (sym c.self.view_is) ∙ c.in-Some.ensures.left ∙ next.takes v c.in-Some.ensures.found handle ∙ ap (λ s. v ∷ left_at s (sought c.next-self-inside.result) c.after-self-inside.result) same,
-      omega (arith, ap (λ s. unread_at s (sought c.next-self-inside.result) c.after-self-inside.result) same, next.read, c.in-Some.ensures.read, ap (λ t. t.reads) c.self.view_is, ap (λ t. t.unread) c.self.view_is),
+    let handle = subst (λ s. IfSome (slot_at s.now.slots c.in-Ok.slot) (λ p. v ≡ p.entry.1)) c.candidate.ensures.same c.handle-handle.ensures in (
+      ap (λ t. t.left) (sym c.self.view_is) ∙ c.in-Ok.ensures.left ∙ next.takes v c.in-Ok.ensures.found handle ∙ ap (λ s. v ∷ left_at s (sought c.next-self-inside.result) c.after-self-inside.result) same,
+      omega (arith, ap (λ s. unread_at s (sought c.next-self-inside.result) c.after-self-inside.result) same, next.read, c.in-Ok.ensures.read, ap (λ t. t.reads) c.self.view_is, ap (λ t. t.unread) c.self.view_is),
       tt,
     )
 

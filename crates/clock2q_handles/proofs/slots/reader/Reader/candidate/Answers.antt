@@ -4,6 +4,7 @@ use Rattle.clock2q_handles.specs.Slots.{told, sought, mark_of, mark_on, mark_rea
 use Rattle.clock2q_handles.specs.declared.metadata.Wanted.{Wanted}
 use Rattle.clock2q_handles.proofs.Moves.{reach_told, refused}
 use Rattle.clock2q_handles.proofs.Cursors.{lookup_ends, lookup_steps, goes_on, HasStepped}
+use Rattle.clock2q_handles.proofs.Carrying.{walks_on}
 use Rattle.clock2q_handles.proofs.slots.reader.Reader.candidate.Given.{Over}
 use Rattle.clock2q_handles.proofs.slots.reader.Reader.candidate.Goals.{After-is, After-ends_walk_for, After-after-slot}
 use Rattle.clock2q_handles.proofs.slots.reader.Reader.candidate.Goals as goal
@@ -26,6 +27,15 @@ returns-then-ends_walk_for-clause-read_all g c =
     let mark = here g (goal.at.returns-then-ends_walk_for-clause-read_all g c).After-is in
     let end = lookup_ends slots (sought c.loop-metadata.wanted) c.loop-metadata.slot l.some l.lookup (omega (arith, reach_told _ (slot_at slots c.loop-metadata.slot) mark, c.ends_walk_for.ensures.0 c.if-ends_walk_for.true)) in
     omega (arith, l.read, end.1, c.read-metadata.ensures.counted)
+
+pub returns-then-ends_walk_for-clause-ends : goal.returns-then-ends_walk_for-clause-ends
+returns-then-ends_walk_for-clause-ends g c x walk =
+    let slots = c.args.self.now.slots.now.slots in
+    let mark = here g (goal.at.returns-then-ends_walk_for-clause-ends g c).After-is in
+    record {
+      walk = c.loop-metadata.invariant.walks x walk;
+      stop = omega (arith, reach_told _ (slot_at slots c.loop-metadata.slot) mark, c.ends_walk_for.ensures.0 c.if-ends_walk_for.true);
+    }
 
 on : (g : Over) (c : After-after-slot g) → told c.read-metadata.result ≡ mark_of (slot_at c.args.self.now.slots.now.slots c.loop-metadata.slot) → mark_reach (sought c.loop-metadata.wanted) ≤ reach (slot_at c.args.self.now.slots.now.slots c.loop-metadata.slot)
 on g c mark = goes_on c.args.self.now.slots.now.slots c.ends_walk_for.result (sought c.loop-metadata.wanted) (told c.read-metadata.result) c.loop-metadata.slot c.ends_walk_for.ensures c.if-ends_walk_for.false mark
@@ -58,6 +68,9 @@ loop-metadata-preserved g c =
       same = c.read-metadata.ensures.same ∙ l.same;
       lookup = next.lookup;
       some = next.some;
+      walks = λ x walk. walks_on c.args.self.now.slots.now.slots l.lookup.tidy x (sought c.loop-metadata.wanted) (sought c.next-wanted.result) c.loop-metadata.slot c.after-slot.result (l.walks x walk) (on g before.After-after-slot mark) c.next-wanted.ensures
+          (c.after-slot.ensures.after ∙ ap (λ s. (c.loop-metadata.slot + 1) % length s.now.slots) (c.read-metadata.ensures.same ∙ l.same));
+      reads = omega (arith, l.reads, c.read-metadata.ensures.counted);
       left = l.left ∙ next.skips (λ e. refused c.is.result c.is.ensures c.if-is.false (mark ∙ e));
       read = omega (arith, l.read, next.read, c.read-metadata.ensures.counted);
     }

@@ -1,6 +1,6 @@
-use Rattle.std.proofs.Common.{◌≡◌, ◌+◌}
+use Rattle.std.proofs.Common.{◌≡◌, ◌+◌, ◌≤◌, ℕ}
 use Rattle.std.specs.Prelude.{IsSome}
-use Rattle.clock2q_handles.specs.Candidates.{left_at, unread_at, IsLookup}
+use Rattle.clock2q_handles.specs.Candidates.{left_at, unread_at, IsLookup, IsWalkFor}
 use Rattle.clock2q_handles.specs.Slots.{sought}
 use Rattle.clock2q_handles.proofs.slots.reader.Reader.candidate.Given as goal
 
@@ -9,6 +9,8 @@ invariant-loop-metadata g l = record {
   same : l.self.slots ≡ l.initial.self.slots;
   lookup : IsLookup l.initial.self.slots.now.slots (sought l.wanted) l.slot;
   some : IsSome (sought l.wanted);
+  walks : (x : ℕ) → IsWalkFor l.initial.self.slots.now.slots x (sought l.initial.wanted) l.initial.slot → IsWalkFor l.initial.self.slots.now.slots x (sought l.wanted) l.slot;
+  reads : l.initial.self.reads.total ≤ l.self.reads.total;
   left : left_at l.initial.self.slots.now.slots (sought l.initial.wanted) l.initial.slot ≡ left_at l.initial.self.slots.now.slots (sought l.wanted) l.slot;
   read : l.self.reads.total + unread_at l.initial.self.slots.now.slots (sought l.wanted) l.slot ≡ l.initial.self.reads.total + unread_at l.initial.self.slots.now.slots (sought l.initial.wanted) l.initial.slot;
 }

@@ -38,5 +38,7 @@ loop-slot-preserved g c =
 
 pub returns : goal.returns
 returns g c =
+    let slots = shown c.args.self.now in
     let l = c.loop-slot.invariant.come in
-    record { end = (l.0, l.1, l.2, looks_end (shown c.args.self.now) c.requires.tidy 0 (top c.args.hash) l.0 c.loop-slot.slot c.ends_walk_for.result (sought c.loop-slot.wanted) _ l.2 c.ends_walk_for.ensures c.loop-slot-test.false c.metadata.ensures) }
+    let near = looks_end slots c.requires.tidy 0 (top c.args.hash) l.0 c.loop-slot.slot c.ends_walk_for.result (sought c.loop-slot.wanted) _ l.2 c.ends_walk_for.ensures c.loop-slot-test.false c.metadata.ensures in
+    record { end = record { walk = record { distance = l.0; come = l.1; mark = l.2 }; stop = omega (arith, near, ap mark_reach l.2) } }

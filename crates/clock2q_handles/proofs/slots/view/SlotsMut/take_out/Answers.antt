@@ -19,7 +19,7 @@ loop-metadata-init g c = record {
 
 more : (g : Over) (c : After-write g) → CloseState (shown c.args.self.now) (shown c.write.new.self) c.args.slot c.after-next.result c.args.self.now.writes.now.total (c.loop-metadata.self.writes.now.total + 1)
 more g c = close_goes (shown c.args.self.now) (shown c.loop-metadata.self) c.requires.tidy c.args.slot c.loop-metadata.hole _ _ c.loop-metadata.invariant.state c.after-next.result c.after-next.ensures.after (shown c.write.new.self)
-    (told c.metadata-metadata.result) (told c.moved_back.result) c.handle-handle.result c.metadata-metadata.ensures (c.can_move_back.ensures.0 c.if-not-can_move_back.false) c.moved_back.ensures c.handle-handle.ensures c.write.ensures.written
+    (told c.metadata-metadata.result) (told c.one_nearer.result) c.handle-handle.result c.metadata-metadata.ensures (c.can_move_back.ensures.0 c.if-not-can_move_back.false) c.one_nearer.ensures c.handle-handle.ensures c.write.ensures.written
 
 pub loop-metadata-smaller : goal.loop-metadata-smaller
 loop-metadata-smaller g c =
