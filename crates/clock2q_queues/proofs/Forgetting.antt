@@ -1,19 +1,19 @@
 -- A key forgotten by the history.
-use Rattle.std.proofs.Common.{◌≡◌, ℕ, ◌+◌, Bool, true, false, eqb, Option, Some, None, slice_get, List, [], ◌∷◌, length, inl, inr, refl, sym, ap, ◌∙◌, subst, arith}
+use Rattle.std.proofs.Common.{◌≡◌, ℕ, ◌+◌, ◌≤◌, Bool, true, false, eqb, Option, Some, None, slice_get, List, [], ◌∷◌, map, length, inl, inr, refl, sym, ap, ◌∙◌, subst, arith}
 use Rattle.std.specs.List.{cons_option, find}
 use Rattle.std.specs.Cmp.{IsEquivalence}
 use Rattle.std.proofs.lemmas.Bool.{both_ways, cases_Bool, eqb-true}
 use Rattle.clock2q_handles.specs.Homes.{candidates, removed}
 use Rattle.clock2q_queues.specs.declared.keys.cells.Entry.{Entry}
-use Rattle.clock2q_queues.specs.Rings.{has, without}
+use Rattle.clock2q_queues.specs.Rings.{has, without, AllBelow}
 use Rattle.clock2q_queues.specs.Order.{PlaceOrder, IsWholeOrder, used}
 use Rattle.clock2q_queues.specs.Keys.{KeyPlaces, hashed_at, entries_of, is_key_at}
 use Rattle.clock2q_queues.specs.Indexes.{IsIndex, AllDistinct, HasHash, has_key}
-use Rattle.clock2q_queues.specs.History.{IsHistory, forgotten, remembered, accesses_of}
+use Rattle.clock2q_queues.specs.History.{IsHistory, forgotten, remembered, accesses_of, places_with, places_in, place_of, freed_place}
 use Rattle.clock2q_queues.specs.Cells.{Rises}
-use Rattle.clock2q_queues.proofs.Rings.{has_first, has_later, AllApart-left}
+use Rattle.clock2q_queues.proofs.Rings.{has_first, has_later, AllApart-left, AllBelow-left}
 use Rattle.clock2q_queues.proofs.Joining.{length-without}
-use Rattle.clock2q_queues.proofs.Entries.{key_there, any_entry, same_place}
+use Rattle.clock2q_queues.proofs.Entries.{key_there, any_entry, same_place, hashed_there, entries-cons}
 use Rattle.clock2q_queues.proofs.Histories.{shown-as}
 use Rattle.clock2q_queues.proofs.Indexes.{length-taken, IsIndex-removed}
 use Rattle.clock2q_queues.proofs.Booleans.{or_parts, or_neither}
@@ -80,18 +80,41 @@ module _ {K V : Type 0} (eq : K → K → Bool) where
       let this = is_of-at eq key keys p ∙ h p (has_first p ps) in
       (any_none eq key (hashed_at keys p) (entries_of keys ps) this rest.0, forgotten_kept eq key (hashed_at keys p) (entries_of keys ps) this ∙ ap (λ z. cons_option (hashed_at keys p) z) rest.1)
 
+  -- the place beside a key is the first that has it
+  place_beside : (key : K) (keys : List (Entry K V)) (n : ℕ) (ps : List ℕ) → n ≤ length keys → AllBelow n ps
+      → place_of (eq key) (map (λ (e : ℕ × K). e.1) (entries_of keys ps)) ps ≡ find (is_key_at eq key keys) ps
+  place_beside key keys n [] h b = refl
+  place_beside key keys n (p ∷ ps) h b =
+      let e = hashed_there keys p (omega (arith, b.0)) in
+      let same : is_key_at eq key keys p ≡ eq key e.0.1 = sym (is_of-at eq key keys p) ∙ ap (λ z. is_of eq key z) e.1 in
+      let rest = place_beside key keys n ps h b.1 in
+      ap (λ (z : List (ℕ × K)). place_of (eq key) (map (λ (e : ℕ × K). e.1) z) (p ∷ ps)) (entries-cons keys p e.0 ps e.1)
+      ∙ elim (cases_Bool (eq key e.0.1)) [
+        | inl k ↦ rw (same, k) refl
+        | inr k ↦ rw (same, k) rest
+      ]
+
   -- a key was forgotten that was there
-  pub record Forgets (key : K) (order : PlaceOrder) (keys : KeyPlaces K V) (index' : List (List (ℕ × ℕ))) (order' : PlaceOrder) (keys' : KeyPlaces K V) : Type 0 where
+  pub record Forgets (hash : ℕ) (key : K) (index : List (List (ℕ × ℕ))) (order : PlaceOrder) (keys : KeyPlaces K V) (index' : List (List (ℕ × ℕ))) (order' : PlaceOrder) (keys' : KeyPlaces K V) : Type 0 where
     pub whole : IsHistory eq index' order' keys'
-    pub shown : remembered (entries_of keys'.entries order'.places) order'.limit index' (accesses_of order' keys') keys'.questions
-        ≡ remembered (forgotten eq key (entries_of keys.entries order.places)) order.limit index' (accesses_of order' keys') keys'.questions
+    pub shown : remembered (entries_of keys'.entries order'.places) order'.limit (places_in index' order') (accesses_of order' keys') keys'.questions
+        ≡ remembered (forgotten eq key (entries_of keys.entries order.places)) order.limit (places_in index' order') (accesses_of order' keys') keys'.questions
     pub accesses : Rises 0 7 (accesses_of order keys) (accesses_of order' keys')
     pub found : has_key eq key (entries_of keys.entries order.places) ≡ true
+    pub places : places_in index' order' ≡ freed_place hash (place_of (eq key) (map (λ (e : ℕ × K). e.1) (entries_of keys.entries order.places)) order.places) (places_in index order)
 
   module _ (laws : IsEquivalence eq) (hash : ℕ) (key : K) (index : List (List (ℕ × ℕ))) (order : PlaceOrder) (keys : KeyPlaces K V) (h : IsHistory eq index order keys)
       (hashed : HasHash eq hash key (entries_of keys.entries order.places)) where
     looked : find (is_key_at eq key keys.entries) (candidates index hash) ≡ find (is_key_at eq key keys.entries) order.places
     looked = look-up eq hash key index keys.entries order.places h.indexed hashed laws h.distinct
+
+    placed : place_of (eq key) (map (λ (e : ℕ × K). e.1) (entries_of keys.entries order.places)) order.places ≡ find (is_key_at eq key keys.entries) (candidates index hash)
+    placed = place_beside key keys.entries (used order) order.places (omega (arith, h.as_many)) (AllBelow-left (used order) order.places order.free h.whole.below) ∙ sym looked
+
+    -- a key that isn't found has no place
+    pub unplaced : None ≡ find (is_key_at eq key keys.entries) (candidates index hash)
+        → places_in index order ≡ freed_place hash (place_of (eq key) (map (λ (e : ℕ × K). e.1) (entries_of keys.entries order.places)) order.places) (places_in index order)
+    unplaced none = ap (λ z. freed_place hash z (places_in index order)) (none ∙ sym placed)
 
     -- a key that isn't found isn't remembered
     pub missed : None ≡ find (is_key_at eq key keys.entries) (candidates index hash)
@@ -112,7 +135,7 @@ module _ {K V : Type 0} (eq : K → K → Bool) where
       ]
 
       pub forgets : (index' : List (List (ℕ × ℕ))) (order' : PlaceOrder) (keys' : KeyPlaces K V) → index' ≡ removed eqb index hash place → IsWholeOrder order'
-          → order' ≡ record order { places = without place order.places; free = place ∷ order.free; accesses = order.accesses + 7 } → keys' ≡ record keys { questions = keys'.questions } → Forgets key order keys index' order' keys'
+          → order' ≡ record order { places = without place order.places; free = place ∷ order.free; accesses = order.accesses + 7 } → keys' ≡ record keys { questions = keys'.questions } → Forgets hash key index order keys index' order' keys'
       forgets index' order' keys' is w ordered same =
           let apart = AllApart-left order.places order.free h.whole.apart in
           let at = hash_there eq hash key index keys.entries order.places h.indexed hashed place there.0 there.1 in
@@ -140,4 +163,7 @@ module _ {K V : Type 0} (eq : K → K → Bool) where
                 let m = ap (λ (z : KeyPlaces K V). z.writes) same in
                 (omega (arith, n, m), omega (arith, n, m));
             found = any_entry eq key keys.entries order.places place e.0 there.0 e.1 e.2;
+            places = ap (λ z. places_with z order'.places order'.free) is ∙ ap (λ z. places_with (removed eqb index hash place) z order'.free) places
+                ∙ ap (λ z. places_with (removed eqb index hash place) (without place order.places) z) (ap (λ (z : PlaceOrder). z.free) ordered)
+                ∙ ap (λ z. freed_place hash z (places_in index order)) (found ∙ sym placed);
           }

@@ -6,7 +6,7 @@ use Rattle.clock2q_queues.specs.Rings.{AllBelow}
 use Rattle.clock2q_queues.specs.Order.{PlaceOrder, IsWholeOrder, unused, used}
 use Rattle.clock2q_queues.specs.Keys.{KeyPlaces, entries_of}
 use Rattle.clock2q_queues.specs.Indexes.{IsIndex, AllDistinct, Empties, index_room}
-use Rattle.clock2q_queues.specs.History.{IsHistory, IsWholeHistory, remembered}
+use Rattle.clock2q_queues.specs.History.{Places, IsHistory, IsWholeHistory, remembered, places_in}
 use Rattle.clock2q_queues.proofs.Rings.{AllApart-left, AllBelow-left}
 use Rattle.clock2q_queues.proofs.Entries.{length-entries}
 use Rattle.clock2q_queues.proofs.Indexes.{IsIndex-new, half_new}
@@ -43,18 +43,18 @@ module _ {K V : Type 0} (eq : K → K → Bool) where
       }
 
 -- what callers see, from each of its parts
-pub shown-as : {K : Type 0} (entries entries' : List (ℕ × K)) (limit limit' : ℕ) (index : List (List (ℕ × ℕ))) (accesses questions questions' : ℕ) → entries' ≡ entries → limit' ≡ limit → questions' ≡ questions
-    → remembered entries' limit' index accesses questions' ≡ remembered entries limit index accesses questions
-shown-as entries entries' limit limit' index accesses questions questions' e l q =
-    ap (λ z. remembered z limit' index accesses questions') e ∙ ap (λ z. remembered entries z index accesses questions') l ∙ ap (λ z. remembered entries limit index accesses z) q
+pub shown-as : {K : Type 0} (entries entries' : List (ℕ × K)) (limit limit' : ℕ) (places : Places) (accesses questions questions' : ℕ) → entries' ≡ entries → limit' ≡ limit → questions' ≡ questions
+    → remembered entries' limit' places accesses questions' ≡ remembered entries limit places accesses questions
+shown-as entries entries' limit limit' places accesses questions questions' e l q =
+    ap (λ z. remembered z limit' places accesses questions') e ∙ ap (λ z. remembered entries z places accesses questions') l ∙ ap (λ z. remembered entries limit places accesses z) q
 
 pub IsWholeHistory-from : {K : Type 0} (eq : K → K → Bool) (index : List (List (ℕ × ℕ))) (order : PlaceOrder) (keys : KeyPlaces K Unit) (accesses questions : ℕ) → IsHistory eq index order keys
-    → IsWholeHistory eq (remembered (entries_of keys.entries order.places) order.limit index accesses questions)
+    → IsWholeHistory eq (remembered (entries_of keys.entries order.places) order.limit (places_in index order) accesses questions)
 IsWholeHistory-from eq index order keys accesses questions h =
     let n = entries_counted eq index order keys h in
     record {
       distinct = h.distinct;
       within = omega (arith, n, h.whole.within);
       half = h.half;
-      indexed = (keys.entries, order.places, refl, n, h.indexed);
+      indexed = (keys.entries, refl, n, h.indexed);
     }

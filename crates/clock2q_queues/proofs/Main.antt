@@ -95,27 +95,32 @@ hand_fits old mid main hand m e h =
 pub record UnlinksMain (slot : ℕ) (old : LinkState) (main : MainRing) (new : LinkState) (main' : MainRing) : Type 0 where
   pub whole : IsMainRing new main'
   pub entries : main_entries new main' ≡ filter (λ e. not (eqb e.0 slot)) (main_entries old main)
-  pub freed : standing_at new.records.items slot ≡ Free
-  pub others : IsSameBut (main_slots old main) old new
 
-pub UnlinksMain-from : (slot : ℕ) (old : LinkState) (main : MainRing) (new : LinkState) (main' : MainRing)
-    → IsMainRing old main → has slot (main_slots old main) ≡ true → Detaches slot old.records new.records → new ≡ record old { records = new.records }
-    → main'.hand ≡ slice_get (without slot (main_slots old main)) 0 → main'.len ≡ main.len - 1
-    → UnlinksMain slot old main new main'
-UnlinksMain-from slot old main new main' m h d rest s n =
-    let ss = main_slots old main in
-    let r = Removes-detached old.records new.records ss slot m.queue.linked h d in
-    let bits = (λ (t : ℕ). ap (λ (l : LinkState). bit_at l t) rest) in
-    let is : IsMain new main' (without slot ss) = record {
-      queue = record { linked = r.linked; starts = s; counted = let e = length-without slot ss m.queue.linked.apart h in let f = m.queue.counted in omega arith; countable = rw r.as_many m.queue.countable };
-      standing = λ t g. let w = has-without t slot ss g in r.standings t w.1 ∙ m.standing t w.0;
-    } in
-    record {
-      whole = IsMainRing-from new main' (without slot ss) is;
-      entries =
-          ap (λ z. map {B = ℕ × Bool} (λ s. (s, bit_at new s)) z) (main_slots-is new main' (without slot ss) is)
-          ∙ map-agree {X = ℕ × Bool} (λ s. (s, bit_at new s)) (λ s. (s, bit_at old s)) (without slot ss) (λ t g. ap (λ z. (t, z)) (bits t))
-          ∙ sym (filter-entries slot (λ s. bit_at old s) ss);
-      freed = ap (λ r. r.standing) r.freed;
-      others = record { others = λ t g. ap (λ z. (z, bit_at new t)) (r.others t g) ∙ ap (λ z. (record_at old.records.items t, z)) (bits t); as_many = r.as_many };
-    }
+module _ (slot : ℕ) (old : LinkState) (main : MainRing) (new : LinkState) (m : IsMainRing old main) (h : has slot (main_slots old main) ≡ true) (d : Detaches slot old.records new.records) (rest : new ≡ record old { records = new.records }) where
+  pub UnlinksMain-from : (main' : MainRing) → main'.hand ≡ slice_get (without slot (main_slots old main)) 0 → main'.len ≡ main.len - 1 → UnlinksMain slot old main new main'
+  UnlinksMain-from main' s n =
+      let ss = main_slots old main in
+      let r = Removes-detached old.records new.records ss slot m.queue.linked h d in
+      let bits = (λ (t : ℕ). ap (λ (l : LinkState). bit_at l t) rest) in
+      let is : IsMain new main' (without slot ss) = record {
+        queue = record { linked = r.linked; starts = s; counted = let e = length-without slot ss m.queue.linked.apart h in let f = m.queue.counted in omega arith; countable = rw r.as_many m.queue.countable };
+        standing = λ t g. let w = has-without t slot ss g in r.standings t w.1 ∙ m.standing t w.0;
+      } in
+      record {
+        whole = IsMainRing-from new main' (without slot ss) is;
+        entries =
+            ap (λ z. map {B = ℕ × Bool} (λ s. (s, bit_at new s)) z) (main_slots-is new main' (without slot ss) is)
+            ∙ map-agree {X = ℕ × Bool} (λ s. (s, bit_at new s)) (λ s. (s, bit_at old s)) (without slot ss) (λ t g. ap (λ z. (t, z)) (bits t))
+            ∙ sym (filter-entries slot (λ s. bit_at old s) ss);
+      }
+
+  -- wherever the hand then stands, the slot is free
+  pub freed-from : standing_at new.records.items slot ≡ Free
+  freed-from = ap (λ r. r.standing) (Removes-detached old.records new.records (main_slots old main) slot m.queue.linked h d).freed
+
+  -- and the slots of others are as they were
+  pub others-from : IsSameBut (main_slots old main) old new
+  others-from =
+      let r = Removes-detached old.records new.records (main_slots old main) slot m.queue.linked h d in
+      let bits = (λ (t : ℕ). ap (λ (l : LinkState). bit_at l t) rest) in
+      record { others = λ t g. ap (λ z. (z, bit_at new t)) (r.others t g) ∙ ap (λ z. (record_at old.records.items t, z)) (bits t); as_many = r.as_many }

@@ -1,18 +1,21 @@
 -- A place for a new key in the history.
-use Rattle.std.proofs.Common.{◌≡◌, ℕ, suc, ◌+◌, ◌-◌, ◌<◌, ◌≤◌, max, true, false, eqb, Some, None, List, [], ◌∷◌, ◌++◌, length, take, drop, take_all, refl, sym, ap, ◌∙◌, subst, arith}
-use Rattle.std.specs.List.{last_or}
+use Rattle.std.proofs.Common.{◌≡◌, ℕ, suc, ◌+◌, ◌-◌, ◌<◌, ◌≤◌, max, true, false, eqb, Option, Some, None, List, [], ◌∷◌, ◌++◌, length, take, drop, take_all, refl, sym, ap, ◌∙◌, subst, arith}
+use Rattle.std.specs.Prelude.{if◌then◌else◌}
+use Rattle.std.specs.List.{last_or, cons_option}
+use Rattle.std.proofs.lemmas.Bool.{lt-ltb, le-ltb}
 use Rattle.std.proofs.lemmas.List.{append-nil}
 use Rattle.clock2q_queues.specs.declared.keys.cells.Entry.{Entry}
 use Rattle.clock2q_queues.specs.Rings.{has, without, AllApart}
 use Rattle.clock2q_queues.specs.Cells.{Rises}
-use Rattle.clock2q_handles.specs.Homes.{removed}
+use Rattle.clock2q_handles.specs.Homes.{inserted, removed}
 use Rattle.clock2q_queues.specs.Order.{PlaceOrder, IsWholeOrder, used, next_place, place_for}
-use Rattle.clock2q_queues.specs.Keys.{hash_at}
+use Rattle.clock2q_queues.specs.Keys.{hash_at, hashed_at, entries_of}
 use Rattle.clock2q_queues.specs.Indexes.{IsIndex}
-use Rattle.clock2q_queues.specs.History.{MakesPlace}
+use Rattle.clock2q_queues.specs.History.{MakesPlace, places_with, places_in, oldest_hash, taking_free, taking_oldest}
 use Rattle.clock2q_queues.proofs.Booleans.{or_true, and_false}
 use Rattle.clock2q_queues.proofs.Rings.{eqb_self, AllApart-left, AllBelow-left, below_of, without-parted, has-append, has-without_test}
 use Rattle.clock2q_queues.proofs.Joining.{split_last, length-without}
+use Rattle.clock2q_queues.proofs.Entries.{hashed_there, hash_of_hashed}
 use Rattle.clock2q_queues.proofs.Orders.{FitsNext, FitsNext-from, take_front}
 use Rattle.clock2q_queues.proofs.Indexes.{length-taken, IsIndex-removed}
 
@@ -34,6 +37,25 @@ used_next : (ps fs : List ℕ) → place_for (length ps) fs < suc (length ps) + 
 used_next ps [] h = (omega arith, omega arith)
 used_next ps (f ∷ fs) h = (omega (arith, h), omega (arith, h))
 
+module _ {K V : Type 0} (keys : List (Entry K V)) where
+  -- the last place's entry is the last one
+  last-entry : (o : Option (ℕ × K)) (s : ℕ) (ps : List ℕ) (p : ℕ) (e : ℕ × K) → hashed_at keys p ≡ Some e → last_or None (s ∷ ps) ≡ Some p → last_or o (entries_of keys (s ∷ ps)) ≡ Some e
+  last-entry o s [] p e at last =
+      let q : s ≡ p = cc in
+      ap (λ z. last_or o (cons_option z [])) (ap (λ z. hashed_at keys z) q ∙ at)
+  last-entry o s (t ∷ ps) p e at last = of (hashed_at keys s) (λ z. last-entry z t ps p e at last)
+    where
+      of : (h : Option (ℕ × K)) → ((z : Option (ℕ × K)) → last_or z (entries_of keys (t ∷ ps)) ≡ Some e) → last_or o (cons_option h (entries_of keys (t ∷ ps))) ≡ Some e
+      of None later = later o
+      of (Some x) later = later (Some x)
+
+  oldest-is : (ps : List ℕ) (p hash : ℕ) → last_or None ps ≡ Some p → p < length keys → hash_at keys p ≡ Some hash → oldest_hash (λ (e : ℕ × K). e.0) (entries_of keys ps) ≡ hash
+  oldest-is [] p hash last there at = absurd (cc)
+  oldest-is (s ∷ ps) p hash last there at =
+      let e = hashed_there keys p there in
+      let same : e.0.0 ≡ hash = let q = hash_of_hashed keys p e.0 e.1 in cc in
+      ap (λ z. elim z [ None ↦ 0 | Some k ↦ k.0 ]) (last-entry None s ps p e.0 e.1 last) ∙ same
+
 module _ {K V : Type 0} (index : List (List (ℕ × ℕ))) (order order' : PlaceOrder) (keys : List (Entry K V)) (place : ℕ)
     (i : IsIndex index keys order.places) (as_many : length keys ≡ used order) (w : IsWholeOrder order) where
   pub MakesPlace-new : length order.places < order.limit → place ≡ next_place order → order'.places ≡ place ∷ order.places → order'.free ≡ drop 1 order.free → order'.limit ≡ order.limit
@@ -53,6 +75,13 @@ module _ {K V : Type 0} (index : List (List (ℕ × ℕ))) (order order' : Place
         used_now = counts ∙ u.1 ∙ ap (λ z. max z (place_for (length order.places) order.free + 1)) (sym as_many) ∙ ap (λ z. max (length keys) (z + 1)) (sym is);
         limit = limit;
         accesses = accesses;
+        placed = λ hash.
+            let p = places_in index order in
+            let oldest = oldest_hash (λ (e : ℕ × K). e.0) (entries_of keys order.places) in
+            ap (λ z. places_with (inserted index hash place) z order'.free) places
+            ∙ ap (λ z. places_with (inserted index hash place) (place ∷ order.places) z) free
+            ∙ ap (λ z. places_with (inserted index hash z) (z ∷ order.places) (drop 1 order.free)) is
+            ∙ sym (ap (λ b. if b then taking_free hash p else taking_oldest hash oldest (last_or None order.places) p) (lt-ltb (length order.places) order.limit room));
       }
 
   pub oldest_there : last_or None order.places ≡ Some place → place < length keys
@@ -81,4 +110,14 @@ module _ {K V : Type 0} (index : List (List (ℕ × ℕ))) (order order' : Place
         used_now = omega (arith, counts, left, as_many, there);
         limit = limit;
         accesses = (omega (arith, accesses), omega (arith, accesses));
+        placed = λ new.
+            let p = places_in index order in
+            let oldest = oldest_hash (λ (e : ℕ × K). e.0) (entries_of keys order.places) in
+            let front' = take (length order.places - 1) order.places in
+            ap (λ z. places_with (inserted z new place) order'.places order'.free) is
+            ∙ ap (λ z. places_with (inserted (removed eqb index hash place) new place) z order'.free) places
+            ∙ ap (λ z. places_with (inserted (removed eqb index hash place) new place) (place ∷ front') z) free
+            ∙ ap (λ z. places_with (inserted (removed eqb index z place) new place) (place ∷ front') order.free) (sym (oldest-is keys order.places place hash last there at))
+            ∙ ap (λ z. taking_oldest new oldest z p) (sym last)
+            ∙ sym (ap (λ b. if b then taking_free new p else taking_oldest new oldest (last_or None order.places) p) (le-ltb (length order.places) order.limit full));
       }

@@ -1,7 +1,8 @@
 -- A key put in front of the history.
 use Rattle.std.proofs.Common.{◌≡◌, ℕ, zero, suc, ◌+◌, ◌-◌, ◌^◌, ◌<◌, ◌≤◌, Bool, true, false, eqb, Some, None, slice_get, List, [], ◌∷◌, length, take, refl, sym, ap, ◌∙◌, subst, arith}
-use Rattle.std.specs.Prelude.{Result, Ok, Err, IsOk}
-use Rattle.std.proofs.lemmas.Bool.{both_ways, eq-eqb}
+use Rattle.std.specs.Prelude.{Result, Ok, Err, IsOk, if◌then◌else◌}
+use Rattle.std.specs.List.{last_or}
+use Rattle.std.proofs.lemmas.Bool.{both_ways, eq-eqb, le-ltb}
 use Rattle.std.proofs.lemmas.List.{length-take}
 use Rattle.clock2q_handles.specs.Homes.{total, capacity, inserted}
 use Rattle.clock2q_handles.specs.declared.error.TableError.{TableError}
@@ -11,7 +12,7 @@ use Rattle.clock2q_queues.specs.Rings.{has}
 use Rattle.clock2q_queues.specs.Order.{PlaceOrder, IsWholeOrder, used}
 use Rattle.clock2q_queues.specs.Keys.{KeyPlaces, entry, key_places, written, hash_at, hashed_at, entries_of}
 use Rattle.clock2q_queues.specs.Indexes.{IsIndex, AllDistinct, has_key}
-use Rattle.clock2q_queues.specs.History.{IsHistory, MakesPlace, remembered, accesses_of}
+use Rattle.clock2q_queues.specs.History.{Places, IsHistory, MakesPlace, remembered, accesses_of, places_with, places_in, pushed_places, oldest_hash, taking_free, taking_oldest}
 use Rattle.clock2q_queues.specs.Cells.{Rises}
 use Rattle.clock2q_queues.proofs.Rings.{differs, AllBelow-left}
 use Rattle.clock2q_queues.proofs.Entries.{slice_get-written, slice_get-written_other, length-written, entries-agree, entries-cons, entries-take}
@@ -32,12 +33,23 @@ module _ {K : Type 0} (eq : K → K → Bool) where
   distinct-take (suc k) [] d = tt
   distinct-take (suc k) (e ∷ es) d = (key_absent-take e.1 k es d.0, distinct-take k es d.1)
 
+-- a history for no keys, which has none, stays as it is
+pub pushed-nowhere : (limit hash oldest : ℕ) (p : Places) → length p.taken ≤ limit → limit ≡ 0 → pushed_places limit hash oldest p ≡ p
+pushed-nowhere limit hash oldest p h none =
+    ap (λ b. if b then taking_free hash p else taking_oldest hash oldest (last_or None p.taken) p) (le-ltb (length p.taken) limit (omega (arith, none)))
+    ∙ ap (λ z. taking_oldest hash oldest (last_or None z) p) (empty p.taken (omega (arith, h, none)))
+  where
+    empty : (ps : List ℕ) → length ps ≡ 0 → ps ≡ []
+    empty [] e = refl
+    empty (p ∷ ps) e = absurd (omega arith)
+
 -- a key was put in front
-pub record Remembers {K V : Type 0} (eq : K → K → Bool) (hash : ℕ) (key : K) (order : PlaceOrder) (keys : KeyPlaces K V) (index' : List (List (ℕ × ℕ))) (order' : PlaceOrder) (keys' : KeyPlaces K V) : Type 0 where
+pub record Remembers {K V : Type 0} (eq : K → K → Bool) (hash : ℕ) (key : K) (index : List (List (ℕ × ℕ))) (order : PlaceOrder) (keys : KeyPlaces K V) (index' : List (List (ℕ × ℕ))) (order' : PlaceOrder) (keys' : KeyPlaces K V) : Type 0 where
   pub whole : IsHistory eq index' order' keys'
-  pub shown : remembered (entries_of keys'.entries order'.places) order'.limit index' (accesses_of order' keys') keys'.questions
-      ≡ remembered (take order.limit ((hash, key) ∷ entries_of keys.entries order.places)) order.limit index' (accesses_of order' keys') keys.questions
+  pub shown : remembered (entries_of keys'.entries order'.places) order'.limit (places_in index' order') (accesses_of order' keys') keys'.questions
+      ≡ remembered (take order.limit ((hash, key) ∷ entries_of keys.entries order.places)) order.limit (places_in index' order') (accesses_of order' keys') keys.questions
   pub accesses : Rises 0 8 (accesses_of order keys) (accesses_of order' keys')
+  pub places : places_in index' order' ≡ pushed_places order.limit hash (oldest_hash (λ (e : ℕ × K). e.0) (entries_of keys.entries order.places)) (places_in index order)
 
 module _ {K V : Type 0} (eq : K → K → Bool) (hash : ℕ) (key : K) (value : V) (index index1 index' : List (List (ℕ × ℕ))) (order order' : PlaceOrder) (keys keys' : KeyPlaces K V) (place : ℕ)
     (h : IsHistory eq index order keys) (some : 0 < order.limit) (m : MakesPlace index index1 order order' keys.entries place) where
@@ -84,7 +96,7 @@ module _ {K V : Type 0} (eq : K → K → Bool) (hash : ℕ) (key : K) (value : 
     counted : Rises 1 7 order.accesses order'.accesses → keys'.writes ≡ keys.writes + 1 → Rises 0 8 (accesses_of order keys) (accesses_of order' keys')
     counted rises n = (omega (arith, rises.0), omega (arith, rises.1))
 
-    pub remembers : Remembers eq hash key order keys index' order' keys'
+    pub remembers : Remembers eq hash key index order keys index' order' keys'
     remembers =
         let slots : 0 < length index1 = rw m.as_many (omega (arith, some, h.half)) in
         let hashes = (λ (t : ℕ) (g : has t fewer ≡ true). ap (λ z. elim z [ None ↦ None | Some e ↦ Some e.hash ]) (stands_still t g)) in
@@ -103,4 +115,5 @@ module _ {K V : Type 0} (eq : K → K → Bool) (hash : ℕ) (key : K) (value : 
           };
           shown = shown-as _ _ _ _ _ _ _ _ entries_now m.limit (ap (λ (z : KeyPlaces K V). z.questions) write);
           accesses = counted m.accesses (ap (λ (z : KeyPlaces K V). z.writes) write);
+          places = ap (λ z. places_with z order'.places order'.free) put ∙ m.placed hash;
         }

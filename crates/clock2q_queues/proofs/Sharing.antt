@@ -4,7 +4,7 @@ use Rattle.std.specs.List.{filter}
 use Rattle.std.proofs.lemmas.Bool.{eqb-true, both_ways, cases_Bool}
 use Rattle.std.proofs.lemmas.List.{length-replicate}
 use Rattle.clock2q_queues.specs.Ages.{Age, grown}
-use Rattle.clock2q_queues.specs.Cells.{Counted, accessed}
+use Rattle.clock2q_queues.specs.Cells.{Counted, accessed, counted}
 use Rattle.clock2q_queues.specs.declared.links.Record.{Record}
 use Rattle.clock2q_queues.specs.declared.links.Mark.TheVariants.{Free}
 use Rattle.clock2q_queues.specs.declared.main_ring.MainRing.{MainRing}
@@ -182,9 +182,9 @@ module _ (l : LinkState) (small : Small) (main : MainRing) (q : AreQueues l smal
       } in
       main_changed new main' (from_victim (main_entries l main)) queues k.entries e s.as_many p
 
-  -- a record was read
-  pub after_reading : (new : LinkState) → new ≡ record l { records = accessed l.records } → Becomes new small main (record (queues_shown l small main) { accesses = accesses_of l + 1 })
-  after_reading new e =
+  -- accesses were counted
+  pub after_counting : (new : LinkState) (more : ℕ) → new ≡ record l { records = counted l.records.items (l.records.accesses + more) } → Becomes new small main (record (queues_shown l small main) { accesses = accesses_of l + more })
+  after_counting new more e =
       let s : IsSameBut [] l new = subst (λ z. IsSameBut [] l z) (sym e) (record { others = λ t h. refl; as_many = refl }) in
       let a = KeepsSmall-from l small new [] q.small s (ap (λ (z : LinkState). z.window.items) e) (λ t h. refl) in
       let b = KeepsMain-from l main new [] q.main s (λ t h. refl) in
@@ -194,9 +194,13 @@ module _ (l : LinkState) (small : Small) (main : MainRing) (q : AreQueues l smal
           main = b.whole;
           elsewhere = λ t f g. stays_free new [] t s refl (subst (λ z. has t z ≡ false) a.slots f) (subst (λ z. has t z ≡ false) b.slots g);
         };
-        is = queues_equal (queues_shown new small main) (record (queues_shown l small main) { accesses = accesses_of l + 1 })
+        is = queues_equal (queues_shown new small main) (record (queues_shown l small main) { accesses = accesses_of l + more })
             a.entries b.entries s.as_many (ap (λ (z : LinkState). length z.window.items) e) (ap (λ (z : LinkState). accesses_of z) e ∙ (omega arith)) (ap (λ (z : LinkState). z.bits.inspections) e);
       }
+
+  -- a record was read
+  pub after_reading : (new : LinkState) → new ≡ record l { records = accessed l.records } → Becomes new small main (record (queues_shown l small main) { accesses = accesses_of l + 1 })
+  after_reading new e = after_counting new 1 e
 
 -- links on which nothing stands
 pub AreQueues-blank : (l : LinkState) (small : Small) (main : MainRing) → IsSmallQueue l small → IsMainRing l main → IsBlank l → AreQueues l small main

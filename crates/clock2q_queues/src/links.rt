@@ -1,7 +1,7 @@
 //! What the queues stand on: the link records and the hit bits by slot number, and the places of
 //! Small's window.
 ghost use Rattle.std.specs.Prelude.{◌≡◌, ℕ, ◌+◌, ◌^◌, ◌<◌, ◌&&◌, length, IfOk, replicate, None, false, if◌then◌else◌, ◌==◌};
-ghost use Rattle.clock2q_queues.specs.Cells.{Counted, accessed, written};
+ghost use Rattle.clock2q_queues.specs.Cells.{Counted, counted, accessed, written};
 ghost use Rattle.clock2q_queues.specs.Links.{LinkState, vacant, is_old, Attaches, Detaches, SetsBit, fresh, record_at, next_at, previous_at, with_next, with_previous, with_standing, standing_at, bit_at, place_at};
 
 mod cells;
@@ -144,6 +144,14 @@ impl<A: Allocator> Links<A> {
         ensures { result ≡ length self.now.window.items }
     {
         self.window.len() as u32
+    }
+
+    /// Raises the count of accesses by as many as the proof of the call picks.
+    pub fn charge(&mut self)
+        ghost more: { ℕ }
+        ensures { self.new ≡ record self.old { records = counted self.old.records.items (self.old.records.accesses + more) } }
+    {
+        self.records.charge();
     }
 
     /// Returns the record of a slot.

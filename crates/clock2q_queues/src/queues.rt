@@ -1,5 +1,5 @@
 //! The two queues of a cache's residents, Small and Main, over the links that they share.
-ghost use Rattle.std.specs.Prelude.{◌≡◌, ◌+◌, ◌-◌, ◌<◌, ◌⊎◌, false, true, [], ◌∷◌, ◌++◌, length, take, drop, slice_get, None, Some, IfOk};
+ghost use Rattle.std.specs.Prelude.{◌≡◌, ℕ, ◌+◌, ◌-◌, ◌<◌, ◌⊎◌, false, true, [], ◌∷◌, ◌++◌, length, take, drop, slice_get, None, Some, IfOk};
 ghost use Rattle.std.specs.List.{last_or};
 ghost use Rattle.clock2q_queues.specs.Cells.{Rises};
 ghost use Rattle.clock2q_queues.specs.Rings.{has};
@@ -247,6 +247,15 @@ impl<A: Allocator> Queues<A> {
         ensures queues { self.new ≡ record self.old { small = small_hit_at slot self.old.small; main = main_hit_at slot self.old.main } }
     {
         self.links.set_bit(slot, true);
+    }
+
+    /// Raises the count of link accesses by as many as the proof of the call picks. A caller that
+    /// has to say the count exactly brings it to its bound with this.
+    pub fn charge(&mut self)
+        ghost more: { ℕ }
+        ensures charged { self.new ≡ record self.old { accesses = self.old.accesses + more } }
+    {
+        self.links.charge();
     }
 
     /// Removes every slot from both queues.

@@ -1,11 +1,11 @@
 //! The history of the keys that left Small, which the literature calls Ghost.
-ghost use Rattle.std.specs.Prelude.{◌≡◌, ℕ, ◌+◌, ◌^◌, ◌<◌, ◌≤◌, false, [], ◌∷◌, take, length, IfOk};
+ghost use Rattle.std.specs.Prelude.{◌≡◌, ℕ, ◌+◌, ◌^◌, ◌<◌, ◌≤◌, false, [], ◌∷◌, map, take, length, IfOk};
 ghost use Rattle.clock2q_handles.specs.Homes.{candidates};
 ghost use Rattle.clock2q_handles.specs.TableStep.{made_for};
 ghost use Rattle.clock2q_queues.specs.Cells.{Rises};
 ghost use Rattle.clock2q_queues.specs.Order.{IsWholeOrder, used};
 ghost use Rattle.clock2q_queues.specs.Indexes.{IsIndex, HasHash, index_room};
-ghost use Rattle.clock2q_queues.specs.History.{IsWholeHistory, MakesPlace, remembered, is_remembered, forgotten};
+ghost use Rattle.clock2q_queues.specs.History.{IsWholeHistory, MakesPlace, places_with, pushed_places, freed_place, place_of, oldest_hash, remembered, is_remembered, forgotten};
 
 mod order;
 #[cfg(test)]
@@ -42,13 +42,13 @@ pub struct History<K: Eq, A: Allocator = Global> {
 
 impl<K: Eq, A: Allocator> Model for History<K, A> {
     ghost use Rattle.clock2q_queues.specs.Keys.{entries_of};
-    ghost use Rattle.clock2q_queues.specs.History.{Remembered, remembered_code, remembered, accesses_of, IsHistory};
+    ghost use Rattle.clock2q_queues.specs.History.{Remembered, remembered_code, remembered, places_in, accesses_of, IsHistory};
 
     ghost Value = { Remembered K };
 
     ghost coded = { remembered_code K.code };
 
-    ghost view = { λ h. remembered (entries_of h.keys.entries h.order.places) h.order.limit h.index.homes (accesses_of h.order h.keys) h.keys.questions };
+    ghost view = { λ h. remembered (entries_of h.keys.entries h.order.places) h.order.limit (places_in h.index.homes h.order) (accesses_of h.order h.keys) h.keys.questions };
 
     ghost invariant = { λ h. IsHistory K.eq h.index.homes h.order h.keys };
 }
@@ -66,7 +66,7 @@ impl<K: Eq, A: Allocator + Copy> History<K, A> {
     /// Linear in `limit`.
     pub fn new(alloc: A, limit: usize) -> Result<Self, AllocError>
         requires short { limit < 2 ^ 24 }
-        ensures made { IfOk result (λ h. h ≡ remembered [] limit (made_for (index_room limit)) 0 0) }
+        ensures made { IfOk result (λ h. h ≡ remembered [] limit (places_with (made_for (index_room limit)) [] []) 0 0) }
     {
         let Ok(index) = Table::with_capacity(alloc, index_room(limit)) else {
             return Err(AllocError);
@@ -94,7 +94,8 @@ impl<K: Eq, A: Allocator> History<K, A> {
     where
         K: Drop,
         requires absent { is_remembered K.eq key self.old.entries ≡ false }
-        ensures pushed { self.new ≡ record self.old { entries = take self.old.limit ((hash, key) ∷ self.old.entries); index = self.new.index; accesses = self.new.accesses } }
+        ensures pushed { self.new ≡ record self.old { entries = take self.old.limit ((hash, key) ∷ self.old.entries); places = self.new.places; accesses = self.new.accesses } }
+        ensures places { self.new.places ≡ pushed_places self.old.limit hash (oldest_hash (λ (e : ℕ × K). e.0) self.old.entries) self.old.places }
         ensures accesses { Rises 0 8 self.old.accesses self.new.accesses }
     {
         if self.order.limit() == 0 {
@@ -111,9 +112,10 @@ impl<K: Eq, A: Allocator> History<K, A> {
     pub fn discard(&mut self, hash: u64, key: &K) -> bool
         requires hash { HasHash K.eq hash key.now self.old.entries }
         ensures found { result ≡ is_remembered K.eq key.now self.old.entries }
-        ensures forgotten { self.new ≡ record self.old { entries = forgotten K.eq key.now self.old.entries; index = self.new.index; accesses = self.new.accesses; questions = self.new.questions } }
+        ensures forgotten { self.new ≡ record self.old { entries = forgotten K.eq key.now self.old.entries; places = self.new.places; accesses = self.new.accesses; questions = self.new.questions } }
+        ensures places { self.new.places ≡ freed_place hash (place_of (K.eq key.now) (map (λ e. e.1) self.old.entries) self.old.places.taken) self.old.places }
         ensures accesses { Rises 0 7 self.old.accesses self.new.accesses }
-        ensures questions { Rises 0 (length (candidates self.old.index hash)) self.old.questions self.new.questions }
+        ensures questions { Rises 0 (length (candidates self.old.places.index hash)) self.old.questions self.new.questions }
     {
         let Some(place) = self.keys.find(self.index.get(hash), key) else {
             return false;
@@ -131,7 +133,7 @@ impl<K: Eq, A: Allocator> History<K, A> {
     pub fn clear(&mut self)
     where
         K: Drop,
-        ensures cleared { self.new ≡ record self.old { entries = []; index = self.new.index } }
+        ensures cleared { self.new ≡ record self.old { entries = []; places = places_with self.new.places.index [] [] } }
     {
         self.keys.unindex(&mut self.index);
         self.order.clear();

@@ -190,6 +190,15 @@ impl<K, V, A: Allocator> Keys<K, V, A> {
 impl<K: Eq, V, A: Allocator> Keys<K, V, A> {
     ghost use Rattle.clock2q_queues.specs.Keys.{is_key_at, questions_of};
 
+    /// Raises the count of questions by as many as the proof of the call picks. A caller that has to
+    /// say the count exactly brings it to its bound with this.
+    pub fn charge(&mut self)
+        ghost more: { ℕ }
+        ensures charged { self.new ≡ record self.old { questions = self.old.questions + more } }
+    {
+        self.questions.raise(&());
+    }
+
     /// Returns whether `key` equals the key at a place, and counts the question.
     pub fn is(&mut self, place: u32, key: &K) -> bool
         requires used { place < length self.old.entries }

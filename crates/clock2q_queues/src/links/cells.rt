@@ -1,6 +1,6 @@
 //! The vectors that the links stand on. Only these accessors reach what the vectors hold, and each
 //! read or write of a cell, and each look of the hand at a bit, raises a count.
-ghost use Rattle.std.specs.Prelude.{◌≡◌, ◌+◌, ◌<◌, ◌&&◌, false, length, replicate, slice_index_or};
+ghost use Rattle.std.specs.Prelude.{◌≡◌, ℕ, ◌+◌, ◌<◌, ◌&&◌, false, length, replicate, slice_index_or};
 ghost use Rattle.clock2q_queues.specs.Cells.{counted, accessed, written};
 
 use crate::links::{Mark, Record};
@@ -60,6 +60,14 @@ impl<T: Copy, A: Allocator> Cells<T, A> {
     {
         self.accesses.tick();
         self.items[at as usize] = item;
+    }
+
+    /// Raises the count of accesses by as many as the proof of the call picks.
+    pub fn charge(&mut self)
+        ghost more: { ℕ }
+        ensures { self.new ≡ counted self.old.items (self.old.accesses + more) }
+    {
+        self.accesses.raise(&());
     }
 
     /// Writes the same item to every cell.

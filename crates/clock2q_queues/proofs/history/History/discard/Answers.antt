@@ -1,11 +1,11 @@
-use Rattle.std.proofs.Common.{◌≡◌, ◌≤◌, length, None, Some, sym, ap, ◌∙◌, arith}
+use Rattle.std.proofs.Common.{◌≡◌, ◌≤◌, map, length, None, Some, sym, ap, ◌∙◌, arith}
 use Rattle.std.specs.List.{find}
 use Rattle.clock2q_handles.specs.Homes.{candidates}
 use Rattle.clock2q_queues.specs.Keys.{KeyPlaces, is_key_at, entries_of, questions_of}
-use Rattle.clock2q_queues.specs.History.{Remembered, remembered, accesses_of, is_remembered, forgotten}
+use Rattle.clock2q_queues.specs.History.{Remembered, remembered, accesses_of, is_remembered, forgotten, places_in, place_of, freed_place}
 use Rattle.clock2q_queues.proofs.Indexes.{candidates_there}
 use Rattle.clock2q_queues.proofs.Lookups.{questions-most}
-use Rattle.clock2q_queues.proofs.Forgetting.{forgets, missed, place_there}
+use Rattle.clock2q_queues.proofs.Forgetting.{forgets, missed, unplaced, place_there}
 use Rattle.clock2q_queues.proofs.history.History.discard.Goals as goal
 
 pub find-requires : goal.find-requires
@@ -28,9 +28,9 @@ returns-in_default-clause-forgotten g c =
     let none : None ≡ find (is_key_at g.K.PartialEq.eq c.args.key.now i.keys.entries) (candidates i.index.homes c.args.hash) = c.in_default.ensures.found ∙ ap (λ z. find (is_key_at g.K.PartialEq.eq c.args.key.now i.keys.entries) z) c.get.ensures.candidates in
     let m = missed g.K.PartialEq.eq g.met.K.Eq.laws c.args.hash c.args.key.now i.index.homes i.order i.keys c.self.invariant hashed none in
     let keyed = c.find.ensures.counted ∙ ap (λ n. record i.keys { questions = n }) (sym (ap (λ (z : KeyPlaces _ _). z.questions) c.find.ensures.counted)) in
-    ap (λ (z : KeyPlaces _ _). remembered (entries_of z.entries i.order.places) i.order.limit i.index.homes (accesses_of i.order c.find.new.self) c.find.new.self.questions) keyed
-    ∙ ap (λ z. remembered z i.order.limit i.index.homes (accesses_of i.order c.find.new.self) c.find.new.self.questions) (sym m.1)
-    ∙ ap (λ (z : Remembered _). remembered (forgotten g.K.PartialEq.eq c.args.key.now z.entries) z.limit i.index.homes (accesses_of i.order c.find.new.self) c.find.new.self.questions) c.self.view_is
+    ap (λ (z : KeyPlaces _ _). remembered (entries_of z.entries i.order.places) i.order.limit (places_in i.index.homes i.order) (accesses_of i.order c.find.new.self) c.find.new.self.questions) keyed
+    ∙ ap (λ z. remembered z i.order.limit (places_in i.index.homes i.order) (accesses_of i.order c.find.new.self) c.find.new.self.questions) (sym m.1)
+    ∙ ap (λ (z : Remembered _). remembered (forgotten g.K.PartialEq.eq c.args.key.now z.entries) z.limit (places_in i.index.homes i.order) (accesses_of i.order c.find.new.self) c.find.new.self.questions) c.self.view_is
 
 pub returns-in_default-clause-questions : goal.returns-in_default-clause-questions
 returns-in_default-clause-questions g c =
@@ -39,8 +39,16 @@ returns-in_default-clause-questions g c =
     let most : questions_of test c.get.result.left ≤ length (candidates i.index.homes c.args.hash) = rw c.get.ensures.candidates (questions-most test (candidates i.index.homes c.args.hash)) in
     let asked = ap (λ (z : KeyPlaces _ _). z.questions) c.find.ensures.counted in
     let before = ap (λ (z : Remembered _). z.questions) c.self.view_is in
-    let all = ap (λ (z : Remembered _). length (candidates z.index c.args.hash)) c.self.view_is in
+    let all = ap (λ (z : Remembered _). length (candidates z.places.index c.args.hash)) c.self.view_is in
     (omega (arith, asked, before), omega (arith, asked, before, most, all))
+
+pub returns-in_default-clause-places : goal.returns-in_default-clause-places
+returns-in_default-clause-places g c =
+    let i = c.self.inside in
+    let hashed = rw (← c.self.view_is) at c.requires.hash in
+    let none : None ≡ find (is_key_at g.K.PartialEq.eq c.args.key.now i.keys.entries) (candidates i.index.homes c.args.hash) = c.in_default.ensures.found ∙ ap (λ z. find (is_key_at g.K.PartialEq.eq c.args.key.now i.keys.entries) z) c.get.ensures.candidates in
+    unplaced g.K.PartialEq.eq g.met.K.Eq.laws c.args.hash c.args.key.now i.index.homes i.order i.keys c.self.invariant hashed none
+    ∙ ap (λ (z : Remembered _). freed_place c.args.hash (place_of (g.K.PartialEq.eq c.args.key.now) (map (λ e. e.1) z.entries) z.places.taken) z.places) c.self.view_is
 
 pub unlink-requires : goal.unlink-requires
 unlink-requires g c =
@@ -80,7 +88,7 @@ returns-clause-forgotten g c =
     let keyed = c.find.ensures.counted ∙ ap (λ n. record i.keys { questions = n }) (sym (ap (λ (z : KeyPlaces _ _). z.questions) c.find.ensures.counted)) in
     let f = forgets g.K.PartialEq.eq g.met.K.Eq.laws c.args.hash c.args.key.now i.index.homes i.order i.keys c.self.invariant hashed c.in-Some.place found
     c.remove.new.self.homes c.unlink.new.self c.find.new.self c.remove.ensures.removed e.whole e.order keyed in
-    f.shown ∙ ap (λ (z : Remembered _). remembered (forgotten g.K.PartialEq.eq c.args.key.now z.entries) z.limit c.remove.new.self.homes (accesses_of c.unlink.new.self c.find.new.self) c.find.new.self.questions) c.self.view_is
+    f.shown ∙ ap (λ (z : Remembered _). remembered (forgotten g.K.PartialEq.eq c.args.key.now z.entries) z.limit (places_in c.remove.new.self.homes c.unlink.new.self) (accesses_of c.unlink.new.self c.find.new.self) c.find.new.self.questions) c.self.view_is
 
 pub returns-clause-accesses : goal.returns-clause-accesses
 returns-clause-accesses g c =
@@ -100,5 +108,16 @@ returns-clause-questions g c =
     let most : questions_of test c.get.result.left ≤ length (candidates i.index.homes c.args.hash) = rw c.get.ensures.candidates (questions-most test (candidates i.index.homes c.args.hash)) in
     let asked = ap (λ (z : KeyPlaces _ _). z.questions) c.find.ensures.counted in
     let before = ap (λ (z : Remembered _). z.questions) c.self.view_is in
-    let all = ap (λ (z : Remembered _). length (candidates z.index c.args.hash)) c.self.view_is in
+    let all = ap (λ (z : Remembered _). length (candidates z.places.index c.args.hash)) c.self.view_is in
     (omega (arith, asked, before), omega (arith, asked, before, most, all))
+
+pub returns-clause-places : goal.returns-clause-places
+returns-clause-places g c =
+    let i = c.self.inside in
+    let hashed = rw (← c.self.view_is) at c.requires.hash in
+    let found : Some c.in-Some.place ≡ find (is_key_at g.K.PartialEq.eq c.args.key.now i.keys.entries) (candidates i.index.homes c.args.hash) = c.in-Some.ensures.found ∙ ap (λ z. find (is_key_at g.K.PartialEq.eq c.args.key.now i.keys.entries) z) c.get.ensures.candidates in
+    let e = c.unlink.ensures in
+    let keyed = c.find.ensures.counted ∙ ap (λ n. record i.keys { questions = n }) (sym (ap (λ (z : KeyPlaces _ _). z.questions) c.find.ensures.counted)) in
+    let f = forgets g.K.PartialEq.eq g.met.K.Eq.laws c.args.hash c.args.key.now i.index.homes i.order i.keys c.self.invariant hashed c.in-Some.place found
+    c.remove.new.self.homes c.unlink.new.self c.find.new.self c.remove.ensures.removed e.whole e.order keyed in
+    f.places ∙ ap (λ (z : Remembered _). freed_place c.args.hash (place_of (g.K.PartialEq.eq c.args.key.now) (map (λ e. e.1) z.entries) z.places.taken) z.places) c.self.view_is
