@@ -43,7 +43,7 @@ stored_again m slot v w within =
     ]
 
 -- the value that a slot has changes nothing where it is stored again
-stored_same : {K V : Type 0} (m : Machine K V) (slot : ℕ) (v : V) → slice_get m.values slot ≡ Some v → stored slot v m ≡ m
+pub stored_same : {K V : Type 0} (m : Machine K V) (slot : ℕ) (v : V) → slice_get m.values slot ≡ Some v → stored slot v m ≡ m
 stored_same m slot v there = rw (lt-ltb slot (length m.values) (slice_get_within m.values slot v there)) (ap (λ vs. record m { values = vs }) (set_same m.values slot v there))
 
 -- so what was fetched and is not written to is as it was fetched

@@ -32,7 +32,7 @@ module _ {K : Type 0} (key : ℕ → Option K) where
   abbrev pub paired : List ℕ → List (K × ℕ)
   paired places = filter_map (λ s. option_map (λ k. (k, s)) (key s)) places
 
-  paired-cons : (s : ℕ) (ss : List ℕ) (k : K) → key s ≡ Some k → paired (s ∷ ss) ≡ (k, s) ∷ paired ss
+  pub paired-cons : (s : ℕ) (ss : List ℕ) (k : K) → key s ≡ Some k → paired (s ∷ ss) ≡ (k, s) ∷ paired ss
   paired-cons s ss k h = ap (λ o. cons_option (option_map (λ (k : K). (k, s)) o) (paired ss)) h
 
   pub length-paired : (places : List ℕ) → HaveKeys key places → length (paired places) ≡ length places
@@ -153,25 +153,28 @@ module _ {K V : Type 0} (hash : K → ℕ) (entries : List (Entry K V)) where
           }
 
 module _ {K V : Type 0} (eq : K → K → Bool) (laws : IsEquivalence eq) (hash : K → ℕ) (shares : Shares) (q : QueueState) (h : Remembered K) (index : List (List (ℕ × ℕ))) (keys : KeyPlaces K V) (free : List ℕ) (room : ℕ) (kept : IsKept eq hash shares q h index keys free room) where
+  -- the residents are the keys at the slots in use
+  pub residents-paired : residents (machine_of shares q keys.entries h.entries free) ≡ paired (key_at keys.entries) (places_of q)
+  residents-paired =
+      let main = main-paired (key_at keys.entries) q.main (main_have eq laws hash shares q h index keys free room kept) in
+      small-paired (key_at keys.entries) q.small _ (slots_of q.main) (small_have eq laws hash shares q h index keys free room kept) main
+
   -- the index of the residents
   pub residents-have : HasPlaces hash index (residents (machine_of shares q keys.entries h.entries free))
   residents-have =
-      let main = main-paired (key_at keys.entries) q.main (main_have eq laws hash shares q h index keys free room kept) in
-      let all = small-paired (key_at keys.entries) q.small _ (slots_of q.main) (small_have eq laws hash shares q h index keys free room kept) main in
-      subst (λ z. HasPlaces hash index z) (sym all) (has-places hash keys.entries index (places_of q) (stored_stand hash keys.entries (places_of q) kept.stored.made kept.stored.hashed) kept.stored.indexed)
+      subst (λ z. HasPlaces hash index z) (sym residents-paired) (has-places hash keys.entries index (places_of q) (stored_stand hash keys.entries (places_of q) kept.stored.made kept.stored.hashed) kept.stored.indexed)
 
   -- the index of the history
   pub record Remembers : Type 0 where
-    pub places : List ℕ
-    pub as_many : length places ≡ length (map (λ (e : ℕ × K). e.1) h.entries)
-    pub have : HasPlaces hash h.index (zip (map (λ (e : ℕ × K). e.1) h.entries) places)
+    pub as_many : length h.places.taken ≡ length (map (λ (e : ℕ × K). e.1) h.entries)
+    pub have : HasPlaces hash h.places.index (zip (map (λ (e : ℕ × K). e.1) h.entries) h.places.taken)
 
   pub remembers : IsWholeHistory eq h → Remembers
   remembers whole =
       let w = whole.indexed in
-      let t = told hash w.0 w.1 (ap (λ (z : List (ℕ × K)). length z) (sym w.2) ∙ w.3) (subst (λ z. AllByRecursion (λ (e : ℕ × K). e.0 ≡ hash e.1) z) w.2 kept.hashed) in
+      let taken = h.places.taken in
+      let t = told hash w.0 taken (ap (λ (z : List (ℕ × K)). length z) (sym w.1) ∙ w.2) (subst (λ z. AllByRecursion (λ (e : ℕ × K). e.0 ≡ hash e.1) z) w.1 kept.hashed) in
       record {
-        places = w.1;
-        as_many = sym w.3 ∙ sym (length-map h.entries (λ (e : ℕ × K). e.1));
-        have = subst (λ z. HasPlaces hash h.index z) (sym (ap (λ (z : List (ℕ × K)). zip (map (λ (e : ℕ × K). e.1) z) w.1) w.2 ∙ t.zipped)) (has-places hash w.0 h.index w.1 t.stand w.4);
+        as_many = sym w.2 ∙ sym (length-map h.entries (λ (e : ℕ × K). e.1));
+        have = subst (λ z. HasPlaces hash h.places.index z) (sym (ap (λ (z : List (ℕ × K)). zip (map (λ (e : ℕ × K). e.1) z) taken) w.1 ∙ t.zipped)) (has-places hash w.0 h.places.index taken t.stand w.3);
       }

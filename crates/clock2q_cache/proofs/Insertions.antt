@@ -17,9 +17,9 @@ use Rattle.clock2q_queues.proofs.Joining.{last_some}
 use Rattle.clock2q_cache.specs.Shares.{Shares, main_share}
 use Rattle.clock2q_cache.specs.Entries as machine
 use Rattle.clock2q_cache.specs.Entries.{SmallEntry}
-use Rattle.clock2q_cache.specs.Machine.{Machine, slot_of, vacancy, goes_to_main}
+use Rattle.clock2q_cache.specs.Machine.{Machine, slot_of, vacancy, goes_to_main, forgotten}
 use Rattle.clock2q_cache.specs.Bounds.{goes_on, takes_victim, inspections_for}
-use Rattle.clock2q_cache.specs.Insertions.{main_looks, small_looks}
+use Rattle.clock2q_cache.specs.Insertions.{placed_looks, main_looks, small_looks}
 use Rattle.clock2q_cache.specs.CacheFields.{machine_of, IsKept, counts_of}
 use Rattle.clock2q_cache.specs.CacheState.{CacheState, Counts}
 use Rattle.clock2q_cache.specs.Costs.{Spends, alike}
@@ -107,6 +107,15 @@ module _ {K V : Type 0} (m : Machine K V) where
     pub small-insertion : goes_to_main (list_any is m.history) m ≡ false → inspections_for is m ≡ small_looks m
     small-insertion goes = looks_of ∙ ap (λ b. if (if b then length m.main == main_share m.shares else not (is_some (vacancy m)) && goes_on (last_or None m.small)) then machine.inspections m.main else 0) goes
 
+-- how often the hand looks where a key is placed whose history is erased first
+pub placed-inspections : {K V : Type 0} (is : K → Bool) (m m1 : Machine K V) (known main : Bool) → known ≡ list_any is m.history → m1 ≡ forgotten is m → main ≡ goes_to_main known m1 → slot_of is m ≡ None → placed_looks main m1 ≡ inspections_for is m
+placed-inspections is m m1 known main had erased goes absent =
+    ap (λ b. placed_looks b m1) goes ∙ ap (λ z. placed_looks (goes_to_main known z) z) erased ∙ ap (λ b. placed_looks (goes_to_main b m) m) had ∙ of (goes_to_main (list_any is m.history) m) refl
+  where
+    of : (b : Bool) → goes_to_main (list_any is m.history) m ≡ b → placed_looks b m ≡ inspections_for is m
+    of true main = sym (main-insertion m is absent main)
+    of false small = sym (small-insertion m is absent small)
+
 -- after Small's tail was looked at
 pub looked-spends : (looks : ℕ) (a b c : Counts) → Spends 0 1 0 a b → Spends looks (looks + 28) 0 b c → Spends looks (looks + 29) 0 a c
 looked-spends looks a b c before after = record {
@@ -139,12 +148,12 @@ module _ {K V S H : Type 0} (key : HashMembers K) (build : builder.Ghosts S H) (
       let none : inspections_for (key.eq k) old.machine ≡ 0 = sym (ap (λ o. if is_some o then 0 else (if takes_victim (key.eq k) old.machine then machine.inspections old.machine.main else 0)) there) in
       rw (is, none) (record { inspections = asked.inspections; accesses = (asked.accesses.0, omega (arith, asked.accesses.1)); questions = (asked.questions.0, omega (arith, asked.questions.1, asked_there)) })
 
-  pub insert-spends : (new : Counts) → Spends (inspections_for (key.eq k) found.machine) (inspections_for (key.eq k) found.machine + 80) (length (candidates found.remembered x)) found.counts new
+  pub insert-spends : (new : Counts) → Spends (inspections_for (key.eq k) found.machine) (inspections_for (key.eq k) found.machine + 80) (length (candidates found.remembered.index x)) found.counts new
       → Spends (inspections_for (key.eq k) old.machine) (inspections_for (key.eq k) old.machine + 80) (alike key build hash k old) old.counts new
   insert-spends new spent =
       let looks = ap (λ (z : CacheState K V S). inspections_for (key.eq k) z.machine) kept in
-      let places = ap (λ (z : CacheState K V S). length (candidates z.remembered x)) kept in
-      let places_there = ap (λ y. length (candidates old.remembered y)) same in
+      let places = ap (λ (z : CacheState K V S). length (candidates z.remembered.index x)) kept in
+      let places_there = ap (λ y. length (candidates old.remembered.index y)) same in
       record {
         inspections = omega (arith, asked.inspections, spent.inspections, looks);
         accesses = (omega (arith, asked.accesses.0, spent.accesses.0), omega (arith, asked.accesses.1, spent.accesses.1, looks));

@@ -1,6 +1,6 @@
 -- What holds of a cache's fields goes on to hold after each change of the layers, and the machine becomes what it should.
 use Rattle.std.proofs.Common.{◌≡◌, ℕ, zero, suc, ◌+◌, ◌-◌, ◌*◌, ◌^◌, ◌<◌, ◌≤◌, ◌==◌, Bool, true, false, not, ◌||◌, cond, eqb, Option, Some, None, List, [], ◌∷◌, ◌++◌, map, length, take, drop, reverse, inl, inr, refl, sym, ap, ◌∙◌, subst, arith, eqb-true, eq-eqb, ne_eqb, length-append}
-use Rattle.std.specs.Prelude.{if◌then◌else◌, nat_lt, is_some, slice_get, slice_set}
+use Rattle.std.specs.Prelude.{if◌then◌else◌, nat_lt, is_some, slice_get, slice_set, IfNone}
 use Rattle.std.specs.Cmp.{IsEquivalence}
 use Rattle.std.specs.List.{filter, find, last_or, AllByRecursion}
 use Rattle.std.proofs.lemmas.Bool.{cases_Bool, cases_lt, both_ways, lt-ltb, le-ltb}
@@ -20,6 +20,7 @@ use Rattle.clock2q_cache.specs.Shares.{Shares, main_share, ghost_share}
 use Rattle.clock2q_cache.specs.Entries as machine
 use Rattle.clock2q_cache.specs.Machine.{Machine, Placement, vacancy, vacant_slot, into_main, into_small, into_small_at, joining_main, replacing_victim, evicting_tail, promoting_tail, stored}
 use Rattle.clock2q_cache.specs.Cache.{IsWhole, known_count}
+use Rattle.clock2q_cache.specs.Insertions.{IsValueFor, Fills}
 use Rattle.clock2q_cache.specs.CacheFields.{machine_of, places_of, with_keys_small, with_keys_main, IsStored, IsSized, IsKept}
 use Rattle.clock2q_cache.proofs.WithKeys.{HaveKeys, small-admitted, main-behind, small-agree, main-agree, length-small, length-main}
 use Rattle.clock2q_cache.proofs.Stored.{stored-entered, stored-renewed, stored-same, key_at-own, key_at-others, values-written, length-values}
@@ -114,31 +115,49 @@ module _ {K V : Type 0} (eq : K → K → Bool) (laws : IsEquivalence eq) (hash 
     sized = sized;
   }
 
-  -- a key at a vacancy
-  module _ (key : K) (value : V) (hsh slot : ℕ) (free' : List ℕ) (is : hsh ≡ hash key) (taken : vacancy m ≡ Some slot) (others : reverse free' ≡ drop 1 (reverse free)) where
+  -- a vacancy
+  module _ (slot : ℕ) (taken : vacancy m ≡ Some slot) where
     pub vacant-slot : IsVacant eq hash shares q index keys.entries h.entries free kept.whole kept.stored slot
     vacant-slot = vacant eq hash shares q index keys.entries h.entries free kept.whole kept.stored slot taken
 
     pub vacant-apart : (has slot (slots_of q.small) ≡ false) × (has slot (slots_of q.main) ≡ false)
     vacant-apart = or_parts (has slot (slots_of q.small)) (has slot (slots_of q.main)) (sym (has-append slot (slots_of q.small) (slots_of q.main)) ∙ vacant-slot.absent)
 
+    -- where it was made before, a key may keep its value
+    made-there : (value : Option V) (s : ℕ) → s ≡ slot → IfNone value (s < length m.values) → IfNone value (slot < length keys.entries)
+    made-there None s is made = omega (arith, is, made, length-values keys.entries)
+    made-there (Some v) s is made = tt
+
+    pub made-small : (key : K) (value : Option V) → IfNone value ((into_small key m).slot < length m.values) → IfNone value (slot < length keys.entries)
+    made-small key value = made-there value (into_small key m).slot (ap (λ v. (into_small_at key v (last_or None m.small) m).slot) taken)
+
+    pub made-main : (key : K) (value : Option V) → length m.main < main_share shares → IfNone value ((into_main key m).slot < length m.values) → IfNone value (slot < length keys.entries)
+    made-main key value some =
+        let below : (length m.main == main_share m.shares) ≡ false = ne_eqb (length m.main) (main_share m.shares) (λ e. omega (arith, e, some)) in
+        made-there value (into_main key m).slot (ap (λ b. (if b then replacing_victim key (machine.from_victim m.main) m else joining_main key (vacancy m) m).slot) below ∙ ap (λ v. (joining_main key v m).slot) taken)
+
+  -- a key at a vacancy
+  module _ (key : K) (value : V) (hsh slot : ℕ) (free' : List ℕ) (is : hsh ≡ hash key) (taken : vacancy m ≡ Some slot) (others : reverse free' ≡ drop 1 (reverse free)) where
+    here : IsVacant eq hash shares q index keys.entries h.entries free kept.whole kept.stored slot
+    here = vacant-slot slot taken
+
     abbrev entries' : List (Entry K V)
     entries' = written slot (entry hsh key value) keys.entries
 
     entered : IsStored hash (inserted index hsh slot) entries' (slot ∷ places_of q)
     entered = subst (λ z. IsStored hash (inserted index z slot) (written slot (entry z key value) keys.entries) (slot ∷ places_of q)) (sym is)
-        (stored-entered hash index keys.entries (places_of q) slot key value kept.stored index_some vacant-slot.absent vacant-slot.next)
+        (stored-entered hash index keys.entries (places_of q) slot key value kept.stored index_some here.absent here.next)
 
     own : key_at entries' slot ≡ Some key
-    own = key_at-own slot hsh key value keys.entries vacant-slot.next
+    own = key_at-own slot hsh key value keys.entries here.next
 
     small_same : with_keys_small (key_at entries') q.small ≡ with_keys_small (key_at keys.entries) q.small
     small_same = small-agree (key_at keys.entries) (key_at entries') q.small
-        (λ t g. key_at-others slot hsh key value keys.entries vacant-slot.next (places_of q) vacant-slot.absent t (has-append t (slots_of q.small) (slots_of q.main) ∙ rw g refl))
+        (λ t g. key_at-others slot hsh key value keys.entries here.next (places_of q) here.absent t (has-append t (slots_of q.small) (slots_of q.main) ∙ rw g refl))
 
     main_same : with_keys_main (key_at entries') q.main ≡ with_keys_main (key_at keys.entries) q.main
     main_same = main-agree (key_at keys.entries) (key_at entries') q.main
-        (λ t g. key_at-others slot hsh key value keys.entries vacant-slot.next (places_of q) vacant-slot.absent t (has-append t (slots_of q.small) (slots_of q.main) ∙ rw g (or_true (has t (slots_of q.small)))))
+        (λ t g. key_at-others slot hsh key value keys.entries here.next (places_of q) here.absent t (has-append t (slots_of q.small) (slots_of q.main) ∙ rw g (or_true (has t (slots_of q.small)))))
       where
         or_true : (b : Bool) → (b || true) ≡ true
         or_true true = refl
@@ -152,7 +171,7 @@ module _ {K V : Type 0} (eq : K → K → Bool) (laws : IsEquivalence eq) (hash 
           ap (λ z. with_keys_small (key_at entries') z) small ∙ small-admitted (key_at entries') q.window slot key q.small own
           ∙ ap (λ z. machine.small_admitted q.window key slot z) small_same ∙ ap (λ z. machine.small_admitted z key slot m.small) kept.sized.window in
           let t : with_keys_main (key_at entries') q'.main ≡ m.main = ap (λ z. with_keys_main (key_at entries') z) main ∙ main_same in
-          let v = values-written slot (entry hsh key value) keys.entries vacant-slot.next in
+          let v = values-written slot (entry hsh key value) keys.entries here.next in
           cc
 
       pub joined_small_stored : IsStored hash (inserted index hsh slot) entries' (places_of q')
@@ -171,7 +190,7 @@ module _ {K V : Type 0} (eq : K → K → Bool) (laws : IsEquivalence eq) (hash 
           let s : with_keys_small (key_at entries') q'.small ≡ m.small = ap (λ z. with_keys_small (key_at entries') z) small ∙ small_same in
           let t : with_keys_main (key_at entries') q'.main ≡ machine.behind_hand key slot m.main =
           ap (λ z. with_keys_main (key_at entries') z) main ∙ main-behind (key_at entries') slot key q.main own ∙ ap (λ z. machine.behind_hand key slot z) main_same in
-          let v = values-written slot (entry hsh key value) keys.entries vacant-slot.next in
+          let v = values-written slot (entry hsh key value) keys.entries here.next in
           cc
 
       pub joined_main_stored : IsStored hash (inserted index hsh slot) entries' (places_of q')
@@ -214,3 +233,7 @@ module _ {K V : Type 0} (eq : K → K → Bool) (laws : IsEquivalence eq) (hash 
           let at : into_main key m ≡ joining_main key (Some slot) m = ap (λ b. if b then replacing_victim key (machine.from_victim m.main) m else joining_main key (vacancy m) m) below ∙ ap (λ v. joining_main key v m) taken in
           subst (λ p. IsDone slot value p q' h index' keys' free' room') (sym at)
           (done (joining_main key (Some slot) m) (placed-joining eq m kept.whole key slot taken some) (joined_main q' small main) (joined_main_stored q' small main) refl)
+
+-- a key was placed, and its slot has its value
+pub fills : {K V : Type 0} (value : Option V) (slot : ℕ) (held : V) (p : Placement K V) (old new : Machine K V) → slot ≡ p.slot → IsValueFor value slot old.values held → new ≡ stored p.slot held p.machine → Fills value p old new
+fills value slot held p old new at is becomes = record { held = held; is = subst (λ s. IsValueFor value s old.values held) at is; becomes = becomes }

@@ -81,7 +81,7 @@ module _ {K V : Type 0} (eq : K → K → Bool) where
       by_slot (Some slot) found = hit_there key slot found
 
     -- with the value that the slot has, and a new one with the fresh value
-    reused_value : (key : K) (absent : slot_of (eq key) m ≡ None) (fresh : V) → let slot = (placement (eq key) key m).slot in slice_get (reused (eq key) key fresh m).values slot ≡ Some (fetched_value (slice_get m.values slot) fresh)
+    pub reused_value : (key : K) (absent : slot_of (eq key) m ≡ None) (fresh : V) → let slot = (placement (eq key) key m).slot in slice_get (reused (eq key) key fresh m).values slot ≡ Some (fetched_value (slice_get m.values slot) fresh)
     reused_value key absent fresh =
         let p = placement (eq key) key m in
         let values : p.machine.values ≡ m.values = (placed-key eq laws key m h absent).values in

@@ -1,4 +1,5 @@
 pub mod Changed
+pub mod Charged
 pub mod Cleared
 pub mod Clock
 pub mod Entering
@@ -10,6 +11,8 @@ pub mod Insertions
 pub mod Kept
 pub mod Lasting
 pub mod Laws
+pub mod Making
+pub mod Places
 pub mod Remembered
 pub mod Renewed
 pub mod Residents

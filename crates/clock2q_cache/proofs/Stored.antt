@@ -6,13 +6,14 @@ use Rattle.std.proofs.lemmas.Bool.{cases_Bool, cases_lt, both_ways, lt-ltb, le-l
 use Rattle.clock2q_handles.specs.Homes.{candidates, total, capacity, inserted, removed}
 use Rattle.clock2q_queues.specs.declared.keys.cells.Entry.{Entry}
 use Rattle.clock2q_queues.specs.Rings.{has, without, AllApart, AllBelow}
-use Rattle.clock2q_queues.specs.Keys.{entry, written, hash_at, key_at, value_at}
+use Rattle.clock2q_queues.specs.Keys.{entry, written, with_key, hash_at, key_at, value_at}
 use Rattle.clock2q_queues.specs.Indexes.{IsIndex, is_named}
 use Rattle.clock2q_queues.proofs.Rings.{has_first, has_later, has-append, eqb_self, below_of, differs, has-without_test}
 use Rattle.clock2q_queues.proofs.Joining.{length-without}
 use Rattle.clock2q_queues.proofs.Entries.{slice_get-written, slice_get-written_other, length-written}
 use Rattle.clock2q_queues.proofs.Indexes.{IsIndex-put, IsIndex-taken, length-put, length-taken}
 use Rattle.clock2q_cache.specs.CacheFields.{IsStored}
+use Rattle.clock2q_cache.specs.Insertions.{Writes}
 use Rattle.clock2q_cache.proofs.WithKeys.{HaveKeys}
 
 module _ {K V : Type 0} where
@@ -48,6 +49,26 @@ module _ {K V : Type 0} where
   all-written P s e [] a p = (p, tt)
   all-written P zero e (x ∷ xs) a p = (p, a.1)
   all-written P (suc s) e (x ∷ xs) a p = (a.0, all-written P s e xs a.1 p)
+
+  -- a key that comes with a value, and one that finds its slot's
+  set-written : (s : ℕ) (e : Entry K V) (es : List (Entry K V)) → s < length es → slice_set es s e ≡ written s e es
+  set-written s e [] h = absurd (omega arith)
+  set-written zero e (x ∷ xs) h = refl
+  set-written (suc s) e (x ∷ xs) h = ap (λ zs. x ∷ zs) (set-written s e xs (omega arith))
+
+  value-there : (s : ℕ) (e : Entry K V) (es : List (Entry K V)) → slice_get es s ≡ Some e → slice_get (map (λ e. e.value) es) s ≡ Some e.value
+  value-there s e [] h = absurd (cc)
+  value-there zero e (x ∷ xs) h = let same : x ≡ e = cc in ap (λ (z : Entry K V). Some z.value) same
+  value-there (suc s) e (x ∷ xs) h = value-there s e xs h
+
+  pub brings-value : (s hash : ℕ) (key : K) (value : V) (es new : List (Entry K V)) → new ≡ written s (entry hash key value) es → Writes hash key (Some value) s es new
+  brings-value s hash key value es new is = record { held = value; is = refl; becomes = is }
+
+  pub keeps-value : (s hash : ℕ) (key : K) (es new : List (Entry K V)) → s < length es → new ≡ with_key s hash key es → Writes hash key None s es new
+  keeps-value s hash key es new there is =
+      let e = entry_there es s there in
+      let keyed : with_key s hash key es ≡ slice_set es s (entry hash key e.0.value) = ap (λ z. elim z [ None ↦ es | Some e ↦ slice_set es s (entry hash key e.value) ]) e.1 in
+      record { held = e.0.value; is = value-there s e.0 es e.1; becomes = is ∙ keyed ∙ set-written s (entry hash key e.0.value) es there }
 
   -- the values
   values-next : (s : ℕ) (e : Entry K V) (es : List (Entry K V)) → s ≡ length es → map (λ e. e.value) (written s e es) ≡ map (λ e. e.value) es ++ e.value ∷ []

@@ -47,7 +47,7 @@ some_is x y e = cc
 pub none_is : {X : Type 0} (x : X) → None ≡ Some x → ⊥
 none_is x e = cc
 
-no_vacancy : (free : List ℕ) (made capacity : ℕ) → vacant_slot free made capacity ≡ None → (length free ≡ 0) × (capacity ≤ made)
+pub no_vacancy : (free : List ℕ) (made capacity : ℕ) → vacant_slot free made capacity ≡ None → (length free ≡ 0) × (capacity ≤ made)
 no_vacancy (s ∷ free) made capacity none = absurd (none_is s (sym none))
 no_vacancy [] made capacity none =
     elim (cases_lt made capacity) [
@@ -123,7 +123,7 @@ module _ {K V : Type 0} where
 
   module _ (eq : K → K → Bool) (m : Machine K V) (h : IsWhole eq m) where
     -- a slot of Small's tail, of Main's victim or of the free ones has been made
-    stands_made : (slot : ℕ) → 0 < standings slot m → slot < length m.values
+    pub stands_made : (slot : ℕ) → 0 < standings slot m → slot < length m.values
     stands_made slot some = once_made slot (length m.values) (standings slot m) (h.slots_once slot) some
 
     pub whole-hit : (is : K → Bool) → IsWhole eq (hit is m)

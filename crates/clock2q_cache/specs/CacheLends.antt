@@ -11,6 +11,7 @@ use Rattle.clock2q_cache.specs.Costs.{Becomes}
 use Rattle.clock2q_cache.specs.Machine.{Machine, stored}
 use Rattle.clock2q_cache.specs.Steps.{replaced, put}
 use Rattle.clock2q_cache.specs.CacheState.{CacheState}
+use Rattle.clock2q_cache.specs.Charged.{with_slot}
 use Rattle.clock2q_cache.specs.contracts.cache.Cache.{the_row}
 
 module _ (K V S A H : RattleType) (key : HashMembers K.Denot) (build : builder.Ghosts S.Denot H.Denot) (hash : hasher.Ghosts H.Denot) (heap : alloc.Ghosts A.Denot) where
@@ -33,3 +34,7 @@ module _ (K V S A H : RattleType) (key : HashMembers K.Denot) (build : builder.G
   -- the key has the value that the caller leaves behind the reference, as after `put`; at `Err` the machine is as it was
   abbrev pub LendsPut : {E : Type 0} → MutBor (CacheState K.Denot V.Denot S.Denot) → K.Denot → Result (MutBor V.Denot) E → Fml
   LendsPut c k r = LendsSoOk cache_row V c r (λ n w. Becomes key build hash (Put k w) (put (key.eq k) k w c.now.machine) c.now n) (λ n. Becomes key build hash (Try k None) c.now.machine c.now n)
+
+  -- the key has its slot, where the value is what the caller leaves behind the reference, as after `put`; the counts are brought to their bounds
+  abbrev pub LendsTaken : MutBor (CacheState K.Denot V.Denot S.Denot) → K.Denot → MutBor V.Denot → Fml
+  LendsTaken c k r = Lends cache_row V c r (λ w. with_slot key build hash k w c.now)

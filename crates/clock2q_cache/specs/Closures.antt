@@ -6,8 +6,8 @@ use Rattle.std.specs.Option.{UnwrapsOrElse}
 use Rattle.std.specs.List.{FoldsTo, AllByRecursion}
 use Rattle.std.specs.List.Retain.{ReturnsInTurn}
 use Rattle.clock2q_queues.specs.declared.keys.cells.Entry.{Entry}
-use Rattle.clock2q_cache.specs.Machine.{Machine, value_of, stored, by_slot, prefilled}
-use Rattle.clock2q_cache.specs.Steps.{put, fetched, retained}
+use Rattle.clock2q_cache.specs.Machine.{Machine, slot_of, value_of, placement, reused, stored, by_slot, prefilled}
+use Rattle.clock2q_cache.specs.Steps.{put, fetched, slotted, slotted_at, retained}
 
 module _ {F K V : Type 0} (g : Mut F (Bor K × (Bor V × Unit {0})) Bool) where
   -- a call at the key of a resident and the value of its slot gave b
@@ -49,4 +49,19 @@ module _ {K V : Type 0} (is : K → Bool) (key : K) (made : V → Type 0) where
     pub had : UnwrapsOrElse (value_of is old) made value
     pub there : slice_get new.values slot ≡ Some value
     pub becomes : new ≡ fetched is key value old
+    pub writes : (w : V) → stored slot w new ≡ put is key w old
+
+  -- the key is inserted; a slot that was made before keeps its value, and a new one has a value that was made
+  pub record Reuses (old new : Machine K V) : Type 0 where
+    pub value : V
+    pub had : UnwrapsOrElse (slice_get old.values (placement is key old).slot) made value
+    pub becomes : new ≡ reused is key value old
+
+  -- the key is hit, or else inserted; a slot that was made before keeps its value, and a new one has a value that was made; another value that is stored there is as if it were put
+  pub record Takes (old : Machine K V) (slot : ℕ) (new : Machine K V) : Type 0 where
+    pub value : V
+    pub at : slot ≡ slotted_at (slot_of is old) is key old
+    pub had : UnwrapsOrElse (slice_get old.values slot) made value
+    pub there : slice_get new.values slot ≡ Some value
+    pub becomes : new ≡ slotted is key value old
     pub writes : (w : V) → stored slot w new ≡ put is key w old

@@ -31,7 +31,7 @@ most_accesses eq call m = inspections_of eq call m + 80
 module _ {K V S H : Type 0} (key : HashMembers K) (build : builder.Ghosts S H) (hash : hasher.Ghosts H) where
   -- how many places stand in the two indexes under the hash of a key
   abbrev pub alike : K → CacheState K V S → ℕ
-  alike k c = let x = hash_of build hash c.hasher (key.hash_input k) in length (candidates c.residents x) + length (candidates c.remembered x)
+  alike k c = let x = hash_of build hash c.hasher (key.hash_input k) in length (candidates c.residents x) + length (candidates c.remembered.index x)
 
   -- how many keys a call may ask about: those under the hash of its own, or the one at its slot
   abbrev pub most_questions : Call K V → CacheState K V S → ℕ

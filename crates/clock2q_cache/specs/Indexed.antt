@@ -18,9 +18,8 @@ pub record HasPlaces {K : Type 0} (hash : K → ℕ) (index : List (List (ℕ ×
   pub counted : total index ≡ length keys
 
 module _ {K V S H : Type 0} (key : HashMembers K) (build : builder.Ghosts S H) (hash : hasher.Ghosts H) where
-  -- one index has the residents' slots, the other a place for each key of the history
+  -- one index has the residents' slots, the other the place of each key of the history
   pub record IsIndexed (c : CacheState K V S) : Type 0 where
     pub residents : HasPlaces (λ k. hash_of build hash c.hasher (key.hash_input k)) c.residents (residents c.machine)
-    pub places : List ℕ
-    pub as_many : length places ≡ length c.machine.history
-    pub remembered : HasPlaces (λ k. hash_of build hash c.hasher (key.hash_input k)) c.remembered (zip c.machine.history places)
+    pub as_many : length c.remembered.taken ≡ length c.machine.history
+    pub remembered : HasPlaces (λ k. hash_of build hash c.hasher (key.hash_input k)) c.remembered.index (zip c.machine.history c.remembered.taken)

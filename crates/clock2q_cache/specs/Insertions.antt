@@ -1,9 +1,11 @@
--- How often the hand looks where a key that is not known is inserted. No public clause cites this file.
-use Rattle.std.specs.Prelude.{ℕ, not, ◌&&◌, ◌==◌, if◌then◌else◌, length, None, is_some}
+-- Where a key that is not known is inserted: how often the hand looks, and the value that its slot has then. No public clause cites this file.
+use Rattle.std.specs.Prelude.{◌≡◌, ℕ, Bool, not, ◌&&◌, ◌==◌, if◌then◌else◌, nat_lt, List, map, length, slice_get, Option, Some, None, is_some}
 use Rattle.std.specs.List.{last_or}
 use Rattle.clock2q_cache.specs.Shares.{main_share}
 use Rattle.clock2q_cache.specs.Entries.{inspections}
-use Rattle.clock2q_cache.specs.Machine.{Machine, vacancy}
+use Rattle.clock2q_queues.specs.declared.keys.cells.Entry.{Entry}
+use Rattle.clock2q_queues.specs.Keys.{entry, written}
+use Rattle.clock2q_cache.specs.Machine.{Machine, Placement, vacancy, into_main, into_small, stored}
 use Rattle.clock2q_cache.specs.Bounds.{goes_on}
 
 module _ {K V : Type 0} where
@@ -14,3 +16,37 @@ module _ {K V : Type 0} where
   -- where it enters Small
   abbrev pub small_looks : Machine K V → ℕ
   small_looks m = if not (is_some (vacancy m)) && goes_on (last_or None m.small) then inspections m.main else 0
+
+-- the value of a slot: the one that was brought, else the one that the slot had
+abbrev pub IsValueFor : {V : Type 0} → Option V → ℕ → List V → V → Type 0
+IsValueFor (Some value) slot values v = v ≡ value
+IsValueFor None slot values v = slice_get values slot ≡ Some v
+
+module _ {K V : Type 0} where
+  -- a key stands at a slot, with such a value
+  pub record Writes (hash : ℕ) (key : K) (value : Option V) (slot : ℕ) (old new : List (Entry K V)) : Type 0 where
+    pub held : V
+    pub is : IsValueFor value slot (map (λ e. e.value) old) held
+    pub becomes : new ≡ written slot (entry hash key held) old
+
+  -- a key was placed, and its slot has such a value
+  pub record Fills (value : Option V) (p : Placement K V) (old new : Machine K V) : Type 0 where
+    pub held : V
+    pub is : IsValueFor value p.slot old.values held
+    pub becomes : new ≡ stored p.slot held p.machine
+
+  -- a key goes into Main, or into Small
+  abbrev pub placed : Bool → K → Machine K V → Placement K V
+  placed main key m = if main then into_main key m else into_small key m
+
+  -- how often the hand looks then
+  abbrev pub placed_looks : Bool → Machine K V → ℕ
+  placed_looks main m = if main then main_looks m else small_looks m
+
+  -- whether no slot is free, and one was never made
+  abbrev pub next_is_vacant : Machine K V → Bool
+  next_is_vacant m = (length m.free == 0) && nat_lt (length m.values) m.shares.capacity
+
+  -- whether a slot is made for it: none is free, and it takes no one's
+  abbrev pub makes_slot : Bool → Machine K V → Bool
+  makes_slot main m = next_is_vacant m && not (main && (length m.main == main_share m.shares))

@@ -10,7 +10,9 @@ pub mod CacheFields
 pub mod CacheState
 pub mod Hashes
 pub mod Indexed
+pub mod Places
 pub mod CacheLends
+pub mod Charged
 pub mod Closures
 pub mod Policies
 pub use Rattle.clock2q_queues.specs.Ages

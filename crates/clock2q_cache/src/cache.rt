@@ -6,8 +6,6 @@ mod fetching;
 mod filling;
 mod insertion;
 mod removal;
-#[cfg(test)]
-mod tests;
 
 use crate::error::CacheError;
 use crate::hashes::hash_of;
@@ -25,15 +23,24 @@ use std::num::NonZeroUsize;
 /// The largest capacity that a cache can have, in keys: 16,777,215.
 pub const MAX_CAPACITY: usize = (1 << 24) - 1;
 
-/// What makes the hashers of [`Cache::new`]. Its seed is fixed, so keys that an attacker picks may
-/// collide.
+/// The builder of the hashers that [`Cache::new`] uses. Its seed is fixed, so an attacker can pick
+/// keys that collide.
 pub type DefaultHashBuilder = BuildHasherDefault<FoldHasher>;
 
 /// A key-value cache of fixed capacity.
 ///
-/// No answer depends on a hash: keys are told apart by `Eq` alone. A call that takes a key hashes
-/// it once, and compares it with those whose hash is like its own. All memory is taken by the
-/// constructor: no later call asks for any, and none can fail.
+/// No reply depends on a hash: keys are told apart by `Eq` alone. A call that takes a key hashes it
+/// once, and compares it only with keys whose hash has the same home and fingerprint. All memory is
+/// taken by the constructor: no later call asks for any, and none can fail.
+///
+/// # Example
+///
+/// ```
+/// let mut cache: Cache<u64, u64> = Cache::new(rt.alloc(), capacity)?;
+/// cache.put(1, 10);
+/// assert_eq!(rt; cache.get(&1), Some(&10));
+/// assert_eq!(rt; cache.get(&2), None);
+/// ```
 #[derive(Drop)]
 pub struct Cache<K: Hash + Eq, V, S: BuildHasher, A: Allocator = Global> {
     shares: Shares,
@@ -55,7 +62,7 @@ impl<K: Hash + Eq, V, S: BuildHasher, A: Allocator> Model for Cache<K, V, S, A> 
 
     ghost coded = { cache_code K.code V.code S.code };
 
-    ghost view = { λ c. cache_state (machine_of c.shares c.queues c.keys.entries c.history.entries c.free.items) c.index.homes c.history.index c.hasher (counts_of c.queues c.history c.keys) };
+    ghost view = { λ c. cache_state (machine_of c.shares c.queues c.keys.entries c.history.entries c.free.items) c.index.homes c.history.places c.hasher (counts_of c.queues c.history c.keys) };
 
     ghost invariant = { λ c. IsKept K.eq (λ k. hash_of S.BuildHasher S.Hasher.Hasher c.hasher (K.hash_input k)) c.shares c.queues c.history c.index.homes c.keys c.free.items (vec_capacity c.free) };
 }
@@ -67,11 +74,13 @@ impl<K: Hash + Eq + Drop, V: Drop, A: Allocator + Copy> Cache<K, V, DefaultHashB
     ghost use Rattle.clock2q_cache.specs.CacheState.{uncounted};
     ghost use Rattle.clock2q_cache.specs.Machine.{empty};
 
-    /// Makes an empty cache for `capacity` keys, and takes all the memory that it will ever use
-    /// itself: room for so many keys and values, and for half as many keys that were evicted.
+    /// Makes an empty cache for `capacity` keys. Takes all the memory that the cache will ever use:
+    /// room for `capacity` keys with their values, and for half as many evicted keys.
     ///
-    /// `Capacity` comes above [`MAX_CAPACITY`], before any memory is taken. `Memory` comes where
-    /// a request for memory is refused; what was taken before is given back.
+    /// # Errors
+    ///
+    /// `Capacity` above [`MAX_CAPACITY`], before any memory is taken. `Memory` if a request for
+    /// memory is refused; what was taken before is given back.
     pub fn new(alloc: A, capacity: NonZeroUsize) -> Result<Self, CacheError>
         ensures made { IfOk result (λ cache. cache.machine ≡ empty (usual_shares (non_zero_usize_get capacity))) }
         ensures counts { IfOk result (λ cache. cache.counts ≡ uncounted) }
@@ -90,7 +99,11 @@ impl<K: Hash + Eq + Drop, V: Drop, S: BuildHasher + Drop, A: Allocator + Copy> C
     ghost use Rattle.clock2q_cache.specs.CacheState.{uncounted};
     ghost use Rattle.clock2q_cache.specs.Machine.{empty};
 
-    /// Makes an empty cache as [`new`](Cache::new) does, with this hasher.
+    /// Makes an empty cache as [`new`](Cache::new) does, with a hasher of the caller's.
+    ///
+    /// # Errors
+    ///
+    /// Those of [`new`](Cache::new).
     pub fn with_hasher(alloc: A, capacity: NonZeroUsize, hasher: S) -> Result<Self, CacheError>
         ensures made { IfOk result (λ cache. cache.machine ≡ empty (usual_shares (non_zero_usize_get capacity))) }
         ensures hasher { IfOk result (λ cache. cache.hasher ≡ hasher) }
@@ -104,12 +117,14 @@ impl<K: Hash + Eq + Drop, V: Drop, S: BuildHasher + Drop, A: Allocator + Copy> C
         Cache::with_shares(alloc, Shares::usual(capacity.get()), hasher)
     }
 
-    /// Makes an empty cache of which `small` slots are Small's share, where keys are young for
-    /// `window` admissions.
+    /// Makes an empty cache in which Small has `small` slots and a key is young for `window`
+    /// admissions.
     ///
-    /// `Capacity` comes above [`MAX_CAPACITY`]; else `Policy` where Small leaves Main no slot, or
-    /// one of `small` and `window` is 0 and the other isn't, or the window is longer than Small.
-    /// Both come before any memory is taken. `Memory` comes where a request for memory is refused.
+    /// # Errors
+    ///
+    /// `Capacity` above [`MAX_CAPACITY`]; else `Policy` if Small leaves Main no slot, or one of
+    /// `small` and `window` is 0 and the other isn't, or the window is longer than Small. Both come
+    /// before any memory is taken. `Memory` if a request for memory is refused.
     pub fn with_policy(
         alloc: A,
         capacity: NonZeroUsize,
@@ -132,7 +147,7 @@ impl<K: Hash + Eq + Drop, V: Drop, S: BuildHasher + Drop, A: Allocator + Copy> C
         Cache::with_shares(alloc, shares, hasher)
     }
 
-    /// Makes an empty cache whose capacity is shared out like this.
+    /// Makes an empty cache with these shares.
     fn with_shares(alloc: A, shares: Shares, hasher: S) -> Result<Self, CacheError>
         requires { shares.capacity ≤ MAX_CAPACITY }
         ensures made { IfOk result (λ cache. cache.machine ≡ empty shares) }
@@ -174,6 +189,7 @@ impl<K: Hash + Eq, V, S: BuildHasher, A: Allocator> Cache<K, V, S, A> {
     ghost use Rattle.std.specs.Bool.{then_some};
     ghost use Rattle.std.specs.List.{list_any};
     ghost use Rattle.clock2q_cache.specs.Machine.{resident_count, slot_of, value_of, hit, forgotten};
+    ghost use Rattle.clock2q_cache.specs.Places.{discarded};
     ghost use Rattle.clock2q_cache.specs.Steps.{is_at, hit_at, value_at};
 
     /// Returns how many keys the cache can hold: the number that it was made with.
@@ -232,7 +248,7 @@ impl<K: Hash + Eq, V, S: BuildHasher, A: Allocator> Cache<K, V, S, A> {
     }
 
     /// Returns the value of a key that is resident at this slot and records a hit, as
-    /// [`get`](Cache::get) does. It compares the key with that one alone, and needs no hash.
+    /// [`get`](Cache::get) does. Compares the key with the one at that slot alone, and hashes nothing.
     ///
     /// Returns `None` and changes nothing if the key isn't resident there, whatever the number.
     pub fn get_at(&mut self, slot: usize, key: &K) -> Option<&V>
@@ -259,7 +275,7 @@ impl<K: Hash + Eq, V, S: BuildHasher, A: Allocator> Cache<K, V, S, A> {
         Some(self.value_mut(resident))
     }
 
-    /// Lends the value of a slot.
+    /// Returns the value of a slot to write to.
     fn value_mut(&mut self, slot: u32) -> &mut V
         requires { slot < length self.old.machine.values }
         ensures* writes_back { sem 𝓛 (LendsSlot K.row V.row S.row A.row S.Hasher.row K.Hash S.BuildHasher S.Hasher.Hasher A.Allocator self.entry slot result) }
@@ -268,7 +284,7 @@ impl<K: Hash + Eq, V, S: BuildHasher, A: Allocator> Cache<K, V, S, A> {
         self.keys.value_mut(slot)
     }
 
-    /// The slot, if the key is resident there.
+    /// Returns the slot if the key is resident there.
     fn find_at(&mut self, slot: usize, key: &K) -> Option<u32>
         ensures slot { result ≡ then_some (is_at slot (slot_of (K.eq key.now) self.old.machine)) slot }
         ensures found { IfSome result (λ found. slot_of (K.eq key.now) self.old.machine ≡ Some found) }
@@ -287,14 +303,14 @@ impl<K: Hash + Eq, V, S: BuildHasher, A: Allocator> Cache<K, V, S, A> {
         }
     }
 
-    /// The hash of a key.
+    /// Returns the hash of a key.
     pub(crate) fn hash(&self, key: &K) -> u64
         ensures { result ≡ hash_of S.BuildHasher S.Hasher.Hasher self.now.hasher (K.hash_input key.now) }
     {
         hash_of(&self.hasher, key)
     }
 
-    /// The slot of a resident key. Its questions are not counted.
+    /// Returns the slot of a resident key, and counts no question.
     fn slot_of(&self, key: &K) -> Option<u32>
         ensures slot { result ≡ slot_of (K.eq key.now) self.now.machine }
         ensures made { IfSome result (λ slot. slot < length self.now.machine.values) }
@@ -305,7 +321,7 @@ impl<K: Hash + Eq, V, S: BuildHasher, A: Allocator> Cache<K, V, S, A> {
         self.keys.find_untold(self.index.get(hash), key, &mut asked)
     }
 
-    /// The slot of a resident key.
+    /// Returns the slot of a resident key.
     pub(crate) fn find(&mut self, hash: u64, key: &K) -> Option<u32>
         requires { hash ≡ hash_of S.BuildHasher S.Hasher.Hasher self.old.hasher (K.hash_input key.now) }
         ensures slot { result ≡ slot_of (K.eq key.now) self.old.machine }
@@ -329,19 +345,20 @@ impl<K: Hash + Eq, V, S: BuildHasher, A: Allocator> Cache<K, V, S, A> {
         self.queues.hit(slot);
     }
 
-    /// Erases the key's history, and says whether it had any.
+    /// Removes the key from the history, and returns true if it was there.
     pub(crate) fn forget(&mut self, hash: u64, key: &K) -> bool
         requires { hash ≡ hash_of S.BuildHasher S.Hasher.Hasher self.old.hasher (K.hash_input key.now) }
         ensures known { result ≡ list_any (K.eq key.now) self.old.machine.history }
         ensures machine { self.new.machine ≡ forgotten (K.eq key.now) self.old.machine }
         ensures hasher { self.new.hasher ≡ self.old.hasher }
         ensures residents { self.new.residents ≡ self.old.residents }
-        ensures counts { Spends 0 7 (length (candidates self.old.remembered hash)) self.old.counts self.new.counts }
+        ensures remembered { self.new.remembered ≡ discarded (K.eq key.now) hash self.old }
+        ensures counts { Spends 0 7 (length (candidates self.old.remembered.index hash)) self.old.counts self.new.counts }
     {
         self.history.discard(hash, key)
     }
 
-    /// The value of a slot.
+    /// Returns the value of a slot.
     fn value(&self, slot: u32) -> &V
         requires { slot < length self.now.machine.values }
         ensures { slice_get self.now.machine.values slot ≡ Some result.now }
@@ -359,9 +376,9 @@ impl<K: Hash + Eq + Drop, V: Drop, S: BuildHasher, A: Allocator> Cache<K, V, S, 
 
     /// Stores a value for a key, and returns the one that it replaces.
     ///
-    /// A resident key is hit, and its stored key stays; the key handed in is dropped. Another key
-    /// is inserted, and `None` is returned. Where the cache is full one resident leaves for it,
-    /// and so does one where a key comes back to a full Main.
+    /// If the key is resident, this records a hit, keeps the stored key and drops `key`. Otherwise
+    /// it inserts the key and returns `None`. One resident is evicted if the cache is full, or if
+    /// the history has the key and Main is full.
     pub fn put(&mut self, key: K, value: V) -> Option<V>
         ensures value { result ≡ value_of (K.eq key) self.old.machine }
         ensures machine { self.new.machine ≡ put (K.eq key) key value self.old.machine }

@@ -1,20 +1,30 @@
-//! Why a cache could not be made.
+//! What making a cache, or running a list of commands, can refuse.
 ghost use Rattle.std.specs.Prelude.{◌≡◌};
 ghost use Rattle.clock2q_cache.specs.declared.error.CacheError.TheVariants.{Memory};
 
 use std::alloc::AllocError;
 use thiserror::Error;
 
-/// Why a cache could not be made, or a list of commands not be run. Nothing of it was done then.
+/// The reason why a cache wasn't made, or a list of commands wasn't run.
+///
+/// Nothing was done then: memory that was taken for the cache is given back, and none of the
+/// commands has run.
+///
+/// ```rust
+/// let too_large = NonZeroUsize::new(MAX_CAPACITY + 1).ok_or("not zero")?;
+/// let refused = Cache::<u64, u64, _>::new(rt.alloc(), too_large);
+/// assert_eq!(rt; refused.err(), Some(CacheError::Capacity));
+/// ```
 #[derive(Debug, Clone, Copy, PartialEq, Eq, Error)]
 pub enum CacheError {
     /// A request for memory was refused.
     #[error("no memory")]
     Memory,
-    /// The capacity is above [`MAX_CAPACITY`](crate::MAX_CAPACITY). Only construction returns it.
+    /// The capacity is above [`MAX_CAPACITY`](crate::MAX_CAPACITY). Only constructors return it.
     #[error("capacity refused")]
     Capacity,
-    /// The shares can't be had together. Only construction returns it.
+    /// The chosen shares don't fit together. Only [`with_policy`](crate::Cache::with_policy)
+    /// returns it.
     #[error("policy refused")]
     Policy,
 }

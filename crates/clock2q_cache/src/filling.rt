@@ -1,4 +1,4 @@
-//! Slots made before they are needed: their keys and values, and their places among the free ones.
+//! Slots made before they are needed: their keys and values, and the list of free slots.
 ghost use Rattle.std.specs.Prelude.{◌≡◌, ◌+◌, ◌-◌, ◌^◌, ◌≤◌, ◌++◌, reverse, length, vec_len, vec_capacity};
 ghost use Rattle.std.specs.List.{range_with_len};
 ghost use Rattle.clock2q_cache.specs.Closures.{Fills};
@@ -9,7 +9,7 @@ use clock2q_queues::keys::Keys;
 use std::alloc::Allocator;
 use std::hash::{BuildHasher, Hash};
 
-/// Adds keys that stand for none, each with a value of `make`, until there are `many`.
+/// Adds default keys, each with a value that `make` returns, until there are `many`.
 pub(crate) fn fill<K: Hash + Default, V, S: BuildHasher, A: Allocator, F: FnMut() -> V>(
     keys: &mut Keys<K, V, A>,
     hasher: &S,
@@ -30,7 +30,8 @@ pub(crate) fn fill<K: Hash + Default, V, S: BuildHasher, A: Allocator, F: FnMut(
     }
 }
 
-/// Puts these slots on top of the free ones, the lowest last.
+/// Adds the slots from `from` up to `to` to the free ones, the lowest last, so that it is the next
+/// that is used.
 pub(crate) fn free_down<A: Allocator>(free: &mut Vec<u32, A>, from: usize, to: usize)
     requires order { from ≤ to }
     requires few { to ≤ 2 ^ 32 }

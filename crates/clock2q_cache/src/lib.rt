@@ -1,10 +1,21 @@
 //! A fixed-capacity key-value cache with Clock2Q+ replacement.
 //!
-//! New keys enter Small, a queue of a tenth of the capacity; those that come while the cache still
-//! fills and Small has its share enter Main. A key that reaches Small's end is evicted, unless it
-//! was hit when it was no longer among the newest there: then it goes on to Main, a ring in which
-//! each entry that was hit is passed over once before it is the victim. A key that Small evicts is
-//! remembered for a while without its value, and enters Main at once if it comes back.
+//! A new key enters Small, a short queue; while the cache isn't full and Small has its share, it
+//! enters Main. A key that reaches the end of Small is evicted, unless it was hit there after it
+//! had left the window, which is the newest part of Small: then it moves on to Main. Main is a ring
+//! with a hand. The hand evicts the first entry without a hit, and takes the hits of those that it
+//! passes. A key that Small evicts is remembered in the history, without its value, and enters Main
+//! at once if it comes back. A key that Main evicts isn't remembered.
+//!
+//! | Share | Of a capacity C |
+//! |---|---|
+//! | Small | a tenth of C, at least 1; at C = 1 none |
+//! | Main | the rest |
+//! | window | half of Small, rounded up |
+//! | history | half of C |
+//!
+//! A half and a tenth are rounded down where nothing else is said. The page of `clock2q` has these
+//! numbers for some capacities, and [`Cache::with_policy`] takes other ones.
 #![tactic(auto)]
 
 mod cache;

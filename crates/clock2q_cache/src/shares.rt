@@ -5,7 +5,8 @@ ghost use Rattle.clock2q_cache.specs.Policies.{IsPolicy, shares_of};
 
 use std::marker::Model;
 
-/// The capacity of a cache, Small's share of it and the window in which an entry of Small is young.
+/// The capacity of a cache, Small's share of it, and the window: for how many admissions to Small
+/// an entry is young.
 #[derive(Clone, Copy)]
 pub(crate) struct Shares {
     capacity: usize,
@@ -27,7 +28,7 @@ impl Model for Shares {
 }
 
 impl Shares {
-    /// The shares of a cache that is made with a capacity alone.
+    /// Returns the shares of a cache that is made with a capacity alone.
     pub(crate) fn usual(capacity: usize) -> Self
         requires { 0 < capacity }
         ensures { result ≡ usual_shares capacity }
@@ -44,7 +45,8 @@ impl Shares {
         }
     }
 
-    /// The shares of a cache that is made with all three numbers, if they can be had together.
+    /// Returns the shares of a cache that is made with all three numbers, or `None` where they
+    /// don't fit together.
     pub(crate) fn new(capacity: usize, small: usize, window: usize) -> Option<Self>
         ensures { MatchOption result (¬ IsPolicy (shares_of capacity small window)) (λ shares. shares ≡ shares_of capacity small window) }
     {

@@ -1,11 +1,11 @@
-//! The free slots of a cache, and the slots that were never made.
+//! The free slots of a cache, and those that have no value yet.
 ghost use Rattle.std.specs.Prelude.{◌≡◌, ◌∷◌, vec_len, ◌+◌, ◌<◌, ◌^◌, drop, reverse, Some, vec_capacity};
 ghost use Rattle.clock2q_cache.specs.Machine.{vacant_slot};
 
 use std::alloc::Allocator;
 
-/// Takes the slot for a new resident: the one that was freed last, else the next one that was
-/// never made.
+/// Returns the slot for a new resident: the one that was freed last, else the lowest that has no
+/// value yet.
 pub(crate) fn take_vacancy<A: Allocator>(free: &mut Vec<u32, A>, made: usize) -> u32
     requires { made < 2 ^ 32 }
     ensures slot { vacant_slot (reverse free.old.items) made (made + 1) ≡ Some result }
@@ -18,7 +18,7 @@ pub(crate) fn take_vacancy<A: Allocator>(free: &mut Vec<u32, A>, made: usize) ->
     }
 }
 
-/// Puts a slot on top of the free ones.
+/// Adds a slot to the free ones. It is the next that is used.
 pub(crate) fn free_slot<A: Allocator>(free: &mut Vec<u32, A>, slot: u32)
     requires room { vec_len free.old < vec_capacity free.old }
     ensures top { reverse free.new.items ≡ slot ∷ reverse free.old.items }

@@ -1,4 +1,4 @@
-//! A cache emptied, with all that it remembered.
+//! A cache emptied, with its history.
 use crate::cache::Cache;
 use crate::index::empty;
 use std::alloc::Allocator;
@@ -10,8 +10,12 @@ impl<K: Hash + Eq + Drop, V: Drop, S: BuildHasher, A: Allocator> Cache<K, V, S, 
     ghost use Rattle.clock2q_cache.specs.Costs.{Costs};
     ghost use Rattle.clock2q_cache.specs.Machine.{cleared};
 
-    /// Removes every key and every value, and what is remembered of keys that were evicted. The
-    /// cache is as new, and its memory stays.
+    /// Removes every key with its value, and the history. The cache is as new, and keeps its
+    /// memory.
+    ///
+    /// # Cost
+    ///
+    /// Time in proportion to the capacity. No key is hashed.
     pub fn clear(&mut self)
         ensures machine { self.new.machine ≡ cleared self.old.machine }
         ensures hasher { self.new.hasher ≡ self.old.hasher }

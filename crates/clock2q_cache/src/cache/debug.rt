@@ -4,7 +4,7 @@ use std::alloc::Allocator;
 use std::fmt::{self, Debug, Formatter};
 use std::hash::{BuildHasher, Hash};
 
-/// Shows how many keys the cache and each of its lists hold, and how many each may hold.
+/// Shows how many keys the cache and each of its lists holds, and how many it can hold.
 impl<K: Hash + Eq, V, S: BuildHasher, A: Allocator> Debug for Cache<K, V, S, A> {
     fn fmt<W: fmt::Write>(&self, f: &mut Formatter<W>) -> fmt::Result {
         f.debug_struct("Cache")

@@ -1,24 +1,27 @@
 //! Calls that look a key up and, where it is not resident, insert it with what a closure returns.
 use crate::cache::Cache;
+use clock2q_count::Told;
 use std::alloc::Allocator;
 use std::hash::{BuildHasher, Hash};
 
 impl<K: Hash + Eq + Drop, V: Drop, S: BuildHasher, A: Allocator> Cache<K, V, S, A> {
-    ghost use Rattle.std.specs.Prelude.{◌≡◌, ◌+◌, ◌<◌, length, None, Ok, Err, IfOk, IfErr, OnOk, OnErr};
+    ghost use Rattle.std.specs.Prelude.{◌≡◌, ℕ, ◌+◌, ◌<◌, length, slice_get, None, Ok, Err, IfOk, IfErr, OnOk, OnErr};
     ghost use Rattle.std.specs.Option.{UnwrapsOrElse};
     ghost use Rattle.std.specs.Borrow.{sem};
     ghost use Rattle.clock2q_cache.specs.Bounds.{inspections_for};
     ghost use Rattle.clock2q_cache.specs.Calls.{With};
-    ghost use Rattle.clock2q_cache.specs.CacheLends.{LeavesMachine, LendsPut};
-    ghost use Rattle.clock2q_cache.specs.Closures.{Fetches};
+    ghost use Rattle.clock2q_cache.specs.CacheLends.{LeavesMachine, LendsPut, LendsTaken};
+    ghost use Rattle.clock2q_cache.specs.Hashes.{hash_of};
+    ghost use Rattle.clock2q_cache.specs.Closures.{Fetches, Takes};
     ghost use Rattle.clock2q_cache.specs.Costs.{Spends, alike};
+    ghost use Rattle.clock2q_cache.specs.Places.{residents_with, remembered_with};
     ghost use Rattle.clock2q_cache.specs.Machine.{slot_of, value_of};
-    ghost use Rattle.clock2q_cache.specs.Steps.{put, fetched};
+    ghost use Rattle.clock2q_cache.specs.Steps.{put, fetched, slotted, slotted_at};
 
-    /// Returns the value of a key. A resident key is hit, as by [`get`](Cache::get); another is
-    /// inserted with what `f` returns, as by [`put`](Cache::put).
+    /// Returns the value of a key, after inserting what `f` returns if the key isn't resident. A
+    /// resident key is hit, as by [`get`](Cache::get).
     ///
-    /// `f` isn't called where the key is resident, and else before anything changes.
+    /// `f` is called only if the key isn't resident, before anything changes.
     pub fn get_or_insert_with<F: FnOnce() -> V>(&mut self, key: K, f: F) -> &V
         requires { slot_of (K.eq key) self.old.machine ≡ None → F.pre f }
         ensures* machine { sem 𝓛 (LeavesMachine K.row V.row S.row A.row S.Hasher.row K.Hash S.BuildHasher S.Hasher.Hasher A.Allocator self.entry (With key result.now) (fetched (K.eq key) key result.now self.old.machine)) }
@@ -33,7 +36,7 @@ impl<K: Hash + Eq + Drop, V: Drop, S: BuildHasher, A: Allocator> Cache<K, V, S, 
     ///
     /// # Errors
     ///
-    /// Returns the error of `f`. The cache is as it was then, and what it remembers of the key too.
+    /// The error of `f`. The cache and its history are then as they were.
     pub fn try_get_or_insert_with<F: FnOnce() -> Result<V, E>, E>(
         &mut self,
         key: K,
@@ -53,7 +56,7 @@ impl<K: Hash + Eq + Drop, V: Drop, S: BuildHasher, A: Allocator> Cache<K, V, S, 
     ///
     /// # Errors
     ///
-    /// Returns the error of `f`. The cache is as it was then, and what it remembers of the key too.
+    /// The error of `f`. The cache and its history are then as they were.
     pub fn try_get_or_insert_with_mut<F: FnOnce() -> Result<V, E>, E>(
         &mut self,
         key: K,
@@ -70,7 +73,50 @@ impl<K: Hash + Eq + Drop, V: Drop, S: BuildHasher, A: Allocator> Cache<K, V, S, 
         Ok(self.value_mut(slot))
     }
 
-    /// The slot of a key, which is hit, or else inserted with what `f` returns.
+    /// Returns the slot of a key and the value there to write to, after inserting the key if it isn't
+    /// resident. A resident key is hit, as by [`get`](Cache::get).
+    ///
+    /// A slot that another key had keeps its value, to be written over, so a cache of buffers needs
+    /// no new ones. `make` is called only if a slot is made. The key keeps its slot until it leaves
+    /// the cache, and [`get_at`](Cache::get_at) finds it there without a hash.
+    ///
+    /// Contracts count this call at the most that it may cost.
+    pub fn get_or_insert_mut<F: FnOnce() -> V>(&mut self, key: K, make: F) -> (usize, &mut V)
+        requires { slice_get self.old.machine.values (slotted_at (slot_of (K.eq key) self.old.machine) (K.eq key) key self.old.machine) ≡ None → F.pre make }
+        ensures* writes_back { sem 𝓛 (LendsTaken K.row V.row S.row A.row S.Hasher.row K.Hash S.BuildHasher S.Hasher.Hasher A.Allocator self.entry key result.1) }
+        ensures slot { result.0 ≡ slotted_at (slot_of (K.eq key) self.old.machine) (K.eq key) key self.old.machine }
+        ensures value { UnwrapsOrElse (slice_get self.old.machine.values result.0) (F.post make) result.1.now }
+        ensures unwritten { put (K.eq key) key result.1.now self.old.machine ≡ slotted (K.eq key) key result.1.now self.old.machine }
+    {
+        let hash = self.hash(&key);
+        let most = self.most(&key);
+        let slot = self.find_or_reuse(hash, key, make);
+        self.charge(&most);
+        (slot as usize, self.value_mut(slot))
+    }
+
+    /// Two numbers for contracts alone. The proof of the call picks them, and they may depend on the
+    /// cache and the key.
+    fn most(&self, key: &K) -> Told<(usize, usize)>
+        ghost picked: { ℕ × ℕ }
+        ensures picked { result.value ≡ picked }
+    {
+        let _ = key;
+        Told::new(&())
+    }
+
+    /// Raises the counts of link accesses and of questions by as many as the proof of the call picks,
+    /// which may depend on `most`.
+    fn charge(&mut self, most: &Told<(usize, usize)>)
+        ghost more: { ℕ × ℕ }
+        ensures charged { self.new ≡ record self.old { counts = record self.old.counts { accesses = self.old.counts.accesses + more.0; questions = self.old.counts.questions + more.1 } } }
+    {
+        let _ = most;
+        self.queues.charge();
+        self.keys.charge();
+    }
+
+    /// Returns the slot of a key, which is hit or else inserted with what `f` returns.
     fn find_or_insert<F: FnOnce() -> V>(&mut self, key: K, f: F) -> u32
         requires { slot_of (K.eq key) self.old.machine ≡ None → F.pre f }
         ensures fetched { Fetches (K.eq key) key (F.post f) self.old.machine result self.new.machine }
@@ -87,7 +133,26 @@ impl<K: Hash + Eq + Drop, V: Drop, S: BuildHasher, A: Allocator> Cache<K, V, S, 
         self.insert(hash, key, value)
     }
 
-    /// The same, where `f` may fail. Then nothing changes.
+    /// Returns the slot of a key, which is hit or else inserted. A slot that was made before keeps its
+    /// value; a new one gets what `make` returns.
+    fn find_or_reuse<F: FnOnce() -> V>(&mut self, hash: u64, key: K, make: F) -> u32
+        requires hash { hash ≡ hash_of S.BuildHasher S.Hasher.Hasher self.old.hasher (K.hash_input key) }
+        requires make { slice_get self.old.machine.values (slotted_at (slot_of (K.eq key) self.old.machine) (K.eq key) key self.old.machine) ≡ None → F.pre make }
+        ensures taken { Takes (K.eq key) key (F.post make) self.old.machine result self.new.machine }
+        ensures made { result < length self.new.machine.values }
+        ensures residents { self.new.residents ≡ residents_with K.Hash S.BuildHasher S.Hasher.Hasher key self.old }
+        ensures remembered { self.new.remembered ≡ remembered_with K.Hash S.BuildHasher S.Hasher.Hasher key self.old }
+        ensures hasher { self.new.hasher ≡ self.old.hasher }
+        ensures counts { let looks = inspections_for (K.eq key) self.old.machine in Spends looks (looks + 80) (alike K.Hash S.BuildHasher S.Hasher.Hasher key self.old) self.old.counts self.new.counts }
+    {
+        if let Some(found) = self.find(hash, &key) {
+            self.record_hit(found, &key);
+            return found;
+        }
+        self.insert_reusing(hash, key, make)
+    }
+
+    /// Does the same where `f` may fail. Nothing changes then.
     fn try_find_or_insert<F: FnOnce() -> Result<V, E>, E>(&mut self, key: K, f: F) -> Result<u32, E>
         requires { slot_of (K.eq key) self.old.machine ≡ None → F.pre f }
         ensures fetched { IfOk result (λ slot. Fetches (K.eq key) key (λ v. F.post f (Ok v)) self.old.machine slot self.new.machine) }

@@ -10,10 +10,14 @@ impl<K: Hash + Eq + Default, V, S: BuildHasher, A: Allocator> Cache<K, V, S, A> 
     ghost use Rattle.clock2q_cache.specs.Closures.{Prefills};
     ghost use Rattle.clock2q_cache.specs.Costs.{Costs};
 
-    /// Makes every slot that was never made, each with a value of `make`, which is called for them
-    /// in order. They are free, and the lowest is the next that a new key takes.
+    /// Gives each slot that has no value yet one that `make` returns, in ascending order of slots.
+    /// No key becomes resident: these slots are free, and new keys take them from the lowest on.
     ///
-    /// Its use is with `get_or_insert_mut`, which leaves a slot the value that it has.
+    /// It is of use with `get_or_insert_mut`, which lends the value that a slot already has.
+    ///
+    /// # Cost
+    ///
+    /// One call of `make` and one hash of the default key for each such slot.
     pub fn prefill<F: FnMut() -> V>(&mut self, make: F)
         requires { F.IsAlwaysCallable make }
         ensures made { Prefills F.FnMut make self.old.machine self.new.machine }

@@ -6,8 +6,9 @@ use std::alloc::Allocator;
 use std::hash::{BuildHasher, Hash};
 
 impl<K: Hash + Eq + Drop, V: Drop, S: BuildHasher, A: Allocator> Cache<K, V, S, A> {
-    ghost use Rattle.std.specs.Prelude.{◌≡◌, ◌==◌, ◌+◌, ◌<◌, ◌≤◌, length, true, false, None, IfSome, is_some};
-    ghost use Rattle.std.specs.List.{last_or};
+    ghost use Rattle.std.specs.Prelude.{◌≡◌, ◌==◌, ◌+◌, ◌<◌, ◌≤◌, length, true, false, None, IfSome, IfNone, is_some, slice_get};
+    ghost use Rattle.std.specs.List.{last_or, list_any};
+    ghost use Rattle.std.specs.Option.{option_map};
     ghost use Rattle.clock2q_cache.specs.Shares.{main_share};
     ghost use Rattle.clock2q_queues.specs.Ages.{is_promoted};
     ghost use Rattle.clock2q_cache.specs.Cache.{IsWhole, known_count};
@@ -16,8 +17,10 @@ impl<K: Hash + Eq + Drop, V: Drop, S: BuildHasher, A: Allocator> Cache<K, V, S, 
     ghost use Rattle.clock2q_cache.specs.Costs.{Spends};
     ghost use Rattle.clock2q_cache.specs.Entries.{inspections};
     ghost use Rattle.clock2q_cache.specs.Hashes.{hash_of};
-    ghost use Rattle.clock2q_cache.specs.Insertions.{main_looks, small_looks};
-    ghost use Rattle.clock2q_cache.specs.Machine.{slot_of, vacancy, goes_to_main, into_main, into_small, forgotten, placement, inserted, stored};
+    ghost use Rattle.clock2q_cache.specs.Closures.{Reuses};
+    ghost use Rattle.clock2q_cache.specs.Places.{Reindexes, entered, remembering_any, out_of, out_of_small, discarded};
+    ghost use Rattle.clock2q_cache.specs.Insertions.{Fills, placed, placed_looks, makes_slot, next_is_vacant, main_looks, small_looks};
+    ghost use Rattle.clock2q_cache.specs.Machine.{slot_of, vacancy, goes_to_main, into_main, into_small, forgotten, placement, inserted};
 
     /// Inserts a key that is not resident.
     pub(crate) fn insert(&mut self, hash: u64, key: K, value: V) -> u32
@@ -26,17 +29,75 @@ impl<K: Hash + Eq + Drop, V: Drop, S: BuildHasher, A: Allocator> Cache<K, V, S, 
         ensures slot { result ≡ (placement (K.eq key) key self.old.machine).slot }
         ensures machine { self.new.machine ≡ inserted (K.eq key) key value self.old.machine }
         ensures hasher { self.new.hasher ≡ self.old.hasher }
-        ensures counts { Spends (inspections_for (K.eq key) self.old.machine) (inspections_for (K.eq key) self.old.machine + 80) (length (candidates self.old.remembered hash)) self.old.counts self.new.counts }
+        ensures counts { Spends (inspections_for (K.eq key) self.old.machine) (inspections_for (K.eq key) self.old.machine + 80) (length (candidates self.old.remembered.index hash)) self.old.counts self.new.counts }
     {
         let known = self.forget(hash, &key);
-        if self.admits_to_main(known) {
+        let main = self.admits_to_main(known);
+        self.place(hash, key, Some(value), main)
+    }
+
+    /// Inserts a key that is not resident. A slot that was made before keeps its value; a new one
+    /// gets what `make` returns.
+    pub(crate) fn insert_reusing<F: FnOnce() -> V>(&mut self, hash: u64, key: K, make: F) -> u32
+        requires hash { hash ≡ hash_of S.BuildHasher S.Hasher.Hasher self.old.hasher (K.hash_input key) }
+        requires absent { slot_of (K.eq key) self.old.machine ≡ None }
+        requires make { slice_get self.old.machine.values (placement (K.eq key) key self.old.machine).slot ≡ None → F.pre make }
+        ensures slot { result ≡ (placement (K.eq key) key self.old.machine).slot }
+        ensures machine { Reuses (K.eq key) key (F.post make) self.old.machine self.new.machine }
+        ensures residents { self.new.residents ≡ entered (λ k. hash_of S.BuildHasher S.Hasher.Hasher self.old.hasher (K.hash_input k)) key result self.old.machine self.old.residents }
+        ensures remembered { let m = forgotten (K.eq key) self.old.machine in self.new.remembered ≡ remembering_any (λ k. hash_of S.BuildHasher S.Hasher.Hasher self.old.hasher (K.hash_input k)) (out_of (goes_to_main (list_any (K.eq key) self.old.machine.history) self.old.machine) m) m (discarded (K.eq key) hash self.old) }
+        ensures hasher { self.new.hasher ≡ self.old.hasher }
+        ensures counts { Spends (inspections_for (K.eq key) self.old.machine) (inspections_for (K.eq key) self.old.machine + 80) (length (candidates self.old.remembered.index hash)) self.old.counts self.new.counts }
+    {
+        let known = self.forget(hash, &key);
+        let main = self.admits_to_main(known);
+        let value = self.makes_slot(main).then(make);
+        self.place(hash, key, value, main)
+    }
+
+    /// Inserts a key that is not known into Main, or into Small.
+    fn place(&mut self, hash: u64, key: K, value: Option<V>, main: bool) -> u32
+        requires hash { hash ≡ hash_of S.BuildHasher S.Hasher.Hasher self.old.hasher (K.hash_input key) }
+        requires absent { known_count (K.eq key) self.old.machine ≡ 0 }
+        requires small { main ≡ false → goes_to_main false self.old.machine ≡ false }
+        requires had { IfNone value ((placed main key self.old.machine).slot < length self.old.machine.values) }
+        ensures slot { result ≡ (placed main key self.old.machine).slot }
+        ensures machine { Fills value (placed main key self.old.machine) self.old.machine self.new.machine }
+        ensures indexes { Reindexes (λ k. hash_of S.BuildHasher S.Hasher.Hasher self.old.hasher (K.hash_input k)) key result (out_of main self.old.machine) self.old self.new }
+        ensures hasher { self.new.hasher ≡ self.old.hasher }
+        ensures counts { Spends (placed_looks main self.old.machine) (placed_looks main self.old.machine + 29) 0 self.old.counts self.new.counts }
+    {
+        if main {
             self.insert_into_main(hash, key, value)
         } else {
             self.insert_into_small(hash, key, value)
         }
     }
 
-    /// Whether there is a slot for a new resident.
+    /// Returns true if a slot is made for a key that goes into Main, or into Small.
+    fn makes_slot(&self, main: bool) -> bool
+        ensures makes { result ≡ makes_slot main self.now.machine }
+        ensures whole { IsWhole K.eq self.now.machine }
+    {
+        self.next_is_vacant() && !(main && self.main_is_full())
+    }
+
+    /// Returns true if no slot is free and one was never made.
+    fn next_is_vacant(&self) -> bool
+        ensures next { result ≡ next_is_vacant self.now.machine }
+        ensures whole { IsWhole K.eq self.now.machine }
+    {
+        self.free.is_empty() && self.keys.len() < self.shares.capacity()
+    }
+
+    /// Returns true if Main has its share.
+    fn main_is_full(&self) -> bool
+        ensures full { result ≡ (length self.now.machine.main == main_share self.now.machine.shares) }
+    {
+        self.queues.main_len() == self.shares.main()
+    }
+
+    /// Returns true if there is a slot for a new resident.
     fn has_vacancy(&self) -> bool
         ensures vacant { result ≡ is_some (vacancy self.now.machine) }
         ensures whole { IsWhole K.eq self.now.machine }
@@ -44,7 +105,7 @@ impl<K: Hash + Eq + Drop, V: Drop, S: BuildHasher, A: Allocator> Cache<K, V, S, 
         !self.free.is_empty() || self.keys.len() < self.shares.capacity()
     }
 
-    /// Whether a key that had history, or had none, enters Main.
+    /// Returns true if a key enters Main. `known` says whether it was in the history.
     fn admits_to_main(&self, known: bool) -> bool
         ensures { result ≡ goes_to_main known self.now.machine }
     {
@@ -52,12 +113,15 @@ impl<K: Hash + Eq + Drop, V: Drop, S: BuildHasher, A: Allocator> Cache<K, V, S, 
         known || share == 0 || (self.has_vacancy() && share <= self.queues.small_len())
     }
 
-    /// Inserts a key into Main: in the slot of its victim where it has its share, else at a vacancy.
-    fn insert_into_main(&mut self, hash: u64, key: K, value: V) -> u32
+    /// Inserts a key into Main: in the slot of Main's victim where Main has its share, else in a
+    /// free slot.
+    fn insert_into_main(&mut self, hash: u64, key: K, value: Option<V>) -> u32
         requires hash { hash ≡ hash_of S.BuildHasher S.Hasher.Hasher self.old.hasher (K.hash_input key) }
         requires absent { known_count (K.eq key) self.old.machine ≡ 0 }
+        requires had { IfNone value ((into_main key self.old.machine).slot < length self.old.machine.values) }
         ensures slot { result ≡ (into_main key self.old.machine).slot }
-        ensures machine { self.new.machine ≡ (let p = into_main key self.old.machine in stored p.slot value p.machine) }
+        ensures machine { Fills value (into_main key self.old.machine) self.old.machine self.new.machine }
+        ensures indexes { Reindexes (λ k. hash_of S.BuildHasher S.Hasher.Hasher self.old.hasher (K.hash_input k)) key result None self.old self.new }
         ensures hasher { self.new.hasher ≡ self.old.hasher }
         ensures counts { Spends (main_looks self.old.machine) (main_looks self.old.machine + 28) 0 self.old.counts self.new.counts }
     {
@@ -69,12 +133,13 @@ impl<K: Hash + Eq + Drop, V: Drop, S: BuildHasher, A: Allocator> Cache<K, V, S, 
     }
 
     /// Inserts a key into a full Main, in place of its victim.
-    fn replace_victim(&mut self, hash: u64, key: K, value: V) -> u32
+    fn replace_victim(&mut self, hash: u64, key: K, value: Option<V>) -> u32
         requires hash { hash ≡ hash_of S.BuildHasher S.Hasher.Hasher self.old.hasher (K.hash_input key) }
         requires absent { known_count (K.eq key) self.old.machine ≡ 0 }
         requires full { length self.old.machine.main ≡ main_share self.old.machine.shares }
         ensures slot { result ≡ (into_main key self.old.machine).slot }
-        ensures machine { self.new.machine ≡ (let p = into_main key self.old.machine in stored p.slot value p.machine) }
+        ensures machine { Fills value (into_main key self.old.machine) self.old.machine self.new.machine }
+        ensures indexes { Reindexes (λ k. hash_of S.BuildHasher S.Hasher.Hasher self.old.hasher (K.hash_input k)) key result None self.old self.new }
         ensures hasher { self.new.hasher ≡ self.old.hasher }
         ensures counts { Spends (inspections self.old.machine.main) (inspections self.old.machine.main + 28) 0 self.old.counts self.new.counts }
     {
@@ -85,12 +150,14 @@ impl<K: Hash + Eq + Drop, V: Drop, S: BuildHasher, A: Allocator> Cache<K, V, S, 
     }
 
     /// Inserts a key into Main, which has room, at a vacancy.
-    fn join_main(&mut self, hash: u64, key: K, value: V) -> u32
+    fn join_main(&mut self, hash: u64, key: K, value: Option<V>) -> u32
         requires hash { hash ≡ hash_of S.BuildHasher S.Hasher.Hasher self.old.hasher (K.hash_input key) }
         requires absent { known_count (K.eq key) self.old.machine ≡ 0 }
         requires room { length self.old.machine.main < main_share self.old.machine.shares }
+        requires had { IfNone value ((into_main key self.old.machine).slot < length self.old.machine.values) }
         ensures slot { result ≡ (into_main key self.old.machine).slot }
-        ensures machine { self.new.machine ≡ (let p = into_main key self.old.machine in stored p.slot value p.machine) }
+        ensures machine { Fills value (into_main key self.old.machine) self.old.machine self.new.machine }
+        ensures indexes { Reindexes (λ k. hash_of S.BuildHasher S.Hasher.Hasher self.old.hasher (K.hash_input k)) key result None self.old self.new }
         ensures hasher { self.new.hasher ≡ self.old.hasher }
         ensures counts { Spends 0 28 0 self.old.counts self.new.counts }
     {
@@ -100,13 +167,16 @@ impl<K: Hash + Eq + Drop, V: Drop, S: BuildHasher, A: Allocator> Cache<K, V, S, 
         slot
     }
 
-    /// Inserts a key into Small: at a vacancy while there is one, else in the slot of its tail or of Main's victim.
-    fn insert_into_small(&mut self, hash: u64, key: K, value: V) -> u32
+    /// Inserts a key into Small: in a free slot while there is one, else in the slot of Small's
+    /// tail or of Main's victim.
+    fn insert_into_small(&mut self, hash: u64, key: K, value: Option<V>) -> u32
         requires hash { hash ≡ hash_of S.BuildHasher S.Hasher.Hasher self.old.hasher (K.hash_input key) }
         requires absent { known_count (K.eq key) self.old.machine ≡ 0 }
         requires small { goes_to_main false self.old.machine ≡ false }
+        requires had { IfNone value ((into_small key self.old.machine).slot < length self.old.machine.values) }
         ensures slot { result ≡ (into_small key self.old.machine).slot }
-        ensures machine { self.new.machine ≡ (let p = into_small key self.old.machine in stored p.slot value p.machine) }
+        ensures machine { Fills value (into_small key self.old.machine) self.old.machine self.new.machine }
+        ensures indexes { Reindexes (λ k. hash_of S.BuildHasher S.Hasher.Hasher self.old.hasher (K.hash_input k)) key result (out_of_small self.old.machine) self.old self.new }
         ensures hasher { self.new.hasher ≡ self.old.hasher }
         ensures counts { Spends (small_looks self.old.machine) (small_looks self.old.machine + 29) 0 self.old.counts self.new.counts }
     {
@@ -120,13 +190,15 @@ impl<K: Hash + Eq + Drop, V: Drop, S: BuildHasher, A: Allocator> Cache<K, V, S, 
     }
 
     /// Inserts a key into Small, which has room, at a vacancy.
-    fn join_small(&mut self, hash: u64, key: K, value: V) -> u32
+    fn join_small(&mut self, hash: u64, key: K, value: Option<V>) -> u32
         requires hash { hash ≡ hash_of S.BuildHasher S.Hasher.Hasher self.old.hasher (K.hash_input key) }
         requires absent { known_count (K.eq key) self.old.machine ≡ 0 }
         requires room { length self.old.machine.small < self.old.machine.shares.small }
         requires vacant { is_some (vacancy self.old.machine) ≡ true }
+        requires had { IfNone value ((into_small key self.old.machine).slot < length self.old.machine.values) }
         ensures slot { result ≡ (into_small key self.old.machine).slot }
-        ensures machine { self.new.machine ≡ (let p = into_small key self.old.machine in stored p.slot value p.machine) }
+        ensures machine { Fills value (into_small key self.old.machine) self.old.machine self.new.machine }
+        ensures indexes { Reindexes (λ k. hash_of S.BuildHasher S.Hasher.Hasher self.old.hasher (K.hash_input k)) key result None self.old self.new }
         ensures hasher { self.new.hasher ≡ self.old.hasher }
         ensures counts { Spends 0 28 0 self.old.counts self.new.counts }
     {
@@ -136,26 +208,27 @@ impl<K: Hash + Eq + Drop, V: Drop, S: BuildHasher, A: Allocator> Cache<K, V, S, 
         slot
     }
 
-    /// Whether Small's tail has earned its way into Main.
+    /// Returns true if Small's tail moves on to Main.
     fn tail_is_promoted(&mut self) -> bool
         requires { 0 < length self.old.machine.small }
         ensures value { IfSome (last_or None self.old.machine.small) (λ tail. result ≡ is_promoted tail.age) }
         ensures machine { self.new.machine ≡ self.old.machine }
-        ensures hasher { self.new.hasher ≡ self.old.hasher }
+        ensures kept { self.new ≡ record self.old { counts = self.new.counts } }
         ensures counts { Spends 0 1 0 self.old.counts self.new.counts }
     {
         self.queues.tail_is_promoted()
     }
 
-    /// Inserts a key into Small in the slot of its tail, which goes out into the history.
-    fn evict_tail(&mut self, hash: u64, key: K, value: V) -> u32
+    /// Inserts a key into Small in the slot of its tail, which is evicted and remembered.
+    fn evict_tail(&mut self, hash: u64, key: K, value: Option<V>) -> u32
         requires hash { hash ≡ hash_of S.BuildHasher S.Hasher.Hasher self.old.hasher (K.hash_input key) }
         requires absent { known_count (K.eq key) self.old.machine ≡ 0 }
         requires some { 0 < length self.old.machine.small }
         requires full { vacancy self.old.machine ≡ None }
         requires out { IfSome (last_or None self.old.machine.small) (λ tail. is_promoted tail.age ≡ false) }
         ensures slot { result ≡ (into_small key self.old.machine).slot }
-        ensures machine { self.new.machine ≡ (let p = into_small key self.old.machine in stored p.slot value p.machine) }
+        ensures machine { Fills value (into_small key self.old.machine) self.old.machine self.new.machine }
+        ensures indexes { Reindexes (λ k. hash_of S.BuildHasher S.Hasher.Hasher self.old.hasher (K.hash_input k)) key result (option_map (λ tail. tail.key) (last_or None self.old.machine.small)) self.old self.new }
         ensures hasher { self.new.hasher ≡ self.old.hasher }
         ensures counts { Spends 0 28 0 self.old.counts self.new.counts }
     {
@@ -169,14 +242,15 @@ impl<K: Hash + Eq + Drop, V: Drop, S: BuildHasher, A: Allocator> Cache<K, V, S, 
     }
 
     /// Inserts a key into Small in the slot of Main's victim, while Small's tail goes on to Main.
-    fn promote_tail(&mut self, hash: u64, key: K, value: V) -> u32
+    fn promote_tail(&mut self, hash: u64, key: K, value: Option<V>) -> u32
         requires hash { hash ≡ hash_of S.BuildHasher S.Hasher.Hasher self.old.hasher (K.hash_input key) }
         requires absent { known_count (K.eq key) self.old.machine ≡ 0 }
         requires some { 0 < length self.old.machine.small }
         requires full { vacancy self.old.machine ≡ None }
         requires on { IfSome (last_or None self.old.machine.small) (λ tail. is_promoted tail.age ≡ true) }
         ensures slot { result ≡ (into_small key self.old.machine).slot }
-        ensures machine { self.new.machine ≡ (let p = into_small key self.old.machine in stored p.slot value p.machine) }
+        ensures machine { Fills value (into_small key self.old.machine) self.old.machine self.new.machine }
+        ensures indexes { Reindexes (λ k. hash_of S.BuildHasher S.Hasher.Hasher self.old.hasher (K.hash_input k)) key result None self.old self.new }
         ensures hasher { self.new.hasher ≡ self.old.hasher }
         ensures counts { Spends (inspections self.old.machine.main) (inspections self.old.machine.main + 28) 0 self.old.counts self.new.counts }
     {

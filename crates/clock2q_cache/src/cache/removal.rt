@@ -1,4 +1,4 @@
-//! Removal of residents: of one by its key, and of those that a closure refuses.
+//! Removal of residents: of one by its key, and of those that a closure rejects.
 use crate::cache::Cache;
 use crate::vacancies::free_slot;
 use clock2q_queues::queues::Standing;
@@ -13,10 +13,15 @@ impl<K: Hash + Eq, V, S: BuildHasher, A: Allocator> Cache<K, V, S, A> {
     ghost use Rattle.clock2q_cache.specs.Hashes.{hash_of};
     ghost use Rattle.clock2q_cache.specs.Machine.{slot_of, resident_at, vacated, removed};
 
-    /// Removes a key, and returns true if it was resident. Its slot is the next that a new key
-    /// takes, and keeps the value until then.
+    /// Removes a key, and returns true if it was resident.
     ///
-    /// A key that isn't resident is forgotten: if it comes back, it is as new.
+    /// The slot of a resident is the next that a new key takes, and its value is dropped only then.
+    /// The history stays as it is: a resident is never in it. A key that isn't resident is removed
+    /// from the history, so that it counts as new when it comes back.
+    ///
+    /// # Cost
+    ///
+    /// One hash of the key, and at most eight accesses to links. The hand doesn't move.
     pub fn remove(&mut self, key: &K) -> bool
         ensures found { IsTrue result ↔ IsSome (slot_of (K.eq key.now) self.old.machine) }
         ensures machine { self.new.machine ≡ removed (K.eq key.now) self.old.machine }
@@ -32,10 +37,15 @@ impl<K: Hash + Eq, V, S: BuildHasher, A: Allocator> Cache<K, V, S, A> {
         true
     }
 
-    /// Keeps the residents at which `keep` returns true, and removes the others. It asks once for
-    /// each resident, by ascending slot.
+    /// Keeps the residents for which `keep` returns true, and removes the others.
     ///
-    /// What the cache remembers of keys that were evicted stays.
+    /// `keep` is called once for each resident, in ascending order of slots. The history stays as
+    /// it is.
+    ///
+    /// # Cost
+    ///
+    /// At most one access to a link for each slot that has a value, and eight more for each
+    /// resident that is removed. No key is hashed.
     pub fn retain<F: FnMut(&K, &V) -> bool>(&mut self, mut keep: F)
         requires { F.IsAlwaysCallable keep }
         ensures retained { Retains F.FnMut keep self.old.machine self.new.machine }
@@ -52,14 +62,14 @@ impl<K: Hash + Eq, V, S: BuildHasher, A: Allocator> Cache<K, V, S, A> {
         }
     }
 
-    /// How many slots were made.
+    /// Returns how many slots have a value, of a resident or from before.
     fn made(&self) -> u32
         ensures { result ≡ length self.now.machine.values }
     {
         self.keys.len() as u32
     }
 
-    /// Whether a slot has a resident.
+    /// Returns true if a slot has a resident.
     fn is_resident(&mut self, slot: u32) -> bool
         requires { slot < length self.old.machine.values }
         ensures resident { result ≡ is_some (resident_at self.old.machine slot) }
@@ -70,7 +80,7 @@ impl<K: Hash + Eq, V, S: BuildHasher, A: Allocator> Cache<K, V, S, A> {
         !matches!(self.queues.standing(slot), Standing::Free)
     }
 
-    /// The key of the resident at a slot.
+    /// Returns the key of the resident at a slot.
     fn key(&self, slot: u32) -> &K
         requires { IsSome (resident_at self.now.machine slot) }
         ensures { resident_at self.now.machine slot ≡ Some (result.now, slot) }
@@ -78,7 +88,7 @@ impl<K: Hash + Eq, V, S: BuildHasher, A: Allocator> Cache<K, V, S, A> {
         self.keys.key(slot)
     }
 
-    /// Removes the resident at a slot, which is free then.
+    /// Removes the resident at a slot, and frees the slot.
     fn vacate(&mut self, slot: u32)
         requires { IsSome (resident_at self.old.machine slot) }
         ensures machine { self.new.machine ≡ vacated slot self.old.machine }

@@ -1,9 +1,11 @@
--- The place that goes out of the index makes room for itself.
-use Rattle.std.proofs.Common.{ap, ◌∙◌}
+-- The place that goes out of the index makes room for itself, and the slot has its value.
+use Rattle.std.proofs.Common.{sym, ap, ◌∙◌, subst}
 use Rattle.clock2q_queues.specs.Keys.{KeyPlaces, with_value}
 use Rattle.clock2q_queues.proofs.Entries.{written-replaced}
-use Rattle.clock2q_cache.proofs.Stored.{left-room}
+use Rattle.clock2q_cache.proofs.Stored.{left-room, brings-value, keeps-value}
+use Rattle.clock2q_cache.specs.Insertions.{Writes}
 use Rattle.clock2q_cache.proofs.index.renew.Goals as goal
+use Rattle.clock2q_cache.proofs.index.renew.Goals.{in-Some, in_default}
 
 pub add-requires-clause-room : goal.add-requires-clause-room
 add-requires-clause-room g c =
@@ -17,6 +19,14 @@ add-requires-clause-few g c =
 
 pub returns-clause-entries : goal.returns-clause-entries
 returns-clause-entries g c =
-    ap (λ (z : KeyPlaces _ _). z.entries) c.replace_value.ensures.replaced
-    ∙ ap (λ (z : KeyPlaces _ _). with_value c.args.slot c.args.value z.entries) c.replace-old.ensures.replaced
-    ∙ written-replaced c.args.slot c.args.hash c.args.key c.args.value c.args.keys.now.entries c.requires.made
+    let es = c.args.keys.now.entries in
+    elim c.match-value.branch [
+      | in-Some w ↦
+          let is = ap (λ (z : KeyPlaces _ _). z.entries) w.keys-is ∙ ap (λ (z : KeyPlaces _ _). z.entries) w.replace_value.ensures.replaced
+          ∙ ap (λ (z : KeyPlaces _ _). with_value c.args.slot w.in-Some.value z.entries) c.replace-old.ensures.replaced
+          ∙ written-replaced c.args.slot c.args.hash c.args.key w.in-Some.value es c.requires.made in
+          subst (λ v. Writes c.args.hash c.args.key v c.args.slot es c.match-value.keys.entries) (sym w.in-Some.is) (brings-value c.args.slot c.args.hash c.args.key w.in-Some.value es c.match-value.keys.entries is)
+      | in_default w ↦
+          let is = ap (λ (z : KeyPlaces _ _). z.entries) w.keys-is ∙ ap (λ (z : KeyPlaces _ _). z.entries) c.replace-old.ensures.replaced in
+          subst (λ v. Writes c.args.hash c.args.key v c.args.slot es c.match-value.keys.entries) (sym w.in_default.is) (keeps-value c.args.slot c.args.hash c.args.key es c.match-value.keys.entries c.requires.made is)
+    ]

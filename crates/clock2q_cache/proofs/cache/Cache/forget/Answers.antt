@@ -1,10 +1,11 @@
 -- The key's history is erased.
-use Rattle.std.proofs.Common.{◌≡◌, ap, sym, ◌∙◌}
+use Rattle.std.proofs.Common.{ap, sym, ◌∙◌}
 use Rattle.std.specs.List.{list_any}
 use Rattle.clock2q_queues.specs.History.{Remembered}
 use Rattle.clock2q_cache.specs.Hashes.{hash_of}
 use Rattle.clock2q_cache.specs.CacheState.{CacheState}
 use Rattle.clock2q_cache.specs.Machine.{forgotten}
+use Rattle.clock2q_cache.specs.Places.{discarded}
 use Rattle.clock2q_cache.proofs.Changed.{known-any, discard-hash, forgotten-machine, kept-forgotten}
 use Rattle.clock2q_cache.proofs.cache.Cache.forget.Goals as goal
 
@@ -28,3 +29,6 @@ pub returns-clause-machine : goal.returns-clause-machine
 returns-clause-machine g c =
     let k = c.self.invariant in
     forgotten-machine _ g.met.K.Eq.laws _ _ _ _ _ _ _ _ k c.args.key.now c.discard.new.self (ap (λ (z : Remembered _). z.entries) c.discard.ensures.forgotten) ∙ ap (λ (z : CacheState _ _ _). forgotten (g.K.PartialEq.eq c.args.key.now) z.machine) c.self.view_is
+
+pub returns-clause-remembered : goal.returns-clause-remembered
+returns-clause-remembered g c = c.discard.ensures.places ∙ ap (λ (z : CacheState _ _ _). discarded (g.K.PartialEq.eq c.args.key.now) c.args.hash z) c.self.view_is

@@ -1,35 +1,33 @@
 -- A key that is not resident is not known once its history is erased.
 use Rattle.std.proofs.Common.{◌+◌, sym, ap, ◌∙◌, subst, arith}
 use Rattle.clock2q_cache.specs.Cache.{known_count}
-use Rattle.clock2q_cache.proofs.Whole.{unknown_once_forgotten}
 use Rattle.clock2q_cache.specs.Costs.{Spends}
-use Rattle.clock2q_cache.specs.Insertions.{main_looks, small_looks}
-use Rattle.clock2q_cache.specs.Machine.{Machine, goes_to_main, forgotten}
-use Rattle.clock2q_cache.proofs.Insertions.{main-insertion, small-insertion, forgotten-spends}
+use Rattle.clock2q_cache.specs.Insertions.{placed_looks}
+use Rattle.clock2q_cache.specs.Machine.{Placement, placement, stored}
+use Rattle.clock2q_cache.proofs.Whole.{unknown_once_forgotten}
+use Rattle.clock2q_cache.proofs.Insertions.{placed-inspections, forgotten-spends}
+use Rattle.clock2q_cache.proofs.Making.{goes-unknown, placed-there}
 use Rattle.clock2q_cache.proofs.cache.Cache.insert.Goals as goal
 
-pub insert_into_main-requires-clause-absent : goal.insert_into_main-requires-clause-absent
-insert_into_main-requires-clause-absent g c =
+pub place-requires-clause-absent : goal.place-requires-clause-absent
+place-requires-clause-absent g c =
     ap (known_count (g.K.PartialEq.eq c.args.key)) c.forget-known.ensures.machine ∙ unknown_once_forgotten (g.K.PartialEq.eq c.args.key) c.args.self.now.machine c.requires.absent
 
-pub insert_into_small-requires-clause-absent : goal.insert_into_small-requires-clause-absent
-insert_into_small-requires-clause-absent g c =
-    ap (known_count (g.K.PartialEq.eq c.args.key)) c.forget-known.ensures.machine ∙ unknown_once_forgotten (g.K.PartialEq.eq c.args.key) c.args.self.now.machine c.requires.absent
+pub place-requires-clause-small : goal.place-requires-clause-small
+place-requires-clause-small g c small = goes-unknown c.forget-known.result c.forget-known.new.self.machine (sym c.admits_to_main-main.ensures ∙ small)
 
-pub returns-then-admits_to_main-clause-counts : goal.returns-then-admits_to_main-clause-counts
-returns-then-admits_to_main-clause-counts g c =
-    let m = c.args.self.now.machine in
-    let is = g.K.PartialEq.eq c.args.key in
-    let f = c.forget-known.ensures in
-    let goes = ap (λ b. goes_to_main b (forgotten is m)) (sym f.known) ∙ ap (λ z. goes_to_main c.forget-known.result z) (sym f.machine) ∙ sym c.if-admits_to_main.ensures in
-    let spent = subst (λ (z : Machine _ _). Spends (main_looks z) (main_looks z + 28) 0 c.forget-known.new.self.counts c.insert_into_main.new.self.counts) f.machine c.insert_into_main.ensures.counts in
-    rw (main-insertion m is c.requires.absent goes) (forgotten-spends (main_looks m) (main_looks m + 28) _ _ _ _ (omega arith) f.counts spent)
+pub returns-clause-slot : goal.returns-clause-slot
+returns-clause-slot g c =
+    c.place.ensures.slot ∙ ap (λ (p : Placement _ _). p.slot) (placed-there (g.K.PartialEq.eq c.args.key) c.args.key c.args.self.now.machine c.forget-known.new.self.machine c.forget-known.result c.admits_to_main-main.result c.forget-known.ensures.known c.forget-known.ensures.machine c.admits_to_main-main.ensures)
 
-pub returns-else-admits_to_main-clause-counts : goal.returns-else-admits_to_main-clause-counts
-returns-else-admits_to_main-clause-counts g c =
-    let m = c.args.self.now.machine in
-    let is = g.K.PartialEq.eq c.args.key in
-    let f = c.forget-known.ensures in
-    let goes = ap (λ b. goes_to_main b (forgotten is m)) (sym f.known) ∙ ap (λ z. goes_to_main c.forget-known.result z) (sym f.machine) ∙ sym c.if-admits_to_main.ensures in
-    let spent = subst (λ (z : Machine _ _). Spends (small_looks z) (small_looks z + 29) 0 c.forget-known.new.self.counts c.insert_into_small.new.self.counts) f.machine c.insert_into_small.ensures.counts in
-    rw (small-insertion m is c.requires.absent goes) (forgotten-spends (small_looks m) (small_looks m + 29) _ _ _ _ (omega arith) f.counts spent)
+pub returns-clause-machine : goal.returns-clause-machine
+returns-clause-machine g c =
+    let f = c.place.ensures.machine in
+    f.becomes ∙ ap (λ (p : Placement _ _). stored p.slot f.held p.machine) (placed-there (g.K.PartialEq.eq c.args.key) c.args.key c.args.self.now.machine c.forget-known.new.self.machine c.forget-known.result c.admits_to_main-main.result c.forget-known.ensures.known c.forget-known.ensures.machine c.admits_to_main-main.ensures)
+    ∙ ap (λ v. let p = placement (g.K.PartialEq.eq c.args.key) c.args.key c.args.self.now.machine in stored p.slot v p.machine) f.is
+
+pub returns-clause-counts : goal.returns-clause-counts
+returns-clause-counts g c =
+    let looks = placed_looks c.admits_to_main-main.result c.forget-known.new.self.machine in
+    rw (← placed-inspections (g.K.PartialEq.eq c.args.key) c.args.self.now.machine c.forget-known.new.self.machine c.forget-known.result c.admits_to_main-main.result c.forget-known.ensures.known c.forget-known.ensures.machine c.admits_to_main-main.ensures c.requires.absent)
+    (forgotten-spends looks (looks + 29) _ _ _ _ (omega arith) c.forget-known.ensures.counts c.place.ensures.counts)

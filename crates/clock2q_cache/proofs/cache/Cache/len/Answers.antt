@@ -22,7 +22,6 @@ returns-clause-indexed g c =
     let r = remembers _ g.met.K.Eq.laws _ _ _ _ _ _ _ _ k c.len.ensures.whole in
     subst (λ (z : CacheState _ _ _). IsIndexed (record { eq = g.K.PartialEq.eq; hash_input = g.K.Hash.hash_input }) g.S.BuildHasher g.S.Hasher.Hasher z) c.self.view_is (record {
       residents = residents-have _ g.met.K.Eq.laws _ _ _ _ _ _ _ _ k;
-      places = r.places;
       as_many = r.as_many;
       remembered = r.have;
     })

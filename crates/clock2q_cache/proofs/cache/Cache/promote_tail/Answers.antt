@@ -1,5 +1,5 @@
 -- The tail goes on to Main, and the slot of Main's victim to the new key.
-use Rattle.std.proofs.Common.{◌≡◌, ◌+◌, ◌-◌, ◌<◌, ◌++◌, ◌∷◌, [], true, false, length, take, drop, Some, None, ap, sym, ◌∙◌, subst, arith}
+use Rattle.std.proofs.Common.{◌≡◌, ◌+◌, ◌-◌, ◌<◌, ◌++◌, ◌∷◌, [], true, false, length, take, drop, Some, None, ap, sym, ◌∙◌, subst, arith, refl, eqb}
 use Rattle.std.specs.List.{last_or}
 use Rattle.clock2q_queues.specs.Rings.{has}
 use Rattle.clock2q_queues.specs.Small.{admitted}
@@ -7,11 +7,14 @@ use Rattle.clock2q_queues.specs.Queues.{slots_of}
 use Rattle.clock2q_queues.specs.Keys.{KeyPlaces}
 use Rattle.clock2q_queues.specs.Queues.{QueueState}
 use Rattle.clock2q_cache.specs.Hashes.{hash_of}
-use Rattle.clock2q_cache.specs.Machine.{into_small, stored}
+use Rattle.clock2q_cache.specs.Machine.{into_small}
 use Rattle.clock2q_cache.specs.CacheState.{CacheState}
-use Rattle.clock2q_cache.proofs.Kept.{length_in_small}
+use Rattle.clock2q_cache.specs.CacheFields.{machine_of}
+use Rattle.clock2q_cache.proofs.Kept.{fills, length_in_small}
 use Rattle.clock2q_cache.proofs.Renewed.{resident-there, slot-below, no-tail, rest, victim-in, victim-not_in_front, victim-not_behind, tail-in, tail-not_in_front, tail-not_in_rest, promoted-done}
 use Rattle.clock2q_cache.proofs.Insertions.{promoted-spends}
+use Rattle.clock2q_handles.specs.Homes.{inserted, removed}
+use Rattle.clock2q_cache.proofs.Places.{entered-renewed}
 use Rattle.clock2q_cache.proofs.cache.Cache.promote_tail.Goals as goal
 
 pub unreachable-requires : goal.unreachable-requires
@@ -76,6 +79,7 @@ admit-requires-clause-not_in_main g c =
 pub invariant_of-self : goal.invariant_of-self
 invariant_of-self g c =
     let k = c.self.invariant in
+    let w = c.renew.ensures.entries in
     let same = c.requires.hash ∙ ap (λ (z : CacheState _ _ _). hash_of g.S.BuildHasher g.S.Hasher.Hasher z.hasher (g.K.Hash.hash_input c.args.key)) (sym c.self.view_is) in
     let absent = rw (← c.self.view_is) at c.requires.absent in
     let last = ap (λ z. last_or None (slots_of z)) (sym (ap (λ (z : QueueState). z.small) c.take_victim-victim.ensures.queues)) ∙ sym c.in-Some.ensures.tail in
@@ -83,14 +87,15 @@ invariant_of-self g c =
     let on = rw (← c.self.view_is) at c.requires.on in
     let i = c.self.inside in
     let small = (ap (λ (z : QueueState). z.small) c.admit.ensures.queues) ∙ ap (λ n. admitted n c.take_victim-victim.result c.append.new.self.small) ((ap (λ (z : QueueState). z.window) c.append.ensures.queues) ∙ (ap (λ (z : QueueState). z.window) c.in-Some.ensures.queues) ∙ (ap (λ (z : QueueState). z.window) c.take_victim-victim.ensures.queues)) ∙ ap (λ z. admitted i.queues.window c.take_victim-victim.result z) ((ap (λ (z : QueueState). z.small) c.append.ensures.queues) ∙ (ap (λ (z : QueueState). z.small) c.in-Some.ensures.queues) ∙ ap (λ z. take (length z - 1) z) (ap (λ (z : QueueState). z.small) c.take_victim-victim.ensures.queues)) in
-    let d = promoted-done _ g.met.K.Eq.laws _ _ _ _ _ _ _ _ k c.in-Some.tail last c.take_victim-victim.result c.take_victim-victim.ensures.victim c.args.key c.args.value c.args.hash _ same c.renew.ensures.hash c.admit.new.self c.renew.new.index.homes c.renew.new.keys absent
-    ((ap (λ (z : QueueState). z.slots) c.admit.ensures.queues) ∙ (ap (λ (z : QueueState). z.slots) c.append.ensures.queues) ∙ (ap (λ (z : QueueState). z.slots) c.in-Some.ensures.queues) ∙ (ap (λ (z : QueueState). z.slots) c.take_victim-victim.ensures.queues)) ((ap (λ (z : QueueState). z.window) c.admit.ensures.queues) ∙ (ap (λ (z : QueueState). z.window) c.append.ensures.queues) ∙ (ap (λ (z : QueueState). z.window) c.in-Some.ensures.queues) ∙ (ap (λ (z : QueueState). z.window) c.take_victim-victim.ensures.queues)) c.renew.ensures.index c.renew.ensures.entries (ap (λ (z : KeyPlaces _ _). z.room) c.renew.ensures.kept)
+    let d = promoted-done _ g.met.K.Eq.laws _ _ _ _ _ _ _ _ k c.in-Some.tail last c.take_victim-victim.result c.take_victim-victim.ensures.victim c.args.key w.held c.args.hash _ same c.renew.ensures.hash c.admit.new.self c.renew.new.index.homes c.renew.new.keys absent
+    ((ap (λ (z : QueueState). z.slots) c.admit.ensures.queues) ∙ (ap (λ (z : QueueState). z.slots) c.append.ensures.queues) ∙ (ap (λ (z : QueueState). z.slots) c.in-Some.ensures.queues) ∙ (ap (λ (z : QueueState). z.slots) c.take_victim-victim.ensures.queues)) ((ap (λ (z : QueueState). z.window) c.admit.ensures.queues) ∙ (ap (λ (z : QueueState). z.window) c.append.ensures.queues) ∙ (ap (λ (z : QueueState). z.window) c.in-Some.ensures.queues) ∙ (ap (λ (z : QueueState). z.window) c.take_victim-victim.ensures.queues)) c.renew.ensures.index w.becomes (ap (λ (z : KeyPlaces _ _). z.room) c.renew.ensures.kept)
     full on small ((ap (λ (z : QueueState). z.main) c.admit.ensures.queues) ∙ ((ap (λ (z : QueueState). z.main) c.append.ensures.queues) ∙ ap (λ z. z ++ (c.in-Some.tail, false) ∷ []) ((ap (λ (z : QueueState). z.main) c.in-Some.ensures.queues) ∙ (ap (λ (z : QueueState). z.main) c.take_victim-victim.ensures.queues)))) in
     d.holds
 
 pub returns : goal.returns
 returns g c =
     let k = c.self.invariant in
+    let w = c.renew.ensures.entries in
     let same = c.requires.hash ∙ ap (λ (z : CacheState _ _ _). hash_of g.S.BuildHasher g.S.Hasher.Hasher z.hasher (g.K.Hash.hash_input c.args.key)) (sym c.self.view_is) in
     let absent = rw (← c.self.view_is) at c.requires.absent in
     let last = ap (λ z. last_or None (slots_of z)) (sym (ap (λ (z : QueueState). z.small) c.take_victim-victim.ensures.queues)) ∙ sym c.in-Some.ensures.tail in
@@ -98,12 +103,13 @@ returns g c =
     let on = rw (← c.self.view_is) at c.requires.on in
     let i = c.self.inside in
     let small = (ap (λ (z : QueueState). z.small) c.admit.ensures.queues) ∙ ap (λ n. admitted n c.take_victim-victim.result c.append.new.self.small) ((ap (λ (z : QueueState). z.window) c.append.ensures.queues) ∙ (ap (λ (z : QueueState). z.window) c.in-Some.ensures.queues) ∙ (ap (λ (z : QueueState). z.window) c.take_victim-victim.ensures.queues)) ∙ ap (λ z. admitted i.queues.window c.take_victim-victim.result z) ((ap (λ (z : QueueState). z.small) c.append.ensures.queues) ∙ (ap (λ (z : QueueState). z.small) c.in-Some.ensures.queues) ∙ ap (λ z. take (length z - 1) z) (ap (λ (z : QueueState). z.small) c.take_victim-victim.ensures.queues)) in
-    let d = promoted-done _ g.met.K.Eq.laws _ _ _ _ _ _ _ _ k c.in-Some.tail last c.take_victim-victim.result c.take_victim-victim.ensures.victim c.args.key c.args.value c.args.hash _ same c.renew.ensures.hash c.admit.new.self c.renew.new.index.homes c.renew.new.keys absent
-    ((ap (λ (z : QueueState). z.slots) c.admit.ensures.queues) ∙ (ap (λ (z : QueueState). z.slots) c.append.ensures.queues) ∙ (ap (λ (z : QueueState). z.slots) c.in-Some.ensures.queues) ∙ (ap (λ (z : QueueState). z.slots) c.take_victim-victim.ensures.queues)) ((ap (λ (z : QueueState). z.window) c.admit.ensures.queues) ∙ (ap (λ (z : QueueState). z.window) c.append.ensures.queues) ∙ (ap (λ (z : QueueState). z.window) c.in-Some.ensures.queues) ∙ (ap (λ (z : QueueState). z.window) c.take_victim-victim.ensures.queues)) c.renew.ensures.index c.renew.ensures.entries (ap (λ (z : KeyPlaces _ _). z.room) c.renew.ensures.kept)
+    let d = promoted-done _ g.met.K.Eq.laws _ _ _ _ _ _ _ _ k c.in-Some.tail last c.take_victim-victim.result c.take_victim-victim.ensures.victim c.args.key w.held c.args.hash _ same c.renew.ensures.hash c.admit.new.self c.renew.new.index.homes c.renew.new.keys absent
+    ((ap (λ (z : QueueState). z.slots) c.admit.ensures.queues) ∙ (ap (λ (z : QueueState). z.slots) c.append.ensures.queues) ∙ (ap (λ (z : QueueState). z.slots) c.in-Some.ensures.queues) ∙ (ap (λ (z : QueueState). z.slots) c.take_victim-victim.ensures.queues)) ((ap (λ (z : QueueState). z.window) c.admit.ensures.queues) ∙ (ap (λ (z : QueueState). z.window) c.append.ensures.queues) ∙ (ap (λ (z : QueueState). z.window) c.in-Some.ensures.queues) ∙ (ap (λ (z : QueueState). z.window) c.take_victim-victim.ensures.queues)) c.renew.ensures.index w.becomes (ap (λ (z : KeyPlaces _ _). z.room) c.renew.ensures.kept)
     full on small ((ap (λ (z : QueueState). z.main) c.admit.ensures.queues) ∙ ((ap (λ (z : QueueState). z.main) c.append.ensures.queues) ∙ ap (λ z. z ++ (c.in-Some.tail, false) ∷ []) ((ap (λ (z : QueueState). z.main) c.in-Some.ensures.queues) ∙ (ap (λ (z : QueueState). z.main) c.take_victim-victim.ensures.queues)))) in
     record {
       slot = d.at ∙ ap (λ (z : CacheState _ _ _). (into_small c.args.key z.machine).slot) c.self.view_is;
-      machine = d.machine ∙ ap (λ (z : CacheState _ _ _). let p = into_small c.args.key z.machine in (stored p.slot c.args.value p.machine)) c.self.view_is;
+      machine = rw (← c.self.view_is) (fills c.args.value c.take_victim-victim.result w.held (into_small c.args.key (machine_of c.self.inside.shares c.self.inside.queues c.self.inside.keys.entries c.self.inside.history.entries c.self.inside.free.items)) _ _ d.at w.is d.machine);
+      indexes = rw (← c.self.view_is) (record { residents = c.renew.ensures.index ∙ ap (λ x. inserted (removed eqb c.self.inside.index.homes c.renew.result.0 c.take_victim-victim.result) x c.take_victim-victim.result) same ∙ sym (entered-renewed _ g.met.K.Eq.laws _ _ _ _ _ _ _ _ k c.args.key c.take_victim-victim.result c.renew.result.0 (victim-in _ g.met.K.Eq.laws _ _ _ _ _ _ _ _ k c.take_victim-victim.result c.take_victim-victim.ensures.victim) c.renew.ensures.hash); remembered = refl });
       hasher = ap (λ (z : CacheState _ _ _). z.hasher) c.self.view_is;
       counts = rw (← c.self.view_is) (promoted-spends _ g.met.K.Eq.laws _ _ _ _ _ _ _ _ k c.take_victim-victim.new.self c.take_tail.new.self c.append.new.self c.admit.new.self c.renew.new.keys c.take_victim-victim.ensures.inspections c.take_victim-victim.ensures.accesses (ap (λ (z : QueueState). z.inspections) c.in-Some.ensures.queues) c.in-Some.ensures.accesses (ap (λ (z : QueueState). z.inspections) c.append.ensures.queues) c.append.ensures.accesses (ap (λ (z : QueueState). z.inspections) c.admit.ensures.queues) c.admit.ensures.accesses (ap (λ (z : KeyPlaces _ _). z.questions) c.renew.ensures.kept));
     }

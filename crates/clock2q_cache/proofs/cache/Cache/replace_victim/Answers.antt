@@ -1,5 +1,5 @@
 -- The key goes to the end of Main, at the victim's slot.
-use Rattle.std.proofs.Common.{◌≡◌, ◌+◌, ◌-◌, ◌<◌, ◌++◌, ◌∷◌, [], true, false, length, take, drop, Some, None, ap, sym, ◌∙◌, subst, arith}
+use Rattle.std.proofs.Common.{◌≡◌, ◌+◌, ◌-◌, ◌<◌, ◌++◌, ◌∷◌, [], true, false, length, take, drop, Some, None, ap, sym, ◌∙◌, subst, arith, refl, eqb}
 use Rattle.clock2q_queues.specs.Rings.{has}
 use Rattle.clock2q_queues.specs.Small.{admitted}
 use Rattle.clock2q_queues.specs.MainRing.{from_victim}
@@ -7,11 +7,14 @@ use Rattle.clock2q_queues.specs.Queues.{QueueState, slots_of}
 use Rattle.clock2q_queues.specs.Keys.{KeyPlaces}
 use Rattle.clock2q_queues.specs.History.{Remembered, is_remembered}
 use Rattle.clock2q_cache.specs.Hashes.{hash_of}
-use Rattle.clock2q_cache.specs.Machine.{into_main, into_small, stored}
+use Rattle.clock2q_cache.specs.Machine.{into_main, into_small}
 use Rattle.clock2q_cache.specs.CacheState.{CacheState}
-use Rattle.clock2q_cache.proofs.Kept.{IsDone, length_in_small, length_in_main}
+use Rattle.clock2q_cache.specs.CacheFields.{machine_of}
+use Rattle.clock2q_cache.proofs.Kept.{fills, IsDone, length_in_small, length_in_main}
 use Rattle.clock2q_cache.proofs.Renewed.{resident-there, slot-below, victim-in, rest, victim-not_in_rest, victim-not_in_small, replaced-done}
 use Rattle.clock2q_cache.proofs.Insertions.{replaced-spends}
+use Rattle.clock2q_handles.specs.Homes.{inserted, removed}
+use Rattle.clock2q_cache.proofs.Places.{entered-renewed}
 use Rattle.clock2q_cache.proofs.cache.Cache.replace_victim.Goals as goal
 
 pub renew-requires-clause-resident : goal.renew-requires-clause-resident
@@ -48,28 +51,31 @@ append-requires-clause-not_in_main g c =
 pub invariant_of-self : goal.invariant_of-self
 invariant_of-self g c =
     let k = c.self.invariant in
+    let w = c.renew.ensures.entries in
     let same = c.requires.hash ∙ ap (λ (z : CacheState _ _ _). hash_of g.S.BuildHasher g.S.Hasher.Hasher z.hasher (g.K.Hash.hash_input c.args.key)) (sym c.self.view_is) in
     let absent = rw (← c.self.view_is) at c.requires.absent in
     let full = rw (← c.self.view_is) at c.requires.full in
     let main = (ap (λ (z : QueueState). z.main) c.append.ensures.queues) ∙ ap (λ z. z ++ (c.take_victim-victim.result, false) ∷ []) (ap (λ (z : QueueState). z.main) c.take_victim-victim.ensures.queues) in
-    let d = replaced-done _ g.met.K.Eq.laws _ _ _ _ _ _ _ _ k c.take_victim-victim.result c.take_victim-victim.ensures.victim c.args.key c.args.value c.args.hash _ same c.renew.ensures.hash c.append.new.self c.renew.new.index.homes c.renew.new.keys absent
-    ((ap (λ (z : QueueState). z.slots) c.append.ensures.queues) ∙ (ap (λ (z : QueueState). z.slots) c.take_victim-victim.ensures.queues)) ((ap (λ (z : QueueState). z.window) c.append.ensures.queues) ∙ (ap (λ (z : QueueState). z.window) c.take_victim-victim.ensures.queues)) c.renew.ensures.index c.renew.ensures.entries (ap (λ (z : KeyPlaces _ _). z.room) c.renew.ensures.kept)
+    let d = replaced-done _ g.met.K.Eq.laws _ _ _ _ _ _ _ _ k c.take_victim-victim.result c.take_victim-victim.ensures.victim c.args.key w.held c.args.hash _ same c.renew.ensures.hash c.append.new.self c.renew.new.index.homes c.renew.new.keys absent
+    ((ap (λ (z : QueueState). z.slots) c.append.ensures.queues) ∙ (ap (λ (z : QueueState). z.slots) c.take_victim-victim.ensures.queues)) ((ap (λ (z : QueueState). z.window) c.append.ensures.queues) ∙ (ap (λ (z : QueueState). z.window) c.take_victim-victim.ensures.queues)) c.renew.ensures.index w.becomes (ap (λ (z : KeyPlaces _ _). z.room) c.renew.ensures.kept)
     full ((ap (λ (z : QueueState). z.small) c.append.ensures.queues) ∙ (ap (λ (z : QueueState). z.small) c.take_victim-victim.ensures.queues)) main in
     d.holds
 
 pub returns : goal.returns
 returns g c =
     let k = c.self.invariant in
+    let w = c.renew.ensures.entries in
     let same = c.requires.hash ∙ ap (λ (z : CacheState _ _ _). hash_of g.S.BuildHasher g.S.Hasher.Hasher z.hasher (g.K.Hash.hash_input c.args.key)) (sym c.self.view_is) in
     let absent = rw (← c.self.view_is) at c.requires.absent in
     let full = rw (← c.self.view_is) at c.requires.full in
     let main = (ap (λ (z : QueueState). z.main) c.append.ensures.queues) ∙ ap (λ z. z ++ (c.take_victim-victim.result, false) ∷ []) (ap (λ (z : QueueState). z.main) c.take_victim-victim.ensures.queues) in
-    let d = replaced-done _ g.met.K.Eq.laws _ _ _ _ _ _ _ _ k c.take_victim-victim.result c.take_victim-victim.ensures.victim c.args.key c.args.value c.args.hash _ same c.renew.ensures.hash c.append.new.self c.renew.new.index.homes c.renew.new.keys absent
-    ((ap (λ (z : QueueState). z.slots) c.append.ensures.queues) ∙ (ap (λ (z : QueueState). z.slots) c.take_victim-victim.ensures.queues)) ((ap (λ (z : QueueState). z.window) c.append.ensures.queues) ∙ (ap (λ (z : QueueState). z.window) c.take_victim-victim.ensures.queues)) c.renew.ensures.index c.renew.ensures.entries (ap (λ (z : KeyPlaces _ _). z.room) c.renew.ensures.kept)
+    let d = replaced-done _ g.met.K.Eq.laws _ _ _ _ _ _ _ _ k c.take_victim-victim.result c.take_victim-victim.ensures.victim c.args.key w.held c.args.hash _ same c.renew.ensures.hash c.append.new.self c.renew.new.index.homes c.renew.new.keys absent
+    ((ap (λ (z : QueueState). z.slots) c.append.ensures.queues) ∙ (ap (λ (z : QueueState). z.slots) c.take_victim-victim.ensures.queues)) ((ap (λ (z : QueueState). z.window) c.append.ensures.queues) ∙ (ap (λ (z : QueueState). z.window) c.take_victim-victim.ensures.queues)) c.renew.ensures.index w.becomes (ap (λ (z : KeyPlaces _ _). z.room) c.renew.ensures.kept)
     full ((ap (λ (z : QueueState). z.small) c.append.ensures.queues) ∙ (ap (λ (z : QueueState). z.small) c.take_victim-victim.ensures.queues)) main in
     record {
       slot = d.at ∙ ap (λ (z : CacheState _ _ _). (into_main c.args.key z.machine).slot) c.self.view_is;
-      machine = d.machine ∙ ap (λ (z : CacheState _ _ _). let p = into_main c.args.key z.machine in (stored p.slot c.args.value p.machine)) c.self.view_is;
+      machine = rw (← c.self.view_is) (fills c.args.value c.take_victim-victim.result w.held (into_main c.args.key (machine_of c.self.inside.shares c.self.inside.queues c.self.inside.keys.entries c.self.inside.history.entries c.self.inside.free.items)) _ _ d.at w.is d.machine);
+      indexes = rw (← c.self.view_is) (record { residents = c.renew.ensures.index ∙ ap (λ x. inserted (removed eqb c.self.inside.index.homes c.renew.result.0 c.take_victim-victim.result) x c.take_victim-victim.result) same ∙ sym (entered-renewed _ g.met.K.Eq.laws _ _ _ _ _ _ _ _ k c.args.key c.take_victim-victim.result c.renew.result.0 (victim-in _ g.met.K.Eq.laws _ _ _ _ _ _ _ _ k c.take_victim-victim.result c.take_victim-victim.ensures.victim) c.renew.ensures.hash); remembered = refl });
       hasher = ap (λ (z : CacheState _ _ _). z.hasher) c.self.view_is;
       counts = rw (← c.self.view_is) (replaced-spends _ g.met.K.Eq.laws _ _ _ _ _ _ _ _ k c.take_victim-victim.new.self c.append.new.self c.renew.new.keys c.take_victim-victim.ensures.inspections c.take_victim-victim.ensures.accesses (ap (λ (z : QueueState). z.inspections) c.append.ensures.queues) c.append.ensures.accesses (ap (λ (z : KeyPlaces _ _). z.questions) c.renew.ensures.kept));
     }

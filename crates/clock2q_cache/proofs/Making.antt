@@ -1,0 +1,172 @@
+-- Where a key that is placed makes a slot, and where it finds the value of one.
+use Rattle.std.proofs.Common.{◌≡◌, ℕ, ◌+◌, ◌<◌, ◌≤◌, ◌==◌, Bool, true, false, not, ◌&&◌, cond, List, [], ◌∷◌, length, inl, inr, Option, Some, None, refl, sym, ap, ◌∙◌, subst, arith, eq-eqb, eqb-true, ne_eqb}
+use Rattle.std.specs.Prelude.{if◌then◌else◌, nat_lt, is_some, slice_get, IfSome, IfNone}
+use Rattle.std.specs.Cmp.{IsEquivalence}
+use Rattle.std.specs.List.{count_by, list_any, last_or}
+use Rattle.std.specs.Option.{UnwrapsOrElse}
+use Rattle.std.proofs.lemmas.Bool.{cases_lt, lt-ltb, le-ltb, eqb-false, both_ways}
+use Rattle.std.proofs.lemmas.Option.{slice_get_within, slice_get_past}
+use Rattle.std.proofs.lemmas.List.Sums.{sum_by-cons}
+use Rattle.clock2q_cache.specs.Shares.{main_share}
+use Rattle.clock2q_cache.specs.Entries.{MainEntry, from_victim}
+use Rattle.clock2q_cache.specs.Machine.{Machine, Placement, vacancy, vacant_slot, goes_to_main, into_main, into_small, into_small_at, joining_main, replacing_victim, placement, forgotten, slot_of, value_of, stored, reused, inserted, hit}
+use Rattle.clock2q_cache.specs.Steps.{put, slotted, slotted_at, fetched_value, replaced_at}
+use Rattle.clock2q_cache.specs.Cache.{IsWhole}
+use Rattle.clock2q_cache.specs.Closures.{Reuses, Takes}
+use Rattle.clock2q_cache.specs.Insertions.{IsValueFor, Fills, placed, next_is_vacant, makes_slot}
+use Rattle.clock2q_cache.proofs.Whole.{one_if, some_is, none_is, stands_made, victim_made, no_vacancy, all_resident, placed-main, placed-small}
+use Rattle.clock2q_cache.proofs.Weights.{length-from_victim}
+use Rattle.clock2q_cache.proofs.Lasting.{placed-key, resident_made}
+use Rattle.clock2q_cache.proofs.Standing.{get-within}
+use Rattle.clock2q_cache.proofs.Laws.{slot_at_most, reused_value}
+use Rattle.clock2q_cache.proofs.Fetched.{stored_again, stored_same}
+
+with_true : (b : Bool) → (b && true) ≡ b
+with_true true = refl
+with_true false = refl
+
+with_false : (b : Bool) → (b && false) ≡ false
+with_false true = refl
+with_false false = refl
+
+module _ {K V : Type 0} (eq : K → K → Bool) (m : Machine K V) (h : IsWhole eq m) where
+  -- the vacancy is a new slot where none is free
+  vacant-made : (slot : ℕ) → vacancy m ≡ Some slot → nat_lt slot (length m.values) ≡ not (next_is_vacant m)
+  vacant-made slot is = by m.free refl is where
+    by : (free : List ℕ) → m.free ≡ free → vacant_slot free (length m.values) m.shares.capacity ≡ Some slot → nat_lt slot (length m.values) ≡ not ((length free == 0) && nat_lt (length m.values) m.shares.capacity)
+    by [] e v = elim (cases_lt (length m.values) m.shares.capacity) [
+      | inl below ↦
+          let at : length m.values ≡ slot = some_is (length m.values) slot (sym (ap (λ b. if b then Some (length m.values) else None) (lt-ltb (length m.values) m.shares.capacity below)) ∙ v) in
+          le-ltb slot (length m.values) (omega (arith, at)) ∙ ap (λ b. not (true && b)) (sym (lt-ltb (length m.values) m.shares.capacity below))
+      | inr above ↦ absurd (none_is slot (sym (ap (λ b. if b then Some (length m.values) else None) (le-ltb (length m.values) m.shares.capacity above)) ∙ v))
+    ]
+    by (f ∷ fs) e v =
+        let at : f ≡ slot = some_is f slot v in
+        let stands : 0 < count_by (λ s. s == slot) m.free = omega (arith, sum_by-cons (λ s. one_if (s == slot)) f fs, ap (count_by (λ s. s == slot)) e, ap one_if (eq-eqb f slot at)) in
+        lt-ltb slot (length m.values) (stands_made eq m h slot (omega (arith, stands))) ∙ ap (λ b. not (b && nat_lt (length m.values) m.shares.capacity)) (sym (ne_eqb (length {A = ℕ} (f ∷ fs)) 0 (λ e. omega (arith, e))))
+
+  module _ (key : K) where
+    pub main-makes : nat_lt (into_main key m).slot (length m.values) ≡ not (makes_slot true m)
+    main-makes = by (length m.main == main_share m.shares) refl (from_victim m.main) refl (vacancy m) refl where
+      by : (b : Bool) → (length m.main == main_share m.shares) ≡ b → (es : List (MainEntry K)) → from_victim m.main ≡ es → (v : Option ℕ) → vacancy m ≡ v
+          → nat_lt (if b then replacing_victim key es m else joining_main key v m).slot (length m.values) ≡ not (next_is_vacant m && not (true && b))
+      by true full [] choice v is = absurd (omega (arith, h.small_below, eqb-true (length m.main) (main_share m.shares) full, ap (length {A = MainEntry K}) choice, length-from_victim m.main))
+      by true full (victim ∷ others) choice v is = lt-ltb victim.slot (length m.values) (victim_made eq m h victim others choice) ∙ ap not (sym (with_false (next_is_vacant m)))
+      by false room es choice None is = absurd (omega (arith, all_resident eq m h is, h.small_within, h.main_within, h.small_below, eqb-false (length m.main) (main_share m.shares) room))
+      by false room es choice (Some slot) is = vacant-made slot is ∙ ap not (sym (with_true (next_is_vacant m)))
+
+    pub small-makes : goes_to_main false m ≡ false → nat_lt (into_small key m).slot (length m.values) ≡ not (makes_slot false m)
+    small-makes small = by (vacancy m) refl where
+      by : (v : Option ℕ) → vacancy m ≡ v → nat_lt (into_small key m).slot (length m.values) ≡ not (makes_slot false m)
+      by None none =
+          let full = no_vacancy m.free (length m.values) m.shares.capacity none in
+          let over : nat_lt (length m.values) m.shares.capacity ≡ false = le-ltb (length m.values) m.shares.capacity (omega (arith, full.1)) in
+          let never : makes_slot false m ≡ false = with_true (next_is_vacant m) ∙ ap (λ b. (length m.free == 0) && b) over ∙ with_false (length m.free == 0) in
+          elim (placed-small eq m h key small).slots [
+            | inl keeps ↦ lt-ltb (into_small key m).slot (length m.values) keeps.made ∙ ap not (sym never)
+            | inr makes ↦ absurd (omega (arith, makes.vacant, full.1))
+          ]
+      by (Some slot) is = ap (λ v. nat_lt (into_small_at key v (last_or None m.small) m).slot (length m.values)) is ∙ vacant-made slot is ∙ ap not (sym (with_true (next_is_vacant m)))
+
+    pub placed-values : (main : Bool) → (main ≡ false → goes_to_main false m ≡ false) → (placed main key m).machine.values ≡ m.values
+    placed-values true small = (placed-main eq m h key).values
+    placed-values false small = (placed-small eq m h key (small refl)).values
+
+    pub placed-makes : (main : Bool) → (main ≡ false → goes_to_main false m ≡ false) → nat_lt (placed main key m).slot (length m.values) ≡ not (makes_slot main m)
+    placed-makes true small = main-makes
+    placed-makes false small = small-makes (small refl)
+
+-- where a key that had no history goes
+pub goes-unknown : {K V : Type 0} (known : Bool) (m : Machine K V) → goes_to_main known m ≡ false → goes_to_main false m ≡ false
+goes-unknown true m e = cc
+goes-unknown false m e = e
+
+-- how a key is placed whose history is erased first
+module _ {K V : Type 0} (is : K → Bool) (key : K) (m m1 : Machine K V) (known main : Bool) (had : known ≡ list_any is m.history) (erased : m1 ≡ forgotten is m) (goes : main ≡ goes_to_main known m1) where
+  pub placed-there : placed main key m1 ≡ placement is key m
+  placed-there = ap (λ b. placed b key m1) goes ∙ ap (λ z. placed (goes_to_main known z) key z) erased ∙ ap (λ b. placed (goes_to_main b (forgotten is m)) key (forgotten is m)) had
+
+  pub makes-there : (b : Bool) → nat_lt (placed main key m1).slot (length m1.values) ≡ b → nat_lt (placement is key m).slot (length m.values) ≡ b
+  makes-there b e = ap (λ (p : Placement K V). nat_lt p.slot (length m.values)) (sym placed-there) ∙ ap (λ (z : Machine K V). nat_lt (placed main key m1).slot (length z.values)) (sym erased) ∙ e
+
+  pub values-there : (placed main key m1).machine.values ≡ m1.values → (placement is key m).machine.values ≡ m.values
+  values-there e = ap (λ (p : Placement K V). p.machine.values) (sym placed-there) ∙ e ∙ ap (λ (z : Machine K V). z.values) erased
+
+  pub fills-there : (value : Option V) (new : Machine K V) → Fills value (placed main key m1) m1 new → Fills value (placement is key m) m new
+  fills-there value new f =
+      let g = subst (λ p. Fills value p m1 new) placed-there f in
+      record { held = g.held; is = subst (λ (z : Machine K V). IsValueFor value (placement is key m).slot z.values g.held) erased g.is; becomes = g.becomes }
+
+pub not-below : (a b : ℕ) → nat_lt a b ≡ false → b ≤ a
+not-below a b e = elim (cases_lt a b) [
+  | inl within ↦ absurd (both_ways (nat_lt a b) e (lt-ltb a b within))
+  | inr above ↦ above
+]
+
+pub is-below : (a b : ℕ) → nat_lt a b ≡ true → a < b
+is-below a b e = elim (cases_lt a b) [
+  | inl within ↦ within
+  | inr above ↦ absurd (both_ways (nat_lt a b) (le-ltb a b above) e)
+]
+
+-- where no value is brought, the slot was made
+pub made-or-none : {V : Type 0} (value : Option V) (slot made : ℕ) → nat_lt slot made ≡ not (is_some value) → IfNone value (slot < made)
+made-or-none None slot made is = is-below slot made is
+made-or-none (Some v) slot made is = tt
+
+-- a slot keeps its value, or a new one has the one that was made
+module _ {K V : Type 0} (is : K → Bool) (key : K) (made : V → Type 0) (m : Machine K V) (values : (placement is key m).machine.values ≡ m.values) where
+  pub reuses : (value : Option V) (new : Machine K V) → nat_lt (placement is key m).slot (length m.values) ≡ not (is_some value) → IfSome value made → Fills value (placement is key m) m new → Reuses is key made m new
+  reuses None new has gave f =
+      let p = placement is key m in
+      record {
+        value = f.held;
+        had = subst (λ o. UnwrapsOrElse o made f.held) (sym f.is) refl;
+        becomes = f.becomes ∙ stored_same p.machine p.slot f.held (ap (λ vs. slice_get vs p.slot) values ∙ f.is)
+            ∙ sym (ap (λ b. if b then p.machine else stored p.slot f.held p.machine) (lt-ltb p.slot (length m.values) (slice_get_within m.values p.slot f.held f.is)));
+      }
+  reuses (Some v) new has gave f =
+      let p = placement is key m in
+      record {
+        value = v;
+        had = subst (λ o. UnwrapsOrElse o made v) (sym (slice_get_past m.values p.slot (not-below p.slot (length m.values) has))) gave;
+        becomes = f.becomes ∙ ap (λ x. stored p.slot x p.machine) f.is ∙ sym (ap (λ b. if b then p.machine else stored p.slot v p.machine) has);
+      }
+
+module _ {K V : Type 0} (eq : K → K → Bool) (laws : IsEquivalence eq) (m : Machine K V) (h : IsWhole eq m) (key : K) (made : V → Type 0) where
+  module _ (absent : slot_of (eq key) m ≡ None) where
+    abbrev p : Placement K V
+    p = placement (eq key) key m
+
+    taken-value : (o : Option V) (v : V) → UnwrapsOrElse o made v → fetched_value o v ≡ v
+    taken-value None v had = refl
+    taken-value (Some x) v had = sym had
+
+    taken-writes : (v w : V) → stored p.slot w (reused (eq key) key v m) ≡ inserted (eq key) key w m
+    taken-writes v w = of (nat_lt p.slot (length m.values)) where
+      of : (b : Bool) → stored p.slot w (if b then p.machine else stored p.slot v p.machine) ≡ stored p.slot w p.machine
+      of true = refl
+      of false = stored_again p.machine p.slot v w (slot_at_most eq laws m h key absent)
+
+    pub new-takes : (slot : ℕ) (new : Machine K V) → slot ≡ p.slot → Reuses (eq key) key made m new → Takes (eq key) key made m slot new
+    new-takes slot new at r = record {
+      value = r.value;
+      at = at ∙ ap (λ o. slotted_at o (eq key) key m) (sym absent);
+      had = rw at r.had;
+      there = rw (at, r.becomes) (reused_value eq laws m h key absent r.value ∙ ap Some (taken-value (slice_get m.values p.slot) r.value r.had));
+      becomes = r.becomes ∙ sym (ap (λ o. if is_some o then hit (eq key) m else reused (eq key) key r.value m) absent);
+      writes = λ w. rw (at, r.becomes) (taken-writes r.value w) ∙ sym (ap (λ o. if is_some o then replaced_at (eq key) w o m else inserted (eq key) key w m) absent);
+    }
+
+  -- a resident keeps its slot and its value
+  pub hit-takes : (slot : ℕ) → slot_of (eq key) m ≡ Some slot → Takes (eq key) key made m slot (hit (eq key) m)
+  hit-takes slot found =
+      let v = get-within m.values slot (resident_made eq laws (eq key) m h slot found) in
+      record {
+        value = v.0;
+        at = ap (λ o. slotted_at o (eq key) key m) (sym found);
+        had = subst (λ o. UnwrapsOrElse o made v.0) (sym v.1) refl;
+        there = v.1;
+        becomes = sym (ap (λ o. if is_some o then hit (eq key) m else reused (eq key) key v.0 m) found);
+        writes = λ w. sym (ap (λ o. if is_some o then replaced_at (eq key) w o m else inserted (eq key) key w m) found);
+      }

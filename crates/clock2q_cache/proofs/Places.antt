@@ -1,0 +1,148 @@
+-- Which resident stands at a slot, and what an insertion makes of the two indexes.
+use Rattle.std.proofs.Common.{◌≡◌, ℕ, ◌||◌, ◌==◌, Bool, true, false, eqb, Option, Some, None, List, [], ◌∷◌, map, inl, inr, refl, sym, ap, ◌∙◌, subst, eqb-true}
+use Rattle.std.specs.List.{find, list_any, last_or, AllByRecursion}
+use Rattle.std.specs.Cmp.{IsEquivalence}
+use Rattle.std.proofs.lemmas.Bool.{cases_Bool, both_ways}
+use Rattle.clock2q_handles.specs.Homes.{inserted, removed}
+use Rattle.clock2q_queues.specs.Rings.{has}
+use Rattle.clock2q_queues.specs.Keys.{KeyPlaces, key_at, hash_at}
+use Rattle.clock2q_queues.specs.Queues.{QueueState}
+use Rattle.clock2q_queues.specs.History.{Remembered, Places, oldest_hash, pushed_places}
+use Rattle.clock2q_queues.proofs.Rings.{has_first, eqb_swap, eqb_self}
+use Rattle.clock2q_cache.specs.Shares.{Shares, ghost_share}
+use Rattle.clock2q_cache.specs.Machine.{Machine, residents, resident_at, slot_of, goes_to_main, forgotten, placement}
+use Rattle.clock2q_cache.specs.CacheFields.{machine_of, places_of, IsKept}
+use Rattle.std.specs.Prelude.{if◌then◌else◌, IfSome, is_some}
+use Rattle.std.specs.declared.hash.Hasher as hasher
+use Rattle.std.specs.declared.hash.BuildHasher as builder
+use Rattle.std.specs.HashMap.Lent.{HashMembers}
+use Rattle.std.specs.Option.{option_map}
+use Rattle.clock2q_queues.specs.Ages.{is_promoted}
+use Rattle.clock2q_queues.specs.Queues.{slots_of}
+use Rattle.clock2q_cache.specs.Entries.{SmallEntry}
+use Rattle.clock2q_cache.specs.Places.{remembering, remembering_any, left_by, entered, discarded, key_out, out_of, hash_in, residents_with, remembered_with}
+use Rattle.clock2q_cache.specs.CacheState.{CacheState}
+use Rattle.clock2q_cache.proofs.WithKeys.{HaveKeys, have_later}
+use Rattle.clock2q_cache.proofs.Stored.{have_keys, hash-of-key}
+use Rattle.clock2q_cache.proofs.Renewed.{last_entry, tail_key}
+use Rattle.clock2q_cache.proofs.Indexed.{paired, paired-cons, residents-paired}
+
+module _ {K : Type 0} (key : ℕ → Option K) (slot : ℕ) where
+  same_key : (a b : K) → Some a ≡ Some b → a ≡ b
+  same_key a b q = cc
+
+  -- the key at one of these places, with the place
+  found-paired : (k : K) (ss : List ℕ) → HaveKeys key ss → has slot ss ≡ true → key slot ≡ Some k → find (λ (r : K × ℕ). r.1 == slot) (paired key ss) ≡ Some (k, slot)
+  found-paired k [] h there at = absurd (both_ways false refl there)
+  found-paired k (s ∷ ss) h there at =
+      let j = h s (has_first s ss) in
+      ap (λ (z : List (K × ℕ)). find (λ (r : K × ℕ). r.1 == slot) z) (paired-cons key s ss j.0 j.1)
+      ∙ elim (cases_Bool (eqb s slot)) [
+        | inl e ↦
+            let q : s ≡ slot = eqb-true s slot e in
+            let same : j.0 ≡ k = same_key j.0 k (sym j.1 ∙ ap (λ z. key z) q ∙ at) in
+            rw e (ap (λ z. Some (z, s)) same ∙ ap (λ z. Some (k, z)) q)
+        | inr e ↦ rw e (found-paired k ss (have_later key s ss h) (subst (λ b. (b || has slot ss) ≡ true) (eqb_swap s slot e) there) at)
+      ]
+
+  -- no other place has one
+  none-paired : (ss : List ℕ) → HaveKeys key ss → has slot ss ≡ false → find (λ (r : K × ℕ). r.1 == slot) (paired key ss) ≡ None
+  none-paired [] h absent = refl
+  none-paired (s ∷ ss) h absent =
+      let j = h s (has_first s ss) in
+      ap (λ (z : List (K × ℕ)). find (λ (r : K × ℕ). r.1 == slot) z) (paired-cons key s ss j.0 j.1)
+      ∙ elim (cases_Bool (eqb s slot)) [
+        | inl e ↦ absurd (both_ways (has slot (s ∷ ss)) absent (subst (λ z. has z (s ∷ ss) ≡ true) (eqb-true s slot e) (has_first s ss)))
+        | inr e ↦ rw e (none-paired ss (have_later key s ss h) (subst (λ b. (b || has slot ss) ≡ false) (eqb_swap s slot e) absent))
+      ]
+
+-- whether Small's tail goes out
+pub key-out : {K : Type 0} (b : Bool) (o : Option (SmallEntry K)) → IfSome o (λ tail. b ≡ is_promoted tail.age) → key_out o ≡ (if b then None else option_map (λ tail. tail.key) o)
+key-out true None at = refl
+key-out false None at = refl
+key-out b (Some tail) at = ap (λ z. if z then None else Some tail.key) (sym at)
+
+-- the hash beside the oldest key is that of the key
+oldest-hashed : {K : Type 0} (hash : K → ℕ) (o : Option (ℕ × K)) (p : Option K) (es : List (ℕ × K))
+    → ◌≡◌ {A = ℕ} (elim o [ None ↦ 0 | Some e ↦ e.0 ]) (elim p [ None ↦ 0 | Some k ↦ hash k ]) → AllByRecursion (λ (e : ℕ × K). e.0 ≡ hash e.1) es
+    → ◌≡◌ {A = ℕ} (elim (last_or o es) [ None ↦ 0 | Some e ↦ e.0 ]) (elim (last_or p (map (λ (e : ℕ × K). e.1) es)) [ None ↦ 0 | Some k ↦ hash k ])
+oldest-hashed hash o p [] same all = same
+oldest-hashed hash o p (e ∷ es) same all = oldest-hashed hash (Some e) (Some e.1) es all.0 all.1
+
+module _ {K V : Type 0} (eq : K → K → Bool) (laws : IsEquivalence eq) (hash : K → ℕ) (shares : Shares) (q : QueueState) (h : Remembered K) (index : List (List (ℕ × ℕ))) (keys : KeyPlaces K V) (free : List ℕ) (room : ℕ)
+    (kept : IsKept eq hash shares q h index keys free room) where
+  abbrev m : Machine K V
+  m = machine_of shares q keys.entries h.entries free
+
+  have : HaveKeys (key_at keys.entries) (places_of q)
+  have = have_keys keys.entries (places_of q) kept.stored.made
+
+  -- the resident at a slot of the queues
+  pub resident-there : (slot : ℕ) (k : K) → has slot (places_of q) ≡ true → key_at keys.entries slot ≡ Some k → resident_at m slot ≡ Some (k, slot)
+  resident-there slot k there at =
+      ap (λ (z : List (K × ℕ)). find (λ (r : K × ℕ). r.1 == slot) z) (residents-paired eq laws hash shares q h index keys free room kept)
+      ∙ found-paired (key_at keys.entries) slot k (places_of q) have there at
+
+  -- another slot has none
+  pub resident-none : (slot : ℕ) → has slot (places_of q) ≡ false → resident_at m slot ≡ None
+  resident-none slot absent =
+      ap (λ (z : List (K × ℕ)). find (λ (r : K × ℕ). r.1 == slot) z) (residents-paired eq laws hash shares q h index keys free room kept)
+      ∙ none-paired (key_at keys.entries) slot (places_of q) have absent
+
+  -- a key enters at a slot that has no resident
+  pub entered-vacant : (key : K) (slot : ℕ) → has slot (places_of q) ≡ false → entered hash key slot m index ≡ inserted index (hash key) slot
+  entered-vacant key slot absent = ap (λ z. inserted (left_by hash z slot index) (hash key) slot) (resident-none slot absent)
+
+  -- a key takes the slot of a resident
+  pub entered-renewed : (key : K) (slot old : ℕ) → has slot (places_of q) ≡ true → hash_at keys.entries slot ≡ Some old → entered hash key slot m index ≡ inserted (removed eqb index old slot) (hash key) slot
+  entered-renewed key slot old there at =
+      let k = have slot there in
+      let is : old ≡ hash k.0 = hash-of-key hash keys.entries slot old k.0 kept.stored.hashed at k.1 in
+      ap (λ z. inserted (left_by hash z slot index) (hash key) slot) (resident-there slot k.0 there k.1)
+      ∙ ap (λ z. inserted (removed eqb index z slot) (hash key) slot) (sym is)
+
+  -- a key goes out into the history
+  pub remembering-kept : (key : K) (hsh : ℕ) (p : Places) → hsh ≡ hash key → pushed_places h.limit hsh (oldest_hash (λ (e : ℕ × K). e.0) h.entries) p ≡ remembering hash key m p
+  remembering-kept key hsh p is =
+      ap (λ z. pushed_places z hsh (oldest_hash (λ (e : ℕ × K). e.0) h.entries) p) kept.sized.remembers
+      ∙ ap (λ z. pushed_places (ghost_share shares) z (oldest_hash (λ (e : ℕ × K). e.0) h.entries) p) is
+      ∙ ap (λ z. pushed_places (ghost_share shares) (hash key) z p) (oldest-hashed hash None None h.entries refl kept.hashed)
+
+  -- the key of Small's tail
+  pub out-of-tail : (tail : ℕ) (key : K) → last_or None (slots_of q.small) ≡ Some tail → key_at keys.entries tail ≡ Some key → option_map (λ (e : SmallEntry K). e.key) (last_or None m.small) ≡ Some key
+  out-of-tail tail key last at =
+      ap (λ o. option_map (λ (e : SmallEntry K). e.key) o) (last_entry eq laws hash shares q h index keys free room kept tail last)
+      ∙ sym (tail_key eq laws hash shares q h index keys free room kept tail last).1 ∙ at
+
+-- What stands in the indexes once a key has its slot.
+module _ {K V S H : Type 0} (key : HashMembers K) (build : builder.Ghosts S H) (hash : hasher.Ghosts H) (k : K) (c : CacheState K V S) where
+  abbrev is : K → Bool
+  is = key.eq k
+
+  abbrev has_slot : Option ℕ → List (List (ℕ × ℕ))
+  has_slot o = if is_some o then c.residents else entered (hash_in key build hash c) k (placement is k c.machine).slot c.machine c.residents
+
+  abbrev has_place : Option ℕ → Places
+  has_place o = if is_some o then c.remembered else
+      (let m = forgotten is c.machine in remembering_any (hash_in key build hash c) (out_of (goes_to_main (list_any is c.machine.history) c.machine) m) m (discarded is (hash_in key build hash c k) c))
+
+  -- it was resident
+  module _ (slot : ℕ) (found : Some slot ≡ slot_of is c.machine) where
+    pub resident-residents : (new : List (List (ℕ × ℕ))) → new ≡ c.residents → new ≡ residents_with key build hash k c
+    resident-residents new same = same ∙ ap has_slot found
+
+    pub resident-remembered : (new : Places) → new ≡ c.remembered → new ≡ remembered_with key build hash k c
+    resident-remembered new same = same ∙ ap has_place found
+
+  -- it was not, and was inserted after it was looked up
+  module _ (absent : None ≡ slot_of is c.machine) (found : CacheState K V S) (kept : found ≡ record c { counts = found.counts }) where
+    pub new-residents : (new : List (List (ℕ × ℕ))) (slot : ℕ) → slot ≡ (placement is k found.machine).slot → new ≡ entered (hash_in key build hash found) k slot found.machine found.residents → new ≡ residents_with key build hash k c
+    new-residents new slot at e =
+        e ∙ ap (λ s. entered (hash_in key build hash found) k s found.machine found.residents) at
+        ∙ ap (λ (z : CacheState K V S). entered (hash_in key build hash z) k (placement is k z.machine).slot z.machine z.residents) kept ∙ ap has_slot absent
+
+    pub new-remembered : (new : Places) (x : ℕ) → x ≡ hash_in key build hash c k
+        → new ≡ (let m = forgotten is found.machine in remembering_any (hash_in key build hash found) (out_of (goes_to_main (list_any is found.machine.history) found.machine) m) m (discarded is x found)) → new ≡ remembered_with key build hash k c
+    new-remembered new x same e =
+        e ∙ ap (λ (z : CacheState K V S). let m = forgotten is z.machine in remembering_any (hash_in key build hash z) (out_of (goes_to_main (list_any is z.machine.history) z.machine) m) m (discarded is x z)) kept
+        ∙ ap (λ y. let m = forgotten is c.machine in remembering_any (hash_in key build hash c) (out_of (goes_to_main (list_any is c.machine.history) c.machine) m) m (discarded is y c)) same ∙ ap has_place absent

@@ -1,0 +1,25 @@
+-- What a cache is once a key has its slot and the counts were brought to their bounds.
+use Rattle.std.specs.Prelude.{ℕ, ◌+◌}
+use Rattle.std.specs.declared.hash.Hasher as hasher
+use Rattle.std.specs.declared.hash.BuildHasher as builder
+use Rattle.std.specs.HashMap.Lent.{HashMembers}
+use Rattle.clock2q_cache.specs.Bounds.{inspections_for}
+use Rattle.clock2q_cache.specs.CacheState.{CacheState, Counts, cache_state}
+use Rattle.clock2q_cache.specs.Costs.{alike}
+use Rattle.clock2q_cache.specs.Places.{residents_with, remembered_with}
+use Rattle.clock2q_cache.specs.Steps.{put}
+
+module _ {K V S H : Type 0} (key : HashMembers K) (build : builder.Ghosts S H) (hash : hasher.Ghosts H) where
+  -- the most links that a call for a key's slot accesses, and keys that it asks about, added to what was counted
+  abbrev pub most_links : K → CacheState K V S → ℕ
+  most_links k c = c.counts.accesses + (inspections_for (key.eq k) c.machine + 80)
+
+  abbrev pub most_keys : K → CacheState K V S → ℕ
+  most_keys k c = c.counts.questions + alike key build hash k c
+
+  abbrev pub charged : K → CacheState K V S → Counts
+  charged k c = record { inspections = c.counts.inspections + inspections_for (key.eq k) c.machine; accesses = most_links k c; questions = most_keys k c }
+
+  -- the key has its slot with this value, and the counts are at their bounds
+  abbrev pub with_slot : K → V → CacheState K V S → CacheState K V S
+  with_slot k w c = cache_state (put (key.eq k) k w c.machine) (residents_with key build hash k c) (remembered_with key build hash k c) c.hasher (charged k c)
