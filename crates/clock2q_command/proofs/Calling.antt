@@ -8,7 +8,7 @@ use Rattle.std.specs.Str.{bytes_eq}
 use Rattle.std.specs.List.{join_with_byte}
 use Rattle.std.proofs.lemmas.List.Splits.{join_with_byte-slice_split}
 use Rattle.std.proofs.lemmas.Slice.Eq.{bytes_eq-Decides}
-use Rattle.clock2q_cache.specs.Calls.{Call, Put, Get, Peek, Contains, GetAt, Set, With, Try, Remove, Retain, Clear, Prefill, Len, IsEmpty, Capacity}
+use Rattle.clock2q_cache.specs.Calls.{Call, Put, Get, Peek, Contains, GetAt, Set, With, Try, SlotFor, Remove, Retain, Clear, Prefill, Len, IsEmpty, Capacity}
 use Rattle.clock2q_command.specs.Cut.{parts_after, words_after, number_first}
 use Rattle.clock2q_command.specs.Text.{words_of, number_of, tried_of, bit_of, some_read, with_one, with_two, numbers_call, list_call, lone_call, call_in}
 use Rattle.clock2q_command.proofs.Cutting.{parts_are_some}
@@ -130,6 +130,9 @@ module _ (name : List ℕ) (words : List (List ℕ)) where
   pub call-with : bytes_eq name (codes "with") ≡ true → SpellsTwo With name
   call-with e = subst (SpellsTwo With) (sym (same_word name (codes "with") e)) (with_two-mapped number_of With words)
 
+  pub call-slot : bytes_eq name (codes "slot") ≡ true → SpellsTwo SlotFor name
+  call-slot e = subst (SpellsTwo SlotFor) (sym (same_word name (codes "slot") e)) (with_two-mapped number_of SlotFor words)
+
   -- a number and a value, or the word `fail`
   abbrev SpellsTried : List ℕ → Type 0
   SpellsTried x = numbers_call x words ≡ option_map (λ (p : ℕ × Option ℕ). Try p.0 p.1) (with_two tried_of (λ n v. (n, v)) words)
@@ -195,7 +198,7 @@ all_none (false ∷ tests) = all_none tests
 
 -- no name spells numbers or a list alone
 numbers-alone : (name : List ℕ) → numbers_call name [] ≡ None
-numbers-alone name = all_none (bytes_eq name (codes "put") ∷ bytes_eq name (codes "get") ∷ bytes_eq name (codes "peek") ∷ bytes_eq name (codes "contains") ∷ bytes_eq name (codes "get_at") ∷ bytes_eq name (codes "set") ∷ bytes_eq name (codes "with") ∷ bytes_eq name (codes "try") ∷ bytes_eq name (codes "remove") ∷ [])
+numbers-alone name = all_none (bytes_eq name (codes "put") ∷ bytes_eq name (codes "get") ∷ bytes_eq name (codes "peek") ∷ bytes_eq name (codes "contains") ∷ bytes_eq name (codes "get_at") ∷ bytes_eq name (codes "set") ∷ bytes_eq name (codes "with") ∷ bytes_eq name (codes "try") ∷ bytes_eq name (codes "slot") ∷ bytes_eq name (codes "remove") ∷ [])
 
 list-alone : (name : List ℕ) → list_call name [] ≡ None
 list-alone name = all_none (bytes_eq name (codes "retain") ∷ bytes_eq name (codes "prefill") ∷ [])

@@ -1,12 +1,14 @@
 -- A key that is fetched with a value that stands in a command.
-use Rattle.std.proofs.Common.{◌≡◌, ℕ, Bool, Option, Some, None, Result, Err, OnErr, refl, sym, ap, ◌∙◌, subst}
+use Rattle.std.proofs.Common.{◌≡◌, ℕ, Bool, Option, Some, None, Result, Err, OnErr, length, inl, inr, refl, sym, ap, ◌∙◌, subst}
 use Rattle.std.specs.Prelude.{if◌then◌else◌, IfNone, is_some, slice_get}
 use Rattle.std.specs.Option.{UnwrapsOrElse, option_and_then}
+use Rattle.std.proofs.lemmas.Bool.{cases_lt, lt-ltb}
+use Rattle.std.proofs.lemmas.Option.{slice_get_past}
 use Rattle.clock2q_cache.specs.Bounds.{takes_victim, inspections_for, inspections_of}
 use Rattle.clock2q_cache.specs.Calls.{Try}
 use Rattle.clock2q_cache.specs.Entries.{inspections}
-use Rattle.clock2q_cache.specs.Machine.{Machine, slot_of, value_of, hit, inserted}
-use Rattle.clock2q_cache.specs.Steps.{fetched, fetched_value, tried, tried_value}
+use Rattle.clock2q_cache.specs.Machine.{Machine, slot_of, value_of, hit, inserted, reused, placement}
+use Rattle.clock2q_cache.specs.Steps.{fetched, fetched_value, tried, tried_value, slotted, slotted_at}
 use Rattle.clock2q_cache.proofs.Residents.{hit-absent}
 
 -- what holds at an error or at `None` holds where there is one
@@ -66,3 +68,25 @@ module _ {K V : Type 0} (eq : K → K → Bool) (key : K) (m : Machine K V) (mad
 
   pub looks-given : UnwrapsOrElse (value_of (eq key) m) made v → inspections_for (eq key) m ≡ inspections_of eq (Try key offered) m
   looks-given h = looks_tried (slot_of (eq key) m) refl h
+
+-- a key's slot is asked for with a value that stands in a command
+module _ {K V : Type 0} (is : K → Bool) (key : K) (m : Machine K V) (made : V → Type 0) (v : V) (value : V) (gives : (w : V) → made w → w ≡ value) where
+  is_slotted : (had : Option V) → UnwrapsOrElse had made v → v ≡ fetched_value had value
+  is_slotted None h = gives v h
+  is_slotted (Some had) h = h
+
+  becomes_reused : UnwrapsOrElse (slice_get m.values (placement is key m).slot) made v → reused is key v m ≡ reused is key value m
+  becomes_reused h =
+      let p = placement is key m in
+      elim (cases_lt p.slot (length m.values)) [
+        | inl there ↦ rw (lt-ltb p.slot (length m.values) there) refl
+        | inr next ↦ ap (λ w. reused is key w m) (gives v (subst (λ o. UnwrapsOrElse o made v) (slice_get_past m.values p.slot next) h))
+      ]
+
+  becomes_slotted : (o : Option ℕ) → slot_of is m ≡ o → UnwrapsOrElse (slice_get m.values (slotted_at o is key m)) made v → slotted is key v m ≡ slotted is key value m
+  becomes_slotted None e h = ap (λ o. if is_some o then hit is m else reused is key v m) e ∙ becomes_reused h ∙ sym (ap (λ o. if is_some o then hit is m else reused is key value m) e)
+  becomes_slotted (Some slot) e h = ap (λ o. if is_some o then hit is m else reused is key v m) e ∙ sym (ap (λ o. if is_some o then hit is m else reused is key value m) e)
+
+  -- the value is the slot's own, or the one given where the slot was made
+  pub slotted-given : (slot : ℕ) → slot ≡ slotted_at (slot_of is m) is key m → UnwrapsOrElse (slice_get m.values slot) made v → (v ≡ fetched_value (slice_get m.values slot) value) × (slotted is key v m ≡ slotted is key value m)
+  slotted-given slot at h = (is_slotted (slice_get m.values slot) h, becomes_slotted (slot_of is m) refl (subst (λ s. UnwrapsOrElse (slice_get m.values s) made v) at h))

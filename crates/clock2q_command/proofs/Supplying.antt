@@ -4,7 +4,7 @@ use Rattle.std.specs.Prelude.{codes, ⊤}
 use Rattle.std.specs.Option.{option_and_then, option_map, option_or}
 use Rattle.std.specs.Str.{bytes_eq}
 use Rattle.clock2q_cache.specs.Shares.{Shares}
-use Rattle.clock2q_cache.specs.Calls.{Call, Put, Get, Peek, Contains, GetAt, Set, With, Try, Remove, Retain, Clear, Prefill, Len, IsEmpty, Capacity}
+use Rattle.clock2q_cache.specs.Calls.{Call, Put, Get, Peek, Contains, GetAt, Set, With, Try, SlotFor, Remove, Retain, Clear, Prefill, Len, IsEmpty, Capacity}
 use Rattle.clock2q_command.specs.Commands.{IsSupplied, AreSupplied}
 use Rattle.clock2q_command.specs.Text.{Script, number_of, tried_of, bit_of, all_read, some_read, without, with_one, with_two, numbers_call, list_call, lone_call, call_named, call_in, words_of, lines_of, shares_in, calls_from, call_then, with_call, script_in, script_of, script_then, script_with}
 
@@ -58,7 +58,8 @@ numbers-supplied name words =
     (either (bytes_eq name (codes "set")) _ _ (two number_of Set (λ n m. tt) words)
     (either (bytes_eq name (codes "with")) _ _ (two number_of With (λ n m. tt) words)
     (either (bytes_eq name (codes "try")) _ _ (two tried_of Try (λ n o. tt) words)
-    (either (bytes_eq name (codes "remove")) _ None (one number_of Remove (λ n. tt) words) tt))))))))
+    (either (bytes_eq name (codes "slot")) _ _ (two number_of SlotFor (λ n m. tt) words)
+    (either (bytes_eq name (codes "remove")) _ None (one number_of Remove (λ n. tt) words) tt)))))))))
 
 list-supplied : (name : List ℕ) (words : List (List ℕ)) → Supplied (list_call name words)
 list-supplied name words =

@@ -4,7 +4,7 @@ use Rattle.std.specs.List.{list_all, list_any}
 use Rattle.std.specs.Fmt.{digits}
 use Rattle.clock2q_cache.specs.Shares.{usual_shares}
 use Rattle.clock2q_cache.specs.Policies.{shares_of}
-use Rattle.clock2q_cache.specs.Calls.{Call, Put, Get, GetAt, Set, With, Try, Remove, Retain, Clear, Prefill, Len, Value, Slot, Stored, Tried, Flag, Number, Done}
+use Rattle.clock2q_cache.specs.Calls.{Call, Put, Get, GetAt, Set, With, Try, SlotFor, Remove, Retain, Clear, Prefill, Len, Value, Slot, Stored, Tried, Flag, Number, Done}
 use Rattle.clock2q_command.specs.Text.{script_of, lines_of, words_of, number_of, call_in, shares_in, call_named, output_of, answer_lines}
 
 -- the lines of a text: the last may lack its end, and an empty one is a line
@@ -83,7 +83,7 @@ abbrev is_bad : List ℕ → Bool
 is_bad line = is_none (call_in (words_of line))
 
 -- one line of each command
-good_lines : list_any is_bad (codes "put 1 2" ∷ codes "get 1" ∷ codes "peek 1" ∷ codes "contains 1" ∷ codes "get_at 0 1" ∷ codes "set 1 2" ∷ codes "with 1 2" ∷ codes "try 1 2" ∷ codes "try 1 fail" ∷ codes "remove 1" ∷ codes "retain 01" ∷ codes "clear" ∷ codes "prefill 1 2" ∷ codes "len" ∷ codes "is_empty" ∷ codes "capacity" ∷ []) ≡ false
+good_lines : list_any is_bad (codes "put 1 2" ∷ codes "get 1" ∷ codes "peek 1" ∷ codes "contains 1" ∷ codes "get_at 0 1" ∷ codes "set 1 2" ∷ codes "with 1 2" ∷ codes "try 1 2" ∷ codes "try 1 fail" ∷ codes "slot 1 2" ∷ codes "remove 1" ∷ codes "retain 01" ∷ codes "clear" ∷ codes "prefill 1 2" ∷ codes "len" ∷ codes "is_empty" ∷ codes "capacity" ∷ []) ≡ false
 unfolding words_of number_of call_in
 good_lines = refl
 
@@ -132,7 +132,7 @@ unfolding script_of lines_of words_of number_of shares_in
 bad_shares = refl
 
 -- a line of each new command in a script
-every_command : script_of (codes "new 2\nget_at 1 2\nset 3 4\nwith 5 6\ntry 7 8\ntry 9 fail\nremove 12\nretain 01\nclear\nprefill 13 14") ≡ Ok (record { shares = usual_shares 2; calls = GetAt 1 2 ∷ Set 3 4 ∷ With 5 6 ∷ Try 7 (Some 8) ∷ Try 9 None ∷ Remove 12 ∷ Retain (false ∷ true ∷ []) ∷ Clear ∷ Prefill (13 ∷ 14 ∷ []) ∷ [] })
+every_command : script_of (codes "new 2\nget_at 1 2\nset 3 4\nwith 5 6\ntry 7 8\ntry 9 fail\nslot 10 11\nremove 12\nretain 01\nclear\nprefill 13 14") ≡ Ok (record { shares = usual_shares 2; calls = GetAt 1 2 ∷ Set 3 4 ∷ With 5 6 ∷ Try 7 (Some 8) ∷ Try 9 None ∷ SlotFor 10 11 ∷ Remove 12 ∷ Retain (false ∷ true ∷ []) ∷ Clear ∷ Prefill (13 ∷ 14 ∷ []) ∷ [] })
 unfolding script_of lines_of words_of number_of call_in shares_in
 every_command = refl
 

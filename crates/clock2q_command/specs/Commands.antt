@@ -4,7 +4,7 @@ use Rattle.std.specs.List.{AllByRecursion}
 use Rattle.clock2q_cache.specs.Calls as call
 use Rattle.clock2q_cache.specs.Calls.{Call, Answer}
 use Rattle.clock2q_command.specs.declared.commands.Command.{Command}
-use Rattle.clock2q_command.specs.declared.commands.Command.TheVariants.{Put, Get, Peek, Contains, GetAt, Set, With, Try, Remove, Retain, Clear, Prefill, Len, IsEmpty, Capacity}
+use Rattle.clock2q_command.specs.declared.commands.Command.TheVariants.{Put, Get, Peek, Contains, GetAt, Set, With, Try, Slot, Remove, Retain, Clear, Prefill, Len, IsEmpty, Capacity}
 use Rattle.clock2q_command.specs.declared.commands.Reply.{Reply}
 use Rattle.clock2q_command.specs.declared.commands.Reply.TheVariants as reply
 
@@ -18,6 +18,7 @@ module _ {K V A : Type 0} where
   call_of (Set key value) = call.Set key value
   call_of (With key value) = call.With key value
   call_of (Try key value) = call.Try key value
+  call_of (Slot key value) = call.SlotFor key value
   call_of (Remove key) = call.Remove key
   call_of (Retain bits) = call.Retain bits.items
   call_of Clear = call.Clear

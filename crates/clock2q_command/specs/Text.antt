@@ -6,7 +6,7 @@ use Rattle.std.specs.Str.{bytes_eq, all_ascii_digits}
 use Rattle.std.specs.Str.Parse.{digits_value}
 use Rattle.clock2q_cache.specs.Shares.{Shares, usual_shares}
 use Rattle.clock2q_cache.specs.Policies.{shares_of}
-use Rattle.clock2q_cache.specs.Calls.{Call, Answer, Put, Get, Peek, Contains, GetAt, Set, With, Try, Remove, Retain, Clear, Prefill, Len, IsEmpty, Capacity, Value, Stored, Tried, Slot, Flag, Number, Done}
+use Rattle.clock2q_cache.specs.Calls.{Call, Answer, Put, Get, Peek, Contains, GetAt, Set, With, Try, SlotFor, Remove, Retain, Clear, Prefill, Len, IsEmpty, Capacity, Value, Stored, Tried, Slot, Flag, Number, Done}
 
 -- the parts round the line ends, but nothing after the last line end is no line
 abbrev pub lines_of_parts : List (List ℕ) → List (List ℕ)
@@ -66,7 +66,7 @@ module _ {X : Type 0} where
 abbrev pub tried_of : List ℕ → Option (Option ℕ)
 tried_of word = if bytes_eq word (codes "fail") then Some None else option_map Some (number_of word)
 
--- the call that a name spells with one number or two; the program has no `slot` yet
+-- the call that a name spells with one number or two
 abbrev pub numbers_call : List ℕ → List (List ℕ) → Option (Call ℕ ℕ)
 numbers_call name arguments =
     if bytes_eq name (codes "put") then with_two number_of Put arguments
@@ -77,6 +77,7 @@ numbers_call name arguments =
     else if bytes_eq name (codes "set") then with_two number_of Set arguments
     else if bytes_eq name (codes "with") then with_two number_of With arguments
     else if bytes_eq name (codes "try") then with_two tried_of Try arguments
+    else if bytes_eq name (codes "slot") then with_two number_of SlotFor arguments
     else if bytes_eq name (codes "remove") then with_one number_of Remove arguments
     else None
 

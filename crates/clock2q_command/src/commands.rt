@@ -1,71 +1,86 @@
-//! Commands to a cache as data, their replies, and the run of a list of them.
-ghost use Rattle.std.specs.Prelude.{◌≡◌, ◌+◌, ◌<◌, IfOk, IfErr, OnOk, OnErr, true, drop, get_or, length, map};
+//! Commands to a cache as data, their replies, and the run of a list of commands.
+ghost use Rattle.std.specs.Prelude.{◌≡◌, ◌+◌, ◌<◌, IfOk, IfErr, OnOk, OnErr, true, drop, get_or, slice_get, length, map};
 ghost use Rattle.clock2q_command.specs.Commands.{call_of, answer_of, IsSupplied, AreSupplied};
 ghost use Rattle.clock2q_cache.specs.Bounds.{inspections_for, inspections_of, summed, IsRunBounded};
 ghost use Rattle.clock2q_cache.specs.Calls.{Try};
-ghost use Rattle.clock2q_cache.specs.Machine.{value_of};
-ghost use Rattle.clock2q_cache.specs.Steps.{answer, after, answers, after_all, replaced, fetched, fetched_value, tried, tried_value, retained, prefilled_with};
+ghost use Rattle.clock2q_cache.specs.Machine.{slot_of, value_of};
+ghost use Rattle.clock2q_cache.specs.Steps.{answer, after, answers, after_all, replaced, fetched, fetched_value, tried, tried_value, slotted, slotted_at, retained, prefilled_with};
 
 use clock2q_cache::{Cache, CacheError};
 use std::alloc::{Allocator, Global};
 use std::hash::{BuildHasher, Hash};
 
-/// A call of a [`Cache`](clock2q_cache::Cache) as a value, to be made by [`run`]. What a closure would
-/// return is part of it.
+/// A call of a [`Cache`](clock2q_cache::Cache) as a value, which [`run`] makes. Where the call
+/// takes a closure, the command has the values that the closure is to return.
+///
+/// ```rust
+/// let mut commands = Vec::new(rt.alloc());
+/// commands.push(Command::Put(1, 10))?;
+/// commands.push(Command::Get(1))?;
+/// ```
 #[derive(Debug, Drop, PartialEq)]
 pub enum Command<K, V, A: Allocator = Global> {
-    /// Stores a value for a key. Replied to with `Value`, with the value that it replaces.
+    /// Stores a value for a key. The reply is a `Value`: the value that it replaces.
     Put(K, V),
-    /// Asks for a key's value, and records the hit. Replied to with `Value`.
+    /// Asks for a key's value, and records a hit. The reply is a `Value`.
     Get(K),
-    /// Asks for a key's value, and changes nothing. Replied to with `Value`.
+    /// Asks for a key's value, and changes nothing. The reply is a `Value`.
     Peek(K),
-    /// Asks whether a key is resident. Replied to with `Flag`.
+    /// Asks whether a key is resident. The reply is a `Flag`.
     Contains(K),
-    /// Asks for the value of a key that is resident at this slot, and records the hit. Replied to
-    /// with `Value`.
+    /// Asks for the value of a key where it is resident at this slot, and records a hit. The reply
+    /// is a `Value`.
     GetAt(usize, K),
-    /// Replaces the value of a resident key, and records the hit. Replied to with `Value`, with the
-    /// value that it replaces; `None` where the key isn't resident, and nothing changes.
+    /// Replaces the value of a resident key, and records a hit. The reply is a `Value`: the value
+    /// that it replaces. Where the key isn't resident nothing changes.
     Set(K, V),
-    /// Asks for a key's value, and inserts the key with this one if it isn't resident. Replied to
-    /// with `Stored`.
+    /// Asks for a key's value, after the key was inserted with this one if it wasn't resident. The
+    /// reply is `Stored`.
     With(K, V),
-    /// Does the same with a value that may be missing, as after an error: then a key that isn't
-    /// resident is not inserted. Replied to with `Tried`.
+    /// Does the same with a value that may be missing, as after an error. Without a value no key is
+    /// inserted. The reply is `Tried`.
     Try(K, Option<V>),
-    /// Removes a key, or what is remembered of it. Replied to with `Flag`: whether it was resident.
+    /// Asks for a key's slot and the value there, after the key was inserted if it wasn't resident. A
+    /// new slot gets this value; another keeps its own. The reply is a `Slot`.
+    Slot(K, V),
+    /// Removes a resident key, or else the key from the history. The reply is a `Flag`: whether it
+    /// was resident.
     Remove(K),
-    /// Keeps the residents whose bit is true, by ascending slot, and those past the end of the list;
-    /// removes the others. Replied to with `Done`.
+    /// Removes each resident whose bit is false. The first bit is that of the resident with the
+    /// lowest slot, and so on; residents past the end of the list are kept. The reply is `Done`.
     Retain(Vec<bool, A>),
-    /// Removes every key and value, and what is remembered. Replied to with `Done`.
+    /// Removes every key with its value, and the history. The reply is `Done`.
     Clear,
-    /// Makes every slot that was never made, with these values in order; the last one repeats.
-    /// Replied to with `Done`. [`run`] asks that the list isn't empty.
+    /// Gives each slot that has no value yet one of these, in order; the last one repeats. The
+    /// reply is `Done`. [`run`] requires that the list isn't empty.
     Prefill(Vec<V, A>),
-    /// Asks how many keys are resident. Replied to with `Number`.
+    /// Asks how many keys are resident. The reply is a `Number`.
     Len,
-    /// Asks whether no key is. Replied to with `Flag`.
+    /// Asks whether no key is resident. The reply is a `Flag`.
     IsEmpty,
-    /// Asks how many keys the cache can hold. Replied to with `Number`.
+    /// Asks how many keys the cache can hold. The reply is a `Number`.
     Capacity,
 }
 
-/// The reply to a [`Command`], which tells which of these it is.
+/// The reply to a [`Command`]. The command tells which of these it is.
+///
+/// ```rust
+/// let replies = run(rt.alloc(), &mut cache, commands)?; // those of the example at `Command`
+/// assert_eq!(rt; replies.as_slice(), [Reply::Value(None), Reply::Value(Some(10))].as_slice());
+/// ```
 #[derive(Clone, Copy, Debug, PartialEq)]
 pub enum Reply<V> {
     /// The value asked for, or the one replaced; `None` where the key wasn't resident.
     Value(Option<V>),
     /// The value that the key has now.
     Stored(V),
-    /// The same; `None` where the key isn't resident and no value came.
+    /// The value that the key has now, or `None` where it isn't resident and no value was offered.
     Tried(Option<V>),
     /// The slot that the key has now, and the value there.
     Slot(usize, V),
-    /// Whether it is so.
+    /// Whether what was asked is so.
     Flag(bool),
-    /// How many keys.
+    /// A number of keys.
     Number(usize),
     /// The command was carried out.
     Done,
@@ -73,9 +88,14 @@ pub enum Reply<V> {
 
 /// Runs the commands in order, and returns one reply to each, in the same order.
 ///
-/// The list of replies is reserved first. Where that is refused the result is `Memory`, no
-/// command has run and the cache is as it was. Nothing else is allocated. An empty list of
-/// commands has an empty list of replies.
+/// # Errors
+///
+/// `Memory` where the list of replies can't be reserved. That is done first: no command has run,
+/// and the cache is as it was.
+///
+/// # Cost
+///
+/// One request for memory, and the cost of each call.
 pub fn run<K, V, S, A>(
     alloc: A,
     cache: &mut Cache<K, V, S, A>,
@@ -122,6 +142,10 @@ where
         Command::Set(key, value) => Reply::Value(set(cache, &key, value)),
         Command::With(key, value) => Reply::Stored(fetch(cache, key, value)),
         Command::Try(key, offered) => Reply::Tried(try_fetch(cache, key, offered)),
+        Command::Slot(key, value) => {
+            let (slot, found) = take_slot(cache, key, value);
+            Reply::Slot(slot, found)
+        }
         Command::Remove(key) => Reply::Flag(cache.remove(&key)),
         Command::Retain(bits) => {
             retain(cache, &bits);
@@ -141,7 +165,7 @@ where
     }
 }
 
-/// Replaces the value of a resident key, and returns the one before.
+/// Replaces the value of a resident key, and returns the value before.
 fn set<K, V, S, A>(cache: &mut Cache<K, V, S, A>, key: &K, value: V) -> Option<V>
 where
     K: Hash + Eq,
@@ -172,7 +196,7 @@ where
     *cache.get_or_insert_with(key, || value)
 }
 
-/// The same with a value that may be missing. Then a key that isn't resident is not inserted.
+/// Does the same with a value that may be missing. Without a value no key is inserted.
 fn try_fetch<K, V, S, A>(cache: &mut Cache<K, V, S, A>, key: K, offered: Option<V>) -> Option<V>
 where
     K: Hash + Eq + Drop,
@@ -189,7 +213,24 @@ where
     }
 }
 
-/// Keeps the residents whose bit is true, and those past the end of the bits.
+/// Returns the slot of a key and the value there, after the key was inserted if it wasn't resident. A
+/// new slot gets this value.
+fn take_slot<K, V, S, A>(cache: &mut Cache<K, V, S, A>, key: K, value: V) -> (usize, V)
+where
+    K: Hash + Eq + Drop,
+    V: Copy,
+    S: BuildHasher,
+    A: Allocator,
+    ensures slot { result.0 ≡ slotted_at (slot_of (K.eq key) cache.old.machine) (K.eq key) key cache.old.machine }
+    ensures value { result.1 ≡ fetched_value (slice_get cache.old.machine.values result.0) value }
+    ensures machine { cache.new.machine ≡ slotted (K.eq key) key value cache.old.machine }
+    ensures inspections { cache.new.counts.inspections ≡ cache.old.counts.inspections + inspections_for (K.eq key) cache.old.machine }
+{
+    let (slot, found) = cache.get_or_insert_mut(key, || value);
+    (slot, *found)
+}
+
+/// Removes each resident whose bit is false, and keeps those past the end of the bits.
 fn retain<K, V, S, A>(cache: &mut Cache<K, V, S, A>, bits: &[bool])
 where
     K: Hash + Eq,
@@ -215,7 +256,7 @@ where
     );
 }
 
-/// Makes the slots that were never made with these values, the last one again and again.
+/// Gives the slots that have no value yet these values, the last one again and again.
 fn prefill<K, V, S, A>(cache: &mut Cache<K, V, S, A>, values: &[V])
 where
     K: Hash + Eq + Default,

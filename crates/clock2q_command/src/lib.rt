@@ -1,9 +1,9 @@
-//! The calls of a cache and of a handle table as data: runners of lists of them, and of the command
-//! text that spells those of a cache.
+//! The calls of a cache and of a handle table as data, and as text.
 //!
-//! [`run`] makes the calls that a list of [`Command`]s stands for, and [`serve`] those that a text
-//! spells, from a [`Source`] to a [`Sink`]. A [`Device`] is both, over any reader or writer.
-//! [`run_table`] makes the calls of a table that a list of [`TableCommand`]s stands for.
+//! - [`run`] makes the calls of a cache that a list of [`Command`]s stands for.
+//! - [`serve`] makes those that a text spells, which it reads from a [`Source`], and writes the
+//!   text of the replies to a [`Sink`]. A [`Device`] over a reader or a writer is one.
+//! - [`run_table`] makes the calls of a table that a list of [`TableCommand`]s stands for.
 #![tactic(auto)]
 
 mod commands;

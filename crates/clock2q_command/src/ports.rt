@@ -8,12 +8,12 @@ use std::io::{Read, Write};
 use std::marker::Model;
 use thiserror::Error;
 
-/// A call of a port returned an error. What was moved before stays moved.
+/// The failure of a source or a sink. What was moved before it stays moved.
 #[derive(Debug, Clone, Copy, PartialEq, Eq, Error)]
 #[error("device failed")]
 pub struct Failed;
 
-/// Where bytes come from.
+/// A place that bytes come from, as a file that is read. A [`Device`] is one.
 pub trait Source {
     // The bytes that are still to come, where they are known.
     ghost remaining: { Self → Option (List ℕ) };
@@ -21,8 +21,12 @@ pub trait Source {
     // What it has given.
     ghost given: { Self → Passed };
 
-    /// Moves bytes to the front of `into`, which isn't empty, and says how many: at most its
-    /// length. 0 says that none is left. A call that fails has moved none.
+    /// Moves bytes to the front of `into`, which isn't empty, and returns how many: at most its
+    /// length, and 0 where none is left.
+    ///
+    /// # Errors
+    ///
+    /// `Failed` where the bytes can't be had. None was moved then.
     fn read(&mut self, into: &mut [u8]) -> Result<usize, Failed>
         requires space { 0 < length into.old }
         ensures bound { IfOk result (λ n. n ≤ length into.new) }
@@ -30,7 +34,7 @@ pub trait Source {
         ensures given { given self.new ≡ after_read (given self.old) result into.new };
 }
 
-/// Where bytes go.
+/// A place that bytes go to, as a file that is written. A [`Device`] is one.
 pub trait Sink {
     // The bytes that it holds, where they are known.
     ghost contents: { Self → Option (List ℕ) };
@@ -38,14 +42,22 @@ pub trait Sink {
     // What it has taken.
     ghost taken: { Self → Passed };
 
-    /// Takes bytes from the front of `from`, and says how many: at most its length. 0 of a text
-    /// that isn't empty counts as a failure. A call that fails has taken none.
+    /// Takes bytes from the front of `from`, and returns how many: at most its length. Where `from`
+    /// isn't empty, 0 counts as a failure.
+    ///
+    /// # Errors
+    ///
+    /// `Failed` where no byte can be taken.
     fn write(&mut self, from: &[u8]) -> Result<usize, Failed>
         ensures bound { IfOk result (λ n. n ≤ length from.now) }
         ensures bytes { WriteAppends (contents self.old) (contents self.new) result from.now }
         ensures taken { taken self.new ≡ after_write (taken self.old) result from.now };
 
-    /// Sends on what it has taken. After a failure some of it may have gone.
+    /// Sends on what was taken.
+    ///
+    /// # Errors
+    ///
+    /// `Failed` where not all of it could be sent on.
     fn flush(&mut self) -> Result<(), Failed>
         ensures bytes { Keeps (contents self.old) (contents self.new) }
         ensures taken { taken self.new ≡ after_flush (taken self.old) result };
@@ -53,8 +65,16 @@ pub trait Sink {
 
 /// A source over a reader, or a sink over a writer.
 ///
-/// Each call makes one call of what it wraps, and each error of that, of any kind, is a failure:
-/// an interrupted call is not made again. What the device counts takes no memory.
+/// Each call makes one call of the reader or writer, and each error of it is a failure: an
+/// interrupted call is not made again. What the device counts is seen by contracts alone, and takes
+/// no memory.
+///
+/// ```rust
+/// let mut input = Device::new(b"new 2\nlen\n".as_slice());
+/// let mut output = Device::new(Vec::new(rt.alloc()));
+/// serve(rt.alloc(), &mut input, &mut output)?;
+/// assert_eq!(rt; output.into_inner().as_slice(), b"ok\n0\n".as_slice());
+/// ```
 #[derive(Drop)]
 pub struct Device<T> {
     inner: T,
@@ -70,7 +90,7 @@ impl<T> Model for Device<T> {
 }
 
 impl<T> Device<T> {
-    /// A device over `inner`, through which nothing has gone yet.
+    /// Makes a device over `inner`, through which nothing has gone yet.
     pub fn new(inner: T) -> Self
         ensures inner { result.inner ≡ inner }
         ensures passed { result.passed ≡ nothing_passed }
@@ -81,7 +101,7 @@ impl<T> Device<T> {
         }
     }
 
-    /// What the device wraps, as the calls have left it.
+    /// Returns the reader or writer, as the calls have left it.
     pub fn into_inner(self) -> T
         ensures inner { result ≡ self.inner }
     {

@@ -49,7 +49,8 @@ fn push_reply<A: Allocator>(text: &mut Vec<u8, A>, reply: Reply<u64>) -> Result<
     }
 }
 
-/// `ok` for the cache that was made, and a line for each reply. It takes time in proportion to the text.
+/// Returns the text of replies: `ok` for the cache that was made, and a line for each reply. It
+/// takes time in proportion to the text.
 pub(super) fn reply_text<A: Allocator>(
     alloc: A,
     replies: &[Reply<u64>],

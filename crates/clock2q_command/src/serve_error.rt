@@ -1,29 +1,36 @@
-//! What `serve` refuses.
+//! What `serve` can refuse.
 ghost use Rattle.std.specs.Prelude.{◌≡◌};
 
 use clock2q_cache::CacheError;
 use std::alloc::AllocError;
 use thiserror::Error;
 
-/// Why [`serve`](crate::serve) gave no reply, or not all of them.
+/// The reason why [`serve`](crate::serve) wrote no reply, or not all of them.
+///
+/// ```rust
+/// let mut input = Device::new(b"new 2\nput 1\n".as_slice());
+/// let mut output = Device::new(Vec::new(rt.alloc()));
+/// let refused = serve(rt.alloc(), &mut input, &mut output);
+/// assert_eq!(rt; refused.err(), Some(ServeError::BadLine(2)));
+/// ```
 #[derive(Debug, Clone, Copy, PartialEq, Eq, Error)]
 pub enum ServeError {
-    /// The line of this number, counted from 1, is the first that isn't a command in its place.
-    /// In an input without lines it is line 1.
+    /// The first line that isn't a command in its place has this number, counted from 1. In an
+    /// empty input it is line 1.
     #[error("line {0}: bad command")]
     BadLine(usize),
-    /// A request for memory was refused, at whatever step.
+    /// A request for memory was refused, at some step.
     #[error("no memory")]
     Memory,
     /// All lines are good, and the capacity is above
     /// [`MAX_CAPACITY`](clock2q_cache::MAX_CAPACITY).
     #[error("capacity refused")]
     Capacity,
-    /// All lines are good, the capacity is within its limit, and the shares that the first line
-    /// chooses can't be had together.
+    /// All lines are good, the capacity is within its limit, and the shares in the first line don't
+    /// fit together.
     #[error("policy refused")]
     Policy,
-    /// The source failed, before its end was reached.
+    /// The source failed before its end.
     #[error("read failed")]
     Read,
     /// The sink failed. A beginning of the replies, or all of them, may have been written.
@@ -34,8 +41,9 @@ pub enum ServeError {
 impl ServeError {
     ghost use Rattle.clock2q_command.specs.ServeError.{status_of};
 
-    /// The status with which the program ends: 2 for a bad line, 3 where the cache can't be had,
-    /// 4 where a device failed, 5 where its shares can't be had together.
+    /// Returns the status with which the program ends: 2 at a bad line, 3 where there is no memory
+    /// or the capacity is too large, 4 where a device failed, 5 where the shares don't fit
+    /// together.
     pub fn status(&self) -> u8
         ensures status { result ≡ status_of self.now }
     {

@@ -77,16 +77,27 @@ fn send<W: Sink>(writer: &mut W, text: &[u8]) -> Result<(), ServeError>
 
 /// Reads a command text to its end, runs its commands on a new cache, and writes the replies.
 ///
-/// The first of these that applies is returned: `Read` where a read fails; `BadLine` where a line
-/// is no command in its place; `Capacity` where the cache would be too large; `Policy` where its
-/// shares can't be had together; `Write` where a write or the flush fails. `Memory` comes at whatever step a request for memory is refused: while the
-/// input is read, or where none of its first two lines is bad. All lines are read before the cache
-/// is made, and the whole reply text is made before any of it is written, so a refusal other than
-/// `Write` has written nothing. `Write` may come after a beginning of the text. No failed read,
-/// write or flush is tried again.
+/// All lines are read before the cache is made, and the text of all replies is made before any of
+/// it is written. No failed read, write or flush is tried again.
 ///
-/// The memory that it takes at a time is in proportion to the input, the capacity and the replies.
-/// Reading, parsing and writing take time in proportion to the text.
+/// # Errors
+///
+/// The first of these that applies:
+///
+/// 1. `Read` where a read fails;
+/// 2. `BadLine` where a line isn't a command in its place;
+/// 3. `Capacity` where the cache would be too large;
+/// 4. `Policy` where its shares don't fit together;
+/// 5. `Write` where a write or the flush fails.
+///
+/// `Memory` comes where a request for memory is refused: while the input is read, or later if its
+/// first two lines are good. After `Write` a beginning of the text may be written, and nothing
+/// after the others.
+///
+/// # Cost
+///
+/// Memory in proportion to the input, the capacity and the replies. Reading, parsing and writing
+/// take time in proportion to the text.
 pub fn serve<R: Source, W: Sink, A: Allocator>(
     alloc: A,
     reader: &mut R,

@@ -6,8 +6,8 @@ use std::process::ExitCode;
 
 /// Serves standard input to standard output, and returns the program's status.
 ///
-/// A refusal is told in one line on standard error, and its status is that of
-/// [`ServeError::status`](crate::ServeError::status).
+/// A refusal is a line on standard error, and a status that is not 0
+/// ([`ServeError::status`](crate::ServeError::status)).
 pub fn serve_standard(rt: HostRuntime) -> ExitCode {
     let mut reader = Device::new(rt.stdin());
     let mut writer = Device::new(rt.stdout());

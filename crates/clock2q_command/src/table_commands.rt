@@ -1,4 +1,4 @@
-//! Commands to a handle table as data, their replies, and the run of a list of them.
+//! Commands to a handle table as data, their replies, and the run of a list of commands.
 ghost use Rattle.std.specs.Prelude.{◌≡◌, ℕ, Bool, IfOk, IfErr, OnErr};
 ghost use Rattle.clock2q_handles.specs.Changes.{IsLaidOut};
 ghost use Rattle.clock2q_command.specs.TableCommands.{IsHashing, told, told_found, Inserts, Finds, Reserves, Gets, IsReplied, AreReplied};
@@ -6,47 +6,55 @@ ghost use Rattle.clock2q_command.specs.TableCommands.{IsHashing, told, told_foun
 use clock2q_handles::{Table, TableError};
 use std::alloc::Allocator;
 
-/// A call of a [`Table`](clock2q_handles::Table) as a value, to be made by [`run_table`]. `L` is a
+/// A call of a [`Table`](clock2q_handles::Table) as a value, which [`run_table`] makes. `L` is a
 /// list of handles.
+///
+/// ```rust
+/// let commands = [TableCommand::Insert(7), TableCommand::Remove(7, 8)];
+/// let replies = run_table(rt.alloc(), &mut table, |handle| handle, &commands)?;
+/// assert_eq!(rt; replies.as_slice(), [TableReply::Done, TableReply::Removed(false)].as_slice());
+/// ```
 #[derive(Debug, Drop, PartialEq)]
 pub enum TableCommand<H, L = Vec<H>> {
-    /// Inserts a handle under its hash. Replied to with `Done`.
+    /// Inserts a handle under its hash. The reply is `Done`.
     Insert(H),
-    /// Removes the first handle under this hash that equals this one. Replied to with `Removed`.
+    /// Removes the first handle under this hash that equals this one. The reply is `Removed`.
     Remove(u64, H),
-    /// Finds the first handle under the hash of this one that is in the list, or inserts this one.
-    /// Replied to with `Found`.
+    /// Finds the first handle of the list that stands under the hash of this one, or else inserts
+    /// this one. The reply is `Found`.
     Find(H, L),
-    /// Makes room for so many entries more. Replied to with `Done`.
+    /// Makes room for so many more entries. The reply is `Done`.
     Reserve(usize),
-    /// Looks a hash up. Replied to with `Handles`.
+    /// Looks up a hash. The reply is `Handles`.
     Get(u64),
 }
 
-/// The reply to a [`TableCommand`]. `L` is a list of handles.
+/// The reply to a [`TableCommand`], which tells which of these it is. `L` is a list of handles. The
+/// example at [`TableCommand`] has two.
 #[derive(Debug, Drop, PartialEq)]
 pub enum TableReply<H, L = Vec<H>> {
-    /// The handle was inserted, or the room made.
+    /// The handle was inserted, or the room was made.
     Done,
-    /// Whether there was such a handle.
+    /// Whether a handle was removed.
     Removed(bool),
-    /// The handle that was found, and false; or the one that was inserted, and true.
+    /// The handle that was found and false, or the handle that was inserted and true.
     Found(H, bool),
     /// The handles under the hash.
     Handles(L),
-    /// The command was refused.
+    /// The command was refused, for this reason.
     Refused(TableError),
 }
 
 /// Runs the commands in order, and returns one reply to each, in the same order.
 ///
-/// The reply to a command that is refused is `Refused`, and the run goes on with the table as that
-/// refusal leaves it. The hash of a handle is what `hash_of` returns for it.
+/// `hash_of` returns the hash of a handle. A command that is refused has the reply `Refused`, and
+/// the run goes on with the table as the refusal leaves it.
 ///
 /// # Errors
 ///
-/// `Memory` where the list of replies can't be reserved, which is done first: no command has run,
-/// and the table is unchanged. A look-up whose list finds no memory is a command that is refused.
+/// `Memory` where the list of replies can't be reserved. That is done first: no command has run,
+/// and the table is unchanged. Where there is no memory for the list of a look-up, that command
+/// alone is refused.
 pub fn run_table<H, A, F>(
     alloc: A,
     table: &mut Table<H, A>,
@@ -163,7 +171,7 @@ where
     ))
 }
 
-/// Makes room for so many entries more.
+/// Makes room for so many more entries.
 fn reserve<H, A, F>(
     table: &mut Table<H, A>,
     hash_of: &F,

@@ -1,4 +1,4 @@
-//! The command text: from bytes to commands.
+//! The parser of the command text: from bytes to commands.
 ghost use Rattle.std.specs.Prelude.{◌≡◌, ◌+◌, ◌^◌, ◌<◌, length, map, IfSome};
 ghost use Rattle.std.specs.Option.{option_map};
 ghost use Rattle.clock2q_command.specs.Commands.{call_of};
@@ -17,14 +17,14 @@ use std::alloc::Allocator;
 use std::num::NonZeroUsize;
 use words::{cut, number, two_numbers};
 
-/// How the first line shares a capacity out, where it says more than the capacity.
+/// The shares that a first line chooses, where it has more than the capacity.
 #[derive(Clone, Copy)]
 pub(super) struct ChosenShares {
     pub(super) small: usize,
     pub(super) window: usize,
 }
 
-/// What a text asks for: a cache of this capacity with these shares, and these commands to it.
+/// A parsed text: the capacity of a cache, its shares, and the commands to it.
 #[derive(Drop)]
 pub(super) struct Script<A: Allocator> {
     pub(super) capacity: NonZeroUsize,
@@ -32,7 +32,8 @@ pub(super) struct Script<A: Allocator> {
     pub(super) commands: Vec<Command<u64, u64, A>, A>,
 }
 
-/// The script that a text spells, or its first bad line. It takes time in proportion to the text.
+/// Returns the script that a text spells, or its first bad line. It takes time in proportion to the
+/// text.
 pub(super) fn parse<A: Allocator + Copy>(alloc: A, text: &[u8]) -> Result<Script<A>, ServeError>
     ensures { Parses (λ s. script_value (shares_value s.capacity s.chosen) s.commands.items) result (script_of text.now) }
 {
@@ -46,7 +47,7 @@ pub(super) fn parse<A: Allocator + Copy>(alloc: A, text: &[u8]) -> Result<Script
     })
 }
 
-// The first line, and what stands after its end.
+// Returns the first line, and the text after its end.
 fn cut_line(text: &[u8]) -> Option<(&[u8], &[u8])>
     ensures lines { lines_of text.now ≡ first_and_others result }
     ensures shorter { IfSome result (λ found. length found.1.now < length text.now) }
@@ -58,7 +59,7 @@ fn cut_line(text: &[u8]) -> Option<(&[u8], &[u8])>
     Some((line, rest.unwrap_or(&[])))
 }
 
-// The capacity that the first line spells, and how it is shared out where the line says so.
+// Returns the capacity in the first line, and the shares if the line has them.
 fn shares_of(line: &[u8]) -> Option<(NonZeroUsize, Option<ChosenShares>)>
     ensures { option_map (λ shares. shares_value shares.0 shares.1) result ≡ shares_in (words_of line.now) }
 {
@@ -79,7 +80,7 @@ fn shares_of(line: &[u8]) -> Option<(NonZeroUsize, Option<ChosenShares>)>
     Some((capacity, Some(chosen)))
 }
 
-// The commands that lines spell, of which the first is line 2.
+// Returns the commands of the lines from line 2 on.
 fn commands_of<A: Allocator + Copy>(
     alloc: A,
     text: &[u8],

@@ -1,4 +1,4 @@
-//! What has gone through a device, as contracts see it.
+//! A record of what has gone through a device, which contracts alone see.
 ghost use Rattle.std.specs.Prelude.{◌≡◌};
 ghost use Rattle.clock2q_command.specs.Ports.{Passed, nothing_passed, passed_by};
 
@@ -14,14 +14,14 @@ pub(super) struct Turn<'a> {
 }
 
 impl Turn<'_> {
-    // It answered an error.
+    // It returned an error.
     pub(super) const FAILED: Turn<'static> = Turn {
         bytes: &[],
         stopped: false,
         failed: true,
     };
 
-    // It moved nothing, and came to a stop.
+    // It moved no bytes, and came to a stop.
     pub(super) const STOPPED: Turn<'static> = Turn {
         bytes: &[],
         stopped: true,

@@ -1,4 +1,4 @@
-//! Reading a source to its end, and writing a text to a sink.
+//! Reading of a whole source, and writing of a whole text to a sink.
 ghost use Rattle.std.specs.Prelude.{OnOk, IfOk};
 ghost use Rattle.std.specs.Io.KnownBytes.{Consumes, IsAtEnd};
 ghost use Rattle.clock2q_command.specs.Transfer.{ReadsAll, WritesAll};
@@ -7,10 +7,10 @@ use crate::ports::{Sink, Source};
 use crate::serve_error::ServeError;
 use std::alloc::Allocator;
 
-// How many bytes are asked for at a time.
+// The number of bytes that are asked for at a time.
 const BLOCK: usize = 65536;
 
-/// All that a source has left. No failed read is tried again.
+/// Returns all that a source has left. No failed read is tried again.
 pub(super) fn read_all<R: Source, A: Allocator>(
     alloc: A,
     reader: &mut R,
@@ -32,7 +32,7 @@ pub(super) fn read_all<R: Source, A: Allocator>(
     }
 }
 
-/// Writes a whole text. No failed write is tried again.
+/// Writes a whole text to a sink. No failed write is tried again.
 pub(super) fn write_all<W: Sink>(writer: &mut W, text: &[u8]) -> Result<(), ServeError>
     ensures { WritesAll (W.taken writer.old) (W.taken writer.new)
         (W.contents writer.old) (W.contents writer.new) text.now result }

@@ -1,4 +1,5 @@
-//! The lists that a line spells. A list that finds no memory is read on, so that a bad word is still seen.
+//! The lists in a line. Where there is no memory for a list, the line is still read to its end, so
+//! that a bad word in it is seen.
 ghost use Rattle.std.specs.Prelude.{◌≡◌};
 ghost use Rattle.clock2q_command.specs.Text.{words_of, number_of, bit_of, some_read, with_one};
 ghost use Rattle.clock2q_command.specs.Parsing.{Spells};
@@ -6,7 +7,7 @@ ghost use Rattle.clock2q_command.specs.Parsing.{Spells};
 use crate::text::words::number;
 use std::alloc::{AllocError, Allocator};
 
-// The bit that a byte writes.
+// Returns the bit that a byte stands for.
 fn bit_of(byte: u8) -> Option<bool>
     ensures { result ≡ bit_of byte }
 {
@@ -17,7 +18,7 @@ fn bit_of(byte: u8) -> Option<bool>
     }
 }
 
-/// The bits that the one word writes.
+/// Returns the bits of the only word.
 pub(super) fn bits<A: Allocator>(alloc: A, words: &[u8]) -> Option<Result<Vec<bool, A>, AllocError>>
     ensures { Spells (λ v. v.items) result (with_one (some_read bit_of) (λ bits. bits) (words_of words.now)) }
 {
@@ -36,7 +37,7 @@ pub(super) fn bits<A: Allocator>(alloc: A, words: &[u8]) -> Option<Result<Vec<bo
     Some(Ok(bits))
 }
 
-/// The numbers that the words write.
+/// Returns the numbers that the words stand for.
 pub(super) fn numbers<A: Allocator>(
     alloc: A,
     words: &[u8],

@@ -1,4 +1,4 @@
-//! Which command a line spells.
+//! The command of a line, by its name.
 ghost use Rattle.std.specs.Prelude.{◌≡◌, []};
 ghost use Rattle.std.specs.Option.{option_map};
 ghost use Rattle.clock2q_command.specs.Commands.{call_of};
@@ -10,7 +10,7 @@ use crate::text::lists::{bits, numbers};
 use crate::text::words::{cut, number_or_fail, one_number, two_numbers};
 use std::alloc::{AllocError, Allocator};
 
-/// The command that a line spells, or an error where there is no memory for its list.
+/// Returns the command of a line, or an error where there is no memory for its list.
 pub(super) fn command_of<A: Allocator>(
     alloc: A,
     line: &[u8],
@@ -27,7 +27,7 @@ pub(super) fn command_of<A: Allocator>(
     }
 }
 
-// The command that a name spells alone.
+// Returns the command of a name that stands alone.
 fn named_alone<A: Allocator>(name: &[u8]) -> Option<Command<u64, u64, A>>
     ensures { option_map call_of result ≡ lone_call name.now [] }
 {
@@ -44,7 +44,7 @@ fn named_alone<A: Allocator>(name: &[u8]) -> Option<Command<u64, u64, A>>
     }
 }
 
-// The command that a name spells with one number or two.
+// Returns the command of a name with one number or two.
 fn named_with_numbers<A: Allocator>(name: &[u8], words: &[u8]) -> Option<Command<u64, u64, A>>
     ensures { option_map call_of result ≡ numbers_call name.now (words_of words.now) }
 {
@@ -64,6 +64,8 @@ fn named_with_numbers<A: Allocator>(name: &[u8], words: &[u8]) -> Option<Command
         two_numbers(words).map(|(key, value)| Command::With(key, value))
     } else if name == b"try".as_slice() {
         number_or_fail(words).map(|(key, value)| Command::Try(key, value))
+    } else if name == b"slot".as_slice() {
+        two_numbers(words).map(|(key, value)| Command::Slot(key, value))
     } else if name == b"remove".as_slice() {
         one_number(words).map(|key| Command::Remove(key))
     } else {
@@ -71,7 +73,7 @@ fn named_with_numbers<A: Allocator>(name: &[u8], words: &[u8]) -> Option<Command
     }
 }
 
-// The command that a name spells with a list.
+// Returns the command of a name with a list.
 fn named_with_list<A: Allocator>(
     alloc: A,
     name: &[u8],

@@ -1,18 +1,18 @@
-//! The words of a line, and the numbers that they write.
+//! The words of a line, and the numbers that they stand for.
 ghost use Rattle.std.specs.Prelude.{◌≡◌, ◌∷◌, ◌==◌, ◌<◌, length, IfSome};
 ghost use Rattle.std.specs.List.{position, slice_split};
 ghost use Rattle.std.specs.Option.{option_map};
 ghost use Rattle.clock2q_command.specs.Text.{words_of, number_of, tried_of, with_one, with_two};
 ghost use Rattle.clock2q_command.specs.Cut.{parts_after, words_after, number_first};
 
-// Where the first separator stands.
+// Returns the place of the first separator.
 fn place(bytes: &[u8], separator: u8) -> Option<usize>
     ensures { result ≡ position (λ b. b == separator) bytes.now }
 {
     bytes.iter().position(|byte| *byte == separator)
 }
 
-/// What stands before the first separator, and what stands after it, if there is one.
+/// Returns the bytes before the first separator, and those after it if there is one.
 pub(super) fn cut(bytes: &[u8], separator: u8) -> (&[u8], Option<&[u8]>)
     ensures parts { slice_split (λ b. b == separator) bytes.now
         ≡ result.0.now ∷ parts_after separator result.1 }
@@ -27,8 +27,8 @@ pub(super) fn cut(bytes: &[u8], separator: u8) -> (&[u8], Option<&[u8]>)
     }
 }
 
-/// The number that the first word writes, and what stands after the space behind it, if there is
-/// one. A sign is no part of a number.
+/// Returns the number that the first word stands for, and the text after the space that ends it, if
+/// there is one. A number has no sign.
 pub(super) fn number(words: &[u8]) -> Option<(u64, Option<&[u8]>)>
     ensures first { option_map (λ read. (read.0, words_after read.1)) result ≡ number_first (words_of words.now) }
     ensures shorter { IfSome result (λ read. IfSome read.1 (λ rest. length rest.now < length words.now)) }
@@ -46,7 +46,7 @@ pub(super) fn number(words: &[u8]) -> Option<(u64, Option<&[u8]>)>
     (!words.is_empty()).then_some((value, None))
 }
 
-/// The number that the one word writes.
+/// Returns the number that the only word stands for.
 pub(super) fn one_number(words: &[u8]) -> Option<u64>
     ensures { result ≡ with_one number_of (λ n. n) (words_of words.now) }
 {
@@ -56,7 +56,7 @@ pub(super) fn one_number(words: &[u8]) -> Option<u64>
     }
 }
 
-/// The numbers that the two words write.
+/// Returns the numbers that the two words stand for.
 pub(super) fn two_numbers(words: &[u8]) -> Option<(u64, u64)>
     ensures { result ≡ with_two number_of (λ n m. (n, m)) (words_of words.now) }
 {
@@ -65,7 +65,8 @@ pub(super) fn two_numbers(words: &[u8]) -> Option<(u64, u64)>
     Some((first, second))
 }
 
-/// The number that the first of two words writes, and that of the second; none at the word `fail`.
+/// Returns the number that the first of two words stands for, and that of the second, or `None` in
+/// its place if the second word is `fail`.
 pub(super) fn number_or_fail(words: &[u8]) -> Option<(u64, Option<u64>)>
     ensures { result ≡ with_two tried_of (λ n v. (n, v)) (words_of words.now) }
 {

@@ -1,5 +1,5 @@
 use Rattle.std.proofs.Common.{rules}
-use Rattle.clock2q_command.proofs.Calling.{call-put, call-get, call-peek, call-contains, call-get_at, call-set, call-with, call-try, call-remove}
+use Rattle.clock2q_command.proofs.Calling.{call-put, call-get, call-peek, call-contains, call-get_at, call-set, call-with, call-try, call-slot, call-remove}
 use Rattle.clock2q_command.proofs.text.names.named_with_numbers.Goals as goal
 
 pub returns-then-eq : goal.returns-then-eq
@@ -27,4 +27,7 @@ pub returns-then-eq-8 : goal.returns-then-eq-8
 returns-then-eq-8 g c = search (rules, call-try)
 
 pub returns-then-eq-9 : goal.returns-then-eq-9
-returns-then-eq-9 g c = search (rules, call-remove)
+returns-then-eq-9 g c = search (rules, call-slot)
+
+pub returns-then-eq-10 : goal.returns-then-eq-10
+returns-then-eq-10 g c = search (rules, call-remove)
