@@ -1,7 +1,7 @@
-//! Tests of caches, and of runs of commands, whose requests for memory are refused.
+//! Tests of caches and memos whose requests for memory are refused.
 #![tactic(auto)]
 
 #[cfg(test)]
-mod caches;
+mod constructions;
 #[cfg(test)]
-mod table_runs;
+mod no_requests;

@@ -25,7 +25,7 @@ Counter = RQ.the_row
 
 -- what a clause sees of the counts: nothing
 abbrev pub counts : Requests
-counts = record { made = record { value = tt }; refused_from = record { value = tt }; taken = record { value = tt }; given_back = record { value = tt } }
+counts = record { made = record { value = tt }; refused = record { value = tt }; taken = record { value = tt }; given_back = record { value = tt } }
 
 module _ {M : Type 1} {𝓤 : Ura M} (𝓛 : Logic 𝓤) (at_mem : Memory → SProp 𝓤) (run : Routine → Fun 𝓤) where
   abbrev pub Refuses : Contract 𝓤

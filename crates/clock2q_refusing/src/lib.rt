@@ -2,5 +2,7 @@
 #![tactic(auto)]
 
 mod refusing;
+mod trying;
 
 pub use refusing::Refusing;
+pub use trying::{Tried, try_in_turn};

@@ -4,12 +4,19 @@
 use std::alloc::{AllocError, Allocator};
 use std::cell::Cell;
 
-// How many requests were made, the number of the first that is refused, if any is, and how many
-// bytes were granted and given back.
+// The numbers of the first and the last request that are refused. The first one made is number 1.
+#[derive(Clone, Copy)]
+struct Refused {
+    first: u64,
+    last: u64,
+}
+
+// How many requests were made, which are refused, if any is, and how many bytes were granted and
+// given back.
 #[derive(Drop)]
 struct Requests {
     made: Cell<u64>,
-    refused_from: Cell<Option<u64>>,
+    refused: Cell<Option<Refused>>,
     taken: Cell<u64>,
     given_back: Cell<u64>,
 }
@@ -18,7 +25,7 @@ impl Requests {
     fn new() -> Requests {
         Requests {
             made: Cell::new(0),
-            refused_from: Cell::new(None),
+            refused: Cell::new(None),
             taken: Cell::new(0),
             given_back: Cell::new(0),
         }
@@ -28,11 +35,13 @@ impl Requests {
     fn refuses(&self, size: usize) -> bool {
         let made = self.made.get().saturating_add(1);
         self.made.set(made);
-        let refused = self.refused_from.get().is_some_and(|first| made >= first);
-        if !refused {
+        let refused = self.refused.get();
+        let is_refused = refused.is_some_and(|refused| refused.first <= made
+            && made <= refused.last);
+        if !is_refused {
             add(&self.taken, size);
         }
-        refused
+        is_refused
     }
 
     // Counts `size` bytes that are given back.
@@ -77,13 +86,27 @@ impl<A: Allocator> Refusing<A> {
 
     /// Grants so many requests more, and refuses every later one.
     pub fn refuse_after(&self, granted: u64) {
-        let first = self.requests().saturating_add(granted).saturating_add(1);
-        self.requests.refused_from.set(Some(first));
+        self.refuse(granted, u64::MAX);
+    }
+
+    /// Grants so many requests more, refuses the next one, and grants every later one.
+    pub fn refuse_one_after(&self, granted: u64) {
+        self.refuse(granted, 0);
+    }
+
+    // Grants so many requests more, refuses the next one and so many after it, and returns the
+    // number of the last that is granted before them.
+    pub(crate) fn refuse(&self, granted: u64, further: u64) -> u64 {
+        let before = self.requests().saturating_add(granted);
+        let first = before.saturating_add(1);
+        let last = first.saturating_add(further);
+        self.requests.refused.set(Some(Refused { first, last }));
+        before
     }
 
     /// Grants every request from here on.
     pub fn grant(&self) {
-        self.requests.refused_from.set(None);
+        self.requests.refused.set(None);
     }
 }
 

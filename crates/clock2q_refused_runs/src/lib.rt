@@ -1,0 +1,9 @@
+//! Tests of runs of commands whose requests for memory are refused.
+#![tactic(auto)]
+
+#[cfg(test)]
+mod runs;
+#[cfg(test)]
+mod table_runs;
+#[cfg(test)]
+mod texts;
