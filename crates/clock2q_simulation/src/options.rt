@@ -1,4 +1,7 @@
 //! The arguments of the program.
+ghost use Rattle.std.specs.List.{All};
+ghost use Rattle.std.specs.NonZero.{non_zero_usize_get};
+ghost use Rattle.std.specs.Prelude.{◌<◌, ◌≤◌, IfOk, length};
 
 use crate::error::SimulationError;
 use clock2q_cache::MAX_CAPACITY;
@@ -31,7 +34,10 @@ pub struct Options {
 ///
 /// `Usage` where an argument is neither, where there is no capacity, or more than one option;
 /// `Capacity` where a capacity is above `MAX_CAPACITY`. The first bad argument is told.
-pub fn parse_options(alloc: Global, arguments: &[String]) -> Result<Options, SimulationError> {
+pub fn parse_options(alloc: Global, arguments: &[String]) -> Result<Options, SimulationError>
+    ensures some { IfOk result (λ options. 0 < length options.capacities.items) }
+    ensures within { IfOk result (λ options. All (λ capacity. non_zero_usize_get capacity ≤ MAX_CAPACITY) options.capacities.items) }
+{
     let mut format = None;
     let mut capacities = Vec::new(alloc);
     for argument in arguments {
@@ -62,7 +68,9 @@ fn format_of(argument: &str) -> Option<Format> {
 }
 
 // Returns the capacity that digits write. One that is too large for a number is too large for a cache.
-fn capacity_of(argument: &str) -> Result<NonZeroUsize, SimulationError> {
+fn capacity_of(argument: &str) -> Result<NonZeroUsize, SimulationError>
+    ensures within { IfOk result (λ capacity. non_zero_usize_get capacity ≤ MAX_CAPACITY) }
+{
     let digits = argument.as_bytes();
     if digits.is_empty() || !digits.iter().all(|byte| byte.is_ascii_digit()) {
         return Err(SimulationError::Usage);

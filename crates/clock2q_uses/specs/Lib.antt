@@ -1,3 +1,4 @@
+pub mod Checksums
 pub mod Interning
 pub mod Replay
 pub mod Split

@@ -1,0 +1,110 @@
+//! A memo of a costly function: the checksums of documents, which need their every byte.
+ghost use Rattle.clock2q_uses.specs.Checksums.{adler32, checksum_of};
+ghost use Rattle.clock2q_memo.specs.Memo.{Computes, Remembers};
+ghost use Rattle.clock2q_cache.specs.Machine.{slot_of};
+ghost use Rattle.std.specs.Fn.{FnReturnsAt};
+ghost use Rattle.std.specs.NonZero.{non_zero_usize_get};
+ghost use Rattle.std.specs.Prelude.{◌≡◌, ◌<◌, ◌≤◌, ◌+◌, ◌↔◌, ℕ, Option, Some, eqb, IfOk, IsErrOf, IsSome, IsTrue, map};
+
+use clock2q::memo::recall;
+use clock2q::{CacheError, MAX_CAPACITY, Memo};
+use std::alloc::Global;
+use std::hash::BuildHasher;
+use std::num::NonZeroUsize;
+use std::test::Fail;
+
+/// Returns the checksums of the documents that are asked for, each by its number, and `None` for a
+/// number without a document. Up to `capacity` checksums are remembered: a document that is asked
+/// for again is read again only where its checksum is no longer among them.
+pub fn checksums(
+    alloc: Global,
+    capacity: NonZeroUsize,
+    documents: &[Vec<u8>],
+    numbers: Vec<usize>,
+) -> Result<Vec<Option<u32>>, CacheError>
+    ensures checksums { IfOk result (λ sums. sums.items ≡ map (checksum_of documents.now) numbers.items) }
+    ensures capacity { MAX_CAPACITY < non_zero_usize_get capacity → IsErrOf result CacheError.Capacity }
+{
+    let mut memo = Memo::new(
+        alloc,
+        capacity,
+        |number: &usize| checksum_of(documents, *number),
+    )?;
+    Ok(recall(alloc, &mut memo, numbers)?)
+}
+
+/// Returns true if the document of a number still has this checksum, so that a client who has it
+/// needn't be sent it again.
+pub fn is_unchanged<F, S>(
+    memo: &mut Memo<usize, Option<u32>, F, S>,
+    number: usize,
+    checksum: u32,
+) -> bool
+where
+    F: Fn(&usize) -> Option<u32>,
+    S: BuildHasher,
+    requires callable { F.IsAlwaysCallable memo.old.function }
+    ensures unchanged { Remembers eqb (FnReturnsAt F.Fn memo.old.function) memo.old.machine → (value : ℕ → Option ℕ) → Computes eqb (FnReturnsAt F.Fn memo.old.function) value → IsTrue result ↔ (value number ≡ Some checksum) }
+    ensures remembers { Remembers eqb (FnReturnsAt F.Fn memo.old.function) memo.old.machine → Remembers eqb (FnReturnsAt F.Fn memo.new.function) memo.new.machine }
+    ensures unread { IsSome (slot_of (eqb number) memo.old.machine) → memo.new.evaluations ≡ memo.old.evaluations }
+    ensures once { memo.new.evaluations ≤ memo.old.evaluations + 1 }
+{
+    memo.get_recorded(number) == Some(checksum)
+}
+
+/// Returns the checksum of the document of a number, if there is one.
+pub fn checksum_of(documents: &[Vec<u8>], number: usize) -> Option<u32>
+    ensures checksum { result ≡ checksum_of documents.now number }
+{
+    documents.get(number).map(|document| adler32(document))
+}
+
+/// Returns the Adler-32 checksum of the bytes.
+#[tactic(auto, unfolding(crate::specs::Checksums::adler32))]
+pub fn adler32(bytes: &[u8]) -> u32
+    ensures sums { result ≡ adler32 bytes.now }
+{
+    let mut low = 1u32;
+    let mut high = 0u32;
+    for byte in bytes {
+        low = (low + u32::from(*byte)) % 65521;
+        high = (high + low) % 65521;
+    }
+    high * 65536 + low
+}
+
+#[test]
+fn known_checksums(rt: HostRuntime) -> Result<(), Fail> {
+    assert_eq!(rt; adler32(b""), 1);
+    assert_eq!(rt; adler32(b"Wikipedia"), 0x11E6_0398);
+    Ok(())
+}
+
+#[test]
+fn asked_for_again(rt: HostRuntime) -> Result<(), Fail> {
+    let mut documents = Vec::new(rt.alloc());
+    documents.push(Vec::from_slice(rt.alloc(), b"Wikipedia")?)?;
+    documents.push(Vec::new(rt.alloc()))?;
+    let numbers = vec![in rt.alloc(); 0, 1, 0, 2, 0]?;
+    let capacity = NonZeroUsize::new(1).ok_or("not zero")?;
+    let sums = checksums(rt.alloc(), capacity, &documents, numbers)?;
+    let wikipedia = Some(0x11E6_0398);
+    assert_eq!(rt;
+        sums.as_slice(),
+        [wikipedia, Some(1), wikipedia, None, wikipedia].as_slice()
+    );
+    Ok(())
+}
+
+#[test]
+fn a_client_with_a_copy(rt: HostRuntime) -> Result<(), Fail> {
+    let capacity = NonZeroUsize::new(2).ok_or("not zero")?;
+    let mut memo = Memo::new(
+        rt.alloc(),
+        capacity,
+        |number: &usize| u32::try_from(*number).ok(),
+    )?;
+    assert!(rt; is_unchanged(&mut memo, 7, 7));
+    assert!(rt; !is_unchanged(&mut memo, 7, 8));
+    Ok(())
+}
