@@ -1,17 +1,46 @@
 //! Devices that give and take a few bytes at a time, and fail at one of their calls.
 
+use crate::texts::served;
 use clock2q::command::{Device, Failed, ServeError, Sink, Source, serve};
 use std::alloc::{AllocError, Global};
 use std::io::{Error, ErrorKind, Read, Result as IoResult, Write};
 use std::test::Fail;
 
-// A reader that gives `step` bytes at a time. It answers its call number `fails_at`, from 0, with an error.
+// How a device fails: by an error, by moving no byte though some are left, or at a flush.
+#[derive(Clone, Copy, Debug, PartialEq)]
+enum Fault {
+    Error(ErrorKind),
+    Nothing,
+    NoFlush(ErrorKind),
+}
+
+// What a device does at a call: it moves up to so many bytes at a time, and fails at its call
+// number `fails_at`, from 0, or at a flush.
+#[derive(Clone, Copy)]
+struct Plan {
+    step: usize,
+    fails_at: usize,
+    fault: Fault,
+}
+
+impl Plan {
+    // How many of the bytes are moved at this call.
+    fn moved(&self, call: usize, bytes: usize) -> IoResult<usize> {
+        if call == self.fails_at {
+            match self.fault {
+                Fault::Error(kind) => return Err(Error::from(kind)),
+                Fault::Nothing => return Ok(0),
+                Fault::NoFlush(_) => {}
+            }
+        }
+        Ok(self.step.min(bytes))
+    }
+}
+
 #[derive(Drop)]
 struct Reader<'a> {
     left: &'a [u8],
-    step: usize,
-    fails_at: usize,
-    kind: ErrorKind,
+    plan: Plan,
     calls: usize,
 }
 
@@ -19,10 +48,8 @@ impl Read for Reader<'_> {
     fn read(&mut self, buf: &mut [u8]) -> IoResult<usize> {
         let call = self.calls;
         self.calls = call.saturating_add(1);
-        if call == self.fails_at {
-            return Err(Error::from(self.kind));
-        }
-        let count = self.step.min(self.left.len()).min(buf.len());
+        let count = self.plan.moved(call, self.left.len())?;
+        let count = count.min(self.left.len()).min(buf.len());
         let (given, left) = self.left.split_at(count);
         buf[..count].copy_from_slice(given);
         self.left = left;
@@ -30,21 +57,10 @@ impl Read for Reader<'_> {
     }
 }
 
-// How a writer fails.
-#[derive(Clone, Copy, Debug, PartialEq)]
-enum Fault {
-    Error(ErrorKind),
-    NothingTaken,
-    NoFlush,
-}
-
-// A writer that takes `step` bytes at a time. At its write number `fails_at`, from 0, or at a flush, it fails.
 #[derive(Drop)]
 struct Writer {
     taken: Vec<u8>,
-    step: usize,
-    fails_at: usize,
-    fault: Fault,
+    plan: Plan,
     calls: usize,
     flushes: usize,
 }
@@ -53,22 +69,15 @@ impl Write for Writer {
     fn write(&mut self, buf: &[u8]) -> IoResult<usize> {
         let call = self.calls;
         self.calls = call.saturating_add(1);
-        if call == self.fails_at {
-            match self.fault {
-                Fault::Error(kind) => return Err(Error::from(kind)),
-                Fault::NothingTaken => return Ok(0),
-                Fault::NoFlush => {}
-            }
-        }
-        let count = self.step.min(buf.len());
+        let count = self.plan.moved(call, buf.len())?.min(buf.len());
         self.taken.extend_from_slice(&buf[..count])?;
         Ok(count)
     }
 
     fn flush(&mut self) -> IoResult<()> {
         self.flushes = self.flushes.saturating_add(1);
-        match self.fault {
-            Fault::NoFlush => Err(Error::from(ErrorKind::Other)),
+        match self.plan.fault {
+            Fault::NoFlush(kind) => Err(Error::from(kind)),
             _ => Ok(()),
         }
     }
@@ -78,50 +87,70 @@ const TEXT: &[u8] = b"new 2\nput 1 10\nget 1\n";
 
 const REPLIES: &[u8] = b"ok\nnone\nsome 10\n";
 
-const KINDS: [ErrorKind; 4] = [
-    ErrorKind::Interrupted,
+// Each kind of error that there is.
+const KINDS: [ErrorKind; 42] = [
+    ErrorKind::NotFound,
+    ErrorKind::PermissionDenied,
+    ErrorKind::ConnectionRefused,
+    ErrorKind::ConnectionReset,
+    ErrorKind::HostUnreachable,
+    ErrorKind::NetworkUnreachable,
+    ErrorKind::ConnectionAborted,
+    ErrorKind::NotConnected,
+    ErrorKind::AddrInUse,
+    ErrorKind::AddrNotAvailable,
+    ErrorKind::NetworkDown,
+    ErrorKind::BrokenPipe,
+    ErrorKind::AlreadyExists,
     ErrorKind::WouldBlock,
+    ErrorKind::NotADirectory,
+    ErrorKind::IsADirectory,
+    ErrorKind::DirectoryNotEmpty,
+    ErrorKind::ReadOnlyFilesystem,
+    ErrorKind::FilesystemLoop,
+    ErrorKind::StaleNetworkFileHandle,
+    ErrorKind::InvalidInput,
+    ErrorKind::InvalidData,
+    ErrorKind::TimedOut,
+    ErrorKind::WriteZero,
+    ErrorKind::StorageFull,
+    ErrorKind::NotSeekable,
+    ErrorKind::QuotaExceeded,
+    ErrorKind::FileTooLarge,
+    ErrorKind::ResourceBusy,
+    ErrorKind::ExecutableFileBusy,
+    ErrorKind::Deadlock,
+    ErrorKind::CrossesDevices,
+    ErrorKind::TooManyLinks,
+    ErrorKind::InvalidFilename,
+    ErrorKind::ArgumentListTooLong,
+    ErrorKind::Interrupted,
+    ErrorKind::Unsupported,
     ErrorKind::UnexpectedEof,
+    ErrorKind::OutOfMemory,
+    ErrorKind::InProgress,
     ErrorKind::Other,
+    ErrorKind::Uncategorized,
 ];
 
-#[test]
-fn failing_reads(rt: HostRuntime) -> Result<(), Fail> {
-    // Each text of 21 bytes is given in 6 calls, and the 7th says that none is left.
-    for text in [TEXT, b"bogus\nnew 2\nput 1 10\n".as_slice()] {
-        for kind in KINDS {
-            for fails_at in 0..7 {
-                let mut reader = Device::new(Reader {
-                    left: text,
-                    step: 4,
-                    fails_at,
-                    kind,
-                    calls: 0,
-                });
-                let mut writer = Device::new(Vec::new(rt.alloc()));
-                let outcome = serve(rt.alloc(), &mut reader, &mut writer);
-                assert_eq!(rt; outcome, Err(ServeError::Read), "call {fails_at}");
-                assert_eq!(rt; writer.into_inner().len(), 0, "call {fails_at}");
-                assert_eq!(rt; reader.into_inner().calls, fails_at + 1, "tried again");
-            }
-        }
-    }
-    Ok(())
+// What `serve` answers to a text from such a reader, what it writes, and how often it reads.
+fn read(alloc: Global, text: &[u8], plan: Plan) -> (Result<(), ServeError>, Vec<u8>, usize) {
+    let mut reader = Device::new(Reader {
+        left: text,
+        plan,
+        calls: 0,
+    });
+    let mut writer = Device::new(Vec::new(alloc));
+    let outcome = serve(alloc, &mut reader, &mut writer);
+    (outcome, writer.into_inner(), reader.into_inner().calls)
 }
 
-// What `serve` answers where TEXT's replies go to a writer that fails like this, and what became of the writer.
-fn written(
-    alloc: Global,
-    step: usize,
-    fails_at: usize,
-    fault: Fault,
-) -> (Result<(), ServeError>, Writer) {
+// What `serve` answers where TEXT's replies go to such a writer, and what became of the writer.
+fn written(alloc: Global, plan: Plan) -> (Result<(), ServeError>, Writer) {
     let mut reader = Device::new(TEXT);
     let mut writer = Device::new(Writer {
         taken: Vec::new(alloc),
-        step,
-        fails_at,
-        fault,
+        plan,
         calls: 0,
         flushes: 0,
     });
@@ -129,38 +158,120 @@ fn written(
     (outcome, writer.into_inner())
 }
 
+// The plan of the first read that isn't told as it should be: at once, with nothing written.
+fn other_read(alloc: Global, text: &[u8], step: usize, reads: usize) -> Option<(usize, ErrorKind)> {
+    for kind in KINDS {
+        for fails_at in 0..reads {
+            let fault = Fault::Error(kind);
+            let plan = Plan {
+                step,
+                fails_at,
+                fault,
+            };
+            let (outcome, replies, calls) = read(alloc, text, plan);
+            let is_told = outcome == Err(ServeError::Read) && replies.is_empty();
+            if !is_told || calls != fails_at + 1 {
+                return Some((fails_at, kind));
+            }
+        }
+    }
+    None
+}
+
+// The 21 bytes of a text are given in 21, 6 or 1 calls, and one more says that none is left.
+#[test]
+fn failing_reads(rt: HostRuntime) {
+    for text in [TEXT, b"bogus\nnew 2\nput 1 10\n".as_slice()] {
+        for (step, reads) in [(1, 22), (4, 7), (100, 2)] {
+            assert_eq!(rt; other_read(rt.alloc(), text, step, reads), None, "{step}");
+        }
+    }
+}
+
+// A read of no byte is the end. What comes after it isn't read, and what came before is all.
+#[test]
+fn ending_reads(rt: HostRuntime) {
+    for fails_at in 0..22 {
+        let plan = Plan {
+            step: 1,
+            fails_at,
+            fault: Fault::Nothing,
+        };
+        let (outcome, replies, calls) = read(rt.alloc(), TEXT, plan);
+        let (wanted, text) = served(rt.alloc(), TEXT.get(..fails_at).unwrap_or(TEXT));
+        assert_eq!(rt; outcome, wanted, "call {fails_at}");
+        assert_eq!(rt; replies, text, "call {fails_at}");
+        assert_eq!(rt; calls, fails_at + 1, "read on");
+    }
+}
+
+// The first call of so many at which a failing write isn't told as it should be: at once, after a
+// beginning of the text, and without a flush.
+fn other_write(alloc: Global, step: usize, writes: usize, fault: Fault) -> Option<usize> {
+    for fails_at in 0..writes {
+        let plan = Plan {
+            step,
+            fails_at,
+            fault,
+        };
+        let (outcome, writer) = written(alloc, plan);
+        let taken = writer.taken.as_slice();
+        let is_told = outcome == Err(ServeError::Write) && REPLIES.starts_with(taken);
+        let is_all = taken.len() == fails_at.saturating_mul(step);
+        if !is_told || !is_all || writer.calls != fails_at + 1 || writer.flushes != 0 {
+            return Some(fails_at);
+        }
+    }
+    None
+}
+
+// The 16 bytes of the replies are taken in 16, 4 or 1 calls.
+const WRITES: [(usize, usize); 3] = [(1, 16), (5, 4), (100, 1)];
+
 #[test]
 fn failing_writes(rt: HostRuntime) {
-    let faults = [
-        Fault::Error(ErrorKind::Interrupted),
-        Fault::Error(ErrorKind::WriteZero),
-        Fault::Error(ErrorKind::Other),
-        Fault::NothingTaken,
-    ];
-    // The 16 bytes of the replies are taken in 16, 4 or 1 calls.
-    for (step, calls) in [(1usize, 16usize), (5, 4), (100, 1)] {
-        for fault in faults {
-            for fails_at in 0..calls {
-                let (outcome, writer) = written(rt.alloc(), step, fails_at, fault);
-                assert_eq!(rt; outcome, Err(ServeError::Write), "call {fails_at}");
-                assert_eq!(rt; writer.taken.len(), fails_at.saturating_mul(step));
-                assert!(rt;
-                    REPLIES.starts_with(writer.taken.as_slice()),
-                    "call {fails_at}"
-                );
-                assert_eq!(rt; writer.calls, fails_at + 1, "tried again");
-                assert_eq!(rt; writer.flushes, 0, "flushed after call {fails_at}");
-            }
-            let (outcome, writer) = written(rt.alloc(), step, calls, fault);
-            assert_eq!(rt; outcome, Ok(()));
-            assert_eq!(rt; writer.taken.as_slice(), REPLIES);
-            assert_eq!(rt; writer.calls, calls);
-            assert_eq!(rt; writer.flushes, 1);
+    for (step, writes) in WRITES {
+        for kind in KINDS {
+            let other = other_write(rt.alloc(), step, writes, Fault::Error(kind));
+            assert_eq!(rt; other, None, "{kind:?}, {step} at a time");
         }
-        let (outcome, writer) = written(rt.alloc(), step, calls, Fault::NoFlush);
-        assert_eq!(rt; outcome, Err(ServeError::Write), "flush");
-        assert_eq!(rt; writer.taken.as_slice(), REPLIES, "flush");
-        assert_eq!(rt; writer.flushes, 1, "flushed again");
+        let other = other_write(rt.alloc(), step, writes, Fault::Nothing);
+        assert_eq!(rt; other, None, "nothing taken, {step} at a time");
+    }
+}
+
+// A writer that fails after so many calls is called so often, and flushed once.
+fn is_whole(writer: &Writer, writes: usize) -> bool {
+    writer.taken.as_slice() == REPLIES && writer.calls == writes && writer.flushes == 1
+}
+
+#[test]
+fn whole_writes(rt: HostRuntime) {
+    for (step, writes) in WRITES {
+        let plan = Plan {
+            step,
+            fails_at: writes,
+            fault: Fault::Nothing,
+        };
+        let (outcome, writer) = written(rt.alloc(), plan);
+        assert_eq!(rt; outcome, Ok(()), "{step} at a time");
+        assert!(rt; is_whole(&writer, writes), "{step} at a time");
+    }
+}
+
+#[test]
+fn failing_flushes(rt: HostRuntime) {
+    for (step, writes) in WRITES {
+        for kind in KINDS {
+            let plan = Plan {
+                step,
+                fails_at: 0,
+                fault: Fault::NoFlush(kind),
+            };
+            let (outcome, writer) = written(rt.alloc(), plan);
+            assert_eq!(rt; outcome, Err(ServeError::Write), "{kind:?}");
+            assert!(rt; is_whole(&writer, writes), "{kind:?}");
+        }
     }
 }
 
@@ -180,39 +291,69 @@ fn devices(rt: HostRuntime) -> Result<(), Fail> {
     Ok(())
 }
 
-// After a failure a device goes on where it stood.
+// After a failure a device goes on where it stood. Each of its calls makes one call.
 #[test]
-fn failing_devices(rt: HostRuntime) {
+fn failing_sources(rt: HostRuntime) {
     for kind in KINDS {
         let mut block = [0u8; 8];
         let mut source = Device::new(Reader {
             left: b"abc",
-            step: 2,
-            fails_at: 1,
-            kind,
+            plan: Plan {
+                step: 2,
+                fails_at: 1,
+                fault: Fault::Error(kind),
+            },
             calls: 0,
         });
-        assert_eq!(rt; source.read(&mut block), Ok(2), "{kind:?}");
-        assert_eq!(rt; source.read(&mut block), Err(Failed), "{kind:?}");
-        assert_eq!(rt; source.read(&mut block), Ok(1), "{kind:?}");
-        assert_eq!(rt; source.read(&mut block), Ok(0), "{kind:?}");
+        for wanted in [Ok(2), Err(Failed), Ok(1), Ok(0)] {
+            assert_eq!(rt; source.read(&mut block), wanted, "{kind:?}");
+        }
+        assert_eq!(rt; source.into_inner().calls, 4, "{kind:?}");
     }
-    let rows = [
-        (Fault::Error(ErrorKind::Interrupted), Err(Failed), Ok(())),
-        (Fault::NothingTaken, Ok(0), Ok(())),
-        (Fault::NoFlush, Ok(1), Err(Failed)),
-    ];
-    for (fault, written, flushed) in rows {
-        let mut sink = Device::new(Writer {
-            taken: Vec::new(rt.alloc()),
+}
+
+// What a device answers to two writes and a flush, where the second write or the flush fails, and
+// what it wraps then.
+fn sent(
+    alloc: Global,
+    fault: Fault,
+) -> (
+    Result<usize, Failed>,
+    Result<usize, Failed>,
+    Result<(), Failed>,
+    Writer,
+) {
+    let mut sink = Device::new(Writer {
+        taken: Vec::new(alloc),
+        plan: Plan {
             step: 2,
             fails_at: 1,
             fault,
-            calls: 0,
-            flushes: 0,
-        });
-        assert_eq!(rt; sink.write(b"abc"), Ok(2), "{fault:?}");
-        assert_eq!(rt; sink.write(b"c"), written, "{fault:?}");
-        assert_eq!(rt; sink.flush(), flushed, "{fault:?}");
+        },
+        calls: 0,
+        flushes: 0,
+    });
+    let first = sink.write(b"abc");
+    let second = sink.write(b"c");
+    let flushed = sink.flush();
+    (first, second, flushed, sink.into_inner())
+}
+
+#[test]
+fn failing_sinks(rt: HostRuntime) {
+    for kind in KINDS {
+        for (fault, written, flushed) in [
+            (Fault::Error(kind), Err(Failed), Ok(())),
+            (Fault::Nothing, Ok(0), Ok(())),
+            (Fault::NoFlush(kind), Ok(1), Err(Failed)),
+        ] {
+            let (first, second, third, writer) = sent(rt.alloc(), fault);
+            assert_eq!(rt;
+                (first, second, third),
+                (Ok(2), written, flushed),
+                "{fault:?}"
+            );
+            assert_eq!(rt; (writer.calls, writer.flushes), (2, 1), "{fault:?}");
+        }
     }
 }

@@ -4,6 +4,8 @@
 #[cfg(test)]
 mod caches;
 #[cfg(test)]
+mod closures;
+#[cfg(test)]
 mod devices;
 #[cfg(test)]
 mod policies;

@@ -6,7 +6,7 @@ use std::alloc::{AllocError, Global};
 use std::test::Fail;
 
 // Lines that are bad wherever they stand after the first one.
-const BAD_LINES: [&[u8]; 86] = [
+const BAD_LINES: [&[u8]; 85] = [
     b" len",
     b"len ",
     b"len  ",
@@ -61,7 +61,6 @@ const BAD_LINES: [&[u8]; 86] = [
     b"try 1 fail 2",
     b"try 1 2 3",
     b"slot 1",
-    b"slot 1 2",
     b"slot 1 2 3",
     b"slot 1 fail",
     b"remove",

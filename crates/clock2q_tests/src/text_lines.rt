@@ -9,7 +9,7 @@ use std::test::Fail;
 type Row = (&'static str, u64, u64, &'static str, &'static str);
 
 // Evictions, promotions, histories, and slots that are used again.
-const RUNS: [Row; 13] = [
+const RUNS: [Row; 22] = [
     (
         "new 1",
         0,
@@ -71,12 +71,49 @@ const RUNS: [Row; 13] = [
          none; false; some 21",
     ),
     (
+        "new 20",
+        0,
+        31,
+        "slot 1 0; slot 0 0",
+        "2 2; 1 29",
+    ),
+    (
         "new 40",
         0,
         40,
         "remove 3; put 40 40; get 2; put 41 41; put 42 42; put 43 43; get_at 2 2; get_at 4 \
          43; contains 4",
         "true; none; some 2; none; none; none; some 2; some 43; false",
+    ),
+    (
+        "new 6",
+        0,
+        0,
+        "slot 0 10; slot 1 11; slot 2 12; remove 1; remove 2; prefill 13 14 15; slot 3 0; \
+         slot 4 0; slot 5 0; slot 2 0; slot 1 0",
+        "0 10; 1 11; 2 12; true; true; ok; 3 13; 4 14; 5 15; 2 12; 1 11",
+    ),
+    (
+        "new 4",
+        0,
+        0,
+        "put 0 0; put 1 10; put 2 20; put 3 30; retain 1010; slot 10 5; slot 12 5; len",
+        "none; none; none; none; ok; 3 30; 1 10; 4",
+    ),
+    (
+        "new 3",
+        0,
+        0,
+        "prefill 7; clear; slot 1 9",
+        "ok; ok; 0 9",
+    ),
+    (
+        "new 2",
+        0,
+        0,
+        "slot 1 10; remove 1; get_at 0 1; slot 2 20; set 2 20; get_at 0 1; get_at 0 2; get_at \
+         18446744073709551615 2",
+        "0 10; true; none; 0 10; some 10; none; some 20; none",
     ),
     (
         "new 2",
@@ -93,6 +130,13 @@ const RUNS: [Row; 13] = [
         "some 0; true; none; none; some 0; some 21; false",
     ),
     (
+        "new 3",
+        0,
+        0,
+        "put 1 1; put 2 2; put 3 3; retain 0; len; retain 00; len; slot 9 0",
+        "none; none; none; ok; 2; ok; 0; 2 3",
+    ),
+    (
         "new 2",
         0,
         0,
@@ -101,12 +145,33 @@ const RUNS: [Row; 13] = [
         "none; none; none; ok; 0; none; none; none; true; false; some 9",
     ),
     (
+        "new 4",
+        1,
+        6,
+        "remove 1; put 7 7; put 8 8; slot 6 0; slot 5 0; contains 2; len",
+        "false; none; none; 1 2; 0 8; false; 4",
+    ),
+    (
         "new 40",
         0,
         40,
         "remove 3; put 40 40; remove 40; put 41 41; put 42 42; get 41; put 43 43; put 44 44; \
          put 45 45; contains 41; get_at 3 45",
         "true; none; true; none; none; some 41; none; none; none; false; some 45",
+    ),
+    (
+        "new 4",
+        0,
+        0,
+        "slot 7 70; get_at 4 7; get_at 3 7; get_at 0 7; remove 7; get_at 0 7",
+        "0 70; none; none; some 70; true; none",
+    ),
+    (
+        "new 2",
+        0,
+        0,
+        "prefill 5 6; get_at 0 0; contains 0; slot 0 9",
+        "ok; none; false; 0 5",
     ),
 ];
 
@@ -137,31 +202,51 @@ const CHOSEN_SHARES: [Row; 4] = [
 ];
 
 // A line of each command and each form of a reply.
-const EVERY_COMMAND: [Row; 3] = [
+const EVERY_COMMAND: [Row; 2] = [
     (
         "new 2",
         0,
         0,
-        "put 1 10; get 1; peek 1; contains 1; get_at 0 1; set 1 11; with 1 12; with 2 20; \
-         try 1 13; try 3 fail; len; is_empty; capacity; retain 10; remove 1; clear; prefill 7; len",
-        "none; some 10; some 10; true; some 10; some 10; 11; 20; \
-         ok 11; failed; 2; false; 2; ok; true; ok; ok; 0",
+        "put 1 10; get 1; peek 1; contains 1; get_at 0 1; set 1 11; with 1 12; with 2 20; try \
+         1 13; try 3 fail; slot 1 14; len; is_empty; capacity; retain 10; remove 1; clear; \
+         prefill 7; slot 5 0",
+        "none; some 10; some 10; true; some 10; some 10; 11; 20; ok 11; failed; 0 11; 2; \
+         false; 2; ok; true; ok; ok; 0 7",
     ),
     (
         "new 1",
         0,
         0,
-        "is_empty; set 1 2; get 1; with 1 18446744073709551615; peek 1; try 1 fail; remove 2; \
-         remove 1; try 1 0",
-        "true; none; none; 18446744073709551615; some 18446744073709551615; \
-         ok 18446744073709551615; false; true; ok 0",
+        "is_empty; set 1 2; get 1; with 1 18446744073709551615; peek 1; slot 1 0; try 1 fail; \
+         remove 2; remove 1; try 1 0",
+        "true; none; none; 18446744073709551615; some 18446744073709551615; 0 \
+         18446744073709551615; ok 18446744073709551615; false; true; ok 0",
+    ),
+];
+
+// Slots that were never made, that hold no key, or that hold another one by now.
+const HINTS: [Row; 3] = [
+    (
+        "new 4",
+        0,
+        0,
+        "put 7 70; get_at 4 7; get_at 3 7; get_at 0 7; remove 7; get_at 0 7",
+        "none; none; none; some 70; true; none",
     ),
     (
-        "new 3",
+        "new 2",
         0,
         0,
-        "prefill 7; clear; len; put 1 1; retain 00; is_empty",
-        "ok; ok; 0; none; ok; true",
+        "prefill 5 6; get_at 0 0; contains 0; put 0 9; get_at 0 0; get_at 1 0",
+        "ok; none; false; none; some 9; none",
+    ),
+    (
+        "new 2",
+        0,
+        0,
+        "put 1 10; remove 1; get_at 0 1; put 2 20; set 2 21; get_at 0 1; get_at 0 2; \
+         get_at 18446744073709551615 2",
+        "none; true; none; none; some 20; none; some 21; none",
     ),
 ];
 
@@ -208,5 +293,11 @@ fn chosen_shares(rt: HostRuntime) -> Result<(), Fail> {
 #[test]
 fn every_command(rt: HostRuntime) -> Result<(), Fail> {
     assert_eq!(rt; other_answer(rt.alloc(), &EVERY_COMMAND)?, None);
+    Ok(())
+}
+
+#[test]
+fn hints(rt: HostRuntime) -> Result<(), Fail> {
+    assert_eq!(rt; other_answer(rt.alloc(), &HINTS)?, None);
     Ok(())
 }

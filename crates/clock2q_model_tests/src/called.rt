@@ -1,0 +1,140 @@
+//! The calls of a cache, each made of a step.
+
+use crate::steps::{Reply, Step, is_kept, made_value};
+use clock2q_cache::Cache;
+use std::alloc::{AllocError, Global};
+use std::hash::BuildHasher;
+
+/// A cache to be called.
+#[derive(Drop)]
+pub(crate) struct Called<S: BuildHasher> {
+    cache: Cache<u64, u64, S>,
+}
+
+impl<S: BuildHasher> Called<S> {
+    pub(crate) fn new(cache: Cache<u64, u64, S>) -> Called<S> {
+        Called { cache }
+    }
+
+    /// Makes the call, and returns its reply.
+    pub(crate) fn reply(&mut self, step: Step) -> Reply {
+        match step {
+            Step::Put(key, value) => Reply::Value(self.put(key, value)),
+            Step::Get(key) => Reply::Value(self.get(key)),
+            Step::GetAt(slot, key) => Reply::Value(self.get_at(slot, key)),
+            Step::Set(key, value) => Reply::Value(self.set(key, value)),
+            Step::With(key, value) => Reply::Stored(self.fetch(key, value)),
+            Step::Try(key, offered) => Reply::Tried(self.try_fetch(key, offered)),
+            Step::Remove(key) => Reply::Flag(self.remove(key)),
+            Step::Retain(bits, count) => self.retain(bits, count),
+            Step::Clear => self.clear(),
+            Step::Prefill(first, more) => self.prefill(first, more),
+            Step::Peek(key) => Reply::Value(self.peek(key)),
+            Step::Contains(key) => Reply::Flag(self.contains(key)),
+            Step::Len => Reply::Number(self.len()),
+            Step::IsEmpty => Reply::Flag(self.is_empty()),
+            Step::Capacity => Reply::Number(self.capacity()),
+        }
+    }
+
+    fn put(&mut self, key: u64, value: u64) -> Option<u64> {
+        self.cache.put(key, value)
+    }
+
+    fn get(&mut self, key: u64) -> Option<u64> {
+        self.cache.get(&key).copied()
+    }
+
+    fn get_at(&mut self, slot: usize, key: u64) -> Option<u64> {
+        self.cache.get_at(slot, &key).copied()
+    }
+
+    fn set(&mut self, key: u64, value: u64) -> Option<u64> {
+        let place = self.cache.get_mut(&key)?;
+        let before = *place;
+        *place = value;
+        Some(before)
+    }
+
+    fn fetch(&mut self, key: u64, value: u64) -> u64 {
+        *self.cache.get_or_insert_with(key, || value)
+    }
+
+    fn try_fetch(&mut self, key: u64, offered: Option<u64>) -> Option<u64> {
+        match self.cache.try_get_or_insert_with(key, || offered.ok_or(())) {
+            Ok(value) => Some(*value),
+            Err(()) => None,
+        }
+    }
+
+    fn remove(&mut self, key: u64) -> bool {
+        self.cache.remove(&key)
+    }
+
+    fn retain(&mut self, bits: u64, count: u32) -> Reply {
+        let mut asked = 0u32;
+        self.cache.retain(|_, _| {
+            let stays = is_kept(bits, count, asked);
+            asked = asked.saturating_add(1);
+            stays
+        });
+        Reply::Done
+    }
+
+    fn clear(&mut self) -> Reply {
+        self.cache.clear();
+        Reply::Done
+    }
+
+    fn prefill(&mut self, first: u64, more: u64) -> Reply {
+        let mut made = 0u64;
+        self.cache.prefill(|| {
+            let value = made_value(first, more, made);
+            made = made.saturating_add(1);
+            value
+        });
+        Reply::Done
+    }
+
+    fn peek(&self, key: u64) -> Option<u64> {
+        self.cache.peek(&key).copied()
+    }
+
+    fn contains(&self, key: u64) -> bool {
+        self.cache.contains(&key)
+    }
+
+    fn len(&self) -> usize {
+        self.cache.len()
+    }
+
+    fn is_empty(&self) -> bool {
+        self.cache.is_empty()
+    }
+
+    fn capacity(&self) -> usize {
+        self.cache.capacity()
+    }
+
+    /// What the cache shows of itself.
+    pub(crate) fn text(&self, alloc: Global) -> Result<String, AllocError> {
+        format!(in alloc; "{:?}", self.cache)
+    }
+
+    /// Whether the cache asks of just these residents, in this order, which of them stay.
+    pub(crate) fn holds(&mut self, residents: &[(u64, u64)]) -> bool {
+        let mut left = residents;
+        let mut same = true;
+        self.cache.retain(|key, value| {
+            match left.split_first() {
+                Some((first, others)) => {
+                    same = same && first.0 == *key && first.1 == *value;
+                    left = others;
+                }
+                None => same = false,
+            }
+            true
+        });
+        same && left.is_empty()
+    }
+}

@@ -1,0 +1,68 @@
+//! Large caches whose keys hash alike, in part or in full, beside plain lists.
+
+use crate::draws::Draws;
+use crate::hashers::Spread;
+use crate::steps::Step;
+use crate::tested::{Place, Tested};
+use std::alloc::Global;
+use std::process::Abort;
+use std::test::Fail;
+
+type Crowded = Tested<Spread>;
+
+/// Puts a quarter more keys than the cache can hold.
+fn fill(rt: &impl Abort, tested: &mut Crowded, capacity: u64, list: u64) -> Result<(), Fail> {
+    for number in 0..capacity.saturating_add(capacity / 4) {
+        tested.step(rt, Step::Put(number, number), Place { list, number })?;
+    }
+    Ok(())
+}
+
+/// Makes drawn steps, but none that empties the cache.
+fn drive(rt: &impl Abort, tested: &mut Crowded, steps: u64, list: u64) -> Result<(), Fail> {
+    let mut draws = Draws::new(list);
+    for number in 0..steps {
+        let place = Place { list, number };
+        match Step::drawn(&mut draws, &tested.model, number) {
+            Step::Clear => tested.residents_are_same(rt, place)?,
+            step => {
+                tested.step(rt, step, place)?;
+            }
+        }
+    }
+    Ok(())
+}
+
+/// A cache under a hasher agrees with its lists.
+fn agrees(rt: &impl Abort, alloc: Global, capacity: u64, spread: Spread) -> Result<(), Fail> {
+    let list = spread.times;
+    let mut tested = Tested::usual(alloc, capacity as usize, spread)?;
+    fill(rt, &mut tested, capacity, list)?;
+    drive(rt, &mut tested, 1_000, list)?;
+    tested.slots_are_same(
+        rt,
+        Place {
+            list,
+            number: capacity,
+        },
+    )
+}
+
+#[test]
+fn one_hash_for_all(rt: HostRuntime) -> Result<(), Fail> {
+    agrees(&rt, rt.alloc(), 2_000, Spread { times: 0, more: 0 })
+}
+
+// Hashes that differ in their lowest bits alone, in the highest, or in bits between, which no table
+// of that size reads.
+#[test]
+fn hashes_that_differ_little(rt: HostRuntime) -> Result<(), Fail> {
+    for bit in [0u32, 56, 12, 28] {
+        let spread = Spread {
+            times: 1 << bit,
+            more: 0xAB00_0000_0000_000F,
+        };
+        agrees(&rt, rt.alloc(), 200, spread)?;
+    }
+    Ok(())
+}

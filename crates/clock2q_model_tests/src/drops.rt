@@ -1,0 +1,56 @@
+//! Values that count how many of them were dropped.
+
+use clock2q_cache::{Cache, DefaultHashBuilder};
+use std::alloc::Global;
+use std::cell::Cell;
+use std::num::NonZeroUsize;
+use std::process::Abort;
+use std::test::Fail;
+
+/// A value that counts in a place that all of a test share.
+struct Dropped<'a> {
+    drops: &'a Cell<u64>,
+}
+
+impl Drop for Dropped<'_> {
+    fn drop(self) {
+        let Dropped { drops } = self;
+        drops.set(drops.get().saturating_add(1));
+    }
+}
+
+type Dropping<'a> = Cache<u64, Dropped<'a>, DefaultHashBuilder>;
+
+fn made<'a>(alloc: Global) -> Result<Dropping<'a>, Fail> {
+    let capacity = NonZeroUsize::new(2).ok_or("not zero")?;
+    Ok(Cache::new(alloc, capacity)?)
+}
+
+/// So many values were dropped once a new one is put.
+fn put<'a>(rt: &impl Abort, cache: &mut Dropping<'a>, drops: &'a Cell<u64>, key: u64, count: u64) {
+    let _ = cache.put(key, Dropped { drops });
+    assert_eq!(rt; drops.get(), count, "{key}");
+}
+
+#[test]
+fn each_value_is_dropped_once(rt: HostRuntime) -> Result<(), Fail> {
+    let drops = Cell::new(0);
+    let mut cache = made(rt.alloc())?;
+    for (key, count) in [(1, 0), (2, 0), (3, 1), (3, 2)] {
+        put(&rt, &mut cache, &drops, key, count);
+    }
+    cache.clear();
+    assert_eq!(rt; drops.get(), 4);
+    Ok(())
+}
+
+#[test]
+fn a_free_slot_keeps_its_value(rt: HostRuntime) -> Result<(), Fail> {
+    let drops = Cell::new(0);
+    let mut cache = made(rt.alloc())?;
+    put(&rt, &mut cache, &drops, 1, 0);
+    assert!(rt; cache.remove(&1));
+    assert_eq!(rt; drops.get(), 0);
+    put(&rt, &mut cache, &drops, 2, 1);
+    Ok(())
+}

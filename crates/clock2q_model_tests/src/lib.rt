@@ -1,0 +1,28 @@
+//! Tests of caches against plain lists: long lists of calls from seeds, and runs worked out by hand
+//! under hashers that spread their keys badly.
+#![tactic(auto)]
+
+#[cfg(test)]
+mod asked;
+#[cfg(test)]
+mod called;
+#[cfg(test)]
+mod crowded;
+#[cfg(test)]
+mod draws;
+#[cfg(test)]
+mod drops;
+#[cfg(test)]
+mod hashers;
+#[cfg(test)]
+mod model;
+#[cfg(test)]
+mod seeded;
+#[cfg(test)]
+mod steps;
+#[cfg(test)]
+mod tagged;
+#[cfg(test)]
+mod tested;
+#[cfg(test)]
+mod worked;

@@ -1,0 +1,118 @@
+//! Lists of steps from seeds, each reply and what it leaves compared with plain lists.
+
+use crate::draws::Draws;
+use crate::model::Policy;
+use crate::steps::Step;
+use crate::tested::{Place, Tested};
+use clock2q_cache::DefaultHashBuilder;
+use std::alloc::Global;
+use std::process::Abort;
+use std::test::Fail;
+
+const STEPS: u64 = 1_000;
+
+const CAPACITIES: u64 = 60;
+
+/// What the lists of a test have in common.
+#[derive(Clone, Copy, Debug, PartialEq)]
+enum Kind {
+    Usual,
+    NoSmall,
+    ShortestWindow,
+    LongestWindow,
+    SmallestMain,
+}
+
+/// The shares of such a list.
+fn policy_of(draws: &mut Draws, kind: Kind, capacity: usize) -> Policy {
+    if capacity < 2 {
+        return Policy::usual(capacity);
+    }
+    let most = capacity - 1;
+    let drawn = draws.below(most as u64) as usize + 1;
+    let (small, window) = match kind {
+        Kind::Usual => return Policy::usual(capacity),
+        Kind::NoSmall => (0, 0),
+        Kind::ShortestWindow => (drawn, 1),
+        Kind::LongestWindow => (drawn, drawn),
+        Kind::SmallestMain => (most, drawn),
+    };
+    Policy {
+        capacity,
+        small,
+        window,
+    }
+}
+
+type Usual = Tested<DefaultHashBuilder>;
+
+fn made(alloc: Global, kind: Kind, policy: Policy) -> Result<Usual, Fail> {
+    let hasher = DefaultHashBuilder::new();
+    match kind {
+        Kind::Usual => Tested::usual(alloc, policy.capacity, hasher),
+        _ => Tested::new(alloc, policy, hasher),
+    }
+}
+
+/// Makes the steps of a list, and compares after each.
+fn drive(rt: &impl Abort, tested: &mut Usual, list: u64, draws: &mut Draws) -> Result<(), Fail> {
+    for number in 0..STEPS {
+        let step = Step::drawn(draws, &tested.model, number);
+        let place = Place { list, number };
+        tested.step(rt, step, place)?;
+        tested.sizes_are_same(rt, place)?;
+        tested.residents_are_same(rt, place)?;
+    }
+    Ok(())
+}
+
+/// Looks at what only calls show that change it: the slots, and who is remembered.
+fn look_closely(rt: &impl Abort, tested: &mut Usual, list: u64) -> Result<(), Fail> {
+    let place = Place {
+        list,
+        number: STEPS,
+    };
+    tested.slots_are_same(rt, place)?;
+    tested.take_apart(rt, place)
+}
+
+fn list_is_same(rt: &impl Abort, alloc: Global, kind: Kind, list: u64) -> Result<(), Fail> {
+    let mut draws = Draws::new(list);
+    let policy = policy_of(&mut draws, kind, list as usize);
+    let mut tested = made(alloc, kind, policy)?;
+    drive(rt, &mut tested, list, &mut draws)?;
+    look_closely(rt, &mut tested, list)
+}
+
+/// A list for each capacity.
+fn lists_are_same(rt: &impl Abort, alloc: Global, kind: Kind) -> Result<(), Fail> {
+    for capacity in 1..=CAPACITIES {
+        list_is_same(rt, alloc, kind, capacity)?;
+    }
+    Ok(())
+}
+
+#[test]
+fn usual_shares(rt: HostRuntime) -> Result<(), Fail> {
+    lists_are_same(&rt, rt.alloc(), Kind::Usual)
+}
+
+#[test]
+fn no_small(rt: HostRuntime) -> Result<(), Fail> {
+    lists_are_same(&rt, rt.alloc(), Kind::NoSmall)
+}
+
+#[test]
+fn shortest_window(rt: HostRuntime) -> Result<(), Fail> {
+    lists_are_same(&rt, rt.alloc(), Kind::ShortestWindow)
+}
+
+#[test]
+fn longest_window(rt: HostRuntime) -> Result<(), Fail> {
+    lists_are_same(&rt, rt.alloc(), Kind::LongestWindow)
+}
+
+#[test]
+fn smallest_main(rt: HostRuntime) -> Result<(), Fail> {
+    lists_are_same(&rt, rt.alloc(), Kind::SmallestMain)
+}

@@ -1,0 +1,83 @@
+//! Calls of a cache as small values, and what they reply.
+
+use crate::draws::Draws;
+use crate::model::Model;
+
+/// A call of a cache whose keys and values are numbers.
+#[derive(Clone, Copy, Debug)]
+pub(crate) enum Step {
+    Put(u64, u64),
+    Get(u64),
+    Peek(u64),
+    Contains(u64),
+    GetAt(usize, u64),
+    /// Writes a value through a lent place.
+    Set(u64, u64),
+    With(u64, u64),
+    Try(u64, Option<u64>),
+    Remove(u64),
+    /// The answers are the bits of a number, the lowest first, and there are so many; then true.
+    Retain(u64, u32),
+    Clear,
+    /// The values are numbers from one on, so many more, and then the last of them.
+    Prefill(u64, u64),
+    Len,
+    IsEmpty,
+    Capacity,
+}
+
+/// What a step replies.
+#[derive(Clone, Copy, Debug, PartialEq)]
+pub(crate) enum Reply {
+    Value(Option<u64>),
+    Stored(u64),
+    Tried(Option<u64>),
+    Flag(bool),
+    Number(usize),
+    Done,
+}
+
+/// The answer to a question of `retain`, of which so many were asked before.
+pub(crate) fn is_kept(bits: u64, count: u32, asked: u32) -> bool {
+    asked >= count || bits.checked_shr(asked).unwrap_or(1) % 2 == 1
+}
+
+/// The value of a slot that `prefill` makes, after so many others.
+pub(crate) fn made_value(first: u64, more: u64, made: u64) -> u64 {
+    first.wrapping_add(made.min(more))
+}
+
+impl Step {
+    /// The step of that number in a list: mostly one that looks a key up or brings it in.
+    pub(crate) fn drawn(draws: &mut Draws, model: &Model, number: u64) -> Step {
+        let key = draws.below(model.keys());
+        match draws.below(400) {
+            0..=99 => Step::Put(key, number),
+            100..=199 => Step::Get(key),
+            200..=239 => Step::With(key, number),
+            240..=259 => Step::Try(key, Some(number)),
+            260..=279 => Step::Try(key, None),
+            280..=309 => Step::Set(key, number),
+            310..=349 => Step::GetAt(model.hint(key, draws.below(4)), key),
+            350..=379 => Step::Remove(key),
+            380 => Step::Clear,
+            381 | 382 => Step::Prefill(number, draws.below(4)),
+            kind => Step::aside(draws, key, kind),
+        }
+    }
+
+    /// A step that changes nothing, or one that asks which residents stay.
+    fn aside(draws: &mut Draws, key: u64, kind: u64) -> Step {
+        match kind {
+            383..=386 => {
+                let bits = draws.next() | draws.next();
+                Step::Retain(bits, draws.below(65) as u32)
+            }
+            387..=389 => Step::Peek(key),
+            390..=392 => Step::Contains(key),
+            393..=395 => Step::Len,
+            396 | 397 => Step::IsEmpty,
+            _ => Step::Capacity,
+        }
+    }
+}

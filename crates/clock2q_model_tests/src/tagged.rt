@@ -1,0 +1,93 @@
+//! Keys that are equal and differ: the one that was stored first stays.
+ghost use Rattle.std.specs.Cmp.Rules.{comparing, hashing};
+ghost use Rattle.std.specs.Hash as fed;
+ghost use Rattle.std.specs.Ordering.{on};
+ghost use Rattle.std.specs.Prelude.{nat_eq};
+ghost use Rattle.std.proofs.Common.{rules};
+
+use clock2q_cache::{Cache, DefaultHashBuilder};
+use std::hash::{Hash, Hasher};
+use std::num::NonZeroUsize;
+use std::process::Abort;
+use std::test::Fail;
+
+/// A key of which only the id counts.
+#[derive(Clone, Copy, Debug)]
+struct Tagged {
+    id: u64,
+    tag: char,
+}
+
+impl PartialEq for Tagged {
+    ghost eq = { on (λ key. key.id) nat_eq };
+
+    ghost laws = { Prim.search (comparing, rules) };
+
+    fn eq(&self, other: &Tagged) -> bool {
+        self.id == other.id
+    }
+}
+
+impl Eq for Tagged {
+    ghost laws = { Prim.search (comparing, rules) };
+}
+
+impl Hash for Tagged {
+    ghost hash_input = { λ key. fed.u64 key.id };
+
+    ghost respects_eq = { Prim.search (hashing, rules) };
+
+    fn hash<H: Hasher>(&self, state: &mut H) {
+        state.write_u64(self.id);
+    }
+}
+
+type Tags = Cache<Tagged, u64, DefaultHashBuilder>;
+
+/// Stores a value for a key, of which the one before is known.
+fn put(rt: &impl Abort, cache: &mut Tags, id: u64, tag: char, value: u64, before: Option<u64>) {
+    assert_eq!(rt; cache.put(Tagged { id, tag }, value), before, "{id} {tag}");
+}
+
+/// The residents have just these tags, by ascending slot.
+fn stay(rt: &impl Abort, cache: &mut Tags, tags: &[char]) {
+    let mut left = tags;
+    let mut same = true;
+    cache.retain(|key, _| {
+        match left.split_first() {
+            Some((tag, others)) => {
+                same = same && *tag == key.tag;
+                left = others;
+            }
+            None => same = false,
+        }
+        true
+    });
+    assert!(rt; same && left.is_empty(), "{tags:?}");
+}
+
+#[test]
+fn a_stored_key_stays(rt: HostRuntime) -> Result<(), Fail> {
+    let capacity = NonZeroUsize::new(2).ok_or("not zero")?;
+    let mut cache = Cache::new(rt.alloc(), capacity)?;
+    put(&rt, &mut cache, 1, 'a', 10, None);
+    put(&rt, &mut cache, 1, 'b', 11, Some(10));
+    stay(&rt, &mut cache, &['a']);
+    let gone = Tagged { id: 1, tag: 'c' };
+    assert!(rt; cache.remove(&gone));
+    put(&rt, &mut cache, 1, 'd', 12, None);
+    stay(&rt, &mut cache, &['d']);
+    Ok(())
+}
+
+#[test]
+fn a_key_that_returns_is_stored_anew(rt: HostRuntime) -> Result<(), Fail> {
+    let capacity = NonZeroUsize::new(2).ok_or("not zero")?;
+    let mut cache = Cache::new(rt.alloc(), capacity)?;
+    for id in 1..4 {
+        put(&rt, &mut cache, id, 'a', id, None);
+    }
+    put(&rt, &mut cache, 1, 'b', 4, None);
+    stay(&rt, &mut cache, &['a', 'b']);
+    Ok(())
+}

@@ -1,0 +1,99 @@
+//! A cache beside its plain lists, driven by the same steps.
+
+use crate::called::Called;
+use crate::model::{Model, Policy};
+use crate::steps::{Reply, Step};
+use clock2q_cache::Cache;
+use std::alloc::Global;
+use std::hash::BuildHasher;
+use std::num::NonZeroUsize;
+use std::process::Abort;
+use std::test::Fail;
+
+/// Where in which list a test is.
+#[derive(Clone, Copy, Debug)]
+pub(crate) struct Place {
+    pub(crate) list: u64,
+    pub(crate) number: u64,
+}
+
+/// A cache and its lists.
+#[derive(Drop)]
+pub(crate) struct Tested<S: BuildHasher> {
+    alloc: Global,
+    called: Called<S>,
+    pub(crate) model: Model,
+}
+
+impl<S: BuildHasher + Drop> Tested<S> {
+    pub(crate) fn new(alloc: Global, policy: Policy, hasher: S) -> Result<Tested<S>, Fail> {
+        let capacity = NonZeroUsize::new(policy.capacity).ok_or("not zero")?;
+        let (small, window) = (policy.small, policy.window);
+        let cache = Cache::with_policy(alloc, capacity, small, window, hasher)?;
+        let model = Model::new(alloc, policy);
+        Ok(Tested {
+            alloc,
+            called: Called::new(cache),
+            model,
+        })
+    }
+
+    /// Of the shares that a cache has for which none are given.
+    pub(crate) fn usual(alloc: Global, capacity: usize, hasher: S) -> Result<Tested<S>, Fail> {
+        let model = Model::new(alloc, Policy::usual(capacity));
+        let capacity = NonZeroUsize::new(capacity).ok_or("not zero")?;
+        let cache = Cache::with_hasher(alloc, capacity, hasher)?;
+        Ok(Tested {
+            alloc,
+            called: Called::new(cache),
+            model,
+        })
+    }
+
+    /// Makes the call of both. The reply is the same.
+    pub(crate) fn step(
+        &mut self,
+        rt: &impl Abort,
+        step: Step,
+        place: Place,
+    ) -> Result<Reply, Fail> {
+        let reply = self.called.reply(step);
+        let wanted = self.model.reply(step)?;
+        assert_eq!(rt; reply, wanted, "{place:?}: {step:?}");
+        Ok(reply)
+    }
+
+    /// The cache shows the same numbers of keys.
+    pub(crate) fn sizes_are_same(&self, rt: &impl Abort, place: Place) -> Result<(), Fail> {
+        let shown = self.called.text(self.alloc)?;
+        let wanted = self.model.text()?;
+        assert_eq!(rt; shown.as_str(), wanted.as_str(), "{place:?}");
+        Ok(())
+    }
+
+    /// The cache holds the same keys with the same values, slot by slot.
+    pub(crate) fn residents_are_same(&mut self, rt: &impl Abort, place: Place) -> Result<(), Fail> {
+        let wanted = self.model.residents()?;
+        assert!(rt; self.called.holds(&wanted), "{place:?}");
+        Ok(())
+    }
+
+    /// Looks each resident up at its slot and at the next one.
+    pub(crate) fn slots_are_same(&mut self, rt: &impl Abort, place: Place) -> Result<(), Fail> {
+        for slot in 0..self.model.made() {
+            let key = self.model.key_at(slot).unwrap_or(0);
+            self.step(rt, Step::GetAt(slot, key), place)?;
+            self.step(rt, Step::GetAt(slot + 1, key), place)?;
+        }
+        Ok(())
+    }
+
+    /// Takes each key out, or makes the cache forget it. Its text tells after each which it was.
+    pub(crate) fn take_apart(&mut self, rt: &impl Abort, place: Place) -> Result<(), Fail> {
+        for key in 0..self.model.keys() {
+            self.step(rt, Step::Remove(key), place)?;
+            self.sizes_are_same(rt, place)?;
+        }
+        Ok(())
+    }
+}
