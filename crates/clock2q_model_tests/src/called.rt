@@ -25,6 +25,8 @@ impl<S: BuildHasher> Called<S> {
             Step::Set(key, value) => Reply::Value(self.set(key, value)),
             Step::With(key, value) => Reply::Stored(self.fetch(key, value)),
             Step::Try(key, offered) => Reply::Tried(self.try_fetch(key, offered)),
+            Step::Write(key, offered, value) => Reply::Tried(self.write(key, offered, value)),
+            Step::Slot(key, value) => self.take_slot(key, value),
             Step::Remove(key) => Reply::Flag(self.remove(key)),
             Step::Retain(bits, count) => self.retain(bits, count),
             Step::Clear => self.clear(),
@@ -65,6 +67,25 @@ impl<S: BuildHasher> Called<S> {
             Ok(value) => Some(*value),
             Err(()) => None,
         }
+    }
+
+    fn write(&mut self, key: u64, offered: Option<u64>, value: u64) -> Option<u64> {
+        match self
+            .cache
+            .try_get_or_insert_with_mut(key, || offered.ok_or(()))
+        {
+            Ok(place) => {
+                let before = *place;
+                *place = value;
+                Some(before)
+            }
+            Err(()) => None,
+        }
+    }
+
+    fn take_slot(&mut self, key: u64, value: u64) -> Reply {
+        let (slot, place) = self.cache.get_or_insert_mut(key, || value);
+        Reply::Slot(slot, *place)
     }
 
     fn remove(&mut self, key: u64) -> bool {

@@ -107,6 +107,8 @@ impl Model {
             Step::Set(key, value) => Reply::Value(self.replace(key, value)),
             Step::With(key, value) => Reply::Stored(self.fetch(key, value)?),
             Step::Try(key, offered) => Reply::Tried(self.try_fetch(key, offered)?),
+            Step::Write(key, offered, value) => Reply::Tried(self.write(key, offered, value)?),
+            Step::Slot(key, value) => self.take_slot(key, value)?,
             Step::Remove(key) => Reply::Flag(self.remove(key)?),
             Step::Retain(bits, count) => {
                 self.retain(bits, count)?;
@@ -248,6 +250,35 @@ impl Model {
         Ok(Some(value))
     }
 
+    fn write(
+        &mut self,
+        key: u64,
+        offered: Option<u64>,
+        value: u64,
+    ) -> Result<Option<u64>, AllocError> {
+        let before = self.try_fetch(key, offered)?;
+        if before.is_some()
+            && let Some(entry) = self.find(key)
+        {
+            self.store(entry.slot, value);
+        }
+        Ok(before)
+    }
+
+    /// A slot that was made before keeps its value.
+    fn take_slot(&mut self, key: u64, value: u64) -> Result<Reply, AllocError> {
+        if let Some(entry) = self.find(key) {
+            self.hit(key);
+            return Ok(Reply::Slot(entry.slot, self.value(entry.slot)));
+        }
+        let made = self.made();
+        let slot = self.enter(key)?;
+        if slot >= made {
+            self.store(slot, value);
+        }
+        Ok(Reply::Slot(slot, self.value(slot)))
+    }
+
     fn remove(&mut self, key: u64) -> Result<bool, AllocError> {
         match self.find(key) {
             Some(entry) => {
@@ -325,15 +356,20 @@ impl Model {
         self.history.len() < count
     }
 
-    /// Brings in a key that isn't resident.
+    /// Brings in a key that isn't resident, with its value.
     fn insert(&mut self, key: u64, value: u64) -> Result<(), AllocError> {
-        let slot = if self.enters_main(key) {
-            self.enter_main(key)?
-        } else {
-            self.enter_small(key)?
-        };
+        let slot = self.enter(key)?;
         self.store(slot, value);
         Ok(())
+    }
+
+    /// Brings in a key that isn't resident, and returns its slot.
+    fn enter(&mut self, key: u64) -> Result<usize, AllocError> {
+        if self.enters_main(key) {
+            self.enter_main(key)
+        } else {
+            self.enter_small(key)
+        }
     }
 
     fn is_vacant(&self) -> bool {

@@ -15,6 +15,10 @@ pub(crate) enum Step {
     Set(u64, u64),
     With(u64, u64),
     Try(u64, Option<u64>),
+    /// Writes a value through the place that a fetch lends.
+    Write(u64, Option<u64>, u64),
+    /// Offers a value to a slot that has none yet.
+    Slot(u64, u64),
     Remove(u64),
     /// The answers are the bits of a number, the lowest first, and there are so many; then true.
     Retain(u64, u32),
@@ -32,6 +36,8 @@ pub(crate) enum Reply {
     Value(Option<u64>),
     Stored(u64),
     Tried(Option<u64>),
+    /// A key's slot and the value there.
+    Slot(usize, u64),
     Flag(bool),
     Number(usize),
     Done,
@@ -52,11 +58,14 @@ impl Step {
     pub(crate) fn drawn(draws: &mut Draws, model: &Model, number: u64) -> Step {
         let key = draws.below(model.keys());
         match draws.below(400) {
-            0..=99 => Step::Put(key, number),
+            0..=79 => Step::Put(key, number),
+            80..=99 => Step::Slot(key, number),
             100..=199 => Step::Get(key),
-            200..=239 => Step::With(key, number),
+            200..=229 => Step::With(key, number),
+            230..=239 => Step::Write(key, Some(number), number.wrapping_add(1)),
             240..=259 => Step::Try(key, Some(number)),
-            260..=279 => Step::Try(key, None),
+            260..=269 => Step::Try(key, None),
+            270..=279 => Step::Write(key, None, number),
             280..=309 => Step::Set(key, number),
             310..=349 => Step::GetAt(model.hint(key, draws.below(4)), key),
             350..=379 => Step::Remove(key),

@@ -7,9 +7,9 @@ use std::test::Fail;
 
 // A line of each command, and what they are answered.
 const EVERY_COMMAND: (&str, &str) = (
-    "new 3\nput 1 10\nget 1\npeek 1\ncontains 1\nget_at 0 1\nset 1 11\nwith 2 20\ntry 3 30\n\
+    "new 3\nslot 1 10\nput 1 10\nget 1\npeek 1\ncontains 1\nget_at 0 1\nset 1 11\nwith 2 20\ntry 3 30\n\
      try 4 fail\nlen\nis_empty\ncapacity\nretain 101\nremove 1\nclear\nprefill 5 6\nlen\n",
-    "ok\nnone\nsome 10\nsome 10\ntrue\nsome 10\nsome 10\n20\nok 30\n\
+    "ok\n0 10\nsome 10\nsome 10\nsome 10\ntrue\nsome 10\nsome 10\n20\nok 30\n\
      failed\n3\nfalse\n3\nok\ntrue\nok\nok\n0\n",
 );
 

@@ -1,28 +1,9 @@
-//! The calls of a cache, one by one.
+//! A run of commands, and the refusals of a cache.
 
 use clock2q::command::{Command, Reply, run};
 use clock2q::{Cache, CacheError, MAX_CAPACITY};
 use std::num::NonZeroUsize;
 use std::test::Fail;
-
-#[test]
-fn each_call(rt: HostRuntime) -> Result<(), Fail> {
-    let capacity = NonZeroUsize::new(2).ok_or("not zero")?;
-    let mut cache = Cache::new(rt.alloc(), capacity)?;
-    assert_eq!(rt; cache.capacity(), 2);
-    assert!(rt; cache.is_empty());
-    assert_eq!(rt; cache.put(1u64, 10u64), None);
-    assert_eq!(rt; cache.put(1, 11), Some(10));
-    assert_eq!(rt; cache.put(2, 20), None);
-    assert_eq!(rt; cache.len(), 2);
-    assert!(rt; !cache.is_empty());
-    assert!(rt; cache.contains(&2));
-    assert!(rt; !cache.contains(&3));
-    assert_eq!(rt; cache.peek(&1).copied(), Some(11));
-    assert_eq!(rt; cache.get(&1).copied(), Some(11));
-    assert_eq!(rt; cache.get(&3).copied(), None);
-    Ok(())
-}
 
 #[test]
 fn runs(rt: HostRuntime) -> Result<(), Fail> {
@@ -58,7 +39,6 @@ fn refusals(rt: HostRuntime) -> Result<(), Fail> {
     let largest = NonZeroUsize::new(MAX_CAPACITY).ok_or("not zero")?;
     let cache = Cache::<u64, u64, _, _>::new(rt.alloc(), largest)?;
     assert_eq!(rt; cache.capacity(), 16_777_215);
-    assert!(rt; cache.is_empty());
     let too_large = NonZeroUsize::new(MAX_CAPACITY + 1).ok_or("not zero")?;
     match Cache::<u64, u64, _, _>::new(rt.alloc(), too_large) {
         Ok(_) => assert!(rt; false, "made"),

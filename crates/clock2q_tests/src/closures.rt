@@ -62,6 +62,44 @@ fn made(rt: HostRuntime) -> Result<(), Fail> {
     Ok(())
 }
 
+// Fetches the value of a key, and returns it with how often its closure was called.
+fn fetched(cache: &mut Numbers, key: u64) -> (u64, u64) {
+    let mut calls = 0u64;
+    let value = *cache.get_or_insert_with(key, || {
+        calls = calls.saturating_add(1);
+        100
+    });
+    (value, calls)
+}
+
+// Lends the value of a key's slot, and returns it with how often its closure was called.
+fn lent(cache: &mut Numbers, key: u64) -> (u64, u64) {
+    let mut calls = 0u64;
+    let (_, value) = cache.get_or_insert_mut(key, || {
+        calls = calls.saturating_add(1);
+        200
+    });
+    (*value, calls)
+}
+
+// No closure is called for a resident key, and that for a slot only where a slot is made.
+#[test]
+fn called(rt: HostRuntime) -> Result<(), Fail> {
+    let capacity = NonZeroUsize::new(2).ok_or("not zero")?;
+    let mut cache = Cache::new(rt.alloc(), capacity)?;
+    for (key, wanted) in [(1, (100, 1)), (1, (100, 0)), (2, (100, 1))] {
+        assert_eq!(rt; fetched(&mut cache, key), wanted, "{key}");
+    }
+    for (key, wanted) in [(2, (100, 0)), (3, (100, 0))] {
+        assert_eq!(rt; lent(&mut cache, key), wanted, "{key}");
+    }
+    cache.clear();
+    for (key, wanted) in [(4, (200, 1)), (4, (200, 0))] {
+        assert_eq!(rt; lent(&mut cache, key), wanted, "{key}");
+    }
+    Ok(())
+}
+
 // Handles under one hash.
 fn handles(rt: &impl Abort, alloc: Global, count: u64) -> Result<Table<u64>, TableError> {
     let mut table = Table::with_capacity(alloc, 12)?;

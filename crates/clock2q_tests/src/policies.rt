@@ -1,24 +1,54 @@
-//! Caches with shares and hashers of their own, and hints at slots.
+//! Caches with shares of their own.
 
+use clock2q::command::{Command, Reply, run};
 use clock2q::{Cache, CacheError, DefaultHashBuilder};
+use std::alloc::Global;
 use std::num::NonZeroUsize;
 use std::test::Fail;
+
+// Puts four keys, hits the first and puts a fifth. Returns what is replied about two keys then, and
+// about the fifth at a slot.
+fn replies_of(
+    alloc: Global,
+    cache: &mut Cache<u64, u64, DefaultHashBuilder>,
+    keys: (u64, u64),
+    slot: usize,
+) -> Result<Vec<Reply<u64>>, Fail> {
+    let commands = vec![in alloc;
+        Command::Put(1, 1),
+        Command::Put(2, 2),
+        Command::Put(3, 3),
+        Command::Put(4, 4),
+        Command::Get(1),
+        Command::Put(5, 5),
+        Command::Contains(keys.0),
+        Command::Contains(keys.1),
+        Command::GetAt(slot, 5),
+    ]?;
+    Ok(run(alloc, cache, commands)?)
+}
+
+const REPLIES: [Reply<u64>; 9] = [
+    Reply::Value(None),
+    Reply::Value(None),
+    Reply::Value(None),
+    Reply::Value(None),
+    Reply::Value(Some(1)),
+    Reply::Value(None),
+    Reply::Flag(true),
+    Reply::Flag(false),
+    Reply::Value(Some(5)),
+];
 
 // With a window of 1 the hit on key 1 counts, and it goes on to Main; with one of 2 it is too young.
 #[test]
 fn chosen_shares(rt: HostRuntime) -> Result<(), Fail> {
     let capacity = NonZeroUsize::new(4).ok_or("not zero")?;
-    for (window, slot, stays, leaves) in [(1, 2, 1u64, 3u64), (2, 0, 3, 1)] {
+    for (window, slot, stays, leaves) in [(1, 2, 1, 3), (2, 0, 3, 1)] {
         let hasher = DefaultHashBuilder::new();
         let mut cache = Cache::with_policy(rt.alloc(), capacity, 2, window, hasher)?;
-        for key in 1..5u64 {
-            assert_eq!(rt; cache.put(key, key), None);
-        }
-        assert_eq!(rt; cache.get(&1).copied(), Some(1));
-        assert_eq!(rt; cache.put(5, 5), None);
-        assert!(rt; cache.contains(&stays), "{window}");
-        assert!(rt; !cache.contains(&leaves), "{window}");
-        assert_eq!(rt; cache.get_at(slot, &5).copied(), Some(5));
+        let replies = replies_of(rt.alloc(), &mut cache, (stays, leaves), slot)?;
+        assert_eq!(rt; replies.as_slice(), REPLIES.as_slice(), "{window}");
     }
     Ok(())
 }
@@ -46,23 +76,5 @@ fn refused_shares(rt: HostRuntime) -> Result<(), Fail> {
     }
     let shown = CacheError::Policy.to_string(rt.alloc())?;
     assert_eq!(rt; shown.as_str(), "policy refused");
-    Ok(())
-}
-
-#[test]
-fn hints(rt: HostRuntime) -> Result<(), Fail> {
-    let capacity = NonZeroUsize::new(2).ok_or("not zero")?;
-    let mut cache = Cache::with_hasher(rt.alloc(), capacity, DefaultHashBuilder::new())?;
-    assert_eq!(rt; cache.put(1u64, 10u64), None);
-    assert_eq!(rt; cache.put(2, 20), None);
-    assert_eq!(rt; cache.get_at(0, &1).copied(), Some(10));
-    assert_eq!(rt; cache.get_at(1, &1).copied(), None);
-    assert_eq!(rt; cache.get_at(usize::MAX, &2).copied(), None);
-    if let Some(value) = cache.get_mut(&2) {
-        *value = 21;
-    }
-    assert_eq!(rt; cache.get_at(1, &2).copied(), Some(21));
-    assert!(rt; cache.remove(&1));
-    assert_eq!(rt; cache.get_at(0, &1).copied(), None);
     Ok(())
 }

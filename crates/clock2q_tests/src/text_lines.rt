@@ -70,13 +70,7 @@ const RUNS: [Row; 22] = [
          some 13; some 14; some 15; some 16; some 17; some 18; some 19; some 20; some 1; \
          none; false; some 21",
     ),
-    (
-        "new 20",
-        0,
-        31,
-        "slot 1 0; slot 0 0",
-        "2 2; 1 29",
-    ),
+    ("new 20", 0, 31, "slot 1 0; slot 0 0", "2 2; 1 29"),
     (
         "new 40",
         0,
@@ -100,13 +94,7 @@ const RUNS: [Row; 22] = [
         "put 0 0; put 1 10; put 2 20; put 3 30; retain 1010; slot 10 5; slot 12 5; len",
         "none; none; none; none; ok; 3 30; 1 10; 4",
     ),
-    (
-        "new 3",
-        0,
-        0,
-        "prefill 7; clear; slot 1 9",
-        "ok; ok; 0 9",
-    ),
+    ("new 3", 0, 0, "prefill 7; clear; slot 1 9", "ok; ok; 0 9"),
     (
         "new 2",
         0,
