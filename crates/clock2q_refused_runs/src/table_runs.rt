@@ -83,12 +83,15 @@ fn all_later_refused(rt: HostRuntime) {
         );
         assert_eq!(rt; alloc.held(), 0, "{granted} granted");
     }
-    let mut granted = 3;
-    for wanted in [(false, false), (false, false), (true, false), (true, true)] {
+    for (granted, wanted) in [
+        (3, (false, false)),
+        (4, (false, false)),
+        (5, (true, false)),
+        (6, (true, true)),
+    ] {
         alloc.refuse_after(granted);
         assert_eq!(rt; run_all(&alloc), Ok(Some(wanted)), "{granted} granted");
         assert_eq!(rt; alloc.held(), 0, "{granted} granted");
-        granted += 1;
     }
 }
 
@@ -106,11 +109,9 @@ fn one_refused(rt: HostRuntime) {
         );
         assert_eq!(rt; alloc.held(), 0, "{granted} granted");
     }
-    let mut granted = 3;
-    for wanted in [(false, true), (false, true), (true, true)] {
+    for (granted, wanted) in [(3, (false, true)), (4, (false, true)), (5, (true, true))] {
         alloc.refuse_one_after(granted);
         assert_eq!(rt; run_all(&alloc), Ok(Some(wanted)), "{granted} granted");
         assert_eq!(rt; alloc.held(), 0, "{granted} granted");
-        granted += 1;
     }
 }
