@@ -6,46 +6,8 @@ extern crate hashbrown;
 mod cache;
 mod handles;
 
-/// The module's hint to the processor, left out as the port leaves it out.
-mod prefetch {
-    pub const ENABLED: bool = false;
-    pub fn prefetch<T>(_: *const T) {}
-}
-
-/// The hasher of one multiplication, under the name of the one that the module takes.
-mod ahash {
-    use std::hash::{BuildHasher, Hasher};
-
-    #[derive(Default)]
-    pub struct RandomState;
-
-    pub struct Multiplying {
-        hash: u64,
-    }
-
-    impl BuildHasher for RandomState {
-        type Hasher = Multiplying;
-
-        fn build_hasher(&self) -> Multiplying {
-            Multiplying { hash: 0 }
-        }
-    }
-
-    impl Hasher for Multiplying {
-        fn write(&mut self, _: &[u8]) {
-            unreachable!("the keys are numbers of 64 bits")
-        }
-
-        fn write_u64(&mut self, number: u64) {
-            let product = u128::from(number) * 0x9E37_79B9_7F4A_7C15;
-            self.hash = product as u64 ^ (product >> 64) as u64;
-        }
-
-        fn finish(&self) -> u64 {
-            self.hash
-        }
-    }
-}
+mod stand_ins;
+use stand_ins::{ahash, prefetch};
 
 use cache::Cache;
 use handles::Table;
