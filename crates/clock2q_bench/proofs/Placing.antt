@@ -3,7 +3,7 @@ use Rattle.std.proofs.Common.{◌≡◌, ℕ, ◌<◌, inl, inr, ap, sym, ◌∙
 use Rattle.clock2q_handles.specs.declared.error.TableError.{TableError}
 use Rattle.clock2q_handles.specs.declared.error.TableError.TheVariants.{Memory}
 use Rattle.std.specs.Fn.{Mut}
-use Rattle.clock2q_handles.specs.Homes.{top, inserted}
+use Rattle.clock2q_handles.specs.Homes.{top, with_handle}
 use Rattle.clock2q_handles.specs.TableStep.{grown}
 use Rattle.clock2q_handles.specs.Rehash.{IsHeld, AfterGrowth, GivesHashes}
 use Rattle.clock2q_handles.specs.Changes.{PutIn}
@@ -20,11 +20,11 @@ places_none hashes = (λ h i e l at. absurd (omega (arith, l)), λ at held. absu
 
 module _ (hashes : List ℕ) (homes : List (List (ℕ × ℕ))) (is : HoldsPlaces hashes homes) where
   -- one more place
-  pub places_inserted : (at : ℕ) → at < length hashes → HoldsPlaces hashes (inserted (grown (hash_at hashes) homes) (hash_at hashes at) at)
+  pub places_inserted : (at : ℕ) → at < length hashes → HoldsPlaces hashes (with_handle (grown (hash_at hashes) homes) (hash_at hashes at) at)
   places_inserted at l = (keyed_inserted (hash_at hashes) homes at is.0, within)
     where
       now : List (List (ℕ × ℕ))
-      now = inserted (grown (hash_at hashes) homes) (hash_at hashes at) at
+      now = with_handle (grown (hash_at hashes) homes) (hash_at hashes at) at
 
       within : (other : ℕ) → IsHeld now other → other < length hashes
       within other held =
@@ -40,4 +40,4 @@ module _ (hashes : List ℕ) (homes : List (List (ℕ × ℕ))) (is : HoldsPlace
   places_put g f new x at (Err e) done ok put is_hash l gives = absurd (cc)
   places_put g f new x at (Ok r) done ok put is_hash l gives =
       let p = put (λ e. absurd (cc)) (hash_at hashes) (λ _. gives) in
-      subst (HoldsPlaces hashes) (sym (p.0 ∙ ap (λ h. inserted (grown (hash_at hashes) homes) h at) is_hash)) (places_inserted at l)
+      subst (HoldsPlaces hashes) (sym (p.0 ∙ ap (λ h. with_handle (grown (hash_at hashes) homes) h at) is_hash)) (places_inserted at l)

@@ -15,7 +15,7 @@ use Rattle.clock2q_queues.specs.Queues.{QueueState, slots_of, tail_promoted}
 use Rattle.clock2q_queues.specs.History.{Remembered, is_remembered, forgotten}
 use Rattle.clock2q_queues.proofs.Entries.{slice_get-written, slice_get-written_other, length-written}
 use Rattle.clock2q_queues.proofs.Indexes.{IsIndex-kept, IsIndex-new, half_new}
-use Rattle.clock2q_cache.specs.Shares.{Shares, ghost_share}
+use Rattle.clock2q_cache.specs.Shares.{Shares, history_share}
 use Rattle.clock2q_cache.specs.Machine as cache
 use Rattle.clock2q_cache.specs.Machine.{Machine, stored, empty, vacancy, goes_to_main}
 use Rattle.clock2q_cache.specs.Entries.{SmallEntry}
@@ -23,9 +23,9 @@ use Rattle.clock2q_cache.specs.Cache.{IsWhole}
 use Rattle.clock2q_cache.specs.CacheFields.{machine_of, places_of, with_keys_small, with_keys_main, IsStored, IsSized, IsKept}
 use Rattle.clock2q_cache.proofs.WithKeys.{small-agree, main-agree, small-last, small_with}
 use Rattle.clock2q_cache.proofs.Stored.{all-written, values-written, length-values, below-more}
-use Rattle.clock2q_cache.proofs.Kept.{apart, small_have, length_in_small, length_in_main, sized-same, vacancy-here}
+use Rattle.clock2q_cache.proofs.CacheInvariant.{apart, small_have, length_in_small, length_in_main, sized-same, vacancy-here}
 use Rattle.clock2q_cache.proofs.Whole.{whole-forgotten, all_resident, small_share}
-use Rattle.clock2q_cache.proofs.Lasting.{whole-changed, lasting-empty}
+use Rattle.clock2q_cache.proofs.MachineInvariant.{whole-changed, lasting-empty}
 
 module _ {K : Type 0} (is : K → Bool) where
   pub known-any : (es : List (ℕ × K)) → list_any (λ (e : ℕ × K). is e.1) es ≡ list_any is (map (λ (e : ℕ × K). e.1) es)
@@ -251,7 +251,7 @@ module _ {K V : Type 0} where
   -- a new cache
   pub kept-new : (eq : K → K → Bool) (laws : IsEquivalence eq) (hash : K → ℕ) (shares : Shares) (q : QueueState) (h : Remembered K) (index : List (List (ℕ × ℕ))) (keys : KeyPlaces K V) (free : List ℕ) (room : ℕ)
       → shares.small < shares.capacity → (0 < shares.small → 0 < shares.window) → shares.capacity < 2 ^ 24
-      → q.small ≡ [] → q.main ≡ [] → q.slots ≡ shares.capacity → q.window ≡ shares.window → h.entries ≡ [] → h.limit ≡ ghost_share shares → index ≡ made_for (index_room shares.capacity)
+      → q.small ≡ [] → q.main ≡ [] → q.slots ≡ shares.capacity → q.window ≡ shares.window → h.entries ≡ [] → h.limit ≡ history_share shares → index ≡ made_for (index_room shares.capacity)
       → keys.entries ≡ [] → shares.capacity ≤ keys.room → free ≡ [] → shares.capacity ≤ room
       → IsKept eq hash shares q h index keys free room × (machine_of shares q keys.entries h.entries free ≡ empty shares)
   kept-new eq laws hash shares q h index keys free room below windowed short small main slots window entries limit homes keyed keys_room none free_room =

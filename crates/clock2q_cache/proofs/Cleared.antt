@@ -11,8 +11,8 @@ use Rattle.clock2q_cache.specs.Shares.{Shares}
 use Rattle.clock2q_cache.specs.Machine.{empty}
 use Rattle.clock2q_cache.specs.Cache.{IsWhole}
 use Rattle.clock2q_cache.specs.CacheFields.{machine_of, places_of, with_keys_small, with_keys_main, IsStored, IsKept}
-use Rattle.clock2q_cache.proofs.Kept.{apart, sized-same}
-use Rattle.clock2q_cache.proofs.Lasting.{lasting-empty}
+use Rattle.clock2q_cache.proofs.CacheInvariant.{apart, sized-same}
+use Rattle.clock2q_cache.proofs.MachineInvariant.{lasting-empty}
 
 -- an index of nothing is one of nothing, whatever the entries
 index-none : {K V : Type 0} (index : List (List (ℕ × ℕ))) (entries : List (Entry K V)) → IsIndex index entries [] → IsIndex {K = K} {V = V} index [] []

@@ -5,7 +5,7 @@ use Rattle.std.specs.List.{count_by, list_any, last_or, find}
 use Rattle.std.proofs.lemmas.List.Sums.{sum_by-cons, sum_by-append, sum_by_push, sum_by-take-drop, sum_by-le-sum_by, count_by-le-length}
 use Rattle.clock2q_queues.specs.Ages.{is_promoted}
 use Rattle.clock2q_cache.specs.Shares.{Shares, main_share}
-use Rattle.clock2q_cache.specs.Entries.{SmallEntry, MainEntry, main_hit, passed, inspections, from_victim, behind_hand, with_bit}
+use Rattle.clock2q_cache.specs.Entries.{SmallEntry, MainEntry, main_hit, set_front, inspections, from_victim, behind_hand, with_bit}
 use Rattle.clock2q_cache.specs.Calls.{Call, Put, Get, Peek, Contains, GetAt, Set, With, Try, SlotFor, Remove, Retain, Clear, Prefill, Len, IsEmpty, Capacity}
 use Rattle.clock2q_cache.specs.Machine.{Machine, empty, hit, forgotten, stored, placement, inserted, reused, goes_to_main, into_main, into_small, into_small_at, evicting_tail, promoting_tail, replacing_victim, joining_main, slot_of, vacancy, vacated, vacated_all, removed_at, by_slot}
 use Rattle.clock2q_cache.specs.Steps.{refused_slots, is_at, replaced_at, after}
@@ -26,18 +26,18 @@ module _ {K : Type 0} where
   bits-cleared (e ∷ es) = omega (arith, bits-cons (with_bit e false) (map (λ x. with_bit x false) es), bits-cleared es)
 
   -- the hand passes set bits alone
-  pub bits-passed : (es : List (MainEntry K)) → bits (take (passed es) es) ≡ passed es
+  pub bits-passed : (es : List (MainEntry K)) → bits (take (set_front es) es) ≡ set_front es
   bits-passed [] = refl
   bits-passed (e ∷ es) =
-      (elim e.bit as (λ b. e.bit ≡ b → bits (take (cond b (1 + passed es) 0) (e ∷ es)) ≡ cond b (1 + passed es) 0) [
-        | true ↦ λ is_set. let n : 1 + passed es ≡ suc (passed es) = omega arith in rw n (omega (arith, bits-cons e (take (passed es) es), ap one_if is_set, bits-passed es))
+      (elim e.bit as (λ b. e.bit ≡ b → bits (take (cond b (1 + set_front es) 0) (e ∷ es)) ≡ cond b (1 + set_front es) 0) [
+        | true ↦ λ is_set. let n : 1 + set_front es ≡ suc (set_front es) = omega arith in rw n (omega (arith, bits-cons e (take (set_front es) es), ap one_if is_set, bits-passed es))
         | false ↦ λ _. refl
       ]) refl
 
   -- and clears them, and no other
-  pub bits-from_victim : (es : List (MainEntry K)) → bits (from_victim es) + passed es ≡ bits es
+  pub bits-from_victim : (es : List (MainEntry K)) → bits (from_victim es) + set_front es ≡ bits es
   bits-from_victim es =
-      omega (arith, sum_by-append (λ e. one_if e.bit) (drop (passed es) es) (map (λ e. with_bit e false) (take (passed es) es)), bits-cleared (take (passed es) es), bits-passed es, sum_by-take-drop (λ e. one_if e.bit) es (passed es))
+      omega (arith, sum_by-append (λ e. one_if e.bit) (drop (set_front es) es) (map (λ e. with_bit e false) (take (set_front es) es)), bits-cleared (take (set_front es) es), bits-passed es, sum_by-take-drop (λ e. one_if e.bit) es (set_front es))
 
   clear_first : (e : MainEntry K) (es : List (MainEntry K)) → bits (e ∷ es) ≡ 0 → e.bit ≡ false
   clear_first e es none =
@@ -46,17 +46,17 @@ module _ {K : Type 0} where
   first_is : (e f : MainEntry K) (es fs : List (MainEntry K)) → e ∷ es ≡ f ∷ fs → e ≡ f
   first_is e f es fs same = cc
 
-  first_behind : (es cleared : List (MainEntry K)) → bits cleared ≡ 0 → (victim : MainEntry K) (others : List (MainEntry K)) → drop (passed es) es ++ cleared ≡ victim ∷ others → victim.bit ≡ false
+  first_behind : (es cleared : List (MainEntry K)) → bits cleared ≡ 0 → (victim : MainEntry K) (others : List (MainEntry K)) → drop (set_front es) es ++ cleared ≡ victim ∷ others → victim.bit ≡ false
   first_behind [] cleared none victim others is = clear_first victim others (ap bits (sym is) ∙ none)
   first_behind (e ∷ es) cleared none victim others is =
-      (elim e.bit as (λ b. e.bit ≡ b → drop (cond b (1 + passed es) 0) (e ∷ es) ++ cleared ≡ victim ∷ others → victim.bit ≡ false) [
-        | true ↦ λ _ later. let n : 1 + passed es ≡ suc (passed es) = omega arith in first_behind es cleared none victim others (rw n at later)
+      (elim e.bit as (λ b. e.bit ≡ b → drop (cond b (1 + set_front es) 0) (e ∷ es) ++ cleared ≡ victim ∷ others → victim.bit ≡ false) [
+        | true ↦ λ _ later. let n : 1 + set_front es ≡ suc (set_front es) = omega arith in first_behind es cleared none victim others (rw n at later)
         | false ↦ λ clear same. ap (λ (x : MainEntry K). x.bit) (sym (first_is e victim (es ++ cleared) others same)) ∙ clear
       ]) refl is
 
   -- the victim leaves with a clear bit
   pub victim_clear : (es : List (MainEntry K)) (victim : MainEntry K) (others : List (MainEntry K)) → from_victim es ≡ victim ∷ others → victim.bit ≡ false
-  victim_clear es victim others choice = first_behind es (map (λ e. with_bit e false) (take (passed es) es)) (bits-cleared (take (passed es) es)) victim others choice
+  victim_clear es victim others choice = first_behind es (map (λ e. with_bit e false) (take (set_front es) es)) (bits-cleared (take (set_front es) es)) victim others choice
 
   -- a victim's leaving, and the entry that comes in behind the hand
   paid_victim : (es : List (MainEntry K)) (victim : MainEntry K) (others : List (MainEntry K)) → from_victim es ≡ victim ∷ others → (key : K) (slot : ℕ) → inspections es + bits (behind_hand key slot others) ≡ 1 + bits es

@@ -11,7 +11,7 @@ use Rattle.clock2q_cache.specs.Steps.{replaced_at}
 use Rattle.clock2q_cache.specs.Cache.{IsWhole}
 use Rattle.clock2q_cache.proofs.Weights.{sum_by-filter-le, weight-small_hit, weight-main_hit, weight-admitted, weight-behind}
 use Rattle.clock2q_cache.proofs.Whole.{one_if, weight}
-use Rattle.clock2q_cache.proofs.Lasting.{placed-key, resident_made}
+use Rattle.clock2q_cache.proofs.MachineInvariant.{placed-key, resident_made}
 use Rattle.clock2q_cache.proofs.Standing.{count_at, count_at-le, weights-both-le, none_counted, found_counted, found_at, absent_if, resident_once, counted_as, stored_elsewhere}
 
 module _ {K V : Type 0} where

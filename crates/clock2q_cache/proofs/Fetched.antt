@@ -10,7 +10,7 @@ use Rattle.clock2q_cache.specs.Machine.{Machine, slot_of, value_of, hit, stored,
 use Rattle.clock2q_cache.specs.Steps.{put, fetched, replaced_at}
 use Rattle.clock2q_cache.specs.Cache.{IsWhole}
 use Rattle.clock2q_cache.specs.Closures.{Fetches}
-use Rattle.clock2q_cache.proofs.Lasting.{resident_made}
+use Rattle.clock2q_cache.proofs.MachineInvariant.{resident_made}
 use Rattle.clock2q_cache.proofs.Standing.{get-within}
 use Rattle.clock2q_cache.proofs.Laws.{slot_at_most, inserted_value}
 

@@ -19,8 +19,8 @@ use Rattle.clock2q_cache.specs.Cache.{IsWhole}
 use Rattle.clock2q_cache.specs.CacheFields.{machine_of, places_of, with_keys_small, with_keys_main, IsStored, IsKept}
 use Rattle.clock2q_cache.proofs.WithKeys.{small-agree, main-agree}
 use Rattle.clock2q_cache.proofs.Stored.{length-values, below-has}
-use Rattle.clock2q_cache.proofs.Kept.{sized-same}
-use Rattle.clock2q_cache.proofs.Lasting.{lasting-prefilled}
+use Rattle.clock2q_cache.proofs.CacheInvariant.{sized-same}
+use Rattle.clock2q_cache.proofs.MachineInvariant.{lasting-prefilled}
 
 -- Lists
 

@@ -34,7 +34,7 @@ use Rattle.clock2q_cache.specs.CacheFields.{machine_of, places_of, with_keys_sma
 use Rattle.clock2q_cache.proofs.WithKeys.{HaveKeys, have_later, small_with, main_with, small-cons, main-cons, small-hit, main-hit}
 use Rattle.clock2q_cache.proofs.Stored.{entry_there, length-values}
 use Rattle.clock2q_cache.proofs.Slots.{length-places}
-use Rattle.clock2q_cache.proofs.Kept.{small_have, main_have, sized-same}
+use Rattle.clock2q_cache.proofs.CacheInvariant.{small_have, main_have, sized-same}
 use Rattle.clock2q_cache.proofs.Whole.{whole-hit}
 
 pub all-has : (P : ℕ → Type 0) (xs : List ℕ) → ((t : ℕ) → has t xs ≡ true → P t) → AllByRecursion P xs

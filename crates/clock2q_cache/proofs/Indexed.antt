@@ -20,7 +20,7 @@ use Rattle.clock2q_cache.specs.CacheFields.{machine_of, places_of, with_keys_sma
 use Rattle.clock2q_cache.specs.Indexed.{HasPlaces}
 use Rattle.clock2q_cache.proofs.WithKeys.{HaveKeys, have_later, small-cons, main-cons}
 use Rattle.clock2q_cache.proofs.Stored.{entry_there, hash-of-key}
-use Rattle.clock2q_cache.proofs.Kept.{small_have, main_have}
+use Rattle.clock2q_cache.proofs.CacheInvariant.{small_have, main_have}
 
 absorb : (n a : Bool) → n ≡ (n || (a && n))
 absorb true a = refl

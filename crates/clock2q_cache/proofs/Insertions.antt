@@ -25,7 +25,7 @@ use Rattle.clock2q_cache.specs.CacheState.{CacheState, Counts}
 use Rattle.clock2q_cache.specs.Costs.{Spends, alike}
 use Rattle.clock2q_cache.specs.Hashes.{hash_of}
 use Rattle.clock2q_cache.proofs.WithKeys.{main-inspections}
-use Rattle.clock2q_cache.proofs.Kept.{main_have}
+use Rattle.clock2q_cache.proofs.CacheInvariant.{main_have}
 use Rattle.clock2q_cache.proofs.Whole.{none_is}
 
 module _ {K V : Type 0} (q : QueueState) (h : Remembered K) (keys : KeyPlaces K V) where

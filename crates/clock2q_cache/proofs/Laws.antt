@@ -12,7 +12,7 @@ use Rattle.clock2q_cache.specs.Steps.{refused_slots, is_at, supplied, fetched_va
 use Rattle.clock2q_cache.specs.Bounds.{takes_out}
 use Rattle.clock2q_cache.specs.Cache.{IsWhole}
 use Rattle.clock2q_cache.proofs.Whole.{one_if, some_is, none_is, weight, all_resident}
-use Rattle.clock2q_cache.proofs.Lasting.{placed-key, lasting-inserted, lasting-reused, resident_made, lasting-after}
+use Rattle.clock2q_cache.proofs.MachineInvariant.{placed-key, lasting-inserted, lasting-reused, resident_made, lasting-after}
 use Rattle.clock2q_cache.proofs.Standing.{stored_there, stored_elsewhere, get-append, get-within}
 use Rattle.clock2q_cache.proofs.Entering.{weight-hit, weight-replaced, weight-vacated, weight-removed, values-vacated, values-removed, joined, narrow, same_slots, StaysOrGoes, stays_or_goes, slots_apart, differs, entered_there, others_entered}
 

@@ -1,3 +1,4 @@
+pub mod CacheInvariant
 pub mod Changed
 pub mod Charged
 pub mod Cleared
@@ -8,9 +9,8 @@ pub mod Filled
 pub mod Finding
 pub mod Indexed
 pub mod Insertions
-pub mod Kept
-pub mod Lasting
 pub mod Laws
+pub mod MachineInvariant
 pub mod Making
 pub mod Places
 pub mod Remembered

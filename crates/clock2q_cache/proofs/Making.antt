@@ -16,7 +16,7 @@ use Rattle.clock2q_cache.specs.Closures.{Reuses, Takes}
 use Rattle.clock2q_cache.specs.Insertions.{IsValueFor, Fills, placed, next_is_vacant, makes_slot}
 use Rattle.clock2q_cache.proofs.Whole.{one_if, some_is, none_is, stands_made, victim_made, no_vacancy, all_resident, placed-main, placed-small}
 use Rattle.clock2q_cache.proofs.Weights.{length-from_victim}
-use Rattle.clock2q_cache.proofs.Lasting.{placed-key, resident_made}
+use Rattle.clock2q_cache.proofs.MachineInvariant.{placed-key, resident_made}
 use Rattle.clock2q_cache.proofs.Standing.{get-within}
 use Rattle.clock2q_cache.proofs.Laws.{slot_at_most, reused_value}
 use Rattle.clock2q_cache.proofs.Fetched.{stored_again, stored_same}

@@ -3,13 +3,13 @@ use Rattle.std.proofs.Common.{◌≡◌, ℕ, ◌||◌, ◌==◌, Bool, true, fa
 use Rattle.std.specs.List.{find, list_any, last_or, AllByRecursion}
 use Rattle.std.specs.Cmp.{IsEquivalence}
 use Rattle.std.proofs.lemmas.Bool.{cases_Bool, both_ways}
-use Rattle.clock2q_handles.specs.Homes.{inserted, removed}
+use Rattle.clock2q_handles.specs.Homes.{with_handle, removed}
 use Rattle.clock2q_queues.specs.Rings.{has}
 use Rattle.clock2q_queues.specs.Keys.{KeyPlaces, key_at, hash_at}
 use Rattle.clock2q_queues.specs.Queues.{QueueState}
 use Rattle.clock2q_queues.specs.History.{Remembered, Places, oldest_hash, pushed_places}
 use Rattle.clock2q_queues.proofs.Rings.{has_first, eqb_swap, eqb_self}
-use Rattle.clock2q_cache.specs.Shares.{Shares, ghost_share}
+use Rattle.clock2q_cache.specs.Shares.{Shares, history_share}
 use Rattle.clock2q_cache.specs.Machine.{Machine, residents, resident_at, slot_of, goes_to_main, forgotten, placement}
 use Rattle.clock2q_cache.specs.CacheFields.{machine_of, places_of, IsKept}
 use Rattle.std.specs.Prelude.{if◌then◌else◌, IfSome, is_some}
@@ -90,23 +90,23 @@ module _ {K V : Type 0} (eq : K → K → Bool) (laws : IsEquivalence eq) (hash 
       ∙ none-paired (key_at keys.entries) slot (places_of q) have absent
 
   -- a key enters at a slot that has no resident
-  pub entered-vacant : (key : K) (slot : ℕ) → has slot (places_of q) ≡ false → entered hash key slot m index ≡ inserted index (hash key) slot
-  entered-vacant key slot absent = ap (λ z. inserted (left_by hash z slot index) (hash key) slot) (resident-none slot absent)
+  pub entered-vacant : (key : K) (slot : ℕ) → has slot (places_of q) ≡ false → entered hash key slot m index ≡ with_handle index (hash key) slot
+  entered-vacant key slot absent = ap (λ z. with_handle (left_by hash z slot index) (hash key) slot) (resident-none slot absent)
 
   -- a key takes the slot of a resident
-  pub entered-renewed : (key : K) (slot old : ℕ) → has slot (places_of q) ≡ true → hash_at keys.entries slot ≡ Some old → entered hash key slot m index ≡ inserted (removed eqb index old slot) (hash key) slot
+  pub entered-renewed : (key : K) (slot old : ℕ) → has slot (places_of q) ≡ true → hash_at keys.entries slot ≡ Some old → entered hash key slot m index ≡ with_handle (removed eqb index old slot) (hash key) slot
   entered-renewed key slot old there at =
       let k = have slot there in
       let is : old ≡ hash k.0 = hash-of-key hash keys.entries slot old k.0 kept.stored.hashed at k.1 in
-      ap (λ z. inserted (left_by hash z slot index) (hash key) slot) (resident-there slot k.0 there k.1)
-      ∙ ap (λ z. inserted (removed eqb index z slot) (hash key) slot) (sym is)
+      ap (λ z. with_handle (left_by hash z slot index) (hash key) slot) (resident-there slot k.0 there k.1)
+      ∙ ap (λ z. with_handle (removed eqb index z slot) (hash key) slot) (sym is)
 
   -- a key goes out into the history
   pub remembering-kept : (key : K) (hsh : ℕ) (p : Places) → hsh ≡ hash key → pushed_places h.limit hsh (oldest_hash (λ (e : ℕ × K). e.0) h.entries) p ≡ remembering hash key m p
   remembering-kept key hsh p is =
       ap (λ z. pushed_places z hsh (oldest_hash (λ (e : ℕ × K). e.0) h.entries) p) kept.sized.remembers
-      ∙ ap (λ z. pushed_places (ghost_share shares) z (oldest_hash (λ (e : ℕ × K). e.0) h.entries) p) is
-      ∙ ap (λ z. pushed_places (ghost_share shares) (hash key) z p) (oldest-hashed hash None None h.entries refl kept.hashed)
+      ∙ ap (λ z. pushed_places (history_share shares) z (oldest_hash (λ (e : ℕ × K). e.0) h.entries) p) is
+      ∙ ap (λ z. pushed_places (history_share shares) (hash key) z p) (oldest-hashed hash None None h.entries refl kept.hashed)
 
   -- the key of Small's tail
   pub out-of-tail : (tail : ℕ) (key : K) → last_or None (slots_of q.small) ≡ Some tail → key_at keys.entries tail ≡ Some key → option_map (λ (e : SmallEntry K). e.key) (last_or None m.small) ≡ Some key

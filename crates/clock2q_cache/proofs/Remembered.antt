@@ -5,7 +5,7 @@ use Rattle.std.specs.Cmp.{IsEquivalence}
 use Rattle.std.specs.List.{count_by, list_any, last_or}
 use Rattle.std.proofs.lemmas.List.Sums.{sum_by-cons, sum_by-take-le}
 use Rattle.clock2q_queues.specs.Ages.{is_promoted}
-use Rattle.clock2q_cache.specs.Shares.{main_share, ghost_share}
+use Rattle.clock2q_cache.specs.Shares.{main_share, history_share}
 use Rattle.clock2q_cache.specs.Entries.{SmallEntry, MainEntry, from_victim}
 use Rattle.clock2q_cache.specs.Calls.{Call, Put, Get, Peek, Contains, GetAt, Set, With, Try, SlotFor, Remove, Retain, Clear, Prefill, Len, IsEmpty, Capacity}
 use Rattle.clock2q_cache.specs.Machine.{Machine, hit, forgotten, stored, placement, inserted, reused, goes_to_main, into_main, into_small, into_small_at, evicting_tail, promoting_tail, replacing_victim, joining_main, slot_of, vacancy, vacated, vacated_all, removed_at, by_slot}
@@ -13,7 +13,7 @@ use Rattle.clock2q_cache.specs.Steps.{refused_slots, is_at, replaced_at, after}
 use Rattle.clock2q_cache.specs.Cache.{IsWhole}
 use Rattle.clock2q_cache.proofs.Weights.{sum_by-filter-le}
 use Rattle.clock2q_cache.proofs.Whole.{one_if}
-use Rattle.clock2q_cache.proofs.Lasting.{lasting-after}
+use Rattle.clock2q_cache.proofs.MachineInvariant.{lasting-after}
 use Rattle.clock2q_cache.proofs.Standing.{absent_if}
 
 -- what Small's tail adds to the history
@@ -33,7 +33,7 @@ module _ {K V : Type 0} where
   remembered_promoting is key tail (victim ∷ others) m = refl
 
   remembered_evicting : (is : K → Bool) (key : K) (tail : SmallEntry K) (m : Machine K V) → count_by is (evicting_tail key tail m).machine.history ≤ count_by is m.history + one_if (is tail.key)
-  remembered_evicting is key tail m = omega (arith, sum_by-take-le (λ k. one_if (is k)) (tail.key ∷ m.history) (ghost_share m.shares), sum_by-cons (λ k. one_if (is k)) tail.key m.history)
+  remembered_evicting is key tail m = omega (arith, sum_by-take-le (λ k. one_if (is k)) (tail.key ∷ m.history) (history_share m.shares), sum_by-cons (λ k. one_if (is k)) tail.key m.history)
 
   remembered_small : (is : K → Bool) (key : K) (m : Machine K V) (v : Option ℕ) (t : Option (SmallEntry K)) → count_by is (into_small_at key v t m).machine.history ≤ count_by is m.history + of_tail is t
   remembered_small is key m (Some slot) t = omega arith

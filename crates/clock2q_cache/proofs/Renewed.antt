@@ -5,20 +5,20 @@ use Rattle.std.specs.Cmp.{IsEquivalence}
 use Rattle.std.specs.List.{count_by, list_any, last_or, AllByRecursion}
 use Rattle.std.proofs.lemmas.Bool.{cases_Bool, both_ways}
 use Rattle.std.proofs.lemmas.List.Sums.{sum_by-cons, sum_by-append}
-use Rattle.clock2q_handles.specs.Homes.{total, capacity, inserted, removed}
+use Rattle.clock2q_handles.specs.Homes.{total, capacity, with_handle, removed}
 use Rattle.clock2q_queues.specs.Ages.{Age, is_promoted}
 use Rattle.clock2q_queues.specs.declared.keys.cells.Entry.{Entry}
 use Rattle.clock2q_queues.specs.Rings.{has, AllApart}
 use Rattle.clock2q_queues.specs.Keys.{KeyPlaces, entry, written, hash_at, key_at}
 use Rattle.clock2q_queues.specs.Indexes.{IsIndex}
 use Rattle.clock2q_queues.specs.Small.{admitted}
-use Rattle.clock2q_queues.specs.MainRing.{passed, from_victim}
+use Rattle.clock2q_queues.specs.MainRing.{set_front, from_victim}
 use Rattle.clock2q_queues.specs.Queues.{QueueState, slots_of}
 use Rattle.clock2q_queues.specs.History.{Remembered, is_remembered}
 use Rattle.clock2q_queues.proofs.Rings.{has-append, eqb_self, has_first, below_of}
 use Rattle.clock2q_queues.proofs.Indexes.{length-put, length-taken}
 use Rattle.clock2q_queues.proofs.Booleans.{or_parts, or_neither}
-use Rattle.clock2q_cache.specs.Shares.{Shares, main_share, ghost_share}
+use Rattle.clock2q_cache.specs.Shares.{Shares, main_share, history_share}
 use Rattle.clock2q_cache.specs.Entries as machine
 use Rattle.clock2q_cache.specs.Entries.{SmallEntry, MainEntry}
 use Rattle.clock2q_cache.specs.Machine.{Machine, Placement, vacancy, into_main, into_small, into_small_at, joining_main, replacing_victim, evicting_tail, promoting_tail, stored}
@@ -27,7 +27,7 @@ use Rattle.clock2q_cache.specs.CacheFields.{machine_of, places_of, with_keys_sma
 use Rattle.clock2q_cache.proofs.WithKeys.{HaveKeys, small_with, main_with, main-cons, small-admitted, main-behind, small-agree, main-agree, small-take, small-last, length-small, length-main, main-from_victim}
 use Rattle.clock2q_cache.proofs.Stored.{stored-renewed, stored-same, key_at-own, key_at-others, values-written, length-values}
 use Rattle.clock2q_cache.proofs.Slots.{times, times-cons, times-none, times-some, at_most_once, length-places, has-appended, has-from_victim, length-swept}
-use Rattle.clock2q_cache.proofs.Kept.{length_in_small, length_in_main, small_have, main_have, apart, index_some, IsDone, kept-placed, sized-same}
+use Rattle.clock2q_cache.proofs.CacheInvariant.{length_in_small, length_in_main, small_have, main_have, apart, index_some, IsDone, kept-placed, sized-same}
 use Rattle.clock2q_cache.proofs.Whole.{IsPlaced, placed-replacing, placed-evicting, placed-promoting}
 use Rattle.clock2q_cache.proofs.Weights.{weight-last}
 
@@ -175,7 +175,7 @@ module _ {K V : Type 0} (eq : K → K → Bool) (laws : IsEquivalence eq) (hash 
     victim-there = sym (has-from_victim victim q.main) ∙ ap (λ z. has victim (slots_of z)) swept ∙ has_first victim (slots_of rest)
 
     victim_times : times victim (slots_of q.main) ≡ 1 + times victim (slots_of rest)
-    victim_times = sym (times-split victim (passed q.main) q.main) ∙ ap (λ z. times victim (slots_of z)) swept ∙ omega (arith, times-cons victim victim (slots_of rest), ap {B = ℕ} (λ b. cond b 1 0) (eqb_self victim))
+    victim_times = sym (times-split victim (set_front q.main) q.main) ∙ ap (λ z. times victim (slots_of z)) swept ∙ omega (arith, times-cons victim victim (slots_of rest), ap {B = ℕ} (λ b. cond b 1 0) (eqb_self victim))
 
     pub victim-not_in_rest : has victim (slots_of rest) ≡ false
     victim-not_in_rest = times-none victim (slots_of rest) (omega (arith, victim_times, once_at victim))
@@ -211,7 +211,7 @@ module _ {K V : Type 0} (eq : K → K → Bool) (laws : IsEquivalence eq) (hash 
     entries' = written slot (entry hsh key value) keys.entries
 
     abbrev index' : List (List (ℕ × ℕ))
-    index' = inserted (removed eqb index old slot) hsh slot
+    index' = with_handle (removed eqb index old slot) hsh slot
 
     made : slot < length keys.entries
     made = below_of (length keys.entries) (places_of q) kept.stored.made slot there
@@ -220,7 +220,7 @@ module _ {K V : Type 0} (eq : K → K → Bool) (laws : IsEquivalence eq) (hash 
     next = omega (arith, made)
 
     renewed : IsStored hash index' entries' (places_of q)
-    renewed = subst (λ z. IsStored hash (inserted (removed eqb index old slot) z slot) (written slot (entry z key value) keys.entries) (places_of q)) (sym is)
+    renewed = subst (λ z. IsStored hash (with_handle (removed eqb index old slot) z slot) (written slot (entry z key value) keys.entries) (places_of q)) (sym is)
         (stored-renewed hash index keys.entries (places_of q) slot old key value kept.stored (index_some eq laws hash shares q h index keys free room kept) (apart eq laws hash shares q h index keys free room kept) there at)
 
     own : key_at entries' slot ≡ Some key
@@ -253,7 +253,7 @@ module _ {K V : Type 0} (eq : K → K → Bool) (laws : IsEquivalence eq) (hash 
   -- a key that takes the slot of Main's victim
   module _ (victim : ℕ) (first : slice_get (from_victim q.main) 0 ≡ Some (victim, false)) (key : K) (value : V) (hsh old : ℕ) (is : hsh ≡ hash key) (at : hash_at keys.entries victim ≡ Some old)
       (q' : QueueState) (index2 : List (List (ℕ × ℕ))) (keys' : KeyPlaces K V) (absent : known_count (eq key) m ≡ 0)
-      (slots : q'.slots ≡ q.slots) (window : q'.window ≡ q.window) (indexed : index2 ≡ inserted (removed eqb index old victim) hsh victim) (wrote : keys'.entries ≡ written victim (entry hsh key value) keys.entries) (keys_room : keys'.room ≡ keys.room) where
+      (slots : q'.slots ≡ q.slots) (window : q'.window ≡ q.window) (indexed : index2 ≡ with_handle (removed eqb index old victim) hsh victim) (wrote : keys'.entries ≡ written victim (entry hsh key value) keys.entries) (keys_room : keys'.room ≡ keys.room) where
     abbrev there : has victim (places_of q) ≡ true
     there = victim-in victim first
 
@@ -361,7 +361,7 @@ module _ {K V : Type 0} (eq : K → K → Bool) (laws : IsEquivalence eq) (hash 
     -- a key that takes its slot
     module _ (key : K) (value : V) (hsh old : ℕ) (is : hsh ≡ hash key) (at : hash_at keys.entries tail ≡ Some old) (old_key : K) (key_is : key_at keys.entries tail ≡ Some old_key)
         (q' : QueueState) (h' : Remembered K) (index2 : List (List (ℕ × ℕ))) (keys' : KeyPlaces K V) (absent : known_count (eq key) m ≡ 0)
-        (slots : q'.slots ≡ q.slots) (window : q'.window ≡ q.window) (limit : h'.limit ≡ h.limit) (indexed : index2 ≡ inserted (removed eqb index old tail) hsh tail) (wrote : keys'.entries ≡ written tail (entry hsh key value) keys.entries) (keys_room : keys'.room ≡ keys.room) where
+        (slots : q'.slots ≡ q.slots) (window : q'.window ≡ q.window) (limit : h'.limit ≡ h.limit) (indexed : index2 ≡ with_handle (removed eqb index old tail) hsh tail) (wrote : keys'.entries ≡ written tail (entry hsh key value) keys.entries) (keys_room : keys'.room ≡ keys.room) where
       same_key : tail_key.0 ≡ old_key
       same_key = inner tail_key.0 old_key (sym tail_key.1 ∙ key_is)
         where
@@ -378,9 +378,9 @@ module _ {K V : Type 0} (eq : K → K → Bool) (laws : IsEquivalence eq) (hash 
           ∙ ap (λ z. machine.small_admitted q.window key tail z) (small_other key value hsh tail old is tail-in at front tail-not_in_front ∙ front_entries)
           ∙ ap (λ z. machine.small_admitted z key tail (take (length m.small - 1) m.small)) kept.sized.window in
           let t : with_keys_main (key_at es) q'.main ≡ m.main = ap (λ z. with_keys_main (key_at es) z) main ∙ main_other key value hsh tail old is tail-in at q.main tail-not_in_main in
-          let r : map (λ (e : ℕ × K). e.1) h'.entries ≡ take (ghost_share shares) (tail_key.0 ∷ m.history) =
+          let r : map (λ (e : ℕ × K). e.1) h'.entries ≡ take (history_share shares) (tail_key.0 ∷ m.history) =
           ap (λ z. map (λ (e : ℕ × K). e.1) z) pushed ∙ map-take (λ (e : ℕ × K). e.1) h.limit ((old, old_key) ∷ h.entries) ∙ ap (λ n. take n (old_key ∷ m.history)) kept.sized.remembers
-          ∙ ap (λ z. take (ghost_share shares) (z ∷ m.history)) (sym same_key) in
+          ∙ ap (λ z. take (history_share shares) (z ∷ m.history)) (sym same_key) in
           let v = values-written tail (entry hsh key value) keys.entries (next key value hsh tail old is tail-in at) in
           let p = evicting_tail key tail_entry m in
           let e : machine_of shares q' es h'.entries free ≡ stored p.slot value p.machine = cc in
@@ -403,7 +403,7 @@ module _ {K V : Type 0} (eq : K → K → Bool) (laws : IsEquivalence eq) (hash 
     -- a key that takes the slot of Main's victim, while the tail goes to the end of Main
     module _ (victim : ℕ) (first : slice_get (from_victim q.main) 0 ≡ Some (victim, false)) (key : K) (value : V) (hsh old : ℕ) (is : hsh ≡ hash key) (at : hash_at keys.entries victim ≡ Some old)
         (q' : QueueState) (index2 : List (List (ℕ × ℕ))) (keys' : KeyPlaces K V) (absent : known_count (eq key) m ≡ 0)
-        (slots : q'.slots ≡ q.slots) (window : q'.window ≡ q.window) (indexed : index2 ≡ inserted (removed eqb index old victim) hsh victim) (wrote : keys'.entries ≡ written victim (entry hsh key value) keys.entries) (keys_room : keys'.room ≡ keys.room) where
+        (slots : q'.slots ≡ q.slots) (window : q'.window ≡ q.window) (indexed : index2 ≡ with_handle (removed eqb index old victim) hsh victim) (wrote : keys'.entries ≡ written victim (entry hsh key value) keys.entries) (keys_room : keys'.room ≡ keys.room) where
       pub promoted-done : vacancy m ≡ None → IfSome (last_or None m.small) (λ tail. is_promoted tail.age ≡ true) → q'.small ≡ admitted q.window victim front → q'.main ≡ rest victim first ++ (tail, false) ∷ []
           → IsDone eq laws hash shares q h index keys free room kept victim value (into_small key m) q' h index2 keys' free room
       promoted-done none on small main =

@@ -7,7 +7,7 @@ use Rattle.std.proofs.lemmas.List.{length-drop}
 use Rattle.std.proofs.lemmas.List.Sums.{sum_by-cons, sum_by-append, sum_by_push, sum_by-take-drop, sum_by-le-sum_by}
 use Rattle.clock2q_queues.specs.Ages.{is_promoted}
 use Rattle.clock2q_cache.specs.Shares.{main_share}
-use Rattle.clock2q_cache.specs.Entries.{SmallEntry, MainEntry, passed, from_victim, with_bit}
+use Rattle.clock2q_cache.specs.Entries.{SmallEntry, MainEntry, set_front, from_victim, with_bit}
 use Rattle.clock2q_cache.specs.Calls.{Call, Put, Get, Peek, Contains, GetAt, Set, With, Try, SlotFor, Remove, Retain, Clear, Prefill, Len, IsEmpty, Capacity}
 use Rattle.clock2q_cache.specs.Machine.{Machine, hit, forgotten, stored, placement, inserted, reused, goes_to_main, into_main, into_small, into_small_at, evicting_tail, promoting_tail, replacing_victim, joining_main, slot_of, vacancy}
 use Rattle.clock2q_cache.specs.Steps.{is_at, replaced_at, after}
@@ -44,19 +44,19 @@ module _ {K : Type 0} (is : K → Bool) where
 
   -- where some bit of Main is clear, an entry whose bit is set is not the victim
   spared : (es : List (MainEntry K)) → bits es < length es → (victim : MainEntry K) (others : List (MainEntry K)) → from_victim es ≡ victim ∷ others → hit_passing es ≤ passing others
-  spared es clear victim others choice = from (drop (passed es) es) refl where
+  spared es clear victim others choice = from (drop (set_front es) es) refl where
     cleared : List (MainEntry K)
-    cleared = map (λ e. with_bit e false) (take (passed es) es)
+    cleared = map (λ e. with_bit e false) (take (set_front es) es)
 
-    from : (rest : List (MainEntry K)) → drop (passed es) es ≡ rest → hit_passing es ≤ passing others
-    from [] none = absurd (omega (arith, clear, bits-passed es, sum_by-take-drop (λ (e : MainEntry K). one_if e.bit) es (passed es), ap (length {A = MainEntry K}) none, length-drop (passed es) es))
+    from : (rest : List (MainEntry K)) → drop (set_front es) es ≡ rest → hit_passing es ≤ passing others
+    from [] none = absurd (omega (arith, clear, bits-passed es, sum_by-take-drop (λ (e : MainEntry K). one_if e.bit) es (set_front es), ap (length {A = MainEntry K}) none, length-drop (set_front es) es))
     from (first ∷ rest) parts =
         let both = split_first first victim (rest ++ cleared) others (sym (ap (λ z. z ++ cleared) parts) ∙ choice) in
         let unset : first.bit ≡ false = ap (λ (e : MainEntry K). e.bit) both.0 ∙ victim_clear es victim others choice in
-        let passed_ones = take (passed es) es in
+        let passed_ones = take (set_front es) es in
         omega (
           arith,
-          sum_by-take-drop (λ (e : MainEntry K). one_if (is e.key && e.bit)) es (passed es),
+          sum_by-take-drop (λ (e : MainEntry K). one_if (is e.key && e.bit)) es (set_front es),
           ap hit_passing parts,
           sum_by-cons (λ (e : MainEntry K). one_if (is e.key && e.bit)) first rest,
           no_bit (is first.key) first.bit unset,

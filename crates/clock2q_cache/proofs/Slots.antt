@@ -9,7 +9,7 @@ use Rattle.clock2q_queues.specs.Ages.{Age}
 use Rattle.clock2q_queues.specs.declared.keys.cells.Entry.{Entry}
 use Rattle.clock2q_queues.specs.Rings.{has, AllApart, AllBelow}
 use Rattle.clock2q_queues.specs.Keys.{key_at}
-use Rattle.clock2q_queues.specs.MainRing.{passed, from_victim}
+use Rattle.clock2q_queues.specs.MainRing.{set_front, from_victim}
 use Rattle.clock2q_queues.specs.Queues.{QueueState, slots_of}
 use Rattle.clock2q_queues.proofs.Rings.{has-append, has_first, has_later, eqb_self}
 use Rattle.clock2q_cache.specs.Shares.{Shares}
@@ -73,7 +73,7 @@ pub has-appended : {X : Type 0} (t : ℕ) (xs ys : List (ℕ × X)) → has t (s
 has-appended t xs ys = ap (λ z. has t z) (slots-append xs ys) ∙ has-append t (slots_of xs) (slots_of ys)
 
 pub has-from_victim : (t : ℕ) (main : List (ℕ × Bool)) → has t (slots_of (from_victim main)) ≡ has t (slots_of main)
-has-from_victim t main = has-appended t (drop (passed main) main) (map {B = ℕ × Bool} (λ e. (e.0, false)) (take (passed main) main)) ∙ sym (has-split t (passed main) main)
+has-from_victim t main = has-appended t (drop (set_front main) main) (map {B = ℕ × Bool} (λ e. (e.0, false)) (take (set_front main) main)) ∙ sym (has-split t (set_front main) main)
 
 length-split : (n : ℕ) (main : List (ℕ × Bool)) → length (drop n main) + length (map {B = ℕ × Bool} (λ (e : ℕ × Bool). (e.0, false)) (take n main)) ≡ length main
 length-split zero main = omega arith
@@ -81,7 +81,7 @@ length-split (suc n) [] = refl
 length-split (suc n) (e ∷ main) = omega (arith, length-split n main)
 
 pub length-swept : (main : List (ℕ × Bool)) → length (from_victim main) ≡ length main
-length-swept main = length-append (drop (passed main) main) (map {B = ℕ × Bool} (λ (e : ℕ × Bool). (e.0, false)) (take (passed main) main)) ∙ length-split (passed main) main
+length-swept main = length-append (drop (set_front main) main) (map {B = ℕ × Bool} (λ (e : ℕ × Bool). (e.0, false)) (take (set_front main) main)) ∙ length-split (set_front main) main
 
 pub length-places : (q : QueueState) → length (places_of q) ≡ length q.small + length q.main
 length-places q = length-append (slots_of q.small) (slots_of q.main) ∙ ap (λ n. n + length (slots_of q.main)) (length-slots q.small) ∙ ap (λ n. length q.small + n) (length-slots q.main)

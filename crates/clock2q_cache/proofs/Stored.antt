@@ -3,7 +3,7 @@ use Rattle.std.proofs.Common.{◌≡◌, ℕ, zero, suc, ◌+◌, ◌-◌, ◌^�
 use Rattle.std.specs.Prelude.{if◌then◌else◌, nat_lt, slice_set}
 use Rattle.std.specs.List.{AllByRecursion}
 use Rattle.std.proofs.lemmas.Bool.{cases_Bool, cases_lt, both_ways, lt-ltb, le-ltb}
-use Rattle.clock2q_handles.specs.Homes.{candidates, total, capacity, inserted, removed}
+use Rattle.clock2q_handles.specs.Homes.{candidates, total, capacity, with_handle, removed}
 use Rattle.clock2q_queues.specs.declared.keys.cells.Entry.{Entry}
 use Rattle.clock2q_queues.specs.Rings.{has, without, AllApart, AllBelow}
 use Rattle.clock2q_queues.specs.Keys.{entry, written, with_key, hash_at, key_at, value_at}
@@ -118,7 +118,7 @@ module _ {K V : Type 0} (hash : K → ℕ) where
 
   -- a key enters at a slot
   pub stored-entered : (index : List (List (ℕ × ℕ))) (entries : List (Entry K V)) (places : List ℕ) (slot : ℕ) (key : K) (value : V) → IsStored hash index entries places → 0 < length index → has slot places ≡ false → slot ≤ length entries
-      → IsStored hash (inserted index (hash key) slot) (written slot (entry (hash key) key value) entries) (slot ∷ places)
+      → IsStored hash (with_handle index (hash key) slot) (written slot (entry (hash key) key value) entries) (slot ∷ places)
   stored-entered index entries places slot key value i some absent next =
       let e = entry (hash key) key value in
       let n = length-written slot e entries next in
@@ -146,13 +146,13 @@ module _ {K V : Type 0} (hash : K → ℕ) where
 
   -- a key takes the place of a resident
   pub stored-renewed : (index : List (List (ℕ × ℕ))) (entries : List (Entry K V)) (places : List ℕ) (slot old : ℕ) (key : K) (value : V) → IsStored hash index entries places → 0 < length index → AllApart places → has slot places ≡ true → hash_at entries slot ≡ Some old
-      → IsStored hash (inserted (removed eqb index old slot) (hash key) slot) (written slot (entry (hash key) key value) entries) places
+      → IsStored hash (with_handle (removed eqb index old slot) (hash key) slot) (written slot (entry (hash key) key value) entries) places
   stored-renewed index entries places slot old key value i some apart there at =
       let l = stored-left index entries places slot old i some apart at in
       let gone : has slot (without slot places) ≡ false = has-without_test slot slot places ∙ rw (eqb_self slot) (and_none (has slot places)) in
       let below : slot < length entries = below_of (length entries) places i.made slot there in
       let e = stored-entered (removed eqb index old slot) entries (without slot places) slot key value l (omega (arith, some, length-taken index old slot)) gone (omega (arith, below)) in
-      stored-same (inserted (removed eqb index old slot) (hash key) slot) (written slot (entry (hash key) key value) entries) (slot ∷ without slot places) places e again (sym (omega (arith, length-without slot places apart there)))
+      stored-same (with_handle (removed eqb index old slot) (hash key) slot) (written slot (entry (hash key) key value) entries) (slot ∷ without slot places) places e again (sym (omega (arith, length-without slot places apart there)))
     where
       and_none : (b : Bool) → (b && false) ≡ false
       and_none true = refl

@@ -24,8 +24,8 @@ use Rattle.clock2q_cache.specs.CacheFields.{machine_of, places_of, with_keys_sma
 use Rattle.clock2q_cache.proofs.WithKeys.{HaveKeys, have_later, small-cons, main-cons, small-standing, main-standing}
 use Rattle.clock2q_cache.proofs.Stored.{stored-left, have_keys, length-values}
 use Rattle.clock2q_cache.proofs.Slots.{times-some}
-use Rattle.clock2q_cache.proofs.Kept.{small_have, main_have, apart, index_some, sized-same}
-use Rattle.clock2q_cache.proofs.Lasting.{whole-vacated}
+use Rattle.clock2q_cache.proofs.CacheInvariant.{small_have, main_have, apart, index_some, sized-same}
+use Rattle.clock2q_cache.proofs.MachineInvariant.{whole-vacated}
 
 some_same : {X : Type 0} (x y : X) → Some x ≡ Some y → x ≡ y
 some_same x y e = cc

@@ -5,7 +5,7 @@ use Rattle.std.specs.List.{sum_by, count_by, filter, find, last_or}
 use Rattle.std.proofs.lemmas.List.{length-map, length-take}
 use Rattle.std.proofs.lemmas.List.Sums.{sum_by-cons, sum_by-append, sum_by_push, sum_by-take-drop, prefix_len-le-length}
 use Rattle.clock2q_queues.specs.Ages.{Age, Young, touched, grown}
-use Rattle.clock2q_cache.specs.Entries.{SmallEntry, MainEntry, small_hit, main_hit, small_admitted, from_victim, behind_hand, passed, with_age, with_bit}
+use Rattle.clock2q_cache.specs.Entries.{SmallEntry, MainEntry, small_hit, main_hit, small_admitted, from_victim, behind_hand, set_front, with_age, with_bit}
 
 -- a change of each element that keeps its weight keeps the sum
 sum_by-kept : {X : Type 0} (g : X → ℕ) (f : X → X) → ((x : X) → g (f x) ≡ g x) → (xs : List X) → sum_by g (map f xs) ≡ sum_by g xs
@@ -57,7 +57,7 @@ module _ {K : Type 0} where
 
     pub weight-from_victim : (main : List (MainEntry K)) → sum_by g (from_victim main) ≡ sum_by g main
     weight-from_victim main =
-        omega (arith, sum_by-append g (drop (passed main) main) (map (λ e. with_bit e false) (take (passed main) main)), sum_by-kept g (λ e. with_bit e false) (λ e. bitless e false) (take (passed main) main), sum_by-take-drop g main (passed main))
+        omega (arith, sum_by-append g (drop (set_front main) main) (map (λ e. with_bit e false) (take (set_front main) main)), sum_by-kept g (λ e. with_bit e false) (λ e. bitless e false) (take (set_front main) main), sum_by-take-drop g main (set_front main))
 
     pub weight-behind : (key : K) (slot : ℕ) (main : List (MainEntry K)) → sum_by g (behind_hand key slot main) ≡ sum_by g main + g (record { key = key; slot = slot; bit = false })
     weight-behind key slot main = sum_by_push g main (record { key = key; slot = slot; bit = false })
@@ -69,7 +69,7 @@ module _ {K : Type 0} where
   -- a sweep of the hand leaves as many entries
   pub length-from_victim : (main : List (MainEntry K)) → length (from_victim main) ≡ length main
   length-from_victim main =
-      let front : passed main ≤ length main = prefix_len-le-length (λ e. e.bit) main in
+      let front : set_front main ≤ length main = prefix_len-le-length (λ e. e.bit) main in
       simp (length-append, length-map, length-drop, length-take) (omega arith)
 
 -- a list without its last element

@@ -9,7 +9,7 @@ use Rattle.clock2q_queues.specs.Ages as ages
 use Rattle.clock2q_queues.specs.Ages.{Age, grown, touched}
 use Rattle.clock2q_queues.specs.Rings.{has}
 use Rattle.clock2q_queues.specs.Small.{admitted, small_hit_at}
-use Rattle.clock2q_queues.specs.MainRing.{passed, inspections, from_victim, main_hit_at}
+use Rattle.clock2q_queues.specs.MainRing.{set_front, inspections, from_victim, main_hit_at}
 use Rattle.clock2q_queues.specs.Queues.{slots_of, without_slot}
 use Rattle.clock2q_queues.proofs.Rings.{has_first, has_later}
 use Rattle.clock2q_cache.specs.Entries as machine
@@ -102,14 +102,14 @@ module _ {K : Type 0} (key : ℕ → Option K) where
           ap (λ (z : ℕ × Age). Some (small_with z j)) xe ∙ ap (λ z. Some (small_with e z)) jk
 
   -- the hand's looks
-  pub main-passed : (es : List (ℕ × Bool)) → HaveKeys (slots_of es) → machine.passed (with_keys_main key es) ≡ passed es
+  pub main-passed : (es : List (ℕ × Bool)) → HaveKeys (slots_of es) → machine.set_front (with_keys_main key es) ≡ set_front es
   main-passed [] h = refl
   main-passed ((s, true) ∷ es) h =
       let k = h s (has_first s (slots_of es)) in
-      ap (λ z. machine.passed z) (main-cons (s, true) es k.0 k.1) ∙ ap (λ z. 1 + z) (main-passed es (have_later s (slots_of es) h))
+      ap (λ z. machine.set_front z) (main-cons (s, true) es k.0 k.1) ∙ ap (λ z. 1 + z) (main-passed es (have_later s (slots_of es) h))
   main-passed ((s, false) ∷ es) h =
       let k = h s (has_first s (slots_of es)) in
-      ap (λ z. machine.passed z) (main-cons (s, false) es k.0 k.1)
+      ap (λ z. machine.set_front z) (main-cons (s, false) es k.0 k.1)
 
   pub main-inspections : (es : List (ℕ × Bool)) → HaveKeys (slots_of es) → machine.inspections (with_keys_main key es) ≡ inspections es
   main-inspections es h = ap (λ z. z + 1) (main-passed es h)
@@ -135,9 +135,9 @@ module _ {K : Type 0} (key : ℕ → Option K) where
   pub main-from_victim : (es : List (ℕ × Bool)) → HaveKeys (slots_of es) → machine.from_victim (with_keys_main key es) ≡ with_keys_main key (from_victim es)
   main-from_victim es h =
       ap (λ n. drop n (with_keys_main key es) ++ map (λ (e : MainEntry K). record e { bit = false }) (take n (with_keys_main key es))) (main-passed es h)
-      ∙ ap (λ z. z ++ map (λ (e : MainEntry K). record e { bit = false }) (take (passed es) (with_keys_main key es))) (main-drop (passed es) es h)
-      ∙ ap (λ z. with_keys_main key (drop (passed es) es) ++ z) (main-cleared (passed es) es h)
-      ∙ sym (filter_map-append (λ (e : ℕ × Bool). option_map (λ k. main_with e k) (key e.0)) (drop (passed es) es) (map {B = ℕ × Bool} (λ (e : ℕ × Bool). (e.0, false)) (take (passed es) es)))
+      ∙ ap (λ z. z ++ map (λ (e : MainEntry K). record e { bit = false }) (take (set_front es) (with_keys_main key es))) (main-drop (set_front es) es h)
+      ∙ ap (λ z. with_keys_main key (drop (set_front es) es) ++ z) (main-cleared (set_front es) es h)
+      ∙ sym (filter_map-append (λ (e : ℕ × Bool). option_map (λ k. main_with e k) (key e.0)) (drop (set_front es) es) (map {B = ℕ × Bool} (λ (e : ℕ × Bool). (e.0, false)) (take (set_front es) es)))
 
   -- a hit, where the key passes the test at this slot alone
   pub small-hit : (is : K → Bool) (slot : ℕ) (es : List (ℕ × Age)) → ((t : ℕ) (k : K) → has t (slots_of es) ≡ true → key t ≡ Some k → is k ≡ eqb t slot) → HaveKeys (slots_of es)

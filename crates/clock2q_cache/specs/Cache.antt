@@ -1,7 +1,7 @@
 -- What holds of every cache's machine.
 use Rattle.std.specs.Prelude.{◌≡◌, ℕ, ◌+◌, ◌<◌, ◌≤◌, ◌==◌, nat_lt, if◌then◌else◌, Bool, length}
 use Rattle.std.specs.List.{count_by}
-use Rattle.clock2q_cache.specs.Shares.{main_share, ghost_share}
+use Rattle.clock2q_cache.specs.Shares.{main_share, history_share}
 use Rattle.clock2q_cache.specs.Machine.{Machine}
 
 module _ {K V : Type 0} where
@@ -18,7 +18,7 @@ module _ {K V : Type 0} where
     pub small_below : m.shares.small < m.shares.capacity
     pub small_within : length m.small ≤ m.shares.small
     pub main_within : length m.main ≤ main_share m.shares
-    pub history_within : length m.history ≤ ghost_share m.shares
+    pub history_within : length m.history ≤ history_share m.shares
     pub made_within : length m.values ≤ m.shares.capacity
     pub slots_counted : length m.small + length m.main + length m.free ≡ length m.values
     pub slots_once : (slot : ℕ) → standings slot m ≡ (if nat_lt slot (length m.values) then 1 else 0)

@@ -9,7 +9,7 @@ use Rattle.clock2q_queues.specs.Indexes.{IsIndex}
 use Rattle.clock2q_queues.specs.Rings.{AllBelow}
 use Rattle.clock2q_queues.specs.Queues.{QueueState, slots_of}
 use Rattle.clock2q_queues.specs.History.{Remembered}
-use Rattle.clock2q_cache.specs.Shares.{Shares, ghost_share}
+use Rattle.clock2q_cache.specs.Shares.{Shares, history_share}
 use Rattle.clock2q_cache.specs.Entries.{SmallEntry, MainEntry}
 use Rattle.clock2q_cache.specs.Machine.{Machine}
 use Rattle.clock2q_cache.specs.Cache.{IsWhole}
@@ -51,7 +51,7 @@ pub record IsSized (shares : Shares) (q : QueueState) (limit homes keys_room fre
   pub as_many : q.slots ≡ shares.capacity
   pub window : q.window ≡ shares.window
   pub windowed : 0 < shares.small → 0 < shares.window
-  pub remembers : limit ≡ ghost_share shares
+  pub remembers : limit ≡ history_share shares
   pub half : 2 * shares.capacity ≤ homes
   pub room_for_keys : shares.capacity ≤ keys_room
   pub room_for_free : shares.capacity ≤ free_room

@@ -36,8 +36,8 @@ module _ {K : Type 0} where
   small_admitted window key slot small = record { key = key; slot = slot; age = Young 0 } ∷ map (λ e. with_age e (grown window e.age)) small
 
   -- how many entries the hand passes, how often it looks, and Main from its victim
-  abbrev pub passed : List (MainEntry K) → ℕ
-  passed main = hand.passed (λ e. e.bit) main
+  abbrev pub set_front : List (MainEntry K) → ℕ
+  set_front main = hand.set_front (λ e. e.bit) main
 
   abbrev pub inspections : List (MainEntry K) → ℕ
   inspections main = hand.inspections (λ e. e.bit) main

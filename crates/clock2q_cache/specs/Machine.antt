@@ -3,7 +3,7 @@ use Rattle.std.specs.Prelude.{ℕ, ◌+◌, ◌-◌, Bool, not, ◌&&◌, ◌||�
 use Rattle.std.specs.List.{filter, find, list_any, last_or, filter_map, fold, range_with_len}
 use Rattle.std.specs.Option.{option_map, option_and_then}
 use Rattle.std.specs.Coded.{Coded, code_by, coded×, coded_list, coded_ℕ}
-use Rattle.clock2q_cache.specs.Shares.{Shares, main_share, ghost_share, shares_code}
+use Rattle.clock2q_cache.specs.Shares.{Shares, main_share, history_share, shares_code}
 use Rattle.clock2q_queues.specs.Ages.{is_promoted}
 use Rattle.clock2q_cache.specs.Entries.{SmallEntry, MainEntry, small_hit, main_hit, small_admitted, from_victim, behind_hand, small_entry_code, main_entry_code}
 
@@ -69,7 +69,7 @@ module _ {K V : Type 0} where
     slot = tail.slot;
     machine = admitted key tail.slot (record m {
       small = take (length m.small - 1) m.small;
-      history = take (ghost_share m.shares) (tail.key ∷ m.history);
+      history = take (history_share m.shares) (tail.key ∷ m.history);
     });
   }
 

@@ -7,9 +7,9 @@ use Rattle.std.specs.HashMap.Lent.{HashMembers}
 use Rattle.clock2q_queues.specs.Ages.{is_promoted}
 use Rattle.clock2q_cache.specs.Entries.{SmallEntry}
 use Rattle.clock2q_cache.specs.Hashes.{hash_of}
-use Rattle.clock2q_handles.specs.Homes.{inserted, removed}
+use Rattle.clock2q_handles.specs.Homes.{with_handle, removed}
 use Rattle.clock2q_queues.specs.History.{Places, place_of, freed_place, pushed_places, oldest_hash}
-use Rattle.clock2q_cache.specs.Shares.{ghost_share}
+use Rattle.clock2q_cache.specs.Shares.{history_share}
 use Rattle.clock2q_cache.specs.Machine.{Machine, resident_at, slot_of, vacancy, goes_to_main, forgotten, placement}
 use Rattle.clock2q_cache.specs.CacheState.{CacheState}
 
@@ -26,7 +26,7 @@ module _ {K V : Type 0} where
   module _ (hash : K → ℕ) where
     -- a key goes out into the history
     abbrev pub remembering : K → Machine K V → Places → Places
-    remembering key m p = pushed_places (ghost_share m.shares) (hash key) (oldest_hash hash m.history) p
+    remembering key m p = pushed_places (history_share m.shares) (hash key) (oldest_hash hash m.history) p
 
     -- a key goes out into the history, if one does
     abbrev pub remembering_any : Option K → Machine K V → Places → Places
@@ -35,7 +35,7 @@ module _ {K V : Type 0} where
 
     -- a key stands at a slot, in place of the resident that stood there
     abbrev pub entered : K → ℕ → Machine K V → List (List (ℕ × ℕ)) → List (List (ℕ × ℕ))
-    entered key slot m homes = inserted (left_by hash (resident_at m slot) slot homes) (hash key) slot
+    entered key slot m homes = with_handle (left_by hash (resident_at m slot) slot homes) (hash key) slot
 
 module _ {K : Type 0} where
   -- the key of Small's tail, where the tail goes out

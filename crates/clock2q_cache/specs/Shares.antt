@@ -13,8 +13,8 @@ abbrev pub main_share : Shares → ℕ
 main_share shares = shares.capacity - shares.small
 
 -- Ghost remembers half as many keys as the cache holds
-abbrev pub ghost_share : Shares → ℕ
-ghost_share shares = shares.capacity / 2
+abbrev pub history_share : Shares → ℕ
+history_share shares = shares.capacity / 2
 
 -- a tenth for Small, but at least one, unless there is just one slot
 abbrev pub usual_small : ℕ → ℕ

@@ -1,7 +1,7 @@
 //! The residents' keys and values, which stand by slot, and the index, which has each resident's
 //! slot under its key's hash.
 ghost use Rattle.std.specs.Prelude.{◌≡◌, ℕ, ◌+◌, ◌<◌, ◌≤◌, ◌^◌, ◌==◌, true, List, [], length, Some, IfNone};
-ghost use Rattle.clock2q_handles.specs.Homes.{total, capacity, inserted, removed};
+ghost use Rattle.clock2q_handles.specs.Homes.{total, capacity, with_handle, removed};
 ghost use Rattle.clock2q_queues.specs.Rings.{has, AllApart};
 ghost use Rattle.clock2q_queues.specs.Keys.{hash_at, key_at};
 ghost use Rattle.clock2q_queues.specs.Indexes.{IsIndex, Empties};
@@ -15,7 +15,7 @@ use std::alloc::Allocator;
 fn add<A: Allocator>(index: &mut Table<u32, A>, hash: u64, slot: u32)
     requires room { total index.old.homes < capacity (length index.old.homes) }
     requires few { total index.old.homes + 1 < 2 ^ 24 }
-    ensures added { index.new.homes ≡ inserted index.old.homes hash slot }
+    ensures added { index.new.homes ≡ with_handle index.old.homes hash slot }
 {
     let _ = index.insert_within_capacity(hash, slot);
 }
@@ -34,7 +34,7 @@ pub(crate) fn enter<K: Drop, V: Drop, A: Allocator>(
     requires room { slot < keys.old.room }
     requires index_room { total index.old.homes < capacity (length index.old.homes) }
     requires few { total index.old.homes + 1 < 2 ^ 24 }
-    ensures index { index.new.homes ≡ inserted index.old.homes hash slot }
+    ensures index { index.new.homes ≡ with_handle index.old.homes hash slot }
     ensures entries { Writes hash key value slot keys.old.entries keys.new.entries }
     ensures kept { keys.new ≡ record keys.old { entries = keys.new.entries; writes = keys.old.writes + 1 } }
 {
@@ -61,7 +61,7 @@ pub(crate) fn renew<K: Drop, V: Drop, A: Allocator>(
     requires made { slot < length keys.old.entries }
     ensures hash { hash_at keys.old.entries slot ≡ Some result.0 }
     ensures key { key_at keys.old.entries slot ≡ Some result.1 }
-    ensures index { index.new.homes ≡ inserted (removed (λ a b. a == b) index.old.homes result.0 slot) hash slot }
+    ensures index { index.new.homes ≡ with_handle (removed (λ a b. a == b) index.old.homes result.0 slot) hash slot }
     ensures entries { Writes hash key value slot keys.old.entries keys.new.entries }
     ensures kept { keys.new ≡ record keys.old { entries = keys.new.entries; writes = keys.old.writes + 1 } }
 {

@@ -1,6 +1,6 @@
 //! How a cache's capacity is shared out among its queues.
 ghost use Rattle.std.specs.Prelude.{◌≡◌, ◌<◌, ◌≤◌, ◌^◌, MatchOption};
-ghost use Rattle.clock2q_cache.specs.Shares.{usual_shares, main_share, ghost_share};
+ghost use Rattle.clock2q_cache.specs.Shares.{usual_shares, main_share, history_share};
 ghost use Rattle.clock2q_cache.specs.Policies.{IsPolicy, shares_of};
 
 use std::marker::Model;
@@ -87,7 +87,7 @@ impl Shares {
     }
 
     pub(crate) fn history(self) -> usize
-        ensures { result ≡ ghost_share self }
+        ensures { result ≡ history_share self }
     {
         self.capacity / 2
     }

@@ -3,7 +3,7 @@ use Rattle.std.proofs.Common.{◌≡◌, ℕ, ◌+◌, Bool, false, true, List, 
 use Rattle.std.specs.Result.{IfErr}
 use Rattle.std.specs.Io.KnownBytes.{Appends, Keeps}
 use Rattle.std.proofs.lemmas.List.{take_all}
-use Rattle.clock2q_command.specs.Ports.{Passed, passed_by, one_if}
+use Rattle.clock2q_command.specs.Ports.{Traffic, traffic_after, one_if}
 use Rattle.clock2q_command.specs.Transfer.{TookAll, TookSome}
 use Rattle.clock2q_command.specs.Serve.{IsReadWhole, IsAnswered, IsSent, Sends, HasNoText, IsRefused, Answers, RepliesTo}
 use Rattle.clock2q_command.specs.Text.{Script, script_of}
@@ -11,7 +11,7 @@ use Rattle.clock2q_command.specs.declared.serve_error.ServeError.{ServeError}
 use Rattle.clock2q_command.specs.declared.serve_error.ServeError.TheVariants.{BadLine, Memory, Capacity, Policy, Read, Write}
 
 -- bytes pass, and then there is a stop or a failure
-passed-end : (old : Passed) (bytes : List ℕ) (stopped failed : Bool) → passed_by (passed_by old bytes false false) [] stopped failed ≡ passed_by old bytes stopped failed
+passed-end : (old : Traffic) (bytes : List ℕ) (stopped failed : Bool) → traffic_after (traffic_after old bytes false false) [] stopped failed ≡ traffic_after old bytes stopped failed
 passed-end old bytes stopped failed =
     let all : (old.bytes ++ bytes) ++ [] ≡ old.bytes ++ bytes = append-nil (old.bytes ++ bytes) in
     let stops : old.stops + 0 + one_if stopped ≡ old.stops + one_if stopped = omega arith in
@@ -26,23 +26,23 @@ Appends-kept (Some x) (Some y) None xs h k = k
 Appends-kept (Some x) (Some y) (Some z) xs h k = k ∙ h
 
 -- a text that was taken is sent on
-pub IsSent-flushed : (old mid new : Passed) (held holds then : Option (List ℕ)) (text : List ℕ) → TookAll old mid held holds text → new ≡ passed_by mid [] true false → Keeps holds then → IsSent old new held then text
+pub IsSent-flushed : (old mid new : Traffic) (held holds then : Option (List ℕ)) (text : List ℕ) → TookAll old mid held holds text → new ≡ traffic_after mid [] true false → Keeps holds then → IsSent old new held then text
 IsSent-flushed old mid new held holds then text took flushed kept = record {
-  taken = flushed ∙ ap (λ p. passed_by p [] true false) took.taken ∙ passed-end old text true false;
+  taken = flushed ∙ ap (λ p. traffic_after p [] true false) took.taken ∙ passed-end old text true false;
   contents = Appends-kept held holds then text took.contents kept;
 }
 
 -- or it isn't
-pub TookSome-unflushed : (old mid new : Passed) (held holds then : Option (List ℕ)) (text : List ℕ) → TookAll old mid held holds text → new ≡ passed_by mid [] false true → Keeps holds then → TookSome old new held then text (length text)
+pub TookSome-unflushed : (old mid new : Traffic) (held holds then : Option (List ℕ)) (text : List ℕ) → TookAll old mid held holds text → new ≡ traffic_after mid [] false true → Keeps holds then → TookSome old new held then text (length text)
 TookSome-unflushed old mid new held holds then text took flushed kept =
     let whole : take (length text) text ≡ text = take_all (length text) text (omega arith) in
     record {
-      taken = rw whole (flushed ∙ ap (λ p. passed_by p [] false true) took.taken ∙ passed-end old text false true);
+      taken = rw whole (flushed ∙ ap (λ p. traffic_after p [] false true) took.taken ∙ passed-end old text false true);
       contents = rw whole (Appends-kept held holds then text took.contents kept);
     }
 
 -- a script that was read is answered, or there's no text
-pub Answers-replied : {X : Type 0} (old new : Passed) (left remain : Option (List ℕ)) (input : List ℕ) (script : Script) (bytes : X → List ℕ) (r : Result X ServeError) → IsReadWhole old new left remain input → script_of input ≡ Ok script → RepliesTo script bytes r → Answers old new left remain bytes r
+pub Answers-replied : {X : Type 0} (old new : Traffic) (left remain : Option (List ℕ)) (input : List ℕ) (script : Script) (bytes : X → List ℕ) (r : Result X ServeError) → IsReadWhole old new left remain input → script_of input ≡ Ok script → RepliesTo script bytes r → Answers old new left remain bytes r
 Answers-replied old new left remain input script bytes (Ok text) whole is h = record { input = input; script = script; read = whole; spelled = is; served = h.0; told = h.1 }
 Answers-replied old new left remain input script bytes (Err (BadLine line)) whole is h = absurd h
 Answers-replied old new left remain input script bytes (Err Memory) whole is h = inr (record { input = input; read = whole; good = λ line e. cc })
@@ -52,7 +52,7 @@ Answers-replied old new left remain input script bytes (Err Read) whole is h = a
 Answers-replied old new left remain input script bytes (Err Write) whole is h = absurd h
 
 -- without a text it is refused
-pub IsRefused-early : (given gives : Passed) (left remain : Option (List ℕ)) (took takes : Passed) (held holds : Option (List ℕ)) (refusal : ServeError) → HasNoText given gives left remain refusal → IsRefused given gives left remain took takes held holds refusal
+pub IsRefused-early : (given gives : Traffic) (left remain : Option (List ℕ)) (took takes : Traffic) (held holds : Option (List ℕ)) (refusal : ServeError) → HasNoText given gives left remain refusal → IsRefused given gives left remain took takes held holds refusal
 IsRefused-early given gives left remain took takes held holds Write h = absurd h
 IsRefused-early given gives left remain took takes held holds (BadLine line) h = h
 IsRefused-early given gives left remain took takes held holds Memory h = h
@@ -61,7 +61,7 @@ IsRefused-early given gives left remain took takes held holds Policy h = h
 IsRefused-early given gives left remain took takes held holds Read h = h
 
 -- with a text it is refused where sending fails
-pub IsRefused-late : (given gives : Passed) (left remain : Option (List ℕ)) (took takes : Passed) (held holds : Option (List ℕ)) (text : List ℕ) (r : Result (Unit {0}) ServeError) → IsAnswered given gives left remain text → Sends took takes held holds text r → IfErr r (IsRefused given gives left remain took takes held holds)
+pub IsRefused-late : (given gives : Traffic) (left remain : Option (List ℕ)) (took takes : Traffic) (held holds : Option (List ℕ)) (text : List ℕ) (r : Result (Unit {0}) ServeError) → IsAnswered given gives left remain text → Sends took takes held holds text r → IfErr r (IsRefused given gives left remain took takes held holds)
 IsRefused-late given gives left remain took takes held holds text (Ok done) answered h = tt
 IsRefused-late given gives left remain took takes held holds text (Err (BadLine line)) answered h = absurd h
 IsRefused-late given gives left remain took takes held holds text (Err Memory) answered h = absurd h

@@ -2,22 +2,22 @@
 use Rattle.std.specs.Prelude.{ℕ, ◌+◌, List, [], ◌++◌, Bool, true, false, ◌&&◌, nat_lt, ◌==◌, if◌then◌else◌, length, take, is_ok, is_err, Ok, Err, Result}
 
 -- what has gone through a port so far: the bytes in order, how often it came to a stop, and how often it failed; a source stops at its end, a sink where it is flushed
-pub record Passed : Type 0 where
+pub record Traffic : Type 0 where
   pub bytes : List ℕ
   pub stops : ℕ
   pub failures : ℕ
 
 -- nothing has
-abbrev pub nothing_passed : Passed
-nothing_passed = record { bytes = []; stops = 0; failures = 0 }
+abbrev pub no_traffic : Traffic
+no_traffic = record { bytes = []; stops = 0; failures = 0 }
 
 -- one where the test holds, else none
 abbrev pub one_if : Bool → ℕ
 one_if test = if test then 1 else 0
 
 -- these bytes went through too, perhaps at a stop or with a failure
-abbrev pub passed_by : Passed → List ℕ → Bool → Bool → Passed
-passed_by old bytes stopped failed = record { bytes = old.bytes ++ bytes; stops = old.stops + one_if stopped; failures = old.failures + one_if failed }
+abbrev pub traffic_after : Traffic → List ℕ → Bool → Bool → Traffic
+traffic_after old bytes stopped failed = record { bytes = old.bytes ++ bytes; stops = old.stops + one_if stopped; failures = old.failures + one_if failed }
 
 -- the bytes that a call moved, of those that it was handed
 abbrev pub moved : {E : Type 0} → Result ℕ E → List ℕ → List ℕ
@@ -35,18 +35,18 @@ is_failed_write (Ok n) bytes = (n == 0) && nat_lt 0 (length bytes)
 is_failed_write (Err e) bytes = true
 
 -- after a read: the bytes that it moved, a stop where it moved none, a failure at an error
-abbrev pub after_read : {E : Type 0} → Passed → Result ℕ E → List ℕ → Passed
-after_read old r into = passed_by old (moved r into) (is_none_moved r) (is_err r)
+abbrev pub after_read : {E : Type 0} → Traffic → Result ℕ E → List ℕ → Traffic
+after_read old r into = traffic_after old (moved r into) (is_none_moved r) (is_err r)
 
 -- after a write: the bytes that it moved, and a failure where it failed
-abbrev pub after_write : {E : Type 0} → Passed → Result ℕ E → List ℕ → Passed
-after_write old r from = passed_by old (moved r from) false (is_failed_write r from)
+abbrev pub after_write : {E : Type 0} → Traffic → Result ℕ E → List ℕ → Traffic
+after_write old r from = traffic_after old (moved r from) false (is_failed_write r from)
 
 -- after a flush: a stop, or a failure
-abbrev pub after_flush : {E : Type 0} → Passed → Result (Unit {0}) E → Passed
-after_flush old r = passed_by old [] (is_ok r) (is_err r)
+abbrev pub after_flush : {E : Type 0} → Traffic → Result (Unit {0}) E → Traffic
+after_flush old r = traffic_after old [] (is_ok r) (is_err r)
 
 -- what stands in a device, and what has gone through it
 pub record Attached (T : Type 0) : Type 0 where
   pub inner : T
-  pub passed : Passed
+  pub traffic : Traffic

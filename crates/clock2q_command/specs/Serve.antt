@@ -7,7 +7,7 @@ use Rattle.clock2q_cache.specs.Shares.{Shares}
 use Rattle.clock2q_cache.specs.declared.error.CacheError.{CacheError}
 use Rattle.clock2q_cache.specs.declared.error.CacheError.TheVariants as cache
 use Rattle.clock2q_cache.specs.Steps.{answers}
-use Rattle.clock2q_command.specs.Ports.{Passed, passed_by}
+use Rattle.clock2q_command.specs.Ports.{Traffic, traffic_after}
 use Rattle.clock2q_command.specs.Transfer.{TookSome, FailsWith, GivesUp}
 use Rattle.clock2q_command.specs.Text.{Script, script_of, output_of}
 use Rattle.clock2q_command.specs.declared.serve_error.ServeError.{ServeError}
@@ -26,12 +26,12 @@ abbrev pub CanBeHad : Shares → Type 0
 CanBeHad shares = IsWithin shares × IsPolicy shares
 
 -- the whole input was read, once up to its end, and the source never failed
-pub record IsReadWhole (old new : Passed) (left remain : Option (List ℕ)) (input : List ℕ) : Type 0 where
-  pub given : new ≡ passed_by old input true false
+pub record IsReadWhole (old new : Traffic) (left remain : Option (List ℕ)) (input : List ℕ) : Type 0 where
+  pub given : new ≡ traffic_after old input true false
   pub known : Consumes left remain input
   pub at_end : IsAtEnd remain
 
-module _ (old new : Passed) (left remain : Option (List ℕ)) where
+module _ (old new : Traffic) (left remain : Option (List ℕ)) where
   -- the whole input was read, it spells a script that a cache can serve, and this is the text of its answers
   pub record IsAnswered (text : List ℕ) : Type 0 where
     pub input : List ℕ
@@ -84,10 +84,10 @@ module _ (old new : Passed) (left remain : Option (List ℕ)) where
   Answers bytes (Ok text) = IsAnswered (bytes text)
   Answers bytes (Err refusal) = HasNoText refusal
 
-module _ (old new : Passed) (held holds : Option (List ℕ)) (text : List ℕ) where
+module _ (old new : Traffic) (held holds : Option (List ℕ)) (text : List ℕ) where
   -- the whole text was taken and sent on, and the sink never failed
   pub record IsSent : Type 0 where
-    pub taken : new ≡ passed_by old text true false
+    pub taken : new ≡ traffic_after old text true false
     pub contents : Appends held holds text
 
   -- the text was sent, or the sink failed
@@ -120,7 +120,7 @@ abbrev pub RepliesTo : {X : Type 0} → Script → (X → List ℕ) → Result X
 RepliesTo script bytes (Ok text) = CanBeHad script.shares × (bytes text ≡ output_for script)
 RepliesTo script bytes (Err refusal) = IsUnanswered script.shares refusal
 
-module _ (given gives : Passed) (left remain : Option (List ℕ)) (took takes : Passed) (held holds : Option (List ℕ)) where
+module _ (given gives : Traffic) (left remain : Option (List ℕ)) (took takes : Traffic) (held holds : Option (List ℕ)) where
   -- the whole input was read, it spells a script that a cache can serve, and the text of its answers was written and sent on
   pub record IsServed : Type 0 where
     pub text : List ℕ

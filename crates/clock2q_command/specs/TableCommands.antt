@@ -2,7 +2,7 @@
 use Rattle.std.specs.Prelude.{◌≡◌, ℕ, Bool, true, false, List, [], ◌∷◌, Option, Some, None, Result, Ok, Err}
 use Rattle.std.specs.List.{find, list_any}
 use Rattle.std.specs.declared.vec.Vec.{Vec}
-use Rattle.clock2q_handles.specs.Homes.{candidates, listed, inserted, removed, is_entry_of}
+use Rattle.clock2q_handles.specs.Homes.{candidates, listed, with_handle, removed, is_entry_of}
 use Rattle.clock2q_handles.specs.Layout.{IsTooLong}
 use Rattle.clock2q_handles.specs.TableStep.{grown, reserved, IsFull, IsShortOf, IsPastSize, IsHashOf}
 use Rattle.clock2q_handles.specs.declared.error.TableError.{TableError}
@@ -34,8 +34,8 @@ first_accepted eq accepted handles = find (λ h. list_any (λ a. eq a h) accepte
 module _ {H A : Type 0} (eq : H → H → Bool) (key : H → ℕ) where
   -- a full table grows, and v comes last in the home of its hash, where that makes no run too long
   abbrev pub Inserts : H → List (List (ℕ × H)) → TableReply H (Vec H A) → List (List (ℕ × H)) → Type 0
-  Inserts v old Done new = (new ≡ inserted (grown key old) (key v) v) × (IsTooLong new → ⊥)
-  Inserts v old (Refused RunTooLong) new = (new ≡ grown key old) × IsTooLong (inserted (grown key old) (key v) v)
+  Inserts v old Done new = (new ≡ with_handle (grown key old) (key v) v) × (IsTooLong new → ⊥)
+  Inserts v old (Refused RunTooLong) new = (new ≡ grown key old) × IsTooLong (with_handle (grown key old) (key v) v)
   Inserts v old (Refused Memory) new = (new ≡ old) × IsFull old
   Inserts v old reply new = ⊥
 

@@ -1,7 +1,7 @@
 //! The ports of `serve`: where its input comes from, and where its replies go.
 ghost use Rattle.std.specs.Prelude.{◌≡◌, ℕ, ◌<◌, ◌≤◌, List, Option, length, IfOk};
 ghost use Rattle.std.specs.Io.KnownBytes.{Appends, Keeps, ReadConsumes, WriteAppends};
-ghost use Rattle.clock2q_command.specs.Ports.{Passed, nothing_passed, after_read, after_write, after_flush};
+ghost use Rattle.clock2q_command.specs.Ports.{Traffic, no_traffic, after_read, after_write, after_flush};
 
 use crate::trace::{Trace, Turn};
 use std::io::{Read, Write};
@@ -19,7 +19,7 @@ pub trait Source {
     ghost remaining: { Self → Option (List ℕ) };
 
     // What it has given.
-    ghost given: { Self → Passed };
+    ghost given: { Self → Traffic };
 
     /// Moves bytes to the front of `into`, which isn't empty, and returns how many: at most its
     /// length, and 0 where none is left.
@@ -40,7 +40,7 @@ pub trait Sink {
     ghost contents: { Self → Option (List ℕ) };
 
     // What it has taken.
-    ghost taken: { Self → Passed };
+    ghost taken: { Self → Traffic };
 
     /// Takes bytes from the front of `from`, and returns how many: at most its length. Where `from`
     /// isn't empty, 0 counts as a failure.
@@ -86,14 +86,14 @@ impl<T> Model for Device<T> {
 
     ghost Value = { Attached T };
 
-    ghost view = { λ d. record { inner = d.inner; passed = d.trace.passed.value } };
+    ghost view = { λ d. record { inner = d.inner; traffic = d.trace.traffic.value } };
 }
 
 impl<T> Device<T> {
     /// Makes a device over `inner`, through which nothing has gone yet.
     pub fn new(inner: T) -> Self
         ensures inner { result.inner ≡ inner }
-        ensures passed { result.passed ≡ nothing_passed }
+        ensures traffic { result.traffic ≡ no_traffic }
     {
         Device {
             inner,
@@ -113,7 +113,7 @@ impl<T> Device<T> {
 impl<T: Read> Source for Device<T> {
     ghost remaining = { λ d. T.remaining d.inner };
 
-    ghost given = { λ d. d.passed };
+    ghost given = { λ d. d.traffic };
 
     fn read(&mut self, into: &mut [u8]) -> Result<usize, Failed> {
         match self.inner.read(into) {
@@ -136,7 +136,7 @@ impl<T: Read> Source for Device<T> {
 impl<T: Write> Sink for Device<T> {
     ghost contents = { λ d. T.contents d.inner };
 
-    ghost taken = { λ d. d.passed };
+    ghost taken = { λ d. d.traffic };
 
     fn write(&mut self, from: &[u8]) -> Result<usize, Failed> {
         match self.inner.write(from) {

@@ -1,6 +1,6 @@
 //! A record of what has gone through a device, which contracts alone see.
 ghost use Rattle.std.specs.Prelude.{◌≡◌};
-ghost use Rattle.clock2q_command.specs.Ports.{Passed, nothing_passed, passed_by};
+ghost use Rattle.clock2q_command.specs.Ports.{Traffic, no_traffic, traffic_after};
 
 use clock2q_count::Told;
 use std::marker::Model;
@@ -34,30 +34,30 @@ impl Turn<'_> {
 pub(super) struct Passing;
 
 impl Model for Passing {
-    ghost Value = { Passed };
+    ghost Value = { Traffic };
 
-    ghost view = { λ _. nothing_passed };
+    ghost view = { λ _. no_traffic };
 }
 
 // What all calls did at a device. It takes no memory, and no code can read it.
 #[derive(Drop)]
 pub(super) struct Trace {
-    pub(super) passed: Told<Passing>,
+    pub(super) traffic: Told<Passing>,
 }
 
 impl Trace {
     pub(super) fn new() -> Trace
-        ensures { result.passed.value ≡ nothing_passed }
+        ensures { result.traffic.value ≡ no_traffic }
     {
         Trace {
-            passed: Told::new(&()),
+            traffic: Told::new(&()),
         }
     }
 
     pub(super) fn add(&mut self, turn: &Turn)
-        ensures { self.new.passed.value ≡ passed_by self.old.passed.value turn.now.bytes.now turn.now.stopped turn.now.failed }
+        ensures { self.new.traffic.value ≡ traffic_after self.old.traffic.value turn.now.bytes.now turn.now.stopped turn.now.failed }
     {
-        self.passed.set(turn);
+        self.traffic.set(turn);
     }
 }
 

@@ -7,7 +7,7 @@ use Rattle.clock2q_handles.specs.Offers.{Settles, FindsOrPuts}
 use Rattle.clock2q_handles.specs.Changes.{PutIn}
 use lib.Dec.{T, eqb→eq}
 use Rattle.std.specs.Fn.{Called, Takes, Mut}
-use Rattle.clock2q_handles.specs.Homes.{top, capacity, total, inserted, removed}
+use Rattle.clock2q_handles.specs.Homes.{top, capacity, total, with_handle, removed}
 use Rattle.clock2q_handles.specs.TableStep.{TableValue, IsHashOf, IsShortOf, doubled_until, grown, reserved, rebuilt, doubled, fit}
 use Rattle.clock2q_handles.specs.Rehash.{GivesHashes, AfterGrowth, IsHeld, Reaches}
 use Rattle.clock2q_handles.proofs.Hashes.{hashes-put_last, hashes-rebuilt, hashes-removed, rebuilt-length}
@@ -41,7 +41,7 @@ module _ {H : Type 0} (key : H → ℕ) where
   keyed_grown homes hashes = grown_by homes (total homes == capacity (length homes)) refl hashes
 
   -- one handle more
-  pub keyed_inserted : (homes : List (List (ℕ × H))) (v : H) → IsHashOf key homes → IsHashOf key (inserted (grown key homes) (key v) v)
+  pub keyed_inserted : (homes : List (List (ℕ × H))) (v : H) → IsHashOf key homes → IsHashOf key (with_handle (grown key homes) (key v) v)
   keyed_inserted homes v hashes =
       let g = keyed_grown homes hashes in
       hashes-put_last key (grown key homes) (key v) (top (key v), v) g.0 g.1 refl refl
@@ -50,8 +50,8 @@ module _ {H : Type 0} (key : H → ℕ) where
   reserved_by homes m true room some hashes = hashes
   reserved_by homes m false room some hashes = hashes-rebuilt key homes m room some hashes
 
-  keyed_inserted_under : (homes : List (List (ℕ × H))) (h : ℕ) (v : H) → h ≡ key v → IsHashOf key homes → IsHashOf key (inserted (grown key homes) h v)
-  keyed_inserted_under homes h v is hashes = subst (λ x. IsHashOf key (inserted (grown key homes) x v)) (sym is) (keyed_inserted homes v hashes)
+  keyed_inserted_under : (homes : List (List (ℕ × H))) (h : ℕ) (v : H) → h ≡ key v → IsHashOf key homes → IsHashOf key (with_handle (grown key homes) h v)
+  keyed_inserted_under homes h v is hashes = subst (λ x. IsHashOf key (with_handle (grown key homes) x v)) (sym is) (keyed_inserted homes v hashes)
 
   keyed_settled : (homes new : List (List (ℕ × H))) (h : ℕ) (v : H) (found : Option H) (result : Result (H × Bool) TableError) → h ≡ key v → Settles (grown key homes) h v found result new → IsHashOf key homes → IsHashOf key new
   keyed_settled homes new h v (Some c) result is s hashes = subst (IsHashOf key) (sym s.1) (keyed_grown homes hashes).1

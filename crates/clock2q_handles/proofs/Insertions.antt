@@ -1,7 +1,7 @@
 -- What putting an entry in makes of a table, and where it is refused.
 use Rattle.std.proofs.Common.{◌≡◌, ℕ, zero, suc, ◌+◌, ◌-◌, ◌%◌, ◌<◌, ◌≤◌, ◌⊎◌, inl, inr, refl, ap, sym, ◌∙◌, subst, arith, List, length, Option}
 use Rattle.std.proofs.lemmas.Bool.{cases_lt}
-use Rattle.clock2q_handles.specs.Homes.{top, capacity, total, inserted}
+use Rattle.clock2q_handles.specs.Homes.{top, capacity, total, with_handle}
 use Rattle.clock2q_handles.specs.Layout.{Placed, slot_at, reach, homes_of, run, IsTooLong}
 use Rattle.clock2q_handles.specs.Shifts.{Opens, HasRoom, IsVacancy}
 use Rattle.clock2q_handles.specs.Slots.{IsSlotCount}
@@ -71,8 +71,8 @@ has_ended slots t x g n writes is room home passed stop =
 
 -- what an insertion comes to: the lists with the entry, none of which is too long, and the writes
 pub record Insertion {H : Type 0} (x : ℕ) (v : H) (slots others : List (Option (Placed (ℕ × H)))) (len before after : ℕ) : Type 0 where
-  pub homes : homes_of others ≡ inserted (homes_of slots) x v
-  pub short : IsTooLong (inserted (homes_of slots) x v) → ⊥
+  pub homes : homes_of others ≡ with_handle (homes_of slots) x v
+  pub short : IsTooLong (with_handle (homes_of slots) x v) → ⊥
   pub table : IsTable others (len + 1)
   pub counted : before ≤ after
   pub writes : after ≤ before + run slots x + 1
@@ -102,7 +102,7 @@ module _ {H : Type 0} (x : ℕ) (v : H) (slots others : List (Option (Placed (�
     moved : IsMovedOn (slot_at slots) (slot_at others) (length slots) x n first.0 (top x, v)
     moved = opens-moved slots others (length slots) g x n first.0 (top x, v) refl same ended.home opened (λ j from upto. first.2.occupied j upto)
 
-    more_homes : homes_of others ≡ inserted (homes_of slots) x v
+    more_homes : homes_of others ≡ with_handle (homes_of slots) x v
     more_homes = inserted-homes slots others x n first.0 (top x, v) same opened.from moved table.tidy stops ended.fits
 
     more_table : IsTable others (suc len)
@@ -123,7 +123,7 @@ module _ {H : Type 0} (x : ℕ) (v : H) (slots others : List (Option (Placed (�
     }
 
   -- where there is no room for it, some entry would stand too far
-  pub refusal : ((w : ℕ) → IsVacancy (slot_at slots) g w → HasRoom (slot_at slots) 16777214 g n w → ⊥) → IsTooLong (inserted (homes_of slots) x v)
+  pub refusal : ((w : ℕ) → IsVacancy (slot_at slots) g w → HasRoom (slot_at slots) 16777214 g n w → ⊥) → IsTooLong (with_handle (homes_of slots) x v)
   refusal far = elim (cases_lt 16777214 n) [
     | inl new ↦ long-by-new slots table.tidy x n (top x, v) stops ended.fits (omega (arith, new))
     | inr own ↦ elim (search_far (λ j. reach (slot_at slots (g + j))) n 16777214 first.0) [

@@ -1,6 +1,6 @@
 -- Tables whose slots are known from outside, computed.
 use Rattle.std.proofs.Common.{◌≡◌, ℕ, zero, suc, ◌*◌, ◌+◌, ◌%◌, eqb, List, [], ◌∷◌, ◌++◌, refl, Option, Some, None, replicate, map, option_map}
-use Rattle.clock2q_handles.specs.Homes.{no_entries, inserted, removed, candidates}
+use Rattle.clock2q_handles.specs.Homes.{no_entries, with_handle, removed, candidates}
 use Rattle.clock2q_handles.specs.Layout.{Placed, placed, layout, spill, walk, homes_of}
 use Rattle.clock2q_handles.specs.TableStep.{rebuilt, fit}
 
@@ -10,7 +10,7 @@ Numbers = List (List (ℕ × ℕ))
 
 abbrev put_each : Numbers → List ℕ → ℕ → Numbers
 put_each homes [] v = homes
-put_each homes (x ∷ xs) v = put_each (inserted homes x v) xs (suc v)
+put_each homes (x ∷ xs) v = put_each (with_handle homes x v) xs (suc v)
 
 abbrev vacant : ℕ → List (Option (Placed (ℕ × ℕ)))
 vacant n = replicate n None
@@ -40,7 +40,7 @@ four-read = refl
 
 -- and one more under the first hash
 abbrev five : Numbers
-five = inserted four 0xAB00000000000005 4
+five = with_handle four 0xAB00000000000005 4
 
 five-layout : layout five ≡ vacant 5 ++ (at 0xAB 0 0 ∷ at 0xAB 1 1 ∷ at 0xCD 3 2 ∷ at 0xAB 4 3 ∷ at 0xAB 2 3 ∷ []) ++ vacant 6
 unfolding layout spill

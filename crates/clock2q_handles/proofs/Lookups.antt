@@ -1,7 +1,7 @@
 -- What an insertion and a removal do to the candidates of any hash.
 use Rattle.std.proofs.Common.{◌≡◌, ℕ, ◌<◌, inl, inr, refl, ap, sym, ◌∙◌, Bool, true, false, cond, ◌&&◌, ◌==◌, eq-eqb, ne_eqb, eqb-true, List, [], ◌∷◌, ◌++◌, map, filter, length, get_or, append-nil}
 use Rattle.std.proofs.lemmas.Bool.{cases_eq}
-use Rattle.clock2q_handles.specs.Homes.{top, home, listed, without_first, inserted, is_entry_of, removed, candidates}
+use Rattle.clock2q_handles.specs.Homes.{top, home, listed, without_first, with_handle, is_entry_of, removed, candidates}
 use Rattle.clock2q_handles.proofs.Changes.{listed-with_same, listed-with_other}
 
 -- those of a list with the fingerprint of x
@@ -18,19 +18,19 @@ module _ {H : Type 0} where
   with_top-push x (e ∷ es) fp v = pushed_at x e es fp v (e.0 == top x) (with_top-push x es fp v)
 
   -- the hash of an insertion yields the handle last
-  pub candidates-inserted : (homes : List (List (ℕ × H))) (x y : ℕ) (v : H) → 0 < length homes → home homes y ≡ home homes x → top y ≡ top x → candidates (inserted homes x v) y ≡ candidates homes y ++ v ∷ []
+  pub candidates-inserted : (homes : List (List (ℕ × H))) (x y : ℕ) (v : H) → 0 < length homes → home homes y ≡ home homes x → top y ≡ top x → candidates (with_handle homes x v) y ≡ candidates homes y ++ v ∷ []
   candidates-inserted homes x y v some same fingerprint =
       let here : listed homes x ≡ listed homes y = ap (λ h. get_or homes h []) (sym same) in
-      let lists : listed (inserted homes x v) y ≡ listed homes y ++ (top x, v) ∷ [] = listed-with_same homes x y (listed homes x ++ (top x, v) ∷ []) some same ∙ ap (λ es. es ++ (top x, v) ∷ []) here in
+      let lists : listed (with_handle homes x v) y ≡ listed homes y ++ (top x, v) ∷ [] = listed-with_same homes x y (listed homes x ++ (top x, v) ∷ []) some same ∙ ap (λ es. es ++ (top x, v) ∷ []) here in
       let own : with_top y ((top x, v) ∷ []) ≡ v ∷ [] = ap (λ b. map {A = ℕ × H} (λ e. e.1) (cond b ((top x, v) ∷ []) [])) (eq-eqb (top x) (top y) (sym fingerprint)) in
       ap (with_top y) lists ∙ with_top-push y (listed homes y) (top x) v ∙ ap (λ vs. candidates homes y ++ vs) own
 
   -- no other hash does
-  pub candidates-inserted_other : (homes : List (List (ℕ × H))) (x y : ℕ) (v : H) → 0 < length homes → ((home homes y ≡ home homes x) × (top y ≡ top x) → ⊥) → candidates (inserted homes x v) y ≡ candidates homes y
+  pub candidates-inserted_other : (homes : List (List (ℕ × H))) (x y : ℕ) (v : H) → 0 < length homes → ((home homes y ≡ home homes x) × (top y ≡ top x) → ⊥) → candidates (with_handle homes x v) y ≡ candidates homes y
   candidates-inserted_other homes x y v some other = elim (cases_eq (home homes y) (home homes x)) [
     | inl same ↦
         let here : listed homes x ≡ listed homes y = ap (λ h. get_or homes h []) (sym same) in
-        let lists : listed (inserted homes x v) y ≡ listed homes y ++ (top x, v) ∷ [] = listed-with_same homes x y (listed homes x ++ (top x, v) ∷ []) some same ∙ ap (λ es. es ++ (top x, v) ∷ []) here in
+        let lists : listed (with_handle homes x v) y ≡ listed homes y ++ (top x, v) ∷ [] = listed-with_same homes x y (listed homes x ++ (top x, v) ∷ []) some same ∙ ap (λ es. es ++ (top x, v) ∷ []) here in
         let none : with_top y ((top x, v) ∷ []) ≡ [] = ap (λ b. map {A = ℕ × H} (λ e. e.1) (cond b ((top x, v) ∷ []) [])) (ne_eqb (top x) (top y) (λ q. other (same, sym q))) in
         ap (with_top y) lists ∙ with_top-push y (listed homes y) (top x) v ∙ ap (λ vs. candidates homes y ++ vs) none ∙ append-nil (candidates homes y)
     | inr far ↦ ap (with_top y) (listed-with_other homes x y (listed homes x ++ (top x, v) ∷ []) far)

@@ -1,7 +1,7 @@
 -- What users of a table rely on over single insertions: few entries are never refused, and taking an entry out again restores the slots.
 use Rattle.std.proofs.Common.{◌≡◌, ℕ, suc, ◌+◌, ◌^◌, ◌<◌, refl, sym, ap, ◌∙◌, subst, arith, Bool, true, List, length, Option}
 use Rattle.std.specs.Prelude.{Result, Ok, Err, IsOk, OnOk, OnErr}
-use Rattle.clock2q_handles.specs.Homes.{total, capacity, inserted, top, removed, IsNew}
+use Rattle.clock2q_handles.specs.Homes.{total, capacity, with_handle, top, removed, IsNew}
 use Rattle.clock2q_handles.specs.Layout.{Placed, layout, homes_of, IsTidy, IsTooLong}
 use Rattle.clock2q_handles.specs.TableStep.{TableValue}
 use Rattle.clock2q_handles.specs.Table.{IsWhole}
@@ -30,12 +30,12 @@ no_error r e ok is = let no = subst IsOk is ok in cc
 
 module _ {H : Type 0} where
   -- what an insertion that is not refused leaves
-  pub put_ok : (old new : List (List (ℕ × H))) (x : ℕ) (v : H) (r : Result (Unit {0}) TableError) → PutIn old x v r new → OnOk r (new ≡ inserted old x v)
+  pub put_ok : (old new : List (List (ℕ × H))) (x : ℕ) (v : H) (r : Result (Unit {0}) TableError) → PutIn old x v r new → OnOk r (new ≡ with_handle old x v)
   put_ok old new x v (Ok u) put = put.0
   put_ok old new x v (Err e) put = tt
 
   -- and why one is
-  pub put_err : (old new : List (List (ℕ × H))) (x : ℕ) (v : H) (r : Result (Unit {0}) TableError) → PutIn old x v r new → OnErr r (IsTooLong (inserted old x v))
+  pub put_err : (old new : List (List (ℕ × H))) (x : ℕ) (v : H) (r : Result (Unit {0}) TableError) → PutIn old x v r new → OnErr r (IsTooLong (with_handle old x v))
   put_err old new x v (Ok u) put = tt
   put_err old new x v (Err e) put = put.2
 
@@ -44,19 +44,19 @@ module _ {H : Type 0} where
   whole_laid t whole = record { laid = whole.laid; best = best-placed t.homes whole.room }
 
   -- a table of fewer than 2^24 - 1 entries takes one more
-  pub few_fit : (homes : List (List (ℕ × H))) (x : ℕ) (v : H) → total homes < capacity (length homes) → total homes + 1 < 2 ^ 24 → IsTooLong (inserted homes x v) → ⊥
+  pub few_fit : (homes : List (List (ℕ × H))) (x : ℕ) (v : H) → total homes < capacity (length homes) → total homes + 1 < 2 ^ 24 → IsTooLong (with_handle homes x v) → ⊥
   few_fit homes x v room few long =
       let some : 0 < length homes = omega (arith, room) in
-      let more : total (inserted homes x v) ≡ suc (total homes) = total-put_last (λ _. 0) homes x (top x, v) some in
-      let as_long : length (inserted homes x v) ≡ length homes = length-with_list homes x _ in
-      omega (arith, few, more, too-long-total (inserted homes x v) (omega (arith, room, more, ap capacity as_long)) long)
+      let more : total (with_handle homes x v) ≡ suc (total homes) = total-put_last (λ _. 0) homes x (top x, v) some in
+      let as_long : length (with_handle homes x v) ≡ length homes = length-with_list homes x _ in
+      omega (arith, few, more, too-long-total (with_handle homes x v) (omega (arith, room, more, ap capacity as_long)) long)
 
   -- with the lists that an insertion leaves, taking the entry out again gives the slots of before
   pub restored_by : (eq : H → H → Bool) (slots : List (Option (Placed (ℕ × H)))) (homes new : List (List (ℕ × H))) (x : ℕ) (v : H) → homes_of slots ≡ homes → IsTidy slots → total homes < capacity (length homes)
-      → eq v v ≡ true → new ≡ inserted homes x v → IsNew eq homes x v → layout (removed eq new x v) ≡ slots
+      → eq v v ≡ true → new ≡ with_handle homes x v → IsNew eq homes x v → layout (removed eq new x v) ≡ slots
   restored_by eq slots homes new x v are tidy room same is fresh =
       let some : 0 < length slots = omega (arith, room, length-homes_of slots, ap length are) in
       let first = subst (λ hs. IsNew eq hs x v) (sym are) fresh in
-      let restored : layout (removed eq (inserted (homes_of slots) x v) x v) ≡ slots = restored-slots eq slots x v tidy some same first in
-      let lists : new ≡ inserted (homes_of slots) x v = is ∙ ap (λ hs. inserted hs x v) (sym are) in
+      let restored : layout (removed eq (with_handle (homes_of slots) x v) x v) ≡ slots = restored-slots eq slots x v tidy some same first in
+      let lists : new ≡ with_handle (homes_of slots) x v = is ∙ ap (λ hs. with_handle hs x v) (sym are) in
       ap (λ hs. layout (removed eq hs x v)) lists ∙ restored

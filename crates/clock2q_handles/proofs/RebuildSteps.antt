@@ -2,7 +2,7 @@
 use Rattle.std.proofs.Common.{◌≡◌, ℕ, suc, ◌+◌, ◌*◌, ◌%◌, ◌<◌, ◌≤◌, refl, ap, sym, ◌∙◌, subst, arith, List, [], ◌∷◌, ◌++◌, map, take, length, get_or, Option, Some, None, IfSome, mod-eq_of_lt, length-append}
 use Rattle.std.proofs.lemmas.List.{map-append}
 use Rattle.std.specs.Fn.{Called, Mut}
-use Rattle.clock2q_handles.specs.Homes.{capacity, total, no_entries, inserted, put_last}
+use Rattle.clock2q_handles.specs.Homes.{capacity, total, no_entries, with_handle, put_last}
 use Rattle.clock2q_handles.specs.Layout.{Placed, slot_at, reach, entries, homes_of, IsTooLong}
 use Rattle.clock2q_handles.specs.TableStep.{put_all, IsHashOf}
 use Rattle.clock2q_handles.specs.Rehash.{IsHeld, Reaches, Asks}
@@ -55,7 +55,7 @@ module _ {H : Type 0} (slots : List (Option (Placed (ℕ × H)))) (len : ℕ) (t
     few = omega (arith, ap length more, length-append (entries (take i slots)) (s ∷ []), entries-front slots (suc i), tidy-total slots table.tidy, table.counted)
 
     -- it is put in last
-    pub put_next : IsHashOf key (homes_of slots) → inserted (made i) (key s.entry.1) s.entry.1 ≡ made (i + 1)
+    pub put_next : IsHashOf key (homes_of slots) → with_handle (made i) (key s.entry.1) s.entry.1 ≡ made (i + 1)
     put_next hashes =
         let e : i + 1 ≡ suc i = omega arith in
         ap (λ t. put_last (made i) (key s.entry.1) (t, s.entry.1)) (hash-slot key slots table.tidy hashes (0 + i) s is) ∙ sym (ap made e ∙ ap (put_all key (no_entries m)) more ∙ put_all-push key (no_entries m) (entries (take i slots)) s)
@@ -76,7 +76,7 @@ module _ {H : Type 0} (slots : List (Option (Placed (ℕ × H)))) (len : ℕ) (t
         omega (arith, sum, total-no_entries {H = H} key m, few)
 
     -- and no run becomes too long
-    pub no_refusal : (k : ℕ) → m ≡ k * length (homes_of slots) → len ≤ capacity m → IsHashOf key (homes_of slots) → IsTooLong (inserted (made i) (key s.entry.1) s.entry.1) → ⊥
+    pub no_refusal : (k : ℕ) → m ≡ k * length (homes_of slots) → len ≤ capacity m → IsHashOf key (homes_of slots) → IsTooLong (with_handle (made i) (key s.entry.1) s.entry.1) → ⊥
     no_refusal k multiple fits hashes long =
         let homes = homes_of slots in
         let e : i + 1 ≡ suc i = omega arith in
@@ -132,10 +132,10 @@ module _ {H : Type 0} (homes : List (List (ℕ × H))) (slots : List (Option (Pl
       hashes_read : IsHashOf key (homes_of slots)
       hashes_read = subst (IsHashOf key) come.lists hashes
 
-      as_put : inserted made_so r v ≡ inserted (put_all key (no_entries m) (entries (take i slots))) (key found.0.entry.1) found.0.entry.1
-      as_put = ap (λ hs. inserted hs r v) so_far ∙ ap (λ x. inserted (put_all key (no_entries m) (entries (take i slots))) x v) answered ∙ ap (λ w. inserted (put_all key (no_entries m) (entries (take i slots))) (key w) w) same
+      as_put : with_handle made_so r v ≡ with_handle (put_all key (no_entries m) (entries (take i slots))) (key found.0.entry.1) found.0.entry.1
+      as_put = ap (λ hs. with_handle hs r v) so_far ∙ ap (λ x. with_handle (put_all key (no_entries m) (entries (take i slots))) x v) answered ∙ ap (λ w. with_handle (put_all key (no_entries m) (entries (take i slots))) (key w) w) same
 
-      pub step_made : inserted made_so r v ≡ put_all key (no_entries m) (entries (take (i + 1) slots))
+      pub step_made : with_handle made_so r v ≡ put_all key (no_entries m) (entries (take (i + 1) slots))
       step_made = as_put ∙ put_next slots len come.table key m i come.within found.0 found.1 hashes_read
 
       pub step_room : total homes ≤ capacity m → total made_so < capacity (length made_so)
@@ -148,7 +148,7 @@ module _ {H : Type 0} (homes : List (List (ℕ × H))) (slots : List (Option (Pl
           let bound : len ≤ capacity m = omega (arith, fits, come.table.counted, ap total come.lists) in
           omega (arith, ap total so_far, fewer slots len come.table key m i come.within found.0 found.1 bound, come.table.counted, ap total come.lists)
 
-      pub step_short : total homes ≤ capacity m → (0 < length homes → (k : ℕ) × (m ≡ k * length homes)) → IsTooLong (inserted made_so r v) → ⊥
+      pub step_short : total homes ≤ capacity m → (0 < length homes → (k : ℕ) × (m ≡ k * length homes)) → IsTooLong (with_handle made_so r v) → ⊥
       step_short fits multiple long =
           let bound : len ≤ capacity m = omega (arith, fits, come.table.counted, ap total come.lists) in
           let k = multiple (omega (arith, come.within, length-homes_of slots, ap length come.lists)) in

@@ -2,7 +2,7 @@
 use Rattle.std.proofs.Common.{◌≡◌, ℕ, suc, ◌+◌, ◌%◌, ◌<◌, ◌≤◌, refl, ap, sym, ◌∙◌, arith, Bool, true, false, cond, ◌||◌, ◌&&◌, eq-eqb, List, [], ◌∷◌, ◌++◌, length, set, set-set, append-nil, Option, Some, ◌-◌}
 use Rattle.std.specs.List.{list_any}
 use Rattle.std.proofs.Math.Seq.{set-get_or}
-use Rattle.clock2q_handles.specs.Homes.{top, capacity, home, listed, total, with_list, without_first, inserted, is_entry_of, removed, IsNew}
+use Rattle.clock2q_handles.specs.Homes.{top, capacity, home, listed, total, with_list, without_first, with_handle, is_entry_of, removed, IsNew}
 use Rattle.clock2q_handles.specs.Layout.{Placed, placed, slot_at, walk, layout, homes_of, met, IsTidy}
 use Rattle.clock2q_handles.proofs.TidyLayout.{tidy-layout, length-homes_of}
 use Rattle.clock2q_handles.proofs.FewerEntries.{shorter-walk}
@@ -49,9 +49,9 @@ module _ {H : Type 0} (eq : H → H → Bool) where
   removed-walk homes x v room y = shorter-walk homes x y (without_first (is_entry_of eq x v) (listed homes x)) room (length-without_first (is_entry_of eq x v) (listed homes x))
 
   -- an entry that was put in and is taken out again leaves the lists as they were
-  pub restored-homes : (homes : List (List (ℕ × H))) (x : ℕ) (v : H) → 0 < length homes → eq v v ≡ true → IsNew eq homes x v → removed eq (inserted homes x v) x v ≡ homes
+  pub restored-homes : (homes : List (List (ℕ × H))) (x : ℕ) (v : H) → 0 < length homes → eq v v ≡ true → IsNew eq homes x v → removed eq (with_handle homes x v) x v ≡ homes
   restored-homes homes x v some same new =
-      let more : List (List (ℕ × H)) = inserted homes x v in
+      let more : List (List (ℕ × H)) = with_handle homes x v in
       let len : length more ≡ length homes = length-with_list homes x (listed homes x ++ (top x, v) ∷ []) in
       let lists : listed more x ≡ listed homes x ++ (top x, v) ∷ [] = listed-with_same homes x x (listed homes x ++ (top x, v) ∷ []) some refl in
       let passes : is_entry_of eq x v (top x, v) ≡ true = ap (λ b. b && eq v v) (eq-eqb (top x) (top x) refl) ∙ same in
@@ -59,5 +59,5 @@ module _ {H : Type 0} (eq : H → H → Bool) where
       ap (set more (home more x)) less ∙ ap (λ m. set more (x % m) (listed homes x)) len ∙ set-set homes (home homes x) (listed homes x ++ (top x, v) ∷ []) (listed homes x) ∙ set-get_or homes (home homes x) []
 
   -- and so the slots
-  pub restored-slots : (slots : List (Option (Placed (ℕ × H)))) (x : ℕ) (v : H) → IsTidy slots → 0 < length slots → eq v v ≡ true → IsNew eq (homes_of slots) x v → layout (removed eq (inserted (homes_of slots) x v) x v) ≡ slots
+  pub restored-slots : (slots : List (Option (Placed (ℕ × H)))) (x : ℕ) (v : H) → IsTidy slots → 0 < length slots → eq v v ≡ true → IsNew eq (homes_of slots) x v → layout (removed eq (with_handle (homes_of slots) x v) x v) ≡ slots
   restored-slots slots x v tidy some same new = ap layout (restored-homes (homes_of slots) x v (omega (arith, length-homes_of slots)) same new) ∙ sym (tidy-layout slots tidy)

@@ -1,6 +1,6 @@
 -- What a call that changes a table leaves, and how many slots it writes.
 use Rattle.std.specs.Prelude.{◌≡◌, ℕ, ◌+◌, ◌≤◌, Bool, List, Result, MatchResult}
-use Rattle.clock2q_handles.specs.Homes.{inserted, removed, count, IsNew}
+use Rattle.clock2q_handles.specs.Homes.{with_handle, removed, count, IsNew}
 use Rattle.clock2q_handles.specs.Layout.{layout, spill_of, IsTooLong, IsBestPlaced}
 use Rattle.clock2q_handles.specs.TableStep.{TableValue}
 use Rattle.clock2q_handles.specs.declared.error.TableError.{TableError}
@@ -9,7 +9,7 @@ use Rattle.clock2q_handles.specs.declared.error.TableError.TheVariants.{RunTooLo
 module _ {H : Type 0} where
   -- v is put in under x, and no run is too long; or a run would be, and nothing is put in
   abbrev pub PutIn : List (List (ℕ × H)) → ℕ → H → Result (Unit {0}) TableError → List (List (ℕ × H)) → Type 0
-  PutIn old x v result new = MatchResult result (λ _. (new ≡ inserted old x v) × (IsTooLong (inserted old x v) → ⊥)) (λ e. (e ≡ RunTooLong) × (new ≡ old) × IsTooLong (inserted old x v))
+  PutIn old x v result new = MatchResult result (λ _. (new ≡ with_handle old x v) × (IsTooLong (with_handle old x v) → ⊥)) (λ e. (e ≡ RunTooLong) × (new ≡ old) × IsTooLong (with_handle old x v))
 
   -- n slots are written at most
   abbrev pub WritesAtMost : ℕ → TableValue H → TableValue H → Type 0

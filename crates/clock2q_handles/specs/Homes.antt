@@ -48,8 +48,8 @@ abbrev pub candidates : {H : Type 0} → List (List (ℕ × H)) → ℕ → List
 candidates homes x = map (λ e. e.1) (filter (λ e. e.0 == top x) (listed homes x))
 
 -- v is put in under the hash x
-abbrev pub inserted : {H : Type 0} → List (List (ℕ × H)) → ℕ → H → List (List (ℕ × H))
-inserted homes x v = put_last homes x (top x, v)
+abbrev pub with_handle : {H : Type 0} → List (List (ℕ × H)) → ℕ → H → List (List (ℕ × H))
+with_handle homes x v = put_last homes x (top x, v)
 
 -- an entry that `remove` of v under x may take: one of x's fingerprint whose handle equals v
 abbrev pub is_entry_of : {H : Type 0} → (H → H → Bool) → ℕ → H → ℕ × H → Bool

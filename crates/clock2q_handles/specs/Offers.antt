@@ -1,7 +1,7 @@
 -- Candidates offered to a closure, up to the first that it accepts.
 use Rattle.std.specs.Prelude.{◌≡◌, ℕ, Bool, true, false, List, [], ◌∷◌, Option, Some, None, Result, Ok, MatchBool, MatchResult}
 use Rattle.std.specs.Fn.{Called, Takes, Mut}
-use Rattle.clock2q_handles.specs.Homes.{candidates, inserted}
+use Rattle.clock2q_handles.specs.Homes.{candidates, with_handle}
 use Rattle.clock2q_handles.specs.Layout.{IsTooLong}
 use Rattle.clock2q_handles.specs.declared.error.TableError.{TableError}
 use Rattle.clock2q_handles.specs.declared.error.TableError.TheVariants.{RunTooLong}
@@ -23,7 +23,7 @@ pub record MayBeOffered {F H : Type 0} (g : Mut F (H × Unit {0}) Bool) (f : F) 
 -- the one that was accepted is answered, and nothing changes; or v is put in under x, where no run becomes too long
 abbrev pub Settles : {H : Type 0} → List (List (ℕ × H)) → ℕ → H → Option H → Result (H × Bool) TableError → List (List (ℕ × H)) → Type 0
 Settles old x v (Some c) result new = (result ≡ Ok (c, false)) × (new ≡ old)
-Settles old x v None result new = MatchResult result (λ r. (r ≡ (v, true)) × (new ≡ inserted old x v) × (IsTooLong (inserted old x v) → ⊥)) (λ e. (e ≡ RunTooLong) × (new ≡ old) × IsTooLong (inserted old x v))
+Settles old x v None result new = MatchResult result (λ r. (r ≡ (v, true)) × (new ≡ with_handle old x v) × (IsTooLong (with_handle old x v) → ⊥)) (λ e. (e ≡ RunTooLong) × (new ≡ old) × IsTooLong (with_handle old x v))
 
 -- the candidates of x are offered to f, which leads to last, and what comes of that is answered and done
 abbrev pub FindsOrPuts : {M H : Type 0} → Mut M (H × Unit {0}) Bool → M → List (List (ℕ × H)) → ℕ → H → Result (H × Bool) TableError → List (List (ℕ × H)) → M → Type 0

@@ -9,7 +9,7 @@ use Rattle.clock2q_cache.specs.Machine.{Machine, empty, residents, slot_of, valu
 use Rattle.clock2q_cache.specs.Steps.{fetched, put}
 use Rattle.clock2q_cache.specs.Cache.{IsWhole}
 use Rattle.clock2q_cache.proofs.Whole.{some_is, none_is}
-use Rattle.clock2q_cache.proofs.Lasting.{lasting-empty, resident_made, lasting-hit, lasting-inserted}
+use Rattle.clock2q_cache.proofs.MachineInvariant.{lasting-empty, resident_made, lasting-hit, lasting-inserted}
 use Rattle.clock2q_cache.proofs.Residents.{hit-absent}
 use Rattle.clock2q_cache.proofs.Standing.{get-within}
 use Rattle.clock2q_cache.proofs.Entering.{weight-hit, same_slots, others_entered}

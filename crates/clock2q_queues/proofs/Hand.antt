@@ -8,14 +8,14 @@ use Rattle.clock2q_queues.specs.declared.main_ring.MainRing.{MainRing}
 use Rattle.clock2q_queues.specs.Rings.{has, IsRing}
 use Rattle.clock2q_queues.specs.Cells.{accessed}
 use Rattle.clock2q_queues.specs.Links.{LinkState, IsLinked, IsSameBut, slot_at, record_at, next_at, previous_at, bit_at}
-use Rattle.clock2q_queues.specs.MainRing.{IsMain, IsMainRing, main_slots, main_entries, passed, inspections, from_victim}
+use Rattle.clock2q_queues.specs.MainRing.{IsMain, IsMainRing, main_slots, main_entries, set_front, inspections, from_victim}
 use Rattle.clock2q_queues.proofs.Rings.{eqb_self, has-append, has_later, differs}
 use Rattle.clock2q_queues.proofs.Joining.{map-agree, IsLinked-turned}
 use Rattle.clock2q_queues.proofs.Booleans.{or_left, or_parts, or_neither}
 use Rattle.clock2q_queues.proofs.Main.{main_slots-is, IsMainRing-from}
 
 -- one entry more, whose bit is clear, ends no front that ended before
-prefix_len-push : (es : List (ℕ × Bool)) (s : ℕ) → passed (es ++ (s, false) ∷ []) ≡ passed es
+prefix_len-push : (es : List (ℕ × Bool)) (s : ℕ) → set_front (es ++ (s, false) ∷ []) ≡ set_front es
 prefix_len-push [] s = refl
 prefix_len-push ((t, true) ∷ es) s = ap (λ z. 1 + z) (prefix_len-push es s)
 prefix_len-push ((t, false) ∷ es) s = refl
@@ -24,9 +24,9 @@ prefix_len-push ((t, false) ∷ es) s = refl
 pub from_victim-passed : (s : ℕ) (es : List (ℕ × Bool)) → from_victim ((s, true) ∷ es) ≡ from_victim (es ++ (s, false) ∷ [])
 from_victim-passed s es =
     let n = prefix_len-le-length (λ (e : ℕ × Bool). e.1) es in
-    let e : 1 + passed es ≡ suc (passed es) = omega arith in
-    rw (prefix_len-push es s, drop-append-le (passed es) es ((s, false) ∷ []) n, take-append-le (passed es) es ((s, false) ∷ []) n, e)
-    (sym (append_assoc (drop (passed es) es) ((s, false) ∷ []) (map (λ e. (e.0, false)) (take (passed es) es))))
+    let e : 1 + set_front es ≡ suc (set_front es) = omega arith in
+    rw (prefix_len-push es s, drop-append-le (set_front es) es ((s, false) ∷ []) n, take-append-le (set_front es) es ((s, false) ∷ []) n, e)
+    (sym (append_assoc (drop (set_front es) es) ((s, false) ∷ []) (map (λ e. (e.0, false)) (take (set_front es) es))))
 
 -- where the first bit is clear, the first entry is the victim
 pub from_victim-chosen : (s : ℕ) (es : List (ℕ × Bool)) → from_victim ((s, false) ∷ es) ≡ (s, false) ∷ es

@@ -5,7 +5,7 @@ use Rattle.std.proofs.lemmas.Bool.{both_ways, cases_Bool}
 use Rattle.std.proofs.lemmas.Bool.Decides.{leb_tells}
 use Rattle.std.proofs.lemmas.List.{length-append, length-replicate}
 use Rattle.clock2q_queues.specs.Rings.{has, without, AllApart}
-use Rattle.clock2q_handles.specs.Homes.{top, home, no_entries, capacity, listed, count, total, candidates, inserted, removed, is_entry_of, without_first}
+use Rattle.clock2q_handles.specs.Homes.{top, home, no_entries, capacity, listed, count, total, candidates, with_handle, removed, is_entry_of, without_first}
 use Rattle.clock2q_queues.specs.Keys.{hash_at}
 use Rattle.clock2q_handles.specs.TableStep.{fit, doubled_until, made_for}
 use Rattle.clock2q_queues.specs.Indexes.{IsIndex, is_alike, is_named, index_room}
@@ -78,10 +78,10 @@ any-candidate x p (e ∷ es) = elim (cases_Bool (eqb e.0 (top x))) [
 
 -- The index
 
-pub length-put : (index : List (List (ℕ × ℕ))) (hash place : ℕ) → length (inserted index hash place) ≡ length index
+pub length-put : (index : List (List (ℕ × ℕ))) (hash place : ℕ) → length (with_handle index hash place) ≡ length index
 length-put index hash place = length-with_list index hash (listed index hash ++ (top hash, place) ∷ [])
 
-pub total-put : (index : List (List (ℕ × ℕ))) (hash place : ℕ) → 0 < length index → total (inserted index hash place) ≡ total index + 1
+pub total-put : (index : List (List (ℕ × ℕ))) (hash place : ℕ) → 0 < length index → total (with_handle index hash place) ≡ total index + 1
 total-put index hash place some = omega (arith, total-with_list index hash (listed index hash ++ (top hash, place) ∷ []) some, length-append (listed index hash) ((top hash, place) ∷ []))
 
 pub length-taken : (index : List (List (ℕ × ℕ))) (hash place : ℕ) → length (removed eqb index hash place) ≡ length index
@@ -111,21 +111,21 @@ module _ {K V : Type 0} where
   -- a place that wasn't there is put in under a hash, which is that of the key that now stands there
   module _ (index : List (List (ℕ × ℕ))) (keys keys' : List (Entry K V)) (places : List ℕ) (place hash : ℕ) (i : IsIndex index keys places) (some : 0 < length index)
       (absent : has place places ≡ false) (same : (q : ℕ) → has q places ≡ true → hash_at keys' q ≡ hash_at keys q) (at : hash_at keys' place ≡ Some hash) where
-    still_named : (x q : ℕ) → (has q places && is_named index keys x q) ≡ (has q places && is_named (inserted index hash place) keys' x q)
+    still_named : (x q : ℕ) → (has q places && is_named index keys x q) ≡ (has q places && is_named (with_handle index hash place) keys' x q)
     still_named x q = elim (cases_Bool (has q places)) [
-      | inl h ↦ rw h (sym (named-length index (inserted index hash place) keys' x q (length-put index hash place) ∙ named-kept index keys keys' x q (same q h)))
+      | inl h ↦ rw h (sym (named-length index (with_handle index hash place) keys' x q (length-put index hash place) ∙ named-kept index keys keys' x q (same q h)))
       | inr h ↦ rw h refl
     ]
 
-    listed-put : (x q : ℕ) → has q (candidates (inserted index hash place) x) ≡ (has q (place ∷ places) && is_named (inserted index hash place) keys' x q)
+    listed-put : (x q : ℕ) → has q (candidates (with_handle index hash place) x) ≡ (has q (place ∷ places) && is_named (with_handle index hash place) keys' x q)
     listed-put x q = elim (cases_Bool (is_alike index x hash)) [
       | inl a ↦
           let p = alike_parts index x hash a in
           let cs = candidates-inserted index hash x place some p.0 p.1 in
-          let met : has q (candidates (inserted index hash place) x) ≡ (has q (candidates index x) || (eqb q place || false)) = ap (λ z. has q z) cs ∙ has-append q (candidates index x) (place ∷ []) in
+          let met : has q (candidates (with_handle index hash place) x) ≡ (has q (candidates index x) || (eqb q place || false)) = ap (λ z. has q z) cs ∙ has-append q (candidates index x) (place ∷ []) in
           elim (cases_Bool (eqb q place)) [
             | inl e ↦
-                let n : is_named (inserted index hash place) keys' x q ≡ true = ap (λ z. is_named (inserted index hash place) keys' x z) (eqb-true q place e) ∙ named-length index (inserted index hash place) keys' x place (length-put index hash place) ∙ named-as index keys' x place hash at ∙ a in
+                let n : is_named (with_handle index hash place) keys' x q ≡ true = ap (λ z. is_named (with_handle index hash place) keys' x z) (eqb-true q place e) ∙ named-length index (with_handle index hash place) keys' x place (length-put index hash place) ∙ named-as index keys' x place hash at ∙ a in
                 met ∙ rw (e, n) (or_true (has q (candidates index x)))
             | inr e ↦ met ∙ rw e (or_false (has q (candidates index x)) ∙ i.listed x q ∙ still_named x q)
           ]
@@ -133,14 +133,14 @@ module _ {K V : Type 0} where
           let cs = candidates-inserted_other index hash x place some (not_alike index x hash a) in
           ap (λ z. has q z) cs ∙ i.listed x q ∙ elim (cases_Bool (eqb q place)) [
             | inl e ↦
-                let n : is_named (inserted index hash place) keys' x q ≡ false = ap (λ z. is_named (inserted index hash place) keys' x z) (eqb-true q place e) ∙ named-length index (inserted index hash place) keys' x place (length-put index hash place) ∙ named-as index keys' x place hash at ∙ a in
+                let n : is_named (with_handle index hash place) keys' x q ≡ false = ap (λ z. is_named (with_handle index hash place) keys' x z) (eqb-true q place e) ∙ named-length index (with_handle index hash place) keys' x place (length-put index hash place) ∙ named-as index keys' x place hash at ∙ a in
                 let h : has q places ≡ false = subst (λ z. has z places ≡ false) (sym (eqb-true q place e)) absent in
                 rw (e, n, h) refl
             | inr e ↦ still_named x q ∙ rw e refl
           ]
     ]
 
-    pub IsIndex-put : IsIndex (inserted index hash place) keys' (place ∷ places)
+    pub IsIndex-put : IsIndex (with_handle index hash place) keys' (place ∷ places)
     IsIndex-put = record {
       listed = listed-put;
       once = λ x. elim (cases_Bool (is_alike index x hash)) [

@@ -7,7 +7,7 @@ use Rattle.std.proofs.lemmas.List.{append-nil}
 use Rattle.clock2q_queues.specs.declared.keys.cells.Entry.{Entry}
 use Rattle.clock2q_queues.specs.Rings.{has, without, AllApart}
 use Rattle.clock2q_queues.specs.Cells.{Rises}
-use Rattle.clock2q_handles.specs.Homes.{inserted, removed}
+use Rattle.clock2q_handles.specs.Homes.{with_handle, removed}
 use Rattle.clock2q_queues.specs.Order.{PlaceOrder, IsWholeOrder, used, next_place, place_for}
 use Rattle.clock2q_queues.specs.Keys.{hash_at, hashed_at, entries_of}
 use Rattle.clock2q_queues.specs.Indexes.{IsIndex}
@@ -78,9 +78,9 @@ module _ {K V : Type 0} (index : List (List (ℕ × ℕ))) (order order' : Place
         placed = λ hash.
             let p = places_in index order in
             let oldest = oldest_hash (λ (e : ℕ × K). e.0) (entries_of keys order.places) in
-            ap (λ z. places_with (inserted index hash place) z order'.free) places
-            ∙ ap (λ z. places_with (inserted index hash place) (place ∷ order.places) z) free
-            ∙ ap (λ z. places_with (inserted index hash z) (z ∷ order.places) (drop 1 order.free)) is
+            ap (λ z. places_with (with_handle index hash place) z order'.free) places
+            ∙ ap (λ z. places_with (with_handle index hash place) (place ∷ order.places) z) free
+            ∙ ap (λ z. places_with (with_handle index hash z) (z ∷ order.places) (drop 1 order.free)) is
             ∙ sym (ap (λ b. if b then taking_free hash p else taking_oldest hash oldest (last_or None order.places) p) (lt-ltb (length order.places) order.limit room));
       }
 
@@ -114,10 +114,10 @@ module _ {K V : Type 0} (index : List (List (ℕ × ℕ))) (order order' : Place
             let p = places_in index order in
             let oldest = oldest_hash (λ (e : ℕ × K). e.0) (entries_of keys order.places) in
             let front' = take (length order.places - 1) order.places in
-            ap (λ z. places_with (inserted z new place) order'.places order'.free) is
-            ∙ ap (λ z. places_with (inserted (removed eqb index hash place) new place) z order'.free) places
-            ∙ ap (λ z. places_with (inserted (removed eqb index hash place) new place) (place ∷ front') z) free
-            ∙ ap (λ z. places_with (inserted (removed eqb index z place) new place) (place ∷ front') order.free) (sym (oldest-is keys order.places place hash last there at))
+            ap (λ z. places_with (with_handle z new place) order'.places order'.free) is
+            ∙ ap (λ z. places_with (with_handle (removed eqb index hash place) new place) z order'.free) places
+            ∙ ap (λ z. places_with (with_handle (removed eqb index hash place) new place) (place ∷ front') z) free
+            ∙ ap (λ z. places_with (with_handle (removed eqb index z place) new place) (place ∷ front') order.free) (sym (oldest-is keys order.places place hash last there at))
             ∙ ap (λ z. taking_oldest new oldest z p) (sym last)
             ∙ sym (ap (λ b. if b then taking_free new p else taking_oldest new oldest (last_or None order.places) p) (le-ltb (length order.places) order.limit full));
       }

@@ -4,7 +4,7 @@ use Rattle.std.specs.Prelude.{Result, Ok, Err, IsOk, if◌then◌else◌}
 use Rattle.std.specs.List.{last_or}
 use Rattle.std.proofs.lemmas.Bool.{both_ways, eq-eqb, le-ltb}
 use Rattle.std.proofs.lemmas.List.{length-take}
-use Rattle.clock2q_handles.specs.Homes.{total, capacity, inserted}
+use Rattle.clock2q_handles.specs.Homes.{total, capacity, with_handle}
 use Rattle.clock2q_handles.specs.declared.error.TableError.{TableError}
 use Rattle.clock2q_handles.specs.Changes.{PutIn}
 use Rattle.clock2q_queues.specs.declared.keys.cells.Entry.{Entry}
@@ -66,11 +66,11 @@ module _ {K V : Type 0} (eq : K → K → Bool) (hash : ℕ) (key : K) (value : 
   put_fits = rw m.as_many (room_in (total index1) order.limit (length index) fewer_now h.half)
 
   -- the index takes the place: no run is too long
-  pub insert_done : (r : Result (Unit {0}) TableError) → PutIn index1 hash place r index' → (total index1 + 1 < 2 ^ 24 → IsOk r) → index' ≡ inserted index1 hash place
+  pub insert_done : (r : Result (Unit {0}) TableError) → PutIn index1 hash place r index' → (total index1 + 1 < 2 ^ 24 → IsOk r) → index' ≡ with_handle index1 hash place
   insert_done (Ok x) put few = put.0
   insert_done (Err e) put few = let ok = few (omega (arith, fewer_now, h.short)) in cc
 
-  module _ (write : keys' ≡ key_places (written place (entry hash key value) keys.entries) keys.room (keys.writes + 1) keys.questions) (put : index' ≡ inserted index1 hash place) (w : IsWholeOrder order')
+  module _ (write : keys' ≡ key_places (written place (entry hash key value) keys.entries) keys.room (keys.writes + 1) keys.questions) (put : index' ≡ with_handle index1 hash place) (w : IsWholeOrder order')
       (absent : has_key eq key (entries_of keys.entries order.places) ≡ false) where
     wrote : keys'.entries ≡ written place (entry hash key value) keys.entries
     wrote = ap (λ (z : KeyPlaces K V). z.entries) write

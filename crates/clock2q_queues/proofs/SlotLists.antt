@@ -4,7 +4,7 @@ use Rattle.std.specs.List.{filter, last_or}
 use Rattle.std.proofs.lemmas.Bool.{eq-eqb, cases_Bool}
 use Rattle.std.proofs.lemmas.List.{map-append, take-append-drop}
 use Rattle.clock2q_queues.specs.Ages.{Age}
-use Rattle.clock2q_queues.specs.MainRing.{passed, from_victim, main_hit_at}
+use Rattle.clock2q_queues.specs.MainRing.{set_front, from_victim, main_hit_at}
 use Rattle.clock2q_queues.specs.Queues.{slots_of, without_slot}
 use Rattle.clock2q_queues.specs.Rings.{has, without, AllApart}
 use Rattle.clock2q_queues.specs.Small.{small_hit_at}
@@ -43,11 +43,11 @@ slots_of-hit h slot (e ∷ es) = elim (cases_Bool (eqb e.0 slot)) [
 -- the choice keeps Main's slots
 pub members-chosen : (es : List (ℕ × Bool)) (t : ℕ) → has t (slots_of (from_victim es)) ≡ false → has t (slots_of es) ≡ false
 members-chosen es t h =
-    let front = take (passed es) es in
-    let rest = drop (passed es) es in
+    let front = take (set_front es) es in
+    let rest = drop (set_front es) es in
     let p = or_parts (has t (slots_of rest)) (has t (slots_of front))
     (sym (ap (λ z. has t z) (slots_of-append rest (map (λ e. (e.0, false)) front)) ∙ ap (λ z. has t (slots_of rest ++ z)) (slots_of-mapped (λ b. false) front) ∙ has-append t (slots_of rest) (slots_of front)) ∙ h) in
-    sym (ap (λ z. has t (slots_of z)) (take-append-drop (passed es) es)) ∙ ap (λ z. has t z) (slots_of-append front rest) ∙ has-append t (slots_of front) (slots_of rest) ∙ or_neither (has t (slots_of front)) (has t (slots_of rest)) p.1 p.0
+    sym (ap (λ z. has t (slots_of z)) (take-append-drop (set_front es) es)) ∙ ap (λ z. has t z) (slots_of-append front rest) ∙ has-append t (slots_of front) (slots_of rest) ∙ or_neither (has t (slots_of front)) (has t (slots_of rest)) p.1 p.0
 
 -- A slot that isn't there
 

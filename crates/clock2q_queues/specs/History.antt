@@ -3,7 +3,7 @@ use Rattle.std.specs.Prelude.{◌≡◌, ℕ, ◌+◌, ◌-◌, ◌*◌, ◌^◌
 use Rattle.std.specs.List.{filter, find, zip, last_or}
 use Rattle.std.specs.Option.{option_map}
 use Rattle.std.specs.Coded.{Coded, code_by, coded×, coded_ℕ, coded_list}
-use Rattle.clock2q_handles.specs.Homes.{inserted, removed}
+use Rattle.clock2q_handles.specs.Homes.{with_handle, removed}
 use Rattle.clock2q_queues.specs.Rings.{has, without}
 use Rattle.clock2q_queues.specs.Cells.{Rises}
 use Rattle.clock2q_queues.specs.declared.keys.cells.Entry.{Entry}
@@ -26,12 +26,12 @@ places_code = code_by (List (List (ℕ × ℕ)) × (List ℕ × List ℕ)) (code
 
 -- a new key stands at a free place, or at one that no key had yet
 abbrev pub taking_free : ℕ → Places → Places
-taking_free hash p = let place = place_for (length p.taken) p.free in places_with (inserted p.index hash place) (place ∷ p.taken) (drop 1 p.free)
+taking_free hash p = let place = place_for (length p.taken) p.free in places_with (with_handle p.index hash place) (place ∷ p.taken) (drop 1 p.free)
 
 -- a new key stands at the oldest key's place, which the index had under that key's hash
 abbrev pub taking_oldest : (hash oldest : ℕ) → Option ℕ → Places → Places
 taking_oldest hash oldest None p = p
-taking_oldest hash oldest (Some place) p = places_with (inserted (removed nat_eq p.index oldest place) hash place) (place ∷ take (length p.taken - 1) p.taken) p.free
+taking_oldest hash oldest (Some place) p = places_with (with_handle (removed nat_eq p.index oldest place) hash place) (place ∷ take (length p.taken - 1) p.taken) p.free
 
 -- a key is pushed: at most so many places are taken at once
 abbrev pub pushed_places : (limit hash oldest : ℕ) → Places → Places
@@ -106,7 +106,7 @@ pub record MakesPlace {K V : Type 0} (index index' : List (List (ℕ × ℕ))) (
   pub used_now : used order' ≡ max (length keys) (place + 1)
   pub limit : order'.limit ≡ order.limit
   pub accesses : Rises 1 7 order.accesses order'.accesses
-  pub placed : (hash : ℕ) → places_with (inserted index' hash place) order'.places order'.free ≡ pushed_places order.limit hash (oldest_hash (λ (e : ℕ × K). e.0) (entries_of keys order.places)) (places_in index order)
+  pub placed : (hash : ℕ) → places_with (with_handle index' hash place) order'.places order'.free ≡ pushed_places order.limit hash (oldest_hash (λ (e : ℕ × K). e.0) (entries_of keys order.places)) (places_in index order)
 
 -- how often links were accessed: the records, and each key that was written to a place
 abbrev pub accesses_of : {K V : Type 0} → PlaceOrder → KeyPlaces K V → ℕ

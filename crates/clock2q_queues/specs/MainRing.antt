@@ -24,8 +24,8 @@ abbrev pub IsMainRing : LinkState → MainRing → Type 0
 IsMainRing l main = IsMain l main (main_slots l main)
 
 -- how many slots the hand passes, how often it looks, and Main from its victim
-abbrev pub passed : List (ℕ × Bool) → ℕ
-passed main = hand.passed (λ e. e.1) main
+abbrev pub set_front : List (ℕ × Bool) → ℕ
+set_front main = hand.set_front (λ e. e.1) main
 
 abbrev pub inspections : List (ℕ × Bool) → ℕ
 inspections main = hand.inspections (λ e. e.1) main

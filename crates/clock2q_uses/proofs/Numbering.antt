@@ -6,7 +6,7 @@ use Rattle.std.proofs.lemmas.List.{get_or_append_left}
 use Rattle.std.proofs.Math.Seq.{get_or-append_seam}
 use Rattle.clock2q_handles.specs.declared.error.TableError.{TableError}
 use Rattle.clock2q_handles.specs.declared.error.TableError.TheVariants.{Memory, Size, RunTooLong}
-use Rattle.clock2q_handles.specs.Homes.{top, home, candidates, inserted}
+use Rattle.clock2q_handles.specs.Homes.{top, home, candidates, with_handle}
 use Rattle.clock2q_handles.specs.TableStep.{IsHashOf, grown}
 use Rattle.clock2q_handles.specs.Rehash.{IsHeld}
 use Rattle.clock2q_handles.specs.Offers.{Settles}
@@ -46,7 +46,7 @@ module _ (keys : List ℕ) (homes : List (List (ℕ × ℕ))) (key : ℕ) (some 
       subst (λ x. (home homes (spread x) ≡ h) × (top (spread x) ≡ e.0)) (sym same) (is.0 h i e l at)
 
   abbrev now : List (List (ℕ × ℕ))
-  now = inserted homes (spread key) (length keys)
+  now = with_handle homes (spread key) (length keys)
 
   held_now : (at : ℕ) → IsHeld now at → at < length more
   held_now at held =

@@ -1,7 +1,7 @@
 -- Where Small has a share and there is a vacancy, its length tells.
 use Rattle.std.proofs.Common.{length, sym, ap, ◌∙◌}
 use Rattle.clock2q_cache.specs.CacheState.{CacheState}
-use Rattle.clock2q_cache.proofs.Kept.{length_in_small}
+use Rattle.clock2q_cache.proofs.CacheInvariant.{length_in_small}
 use Rattle.clock2q_cache.proofs.Changed.{admits}
 use Rattle.clock2q_cache.proofs.cache.Cache.admits_to_main.Goals as goal
 

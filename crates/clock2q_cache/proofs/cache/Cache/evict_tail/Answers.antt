@@ -11,12 +11,12 @@ use Rattle.clock2q_cache.specs.Hashes.{hash_of}
 use Rattle.clock2q_cache.specs.Machine.{into_main, into_small}
 use Rattle.clock2q_cache.specs.CacheState.{CacheState}
 use Rattle.clock2q_cache.specs.CacheFields.{machine_of}
-use Rattle.clock2q_cache.proofs.Kept.{fills, IsDone, length_in_small, length_in_main}
+use Rattle.clock2q_cache.proofs.CacheInvariant.{fills, IsDone, length_in_small, length_in_main}
 use Rattle.clock2q_cache.proofs.Stored.{hash-of-key}
 use Rattle.clock2q_cache.proofs.Renewed.{resident-there, slot-below, no-tail, all-taken, front, tail-in, tail-not_in_front, tail-not_in_main, tail-unremembered, evicted-done}
 use Rattle.clock2q_cache.proofs.Insertions.{evicted-spends}
 use Rattle.clock2q_cache.specs.Places.{remembering_any}
-use Rattle.clock2q_handles.specs.Homes.{inserted, removed}
+use Rattle.clock2q_handles.specs.Homes.{with_handle, removed}
 use Rattle.clock2q_cache.proofs.Places.{entered-renewed, remembering-kept, out-of-tail}
 use Rattle.clock2q_cache.proofs.cache.Cache.evict_tail.Goals as goal
 
@@ -97,7 +97,7 @@ returns g c =
     record {
       slot = d.at ∙ ap (λ (z : CacheState _ _ _). (into_small c.args.key z.machine).slot) c.self.view_is;
       machine = rw (← c.self.view_is) (fills c.args.value c.in-Some.tail w.held (into_small c.args.key (machine_of c.self.inside.shares c.self.inside.queues c.self.inside.keys.entries c.self.inside.history.entries c.self.inside.free.items)) _ _ d.at w.is d.machine);
-      indexes = rw (← c.self.view_is) (record { residents = c.renew-old_hash.ensures.index ∙ ap (λ x. inserted (removed eqb c.self.inside.index.homes c.renew-old_hash.result.0 c.in-Some.tail) x c.in-Some.tail) same ∙ sym (entered-renewed _ g.met.K.Eq.laws _ _ _ _ _ _ _ _ k c.args.key c.in-Some.tail c.renew-old_hash.result.0 (tail-in _ g.met.K.Eq.laws _ _ _ _ _ _ _ _ k c.in-Some.tail (sym c.in-Some.ensures.tail)) c.renew-old_hash.ensures.hash); remembered = c.push.ensures.places ∙ remembering-kept _ g.met.K.Eq.laws _ _ _ _ _ _ _ _ k c.renew-old_hash.result.1 c.renew-old_hash.result.0 i.history.places old_hashed ∙ ap (λ o. remembering_any (λ x. hash_of g.S.BuildHasher g.S.Hasher.Hasher i.hasher (g.K.Hash.hash_input x)) o (machine_of i.shares i.queues i.keys.entries i.history.entries i.free.items) i.history.places) (sym (out-of-tail _ g.met.K.Eq.laws _ _ _ _ _ _ _ _ k c.in-Some.tail c.renew-old_hash.result.1 (sym c.in-Some.ensures.tail) c.renew-old_hash.ensures.key)) });
+      indexes = rw (← c.self.view_is) (record { residents = c.renew-old_hash.ensures.index ∙ ap (λ x. with_handle (removed eqb c.self.inside.index.homes c.renew-old_hash.result.0 c.in-Some.tail) x c.in-Some.tail) same ∙ sym (entered-renewed _ g.met.K.Eq.laws _ _ _ _ _ _ _ _ k c.args.key c.in-Some.tail c.renew-old_hash.result.0 (tail-in _ g.met.K.Eq.laws _ _ _ _ _ _ _ _ k c.in-Some.tail (sym c.in-Some.ensures.tail)) c.renew-old_hash.ensures.hash); remembered = c.push.ensures.places ∙ remembering-kept _ g.met.K.Eq.laws _ _ _ _ _ _ _ _ k c.renew-old_hash.result.1 c.renew-old_hash.result.0 i.history.places old_hashed ∙ ap (λ o. remembering_any (λ x. hash_of g.S.BuildHasher g.S.Hasher.Hasher i.hasher (g.K.Hash.hash_input x)) o (machine_of i.shares i.queues i.keys.entries i.history.entries i.free.items) i.history.places) (sym (out-of-tail _ g.met.K.Eq.laws _ _ _ _ _ _ _ _ k c.in-Some.tail c.renew-old_hash.result.1 (sym c.in-Some.ensures.tail) c.renew-old_hash.ensures.key)) });
       hasher = ap (λ (z : CacheState _ _ _). z.hasher) c.self.view_is;
       counts = rw (← c.self.view_is) (evicted-spends c.self.inside.queues c.self.inside.history c.self.inside.keys c.take_tail.new.self c.admit.new.self c.push.new.self c.renew-old_hash.new.keys (ap (λ (z : QueueState). z.inspections) c.in-Some.ensures.queues) c.in-Some.ensures.accesses (ap (λ (z : QueueState). z.inspections) c.admit.ensures.queues) c.admit.ensures.accesses c.push.ensures.accesses (ap (λ (z : Remembered _). z.questions) c.push.ensures.pushed) (ap (λ (z : KeyPlaces _ _). z.questions) c.renew-old_hash.ensures.kept));
     }

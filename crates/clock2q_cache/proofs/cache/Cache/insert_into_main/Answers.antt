@@ -1,7 +1,7 @@
 -- Main has as many entries as slots.
 use Rattle.std.proofs.Common.{◌≡◌, ◌<◌, length, arith}
 use Rattle.clock2q_cache.specs.Shares.{main_share}
-use Rattle.clock2q_cache.proofs.Kept.{length_in_main}
+use Rattle.clock2q_cache.proofs.CacheInvariant.{length_in_main}
 use Rattle.clock2q_cache.proofs.Insertions.{full-looks, room-looks}
 use Rattle.clock2q_cache.proofs.cache.Cache.insert_into_main.Goals as goal
 

@@ -8,9 +8,9 @@ use Rattle.clock2q_cache.specs.Hashes.{hash_of}
 use Rattle.clock2q_cache.specs.Machine.{vacancy, into_small}
 use Rattle.clock2q_cache.specs.CacheState.{CacheState}
 use Rattle.clock2q_cache.specs.CacheFields.{machine_of}
-use Rattle.clock2q_cache.proofs.Kept.{few-small, index_room, index_few, taken-here, vacancy-here, vacant-slot, vacant-apart, made-small, fills, IsDone, small-done}
+use Rattle.clock2q_cache.proofs.CacheInvariant.{few-small, index_room, index_few, taken-here, vacancy-here, vacant-slot, vacant-apart, made-small, fills, IsDone, small-done}
 use Rattle.clock2q_cache.proofs.Insertions.{joined-spends}
-use Rattle.clock2q_handles.specs.Homes.{inserted}
+use Rattle.clock2q_handles.specs.Homes.{with_handle}
 use Rattle.clock2q_cache.proofs.Places.{entered-vacant}
 use Rattle.clock2q_cache.proofs.cache.Cache.join_small.Goals as goal
 
@@ -120,7 +120,7 @@ returns g c =
     record {
       slot = d.at ∙ ap (λ (z : CacheState _ _ _). (into_small c.args.key z.machine).slot) c.self.view_is;
       machine = rw (← c.self.view_is) (fills c.args.value c.take_vacancy-slot.result w.held (into_small c.args.key (machine_of c.self.inside.shares c.self.inside.queues c.self.inside.keys.entries c.self.inside.history.entries c.self.inside.free.items)) _ _ d.at w.is d.machine);
-      indexes = rw (← c.self.view_is) (record { residents = c.enter.ensures.index ∙ ap (λ x. inserted c.self.inside.index.homes x c.take_vacancy-slot.result) same ∙ sym (entered-vacant _ g.met.K.Eq.laws _ _ _ _ _ _ _ _ k c.args.key c.take_vacancy-slot.result (vacant-slot _ g.met.K.Eq.laws _ _ _ _ _ _ _ _ k c.take_vacancy-slot.result taken).absent); remembered = refl });
+      indexes = rw (← c.self.view_is) (record { residents = c.enter.ensures.index ∙ ap (λ x. with_handle c.self.inside.index.homes x c.take_vacancy-slot.result) same ∙ sym (entered-vacant _ g.met.K.Eq.laws _ _ _ _ _ _ _ _ k c.args.key c.take_vacancy-slot.result (vacant-slot _ g.met.K.Eq.laws _ _ _ _ _ _ _ _ k c.take_vacancy-slot.result taken).absent); remembered = refl });
       hasher = ap (λ (z : CacheState _ _ _). z.hasher) c.self.view_is;
       counts = rw (← c.self.view_is) (joined-spends c.self.inside.queues c.self.inside.history c.self.inside.keys c.admit.new.self c.enter.new.keys 3 10 (ap (λ (z : QueueState). z.inspections) c.admit.ensures.queues) c.admit.ensures.accesses (omega arith) (ap (λ (z : KeyPlaces _ _). z.questions) c.enter.ensures.kept));
     }

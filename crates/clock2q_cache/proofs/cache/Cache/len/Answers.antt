@@ -2,7 +2,7 @@
 use Rattle.std.proofs.Common.{arith, subst}
 use Rattle.clock2q_cache.specs.CacheState.{CacheState}
 use Rattle.clock2q_cache.specs.Indexed.{IsIndexed}
-use Rattle.clock2q_cache.proofs.Kept.{length_in_small, length_in_main}
+use Rattle.clock2q_cache.proofs.CacheInvariant.{length_in_small, length_in_main}
 use Rattle.clock2q_cache.proofs.Indexed.{residents-have, remembers}
 use Rattle.clock2q_cache.proofs.cache.Cache.len.Goals as goal
 

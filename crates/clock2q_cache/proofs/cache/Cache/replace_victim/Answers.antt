@@ -10,10 +10,10 @@ use Rattle.clock2q_cache.specs.Hashes.{hash_of}
 use Rattle.clock2q_cache.specs.Machine.{into_main, into_small}
 use Rattle.clock2q_cache.specs.CacheState.{CacheState}
 use Rattle.clock2q_cache.specs.CacheFields.{machine_of}
-use Rattle.clock2q_cache.proofs.Kept.{fills, IsDone, length_in_small, length_in_main}
+use Rattle.clock2q_cache.proofs.CacheInvariant.{fills, IsDone, length_in_small, length_in_main}
 use Rattle.clock2q_cache.proofs.Renewed.{resident-there, slot-below, victim-in, rest, victim-not_in_rest, victim-not_in_small, replaced-done}
 use Rattle.clock2q_cache.proofs.Insertions.{replaced-spends}
-use Rattle.clock2q_handles.specs.Homes.{inserted, removed}
+use Rattle.clock2q_handles.specs.Homes.{with_handle, removed}
 use Rattle.clock2q_cache.proofs.Places.{entered-renewed}
 use Rattle.clock2q_cache.proofs.cache.Cache.replace_victim.Goals as goal
 
@@ -75,7 +75,7 @@ returns g c =
     record {
       slot = d.at ∙ ap (λ (z : CacheState _ _ _). (into_main c.args.key z.machine).slot) c.self.view_is;
       machine = rw (← c.self.view_is) (fills c.args.value c.take_victim-victim.result w.held (into_main c.args.key (machine_of c.self.inside.shares c.self.inside.queues c.self.inside.keys.entries c.self.inside.history.entries c.self.inside.free.items)) _ _ d.at w.is d.machine);
-      indexes = rw (← c.self.view_is) (record { residents = c.renew.ensures.index ∙ ap (λ x. inserted (removed eqb c.self.inside.index.homes c.renew.result.0 c.take_victim-victim.result) x c.take_victim-victim.result) same ∙ sym (entered-renewed _ g.met.K.Eq.laws _ _ _ _ _ _ _ _ k c.args.key c.take_victim-victim.result c.renew.result.0 (victim-in _ g.met.K.Eq.laws _ _ _ _ _ _ _ _ k c.take_victim-victim.result c.take_victim-victim.ensures.victim) c.renew.ensures.hash); remembered = refl });
+      indexes = rw (← c.self.view_is) (record { residents = c.renew.ensures.index ∙ ap (λ x. with_handle (removed eqb c.self.inside.index.homes c.renew.result.0 c.take_victim-victim.result) x c.take_victim-victim.result) same ∙ sym (entered-renewed _ g.met.K.Eq.laws _ _ _ _ _ _ _ _ k c.args.key c.take_victim-victim.result c.renew.result.0 (victim-in _ g.met.K.Eq.laws _ _ _ _ _ _ _ _ k c.take_victim-victim.result c.take_victim-victim.ensures.victim) c.renew.ensures.hash); remembered = refl });
       hasher = ap (λ (z : CacheState _ _ _). z.hasher) c.self.view_is;
       counts = rw (← c.self.view_is) (replaced-spends _ g.met.K.Eq.laws _ _ _ _ _ _ _ _ k c.take_victim-victim.new.self c.append.new.self c.renew.new.keys c.take_victim-victim.ensures.inspections c.take_victim-victim.ensures.accesses (ap (λ (z : QueueState). z.inspections) c.append.ensures.queues) c.append.ensures.accesses (ap (λ (z : KeyPlaces _ _). z.questions) c.renew.ensures.kept));
     }

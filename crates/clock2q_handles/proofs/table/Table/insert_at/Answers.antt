@@ -1,5 +1,5 @@
 use Rattle.std.proofs.Common.{◌≤◌, ◌+◌, ◌<◌, length, sym, ap, ◌∙◌, subst, arith}
-use Rattle.clock2q_handles.specs.Homes.{total, capacity, inserted}
+use Rattle.clock2q_handles.specs.Homes.{total, capacity, with_handle}
 use Rattle.clock2q_handles.specs.Layout.{homes_of, run, IsTooLong}
 use Rattle.clock2q_handles.proofs.TidyLayout.{length-homes_of}
 use Rattle.clock2q_handles.proofs.Steps.{table-laid}
@@ -29,7 +29,7 @@ invariant_of-self g c = (step g (goal.at.invariant_of-self g c).After-put_at).ta
 pub returns-then-self-le-MAX_DISPLACEMENT-clause-put : goal.returns-then-self-le-MAX_DISPLACEMENT-clause-put
 returns-then-self-le-MAX_DISPLACEMENT-clause-put g c =
     let done = step g (goal.at.returns-then-self-le-MAX_DISPLACEMENT-clause-put g c).After-put_at in
-    (done.homes ∙ ap (λ t. inserted t.homes c.args.hash c.args.handle) c.self.view_is, subst (λ t. IsTooLong (inserted t.homes c.args.hash c.args.handle) → ⊥) c.self.view_is done.short)
+    (done.homes ∙ ap (λ t. with_handle t.homes c.args.hash c.args.handle) c.self.view_is, subst (λ t. IsTooLong (with_handle t.homes c.args.hash c.args.handle) → ⊥) c.self.view_is done.short)
 
 pub returns-then-self-le-MAX_DISPLACEMENT-clause-writes : goal.returns-then-self-le-MAX_DISPLACEMENT-clause-writes
 returns-then-self-le-MAX_DISPLACEMENT-clause-writes g c =

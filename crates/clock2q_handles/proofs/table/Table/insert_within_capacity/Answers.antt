@@ -1,5 +1,5 @@
 use Rattle.std.proofs.Common.{◌≤◌, ◌+◌, ◌<◌, length, sym, ap, ◌∙◌, subst, arith}
-use Rattle.clock2q_handles.specs.Homes.{total, capacity, inserted}
+use Rattle.clock2q_handles.specs.Homes.{total, capacity, with_handle}
 use Rattle.clock2q_handles.specs.Layout.{homes_of, run, IsTooLong}
 use Rattle.clock2q_handles.proofs.TidyLayout.{length-homes_of}
 use Rattle.clock2q_handles.proofs.Steps.{table-laid}
@@ -31,7 +31,7 @@ invariant_of-self g c = (step g (goal.at.invariant_of-self g c).After-put).table
 pub returns-clause-put : goal.returns-clause-put
 returns-clause-put g c =
     let done = step g (goal.at.returns-clause-put g c).After-put in
-    (done.homes ∙ ap (λ t. inserted t.homes c.args.hash c.args.handle) c.self.view_is, subst (λ t. IsTooLong (inserted t.homes c.args.hash c.args.handle) → ⊥) c.self.view_is done.short)
+    (done.homes ∙ ap (λ t. with_handle t.homes c.args.hash c.args.handle) c.self.view_is, subst (λ t. IsTooLong (with_handle t.homes c.args.hash c.args.handle) → ⊥) c.self.view_is done.short)
 
 pub returns-clause-writes : goal.returns-clause-writes
 returns-clause-writes g c =

@@ -1,5 +1,5 @@
 use Rattle.std.proofs.Common.{◌≡◌, ◌≤◌, ◌+◌, refl, ap, sym, ◌∙◌, subst, arith}
-use Rattle.clock2q_handles.specs.Homes.{inserted}
+use Rattle.clock2q_handles.specs.Homes.{with_handle}
 use Rattle.clock2q_handles.specs.Layout.{homes_of, run, IsTooLong}
 use Rattle.clock2q_handles.specs.TableStep.{table_value}
 use Rattle.clock2q_handles.specs.Changes.{IsLaidOut}
@@ -22,7 +22,7 @@ returns-then-not-put_in-clause-put g c =
     let before = (goal.at.returns-then-not-put_in-clause-put g c).After-put_in in
     let same : homes_of c.put_in.new.self.slots ≡ c.args.self.now.homes = ap (λ s. homes_of s.slots) c.if-not-put_in.ensures.refused ∙ ap (λ t. t.homes) c.self.view_is in
     let long = refusal c.args.hash c.args.handle c.self.inside.slots.slots c.self.inside.slots.slots c.args.home c.args.distance c.self.inside.len c.self.invariant (ended g before) c.if-not-put_in.ensures.far in
-    (refl, same, subst (λ t. IsTooLong (inserted t.homes c.args.hash c.args.handle)) c.self.view_is long)
+    (refl, same, subst (λ t. IsTooLong (with_handle t.homes c.args.hash c.args.handle)) c.self.view_is long)
 
 pub returns-then-not-put_in-clause-laid : goal.returns-then-not-put_in-clause-laid
 returns-then-not-put_in-clause-laid g c =
@@ -37,7 +37,7 @@ invariant_of-self-2 g c = (step g (goal.at.invariant_of-self-2 g c).Else-not-put
 pub returns-clause-put : goal.returns-clause-put
 returns-clause-put g c =
     let done = step g (goal.at.returns-clause-put g c).Else-not-put_in in
-    (done.homes ∙ ap (λ t. inserted t.homes c.args.hash c.args.handle) c.self.view_is, subst (λ t. IsTooLong (inserted t.homes c.args.hash c.args.handle) → ⊥) c.self.view_is done.short)
+    (done.homes ∙ ap (λ t. with_handle t.homes c.args.hash c.args.handle) c.self.view_is, subst (λ t. IsTooLong (with_handle t.homes c.args.hash c.args.handle) → ⊥) c.self.view_is done.short)
 
 pub returns-clause-writes : goal.returns-clause-writes
 returns-clause-writes g c =

@@ -4,7 +4,7 @@ use Rattle.std.specs.Prelude.{if◌then◌else◌, nat_lt, is_some, slice_get, s
 use Rattle.std.specs.Cmp.{IsEquivalence}
 use Rattle.std.specs.List.{filter, find, last_or, AllByRecursion}
 use Rattle.std.proofs.lemmas.Bool.{cases_Bool, cases_lt, both_ways, lt-ltb, le-ltb}
-use Rattle.clock2q_handles.specs.Homes.{total, capacity, inserted, removed}
+use Rattle.clock2q_handles.specs.Homes.{total, capacity, with_handle, removed}
 use Rattle.clock2q_queues.specs.Ages.{Age, is_promoted}
 use Rattle.clock2q_queues.specs.declared.keys.cells.Entry.{Entry}
 use Rattle.clock2q_queues.specs.Rings.{has, AllApart}
@@ -16,7 +16,7 @@ use Rattle.clock2q_queues.specs.History.{Remembered}
 use Rattle.clock2q_queues.proofs.Rings.{has-append}
 use Rattle.clock2q_queues.proofs.Indexes.{length-put, length-taken}
 use Rattle.clock2q_queues.proofs.Booleans.{or_parts}
-use Rattle.clock2q_cache.specs.Shares.{Shares, main_share, ghost_share}
+use Rattle.clock2q_cache.specs.Shares.{Shares, main_share, history_share}
 use Rattle.clock2q_cache.specs.Entries as machine
 use Rattle.clock2q_cache.specs.Machine.{Machine, Placement, vacancy, vacant_slot, into_main, into_small, into_small_at, joining_main, replacing_victim, evicting_tail, promoting_tail, stored}
 use Rattle.clock2q_cache.specs.Cache.{IsWhole, known_count}
@@ -144,8 +144,8 @@ module _ {K V : Type 0} (eq : K → K → Bool) (laws : IsEquivalence eq) (hash 
     abbrev entries' : List (Entry K V)
     entries' = written slot (entry hsh key value) keys.entries
 
-    entered : IsStored hash (inserted index hsh slot) entries' (slot ∷ places_of q)
-    entered = subst (λ z. IsStored hash (inserted index z slot) (written slot (entry z key value) keys.entries) (slot ∷ places_of q)) (sym is)
+    entered : IsStored hash (with_handle index hsh slot) entries' (slot ∷ places_of q)
+    entered = subst (λ z. IsStored hash (with_handle index z slot) (written slot (entry z key value) keys.entries) (slot ∷ places_of q)) (sym is)
         (stored-entered hash index keys.entries (places_of q) slot key value kept.stored index_some here.absent here.next)
 
     own : key_at entries' slot ≡ Some key
@@ -174,10 +174,10 @@ module _ {K V : Type 0} (eq : K → K → Bool) (laws : IsEquivalence eq) (hash 
           let v = values-written slot (entry hsh key value) keys.entries here.next in
           cc
 
-      pub joined_small_stored : IsStored hash (inserted index hsh slot) entries' (places_of q')
-      joined_small_stored = subst (λ z. IsStored hash (inserted index hsh slot) entries' (slots_of z ++ slots_of q'.main)) (sym small)
-          (subst (λ z. IsStored hash (inserted index hsh slot) entries' (slots_of (admitted q.window slot q.small) ++ slots_of z)) (sym main)
-          (subst (λ z. IsStored hash (inserted index hsh slot) entries' (slot ∷ z ++ slots_of q.main)) (sym (slots-grown q.small)) entered))
+      pub joined_small_stored : IsStored hash (with_handle index hsh slot) entries' (places_of q')
+      joined_small_stored = subst (λ z. IsStored hash (with_handle index hsh slot) entries' (slots_of z ++ slots_of q'.main)) (sym small)
+          (subst (λ z. IsStored hash (with_handle index hsh slot) entries' (slots_of (admitted q.window slot q.small) ++ slots_of z)) (sym main)
+          (subst (λ z. IsStored hash (with_handle index hsh slot) entries' (slot ∷ z ++ slots_of q.main)) (sym (slots-grown q.small)) entered))
         where
           slots-grown : (es : List (ℕ × Age)) → slots_of {X = Age} (drop 1 (admitted q.window slot es)) ≡ slots_of es
           slots-grown [] = refl
@@ -193,8 +193,8 @@ module _ {K V : Type 0} (eq : K → K → Bool) (laws : IsEquivalence eq) (hash 
           let v = values-written slot (entry hsh key value) keys.entries here.next in
           cc
 
-      pub joined_main_stored : IsStored hash (inserted index hsh slot) entries' (places_of q')
-      joined_main_stored = stored-same hash (inserted index hsh slot) entries' (slot ∷ places_of q) (places_of q') entered
+      pub joined_main_stored : IsStored hash (with_handle index hsh slot) entries' (places_of q')
+      joined_main_stored = stored-same hash (with_handle index hsh slot) entries' (slot ∷ places_of q) (places_of q') entered
           (λ t. has-append t (slots_of q'.small) (slots_of q'.main)
           ∙ ap (λ z. has t (slots_of z) || has t (slots_of q'.main)) small
           ∙ ap (λ z. has t (slots_of q.small) || has t (slots_of z)) main
@@ -205,18 +205,18 @@ module _ {K V : Type 0} (eq : K → K → Bool) (laws : IsEquivalence eq) (hash 
 
     -- what the layers become
     module _ (q' : QueueState) (index' : List (List (ℕ × ℕ))) (keys' : KeyPlaces K V) (room' : ℕ) (absent : known_count (eq key) m ≡ 0)
-        (slots : q'.slots ≡ q.slots) (window : q'.window ≡ q.window) (indexed : index' ≡ inserted index hsh slot) (wrote : keys'.entries ≡ entries') (keys_room : keys'.room ≡ keys.room) (free_room : room' ≡ room) where
+        (slots : q'.slots ≡ q.slots) (window : q'.window ≡ q.window) (indexed : index' ≡ with_handle index hsh slot) (wrote : keys'.entries ≡ entries') (keys_room : keys'.room ≡ keys.room) (free_room : room' ≡ room) where
       sized : IsSized shares q' h.limit (length index') keys'.room room'
       sized = sized-same shares q q' h.limit h.limit (length index) (length index') keys.room keys'.room room room' kept.sized slots window refl
           (ap (λ (z : List (List (ℕ × ℕ))). length z) indexed ∙ length-put index hsh slot) keys_room free_room
 
-      done : (p : Placement K V) → IsPlaced key m p → machine_of shares q' entries' h.entries free' ≡ stored p.slot value p.machine → IsStored hash (inserted index hsh slot) entries' (places_of q')
+      done : (p : Placement K V) → IsPlaced key m p → machine_of shares q' entries' h.entries free' ≡ stored p.slot value p.machine → IsStored hash (with_handle index hsh slot) entries' (places_of q')
           → slot ≡ p.slot → IsDone slot value p q' h index' keys' free' room'
       done p placed e st at =
           let same : machine_of shares q' keys'.entries h.entries free' ≡ stored p.slot value p.machine = ap (λ z. machine_of shares q' z h.entries free') wrote ∙ e in
           record {
             holds = kept-placed key value p absent placed q' h index' keys' free' room' same
-                (subst (λ z. IsStored hash z keys'.entries (places_of q')) (sym indexed) (subst (λ z. IsStored hash (inserted index hsh slot) z (places_of q')) (sym wrote) st)) kept.hashed sized;
+                (subst (λ z. IsStored hash z keys'.entries (places_of q')) (sym indexed) (subst (λ z. IsStored hash (with_handle index hsh slot) z (places_of q')) (sym wrote) st)) kept.hashed sized;
             machine = same;
             at = at;
           }
