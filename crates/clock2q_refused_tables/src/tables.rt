@@ -11,24 +11,38 @@ use std::test::Fail;
 
 type RefusedTable<'a> = Table<u64, &'a Refusing<Global>>;
 
-// More requests than any of the calls makes.
+// More turns than any of the calls needs.
 const MANY: u64 = 100;
+
+// Slots take two requests, one for their metadata and one for their handles. Each is refused in two
+// turns, and the call of the next turn succeeds.
+const REFUSED_TURNS: u64 = 4;
+
+// Refuses a request of the next call: in the turns 0 and 1 its first, in 2 and 3 its second, and so
+// on. In an even turn that one alone is refused, and in an odd one all later ones are too.
+fn refuse_in(turn: u64, alloc: &Refusing<Global>) {
+    if turn % 2 == 0 {
+        alloc.refuse_one_after(turn / 2);
+    } else {
+        alloc.refuse_after(turn / 2);
+    }
+}
 
 #[test]
 fn constructions(rt: HostRuntime) -> Result<(), Fail> {
     let alloc = Refusing::new(rt.alloc());
     let mut enough = 0;
-    for granted in 0..MANY {
-        alloc.refuse_after(granted);
+    for turn in 0..MANY {
+        refuse_in(turn, &alloc);
         let table: Result<RefusedTable, TableError> = Table::with_capacity(&alloc, 13);
         let Err(error) = table else {
-            enough = granted;
+            enough = turn;
             break;
         };
-        assert_eq!(rt; error, TableError::Memory, "{granted} granted");
-        assert_eq!(rt; alloc.held(), 0, "{granted} granted");
+        assert_eq!(rt; error, TableError::Memory, "turn {turn}");
+        assert_eq!(rt; alloc.held(), 0, "turn {turn}");
     }
-    assert_ne!(rt; enough, 0);
+    assert_eq!(rt; enough, REFUSED_TURNS);
     alloc.grant();
     let table: RefusedTable = Table::with_capacity(&alloc, 13)?;
     assert_eq!(rt; table.capacity(), 24);
@@ -107,9 +121,9 @@ fn insertions(rt: HostRuntime) -> Result<(), Fail> {
     let mut table = full(&rt, &alloc)?;
     let held = alloc.held();
     let mut enough = 0;
-    for granted in 0..MANY {
+    for turn in 0..MANY {
         let asked = Cell::new(0u64);
-        alloc.refuse_after(granted);
+        refuse_in(turn, &alloc);
         let outcome = table.insert(
             12,
             12,
@@ -122,15 +136,15 @@ fn insertions(rt: HostRuntime) -> Result<(), Fail> {
         );
         if outcome.is_ok() {
             assert_eq!(rt; asked.get(), 12);
-            enough = granted;
+            enough = turn;
             break;
         }
-        assert_eq!(rt; outcome, Err(TableError::Memory), "{granted} granted");
-        assert_eq!(rt; alloc.held(), held, "{granted} granted");
-        assert_eq!(rt; asked.get(), 0, "{granted} granted");
-        assert_eq!(rt; table.len(), 12, "{granted} granted");
+        assert_eq!(rt; outcome, Err(TableError::Memory), "turn {turn}");
+        assert_eq!(rt; alloc.held(), held, "turn {turn}");
+        assert_eq!(rt; asked.get(), 0, "turn {turn}");
+        assert_eq!(rt; table.len(), 12, "turn {turn}");
     }
-    assert_ne!(rt; enough, 0);
+    assert_eq!(rt; enough, REFUSED_TURNS);
     assert_eq!(rt; table.len(), 13);
     assert_eq!(rt; table.capacity(), 24);
     assert_eq!(rt; table.get(12).next(), Some(12));
@@ -143,9 +157,9 @@ fn reservations(rt: HostRuntime) -> Result<(), Fail> {
     let mut table = full(&rt, &alloc)?;
     let held = alloc.held();
     let mut enough = 0;
-    for granted in 0..MANY {
+    for turn in 0..MANY {
         let asked = Cell::new(0u64);
-        alloc.refuse_after(granted);
+        refuse_in(turn, &alloc);
         let outcome = table.reserve(
             1,
             |handle| -> u64
@@ -155,17 +169,17 @@ fn reservations(rt: HostRuntime) -> Result<(), Fail> {
                 handle
             },
         );
-        assert_eq!(rt; table.len(), 12, "{granted} granted");
+        assert_eq!(rt; table.len(), 12, "turn {turn}");
         if outcome.is_ok() {
             assert_eq!(rt; asked.get(), 12);
-            enough = granted;
+            enough = turn;
             break;
         }
-        assert_eq!(rt; outcome, Err(TableError::Memory), "{granted} granted");
-        assert_eq!(rt; alloc.held(), held, "{granted} granted");
-        assert_eq!(rt; asked.get(), 0, "{granted} granted");
+        assert_eq!(rt; outcome, Err(TableError::Memory), "turn {turn}");
+        assert_eq!(rt; alloc.held(), held, "turn {turn}");
+        assert_eq!(rt; asked.get(), 0, "turn {turn}");
     }
-    assert_ne!(rt; enough, 0);
+    assert_eq!(rt; enough, REFUSED_TURNS);
     assert_eq!(rt; table.capacity(), 24);
     Ok(())
 }
@@ -176,10 +190,10 @@ fn finds(rt: HostRuntime) -> Result<(), Fail> {
     let mut table = full(&rt, &alloc)?;
     let held = alloc.held();
     let mut enough = 0;
-    for granted in 0..MANY {
+    for turn in 0..MANY {
         let offered = Cell::new(0u64);
         let asked = Cell::new(0u64);
-        alloc.refuse_after(granted);
+        refuse_in(turn, &alloc);
         let outcome = table.find_or_insert(
             5,
             |found: u64| {
@@ -194,18 +208,18 @@ fn finds(rt: HostRuntime) -> Result<(), Fail> {
                 handle
             },
         );
-        assert_eq!(rt; table.len(), 12, "{granted} granted");
+        assert_eq!(rt; table.len(), 12, "turn {turn}");
         if outcome.is_ok() {
             assert_eq!(rt; outcome, Ok((5, false)));
             assert_eq!(rt; (offered.get(), asked.get()), (1, 12));
-            enough = granted;
+            enough = turn;
             break;
         }
-        assert_eq!(rt; outcome, Err(TableError::Memory), "{granted} granted");
-        assert_eq!(rt; alloc.held(), held, "{granted} granted");
-        assert_eq!(rt; (offered.get(), asked.get()), (0, 0), "{granted} granted");
+        assert_eq!(rt; outcome, Err(TableError::Memory), "turn {turn}");
+        assert_eq!(rt; alloc.held(), held, "turn {turn}");
+        assert_eq!(rt; (offered.get(), asked.get()), (0, 0), "turn {turn}");
     }
-    assert_ne!(rt; enough, 0);
+    assert_eq!(rt; enough, REFUSED_TURNS);
     assert_eq!(rt; table.capacity(), 24);
     Ok(())
 }
