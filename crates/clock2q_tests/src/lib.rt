@@ -8,9 +8,15 @@ mod closures;
 #[cfg(test)]
 mod devices;
 #[cfg(test)]
+mod draws;
+#[cfg(test)]
+mod plain_table;
+#[cfg(test)]
 mod policies;
 #[cfg(test)]
 mod table_commands;
+#[cfg(test)]
+mod table_lists;
 #[cfg(test)]
 mod text_edges;
 #[cfg(test)]

@@ -1,0 +1,28 @@
+//! Numbers that follow from a seed.
+ghost use Rattle.std.specs.Prelude.{◌<◌};
+
+/// A sum that grows by an odd step; its bits, mixed, are the numbers.
+#[derive(Drop)]
+pub(crate) struct Draws {
+    sum: u64,
+}
+
+impl Draws {
+    pub(crate) fn new(seed: u64) -> Draws {
+        Draws { sum: seed }
+    }
+
+    pub(crate) fn next(&mut self) -> u64 {
+        self.sum = self.sum.wrapping_add(0x9E37_79B9_7F4A_7C15);
+        let mixed = (self.sum ^ (self.sum >> 30)).wrapping_mul(0xBF58_476D_1CE4_E5B9);
+        let mixed = (mixed ^ (mixed >> 27)).wrapping_mul(0x94D0_49BB_1331_11EB);
+        mixed ^ (mixed >> 31)
+    }
+
+    /// A number below the bound, or 0.
+    pub(crate) fn below(&mut self, bound: u64) -> u64
+        ensures { 0 < bound → result < bound }
+    {
+        self.next().checked_rem(bound).unwrap_or(0)
+    }
+}
