@@ -19,7 +19,7 @@ impl Draws {
         mixed ^ (mixed >> 31)
     }
 
-    /// A number below the bound, or 0.
+    /// Returns a number below the bound, or 0.
     pub(crate) fn below(&mut self, bound: u64) -> u64
         ensures { 0 < bound → result < bound }
     {

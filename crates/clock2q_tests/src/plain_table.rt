@@ -13,7 +13,7 @@ pub(crate) struct PlainTable {
 }
 
 impl PlainTable {
-    /// Room for so many handles. For none there are no homes.
+    /// Returns lists with room for so many handles. For none there are no homes.
     pub(crate) fn with_capacity(alloc: Global, handles: usize) -> Result<PlainTable, AllocError> {
         let homes = if handles == 0 {
             0
@@ -37,12 +37,12 @@ impl PlainTable {
             .fold(0usize, |sum, list| sum.saturating_add(list.len()))
     }
 
-    /// The handle that so many others stand before, home by home.
+    /// Returns the handle that so many others stand before, home by home.
     pub(crate) fn handle(&self, number: usize) -> Option<u64> {
         self.homes.iter().flatten().copied().nth(number)
     }
 
-    /// The handles that a look-up of the hash yields: those of its home with its highest byte.
+    /// Returns what a look-up of the hash yields: the handles of its home with its highest byte.
     pub(crate) fn candidates(&self, hash: u64) -> Result<Vec<u64>, AllocError> {
         let mut candidates = Vec::new(self.alloc);
         let Some(list) = self.homes.get(self.home(hash)) else {
@@ -92,7 +92,7 @@ impl PlainTable {
         Ok(())
     }
 
-    /// The first handle that is accepted, or else the one that is put in.
+    /// Finds the first handle that is accepted, or else puts the handle in.
     fn find(&mut self, handle: u64, accepted: &[u64]) -> Result<TableReply<u64>, AllocError> {
         self.make_room()?;
         for held in &self.candidates(handle)? {
@@ -132,7 +132,7 @@ impl PlainTable {
         Ok(TableReply::Done)
     }
 
-    /// A full table gets twice as many homes.
+    /// Doubles the homes of a full table.
     fn make_room(&mut self) -> Result<(), AllocError> {
         if self.len() == self.capacity() {
             let count = self.homes.len().saturating_mul(2).max(16);
@@ -155,8 +155,8 @@ impl PlainTable {
         Ok(())
     }
 
-    /// How many handles stand past the end, and so in the first slots. Each home hands on what its
-    /// slot has no room for, and the last home hands on to the first.
+    /// Returns how many handles stand past the end, and so in the first slots. Each home hands on
+    /// what its slot has no room for, and the last home hands on to the first.
     fn wrapped(&self) -> usize {
         let mut handed_on = 0usize;
         for list in self.homes.iter().chain(self.homes.iter()) {
@@ -166,7 +166,7 @@ impl PlainTable {
     }
 }
 
-/// The least count of homes that has room for so many handles, if it can be counted.
+/// Returns the least count of homes that has room for so many handles, if it can be counted.
 fn homes_for(handles: usize) -> Option<usize> {
     (4..64u32)
         .map(|bits| 1usize << bits)

@@ -38,9 +38,9 @@ struct Source {
 }
 
 impl Source {
-    /// A handle that has one of three highest bytes. Half of the handles have one of the homes just
-    /// before and after the end of the slots, however many there are; the others do up to some
-    /// count of slots, and have another home in larger tables.
+    /// Returns a handle that has one of three highest bytes. Half of the handles have one of the
+    /// homes just before and after the end of the slots, however many there are; the others do up
+    /// to some count of slots, and have another home in larger tables.
     fn fresh(&mut self, number: u64) -> u64 {
         let top = self.draws.below(3) * 0x7F << 56;
         let home = self.draws.below(self.homes).wrapping_sub(self.homes / 2) & 0xFFFF;
@@ -51,7 +51,7 @@ impl Source {
         top | number << NUMBER | (home ^ leaving)
     }
 
-    /// A handle that is held, or now and then one that is not.
+    /// Returns a handle that is held, or now and then one that is not.
     fn held(&mut self, number: u64) -> u64 {
         let place = self
             .draws
@@ -62,7 +62,7 @@ impl Source {
         }
     }
 
-    /// A handle to put in: mostly a new one.
+    /// Returns a handle to put in: mostly a new one.
     fn handle(&mut self, number: u64) -> u64 {
         match self.draws.below(8) {
             0 => self.held(number),
@@ -70,7 +70,7 @@ impl Source {
         }
     }
 
-    /// Up to three candidates of a hash, or in their place any handle.
+    /// Returns up to three candidates of a hash, or in their place any handle.
     fn accepted(&mut self, hash: u64, number: u64) -> Result<Vec<u64>, AllocError> {
         let candidates = self.plain.candidates(hash)?;
         let mut accepted = Vec::new(self.alloc);
@@ -87,8 +87,8 @@ impl Source {
         Ok(accepted)
     }
 
-    /// The command of that number in a list: first they mostly put handles in, and from half way on
-    /// mostly take them out. The last ones look up.
+    /// Returns the command of that number in a list: first they mostly put handles in, and from
+    /// half way on mostly take them out. The last ones look up.
     fn command(&mut self, number: u64) -> Result<TableCommand<u64>, AllocError> {
         let additions = if number < COMMANDS / 2 { 10 } else { 4 };
         let kind = if number < COMMANDS * 9 / 10 {
@@ -111,7 +111,7 @@ impl Source {
         })
     }
 
-    /// Room for a few more handles, or for more than can be counted.
+    /// Returns a command to make room for a few more handles, or for more than can be counted.
     fn reserve(&mut self) -> TableCommand<u64> {
         let few = self.draws.below(8) as usize;
         match self.draws.below(4) {
@@ -120,7 +120,7 @@ impl Source {
         }
     }
 
-    /// The list of commands, each with the reply of the plain lists.
+    /// Returns the commands of a list, each with the reply of the plain lists.
     fn list(&mut self) -> Result<List, AllocError> {
         let mut commands = Vec::new(self.alloc);
         let mut wanted = Vec::new(self.alloc);
@@ -139,7 +139,7 @@ fn hash_of(handle: u64) -> u64
     handle
 }
 
-/// What a new table replies to commands.
+/// Returns what a new table replies to commands.
 fn replies_of<A: Allocator + Copy>(
     alloc: A,
     handles: usize,
@@ -149,7 +149,7 @@ fn replies_of<A: Allocator + Copy>(
     run_table(alloc, &mut table, hash_of, commands)
 }
 
-/// Each reply is the one that is wanted.
+/// Compares each reply with the one that is wanted.
 fn replies_are(rt: &impl Abort, replies: &[TableReply<u64>], list: &List, seed: u64) {
     assert_eq!(rt; replies.len(), list.wanted.len(), "list {seed}");
     let told = list.commands.iter().zip(list.wanted.iter());
