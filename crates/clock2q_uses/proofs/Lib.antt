@@ -1,3 +1,4 @@
 pub mod Numbering
+pub mod Paging
 pub mod Replaying
 pub mod Splitting

@@ -1,4 +1,5 @@
 pub mod Checksums
 pub mod Interning
+pub mod Pages
 pub mod Replay
 pub mod Split

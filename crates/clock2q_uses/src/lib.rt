@@ -4,5 +4,6 @@
 pub mod checksums;
 pub mod hashers;
 pub mod interning;
+pub mod pages;
 pub mod replay;
 pub mod split;
