@@ -19,7 +19,7 @@ use Rattle.clock2q_cache.specs.Entries as machine
 use Rattle.clock2q_cache.specs.Entries.{SmallEntry}
 use Rattle.clock2q_cache.specs.Machine.{Machine, slot_of, vacancy, goes_to_main, forgotten}
 use Rattle.clock2q_cache.specs.Bounds.{goes_on, takes_victim, inspections_for}
-use Rattle.clock2q_cache.specs.Insertions.{placed_looks, main_looks, small_looks}
+use Rattle.clock2q_cache.specs.Insertions.{placed_inspections, main_inspections, small_inspections}
 use Rattle.clock2q_cache.specs.CacheFields.{machine_of, IsKept, counts_of}
 use Rattle.clock2q_cache.specs.CacheState.{CacheState, Counts}
 use Rattle.clock2q_cache.specs.Costs.{Spends, alike}
@@ -80,11 +80,11 @@ no_last (x ∷ xs) some none = let l = last_some xs x in none_is l.0 (sym none �
 
 module _ {K V : Type 0} (m : Machine K V) where
   -- into a full Main, and into one with room
-  pub full-looks : length m.main ≡ main_share m.shares → main_looks m ≡ machine.inspections m.main
-  full-looks full = ap (λ b. if b then machine.inspections m.main else 0) (eq-eqb (length m.main) (main_share m.shares) full)
+  pub full-inspections : length m.main ≡ main_share m.shares → main_inspections m ≡ machine.inspections m.main
+  full-inspections full = ap (λ b. if b then machine.inspections m.main else 0) (eq-eqb (length m.main) (main_share m.shares) full)
 
-  pub room-looks : length m.main < main_share m.shares → main_looks m ≡ 0
-  room-looks room = ap (λ b. if b then machine.inspections m.main else 0) (ne_eqb (length m.main) (main_share m.shares) (λ e. omega (arith, e, room)))
+  pub room-inspections : length m.main < main_share m.shares → main_inspections m ≡ 0
+  room-inspections room = ap (λ b. if b then machine.inspections m.main else 0) (ne_eqb (length m.main) (main_share m.shares) (λ e. omega (arith, e, room)))
 
   -- into a full Small, whose tail goes on or out
   tail-goes : (b : Bool) → 0 < length m.small → IfSome (last_or None m.small) (λ tail. b ≡ is_promoted tail.age) → goes_on (last_or None m.small) ≡ b
@@ -93,26 +93,26 @@ module _ {K V : Type 0} (m : Machine K V) where
     of None none at = absurd (no_last m.small some none)
     of (Some tail) is at = sym at
 
-  pub tail-looks : (b : Bool) → is_some (vacancy m) ≡ false → 0 < length m.small → IfSome (last_or None m.small) (λ tail. b ≡ is_promoted tail.age) → small_looks m ≡ (if b then machine.inspections m.main else 0)
-  tail-looks b none some at = ap (λ v. if not v && goes_on (last_or None m.small) then machine.inspections m.main else 0) none ∙ ap (λ v. if v then machine.inspections m.main else 0) (tail-goes b some at)
+  pub tail-inspections : (b : Bool) → is_some (vacancy m) ≡ false → 0 < length m.small → IfSome (last_or None m.small) (λ tail. b ≡ is_promoted tail.age) → small_inspections m ≡ (if b then machine.inspections m.main else 0)
+  tail-inspections b none some at = ap (λ v. if not v && goes_on (last_or None m.small) then machine.inspections m.main else 0) none ∙ ap (λ v. if v then machine.inspections m.main else 0) (tail-goes b some at)
 
   -- into either
   module _ (is : K → Bool) (absent : slot_of is m ≡ None) where
     looks_of : inspections_for is m ≡ (if takes_victim is m then machine.inspections m.main else 0)
     looks_of = ap (λ o. if is_some o then 0 else (if takes_victim is m then machine.inspections m.main else 0)) absent
 
-    pub main-insertion : goes_to_main (list_any is m.history) m ≡ true → inspections_for is m ≡ main_looks m
+    pub main-insertion : goes_to_main (list_any is m.history) m ≡ true → inspections_for is m ≡ main_inspections m
     main-insertion goes = looks_of ∙ ap (λ b. if (if b then length m.main == main_share m.shares else not (is_some (vacancy m)) && goes_on (last_or None m.small)) then machine.inspections m.main else 0) goes
 
-    pub small-insertion : goes_to_main (list_any is m.history) m ≡ false → inspections_for is m ≡ small_looks m
+    pub small-insertion : goes_to_main (list_any is m.history) m ≡ false → inspections_for is m ≡ small_inspections m
     small-insertion goes = looks_of ∙ ap (λ b. if (if b then length m.main == main_share m.shares else not (is_some (vacancy m)) && goes_on (last_or None m.small)) then machine.inspections m.main else 0) goes
 
 -- how often the hand looks where a key is placed whose history is erased first
-pub placed-inspections : {K V : Type 0} (is : K → Bool) (m m1 : Machine K V) (known main : Bool) → known ≡ list_any is m.history → m1 ≡ forgotten is m → main ≡ goes_to_main known m1 → slot_of is m ≡ None → placed_looks main m1 ≡ inspections_for is m
+pub placed-inspections : {K V : Type 0} (is : K → Bool) (m m1 : Machine K V) (known main : Bool) → known ≡ list_any is m.history → m1 ≡ forgotten is m → main ≡ goes_to_main known m1 → slot_of is m ≡ None → placed_inspections main m1 ≡ inspections_for is m
 placed-inspections is m m1 known main had erased goes absent =
-    ap (λ b. placed_looks b m1) goes ∙ ap (λ z. placed_looks (goes_to_main known z) z) erased ∙ ap (λ b. placed_looks (goes_to_main b m) m) had ∙ of (goes_to_main (list_any is m.history) m) refl
+    ap (λ b. placed_inspections b m1) goes ∙ ap (λ z. placed_inspections (goes_to_main known z) z) erased ∙ ap (λ b. placed_inspections (goes_to_main b m) m) had ∙ of (goes_to_main (list_any is m.history) m) refl
   where
-    of : (b : Bool) → goes_to_main (list_any is m.history) m ≡ b → placed_looks b m ≡ inspections_for is m
+    of : (b : Bool) → goes_to_main (list_any is m.history) m ≡ b → placed_inspections b m ≡ inspections_for is m
     of true main = sym (main-insertion m is absent main)
     of false small = sym (small-insertion m is absent small)
 

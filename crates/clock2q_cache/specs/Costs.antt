@@ -12,8 +12,8 @@ use Rattle.clock2q_cache.specs.CacheState.{CacheState, Counts}
 use Rattle.clock2q_cache.specs.Hashes.{hash_of}
 
 -- the hand looked so many times, and at most so many links were accessed and keys asked about
-pub record Spends (looks links keys : ℕ) (old new : Counts) : Type 0 where
-  pub inspections : new.inspections ≡ old.inspections + looks
+pub record Spends (inspected links keys : ℕ) (old new : Counts) : Type 0 where
+  pub inspections : new.inspections ≡ old.inspections + inspected
   pub accesses : Rises 0 links old.accesses new.accesses
   pub questions : Rises 0 keys old.questions new.questions
 

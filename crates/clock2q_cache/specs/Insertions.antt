@@ -10,12 +10,12 @@ use Rattle.clock2q_cache.specs.Bounds.{goes_on}
 
 module _ {K V : Type 0} where
   -- where it enters Main
-  abbrev pub main_looks : Machine K V → ℕ
-  main_looks m = if length m.main == main_share m.shares then inspections m.main else 0
+  abbrev pub main_inspections : Machine K V → ℕ
+  main_inspections m = if length m.main == main_share m.shares then inspections m.main else 0
 
   -- where it enters Small
-  abbrev pub small_looks : Machine K V → ℕ
-  small_looks m = if not (is_some (vacancy m)) && goes_on (last_or None m.small) then inspections m.main else 0
+  abbrev pub small_inspections : Machine K V → ℕ
+  small_inspections m = if not (is_some (vacancy m)) && goes_on (last_or None m.small) then inspections m.main else 0
 
 -- the value of a slot: the one that was brought, else the one that the slot had
 abbrev pub IsValueFor : {V : Type 0} → Option V → ℕ → List V → V → Type 0
@@ -40,8 +40,8 @@ module _ {K V : Type 0} where
   placed main key m = if main then into_main key m else into_small key m
 
   -- how often the hand looks then
-  abbrev pub placed_looks : Bool → Machine K V → ℕ
-  placed_looks main m = if main then main_looks m else small_looks m
+  abbrev pub placed_inspections : Bool → Machine K V → ℕ
+  placed_inspections main m = if main then main_inspections m else small_inspections m
 
   -- whether no slot is free, and one was never made
   abbrev pub next_is_vacant : Machine K V → Bool

@@ -122,7 +122,7 @@ impl<K: Hash + Eq + Drop, V: Drop, S: BuildHasher, A: Allocator> Cache<K, V, S, 
         ensures fetched { Fetches (K.eq key) key (F.post f) self.old.machine result self.new.machine }
         ensures made { result < length self.new.machine.values }
         ensures hasher { self.new.hasher ≡ self.old.hasher }
-        ensures counts { let looks = inspections_for (K.eq key) self.old.machine in Spends looks (looks + 80) (alike K.Hash S.BuildHasher S.Hasher.Hasher key self.old) self.old.counts self.new.counts }
+        ensures counts { let inspected = inspections_for (K.eq key) self.old.machine in Spends inspected (inspected + 80) (alike K.Hash S.BuildHasher S.Hasher.Hasher key self.old) self.old.counts self.new.counts }
     {
         let hash = self.hash(&key);
         if let Some(slot) = self.find(hash, &key) {
@@ -143,7 +143,7 @@ impl<K: Hash + Eq + Drop, V: Drop, S: BuildHasher, A: Allocator> Cache<K, V, S, 
         ensures residents { self.new.residents ≡ residents_with K.Hash S.BuildHasher S.Hasher.Hasher key self.old }
         ensures remembered { self.new.remembered ≡ remembered_with K.Hash S.BuildHasher S.Hasher.Hasher key self.old }
         ensures hasher { self.new.hasher ≡ self.old.hasher }
-        ensures counts { let looks = inspections_for (K.eq key) self.old.machine in Spends looks (looks + 80) (alike K.Hash S.BuildHasher S.Hasher.Hasher key self.old) self.old.counts self.new.counts }
+        ensures counts { let inspected = inspections_for (K.eq key) self.old.machine in Spends inspected (inspected + 80) (alike K.Hash S.BuildHasher S.Hasher.Hasher key self.old) self.old.counts self.new.counts }
     {
         if let Some(found) = self.find(hash, &key) {
             self.record_hit(found, &key);
@@ -161,7 +161,7 @@ impl<K: Hash + Eq + Drop, V: Drop, S: BuildHasher, A: Allocator> Cache<K, V, S, 
         ensures absent { OnErr result (slot_of (K.eq key) self.old.machine ≡ None) }
         ensures machine { OnErr result (self.new.machine ≡ self.old.machine) }
         ensures hasher { self.new.hasher ≡ self.old.hasher }
-        ensures counts { OnOk result (let looks = inspections_for (K.eq key) self.old.machine in Spends looks (looks + 80) (alike K.Hash S.BuildHasher S.Hasher.Hasher key self.old) self.old.counts self.new.counts) }
+        ensures counts { OnOk result (let inspected = inspections_for (K.eq key) self.old.machine in Spends inspected (inspected + 80) (alike K.Hash S.BuildHasher S.Hasher.Hasher key self.old) self.old.counts self.new.counts) }
         ensures asked { OnErr result (Spends 0 0 (alike K.Hash S.BuildHasher S.Hasher.Hasher key self.old) self.old.counts self.new.counts) }
     {
         let hash = self.hash(&key);

@@ -19,7 +19,7 @@ impl<K: Hash + Eq + Drop, V: Drop, S: BuildHasher, A: Allocator> Cache<K, V, S, 
     ghost use Rattle.clock2q_cache.specs.Hashes.{hash_of};
     ghost use Rattle.clock2q_cache.specs.Closures.{Reuses};
     ghost use Rattle.clock2q_cache.specs.Places.{Reindexes, entered, remembering_any, out_of, out_of_small, discarded};
-    ghost use Rattle.clock2q_cache.specs.Insertions.{Fills, placed, placed_looks, makes_slot, next_is_vacant, main_looks, small_looks};
+    ghost use Rattle.clock2q_cache.specs.Insertions.{Fills, placed, placed_inspections, makes_slot, next_is_vacant, main_inspections, small_inspections};
     ghost use Rattle.clock2q_cache.specs.Machine.{slot_of, vacancy, goes_to_main, into_main, into_small, forgotten, placement, inserted};
 
     /// Inserts a key that is not resident.
@@ -65,7 +65,7 @@ impl<K: Hash + Eq + Drop, V: Drop, S: BuildHasher, A: Allocator> Cache<K, V, S, 
         ensures machine { Fills value (placed main key self.old.machine) self.old.machine self.new.machine }
         ensures indexes { Reindexes (λ k. hash_of S.BuildHasher S.Hasher.Hasher self.old.hasher (K.hash_input k)) key result (out_of main self.old.machine) self.old self.new }
         ensures hasher { self.new.hasher ≡ self.old.hasher }
-        ensures counts { Spends (placed_looks main self.old.machine) (placed_looks main self.old.machine + 29) 0 self.old.counts self.new.counts }
+        ensures counts { Spends (placed_inspections main self.old.machine) (placed_inspections main self.old.machine + 29) 0 self.old.counts self.new.counts }
     {
         if main {
             self.insert_into_main(hash, key, value)
@@ -123,7 +123,7 @@ impl<K: Hash + Eq + Drop, V: Drop, S: BuildHasher, A: Allocator> Cache<K, V, S, 
         ensures machine { Fills value (into_main key self.old.machine) self.old.machine self.new.machine }
         ensures indexes { Reindexes (λ k. hash_of S.BuildHasher S.Hasher.Hasher self.old.hasher (K.hash_input k)) key result None self.old self.new }
         ensures hasher { self.new.hasher ≡ self.old.hasher }
-        ensures counts { Spends (main_looks self.old.machine) (main_looks self.old.machine + 28) 0 self.old.counts self.new.counts }
+        ensures counts { Spends (main_inspections self.old.machine) (main_inspections self.old.machine + 28) 0 self.old.counts self.new.counts }
     {
         if self.queues.main_len() == self.shares.main() {
             self.replace_victim(hash, key, value)
@@ -178,7 +178,7 @@ impl<K: Hash + Eq + Drop, V: Drop, S: BuildHasher, A: Allocator> Cache<K, V, S, 
         ensures machine { Fills value (into_small key self.old.machine) self.old.machine self.new.machine }
         ensures indexes { Reindexes (λ k. hash_of S.BuildHasher S.Hasher.Hasher self.old.hasher (K.hash_input k)) key result (out_of_small self.old.machine) self.old self.new }
         ensures hasher { self.new.hasher ≡ self.old.hasher }
-        ensures counts { Spends (small_looks self.old.machine) (small_looks self.old.machine + 29) 0 self.old.counts self.new.counts }
+        ensures counts { Spends (small_inspections self.old.machine) (small_inspections self.old.machine + 29) 0 self.old.counts self.new.counts }
     {
         if self.has_vacancy() {
             self.join_small(hash, key, value)

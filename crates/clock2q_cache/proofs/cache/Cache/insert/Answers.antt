@@ -2,7 +2,7 @@
 use Rattle.std.proofs.Common.{◌+◌, sym, ap, ◌∙◌, subst, arith}
 use Rattle.clock2q_cache.specs.Cache.{known_count}
 use Rattle.clock2q_cache.specs.Costs.{Spends}
-use Rattle.clock2q_cache.specs.Insertions.{placed_looks}
+use Rattle.clock2q_cache.specs.Insertions.{placed_inspections}
 use Rattle.clock2q_cache.specs.Machine.{Placement, placement, stored}
 use Rattle.clock2q_cache.proofs.Whole.{unknown_once_forgotten}
 use Rattle.clock2q_cache.proofs.Insertions.{placed-inspections, forgotten-spends}
@@ -28,6 +28,6 @@ returns-clause-machine g c =
 
 pub returns-clause-counts : goal.returns-clause-counts
 returns-clause-counts g c =
-    let looks = placed_looks c.admits_to_main-main.result c.forget-known.new.self.machine in
+    let looks = placed_inspections c.admits_to_main-main.result c.forget-known.new.self.machine in
     rw (← placed-inspections (g.K.PartialEq.eq c.args.key) c.args.self.now.machine c.forget-known.new.self.machine c.forget-known.result c.admits_to_main-main.result c.forget-known.ensures.known c.forget-known.ensures.machine c.admits_to_main-main.ensures c.requires.absent)
     (forgotten-spends looks (looks + 29) _ _ _ _ (omega arith) c.forget-known.ensures.counts c.place.ensures.counts)

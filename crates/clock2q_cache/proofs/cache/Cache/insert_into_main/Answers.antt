@@ -2,7 +2,7 @@
 use Rattle.std.proofs.Common.{◌≡◌, ◌<◌, length, arith}
 use Rattle.clock2q_cache.specs.Shares.{main_share}
 use Rattle.clock2q_cache.proofs.CacheInvariant.{length_in_main}
-use Rattle.clock2q_cache.proofs.Insertions.{full-looks, room-looks}
+use Rattle.clock2q_cache.proofs.Insertions.{full-inspections, room-inspections}
 use Rattle.clock2q_cache.proofs.cache.Cache.insert_into_main.Goals as goal
 
 pub replace_victim-requires-clause-full : goal.replace_victim-requires-clause-full
@@ -20,11 +20,11 @@ returns-then-main_len-main-clause-counts g c =
     let k = c.self.invariant in
     let m = c.args.self.now.machine in
     let full : length m.main ≡ main_share m.shares = rw (← c.self.view_is) (omega (arith, length_in_main _ g.met.K.Eq.laws _ _ _ _ _ _ _ _ k)) in
-    rw (full-looks m full) c.replace_victim.ensures.counts
+    rw (full-inspections m full) c.replace_victim.ensures.counts
 
 pub returns-else-main_len-main-clause-counts : goal.returns-else-main_len-main-clause-counts
 returns-else-main_len-main-clause-counts g c =
     let k = c.self.invariant in
     let m = c.args.self.now.machine in
     let room : length m.main < main_share m.shares = rw (← c.self.view_is) (omega (arith, length_in_main _ g.met.K.Eq.laws _ _ _ _ _ _ _ _ k, k.whole.main_within)) in
-    rw (room-looks m room) c.join_main.ensures.counts
+    rw (room-inspections m room) c.join_main.ensures.counts

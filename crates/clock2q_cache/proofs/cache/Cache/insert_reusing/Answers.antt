@@ -2,7 +2,7 @@
 use Rattle.std.proofs.Common.{◌≡◌, ◌+◌, Bool, false, not, sym, ap, ◌∙◌, arith}
 use Rattle.std.proofs.lemmas.Option.{slice_get_past}
 use Rattle.clock2q_cache.specs.Cache.{known_count}
-use Rattle.clock2q_cache.specs.Insertions.{placed_looks}
+use Rattle.clock2q_cache.specs.Insertions.{placed_inspections}
 use Rattle.std.specs.List.{list_any}
 use Rattle.clock2q_cache.specs.Hashes.{hash_of}
 use Rattle.clock2q_cache.specs.Places.{entered, remembering_any, out_of}
@@ -85,6 +85,6 @@ returns-clause-remembered g c =
 
 pub returns-clause-counts : goal.returns-clause-counts
 returns-clause-counts g c =
-    let looks = placed_looks c.admits_to_main-main.result c.forget-known.new.self.machine in
+    let looks = placed_inspections c.admits_to_main-main.result c.forget-known.new.self.machine in
     rw (← placed-inspections (g.K.PartialEq.eq c.args.key) c.args.self.now.machine c.forget-known.new.self.machine c.forget-known.result c.admits_to_main-main.result c.forget-known.ensures.known c.forget-known.ensures.machine c.admits_to_main-main.ensures c.requires.absent)
     (forgotten-spends looks (looks + 29) _ _ _ _ (omega arith) c.forget-known.ensures.counts c.place.ensures.counts)
