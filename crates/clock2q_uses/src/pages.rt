@@ -1,8 +1,10 @@
 //! A page cache: the pages of a file that are in memory, each in a frame of its own.
 ghost use Rattle.clock2q_uses.specs.Pages.{AreLoaded, IsLoaded, frame_of};
-ghost use Rattle.std.specs.Prelude.{◌≡◌, ◌≢◌, ◌<◌, ◌≤◌, ◌↔◌, ℕ, Some, IsTrue, length, slice_get};
+ghost use Rattle.std.specs.NonZero.{non_zero_usize_get};
+ghost use Rattle.std.specs.Prelude.{◌≡◌, ◌≢◌, ◌<◌, ◌≤◌, ◌↔◌, ℕ, Some, IfOk, IsErrOf, IsTrue, length, map, slice_get};
 
-use clock2q::Cache;
+use clock2q::{Cache, CacheError, MAX_CAPACITY};
+use std::alloc::Global;
 use std::hash::BuildHasher;
 use std::num::NonZeroUsize;
 use std::test::Fail;
@@ -31,8 +33,8 @@ pub fn frame_of<S: BuildHasher>(
     (frame, is_loaded)
 }
 
-/// Returns true if the page has this frame. Hashes nothing, so whoever kept the frame asks for it
-/// here first.
+/// Returns true if the page is in this frame, and records a hit then. Hashes nothing, so whoever
+/// kept the frame asks for it here first.
 pub fn is_in<S: BuildHasher>(
     pages: &mut Cache<usize, Option<usize>, S>,
     frame: usize,
@@ -70,6 +72,46 @@ pub fn load<T: Copy, S: BuildHasher>(
     frame
 }
 
+/// Returns the pages of these numbers in their order, each read through its frame, and `None` for a
+/// number without a page.
+pub fn read_pages<T: Copy>(
+    alloc: Global,
+    capacity: NonZeroUsize,
+    frames: &mut [T],
+    file: &[T],
+    numbers: &[usize],
+) -> Result<Vec<Option<T>>, CacheError>
+    requires frames { non_zero_usize_get capacity ≤ length frames.old }
+    ensures pages { IfOk result (λ read. read.items ≡ map (slice_get file.now) numbers.now) }
+    ensures capacity { MAX_CAPACITY < non_zero_usize_get capacity → IsErrOf result CacheError.Capacity }
+{
+    let mut pages = Cache::new(alloc, capacity)?;
+    let mut read = Vec::with_capacity(alloc, numbers.len())?;
+    for number in numbers {
+        read.push_reserved(read_page(&mut pages, frames, file, *number));
+    }
+    Ok(read)
+}
+
+/// Returns the page of a number, if there is one, read through its frame.
+fn read_page<T: Copy, S: BuildHasher>(
+    pages: &mut Cache<usize, Option<usize>, S>,
+    frames: &mut [T],
+    file: &[T],
+    number: usize,
+) -> Option<T>
+    requires frames { pages.old.machine.shares.capacity ≤ length frames.old }
+    ensures content { AreLoaded file.now pages.old.machine frames.old → result ≡ slice_get file.now number }
+    ensures loaded { AreLoaded file.now pages.old.machine frames.old → AreLoaded file.now pages.new.machine frames.new }
+    ensures shares { pages.new.machine.shares ≡ pages.old.machine.shares }
+{
+    if number >= file.len() {
+        return None;
+    }
+    let frame = load(pages, frames, file, number);
+    Some(frames[frame])
+}
+
 #[test]
 fn three_pages_in_two_frames(rt: HostRuntime) -> Result<(), Fail> {
     let capacity = NonZeroUsize::new(2).ok_or("not zero")?;
@@ -84,5 +126,15 @@ fn three_pages_in_two_frames(rt: HostRuntime) -> Result<(), Fail> {
     assert!(rt; !is_in(&mut pages, 0, 0));
     assert_eq!(rt; load(&mut pages, &mut frames, file, 0), 1);
     assert_eq!(rt; frames.as_slice(), b"ca".as_slice());
+    Ok(())
+}
+
+#[test]
+fn pages_through_one_frame(rt: HostRuntime) -> Result<(), Fail> {
+    let capacity = NonZeroUsize::new(1).ok_or("not zero")?;
+    let mut frames = [0u8; 1];
+    let read = read_pages(rt.alloc(), capacity, &mut frames, b"abc", &[2, 3, 2, 0])?;
+    let expected = [Some(b'c'), None, Some(b'c'), Some(b'a')];
+    assert_eq!(rt; read.as_slice(), expected.as_slice());
     Ok(())
 }
