@@ -24,13 +24,15 @@ fn put_all<A: Allocator>(cache: &mut Cache<u64, u64, DefaultHashBuilder, A>, key
     are_resident
 }
 
-// Puts two keys again that were evicted. One comes from the history, the other is forgotten.
+// Puts two keys again that were evicted. One comes from the history, the other is forgotten; as
+// that one enters, a key that was hit before goes on to Main.
 fn put_evicted<A: Allocator>(
     cache: &mut Cache<u64, u64, DefaultHashBuilder, A>,
-) -> (Option<u64>, Option<u64>) {
+) -> (Option<u64>, bool, Option<u64>) {
     let first = cache.put(1, 0);
+    let is_hit = cache.get(&29).is_some();
     let second = cache.put(0, 0);
-    (first, second)
+    (first, is_hit, second)
 }
 
 // Takes two residents out, one at a time.
@@ -48,6 +50,15 @@ fn fill<A: Allocator>(cache: &mut Cache<u64, u64, DefaultHashBuilder, A>) -> u64
         made
     });
     made
+}
+
+// Lends the value at the slot of a key, and returns both.
+fn lend<A: Allocator>(
+    cache: &mut Cache<u64, u64, DefaultHashBuilder, A>,
+    key: u64,
+) -> (usize, u64) {
+    let (slot, value) = cache.get_or_insert_mut(key, || key.wrapping_add(10));
+    (slot, *value)
 }
 
 // Inserts a key by each of the calls that are handed a closure, and returns both values.
@@ -74,21 +85,34 @@ fn puts(rt: HostRuntime) -> Result<(), Fail> {
     let asked = alloc.requests();
     alloc.refuse_after(0);
     assert!(rt; put_all(&mut cache, 31));
-    assert_eq!(rt; put_evicted(&mut cache), (None, None));
+    assert_eq!(rt; put_evicted(&mut cache), (None, true, None));
+    assert!(rt; cache.contains(&29));
     assert_eq!(rt; cache.len(), 20);
     assert_eq!(rt; alloc.requests(), asked);
     Ok(())
 }
 
+// The slots that are taken out and made beforehand are used again, each with its value.
 #[test]
-fn removals(rt: HostRuntime) -> Result<(), Fail> {
+fn slots(rt: HostRuntime) -> Result<(), Fail> {
     let alloc = Refusing::new(rt.alloc());
     let mut cache = new_cache(&alloc, 6)?;
     let asked = alloc.requests();
     alloc.refuse_after(0);
-    assert!(rt; put_all(&mut cache, 3));
+    for (key, wanted) in [(0, (0, 10)), (1, (1, 11)), (2, (2, 12))] {
+        assert_eq!(rt; lend(&mut cache, key), wanted);
+    }
     assert_eq!(rt; remove_two(&mut cache), (true, true));
     assert_eq!(rt; fill(&mut cache), 3);
+    for (key, wanted) in [
+        (3, (3, 1)),
+        (4, (4, 2)),
+        (5, (5, 3)),
+        (2, (2, 12)),
+        (1, (1, 11)),
+    ] {
+        assert_eq!(rt; lend(&mut cache, key), wanted);
+    }
     assert_eq!(rt; alloc.requests(), asked);
     Ok(())
 }
