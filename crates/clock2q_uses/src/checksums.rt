@@ -4,7 +4,7 @@ ghost use Rattle.clock2q_memo.specs.Memo.{Computes, Remembers};
 ghost use Rattle.clock2q_cache.specs.Machine.{slot_of};
 ghost use Rattle.std.specs.Fn.{FnReturnsAt};
 ghost use Rattle.std.specs.NonZero.{non_zero_usize_get};
-ghost use Rattle.std.specs.Prelude.{◌≡◌, ◌<◌, ◌≤◌, ◌+◌, ◌↔◌, ℕ, Option, Some, eqb, IfOk, IsErrOf, IsSome, IsTrue, map};
+ghost use Rattle.std.specs.Prelude.{◌≡◌, ◌≢◌, ◌<◌, ◌≤◌, ◌+◌, ◌↔◌, ℕ, Err, Option, Some, eqb, IfOk, IsErrOf, IsSome, IsTrue, map};
 
 use clock2q::memo::recall;
 use clock2q::{CacheError, MAX_CAPACITY, Memo};
@@ -23,7 +23,8 @@ pub fn checksums(
     numbers: Vec<usize>,
 ) -> Result<Vec<Option<u32>>, CacheError>
     ensures checksums { IfOk result (λ sums. sums.items ≡ map (checksum_of documents.now) numbers.items) }
-    ensures capacity { MAX_CAPACITY < non_zero_usize_get capacity → IsErrOf result CacheError.Capacity }
+    ensures capacity { IsErrOf result CacheError.Capacity ↔ (MAX_CAPACITY < non_zero_usize_get capacity) }
+    ensures policy { result ≢ Err CacheError.Policy }
 {
     let mut memo = Memo::new(
         alloc,

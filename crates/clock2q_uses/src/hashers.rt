@@ -1,6 +1,6 @@
 //! The same commands under two hashers.
 ghost use Rattle.clock2q_command.specs.Commands.{call_of, answer_of, AreSupplied};
-ghost use Rattle.std.specs.Prelude.{◌≡◌, IfOk, map};
+ghost use Rattle.std.specs.Prelude.{◌≡◌, IfOk, IfErr, map};
 
 use clock2q::command::{Command, Reply, run};
 use clock2q::{Cache, CacheError};
@@ -27,6 +27,7 @@ where
     requires same { map call_of again.items ≡ map call_of commands.items }
     ensures replies { IfOk result (λ both. map answer_of both.1.items ≡ map answer_of both.0.items) }
     ensures machine { IfOk result (λ both. other.new.machine ≡ one.new.machine) }
+    ensures memory { IfErr result (λ e. e ≡ CacheError.Memory) }
 {
     let replies = run(alloc, one, commands)?;
     Ok((replies, run(alloc, other, again)?))

@@ -1,7 +1,7 @@
 //! A page cache: the pages of a file that are in memory, each in a frame of its own.
 ghost use Rattle.clock2q_uses.specs.Pages.{AreLoaded, IsLoaded, frame_of};
 ghost use Rattle.std.specs.NonZero.{non_zero_usize_get};
-ghost use Rattle.std.specs.Prelude.{◌≡◌, ◌≢◌, ◌<◌, ◌≤◌, ◌↔◌, ℕ, Some, IfOk, IsErrOf, IsTrue, length, map, slice_get};
+ghost use Rattle.std.specs.Prelude.{◌≡◌, ◌≢◌, ◌<◌, ◌≤◌, ◌↔◌, ℕ, Err, Some, IfOk, IsErrOf, IsTrue, length, map, slice_get};
 
 use clock2q::{Cache, CacheError, MAX_CAPACITY};
 use std::alloc::Global;
@@ -83,7 +83,8 @@ pub fn read_pages<T: Copy>(
 ) -> Result<Vec<Option<T>>, CacheError>
     requires frames { non_zero_usize_get capacity ≤ length frames.old }
     ensures pages { IfOk result (λ read. read.items ≡ map (slice_get file.now) numbers.now) }
-    ensures capacity { MAX_CAPACITY < non_zero_usize_get capacity → IsErrOf result CacheError.Capacity }
+    ensures capacity { IsErrOf result CacheError.Capacity ↔ (MAX_CAPACITY < non_zero_usize_get capacity) }
+    ensures policy { result ≢ Err CacheError.Policy }
 {
     let mut pages = Cache::new(alloc, capacity)?;
     let mut read = Vec::with_capacity(alloc, numbers.len())?;

@@ -3,7 +3,7 @@ ghost use Rattle.clock2q_uses.specs.Replay.{is_hit, put_of, trace_hits};
 ghost use Rattle.clock2q_command.specs.Commands.{call_of, answer_of};
 ghost use Rattle.std.specs.List.{count_by};
 ghost use Rattle.std.specs.NonZero.{non_zero_usize_get};
-ghost use Rattle.std.specs.Prelude.{◌≡◌, ◌<◌, IfOk, IsErrOf, map};
+ghost use Rattle.std.specs.Prelude.{◌≡◌, ◌≢◌, ◌<◌, ◌↔◌, Err, IfOk, IfErr, IsErrOf, map};
 
 use clock2q::command::{Command, Reply, run};
 use clock2q::{Cache, CacheError, MAX_CAPACITY};
@@ -14,7 +14,8 @@ use std::test::Fail;
 /// Puts each key of the trace in a new cache, and returns how many were resident.
 pub fn replay(alloc: Global, capacity: NonZeroUsize, trace: &[u64]) -> Result<usize, CacheError>
     ensures hits { IfOk result (λ hits. hits ≡ trace_hits (non_zero_usize_get capacity) trace.now) }
-    ensures capacity { MAX_CAPACITY < non_zero_usize_get capacity → IsErrOf result CacheError.Capacity }
+    ensures capacity { IsErrOf result CacheError.Capacity ↔ (MAX_CAPACITY < non_zero_usize_get capacity) }
+    ensures policy { result ≢ Err CacheError.Policy }
 {
     let mut cache = Cache::new(alloc, capacity)?;
     let replies = run(alloc, &mut cache, puts_of(alloc, trace)?)?;
@@ -24,6 +25,7 @@ pub fn replay(alloc: Global, capacity: NonZeroUsize, trace: &[u64]) -> Result<us
 /// Returns a `Put` for each key, with the key as its value.
 pub fn puts_of(alloc: Global, keys: &[u64]) -> Result<Vec<Command<u64, u64>>, CacheError>
     ensures puts { IfOk result (λ puts. map call_of puts.items ≡ map put_of keys.now) }
+    ensures memory { IfErr result (λ e. e ≡ CacheError.Memory) }
 {
     let mut puts = Vec::with_capacity(alloc, keys.len())?;
     for key in keys {
