@@ -28,5 +28,6 @@ pub mod Whole
 pub mod WithKeys
 pub mod WorkedCounts
 pub mod WorkedRuns
+pub mod WorkedShares
 pub mod WorkedSlots
 pub mod WorkedStates

@@ -92,33 +92,3 @@ impl Shares {
         self.capacity / 2
     }
 }
-
-#[cfg(test)]
-mod tests {
-    use super::*;
-
-    // Small, Main, the window and the history at a capacity.
-    #[test]
-    fn usual_shares(rt: HostRuntime) {
-        let table = [
-            (1, 0, 1, 0, 0),
-            (2, 1, 1, 1, 1),
-            (3, 1, 2, 1, 1),
-            (6, 1, 5, 1, 3),
-            (10, 1, 9, 1, 5),
-            (11, 1, 10, 1, 5),
-            (19, 1, 18, 1, 9),
-            (20, 2, 18, 1, 10),
-            (40, 4, 36, 2, 20),
-            (16_777_215, 1_677_721, 15_099_494, 838_861, 8_388_607),
-        ];
-        for (capacity, small, main, window, history) in table {
-            assert!(rt; capacity > 0);
-            let shares = Shares::usual(capacity);
-            assert_eq!(rt; shares.small(), small, "small at {capacity}");
-            assert_eq!(rt; shares.main(), main, "main at {capacity}");
-            assert_eq!(rt; shares.window(), window, "window at {capacity}");
-            assert_eq!(rt; shares.history(), history, "history at {capacity}");
-        }
-    }
-}
