@@ -13,7 +13,7 @@ use Rattle.clock2q_cache.specs.Shares.{Shares}
 use Rattle.clock2q_cache.specs.Machine.{Machine, hit, inserted, placement, slot_of, stored}
 use Rattle.clock2q_cache.specs.Steps.{is_at, put, replaced_at, slotted_at, hit_at, value_at}
 use Rattle.clock2q_cache.proofs.Whole.{none_is}
-use Rattle.clock2q_cache.proofs.Lasting.{placed-key, lasting-inserted, lasting-after, resident_made}
+use Rattle.clock2q_cache.proofs.MachineInvariant.{placed-key, lasting-inserted, lasting-after, resident_made}
 use Rattle.clock2q_cache.proofs.Standing.{stored_elsewhere}
 use Rattle.clock2q_cache.proofs.Entering.{weight-hit, weight-replaced, same_slots, slots_apart, entered_there}
 use Rattle.clock2q_cache.proofs.Laws.{slot_at_most, put_there, others_keep, get_at_hits}
