@@ -1,5 +1,5 @@
 //! Clock2Q+ on a trace.
-ghost use Rattle.std.specs.Prelude.{◌≡◌, ◌<◌, IfOk, IsErrOf};
+ghost use Rattle.std.specs.Prelude.{◌≡◌, ◌≢◌, ◌<◌, ◌↔◌, Err, IfOk, IsErrOf};
 ghost use Rattle.std.specs.NonZero.{non_zero_usize_get};
 ghost use Rattle.clock2q_simulation.specs.Policies.{machine_hits};
 
@@ -19,7 +19,8 @@ pub fn clock2q_hits(
     trace: &[usize],
 ) -> Result<usize, CacheError>
     ensures hits { IfOk result (λ hits. hits ≡ machine_hits (non_zero_usize_get capacity) trace.now) }
-    ensures capacity { MAX_CAPACITY < non_zero_usize_get capacity → IsErrOf result CacheError.Capacity }
+    ensures capacity { IsErrOf result CacheError.Capacity ↔ (MAX_CAPACITY < non_zero_usize_get capacity) }
+    ensures policy { result ≢ Err CacheError.Policy }
 {
     let mut cache = Cache::new(alloc, capacity)?;
     let mut hits = 0;

@@ -52,13 +52,19 @@ impl SimulationError {
 }
 
 impl From<AllocError> for SimulationError {
-    fn from(_error: AllocError) -> SimulationError {
+    fn from(_error: AllocError) -> SimulationError
+        ensures { result ≡ SimulationError.Memory }
+    {
         SimulationError::Memory
     }
 }
 
 impl From<CacheError> for SimulationError {
-    fn from(error: CacheError) -> SimulationError {
+    ghost use Rattle.clock2q_simulation.specs.SimulationError.{of_cache};
+
+    fn from(error: CacheError) -> SimulationError
+        ensures { result ≡ of_cache error }
+    {
         match error {
             CacheError::Capacity => SimulationError::Capacity,
             CacheError::Memory | CacheError::Policy => SimulationError::Memory,
