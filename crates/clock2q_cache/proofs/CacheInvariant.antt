@@ -15,7 +15,7 @@ use Rattle.clock2q_queues.specs.Queues.{QueueState, slots_of}
 use Rattle.clock2q_queues.specs.History.{Remembered}
 use Rattle.clock2q_queues.proofs.Rings.{has-append}
 use Rattle.clock2q_queues.proofs.Indexes.{length-put, length-taken}
-use Rattle.clock2q_queues.proofs.Booleans.{or_parts}
+use Rattle.clock2q_queues.proofs.Booleans.{or_true, or_parts}
 use Rattle.clock2q_cache.specs.Shares.{Shares, main_share, history_share}
 use Rattle.clock2q_cache.specs.Entries as machine
 use Rattle.clock2q_cache.specs.Machine.{Machine, Placement, vacancy, vacant_slot, into_main, into_small, into_small_at, joining_main, replacing_victim, evicting_tail, promoting_tail, stored}
@@ -158,10 +158,6 @@ module _ {K V : Type 0} (eq : K → K → Bool) (laws : IsEquivalence eq) (hash 
     main_same : with_keys_main (key_at entries') q.main ≡ with_keys_main (key_at keys.entries) q.main
     main_same = main-agree (key_at keys.entries) (key_at entries') q.main
         (λ t g. key_at-others slot hsh key value keys.entries here.next (places_of q) here.absent t (has-append t (slots_of q.small) (slots_of q.main) ∙ rw g (or_true (has t (slots_of q.small)))))
-      where
-        or_true : (b : Bool) → (b || true) ≡ true
-        or_true true = refl
-        or_true false = refl
 
     -- into Small
     module _ (q' : QueueState) (small : q'.small ≡ admitted q.window slot q.small) (main : q'.main ≡ q.main) where

@@ -5,6 +5,7 @@ use Rattle.std.specs.Fn.{Mut, Called}
 use Rattle.std.specs.List.{FoldsTo, AllByRecursion, range_with_len}
 use Rattle.std.proofs.lemmas.Bool.{cases_Bool}
 use Rattle.std.proofs.lemmas.List.{append-nil, append_assoc, map-append, reverse-append, reverse-reverse}
+use Rattle.clock2q_queues.proofs.Booleans.{or_true}
 use Rattle.clock2q_queues.specs.declared.keys.cells.Entry.{Entry}
 use Rattle.clock2q_queues.specs.Rings.{has, AllBelow}
 use Rattle.clock2q_queues.specs.Indexes.{IsIndex, is_named, is_alike}
@@ -108,10 +109,6 @@ module _ {K V : Type 0} (eq : K → K → Bool) (laws : IsEquivalence eq) (hash 
 
   in_main : (t : ℕ) → has t (slots_of q.main) ≡ true → t < length keys.entries
   in_main t g = below_of (length keys.entries) (places_of q) kept.stored.made t (has-append t (slots_of q.small) (slots_of q.main) ∙ rw g (or_true (has t (slots_of q.small))))
-    where
-      or_true : (b : Bool) → (b || true) ≡ true
-      or_true true = refl
-      or_true false = refl
 
   pub machine-prefilled : machine_of shares q keys'.entries h.entries free' ≡ prefilled made m
   machine-prefilled =

@@ -8,6 +8,7 @@ use Rattle.std.proofs.lemmas.Bool.{cases_Bool, both_ways, or_cases}
 use Rattle.std.proofs.lemmas.List.Sums.{sum_by-cons, sum_by-append}
 use Rattle.std.proofs.Math.ListN.{length-set}
 use Rattle.clock2q_handles.specs.Homes.{candidates}
+use Rattle.clock2q_queues.proofs.Booleans.{or_true}
 use Rattle.clock2q_queues.specs.Ages.{Age, is_promoted}
 use Rattle.clock2q_queues.specs.declared.keys.cells.Entry.{Entry}
 use Rattle.clock2q_queues.specs.Rings.{has, AllApart, AllBelow}
@@ -273,10 +274,6 @@ module _ {K V : Type 0} (eq : K → K → Bool) (laws : IsEquivalence eq) (hash 
           ap (λ z. with_keys_main (key_at keys.entries) z) main ∙ sym (main-hit (key_at keys.entries) (eq key) slot q.main
           (λ t k g at. key-there k t (has-append t (slots_of q.small) (slots_of q.main) ∙ rw g (or_true (has t (slots_of q.small)))) at) (main_have eq laws hash shares q h index keys free room kept)) in
           cc
-        where
-          or_true : (b : Bool) → (b || true) ≡ true
-          or_true true = refl
-          or_true false = refl
 
       pub kept-hit : (q' : QueueState) → q'.small ≡ small_hit_at slot q.small → q'.main ≡ main_hit_at slot q.main → q'.slots ≡ q.slots → q'.window ≡ q.window → IsKept eq hash shares q' h index keys free room
       kept-hit q' small main slots window = record {

@@ -17,7 +17,7 @@ use Rattle.clock2q_queues.specs.Queues.{QueueState, slots_of}
 use Rattle.clock2q_queues.specs.History.{Remembered, is_remembered}
 use Rattle.clock2q_queues.proofs.Rings.{has-append, eqb_self, has_first, below_of}
 use Rattle.clock2q_queues.proofs.Indexes.{length-put, length-taken}
-use Rattle.clock2q_queues.proofs.Booleans.{or_parts, or_neither}
+use Rattle.clock2q_queues.proofs.Booleans.{or_true, or_parts, or_neither}
 use Rattle.clock2q_cache.specs.Shares.{Shares, main_share, history_share}
 use Rattle.clock2q_cache.specs.Entries as machine
 use Rattle.clock2q_cache.specs.Entries.{SmallEntry, MainEntry}
@@ -299,10 +299,6 @@ module _ {K V : Type 0} (eq : K → K → Bool) (laws : IsEquivalence eq) (hash 
 
     pub tail-there_in_small : has tail (slots_of q.small) ≡ true
     tail-there_in_small = tail-in_small tail ∙ rw (eqb_self tail) (or_true (has tail (slots_of front)))
-      where
-        or_true : (b : Bool) → (b || true) ≡ true
-        or_true true = refl
-        or_true false = refl
 
     pub tail-in : has tail (places_of q) ≡ true
     tail-in = has-append tail (slots_of q.small) (slots_of q.main) ∙ rw tail-there_in_small refl

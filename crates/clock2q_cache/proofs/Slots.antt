@@ -5,6 +5,7 @@ use Rattle.std.specs.List.{count_by, last_or}
 use Rattle.std.proofs.lemmas.Bool.{cases_Bool, cases_lt, both_ways, lt-ltb, le-ltb}
 use Rattle.std.proofs.lemmas.List.{length-reverse}
 use Rattle.std.proofs.lemmas.List.Sums.{sum_by-cons, sum_by-append}
+use Rattle.clock2q_queues.proofs.Booleans.{or_true}
 use Rattle.clock2q_queues.specs.Ages.{Age}
 use Rattle.clock2q_queues.specs.declared.keys.cells.Entry.{Entry}
 use Rattle.clock2q_queues.specs.Rings.{has, AllApart, AllBelow}
@@ -96,10 +97,6 @@ module _ {K V : Type 0} (eq : K → K → Bool) (hash : K → ℕ) (shares : Sha
 
   pub main_keys : HaveKeys (key_at entries) (slots_of q.main)
   main_keys = λ t g. have_keys entries (places_of q) stored.made t (has-append t (slots_of q.small) (slots_of q.main) ∙ rw g (or_true (has t (slots_of q.small))))
-    where
-      or_true : (b : Bool) → (b || true) ≡ true
-      or_true true = refl
-      or_true false = refl
 
   pub standing-times : (t : ℕ) → standings t m ≡ times t (places_of q) + times t (reverse free)
   standing-times t =

@@ -1,19 +1,11 @@
--- The machine on runs worked out by hand: the shares, and the replies of runs in which keys are hit, evicted, remembered and erased.
+-- The machine on runs worked out by hand: the replies of runs in which keys are hit, evicted, remembered and erased.
 use Rattle.std.proofs.Common.{◌≡◌, ℕ, true, false, eqb, List, [], ◌∷◌, ◌++◌, map, refl}
 use Rattle.std.specs.Prelude.{Some, None}
 use Rattle.std.specs.List.{range_with_len}
-use Rattle.clock2q_cache.specs.Shares.{usual_shares, main_share, history_share}
+use Rattle.clock2q_cache.specs.Shares.{usual_shares}
 use Rattle.clock2q_cache.specs.Machine.{Machine, empty}
 use Rattle.clock2q_cache.specs.Calls.{Call, Answer, Put, Get, Peek, Contains, GetAt, Set, With, Try, SlotFor, Remove, Retain, Len, IsEmpty, Capacity, Value, Stored, Tried, Slot, Flag, Number, Done}
 use Rattle.clock2q_cache.specs.Steps.{answers, after_all}
-
--- the shares of the table: Small, Main, window and Ghost
-abbrev all_shares : ℕ → List ℕ
-all_shares capacity = let shares = usual_shares capacity in shares.small ∷ main_share shares ∷ shares.window ∷ history_share shares ∷ []
-
-shares_table : map all_shares (1 ∷ 2 ∷ 3 ∷ 6 ∷ 10 ∷ 11 ∷ 19 ∷ 20 ∷ 40 ∷ 16777215 ∷ [])
-    ≡ (0 ∷ 1 ∷ 0 ∷ 0 ∷ []) ∷ (1 ∷ 1 ∷ 1 ∷ 1 ∷ []) ∷ (1 ∷ 2 ∷ 1 ∷ 1 ∷ []) ∷ (1 ∷ 5 ∷ 1 ∷ 3 ∷ []) ∷ (1 ∷ 9 ∷ 1 ∷ 5 ∷ []) ∷ (1 ∷ 10 ∷ 1 ∷ 5 ∷ []) ∷ (1 ∷ 18 ∷ 1 ∷ 9 ∷ []) ∷ (2 ∷ 18 ∷ 1 ∷ 10 ∷ []) ∷ (4 ∷ 36 ∷ 2 ∷ 20 ∷ []) ∷ (1677721 ∷ 15099494 ∷ 838861 ∷ 8388607 ∷ []) ∷ []
-shares_table = refl
 
 -- a run on a new cache of the usual shares
 abbrev pub replies : ℕ → List (Call ℕ ℕ) → List (Answer ℕ)

@@ -1,24 +1,23 @@
-//! The cache itself: construction, look-ups, hits and `put`.
+//! The cache itself: lookups, hits and `put`.
 
 mod clearing;
+mod construction;
 mod debug;
 mod fetching;
 mod filling;
 mod insertion;
 mod removal;
 
-use crate::error::CacheError;
 use crate::hashes::hash_of;
 use crate::shares::Shares;
 use clock2q_count::Count;
 use clock2q_handles::Table;
 use clock2q_queues::history::History;
-use clock2q_queues::keys::{Keys, index_room};
+use clock2q_queues::keys::Keys;
 use clock2q_queues::queues::{Queues, Standing};
 use std::alloc::{Allocator, Global};
 use std::hash::{BuildHasher, BuildHasherDefault, FoldHasher, Hash};
 use std::marker::Model;
-use std::num::NonZeroUsize;
 
 /// The largest capacity that a cache can have, in keys: 16,777,215.
 pub const MAX_CAPACITY: usize = (1 << 24) - 1;
@@ -29,14 +28,20 @@ pub type DefaultHashBuilder = BuildHasherDefault<FoldHasher>;
 
 /// A key-value cache of fixed capacity.
 ///
-/// No reply depends on a hash: keys are told apart by `Eq` alone. A call that takes a key hashes it
-/// once, and compares it only with keys whose hash has the same home and fingerprint. All memory is
-/// taken by the constructor: no later call asks for any, and none can fail.
+/// No reply depends on a hash: keys are told apart by `Eq` alone. All memory is taken by the
+/// constructor: no later call asks for any.
+///
+/// # Cost
+///
+/// A call that takes a key, except [`get_at`](Cache::get_at), hashes it once and compares it only
+/// with its candidates: the resident and remembered keys whose hashes have the same home and
+/// fingerprint. Each inspection by the hand is paid for: since the cache was made there were no
+/// more of them than keys that Main evicted and bits of Main that hits set.
 ///
 /// # Example
 ///
 /// ```
-/// let mut cache: Cache<u64, u64> = Cache::new(rt.alloc(), capacity)?;
+/// let mut cache: Cache<u64, u64, _> = Cache::new(rt.alloc(), capacity)?;
 /// cache.put(1, 10);
 /// assert_eq!(rt; cache.get(&1), Some(&10));
 /// assert_eq!(rt; cache.get(&2), None);
@@ -65,114 +70,6 @@ impl<K: Hash + Eq, V, S: BuildHasher, A: Allocator> Model for Cache<K, V, S, A> 
     ghost view = { λ c. cache_state (machine_of c.shares c.queues c.keys.entries c.history.entries c.free.items) c.index.homes c.history.places c.hasher (counts_of c.queues c.history c.keys) };
 
     ghost invariant = { λ c. IsKept K.eq (λ k. hash_of S.BuildHasher S.Hasher.Hasher c.hasher (K.hash_input k)) c.shares c.queues c.history c.index.homes c.keys c.free.items (vec_capacity c.free) };
-}
-
-impl<K: Hash + Eq + Drop, V: Drop, A: Allocator + Copy> Cache<K, V, DefaultHashBuilder, A> {
-    ghost use Rattle.std.specs.Prelude.{◌≡◌, ◌≢◌, ◌<◌, ◌↔◌, Err, IfOk, IsErrOf};
-    ghost use Rattle.std.specs.NonZero.{non_zero_usize_get};
-    ghost use Rattle.clock2q_cache.specs.Shares.{usual_shares};
-    ghost use Rattle.clock2q_cache.specs.CacheState.{uncounted};
-    ghost use Rattle.clock2q_cache.specs.Machine.{empty};
-
-    /// Makes an empty cache for `capacity` keys. Takes all the memory that the cache will ever use:
-    /// room for `capacity` keys with their values, and for half as many evicted keys.
-    ///
-    /// # Errors
-    ///
-    /// `Capacity` above [`MAX_CAPACITY`], before any memory is taken. `Memory` if a request for
-    /// memory is refused; what was taken before is given back.
-    pub fn new(alloc: A, capacity: NonZeroUsize) -> Result<Self, CacheError>
-        ensures made { IfOk result (λ cache. cache.machine ≡ empty (usual_shares (non_zero_usize_get capacity))) }
-        ensures counts { IfOk result (λ cache. cache.counts ≡ uncounted) }
-        ensures capacity { IsErrOf result CacheError.Capacity ↔ (MAX_CAPACITY < non_zero_usize_get capacity) }
-        ensures policy { result ≢ Err CacheError.Policy }
-    {
-        Cache::with_hasher(alloc, capacity, BuildHasherDefault::new())
-    }
-}
-
-impl<K: Hash + Eq + Drop, V: Drop, S: BuildHasher + Drop, A: Allocator + Copy> Cache<K, V, S, A> {
-    ghost use Rattle.std.specs.Prelude.{◌≡◌, ◌≢◌, ◌<◌, ◌≤◌, ◌↔◌, Err, IfOk, IsErrOf, IsOkUnless};
-    ghost use Rattle.std.specs.NonZero.{non_zero_usize_get};
-    ghost use Rattle.clock2q_cache.specs.Shares.{usual_shares};
-    ghost use Rattle.clock2q_cache.specs.Policies.{IsPolicy, shares_of};
-    ghost use Rattle.clock2q_cache.specs.CacheState.{uncounted};
-    ghost use Rattle.clock2q_cache.specs.Machine.{empty};
-
-    /// Makes an empty cache as [`new`](Cache::new) does, with a hasher of the caller's.
-    ///
-    /// # Errors
-    ///
-    /// Those of [`new`](Cache::new).
-    pub fn with_hasher(alloc: A, capacity: NonZeroUsize, hasher: S) -> Result<Self, CacheError>
-        ensures made { IfOk result (λ cache. cache.machine ≡ empty (usual_shares (non_zero_usize_get capacity))) }
-        ensures hasher { IfOk result (λ cache. cache.hasher ≡ hasher) }
-        ensures counts { IfOk result (λ cache. cache.counts ≡ uncounted) }
-        ensures capacity { IsErrOf result CacheError.Capacity ↔ (MAX_CAPACITY < non_zero_usize_get capacity) }
-        ensures policy { result ≢ Err CacheError.Policy }
-    {
-        if capacity.get() > MAX_CAPACITY {
-            return Err(CacheError::Capacity);
-        }
-        Cache::with_shares(alloc, Shares::usual(capacity.get()), hasher)
-    }
-
-    /// Makes an empty cache in which Small has `small` slots and a key is young for `window`
-    /// admissions.
-    ///
-    /// # Errors
-    ///
-    /// `Capacity` above [`MAX_CAPACITY`]; else `Policy` if Small leaves Main no slot, or one of
-    /// `small` and `window` is 0 and the other isn't, or the window is longer than Small. Both come
-    /// before any memory is taken. `Memory` if a request for memory is refused.
-    pub fn with_policy(
-        alloc: A,
-        capacity: NonZeroUsize,
-        small: usize,
-        window: usize,
-        hasher: S,
-    ) -> Result<Self, CacheError>
-        ensures made { IfOk result (λ cache. cache.machine ≡ empty (shares_of (non_zero_usize_get capacity) small window)) }
-        ensures hasher { IfOk result (λ cache. cache.hasher ≡ hasher) }
-        ensures counts { IfOk result (λ cache. cache.counts ≡ uncounted) }
-        ensures capacity { IsErrOf result CacheError.Capacity ↔ (MAX_CAPACITY < non_zero_usize_get capacity) }
-        ensures policy { IsErrOf result CacheError.Policy ↔ ((non_zero_usize_get capacity ≤ MAX_CAPACITY) × ¬ IsPolicy (shares_of (non_zero_usize_get capacity) small window)) }
-    {
-        if capacity.get() > MAX_CAPACITY {
-            return Err(CacheError::Capacity);
-        }
-        let Some(shares) = Shares::new(capacity.get(), small, window) else {
-            return Err(CacheError::Policy);
-        };
-        Cache::with_shares(alloc, shares, hasher)
-    }
-
-    /// Makes an empty cache with these shares.
-    fn with_shares(alloc: A, shares: Shares, hasher: S) -> Result<Self, CacheError>
-        requires { shares.capacity ≤ MAX_CAPACITY }
-        ensures made { IfOk result (λ cache. cache.machine ≡ empty shares) }
-        ensures hasher { IfOk result (λ cache. cache.hasher ≡ hasher) }
-        ensures counts { IfOk result (λ cache. cache.counts ≡ uncounted) }
-        ensures only { IsOkUnless result CacheError.Memory }
-    {
-        let slots = shares.capacity();
-        let queues = Queues::new(alloc, slots as u32, shares.window() as u32)?;
-        let history = History::new(alloc, shares.history())?;
-        let Ok(index) = Table::with_capacity(alloc, index_room(slots)) else {
-            return Err(CacheError::Memory);
-        };
-        let keys = Keys::new(alloc, slots)?;
-        let free = Vec::with_capacity(alloc, slots)?;
-        Ok(Cache {
-            shares,
-            queues,
-            history,
-            index,
-            keys,
-            free,
-            hasher,
-        })
-    }
 }
 
 impl<K: Hash + Eq, V, S: BuildHasher, A: Allocator> Cache<K, V, S, A> {
@@ -218,6 +115,10 @@ impl<K: Hash + Eq, V, S: BuildHasher, A: Allocator> Cache<K, V, S, A> {
     }
 
     /// Returns true if the key is resident. It records no hit, and so changes no later eviction.
+    ///
+    /// # Cost
+    ///
+    /// One hash of the key, and at most one comparison with each candidate among the residents.
     pub fn contains(&self, key: &K) -> bool
         ensures resident { IsTrue result ↔ IsSome (slot_of (K.eq key.now) self.now.machine) }
     {
@@ -226,6 +127,10 @@ impl<K: Hash + Eq, V, S: BuildHasher, A: Allocator> Cache<K, V, S, A> {
 
     /// Returns the value of a resident key, or `None`. It records no hit, and so changes no later
     /// eviction.
+    ///
+    /// # Cost
+    ///
+    /// That of [`contains`](Cache::contains).
     pub fn peek(&self, key: &K) -> Option<&V>
         ensures value { option_copied result ≡ value_of (K.eq key.now) self.now.machine }
     {
@@ -237,6 +142,10 @@ impl<K: Hash + Eq, V, S: BuildHasher, A: Allocator> Cache<K, V, S, A> {
     /// eviction.
     ///
     /// Returns `None` and changes nothing if the key isn't resident.
+    ///
+    /// # Cost
+    ///
+    /// That of [`contains`](Cache::contains). A hit sets one bit, and accesses no link.
     pub fn get(&mut self, key: &K) -> Option<&V>
         ensures* machine { sem 𝓛 (LeavesMachine K.row V.row S.row A.row S.Hasher.row K.Hash S.BuildHasher S.Hasher.Hasher A.Allocator self.entry (Get key.now) (hit (K.eq key.now) self.old.machine)) }
         ensures value { option_copied result ≡ value_of (K.eq key.now) self.old.machine }
@@ -248,9 +157,14 @@ impl<K: Hash + Eq, V, S: BuildHasher, A: Allocator> Cache<K, V, S, A> {
     }
 
     /// Returns the value of a key that is resident at this slot and records a hit, as
-    /// [`get`](Cache::get) does. Compares the key with the one at that slot alone, and hashes nothing.
+    /// [`get`](Cache::get) does.
     ///
     /// Returns `None` and changes nothing if the key isn't resident there, whatever the number.
+    ///
+    /// # Cost
+    ///
+    /// No hash, at most one comparison, with the key at that slot, and at most one access to a
+    /// link.
     pub fn get_at(&mut self, slot: usize, key: &K) -> Option<&V>
         ensures* machine { sem 𝓛 (LeavesMachine K.row V.row S.row A.row S.Hasher.row K.Hash S.BuildHasher S.Hasher.Hasher A.Allocator self.entry (GetAt slot key.now) (hit_at slot (K.eq key.now) self.old.machine)) }
         ensures value { option_copied result ≡ value_at slot (K.eq key.now) self.old.machine }
@@ -264,6 +178,10 @@ impl<K: Hash + Eq, V, S: BuildHasher, A: Allocator> Cache<K, V, S, A> {
     /// does.
     ///
     /// Returns `None` and changes nothing if the key isn't resident.
+    ///
+    /// # Cost
+    ///
+    /// That of [`get`](Cache::get).
     pub fn get_mut(&mut self, key: &K) -> Option<&mut V>
         ensures* writes_back { sem 𝓛 (LendsHit K.row V.row S.row A.row S.Hasher.row K.Hash S.BuildHasher S.Hasher.Hasher A.Allocator self.entry key.now result) }
         ensures value { option_copied_mut result ≡ value_of (K.eq key.now) self.old.machine }
@@ -379,6 +297,12 @@ impl<K: Hash + Eq + Drop, V: Drop, S: BuildHasher, A: Allocator> Cache<K, V, S, 
     /// If the key is resident, this records a hit, keeps the stored key and drops `key`. Otherwise
     /// it inserts the key and returns `None`. One resident is evicted if the cache is full, or if
     /// the history has the key and Main is full.
+    ///
+    /// # Cost
+    ///
+    /// One hash of the key, and at most one comparison with each candidate among the residents and
+    /// in the history. No link is accessed if the key is resident; else there are at most 80
+    /// accesses to links more than inspections by the hand.
     pub fn put(&mut self, key: K, value: V) -> Option<V>
         ensures value { result ≡ value_of (K.eq key) self.old.machine }
         ensures machine { self.new.machine ≡ put (K.eq key) key value self.old.machine }

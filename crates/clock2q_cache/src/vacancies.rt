@@ -18,7 +18,7 @@ pub(crate) fn take_vacancy<A: Allocator>(free: &mut Vec<u32, A>, made: usize) ->
     }
 }
 
-/// Adds a slot to the free ones. It is the next that is used.
+/// Adds a slot to the free ones. It is the next of them that is taken.
 pub(crate) fn free_slot<A: Allocator>(free: &mut Vec<u32, A>, slot: u32)
     requires room { vec_len free.old < vec_capacity free.old }
     ensures top { reverse free.new.items ≡ slot ∷ reverse free.old.items }

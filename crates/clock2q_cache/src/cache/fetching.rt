@@ -22,6 +22,10 @@ impl<K: Hash + Eq + Drop, V: Drop, S: BuildHasher, A: Allocator> Cache<K, V, S, 
     /// resident key is hit, as by [`get`](Cache::get).
     ///
     /// `f` is called only if the key isn't resident, before anything changes.
+    ///
+    /// # Cost
+    ///
+    /// That of [`put`](Cache::put), and that of `f` if it is called.
     pub fn get_or_insert_with<F: FnOnce() -> V>(&mut self, key: K, f: F) -> &V
         requires { slot_of (K.eq key) self.old.machine ≡ None → F.pre f }
         ensures* machine { sem 𝓛 (LeavesMachine K.row V.row S.row A.row S.Hasher.row K.Hash S.BuildHasher S.Hasher.Hasher A.Allocator self.entry (With key result.now) (fetched (K.eq key) key result.now self.old.machine)) }
@@ -37,6 +41,11 @@ impl<K: Hash + Eq + Drop, V: Drop, S: BuildHasher, A: Allocator> Cache<K, V, S, 
     /// # Errors
     ///
     /// The error of `f`. The cache and its history are then as they were.
+    ///
+    /// # Cost
+    ///
+    /// That of [`get_or_insert_with`](Cache::get_or_insert_with). After an error no link was
+    /// accessed, and the key was compared with residents alone.
     pub fn try_get_or_insert_with<F: FnOnce() -> Result<V, E>, E>(
         &mut self,
         key: K,
@@ -57,6 +66,10 @@ impl<K: Hash + Eq + Drop, V: Drop, S: BuildHasher, A: Allocator> Cache<K, V, S, 
     /// # Errors
     ///
     /// The error of `f`. The cache and its history are then as they were.
+    ///
+    /// # Cost
+    ///
+    /// That of [`try_get_or_insert_with`](Cache::try_get_or_insert_with).
     pub fn try_get_or_insert_with_mut<F: FnOnce() -> Result<V, E>, E>(
         &mut self,
         key: K,
@@ -73,14 +86,17 @@ impl<K: Hash + Eq + Drop, V: Drop, S: BuildHasher, A: Allocator> Cache<K, V, S, 
         Ok(self.value_mut(slot))
     }
 
-    /// Returns the slot of a key and the value there to write to, after inserting the key if it isn't
-    /// resident. A resident key is hit, as by [`get`](Cache::get).
+    /// Returns the slot of a key and the value there to write to, after inserting the key if it
+    /// isn't resident. A resident key is hit, as by [`get`](Cache::get).
     ///
     /// A slot that another key had keeps its value, to be written over, so a cache of buffers needs
     /// no new ones. `make` is called only if a slot is made. The key keeps its slot until it leaves
     /// the cache, and [`get_at`](Cache::get_at) finds it there without a hash.
     ///
-    /// Contracts count this call at the most that it may cost.
+    /// # Cost
+    ///
+    /// That of [`put`](Cache::put), and that of `make` if it is called. Contracts don't see what
+    /// the call spent: its counts of comparisons and of accesses to links are raised to the bounds.
     pub fn get_or_insert_mut<F: FnOnce() -> V>(&mut self, key: K, make: F) -> (usize, &mut V)
         requires { slice_get self.old.machine.values (slotted_at (slot_of (K.eq key) self.old.machine) (K.eq key) key self.old.machine) ≡ None → F.pre make }
         ensures* writes_back { sem 𝓛 (LendsTaken K.row V.row S.row A.row S.Hasher.row K.Hash S.BuildHasher S.Hasher.Hasher A.Allocator self.entry key result.1) }
@@ -95,8 +111,8 @@ impl<K: Hash + Eq + Drop, V: Drop, S: BuildHasher, A: Allocator> Cache<K, V, S, 
         (slot as usize, self.value_mut(slot))
     }
 
-    /// Two numbers for contracts alone. The proof of the call picks them, and they may depend on the
-    /// cache and the key.
+    /// Returns two numbers for contracts alone. The proof of the call picks them, and they may
+    /// depend on the cache and the key.
     fn most(&self, key: &K) -> Told<(usize, usize)>
         ghost picked: { ℕ × ℕ }
         ensures picked { result.value ≡ picked }
@@ -105,8 +121,8 @@ impl<K: Hash + Eq + Drop, V: Drop, S: BuildHasher, A: Allocator> Cache<K, V, S, 
         Told::new(&())
     }
 
-    /// Raises the counts of link accesses and of questions by as many as the proof of the call picks,
-    /// which may depend on `most`.
+    /// Raises the counts of link accesses and of questions by as many as the proof of the call
+    /// picks, which may depend on `most`.
     fn charge(&mut self, most: &Told<(usize, usize)>)
         ghost more: { ℕ × ℕ }
         ensures charged { self.new ≡ record self.old { counts = record self.old.counts { accesses = self.old.counts.accesses + more.0; questions = self.old.counts.questions + more.1 } } }
@@ -133,8 +149,8 @@ impl<K: Hash + Eq + Drop, V: Drop, S: BuildHasher, A: Allocator> Cache<K, V, S, 
         self.insert(hash, key, value)
     }
 
-    /// Returns the slot of a key, which is hit or else inserted. A slot that was made before keeps its
-    /// value; a new one gets what `make` returns.
+    /// Returns the slot of a key, which is hit or else inserted. A slot that was made before keeps
+    /// its value; a new one gets what `make` returns.
     fn find_or_reuse<F: FnOnce() -> V>(&mut self, hash: u64, key: K, make: F) -> u32
         requires hash { hash ≡ hash_of S.BuildHasher S.Hasher.Hasher self.old.hasher (K.hash_input key) }
         requires make { slice_get self.old.machine.values (slotted_at (slot_of (K.eq key) self.old.machine) (K.eq key) key self.old.machine) ≡ None → F.pre make }

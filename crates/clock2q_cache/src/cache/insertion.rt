@@ -254,13 +254,13 @@ impl<K: Hash + Eq + Drop, V: Drop, S: BuildHasher, A: Allocator> Cache<K, V, S, 
         ensures hasher { self.new.hasher ≡ self.old.hasher }
         ensures counts { Spends (inspections self.old.machine.main) (inspections self.old.machine.main + 28) 0 self.old.counts self.new.counts }
     {
-        let victim = self.queues.take_victim();
+        let slot = self.queues.take_victim();
         let Some(tail) = self.queues.take_tail() else {
             unreachable!()
         };
         self.queues.append(tail);
-        renew(&mut self.index, &mut self.keys, victim, hash, key, value);
-        self.queues.admit(victim);
-        victim
+        renew(&mut self.index, &mut self.keys, slot, hash, key, value);
+        self.queues.admit(slot);
+        slot
     }
 }

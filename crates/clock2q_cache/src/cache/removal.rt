@@ -15,13 +15,14 @@ impl<K: Hash + Eq, V, S: BuildHasher, A: Allocator> Cache<K, V, S, A> {
 
     /// Removes a key, and returns true if it was resident.
     ///
-    /// The slot of a resident is the next that a new key takes, and its value is dropped only then.
+    /// A resident's slot becomes the next free slot that is taken, and keeps its value until then.
     /// The history stays as it is: a resident is never in it. A key that isn't resident is removed
     /// from the history, so that it counts as new when it comes back.
     ///
     /// # Cost
     ///
-    /// One hash of the key, and at most eight accesses to links. The hand doesn't move.
+    /// One hash of the key, and at most one comparison with each candidate. At most eight accesses
+    /// to links, and no inspection by the hand.
     pub fn remove(&mut self, key: &K) -> bool
         ensures found { IsTrue result ↔ IsSome (slot_of (K.eq key.now) self.old.machine) }
         ensures machine { self.new.machine ≡ removed (K.eq key.now) self.old.machine }

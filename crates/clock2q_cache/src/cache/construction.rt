@@ -1,0 +1,131 @@
+//! A cache made: with the usual shares, or with shares of the caller's.
+use crate::cache::{Cache, DefaultHashBuilder, MAX_CAPACITY};
+use crate::error::CacheError;
+use crate::shares::Shares;
+use clock2q_handles::Table;
+use clock2q_queues::history::History;
+use clock2q_queues::keys::{Keys, index_room};
+use clock2q_queues::queues::Queues;
+use std::alloc::Allocator;
+use std::hash::{BuildHasher, BuildHasherDefault, Hash};
+use std::num::NonZeroUsize;
+
+impl<K: Hash + Eq + Drop, V: Drop, A: Allocator + Copy> Cache<K, V, DefaultHashBuilder, A> {
+    ghost use Rattle.std.specs.Prelude.{◌≡◌, ◌≢◌, ◌<◌, ◌↔◌, Err, IfOk, IsErrOf};
+    ghost use Rattle.std.specs.NonZero.{non_zero_usize_get};
+    ghost use Rattle.clock2q_cache.specs.Shares.{usual_shares};
+    ghost use Rattle.clock2q_cache.specs.CacheState.{uncounted};
+    ghost use Rattle.clock2q_cache.specs.Machine.{empty};
+
+    /// Makes an empty cache for `capacity` keys. Takes all the memory that the cache will ever use:
+    /// room for `capacity` keys with their values, and for half as many evicted keys.
+    ///
+    /// # Errors
+    ///
+    /// `Capacity` above [`MAX_CAPACITY`], before any memory is taken. `Memory` if a request for
+    /// memory is refused; what was taken before is given back.
+    ///
+    /// # Cost
+    ///
+    /// Time and memory in proportion to `capacity`, in at most eleven requests for memory.
+    pub fn new(alloc: A, capacity: NonZeroUsize) -> Result<Self, CacheError>
+        ensures made { IfOk result (λ cache. cache.machine ≡ empty (usual_shares (non_zero_usize_get capacity))) }
+        ensures counts { IfOk result (λ cache. cache.counts ≡ uncounted) }
+        ensures capacity { IsErrOf result CacheError.Capacity ↔ (MAX_CAPACITY < non_zero_usize_get capacity) }
+        ensures policy { result ≢ Err CacheError.Policy }
+    {
+        Cache::with_hasher(alloc, capacity, BuildHasherDefault::new())
+    }
+}
+
+impl<K: Hash + Eq + Drop, V: Drop, S: BuildHasher + Drop, A: Allocator + Copy> Cache<K, V, S, A> {
+    ghost use Rattle.std.specs.Prelude.{◌≡◌, ◌≢◌, ◌<◌, ◌≤◌, ◌↔◌, Err, IfOk, IsErrOf, IsOkUnless};
+    ghost use Rattle.std.specs.NonZero.{non_zero_usize_get};
+    ghost use Rattle.clock2q_cache.specs.Shares.{usual_shares};
+    ghost use Rattle.clock2q_cache.specs.Policies.{IsPolicy, shares_of};
+    ghost use Rattle.clock2q_cache.specs.CacheState.{uncounted};
+    ghost use Rattle.clock2q_cache.specs.Machine.{empty};
+
+    /// Makes an empty cache as [`new`](Cache::new) does, with a hasher of the caller's.
+    ///
+    /// # Errors
+    ///
+    /// Those of [`new`](Cache::new).
+    ///
+    /// # Cost
+    ///
+    /// That of [`new`](Cache::new).
+    pub fn with_hasher(alloc: A, capacity: NonZeroUsize, hasher: S) -> Result<Self, CacheError>
+        ensures made { IfOk result (λ cache. cache.machine ≡ empty (usual_shares (non_zero_usize_get capacity))) }
+        ensures hasher { IfOk result (λ cache. cache.hasher ≡ hasher) }
+        ensures counts { IfOk result (λ cache. cache.counts ≡ uncounted) }
+        ensures capacity { IsErrOf result CacheError.Capacity ↔ (MAX_CAPACITY < non_zero_usize_get capacity) }
+        ensures policy { result ≢ Err CacheError.Policy }
+    {
+        if capacity.get() > MAX_CAPACITY {
+            return Err(CacheError::Capacity);
+        }
+        Cache::with_shares(alloc, Shares::usual(capacity.get()), hasher)
+    }
+
+    /// Makes an empty cache in which Small has `small` slots and a key is young for `window`
+    /// admissions.
+    ///
+    /// # Errors
+    ///
+    /// `Capacity` above [`MAX_CAPACITY`]; else `Policy` if Small leaves Main no slot, or one of
+    /// `small` and `window` is 0 and the other isn't, or the window is longer than Small. Both come
+    /// before any memory is taken. `Memory` if a request for memory is refused.
+    ///
+    /// # Cost
+    ///
+    /// That of [`new`](Cache::new).
+    pub fn with_policy(
+        alloc: A,
+        capacity: NonZeroUsize,
+        small: usize,
+        window: usize,
+        hasher: S,
+    ) -> Result<Self, CacheError>
+        ensures made { IfOk result (λ cache. cache.machine ≡ empty (shares_of (non_zero_usize_get capacity) small window)) }
+        ensures hasher { IfOk result (λ cache. cache.hasher ≡ hasher) }
+        ensures counts { IfOk result (λ cache. cache.counts ≡ uncounted) }
+        ensures capacity { IsErrOf result CacheError.Capacity ↔ (MAX_CAPACITY < non_zero_usize_get capacity) }
+        ensures policy { IsErrOf result CacheError.Policy ↔ ((non_zero_usize_get capacity ≤ MAX_CAPACITY) × ¬ IsPolicy (shares_of (non_zero_usize_get capacity) small window)) }
+    {
+        if capacity.get() > MAX_CAPACITY {
+            return Err(CacheError::Capacity);
+        }
+        let Some(shares) = Shares::new(capacity.get(), small, window) else {
+            return Err(CacheError::Policy);
+        };
+        Cache::with_shares(alloc, shares, hasher)
+    }
+
+    /// Makes an empty cache with these shares.
+    fn with_shares(alloc: A, shares: Shares, hasher: S) -> Result<Self, CacheError>
+        requires { shares.capacity ≤ MAX_CAPACITY }
+        ensures made { IfOk result (λ cache. cache.machine ≡ empty shares) }
+        ensures hasher { IfOk result (λ cache. cache.hasher ≡ hasher) }
+        ensures counts { IfOk result (λ cache. cache.counts ≡ uncounted) }
+        ensures only { IsOkUnless result CacheError.Memory }
+    {
+        let slots = shares.capacity();
+        let queues = Queues::new(alloc, slots as u32, shares.window() as u32)?;
+        let history = History::new(alloc, shares.history())?;
+        let Ok(index) = Table::with_capacity(alloc, index_room(slots)) else {
+            return Err(CacheError::Memory);
+        };
+        let keys = Keys::new(alloc, slots)?;
+        let free = Vec::with_capacity(alloc, slots)?;
+        Ok(Cache {
+            shares,
+            queues,
+            history,
+            index,
+            keys,
+            free,
+            hasher,
+        })
+    }
+}
