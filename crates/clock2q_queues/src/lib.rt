@@ -2,7 +2,7 @@
 //!
 //! - [`Queues`](queues::Queues): the two queues of its residents, which know slot numbers and no
 //!   keys;
-//! - [`History`](history::History): the keys that left the first queue;
+//! - [`History`](history::History): the keys that were evicted from Small, the first queue;
 //! - [`Keys`](keys::Keys): keys with their hashes and values, by which residents and remembered
 //!   keys are found.
 //!

@@ -227,7 +227,7 @@ impl<A: Allocator> Links<A> {
         self.bits.set(slot, bit);
     }
 
-    /// Returns whether a slot's bit was set, and clears it: the hand's look at a slot.
+    /// Returns whether a slot's bit was set, and clears it: the hand's inspection of a slot.
     pub fn inspect(&mut self, slot: u32) -> bool
         requires { slot < length self.old.records.items }
         ensures value { result ≡ bit_at self.old slot }

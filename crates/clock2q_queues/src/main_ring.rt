@@ -8,8 +8,8 @@ ghost use Rattle.clock2q_queues.specs.Links.{LinkState, IsSameBut, standing_at};
 use crate::links::{Links, Mark, Record};
 use std::alloc::Allocator;
 
-/// A ring of slots. The hand stands at the next one that it will look at, and a new one stands
-/// just before the hand.
+/// A ring of slots. The hand stands at the next one that it will inspect, and a new one stands just
+/// before the hand.
 #[derive(Drop)]
 pub struct MainRing {
     hand: Option<u32>,

@@ -1,4 +1,4 @@
-//! The history of the keys that left Small, which the literature calls Ghost.
+//! The history of the keys that Small evicted, which the literature calls Ghost.
 ghost use Rattle.std.specs.Prelude.{◌≡◌, ℕ, ◌+◌, ◌^◌, ◌<◌, ◌≤◌, false, [], ◌∷◌, map, take, length, IfOk};
 ghost use Rattle.clock2q_handles.specs.Homes.{candidates};
 ghost use Rattle.clock2q_handles.specs.TableStep.{made_for};

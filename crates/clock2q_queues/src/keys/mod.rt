@@ -143,8 +143,8 @@ impl<K, V, A: Allocator> Keys<K, V, A> {
         self.cells.replace(place, hash, key)
     }
 
-    /// Writes a key and a value to a place: to the next one, or over the key and value of one that has
-    /// them. The old ones are dropped.
+    /// Writes a key and a value to a place: to the next one, or over the key and value of one that
+    /// has them. The old ones are dropped.
     pub fn write(&mut self, place: u32, hash: u64, key: K, value: V)
     where
         K: Drop,
@@ -190,8 +190,8 @@ impl<K, V, A: Allocator> Keys<K, V, A> {
 impl<K: Eq, V, A: Allocator> Keys<K, V, A> {
     ghost use Rattle.clock2q_queues.specs.Keys.{is_key_at, questions_of};
 
-    /// Raises the count of questions by as many as the proof of the call picks. A caller that has to
-    /// say the count exactly brings it to its bound with this.
+    /// Raises the count of questions by as many as the proof of the call picks. A caller that has
+    /// to say the count exactly brings it to its bound with this.
     pub fn charge(&mut self)
         ghost more: { ℕ }
         ensures charged { self.new ≡ record self.old { questions = self.old.questions + more } }

@@ -1,5 +1,5 @@
 //! The vectors that the links stand on. Only these accessors reach what the vectors hold, and each
-//! read or write of a cell, and each look of the hand at a bit, raises a count.
+//! read or write of a cell, and each inspection of a bit by the hand, raises a count.
 ghost use Rattle.std.specs.Prelude.{◌≡◌, ℕ, ◌+◌, ◌<◌, ◌&&◌, false, length, replicate, slice_index_or};
 ghost use Rattle.clock2q_queues.specs.Cells.{counted, accessed, written};
 
@@ -82,7 +82,7 @@ impl<T: Copy, A: Allocator> Cells<T, A> {
     }
 }
 
-/// The hit bits by slot, with the number of times that the hand looked at one.
+/// The hit bits by slot, with the number of inspections that the hand made.
 #[derive(Drop)]
 pub struct Bits<A: Allocator = Global> {
     bits: Vec<bool, A>,
@@ -101,7 +101,7 @@ impl<A: Allocator> Bits<A> {
     ghost use Rattle.clock2q_queues.specs.Cells.{hit_bits, bit_in, inspected, with_bit};
     ghost use Rattle.clock2q_queues.specs.Links.{vacant, is_old};
 
-    /// Returns bits at which the hand did not look yet.
+    /// Returns bits of which the hand has inspected none yet.
     pub fn new(bits: Vec<bool, A>) -> Self
         ensures { result ≡ hit_bits bits.items 0 }
     {
@@ -119,7 +119,7 @@ impl<A: Allocator> Bits<A> {
         self.bits[slot as usize] = bit;
     }
 
-    /// Returns whether a slot's bit was set, and clears it: the hand's look at a slot.
+    /// Returns whether a slot's bit was set, and clears it: the hand's inspection of a slot.
     pub fn inspect(&mut self, slot: u32) -> bool
         requires { slot < length self.old.items }
         ensures value { result ≡ bit_in self.old.items slot }

@@ -130,7 +130,7 @@ fn fill_main(queues: &mut Queues)
     }
 }
 
-// All 18 bits are set: the hand passes them all, and at its 19th look finds the first one clear.
+// All 18 bits are set: the hand passes them all, and its 19th inspection finds the first one clear.
 fn go_round(queues: &mut Queues) -> u32
     requires slots { queues.old.slots ≡ 20 }
     requires small { queues.old.small ≡ [] }
@@ -172,7 +172,7 @@ fn the_hand_comes_round(rt: HostRuntime) -> Result<(), Fail> {
     Ok(())
 }
 
-// One slot in Main whose bit is set: two looks, and it is given up.
+// One slot in Main whose bit is set: two inspections, and it is given up.
 fn look_twice(queues: &mut Queues) -> u32
     requires slots { queues.old.slots ≡ 1 }
     requires small { queues.old.small ≡ [] }
