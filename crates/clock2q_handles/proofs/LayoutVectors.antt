@@ -1,8 +1,15 @@
--- Tables whose slots are known from outside, computed.
-use Rattle.std.proofs.Common.{◌≡◌, ℕ, zero, suc, ◌*◌, ◌+◌, ◌%◌, eqb, List, [], ◌∷◌, ◌++◌, refl, Option, Some, None, replicate, map, option_map}
-use Rattle.clock2q_handles.specs.Homes.{no_entries, with_handle, removed, candidates}
+-- Tables whose slots are known from outside, and groups of hashes, computed.
+use Rattle.std.proofs.Common.{◌≡◌, ℕ, zero, suc, ◌+◌, ◌-◌, ◌*◌, ◌/◌, ◌%◌, ◌^◌, true, false, eqb, List, [], ◌∷◌, ◌++◌, length, get_or, lit<, refl, subst, Option, Some, None, replicate, map, option_map}
+use Rattle.std.specs.Prelude.{Ok, bit_and}
+use Rattle.std.specs.List.{list_any}
+use Rattle.clock2q_handles.specs.Homes.{capacity, total, no_entries, listed, with_handle, is_entry_of, removed, candidates}
 use Rattle.clock2q_handles.specs.Layout.{Placed, placed, layout, spill, walk, homes_of}
-use Rattle.clock2q_handles.specs.TableStep.{rebuilt, fit}
+use Rattle.clock2q_handles.specs.Offers.{Settles}
+use Rattle.clock2q_handles.specs.Partition.{IsGroupOf}
+use Rattle.clock2q_handles.specs.Rehash.{held_handles}
+use Rattle.clock2q_handles.specs.TableStep.{rebuilt, fit, grown, made_for, reserved}
+use Rattle.clock2q_handles.proofs.Groups.{exponent_same}
+use Rattle.clock2q_handles.proofs.Promises.{few_fit}
 
 -- a table of numbers, each with its hash
 abbrev Numbers : Type 0
@@ -27,7 +34,7 @@ four-layout : layout four ≡ vacant 5 ++ (at 0xAB 0 0 ∷ at 0xAB 1 1 ∷ at 0x
 unfolding layout spill
 four-layout = refl
 
-four-candidates : candidates four 0xAB00000000000005 ≡ 0 ∷ 1 ∷ []
+four-candidates : map (candidates four) (0xAB00000000000005 ∷ 0xAB00000000000006 ∷ 0xCD00000000000005 ∷ []) ≡ (0 ∷ 1 ∷ []) ∷ (2 ∷ []) ∷ (3 ∷ []) ∷ []
 four-candidates = refl
 
 four-walks : walk four 0xAB00000000000005 ∷ walk four 6 ∷ [] ≡ 4 ∷ 4 ∷ []
@@ -37,6 +44,24 @@ four-walks = refl
 four-read : homes_of (layout four) ≡ four
 unfolding layout spill homes_of
 four-read = refl
+
+-- the first one out, under the second hash
+abbrev four_less : Numbers
+four_less = removed eqb four 0xAB00010000000005 0
+
+four_less-found : list_any (is_entry_of eqb 0xAB00010000000005 0) (listed four 0xAB00010000000005) ≡ true
+four_less-found = refl
+
+four_less-layout : layout four_less ≡ vacant 5 ++ (at 0xAB 1 0 ∷ at 0xCD 3 1 ∷ at 0xAB 2 1 ∷ []) ++ vacant 8
+unfolding layout spill
+four_less-layout = refl
+
+four_less-candidates : map (candidates four_less) (0xAB00000000000005 ∷ 0xAB00000000000006 ∷ 0xCD00000000000005 ∷ []) ≡ (1 ∷ []) ∷ (2 ∷ []) ∷ (3 ∷ []) ∷ []
+four_less-candidates = refl
+
+four_less-walks : walk four_less 0xAB00000000000005 ∷ walk four_less 0xAB00000000000006 ∷ [] ≡ 3 ∷ 3 ∷ []
+unfolding spill
+four_less-walks = refl
 
 -- and one more under the first hash
 abbrev five : Numbers
@@ -99,9 +124,33 @@ full-layout : layout full ≡ wrapped 11 ++ vacant 4 ++ at 0xAB 0 0 ∷ []
 unfolding layout spill
 full-layout = refl
 
-full-walk : walk full 15 ≡ 13
+full-walks : map (walk full) (15 ∷ 0 ∷ 10 ∷ 11 ∷ []) ≡ 13 ∷ 12 ∷ 2 ∷ 1 ∷ []
 unfolding spill
-full-walk = refl
+full-walks = refl
+
+-- one out under the other hash, and another in, for which the table doesn't grow
+abbrev full_less : Numbers
+full_less = removed eqb full 0xAB0000000000001F 5
+
+full_less-candidates : candidates full_less 0xAB0000000000000F ≡ 0 ∷ 1 ∷ 2 ∷ 3 ∷ 4 ∷ 6 ∷ 7 ∷ 8 ∷ 9 ∷ 10 ∷ 11 ∷ []
+full_less-candidates = refl
+
+full_less-walk : walk full_less 15 ≡ 12
+unfolding spill
+full_less-walk = refl
+
+abbrev full_again : Numbers
+full_again = with_handle (grown hash_of full_less) 0xAB0000000000000F 12
+
+full_again-candidates : candidates full_again 0xAB0000000000000F ≡ 0 ∷ 1 ∷ 2 ∷ 3 ∷ 4 ∷ 6 ∷ 7 ∷ 8 ∷ 9 ∷ 10 ∷ 11 ∷ 12 ∷ []
+full_again-candidates = refl
+
+full_again-walk : walk full_again 15 ≡ 13
+unfolding spill
+full_again-walk = refl
+
+full_again-capacity : capacity (length full_again) ≡ 12
+full_again-capacity = refl
 
 -- the same in 32 slots: the wrapped part comes first
 abbrev wide : Numbers
@@ -146,6 +195,25 @@ round_less-walks : walk round_less 14 ∷ walk round_less 15 ∷ walk round_less
 unfolding spill
 round_less-walks = refl
 
+-- room for twenty more: the handles are asked for their hashes by slot, and stand in 64 slots
+abbrev round_hash : ℕ → ℕ
+round_hash v = get_or (14 ∷ 14 ∷ 15 ∷ 0 ∷ 0 ∷ []) v 0
+
+round-asked : held_handles round ≡ 2 ∷ 3 ∷ 4 ∷ 0 ∷ 1 ∷ []
+unfolding layout spill
+round-asked = refl
+
+abbrev roomy : Numbers
+roomy = reserved round_hash round 20
+
+roomy-slots : (length roomy ≡ 64) × (capacity (length roomy) ≡ 48)
+unfolding layout spill fit
+roomy-slots = (refl, refl)
+
+roomy-candidates : map (candidates roomy) (14 ∷ 15 ∷ 0 ∷ []) ≡ (0 ∷ 1 ∷ []) ∷ (2 ∷ []) ∷ (3 ∷ 4 ∷ []) ∷ []
+unfolding layout spill fit
+roomy-candidates = refl
+
 -- the same homes in another order of insertion have the same slots and displacements
 round-order : map (option_map (λ s. s.displacement)) (layout (put_each (no_entries 16) (0 ∷ 15 ∷ 14 ∷ 0 ∷ 14 ∷ []) 0)) ≡ map (option_map (λ s. s.displacement)) (layout round)
 unfolding layout spill
@@ -155,3 +223,32 @@ round-order = refl
 fits : map fit (1 ∷ 12 ∷ 13 ∷ 384 ∷ 385 ∷ []) ≡ 16 ∷ 16 ∷ 32 ∷ 512 ∷ 1024 ∷ []
 unfolding fit
 fits = refl
+
+-- a table without slots, which grows before a handle is looked for
+made_for_none : grown hash_of (made_for 0) ≡ no_entries 16
+unfolding layout
+made_for_none = refl
+
+-- handle 0 is put in under the hash 5 and then found, handle 1 is put in after it was passed over, and handle 2 is put in under the hash 9
+abbrev one_held : Numbers
+one_held = with_handle (no_entries 16) 5 0
+
+abbrev two_held : Numbers
+two_held = with_handle one_held 5 1
+
+abbrev three_held : Numbers
+three_held = with_handle two_held 9 2
+
+held-candidates : (candidates one_held 5 ≡ 0 ∷ []) × (map (candidates two_held) (5 ∷ 9 ∷ []) ≡ (0 ∷ 1 ∷ []) ∷ [] ∷ []) × (map (candidates three_held) (5 ∷ 9 ∷ []) ≡ (0 ∷ 1 ∷ []) ∷ (2 ∷ []) ∷ []) × (total three_held ≡ 3)
+held-candidates = (refl, refl, refl, refl)
+
+held-replies : Settles (no_entries 16) 5 0 None (Ok (0, true)) one_held × Settles one_held 5 7 (Some 0) (Ok (0, false)) one_held × Settles one_held 5 1 None (Ok (1, true)) two_held × Settles two_held 9 2 None (Ok (2, true)) three_held
+held-replies = ((refl, refl, few_fit (no_entries 16) 5 0 (lit< tt) (lit< tt)), (refl, refl), (refl, refl, few_fit one_held 5 1 (lit< tt) (lit< tt)), (refl, refl, few_fit two_held 9 2 (lit< tt) (lit< tt)))
+
+-- the groups of hashes
+groups : IsGroupOf 0xAB000000000000 256 171 × IsGroupOf 0xFFFFFFFFFFFFFFFF 1 0 × IsGroupOf 0xFFFFFFFFFFFFFFFF 65536 65535
+groups = (
+  λ k e. subst (λ j. 171 ≡ bit_and (0xAB000000000000 / 2 ^ (56 - j)) 255) (exponent_same 8 k e) refl,
+  λ k e. subst (λ j. 0 ≡ bit_and (0xFFFFFFFFFFFFFFFF / 2 ^ (56 - j)) 0) (exponent_same 0 k e) refl,
+  λ k e. subst (λ j. 65535 ≡ bit_and (0xFFFFFFFFFFFFFFFF / 2 ^ (56 - j)) 65535) (exponent_same 16 k e) refl,
+)

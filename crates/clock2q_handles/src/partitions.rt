@@ -8,6 +8,10 @@ ghost use Rattle.std.specs.Prelude.{◌≡◌, ◌<◌, ℕ};
 /// none of them, so keys that are split among tables by group stay spread over every home and
 /// fingerprint of their own table.
 ///
+/// # Cost
+///
+/// The same few operations on numbers whatever the hash and the count.
+///
 /// # Example
 ///
 /// ```

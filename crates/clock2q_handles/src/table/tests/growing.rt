@@ -1,6 +1,7 @@
 //! Tables that grow, and tables of few hashes.
 use crate::error::TableError;
 use crate::table::tests::hashed::{Handle, Hashed, Seen};
+use crate::table::tests::plain::Standing;
 use crate::table::tests::{A, B, slots_read};
 use std::alloc::Global;
 use std::test::Fail;
@@ -48,12 +49,16 @@ fn one_hash(rt: HostRuntime) -> Result<(), Fail> {
     Ok(())
 }
 
+/// The hash of a handle: `A` of an even one, `B` of an odd one.
+fn hash_of(number: u64) -> u64 {
+    if number % 2 == 0 { A } else { B }
+}
+
 /// Twelve handles of two hashes in sixteen slots, which grow before another is put in.
 fn alternating(alloc: Global, asked: &Seen) -> Result<Hashed, TableError> {
     let mut tested = Hashed::with_capacity(alloc, 12)?;
     for number in 0..12 {
-        let hash = if number % 2 == 0 { A } else { B };
-        tested.insert(hash, number, asked)?;
+        tested.insert(hash_of(number), number, asked)?;
     }
     Ok(tested)
 }
@@ -69,6 +74,49 @@ fn two_hashes(rt: HostRuntime) -> Result<(), Fail> {
     tested.yields(&rt, A, &[2, 4, 6, 8, 10, 0]);
     assert_eq!(rt; slots_read(&tested.table, 15), 7);
     tested.yields(&rt, B, &[1, 3, 5, 7, 9, 11]);
+    Ok(())
+}
+
+/// The 32 slots of a table with just these handles: slot, number and displacement of each.
+fn layout_of(cells: &[(usize, u64, usize)]) -> [Option<Standing>; 32] {
+    let mut layout = [None; 32];
+    for (slot, number, displacement) in cells {
+        if let Some(place) = layout.get_mut(*slot) {
+            let handle = Handle {
+                hash: hash_of(*number),
+                number: *number,
+            };
+            *place = Some(Standing {
+                displacement: *displacement,
+                handle,
+            });
+        }
+    }
+    layout
+}
+
+// The slots of the even handles follow home 15, those of the odd ones home 31. The part of the old
+// run that had wrapped comes first at each home.
+#[test]
+fn two_hashes_apart(rt: HostRuntime) -> Result<(), Fail> {
+    let asked = Seen::new();
+    let mut tested = alternating(rt.alloc(), &asked)?;
+    tested.reserve(&rt, 1, &asked)?;
+    let layout = layout_of(&[
+        (15, 2, 0),
+        (16, 4, 1),
+        (17, 6, 2),
+        (18, 8, 3),
+        (19, 10, 4),
+        (20, 0, 5),
+        (31, 1, 0),
+        (0, 3, 1),
+        (1, 5, 2),
+        (2, 7, 3),
+        (3, 9, 4),
+        (4, 11, 5),
+    ]);
+    tested.stands(&rt, &layout, "apart");
     Ok(())
 }
 
