@@ -131,6 +131,11 @@ bad_shares : map script_of (codes "new 2 1" ∷ codes "new 0 0 0" ∷ codes "new
 unfolding script_of lines_of words_of number_of shares_in
 bad_shares = refl
 
+-- a bad line after a capacity that is too large, and after shares that can't be had
+bad_after_refused : map script_of (codes "new 16777216\nbogus\n" ∷ codes "new 2 2 1\nbogus\n" ∷ []) ≡ replicate 2 (Err 2)
+unfolding script_of lines_of words_of number_of call_in shares_in
+bad_after_refused = refl
+
 -- a line of each new command in a script
 every_command : script_of (codes "new 2\nget_at 1 2\nset 3 4\nwith 5 6\ntry 7 8\ntry 9 fail\nslot 10 11\nremove 12\nretain 01\nclear\nprefill 13 14") ≡ Ok (record { shares = usual_shares 2; calls = GetAt 1 2 ∷ Set 3 4 ∷ With 5 6 ∷ Try 7 (Some 8) ∷ Try 9 None ∷ SlotFor 10 11 ∷ Remove 12 ∷ Retain (false ∷ true ∷ []) ∷ Clear ∷ Prefill (13 ∷ 14 ∷ []) ∷ [] })
 unfolding script_of lines_of words_of number_of call_in shares_in

@@ -40,8 +40,8 @@ pub enum Command<K, V, A: Allocator = Global> {
     /// Does the same with a value that may be missing, as after an error. Without a value no key is
     /// inserted. The reply is `Tried`.
     Try(K, Option<V>),
-    /// Asks for a key's slot and the value there, after the key was inserted if it wasn't resident. A
-    /// new slot gets this value; another keeps its own. The reply is a `Slot`.
+    /// Asks for a key's slot and the value there, after the key was inserted if it wasn't resident.
+    /// A new slot gets this value; another keeps its own. The reply is a `Slot`.
     Slot(K, V),
     /// Removes a resident key, or else the key from the history. The reply is a `Flag`: whether it
     /// was resident.
@@ -213,8 +213,8 @@ where
     }
 }
 
-/// Returns the slot of a key and the value there, after the key was inserted if it wasn't resident. A
-/// new slot gets this value.
+/// Returns the slot of a key and the value there, after the key was inserted if it wasn't resident.
+/// A new slot gets this value.
 fn take_slot<K, V, S, A>(cache: &mut Cache<K, V, S, A>, key: K, value: V) -> (usize, V)
 where
     K: Hash + Eq + Drop,

@@ -9,11 +9,28 @@ use std::marker::Model;
 use thiserror::Error;
 
 /// The failure of a source or a sink. What was moved before it stays moved.
+///
+/// # Example
+///
+/// ```
+/// if sink.flush() == Err(Failed) {
+///     println!(rt; "not all was sent on")?;
+/// }
+/// ```
 #[derive(Debug, Clone, Copy, PartialEq, Eq, Error)]
 #[error("device failed")]
 pub struct Failed;
 
 /// A place that bytes come from, as a file that is read. A [`Device`] is one.
+///
+/// # Example
+///
+/// ```
+/// let mut source = Device::new(b"len\n".as_slice());
+/// let mut into = [0; 16];
+/// assert_eq!(rt; source.read(&mut into), Ok(4));
+/// assert_eq!(rt; source.read(&mut into), Ok(0));
+/// ```
 pub trait Source {
     // The bytes that are still to come, where they are known.
     ghost remaining: { Self → Option (List ℕ) };
@@ -35,6 +52,15 @@ pub trait Source {
 }
 
 /// A place that bytes go to, as a file that is written. A [`Device`] is one.
+///
+/// # Example
+///
+/// ```
+/// let mut sink = Device::new(Vec::new(rt.alloc()));
+/// assert_eq!(rt; sink.write(b"ok\n"), Ok(3));
+/// assert_eq!(rt; sink.flush(), Ok(()));
+/// assert_eq!(rt; sink.into_inner().as_slice(), b"ok\n".as_slice());
+/// ```
 pub trait Sink {
     // The bytes that it holds, where they are known.
     ghost contents: { Self → Option (List ℕ) };

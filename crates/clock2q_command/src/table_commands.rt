@@ -53,8 +53,13 @@ pub enum TableReply<H, L = Vec<H>> {
 /// # Errors
 ///
 /// `Memory` where the list of replies can't be reserved. That is done first: no command has run,
-/// and the table is unchanged. Where there is no memory for the list of a look-up, that command
+/// and the table is unchanged. Where there is no memory for the list of a lookup, that command
 /// alone is refused.
+///
+/// # Cost
+///
+/// One request for memory, for the list of replies, and the cost of each call. A `Get` also makes
+/// the list of its handles, and a `Find` compares each candidate with the handles of its list.
 pub fn run_table<H, A, F>(
     alloc: A,
     table: &mut Table<H, A>,
