@@ -1,4 +1,4 @@
-//! Keys that count how often they are compared: a look-up asks those alone that hash alike.
+//! Keys that count how often they are compared: a lookup asks those alone that hash alike.
 ghost use Rattle.std.specs.Cmp.Rules.{comparing, hashing};
 ghost use Rattle.std.specs.Hash as fed;
 ghost use Rattle.std.specs.Ordering.{on};
@@ -55,7 +55,7 @@ fn fill<'a>(cache: &mut Asking<'a>, asked: &'a Cell<u64>, first: u64, end: u64) 
     asked.set(0);
 }
 
-/// A look at the key asks so many.
+/// A lookup of the key asks so many.
 fn peeks<'a>(rt: &impl Abort, cache: &Asking<'a>, asked: &'a Cell<u64>, id: u64, count: u64) {
     let before = asked.get();
     let found = cache.peek(&Asked { id, asked }).copied();

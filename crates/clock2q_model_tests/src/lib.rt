@@ -19,6 +19,8 @@ mod model;
 #[cfg(test)]
 mod seeded;
 #[cfg(test)]
+mod states;
+#[cfg(test)]
 mod steps;
 #[cfg(test)]
 mod tagged;

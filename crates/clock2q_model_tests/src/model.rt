@@ -1,5 +1,5 @@
 //! A cache as plain lists: who is in Small, in Main and remembered, which slots are free, and the
-//! value of each slot. Every look-up reads the lists from their first entry on.
+//! value of each slot. Every lookup reads the lists from their first entry on.
 
 use crate::steps::{Reply, Step, is_kept, made_value};
 use std::alloc::{AllocError, Global};

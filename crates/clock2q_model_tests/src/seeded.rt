@@ -9,7 +9,11 @@ use std::alloc::Global;
 use std::process::Abort;
 use std::test::Fail;
 
-const STEPS: u64 = 1_000;
+/// How often a list is looked at closely.
+const LOOKS: u64 = 10;
+
+/// How many steps more it has each time.
+const STEPS: u64 = 100;
 
 const CAPACITIES: u64 = 60;
 
@@ -54,9 +58,10 @@ fn made(alloc: Global, kind: Kind, policy: Policy) -> Result<Usual, Fail> {
     }
 }
 
-/// Makes the steps of a list, and compares after each.
-fn drive(rt: &impl Abort, tested: &mut Usual, list: u64, draws: &mut Draws) -> Result<(), Fail> {
-    for number in 0..STEPS {
+/// Makes the first steps of a list, and compares after each.
+fn drive(rt: &impl Abort, tested: &mut Usual, end: Place, draws: &mut Draws) -> Result<(), Fail> {
+    let list = end.list;
+    for number in 0..end.number {
         let step = Step::drawn(draws, &tested.model, number);
         let place = Place { list, number };
         tested.step(rt, step, place)?;
@@ -67,21 +72,30 @@ fn drive(rt: &impl Abort, tested: &mut Usual, list: u64, draws: &mut Draws) -> R
 }
 
 /// Looks at what only calls show that change it: the slots, and who is remembered.
-fn look_closely(rt: &impl Abort, tested: &mut Usual, list: u64) -> Result<(), Fail> {
-    let place = Place {
-        list,
-        number: STEPS,
-    };
-    tested.slots_are_same(rt, place)?;
-    tested.take_apart(rt, place)
+fn look_closely(rt: &impl Abort, tested: &mut Usual, end: Place) -> Result<(), Fail> {
+    tested.slots_are_same(rt, end)?;
+    tested.take_apart(rt, end)
 }
 
-fn list_is_same(rt: &impl Abort, alloc: Global, kind: Kind, list: u64) -> Result<(), Fail> {
-    let mut draws = Draws::new(list);
-    let policy = policy_of(&mut draws, kind, list as usize);
+/// Begins a list anew and looks closely where it comes to.
+fn beginning_is_same(rt: &impl Abort, alloc: Global, kind: Kind, end: Place) -> Result<(), Fail> {
+    let mut draws = Draws::new(end.list);
+    let policy = policy_of(&mut draws, kind, end.list as usize);
     let mut tested = made(alloc, kind, policy)?;
-    drive(rt, &mut tested, list, &mut draws)?;
-    look_closely(rt, &mut tested, list)
+    drive(rt, &mut tested, end, &mut draws)?;
+    look_closely(rt, &mut tested, end)
+}
+
+/// A close look ends a run, so each has a run of its own.
+fn list_is_same(rt: &impl Abort, alloc: Global, kind: Kind, list: u64) -> Result<(), Fail> {
+    for look in 1..=LOOKS {
+        let end = Place {
+            list,
+            number: look * STEPS,
+        };
+        beginning_is_same(rt, alloc, kind, end)?;
+    }
+    Ok(())
 }
 
 /// A list for each capacity.

@@ -49,21 +49,21 @@ fn put(rt: &impl Abort, cache: &mut Tags, id: u64, tag: char, value: u64, before
     assert_eq!(rt; cache.put(Tagged { id, tag }, value), before, "{id} {tag}");
 }
 
-/// The residents have just these tags, by ascending slot.
-fn stay(rt: &impl Abort, cache: &mut Tags, tags: &[char]) {
-    let mut left = tags;
+/// The residents have just these ids and tags, by ascending slot.
+fn stay(rt: &impl Abort, cache: &mut Tags, keys: &[(u64, char)]) {
+    let mut left = keys;
     let mut same = true;
     cache.retain(|key, _| {
         match left.split_first() {
-            Some((tag, others)) => {
-                same = same && *tag == key.tag;
+            Some((wanted, others)) => {
+                same = same && wanted.0 == key.id && wanted.1 == key.tag;
                 left = others;
             }
             None => same = false,
         }
         true
     });
-    assert!(rt; same && left.is_empty(), "{tags:?}");
+    assert!(rt; same && left.is_empty(), "{keys:?}");
 }
 
 #[test]
@@ -72,11 +72,11 @@ fn a_stored_key_stays(rt: HostRuntime) -> Result<(), Fail> {
     let mut cache = Cache::new(rt.alloc(), capacity)?;
     put(&rt, &mut cache, 1, 'a', 10, None);
     put(&rt, &mut cache, 1, 'b', 11, Some(10));
-    stay(&rt, &mut cache, &['a']);
+    stay(&rt, &mut cache, &[(1, 'a')]);
     let gone = Tagged { id: 1, tag: 'c' };
     assert!(rt; cache.remove(&gone));
     put(&rt, &mut cache, 1, 'd', 12, None);
-    stay(&rt, &mut cache, &['d']);
+    stay(&rt, &mut cache, &[(1, 'd')]);
     Ok(())
 }
 
@@ -88,6 +88,6 @@ fn a_key_that_returns_is_stored_anew(rt: HostRuntime) -> Result<(), Fail> {
         put(&rt, &mut cache, id, 'a', id, None);
     }
     put(&rt, &mut cache, 1, 'b', 4, None);
-    stay(&rt, &mut cache, &['a', 'b']);
+    stay(&rt, &mut cache, &[(3, 'a'), (1, 'b')]);
     Ok(())
 }

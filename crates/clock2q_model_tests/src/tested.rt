@@ -63,12 +63,17 @@ impl<S: BuildHasher + Drop> Tested<S> {
         Ok(reply)
     }
 
+    /// The cache shows this text of itself.
+    pub(crate) fn shows(&self, rt: &impl Abort, wanted: &str, place: Place) -> Result<(), Fail> {
+        let shown = self.called.text(self.alloc)?;
+        assert_eq!(rt; shown.as_str(), wanted, "{place:?}");
+        Ok(())
+    }
+
     /// The cache shows the same numbers of keys.
     pub(crate) fn sizes_are_same(&self, rt: &impl Abort, place: Place) -> Result<(), Fail> {
-        let shown = self.called.text(self.alloc)?;
         let wanted = self.model.text()?;
-        assert_eq!(rt; shown.as_str(), wanted.as_str(), "{place:?}");
-        Ok(())
+        self.shows(rt, wanted.as_str(), place)
     }
 
     /// The cache holds the same keys with the same values, slot by slot.
