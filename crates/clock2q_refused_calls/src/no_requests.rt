@@ -130,7 +130,7 @@ fn closures(rt: HostRuntime) -> Result<(), Fail> {
     Ok(())
 }
 
-// Gets a value of a function by both look-ups, the one that records a hit last.
+// Gets a value of a function by both lookups, the one that records a hit last.
 fn recall_twice<A: Allocator, F: Fn(&u64) -> u64>(
     memo: &mut Memo<u64, u64, F, DefaultHashBuilder, A>,
     key: u64,

@@ -41,7 +41,7 @@ fn is_found<A: Allocator>(reply: &TableReply<u64, Vec<u64, A>>) -> Option<bool> 
     }
 }
 
-// Whether room was made and the handle found, of an insertion, a growth, a look-up and a removal.
+// Whether room was made and the handle found, of an insertion, a growth, a lookup and a removal.
 // `None` where a reply is none that it should be.
 fn replied<A: Allocator>(replies: &[TableReply<u64, Vec<u64, A>>]) -> Option<(bool, bool)> {
     let [inserted, reserved, got, removed] = replies else {
@@ -58,7 +58,7 @@ fn replied<A: Allocator>(replies: &[TableReply<u64, Vec<u64, A>>]) -> Option<(bo
 }
 
 // The requests are: the table's two vectors, the list of replies, the two vectors of the larger
-// table, and the list of a look-up.
+// table, and the list of a lookup.
 fn run_all(alloc: &Refusing<Global>) -> Result<Option<(bool, bool)>, TableError> {
     let commands: [TableCommand<u64, Vec<u64, &Refusing<Global>>>; 4] = [
         TableCommand::Insert(0),
@@ -95,7 +95,7 @@ fn all_later_refused(rt: HostRuntime) {
     }
 }
 
-// Where a request alone is refused, the run goes on with what it has. The list of a look-up is
+// Where a request alone is refused, the run goes on with what it has. The list of a lookup is
 // asked for again, with less room.
 #[test]
 fn one_refused(rt: HostRuntime) {
@@ -112,6 +112,125 @@ fn one_refused(rt: HostRuntime) {
     for (granted, wanted) in [(3, (false, true)), (4, (false, true)), (5, (true, true))] {
         alloc.refuse_one_after(granted);
         assert_eq!(rt; run_all(&alloc), Ok(Some(wanted)), "{granted} granted");
+        assert_eq!(rt; alloc.held(), 0, "{granted} granted");
+    }
+}
+
+// What a reply tells of a run in which 1 is the only handle that is looked up.
+#[derive(Clone, Copy, Debug, PartialEq)]
+enum Told {
+    Inserted,
+    // The handle 1 was inserted, since none was found.
+    New,
+    // The handle 1 was looked up.
+    Held,
+    // Nothing was.
+    Absent,
+    Refused,
+    Other,
+}
+
+fn told_by<A: Allocator>(reply: &TableReply<u64, Vec<u64, A>>) -> Told {
+    match reply {
+        TableReply::Done => Told::Inserted,
+        TableReply::Found(1, true) => Told::New,
+        TableReply::Handles(handles) if handles.as_slice() == [1].as_slice() => Told::Held,
+        TableReply::Handles(handles) if handles.is_empty() => Told::Absent,
+        TableReply::Refused(TableError::Memory) => Told::Refused,
+        _ => Told::Other,
+    }
+}
+
+// What three replies tell.
+fn told_of_three<A: Allocator>(replies: &[TableReply<u64, Vec<u64, A>>]) -> [Told; 3] {
+    match replies {
+        [first, second, third] => [told_by(first), told_by(second), told_by(third)],
+        _ => [Told::Other; 3],
+    }
+}
+
+// A table made for no entries has no slots, and is full. So the first insertion asks for the two
+// vectors of its slots, after the list of replies was asked for. Where it is refused, the table is
+// full still, and the next one asks. The list of a lookup comes last; it isn't asked for where
+// there is nothing to look up.
+fn insert_then_find(alloc: &Refusing<Global>) -> Result<[Told; 3], TableError> {
+    let commands: [TableCommand<u64, Vec<u64, &Refusing<Global>>>; 3] = [
+        TableCommand::Insert(0),
+        TableCommand::Find(1, Vec::new(alloc)),
+        TableCommand::Get(1),
+    ];
+    let replies = replies_of(alloc, 0, &commands)?;
+    Ok(told_of_three(&replies))
+}
+
+fn find_then_insert(alloc: &Refusing<Global>) -> Result<[Told; 3], TableError> {
+    let commands: [TableCommand<u64, Vec<u64, &Refusing<Global>>>; 3] = [
+        TableCommand::Find(1, Vec::new(alloc)),
+        TableCommand::Insert(0),
+        TableCommand::Get(1),
+    ];
+    let replies = replies_of(alloc, 0, &commands)?;
+    Ok(told_of_three(&replies))
+}
+
+#[test]
+fn insertion_and_all_later_refused(rt: HostRuntime) {
+    let alloc = Refusing::new(rt.alloc());
+    for (granted, wanted) in [
+        (0, Err(TableError::Memory)),
+        (1, Ok([Told::Refused, Told::Refused, Told::Absent])),
+        (2, Ok([Told::Refused, Told::Refused, Told::Absent])),
+        (3, Ok([Told::Inserted, Told::New, Told::Refused])),
+        (4, Ok([Told::Inserted, Told::New, Told::Held])),
+    ] {
+        alloc.refuse_after(granted);
+        assert_eq!(rt; insert_then_find(&alloc), wanted, "{granted} granted");
+        assert_eq!(rt; alloc.held(), 0, "{granted} granted");
+    }
+}
+
+#[test]
+fn insertion_alone_refused(rt: HostRuntime) {
+    let alloc = Refusing::new(rt.alloc());
+    for (granted, wanted) in [
+        (0, Err(TableError::Memory)),
+        (1, Ok([Told::Refused, Told::New, Told::Held])),
+        (2, Ok([Told::Refused, Told::New, Told::Held])),
+        (3, Ok([Told::Inserted, Told::New, Told::Held])),
+    ] {
+        alloc.refuse_one_after(granted);
+        assert_eq!(rt; insert_then_find(&alloc), wanted, "{granted} granted");
+        assert_eq!(rt; alloc.held(), 0, "{granted} granted");
+    }
+}
+
+#[test]
+fn find_and_all_later_refused(rt: HostRuntime) {
+    let alloc = Refusing::new(rt.alloc());
+    for (granted, wanted) in [
+        (0, Err(TableError::Memory)),
+        (1, Ok([Told::Refused, Told::Refused, Told::Absent])),
+        (2, Ok([Told::Refused, Told::Refused, Told::Absent])),
+        (3, Ok([Told::New, Told::Inserted, Told::Refused])),
+        (4, Ok([Told::New, Told::Inserted, Told::Held])),
+    ] {
+        alloc.refuse_after(granted);
+        assert_eq!(rt; find_then_insert(&alloc), wanted, "{granted} granted");
+        assert_eq!(rt; alloc.held(), 0, "{granted} granted");
+    }
+}
+
+#[test]
+fn find_alone_refused(rt: HostRuntime) {
+    let alloc = Refusing::new(rt.alloc());
+    for (granted, wanted) in [
+        (0, Err(TableError::Memory)),
+        (1, Ok([Told::Refused, Told::Inserted, Told::Absent])),
+        (2, Ok([Told::Refused, Told::Inserted, Told::Absent])),
+        (3, Ok([Told::New, Told::Inserted, Told::Held])),
+    ] {
+        alloc.refuse_one_after(granted);
+        assert_eq!(rt; find_then_insert(&alloc), wanted, "{granted} granted");
         assert_eq!(rt; alloc.held(), 0, "{granted} granted");
     }
 }

@@ -50,7 +50,7 @@ fn constructions(rt: HostRuntime) -> Result<(), Fail> {
     Ok(())
 }
 
-// A table without slots asks for nothing, and neither do look-ups and removals in it.
+// A table without slots asks for nothing, and neither do lookups and removals in it.
 #[test]
 fn no_slots(rt: HostRuntime) -> Result<(), Fail> {
     let alloc = Refusing::new(rt.alloc());
@@ -71,13 +71,13 @@ fn insert_two(rt: &impl Abort, table: &mut RefusedTable<'_>) -> Result<(), Table
     table.insert_within_capacity(6, 6)
 }
 
-// A look-up that takes any handle under the hash, or inserts one.
+// A lookup that takes any handle under the hash, or inserts one.
 fn find_any(rt: &impl Abort, table: &mut RefusedTable<'_>) -> Result<(u64, bool), TableError> {
     assert!(rt; table.len() < table.capacity());
     table.find_or_insert(7, |_| true, 7, |_| 0)
 }
 
-// Room that is there, a look-up to its end, and a removal.
+// Room that is there, a lookup to its end, and a removal.
 fn read_and_remove(rt: &impl Abort, table: &mut RefusedTable<'_>) -> Result<(), TableError> {
     assert!(rt; table.len() == 3 && table.capacity() == 12);
     table.reserve(9, |_| 0)?;

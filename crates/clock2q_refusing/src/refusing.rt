@@ -58,6 +58,16 @@ fn add(bytes: &Cell<u64>, size: usize) {
 ///
 /// What is given back is passed on too. A request that is refused doesn't reach the other
 /// allocator, and one that is granted counts as taken.
+///
+/// # Example
+///
+/// ```
+/// let alloc = Refusing::new(rt.alloc());
+/// alloc.refuse_one_after(1);
+/// let granted: Vec<u8, _> = Vec::with_capacity(&alloc, 8)?;
+/// assert!(rt; Vec::<u8, _>::with_capacity(&alloc, 8).is_err());
+/// assert_eq!(rt; alloc.requests(), 2);
+/// ```
 #[derive(Drop)]
 pub struct Refusing<A: Allocator> {
     inner: A,
@@ -65,7 +75,7 @@ pub struct Refusing<A: Allocator> {
 }
 
 impl<A: Allocator> Refusing<A> {
-    /// Refuses nothing yet.
+    /// Makes an allocator over `inner` that refuses nothing yet.
     pub fn new(inner: A) -> Refusing<A> {
         Refusing {
             inner,
@@ -73,12 +83,12 @@ impl<A: Allocator> Refusing<A> {
         }
     }
 
-    /// How many requests were made, with those that were refused.
+    /// Returns how many requests were made, with those that were refused.
     pub fn requests(&self) -> u64 {
         self.requests.made.get()
     }
 
-    /// How many bytes were taken and not given back.
+    /// Returns how many bytes were taken and not given back.
     pub fn held(&self) -> u64 {
         let given_back = self.requests.given_back.get();
         self.requests.taken.get().wrapping_sub(given_back)

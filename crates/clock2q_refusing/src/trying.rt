@@ -7,11 +7,20 @@ use std::alloc::Allocator;
 const MANY: u64 = 1000;
 
 /// What a call came to whose requests for memory were refused in turn.
+///
+/// # Example
+///
+/// ```
+/// let tried = try_in_turn(&alloc, 8, AllocError, || {
+///     Ok(Vec::<u8, _>::with_capacity(&alloc, 8)?.capacity())
+/// });
+/// assert_eq!(rt; tried, Tried::Done(1));
+/// ```
 #[derive(Clone, Copy, Debug, PartialEq)]
 pub enum Tried {
-    /// It makes so many requests. Wherever one was refused it answered as it should.
+    /// It makes so many requests. Wherever one was refused it returned what it should.
     Done(u64),
-    /// It answered something else after so many requests.
+    /// It returned something else after so many requests.
     OtherAnswer(u64),
     /// It kept memory after so many requests.
     Kept(u64),
@@ -22,7 +31,7 @@ pub enum Tried {
 /// Makes a call with no request granted, then with one, and so on until none is refused: each time
 /// with the next request alone refused, and with all later ones too.
 ///
-/// The call has to answer `answer`, or `refusal` where a request was refused, and to give back what
+/// The call has to return `answer`, or `refusal` where a request was refused, and to give back what
 /// it takes.
 pub fn try_in_turn<A, T, E, F>(alloc: &Refusing<A>, answer: T, refusal: E, mut call: F) -> Tried
 where

@@ -42,7 +42,7 @@ impl PlainTable {
         self.homes.iter().flatten().copied().nth(number)
     }
 
-    /// Returns what a look-up of the hash yields: the handles of its home with its highest byte.
+    /// Returns what a lookup of the hash yields: the handles of its home with its highest byte.
     pub(crate) fn candidates(&self, hash: u64) -> Result<Vec<u64>, AllocError> {
         let mut candidates = Vec::new(self.alloc);
         let Some(list) = self.homes.get(self.home(hash)) else {

@@ -1,6 +1,6 @@
 //! Lists of commands to a handle table from seeds, the replies compared with those of plain lists.
 //!
-//! Look-ups are compared in their whole order. A growth takes the handles slot by slot, and begins
+//! Lookups are compared in their whole order. A growth takes the handles slot by slot, and begins
 //! with those that found no room before the end; the plain lists only count these.
 ghost use Rattle.std.specs.Prelude.{◌≡◌};
 
