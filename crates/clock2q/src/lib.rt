@@ -1,10 +1,11 @@
 //! A fixed-capacity key-value cache with Clock2Q+ replacement, its calls as data, and the handle
 //! table that it looks keys up through.
 //!
-//! A [`Cache`] shares its capacity out among two queues. New keys enter Small; what is hit there
-//! once it is no longer among the newest, the window, goes on to Main, a ring in which a hand gives
-//! each entry that was hit a second chance. Keys that leave Small are remembered for a while
-//! without their values, and one that comes back enters Main at once.
+//! A [`Cache`] shares its capacity out among two queues. New keys enter Small, or Main while the
+//! cache isn't full and Small has its share. What is hit in Small once it is no longer among the
+//! newest, the window, goes on to Main, a ring in which a hand gives each entry that was hit a
+//! second chance. Keys that Small evicts are remembered for a while without their values, and one
+//! that comes back enters Main at once.
 //!
 //! | Capacity | Small | Main | Window | Remembered |
 //! |---|---|---|---|---|
@@ -18,14 +19,14 @@
 //! asks for any or refuses anything.
 //!
 //! ```rust
+//! let capacity = NonZeroUsize::new(100).ok_or("not zero")?;
 //! let mut cache = Cache::new(rt.alloc(), capacity)?;
 //! cache.put(1u64, 10u64);
-//! if let Some(value) = cache.get(&1) {
-//!     println!(rt; "{value}")?;
-//! }
+//! assert_eq!(rt; cache.get(&1), Some(&10));
 //! ```
 //!
-//! The crate `clock2q_uses` of the repository has whole callers, each of them proved.
+//! A test of the crate `clock2q_uses`, `first_example`, runs these lines; `rt` is what a test or
+//! `main` is given. That crate has whole callers, each of them proved.
 #![tactic(auto)]
 
 pub use clock2q_cache as cache;

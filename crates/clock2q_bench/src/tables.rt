@@ -6,7 +6,7 @@ ghost use Rattle.std.specs.Prelude.{◌≡◌, ◌<◌, [], IfOk, length, All};
 use clock2q::handles::{Table, TableError};
 use std::alloc::{AllocError, Global};
 
-/// Returns the handles below `count` in the order of look-ups and removals.
+/// Returns the handles below `count` in the order of lookups and removals.
 pub(crate) fn order(alloc: Global, count: usize) -> Result<Vec<usize>, AllocError>
     ensures below { IfOk result (λ order. All (λ at. at < count) order.items) }
 {

@@ -7,12 +7,18 @@ use clock2q_cache::{Cache, CacheError, MAX_CAPACITY};
 use std::alloc::Global;
 use std::num::NonZeroUsize;
 
-/// Returns how many keys of a trace a new cache of the usual shares holds as they come.
+/// Returns how many keys of a trace are hits in a new cache of the usual shares: how many are
+/// resident as they come.
 ///
 /// # Errors
 ///
-/// `Capacity` where the capacity is above `MAX_CAPACITY`, and `Memory` where a request for memory is
-/// refused.
+/// `Capacity` where the capacity is above `MAX_CAPACITY`, and `Memory` where a request for memory
+/// is refused.
+///
+/// # Cost
+///
+/// That of [`Cache::new`](clock2q_cache::Cache::new), and that of
+/// [`Cache::put`](clock2q_cache::Cache::put) for each key.
 pub fn clock2q_hits(
     alloc: Global,
     capacity: NonZeroUsize,

@@ -7,6 +7,13 @@ use std::io;
 use thiserror::Error;
 
 /// Why a simulation gave no result, or not all of it.
+///
+/// # Example
+///
+/// ```
+/// let refused = parse_options(rt.alloc(), &[]); // without a capacity
+/// assert_eq!(rt; refused.err(), Some(SimulationError::Usage));
+/// ```
 #[derive(Debug, Clone, Copy, PartialEq, Eq, Error)]
 pub enum SimulationError {
     /// An argument is neither an option nor a number from 1 on, there is no capacity, or there are
@@ -30,8 +37,8 @@ pub enum SimulationError {
 impl SimulationError {
     ghost use Rattle.clock2q_simulation.specs.SimulationError.{status_of};
 
-    /// Returns the status with which the program ends: 2 for its arguments, 3 where the caches can't
-    /// be had, 4 where reading or writing failed.
+    /// Returns the status with which the program ends: 2 for its arguments, 3 where a capacity is
+    /// too large or memory is refused, 4 where reading or writing failed.
     pub fn status(&self) -> u8
         ensures status { result ≡ status_of self.now }
     {

@@ -1,4 +1,5 @@
-//! Traces of keys replayed in caches of several policies, and what comes of it as a table or a picture.
+//! Traces of keys replayed in caches of several policies, and the hits as a table, as lines with
+//! commas or as a picture.
 #![tactic(auto)]
 
 mod axis;

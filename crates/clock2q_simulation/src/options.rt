@@ -9,6 +9,13 @@ use std::alloc::{AllocError, Global};
 use std::num::NonZeroUsize;
 
 /// The form of the result.
+///
+/// # Example
+///
+/// ```
+/// let options = parse_options(rt.alloc(), &arguments)?; // of `clock2q-simulate 100`
+/// assert_eq!(rt; options.format, Format::Table);
+/// ```
 #[derive(Clone, Copy, Debug, PartialEq, Eq)]
 pub enum Format {
     /// Columns for a reader.
@@ -20,6 +27,14 @@ pub enum Format {
 }
 
 /// What the arguments ask for.
+///
+/// # Example
+///
+/// ```
+/// let options = parse_options(rt.alloc(), &arguments)?; // of `clock2q-simulate --csv 10 100`
+/// assert_eq!(rt; options.format, Format::Csv);
+/// assert_eq!(rt; options.capacities.len(), 2);
+/// ```
 #[derive(Drop)]
 pub struct Options {
     /// The form of the result.
@@ -33,7 +48,12 @@ pub struct Options {
 /// # Errors
 ///
 /// `Usage` where an argument is neither, where there is no capacity, or more than one option;
-/// `Capacity` where a capacity is above `MAX_CAPACITY`. The first bad argument is told.
+/// `Capacity` where a capacity is above `MAX_CAPACITY`; `Memory` where the list of capacities can't
+/// be had. The arguments are read in order, and the first bad one ends the call with its error.
+///
+/// # Cost
+///
+/// Time in proportion to the bytes of the arguments.
 pub fn parse_options(alloc: Global, arguments: &[String]) -> Result<Options, SimulationError>
     ensures some { IfOk result (λ options. 0 < length options.capacities.items) }
     ensures within { IfOk result (λ options. All (λ capacity. non_zero_usize_get capacity ≤ MAX_CAPACITY) options.capacities.items) }
@@ -67,7 +87,8 @@ fn format_of(argument: &str) -> Option<Format> {
     }
 }
 
-// Returns the capacity that digits write. One that is too large for a number is too large for a cache.
+// Returns the capacity that digits write. One that is too large for a number is too large for a
+// cache.
 fn capacity_of(argument: &str) -> Result<NonZeroUsize, SimulationError>
     ensures within { IfOk result (λ capacity. non_zero_usize_get capacity ≤ MAX_CAPACITY) }
 {

@@ -9,6 +9,15 @@ use std::alloc::{AllocError, Global};
 use std::num::NonZeroUsize;
 
 /// What a hit changes in a cache that evicts the last key of a list.
+///
+/// # Example
+///
+/// ```
+/// let trace = [0, 1, 0, 2, 0]; // three different keys, in caches for two
+/// let recent = plain_hits(rt.alloc(), Policy::LeastRecentlyUsed, two, &trace, 3)?;
+/// let first = plain_hits(rt.alloc(), Policy::FirstInFirstOut, two, &trace, 3)?;
+/// assert_eq!(rt; (recent, first), (2, 1));
+/// ```
 #[derive(Clone, Copy, Debug, PartialEq, Eq)]
 pub enum Policy {
     /// A hit moves the key to the front of the list.
@@ -97,10 +106,17 @@ fn after_oldest(trace: &[usize], stamps: &[usize], left: usize, at: usize) -> us
     at
 }
 
-/// Returns how many keys of a trace a new cache of a plain policy holds as they come. The keys are
-/// numbers below `keys`.
+/// Returns how many keys of a trace are hits in a new cache of a plain policy: how many are
+/// resident as they come. The keys are numbers below `keys`.
 ///
-/// It takes time in proportion to the trace, and memory in proportion to `keys`.
+/// # Errors
+///
+/// `AllocError` where the request for memory is refused.
+///
+/// # Cost
+///
+/// Time in proportion to the trace and to `keys`, whatever the capacity. One request for memory, in
+/// proportion to `keys`.
 pub fn plain_hits(
     alloc: Global,
     policy: Policy,

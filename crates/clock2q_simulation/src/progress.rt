@@ -5,8 +5,16 @@ use std::io::Write;
 // How many keys are read between two lines, and from how many on the capacities are told.
 const LONG: usize = 1_000_000;
 
-/// Where progress is told, if a person is there to read it. A failed write is no failure of the
-/// simulation.
+/// The progress lines of a long simulation: one for each million keys that are read, and one for
+/// each capacity at which a trace of so many is replayed. A failed write is ignored, and the
+/// simulation goes on.
+///
+/// # Example
+///
+/// ```
+/// let mut progress = Progress::new(rt.stderr(), rt.stderr().is_terminal());
+/// let trace = read_trace(rt.alloc(), reader, &mut progress)?;
+/// ```
 #[derive(Drop)]
 pub struct Progress<W> {
     writer: W,
@@ -14,7 +22,7 @@ pub struct Progress<W> {
 }
 
 impl<W: Write> Progress<W> {
-    /// Tells progress to a writer, or nothing at all.
+    /// Makes progress lines that go to `writer`, or that are left out if `is_shown` is false.
     pub fn new(writer: W, is_shown: bool) -> Progress<W> {
         Progress { writer, is_shown }
     }

@@ -11,22 +11,32 @@ use std::alloc::Global;
 use std::num::{NonZeroUsize, nearest_usize_to_f64};
 
 /// The hits of a trace in a cache of each policy.
+///
+/// # Example
+///
+/// ```
+/// let input = b"a\nb\na\nc\nb\nd\na\nb\n".as_slice();
+/// let trace = read_trace(rt.alloc(), input, &mut progress)?;
+/// let row = replay(rt.alloc(), two, &trace)?; // in caches for two keys
+/// assert_eq!(rt; (row.clock2q, row.least_recent, row.first_in), (3, 1, 2));
+/// assert_eq!(rt; row.ratio(row.first_in), 0.25);
+/// ```
 #[derive(Clone, Copy, Debug, PartialEq, Eq)]
 pub struct Row {
     /// How many keys each cache can hold.
     pub capacity: NonZeroUsize,
     /// How many keys the trace has.
     pub accesses: usize,
-    /// How many of them Clock2Q+ held as they came.
+    /// How many of them were hits in Clock2Q+.
     pub clock2q: usize,
-    /// How many a cache that evicts the least recently used key held.
+    /// How many were hits in a cache that evicts the least recently used key.
     pub least_recent: usize,
-    /// How many a cache that evicts the key that came first held.
+    /// How many were hits in a cache that evicts the key that came first.
     pub first_in: usize,
 }
 
 impl Row {
-    /// Returns the part of the accesses that such a number of hits is, and 0 of an empty trace.
+    /// Returns the hit ratio: `hits` divided by the number of accesses, or 0 for an empty trace.
     pub fn ratio(&self, hits: usize) -> f64 {
         if self.accesses == 0 {
             return 0.0;
@@ -39,8 +49,14 @@ impl Row {
 ///
 /// # Errors
 ///
-/// `Capacity` where the capacity is above `MAX_CAPACITY`, and `Memory` where a request for memory is
-/// refused.
+/// `Capacity` where the capacity is above `MAX_CAPACITY`, and `Memory` where a request for memory
+/// is refused.
+///
+/// # Cost
+///
+/// That of [`clock2q_hits`](crate::clock2q_hits), and twice that of
+/// [`plain_hits`](crate::plain_hits). The memory of each cache is given back before the next one is
+/// made.
 pub fn replay(alloc: Global, capacity: NonZeroUsize, trace: &Trace) -> Result<Row, SimulationError>
     ensures row { IfOk result (IsReplayed trace.now.numbers (non_zero_usize_get capacity)) }
 {

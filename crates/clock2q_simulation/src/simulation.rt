@@ -12,6 +12,17 @@ use std::io::{BufRead, Write};
 use std::num::NonZeroUsize;
 
 /// Reads a trace, replays it in caches of each capacity, and writes the result.
+///
+/// # Errors
+///
+/// Those of [`read_trace`], then those of [`replay`]. `Memory` also where there is no memory for
+/// the rows or the text. `Write` where the text can't be written or flushed: a beginning of it, or
+/// all, may have been written. Nothing is written before any other error.
+///
+/// # Cost
+///
+/// That of [`read_trace`], and that of [`replay`] for each capacity. The trace stays in memory to
+/// the end, and the whole text is made before any of it is written.
 pub fn simulate<R: BufRead + Drop, W: Write, P: Write>(
     alloc: Global,
     options: &Options,

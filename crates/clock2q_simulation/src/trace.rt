@@ -13,6 +13,17 @@ use std::marker::Model;
 
 /// Keys in the order in which they come, each told by a number: equal keys by the same one, and
 /// different keys by different ones.
+///
+/// # Example
+///
+/// ```
+/// let mut trace = Trace::new(rt.alloc());
+/// for key in [b"a", b"b", b"a"] {
+///     trace.push(Vec::from_slice(rt.alloc(), key)?)?;
+/// }
+/// assert_eq!(rt; trace.numbers(), [0, 1, 0].as_slice());
+/// assert_eq!(rt; trace.key_count(), 2);
+/// ```
 #[derive(Drop)]
 pub struct Trace {
     numbers: Vec<usize>,
@@ -46,6 +57,15 @@ impl Trace {
     }
 
     /// Adds a key at the end.
+    ///
+    /// # Errors
+    ///
+    /// `AllocError` where a request for memory is refused. No number is added then, but a new key
+    /// may already count in [`key_count`](Trace::key_count).
+    ///
+    /// # Cost
+    ///
+    /// One lookup of the key among the different ones before it, and one insertion if it is new.
     pub fn push(&mut self, key: Vec<u8>) -> Result<(), AllocError>
         ensures added { OnOk result ((number : ℕ) × (self.new.numbers ≡ self.old.numbers ++ number ∷ [])) }
         ensures refused { OnErr result (self.new.numbers ≡ self.old.numbers) }
@@ -86,7 +106,18 @@ fn number_of(known: &mut HashMap<Vec<u8>, usize>, key: Vec<u8>) -> Result<usize,
     Ok(next)
 }
 
-/// Reads a trace to its end: a key a line. A line ends with the byte 10, which the last one may lack.
+/// Reads a trace to its end: a key a line. A line ends with the byte 10, which the last one may
+/// lack.
+///
+/// # Errors
+///
+/// `Read` where a read fails, and `Memory` where a request for memory is refused. What was read is
+/// dropped then.
+///
+/// # Cost
+///
+/// That of [`Trace::push`] for each line. Memory in proportion to the number of lines and to the
+/// bytes of the different keys.
 pub fn read_trace<R: BufRead + Drop, W: Write>(
     alloc: Global,
     reader: R,

@@ -16,6 +16,11 @@ use std::test::Fail;
 /// Returns the checksums of the documents that are asked for, each by its number, and `None` for a
 /// number without a document. Up to `capacity` checksums are remembered: a document that is asked
 /// for again is read again only where its checksum is no longer among them.
+///
+/// # Errors
+///
+/// `Capacity` above [`MAX_CAPACITY`], and `Memory` where a request for memory is refused. No
+/// document is read then.
 pub fn checksums(
     alloc: Global,
     capacity: NonZeroUsize,

@@ -9,6 +9,11 @@ use std::hash::{BuildHasher, Hash};
 
 /// Runs the same commands on two caches that are alike but for their hashers, and returns the
 /// replies of both, which are the same.
+///
+/// # Errors
+///
+/// `Memory` where a list of replies can't be reserved. If it is that of `other`, all commands have
+/// run on `one` and none on `other`; else both caches are as they were.
 pub fn run_on_both<K, V, S, T, A>(
     alloc: A,
     one: &mut Cache<K, V, S, A>,

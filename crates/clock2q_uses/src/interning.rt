@@ -8,6 +8,16 @@ use std::marker::Model;
 use std::test::Fail;
 
 /// Keys, each once, in the order in which they came.
+///
+/// # Example
+///
+/// ```
+/// let mut interner = Interner::new(rt.alloc());
+/// assert_eq!(rt; interner.intern(70)?, 0);
+/// assert_eq!(rt; interner.intern(80)?, 1);
+/// assert_eq!(rt; interner.intern(70)?, 0);
+/// assert_eq!(rt; interner.number_of(90), None);
+/// ```
 #[derive(Drop)]
 pub struct Interner {
     numbers: Table<usize>,
@@ -51,6 +61,12 @@ impl Interner {
     }
 
     /// Returns the key's number. A key that has none gets the next one.
+    ///
+    /// # Errors
+    ///
+    /// `Memory` where the list of keys or the table can't grow, and `RunTooLong` as
+    /// [`Table::insert`](clock2q::handles::Table::insert) returns it. All keys keep their numbers,
+    /// and none is added.
     pub fn intern(&mut self, key: u64) -> Result<usize, TableError>
         ensures stands { IfOk result (λ number. slice_get self.new number ≡ Some key) }
         ensures same { IfOk result (λ number. (other : ℕ) → slice_get self.old other ≡ Some key → number ≡ other) }

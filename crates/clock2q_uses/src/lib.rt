@@ -2,6 +2,8 @@
 #![tactic(auto)]
 
 pub mod checksums;
+#[cfg(test)]
+mod first_example;
 pub mod hashers;
 pub mod interning;
 pub mod pages;

@@ -49,7 +49,8 @@ pub fn is_in<S: BuildHasher>(
     pages.get_at(frame, &page).is_some()
 }
 
-/// Returns the frame of a page, with the page in it. A page that isn't loaded is copied from the file.
+/// Returns the frame of a page, with the page in it. A page that isn't loaded is copied from the
+/// file.
 pub fn load<T: Copy, S: BuildHasher>(
     pages: &mut Cache<usize, Option<usize>, S>,
     frames: &mut [T],
@@ -74,6 +75,11 @@ pub fn load<T: Copy, S: BuildHasher>(
 
 /// Returns the pages of these numbers in their order, each read through its frame, and `None` for a
 /// number without a page.
+///
+/// # Errors
+///
+/// `Capacity` above [`MAX_CAPACITY`], and `Memory` where a request for memory is refused. No page
+/// is copied then.
 pub fn read_pages<T: Copy>(
     alloc: Global,
     capacity: NonZeroUsize,

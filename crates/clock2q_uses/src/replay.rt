@@ -12,6 +12,11 @@ use std::num::NonZeroUsize;
 use std::test::Fail;
 
 /// Puts each key of the trace in a new cache, and returns how many were resident.
+///
+/// # Errors
+///
+/// `Capacity` above [`MAX_CAPACITY`], and `Memory` where a request for memory is refused: for the
+/// cache, the commands or the replies.
 pub fn replay(alloc: Global, capacity: NonZeroUsize, trace: &[u64]) -> Result<usize, CacheError>
     ensures hits { IfOk result (λ hits. hits ≡ trace_hits (non_zero_usize_get capacity) trace.now) }
     ensures capacity { IsErrOf result CacheError.Capacity ↔ (MAX_CAPACITY < non_zero_usize_get capacity) }
@@ -23,6 +28,10 @@ pub fn replay(alloc: Global, capacity: NonZeroUsize, trace: &[u64]) -> Result<us
 }
 
 /// Returns a `Put` for each key, with the key as its value.
+///
+/// # Errors
+///
+/// `Memory` where the list can't be reserved.
 pub fn puts_of(alloc: Global, keys: &[u64]) -> Result<Vec<Command<u64, u64>>, CacheError>
     ensures puts { IfOk result (λ puts. map call_of puts.items ≡ map put_of keys.now) }
     ensures memory { IfErr result (λ e. e ≡ CacheError.Memory) }

@@ -11,6 +11,15 @@ use std::test::Fail;
 
 /// Keys in several parts, each with a table of its own. A key is in the part of its hash's group,
 /// and has a number there.
+///
+/// # Example
+///
+/// ```
+/// let mut index = SplitIndex::new(rt.alloc(), 4)?;
+/// let number = index.insert(70)?;
+/// assert_eq!(rt; index.get(70), Some(number));
+/// assert_eq!(rt; index.get(80), None);
+/// ```
 #[derive(Drop)]
 pub struct SplitIndex {
     parts: Vec<Interner>,
@@ -29,6 +38,10 @@ impl Model for SplitIndex {
 
 impl SplitIndex {
     /// Returns an index of so many parts, without keys.
+    ///
+    /// # Errors
+    ///
+    /// `Memory` where the list of parts can't be reserved.
     pub fn new(alloc: Global, parts: usize) -> Result<SplitIndex, TableError>
         requires count { IsPartitionCount parts }
         ensures empty { IfOk result (λ index. index ≡ replicate parts []) }
@@ -51,6 +64,10 @@ impl SplitIndex {
     }
 
     /// Returns the key's number in its part, and gives it the next one there if it has none.
+    ///
+    /// # Errors
+    ///
+    /// Those of [`Interner::intern`]. All keys keep their numbers, and none is added.
     pub fn insert(&mut self, key: u64) -> Result<usize, TableError>
         ensures stands { IfOk result (λ number. (part : ℕ) → IsGroupOf (spread key) (length self.old) part → slice_get (get_or self.new part []) number ≡ Some key) }
         ensures kept { (part number held : ℕ) → slice_get (get_or self.old part []) number ≡ Some held → slice_get (get_or self.new part []) number ≡ Some held }
