@@ -1,6 +1,6 @@
 -- What a memo keeps through its calls.
-use Rattle.std.proofs.Common.{◌≡◌, ℕ, ◌+◌, ◌/◌, ◌<◌, ◌≤◌, arith, Bool, true, false, List, [], ◌∷◌, inl, inr, Option, Some, None, refl, sym, ap, ◌∙◌, subst}
-use Rattle.std.specs.Prelude.{slice_get, if◌then◌else◌, is_some, nat_lt, max}
+use Rattle.std.proofs.Common.{◌≡◌, ℕ, ◌<◌, arith, Bool, true, false, List, [], ◌∷◌, inl, inr, Option, Some, None, refl, sym, ap, ◌∙◌, subst}
+use Rattle.std.specs.Prelude.{slice_get}
 use Rattle.std.specs.List.{find}
 use Rattle.std.specs.Cmp.{IsEquivalence}
 use Rattle.std.specs.Option.{option_map, option_and_then}
@@ -9,12 +9,12 @@ use Rattle.clock2q_cache.specs.Machine.{Machine, empty, residents, slot_of, valu
 use Rattle.clock2q_cache.specs.Steps.{fetched, put}
 use Rattle.clock2q_cache.specs.Cache.{IsWhole}
 use Rattle.clock2q_cache.proofs.Whole.{some_is, none_is}
-use Rattle.clock2q_cache.proofs.MachineInvariant.{lasting-empty, resident_made, lasting-hit, lasting-inserted}
+use Rattle.clock2q_cache.proofs.MachineInvariant.{lasting-empty, resident_made, lasting-inserted}
 use Rattle.clock2q_cache.proofs.Residents.{hit-absent}
 use Rattle.clock2q_cache.proofs.Standing.{get-within}
 use Rattle.clock2q_cache.proofs.Entering.{weight-hit, same_slots, others_entered}
 use Rattle.clock2q_cache.proofs.Laws.{inserted_there}
-use Rattle.clock2q_memo.specs.Memo.{Computes, Remembers, evaluations_for, looked_up}
+use Rattle.clock2q_memo.specs.Memo.{Remembers, evaluations_for, looked_up}
 
 -- tests that agree find the same
 find_agree : {X : Type 0} (p q : X → Bool) → ((x : X) → p x ≡ q x) → (xs : List X) → find p xs ≡ find q xs

@@ -1,7 +1,8 @@
 -- What contracts see of a memo, and what it keeps.
-use Rattle.std.specs.Prelude.{◌≡◌, ℕ, Bool, true, Option, Some, is_some, if◌then◌else◌, refl}
+use Rattle.std.specs.Prelude.{◌≡◌, ℕ, ◌+◌, Bool, true, List, ◌∷◌, Some, is_some, if◌then◌else◌, refl}
 use Rattle.std.specs.Coded.{Coded, code_by, coded×, coded_ℕ}
 use Rattle.clock2q_cache.specs.Machine.{Machine, machine_code, slot_of, value_of, inserted}
+use Rattle.clock2q_cache.specs.Steps.{fetched}
 
 -- the machine of its cache, its function, and how often that was called
 pub record MemoState (K V F : Type 0) : Type 0 where
@@ -40,3 +41,13 @@ module _ {K V : Type 0} (eq : K → K → Bool) where
   -- a key that is not resident costs one call of the function, and a resident none
   abbrev pub evaluations_for : K → Machine K V → ℕ
   evaluations_for key m = if is_some (slot_of (eq key) m) then 0 else 1
+
+  -- each key is fetched in turn, with the value that its lookup returned
+  abbrev pub recalled : List K → List V → Machine K V → Machine K V
+  recalled (key ∷ keys) (value ∷ values) m = recalled keys values (fetched (eq key) key value m)
+  recalled _ _ m = m
+
+  -- the calls of the function while the keys are fetched in turn
+  abbrev pub evaluations_of : List K → List V → Machine K V → ℕ
+  evaluations_of (key ∷ keys) (value ∷ values) m = evaluations_for key m + evaluations_of keys values (fetched (eq key) key value m)
+  evaluations_of _ _ m = 0

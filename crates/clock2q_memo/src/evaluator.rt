@@ -1,17 +1,18 @@
 //! The function of a memo, and how often it was called.
 use clock2q_count::Count;
 
-/// A function that counts its calls. It is called by [`evaluate`](Evaluator::evaluate) alone.
+/// A function that counts its calls. Only [`evaluate`](Evaluator::evaluate) calls it.
 #[derive(Drop)]
 pub(crate) struct Evaluator<F> {
-    pub(crate) function: F,
-    pub(crate) evaluations: Count,
+    function: F,
+    evaluations: Count,
 }
 
 impl<F> Evaluator<F> {
     ghost use Rattle.std.specs.Prelude.{◌≡◌, ◌+◌};
     ghost use Rattle.std.specs.Fn.{FnReturnsAt};
 
+    /// Returns a function that was not called yet.
     pub(crate) fn new(function: F) -> Self
         ensures function { result.function ≡ function }
         ensures none { result.evaluations.total ≡ 0 }
@@ -22,6 +23,7 @@ impl<F> Evaluator<F> {
         }
     }
 
+    /// Calls the function at a key, and counts the call.
     pub(crate) fn evaluate<K, V>(&mut self, key: &K) -> V
     where
         F: Fn(&K) -> V,
@@ -32,5 +34,12 @@ impl<F> Evaluator<F> {
     {
         self.evaluations.tick();
         (self.function)(key)
+    }
+
+    /// Returns the function.
+    pub(crate) fn into_function(self) -> F
+        ensures function { result ≡ self.function }
+    {
+        self.function
     }
 }

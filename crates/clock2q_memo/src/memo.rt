@@ -1,4 +1,4 @@
-//! The memo: construction, the two look-ups, and a list of look-ups.
+//! The memo: construction, the two lookups, and a list of lookups.
 
 #[cfg(test)]
 mod tests;
@@ -14,7 +14,8 @@ use std::num::NonZeroUsize;
 ///
 /// It stands in the place of its function: [`get`](Memo::get) returns what the function returns,
 /// and calls it only where the key isn't resident. The function has to give equal keys equal
-/// values, and the same at each call; for one that doesn't, nothing is said of the values.
+/// values, and the same at each call; for one that doesn't, the contracts leave open which values
+/// are returned.
 ///
 /// ```rust
 /// let mut squares = Memo::new(rt.alloc(), capacity, |n: &u64| n.wrapping_mul(*n))?;
@@ -61,6 +62,10 @@ where
     ///
     /// `Capacity` above [`MAX_CAPACITY`](clock2q_cache::MAX_CAPACITY), before any memory is taken;
     /// `Memory` where a request for memory is refused. The function is dropped then.
+    ///
+    /// # Cost
+    ///
+    /// That of [`Cache::new`](clock2q_cache::Cache::new). The function isn't called.
     pub fn new(alloc: A, capacity: NonZeroUsize, function: F) -> Result<Self, CacheError>
         ensures remembers { IfOk result (λ memo. Remembers K.eq (FnReturnsAt F.Fn memo.function) memo.machine) }
         ensures made { IfOk result (λ memo. memo ≡ memo_state (empty (usual_shares (non_zero_usize_get capacity))) function 0) }
@@ -91,6 +96,10 @@ where
     /// # Errors
     ///
     /// Those of [`new`](Memo::new).
+    ///
+    /// # Cost
+    ///
+    /// That of [`new`](Memo::new).
     pub fn with_hasher(
         alloc: A,
         capacity: NonZeroUsize,
@@ -137,6 +146,10 @@ impl<K: Hash + Eq, V, F, S: BuildHasher, A: Allocator> Memo<K, V, F, S, A> {
 
     /// Returns true if the key's value is remembered, so that [`get`](Memo::get) wouldn't call the
     /// function. It changes no later eviction.
+    ///
+    /// # Cost
+    ///
+    /// That of [`Cache::contains`](clock2q_cache::Cache::contains). The function isn't called.
     pub fn contains(&self, key: &K) -> bool
         ensures resident { IsTrue result ↔ IsSome (slot_of (K.eq key.now) self.now.machine) }
     {
@@ -161,6 +174,12 @@ where
     /// Returns the function's value at the key. A remembered value is returned as
     /// [`Cache::peek`](clock2q_cache::Cache::peek) does, and nothing changes; else the function is
     /// called once, and the value is remembered.
+    ///
+    /// # Cost
+    ///
+    /// That of [`Cache::peek`](clock2q_cache::Cache::peek) if the value is remembered. Else also
+    /// that of the function, and that of [`Cache::put`](clock2q_cache::Cache::put), which hashes
+    /// the key again.
     pub fn get(&mut self, key: K) -> V
         requires callable { F.IsAlwaysCallable self.old.function }
         ensures value { IsValueAt K.eq (FnReturnsAt F.Fn self.old.function) self.old.machine key result }
@@ -178,6 +197,10 @@ where
 
     /// Returns the function's value at the key, as [`get`](Memo::get) does. A remembered value is
     /// hit, which may save it from a later eviction.
+    ///
+    /// # Cost
+    ///
+    /// That of [`get`](Memo::get). A hit sets one bit.
     pub fn get_recorded(&mut self, key: K) -> V
         requires callable { F.IsAlwaysCallable self.old.function }
         ensures value { IsValueAt K.eq (FnReturnsAt F.Fn self.old.function) self.old.machine key result }
@@ -210,6 +233,10 @@ where
     }
 
     /// Forgets every value. The memory stays.
+    ///
+    /// # Cost
+    ///
+    /// That of [`Cache::clear`](clock2q_cache::Cache::clear). The function isn't called.
     pub fn clear(&mut self)
         ensures machine { self.new.machine ≡ cleared self.old.machine }
         ensures remembers { Remembers K.eq (FnReturnsAt F.Fn self.new.function) self.new.machine }
@@ -230,22 +257,31 @@ where
     ghost use Rattle.std.specs.Prelude.{◌≡◌};
 
     /// Returns the function, and drops what was remembered.
+    ///
+    /// # Cost
+    ///
+    /// Time in proportion to the keys and values that are dropped. The function isn't called.
     pub fn into_function(self) -> F
         ensures function { result ≡ self.function }
     {
-        self.evaluator.function
+        self.evaluator.into_function()
     }
 }
 
-ghost use Rattle.std.specs.Prelude.{◌≡◌, IfOk, map};
+ghost use Rattle.std.specs.Prelude.{◌≡◌, ◌+◌, IfOk, OnErr, map};
 ghost use Rattle.std.specs.Fn.{FnReturnsAt};
-ghost use Rattle.clock2q_memo.specs.Memo.{Computes, Remembers};
+ghost use Rattle.clock2q_memo.specs.Memo.{Computes, Remembers, recalled, evaluations_of};
 
 /// Returns the function's value at each of the keys, each got by [`Memo::get_recorded`] in turn.
 ///
 /// # Errors
 ///
 /// `AllocError` where the list of values can't be reserved; no value was got then.
+///
+/// # Cost
+///
+/// One request for memory, for the list of values, and the cost of [`Memo::get_recorded`] for each
+/// key.
 pub fn recall<K, V, F, S, A>(
     alloc: A,
     memo: &mut Memo<K, V, F, S, A>,
@@ -260,7 +296,10 @@ where
     requires callable { F.IsAlwaysCallable memo.old.function }
     ensures values { Remembers K.eq (FnReturnsAt F.Fn memo.old.function) memo.old.machine → IfOk result (λ values. (value : K → V) → Computes K.eq (FnReturnsAt F.Fn memo.old.function) value → values.items ≡ map value keys.items) }
     ensures remembers { Remembers K.eq (FnReturnsAt F.Fn memo.old.function) memo.old.machine → Remembers K.eq (FnReturnsAt F.Fn memo.new.function) memo.new.machine }
+    ensures machine { IfOk result (λ values. memo.new.machine ≡ recalled K.eq keys.items values.items memo.old.machine) }
+    ensures evaluations { IfOk result (λ values. memo.new.evaluations ≡ memo.old.evaluations + evaluations_of K.eq keys.items values.items memo.old.machine) }
     ensures function { memo.new.function ≡ memo.old.function }
+    ensures unchanged { OnErr result (memo.new ≡ memo.old) }
 {
     let mut values = Vec::with_capacity(alloc, keys.len())?;
     for key in keys {

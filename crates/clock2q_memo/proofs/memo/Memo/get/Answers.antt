@@ -1,4 +1,4 @@
-use Rattle.std.proofs.Common.{rules, ap, sym, ◌∙◌, ◌+◌}
+use Rattle.std.proofs.Common.{rules, sym}
 use Rattle.clock2q_memo.proofs.Keeping.{absent_if, looked_up_anew, evaluated_once}
 use Rattle.clock2q_memo.proofs.memo.Memo.get.Goals as goal
 

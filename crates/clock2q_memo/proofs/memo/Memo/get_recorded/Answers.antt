@@ -1,4 +1,4 @@
-use Rattle.std.proofs.Common.{rules, ◌≡◌, None, Some, subst, ap, sym, ◌∙◌, ◌+◌}
+use Rattle.std.proofs.Common.{rules, ◌≡◌, None, subst, ap, sym, ◌∙◌}
 use Rattle.clock2q_cache.specs.Machine.{hit, slot_of, value_of}
 use Rattle.clock2q_cache.specs.Cache.{IsWhole}
 use Rattle.clock2q_cache.proofs.MachineInvariant.{lasting-hit}
