@@ -47,7 +47,8 @@ module _ {E : Type 0} (slots : List (Option (Placed E))) where
   slot_from_plus h n s i at =
       let e : h + n + i ≡ h + (n + i) = omega arith in
       ap (λ y. slot_at slots (y + i)) at
-      ∙ rem-same (λ y. slot_at slots (y + i)) (length slots) (λ y. let q : y + length slots + i ≡ y + i + length slots = omega arith in ap (slot_at slots) q ∙ slot-again slots (y + i)) (h + n) ∙ ap (slot_at slots) e
+      ∙ rem-same (λ y. slot_at slots (y + i)) (length slots) (λ y. let q : y + length slots + i ≡ y + i + length slots = omega arith in
+      ap (slot_at slots) q ∙ slot-again slots (y + i)) (h + n) ∙ ap (slot_at slots) e
 
   -- a slot before s, told from it the long way round
   pub slot_from_before : (h n s j : ℕ) → s ≡ (h + n) % length slots → n < length slots → j < n → slot_at slots (s + (length slots - n + j)) ≡ slot_at slots (h + j)
@@ -92,7 +93,8 @@ pub record Carrying {E : Type 0} (A B : ℕ → Option (Placed E)) (first : Opti
 
 module _ {E : Type 0} (A : ℕ → Option (Placed E)) (first : Option (Placed E)) (s : ℕ) where
   -- one slot more is written
-  pub carrying_more : (slots slots' : List (Option (Placed E))) (x : Option (Placed E)) (k t : ℕ) → k < length slots → t ≡ (s + k) % length slots → Carrying A (slot_at slots) first (length slots) s k → x ≡ carried A first s k → slots' ≡ set slots t x
+  pub carrying_more : (slots slots' : List (Option (Placed E))) (x : Option (Placed E)) (k t : ℕ) → k < length slots
+      → t ≡ (s + k) % length slots → Carrying A (slot_at slots) first (length slots) s k → x ≡ carried A first s k → slots' ≡ set slots t x
       → Carrying A (slot_at slots') first (length slots) s (suc k)
   carrying_more slots slots' x k t within at so_far is e =
       let e' : slots' ≡ set slots ((s + k) % length slots) x = e ∙ ap (λ i. set slots i x) at in
@@ -107,7 +109,8 @@ module _ {E : Type 0} (A : ℕ → Option (Placed E)) (first : Option (Placed E)
       }
 
 -- once the entry that stood last is in the empty slot, the run has been opened
-pub carried_opens : {E : Type 0} (slots slots' : List (Option (Placed E))) (first : Option (Placed E)) (h n s k : ℕ) (e : E) → IsTidy slots → length slots' ≡ length slots → HasCome slots h n s → first ≡ Some (placed n e) → k < length slots
+pub carried_opens : {E : Type 0} (slots slots' : List (Option (Placed E))) (first : Option (Placed E)) (h n s k : ℕ) (e : E)
+    → IsTidy slots → length slots' ≡ length slots → HasCome slots h n s → first ≡ Some (placed n e) → k < length slots
     → ((j : ℕ) → j < k → 0 < reach (slot_at slots (s + j))) → slot_at slots (s + k) ≡ None → Carrying (slot_at slots) (slot_at slots') first (length slots) s (suc k)
     → IsVacancy (slot_at slots) h (n + k) × Opens (slot_at slots) (slot_at slots') (length slots) h n (n + k) e
 carried_opens slots slots' first h n s k e tidy same come is within occupied none done =
@@ -136,17 +139,20 @@ carried_opens slots slots' first h n s k e tidy same come is within occupied non
             let i : ℕ = j - n in
             let q : n + suc i ≡ suc j = omega (arith, l) in
             let r : n + i ≡ j = omega (arith, l) in
-            ap (λ x. slot_at slots' (h + x)) (sym q) ∙ sym (slot_from_plus slots' h n s (suc i) at') ∙ done.moved (suc i) (omega (arith, l, u)) ∙ ap moved_on (slot_from_plus slots h n s i come.slot ∙ ap (λ x. slot_at slots (h + x)) r);
+            ap (λ x. slot_at slots' (h + x)) (sym q) ∙ sym (slot_from_plus slots' h n s (suc i) at')
+            ∙ done.moved (suc i) (omega (arith, l, u)) ∙ ap moved_on (slot_from_plus slots h n s i come.slot ∙ ap (λ x. slot_at slots (h + x)) r);
         before = before;
         after = λ j l u.
             let i : ℕ = j - n in
             let r : n + i ≡ j = omega (arith, l) in
-            ap (λ x. slot_at slots' (h + x)) (sym r) ∙ sym (slot_from_plus slots' h n s i at') ∙ done.rest i (omega (arith, l)) (omega (arith, u)) ∙ slot_from_plus slots h n s i come.slot ∙ ap (λ x. slot_at slots (h + x)) r;
+            ap (λ x. slot_at slots' (h + x)) (sym r) ∙ sym (slot_from_plus slots' h n s i at')
+            ∙ done.rest i (omega (arith, l)) (omega (arith, u)) ∙ slot_from_plus slots h n s i come.slot ∙ ap (λ x. slot_at slots (h + x)) r;
       },
     )
 
 -- entries that moved back, told from the home
-pub moving_back_home : {E : Type 0} (slots slots' : List (Option (Placed E))) (h n s k : ℕ) → length slots' ≡ length slots → HasCome slots h n s → n + k < length slots → MovingBack (slot_at slots) (slot_at slots') (length slots) s 0 k
+pub moving_back_home : {E : Type 0} (slots slots' : List (Option (Placed E))) (h n s k : ℕ) → length slots' ≡ length slots
+    → HasCome slots h n s → n + k < length slots → MovingBack (slot_at slots) (slot_at slots') (length slots) s 0 k
     → MovingBack (slot_at slots) (slot_at slots') (length slots) h n (n + k)
 moving_back_home slots slots' h n s k same come upto back =
     let m : ℕ = length slots in
@@ -156,14 +162,16 @@ moving_back_home slots slots' h n s k same come upto back =
           let i : ℕ = j - n in
           let q : n + suc i ≡ suc j = omega (arith, l) in
           let r : n + i ≡ j = omega (arith, l) in
-          ap (λ x. slot_at slots (h + x)) (sym q) ∙ sym (slot_from_plus slots h n s (suc i) come.slot) ∙ back.moved i (omega arith) (omega (arith, l, u)) ∙ ap moved_on (slot_from_plus slots' h n s i at' ∙ ap (λ x. slot_at slots' (h + x)) r);
+          ap (λ x. slot_at slots (h + x)) (sym q) ∙ sym (slot_from_plus slots h n s (suc i) come.slot)
+          ∙ back.moved i (omega arith) (omega (arith, l, u)) ∙ ap moved_on (slot_from_plus slots' h n s i at' ∙ ap (λ x. slot_at slots' (h + x)) r);
       before = λ j l.
           sym (slot_from_before slots' h n s j at' (omega (arith, come.within, same)) l) ∙ ap (λ x. slot_at slots' (s + (x - n + j))) same
           ∙ back.after (m - n + j) (omega (arith, upto)) (omega (arith, l, come.within)) ∙ slot_from_before slots h n s j come.slot come.within l;
       after = λ j l u.
           let i : ℕ = j - n in
           let r : n + i ≡ j = omega (arith, l) in
-          ap (λ x. slot_at slots' (h + x)) (sym r) ∙ sym (slot_from_plus slots' h n s i at') ∙ back.after i (omega (arith, l)) (omega (arith, u)) ∙ slot_from_plus slots h n s i come.slot ∙ ap (λ x. slot_at slots (h + x)) r;
+          ap (λ x. slot_at slots' (h + x)) (sym r) ∙ sym (slot_from_plus slots' h n s i at')
+          ∙ back.after i (omega (arith, l)) (omega (arith, u)) ∙ slot_from_plus slots h n s i come.slot ∙ ap (λ x. slot_at slots (h + x)) r;
     }
 
 -- a mark of an entry
@@ -223,7 +231,8 @@ module _ {H : Type 0} (old now : List (Option (Placed (ℕ × H)))) where
         (carrying_more (slot_at old) first s now now' next state.steps t (omega (arith, state.within, state.len)) at_now so_far state.next_is is)
 
     -- the entry that stood there is carried on
-    pub carry_goes : (now' : List (Option (Placed (ℕ × H)))) (t' : ℕ) (held : H) (there' mark' : Mark) → (there ≡ None → ⊥) → now' ≡ set now t next → IfSome (slot_at now t) (λ p. held ≡ p.entry.1) → mark' ≡ mark_on there
+    pub carry_goes : (now' : List (Option (Placed (ℕ × H)))) (t' : ℕ) (held : H) (there' mark' : Mark)
+        → (there ≡ None → ⊥) → now' ≡ set now t next → IfSome (slot_at now t) (λ p. held ≡ p.entry.1) → mark' ≡ mark_on there
         → t' ≡ (t + 1) % length now' → there' ≡ mark_of (slot_at now' t') → CarryState old now' first (cell mark' held) there' s t' w (w' + 1)
     carry_goes now' t' held there' mark' occ is handle more on told' =
         let k : ℕ = state.steps in
@@ -282,7 +291,8 @@ module _ {H : Type 0} (old now : List (Option (Placed (ℕ × H)))) where
       next_was = slot_from now s (suc state.steps) t' (next_at ∙ ap (λ m. (s + suc state.steps) % m) (sym state.len)) ∙ state.back.after (suc state.steps) (omega arith) next_within
 
       -- the entry after the hole moves into it
-      pub close_goes : (now' : List (Option (Placed (ℕ × H)))) (mark mark' : Mark) (held : H) → mark ≡ mark_of (slot_at now t') → 1 < mark_reach mark → mark' ≡ mark_back mark → IfSome (slot_at now t') (λ p. held ≡ p.entry.1)
+      pub close_goes : (now' : List (Option (Placed (ℕ × H)))) (mark mark' : Mark) (held : H) → mark ≡ mark_of (slot_at now t')
+          → 1 < mark_reach mark → mark' ≡ mark_back mark → IfSome (slot_at now t') (λ p. held ≡ p.entry.1)
           → now' ≡ set now t (cell mark' held) → CloseState old now' s t' w (w' + 1)
       close_goes now' mark mark' held told far less handle is =
           let k : ℕ = state.steps in
@@ -307,7 +317,8 @@ module _ {H : Type 0} (old now : List (Option (Placed (ℕ × H)))) where
           }
 
       -- the hole is emptied where nothing can move into it
-      pub close_ends : (now' : List (Option (Placed (ℕ × H)))) → reach (slot_at now t') ≤ 1 → now' ≡ set now t None → (h n : ℕ) (e : ℕ × H) → HasCome old h n s → slot_at old (h + n) ≡ Some (placed n e)
+      pub close_ends : (now' : List (Option (Placed (ℕ × H)))) → reach (slot_at now t') ≤ 1
+          → now' ≡ set now t None → (h n : ℕ) (e : ℕ × H) → HasCome old h n s → slot_at old (h + n) ≡ Some (placed n e)
           → (v : ℕ) × Closes (slot_at old) (slot_at now') (length old) h n v e × (w' + 1 + n ≡ w + v + 1)
       close_ends now' near is h n e come was =
           let k : ℕ = state.steps in
@@ -320,7 +331,8 @@ module _ {H : Type 0} (old now : List (Option (Placed (ℕ × H)))) where
           let upto : suc (n + k) < length old = less_than_lap old h (suc (n + k)) tidy close_some (λ j l. full j (omega (arith, l))) in
           let back = subst (λ m. MovingBack (slot_at old) (slot_at now) m h n (n + k)) (sym state.len) (moving_back_home old now h n s k state.len come (omega (arith, upto)) state.back) in
           let place : t ≡ (h + (n + k)) % length now =
-          (let q : h + n + k ≡ h + (n + k) = omega arith in close_at ∙ ap (λ y. (y + k) % length now) (come.slot ∙ ap (λ m. (h + n) % m) (sym state.len)) ∙ rem-plus (length now) (h + n) k ∙ ap (λ y. y % length now) q) in
+          (let q : h + n + k ≡ h + (n + k) = omega arith in
+          close_at ∙ ap (λ y. (y + k) % length now) (come.slot ∙ ap (λ m. (h + n) % m) (sym state.len)) ∙ rem-plus (length now) (h + n) k ∙ ap (λ y. y % length now) q) in
           let opens = closed (slot_at old) now now' None h n (n + k) e (omega arith) (omega (arith, upto, state.len)) was back refl (is ∙ ap (λ i. set now i None) place) in
           let end : slot_at old (s + suc k) ≡ slot_at old (h + suc (n + k)) =
           (let q : n + suc k ≡ suc (n + k) = omega arith in slot_from_plus old h n s (suc k) come.slot ∙ ap (λ i. slot_at old (h + i)) q) in (
@@ -367,17 +379,20 @@ module _ {H : Type 0} (slots : List (Option (Placed (ℕ × H)))) (tidy : IsTidy
   come_home s at within = subst (HasCome slots g 0) (sym at) (come_begins slots g within)
 
   -- a walk that isn't ended where it looks for an entry goes on
-  pub looks_on : (d s s' : ℕ) (b : Bool) (wanted next mark : Mark) → HasCome slots g d s → wanted ≡ Some (d, f) → IsTrue b ↔ (mark_reach mark < mark_reach wanted) → b ≡ false → mark ≡ mark_of (slot_at slots s) → s' ≡ (s + 1) % length slots → next ≡ mark_on wanted
+  pub looks_on : (d s s' : ℕ) (b : Bool) (wanted next mark : Mark) → HasCome slots g d s → wanted ≡ Some (d, f)
+      → IsTrue b ↔ (mark_reach mark < mark_reach wanted) → b ≡ false → mark ≡ mark_of (slot_at slots s) → s' ≡ (s + 1) % length slots → next ≡ mark_on wanted
       → HasCome slots g (suc d) s' × (next ≡ Some (suc d, f))
   looks_on d s s' b wanted next mark come is test off told on more =
       (come_on slots tidy g d s s' come (omega (arith, goes_on slots b wanted mark s test off told, ap mark_reach is)) on, more ∙ ap mark_on is)
 
   -- and has room for that
-  pub looks_room : (d s : ℕ) (b : Bool) (wanted mark : Mark) → IsTrue b ↔ (mark_reach mark < mark_reach wanted) → b ≡ false → mark ≡ mark_of (slot_at slots s) → ((n : ℕ) → reach (slot_at slots n) ≤ 16777215) → mark_reach wanted ≤ 16777215
+  pub looks_room : (d s : ℕ) (b : Bool) (wanted mark : Mark) → IsTrue b ↔ (mark_reach mark < mark_reach wanted) → b ≡ false
+      → mark ≡ mark_of (slot_at slots s) → ((n : ℕ) → reach (slot_at slots n) ≤ 16777215) → mark_reach wanted ≤ 16777215
   looks_room d s b wanted mark test off told near = omega (arith, goes_on slots b wanted mark s test off told, near s)
 
   -- a walk that is ended there
-  pub looks_end : (d s : ℕ) (b : Bool) (wanted mark : Mark) → wanted ≡ Some (d, f) → IsTrue b ↔ (mark_reach mark < mark_reach wanted) → b ≡ true → mark ≡ mark_of (slot_at slots s) → reach (slot_at slots s) ≤ d
+  pub looks_end : (d s : ℕ) (b : Bool) (wanted mark : Mark) → wanted ≡ Some (d, f)
+      → IsTrue b ↔ (mark_reach mark < mark_reach wanted) → b ≡ true → mark ≡ mark_of (slot_at slots s) → reach (slot_at slots s) ≤ d
   looks_end d s true wanted mark is test on told = omega (arith, test.0 refl, ap mark_reach is, reach_told mark (slot_at slots s) told)
   looks_end d s false wanted mark is test on told = absurd (cc)
 

@@ -78,7 +78,8 @@ module _ {H : Type 0} (slots : List (Option (Placed (ℕ × H)))) (tidy : IsTidy
       passed = passed_more;
     }
 
-module _ {H : Type 0} (slots : List (Option (Placed (ℕ × H)))) (tidy : IsTidy slots) (d f n : ℕ) (on : IsOnWalk slots d f n) (far : d < reach (slot_at slots n)) (next : ℕ) (at : next ≡ (n + 1) % length slots) where
+module _ {H : Type 0} (slots : List (Option (Placed (ℕ × H)))) (tidy : IsTidy slots) (d f n : ℕ)
+    (on : IsOnWalk slots d f n) (far : d < reach (slot_at slots n)) (next : ℕ) (at : next ≡ (n + 1) % length slots) where
   goes : IsOnWalk slots (suc d) f next
   goes = walk_goes slots tidy d f n on far next at
 
@@ -89,7 +90,12 @@ module _ {H : Type 0} (slots : List (Option (Placed (ℕ × H)))) (tidy : IsTidy
   pub walk_read : unread_at slots (Some (d, f)) n ≡ unread_at slots (Some (suc d, f)) next + 1
   unfolding goes walk_goes
   walk_read =
-      omega (arith, unread_is slots tidy d f n on, unread_is slots tidy (suc d) f next goes, (walk-beyond slots tidy on.hash d (some_slots slots tidy d f n on) (omega (arith, far, ap reach (walk_here slots tidy d f n on)))).0)
+      omega (
+        arith,
+        unread_is slots tidy d f n on,
+        unread_is slots tidy (suc d) f next goes,
+        (walk-beyond slots tidy on.hash d (some_slots slots tidy d f n on) (omega (arith, far, ap reach (walk_here slots tidy d f n on)))).0,
+      )
 
   -- a slot with no candidate leaves what is left
   pub walk_skips : mark_of (slot_at slots n) ≢ Some (d, f) → left_at slots (Some (d, f)) n ≡ left_at slots (Some (suc d, f)) next
@@ -106,7 +112,8 @@ module _ {H : Type 0} (slots : List (Option (Placed (ℕ × H)))) (tidy : IsTidy
       let here = home_here slots tidy d f n on in
       let home : ℕ = on.hash % length slots in
       left_is slots tidy d f n on
-      ∙ left_take slots tidy on.hash home (λ _. refl) d r on.within (λ j l. omega (arith, on.passed j l, ap reach (from_home slots tidy d f n on j))) (ap mark_of here ∙ is ∙ ap (λ t. Some (d, t)) on.fingerprint) (subst (λ o. IfSome o (λ p. r ≡ p.entry.1)) (sym here) handle)
+      ∙ left_take slots tidy on.hash home (λ _. refl) d r on.within (λ j l. omega (arith, on.passed j l, ap reach (from_home slots tidy d f n on j)))
+      (ap mark_of here ∙ is ∙ ap (λ t. Some (d, t)) on.fingerprint) (subst (λ o. IfSome o (λ p. r ≡ p.entry.1)) (sym here) handle)
       ∙ ap (λ k. r ∷ left_from slots on.hash k) one_more ∙ ap (λ hs. r ∷ hs) (sym (left_is slots tidy (suc d) f next goes))
 
 -- what a step makes of a lookup
@@ -159,7 +166,8 @@ module _ {H : Type 0} (slots : List (Option (Placed (ℕ × H)))) where
   }
 
   -- has all of it left
-  pub begins_whole : (x n : ℕ) → IsTidy slots → ((k : ℕ) → reach (slot_at slots k) ≤ 16777215) → 0 < length slots → n ≡ x % length slots → (left_at slots (Some (0, top x)) n ≡ left_from slots x 0) × (unread_at slots (Some (0, top x)) n ≡ unread_from slots x 0)
+  pub begins_whole : (x n : ℕ) → IsTidy slots → ((k : ℕ) → reach (slot_at slots k) ≤ 16777215) → 0 < length slots → n ≡ x % length slots
+      → (left_at slots (Some (0, top x)) n ≡ left_from slots x 0) × (unread_at slots (Some (0, top x)) n ≡ unread_from slots x 0)
   unfolding lookup_begins
   begins_whole x n tidy near some at =
       let on = (lookup_begins x n tidy near some at).walk in
@@ -182,7 +190,8 @@ pub record HasFound {H : Type 0} (slots : List (Option (Placed (ℕ × H)))) (s 
   pub read : w' + unread_at slots s' n' ≡ w + unread_at slots s n + 1
   pub on : (t : Mark) (k : ℕ) → t ≡ mark_on s' → k ≡ (n' + 1) % length slots → HasStepped slots s' t n' k × (left_at slots s n ≡ r ∷ left_at slots t k)
 
-pub has_found : {H : Type 0} (slots : List (Option (Placed (ℕ × H)))) (s s' : Mark) (n n' : ℕ) (r : H) (w w' : ℕ) → IsLookup slots s' n' → IsSome s' → mark_of (slot_at slots n') ≡ s' → left_at slots s n ≡ left_at slots s' n' → IfSome (slot_at slots n') (λ p. r ≡ p.entry.1)
+pub has_found : {H : Type 0} (slots : List (Option (Placed (ℕ × H)))) (s s' : Mark) (n n' : ℕ) (r : H) (w w' : ℕ) → IsLookup slots s' n'
+    → IsSome s' → mark_of (slot_at slots n') ≡ s' → left_at slots s n ≡ left_at slots s' n' → IfSome (slot_at slots n') (λ p. r ≡ p.entry.1)
     → w' + unread_at slots s' n' ≡ w + unread_at slots s n + 1 → HasFound slots s s' n n' r w w'
 has_found slots s s' n n' r w w' lookup some found left handle read =
     let far : mark_reach s' ≤ reach (slot_at slots n') = omega (arith, reach_told s' (slot_at slots n') (sym found)) in

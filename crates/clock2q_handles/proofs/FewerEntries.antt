@@ -27,7 +27,14 @@ pub spill-fewer : (c d : ℕ → ℕ) (m k : ℕ) → Roomy c m → 0 < k * m �
 spill-fewer c d m k roomy some fewer h =
     let r = spill-found d (k * m) h some in
     let e : h + k * m - r.0 + r.0 ≡ h + k * m = omega arith in
-    omega (arith, r.2, window-le d c (h + k * m - r.0) r.0 (λ j _. fewer (h + k * m - r.0 + j)), spill-any c m roomy (h + k * m - r.0) r.0, ap (spill c m) e, again-times (spill c m) m (spill-again c m roomy.again) h k)
+    omega (
+      arith,
+      r.2,
+      window-le d c (h + k * m - r.0) r.0 (λ j _. fewer (h + k * m - r.0 + j)),
+      spill-any c m roomy (h + k * m - r.0) r.0,
+      ap (spill c m) e,
+      again-times (spill c m) m (spill-again c m roomy.again) h k,
+    )
 
 module _ {E : Type 0} where
   pub walk-is : (homes : List (List E)) (x : ℕ) → 0 < length homes → walk homes x ≡ spill_of homes x + count homes x + 1
@@ -49,7 +56,15 @@ module _ {E : Type 0} where
         let len : length less ≡ m = length-with_list homes x es in
         let one : 1 * m ≡ m = omega arith in
         let roomy : Roomy (count homes) m = roomy-of homes (omega (arith, capacity-lt m some)) in
-        omega (arith, walk-is homes y some, walk-is less y (omega arith), ap (λ w. spill (count less) w y) len, ap (λ w. spill (count less) w y) one, spill-fewer (count homes) (count less) m 1 roomy (omega arith) (λ n. count-with_list homes x n es some l) y, count-with_list homes x y es some l)
+        omega (
+          arith,
+          walk-is homes y some,
+          walk-is less y (omega arith),
+          ap (λ w. spill (count less) w y) len,
+          ap (λ w. spill (count less) w y) one,
+          spill-fewer (count homes) (count less) m 1 roomy (omega arith) (λ n. count-with_list homes x n es some l) y,
+          count-with_list homes x y es some l,
+        )
     | inr none ↦
         let is : (hs : List (List E)) → length hs ≤ 0 → walk hs y ≡ 0 = no_walk y in
         omega (arith, is (with_list homes x es) (omega (arith, length-with_list homes x es)))
@@ -100,7 +115,13 @@ module _ {H : Type 0} (key : H → ℕ) where
     | inl same ↦
         let q : n % length homes ≡ key e.1 % length homes = ap (λ x. n % x) len ∙ same ∙ ap (λ x. key e.1 % x) (sym len) in
         let one : shares m n e ≡ 1 = ap (λ b. cond b 1 0) (eq-eqb (n % m) (key e.1 % m) same) in
-        omega (arith, ap length (listed-with_same homes (key e.1) n (listed homes (key e.1) ++ e ∷ []) (omega arith) q), length-append (listed homes (key e.1)) (e ∷ []), ap (λ y. length (get_or homes y [])) q, one)
+        omega (
+          arith,
+          ap length (listed-with_same homes (key e.1) n (listed homes (key e.1) ++ e ∷ []) (omega arith) q),
+          length-append (listed homes (key e.1)) (e ∷ []),
+          ap (λ y. length (get_or homes y [])) q,
+          one,
+        )
     | inr other ↦
         let none : shares m n e ≡ 0 = ap (λ b. cond b 1 0) (ne_eqb (n % m) (key e.1 % m) other) in
         omega (arith, ap length (listed-with_other homes (key e.1) n (listed homes (key e.1) ++ e ∷ []) (λ q. other (ap (λ x. n % x) (sym len) ∙ q ∙ ap (λ x. key e.1 % x) len))), none)
@@ -115,14 +136,25 @@ module _ {H : Type 0} (key : H → ℕ) where
 
   pub total-put_all : (homes : List (List (ℕ × H))) (es : List (Placed (ℕ × H))) → 0 < length homes → total (put_all key homes es) ≡ total homes + length es
   total-put_all homes [] some = omega arith
-  total-put_all homes (s ∷ es) some = omega (arith, total-put_all (put_last homes (key s.entry.1) s.entry) es (omega (arith, length-with_list homes (key s.entry.1) (listed homes (key s.entry.1) ++ s.entry ∷ []))), total-put_last homes (key s.entry.1) s.entry some)
+  total-put_all homes (s ∷ es) some =
+      omega (
+        arith,
+        total-put_all (put_last homes (key s.entry.1) s.entry) es (omega (arith, length-with_list homes (key s.entry.1) (listed homes (key s.entry.1) ++ s.entry ∷ []))),
+        total-put_last homes (key s.entry.1) s.entry some,
+      )
 
   pub put_all-push : (homes : List (List (ℕ × H))) (es : List (Placed (ℕ × H))) (s : Placed (ℕ × H)) → put_all key homes (es ++ s ∷ []) ≡ put_last (put_all key homes es) (key s.entry.1) s.entry
   put_all-push homes es s = fold_push (λ hs s. put_last hs (key s.entry.1) s.entry) homes es s
 
   count-put_all : (homes : List (List (ℕ × H))) (m n : ℕ) (es : List (Placed (ℕ × H))) → length homes ≡ m → 0 < m → count (put_all key homes es) n ≡ count homes n + sum_by (λ s. shares m n s.entry) es
   count-put_all homes m n [] len some = omega arith
-  count-put_all homes m n (s ∷ es) len some = omega (arith, count-put_all (put_last homes (key s.entry.1) s.entry) m n es (length-with_list homes (key s.entry.1) (listed homes (key s.entry.1) ++ s.entry ∷ []) ∙ len) some, count-put_last homes m n s.entry len some, sum_by-cons (λ s. shares m n s.entry) s es)
+  count-put_all homes m n (s ∷ es) len some =
+      omega (
+        arith,
+        count-put_all (put_last homes (key s.entry.1) s.entry) m n es (length-with_list homes (key s.entry.1) (listed homes (key s.entry.1) ++ s.entry ∷ []) ∙ len) some,
+        count-put_last homes m n s.entry len some,
+        sum_by-cons (λ s. shares m n s.entry) s es,
+      )
 
   count-no_entries : (m n : ℕ) → count (no_entries {E = ℕ × H} m) n ≡ 0
   count-no_entries m n = elim (cases_lt (n % length (no_entries {E = ℕ × H} m)) m) [
@@ -140,25 +172,45 @@ module _ {H : Type 0} (key : H → ℕ) where
       let m : ℕ = length homes in
       let w : ℕ × H → ℕ = shares (k * m) n in
       let rem : (x : ℕ) → x % (k * m) % m ≡ x % m = rem-same (λ x. x % m) (k * m) (λ x. add-mul-mod_self_right x k m) in
-      let one : window (λ h. sum_by w (listed homes h)) 0 m ≤ sum_by w (listed homes (n % m)) = window_one (λ h. sum_by w (listed homes h)) (n % m) m (λ h l other. sum_by_none w (listed homes h) (λ i e is.
+      let one : window (λ h. sum_by w (listed homes h)) 0 m ≤ sum_by w (listed homes (n % m)) =
+      window_one (λ h. sum_by w (listed homes h)) (n % m) m (λ h l other. sum_by_none w (listed homes h) (λ i e is.
       let r = hashes h i e l is in
       ap (λ b. cond b 1 0) (ne_eqb (n % (k * m)) (key e.1 % (k * m)) (λ q. other (sym r.0 ∙ sym (rem (key e.1)) ∙ ap (λ x. x % m) (sym q) ∙ rem n))))) in
       let here : listed homes (n % m) ≡ listed homes n = rem-same (listed homes) m (listed-again homes) n in
       omega (arith, layout-sum w homes room, one, sum_by_all w (listed homes (n % m)) (shares_one (k * m) n), ap length here)
 
   sum_by_front : (w : Placed (ℕ × H) → ℕ) (slots : List (Option (Placed (ℕ × H)))) (i : ℕ) → sum_by w (entries (take i slots)) ≤ sum_by w (entries slots)
-  sum_by_front w slots i = omega (arith, sum_by-append w (entries (take i slots)) (entries (drop i slots)), ap (sum_by w) (sym (filter_map-append (λ s. s) (take i slots) (drop i slots)) ∙ ap entries (take-append-drop i slots)))
+  sum_by_front w slots i =
+      omega (
+        arith,
+        sum_by-append w (entries (take i slots)) (entries (drop i slots)),
+        ap (sum_by w) (sym (filter_map-append (λ s. s) (take i slots) (drop i slots)) ∙ ap entries (take-append-drop i slots)),
+      )
 
   -- while a table is rebuilt to k times its slots, no home has more entries than the home that they came from
-  pub rebuilding-count : (homes : List (List (ℕ × H))) (k i n : ℕ) → total homes < length homes → 0 < k * length homes → IsHashOf key homes → count (put_all key (no_entries (k * length homes)) (entries (take i (layout homes)))) n ≤ count homes n
+  pub rebuilding-count : (homes : List (List (ℕ × H))) (k i n : ℕ) → total homes < length homes → 0 < k * length homes
+      → IsHashOf key homes → count (put_all key (no_entries (k * length homes)) (entries (take i (layout homes)))) n ≤ count homes n
   rebuilding-count homes k i n room some hashes =
       let m : ℕ = k * length homes in
-      omega (arith, count-put_all (no_entries m) m n (entries (take i (layout homes))) (length-replicate m []) some, count-no_entries m n, sum_by_front (λ s. shares m n s.entry) (layout homes) i, shares_below homes k n room hashes)
+      omega (
+        arith,
+        count-put_all (no_entries m) m n (entries (take i (layout homes))) (length-replicate m []) some,
+        count-no_entries m n,
+        sum_by_front (λ s. shares m n s.entry) (layout homes) i,
+        shares_below homes k n room hashes,
+      )
 
   -- nor a longer walk
-  pub rebuilding-reach : (homes : List (List (ℕ × H))) (k i n : ℕ) → total homes < length homes → 0 < k * length homes → IsHashOf key homes → spill_of (put_all key (no_entries (k * length homes)) (entries (take i (layout homes)))) n + count (put_all key (no_entries (k * length homes)) (entries (take i (layout homes)))) n ≤ spill_of homes n + count homes n
+  pub rebuilding-reach : (homes : List (List (ℕ × H))) (k i n : ℕ) → total homes < length homes → 0 < k * length homes → IsHashOf key homes
+      → spill_of (put_all key (no_entries (k * length homes)) (entries (take i (layout homes)))) n
+      + count (put_all key (no_entries (k * length homes)) (entries (take i (layout homes)))) n ≤ spill_of homes n + count homes n
   rebuilding-reach homes k i n room some hashes =
       let m : ℕ = k * length homes in
       let part : List (List (ℕ × H)) = put_all key (no_entries m) (entries (take i (layout homes))) in
       let len : length part ≡ m = length-put_all (no_entries m) (entries (take i (layout homes))) ∙ length-replicate m [] in
-      omega (arith, rebuilding-count homes k i n room some hashes, ap (λ x. spill (count part) x n) len, spill-fewer (count homes) (count part) (length homes) k (roomy-of homes room) some (λ x. rebuilding-count homes k i x room some hashes) n)
+      omega (
+        arith,
+        rebuilding-count homes k i n room some hashes,
+        ap (λ x. spill (count part) x n) len,
+        spill-fewer (count homes) (count part) (length homes) k (roomy-of homes room) some (λ x. rebuilding-count homes k i x room some hashes) n,
+      )

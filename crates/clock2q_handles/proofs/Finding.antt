@@ -18,7 +18,8 @@ module _ {E : Type 0} where
       ap (met A h 0) e ∙ met-last A h 0 k ∙ ap (λ i. met A h 0 k ++ at_home (A (h + i)) i) z
 
   -- where nothing passes in the slots passed nor in the next, nothing passes in all
-  pub none_more : (test : E → Bool) (A : ℕ → Option (Placed E)) (h k : ℕ) → list_any test (met A h 0 k) ≡ false → list_any test (at_home (A (h + k)) k) ≡ false → list_any test (met A h 0 (k + 1)) ≡ false
+  pub none_more : (test : E → Bool) (A : ℕ → Option (Placed E)) (h k : ℕ) → list_any test (met A h 0 k) ≡ false
+      → list_any test (at_home (A (h + k)) k) ≡ false → list_any test (met A h 0 (k + 1)) ≡ false
   none_more test A h k before here =
       ap (list_any test) (met-more A h k) ∙ list_any-append test (met A h 0 k) (at_home (A (h + k)) k) ∙ ap (λ b. b || list_any test (at_home (A (h + k)) k)) before ∙ here
 

@@ -133,8 +133,14 @@ module _ (c d : ℕ → ℕ) (m z a : ℕ) (roomy : Roomy c m) (roomy' : Roomy d
             let s : spill d m (z + suc j) ≡ spill d m (z + j) + d (z + j) - 1 = ap (spill d m) e ∙ spill-step d m roomy' (z + j) in
             let f : spill d m (z + suc j) ≡ spill d m (z + m) = ap (λ x. spill d m (z + x)) q in
             elim (cases_lt a j) [
-              | inl past ↦ record { spilled = omega (arith, s, f, ends, lowered_is j (omega arith), pushed j past (omega arith), same j (omega arith) (λ q. omega arith)); counted = omega (arith, s, f, ends, pushed j past (omega arith), same j (omega arith) (λ q. omega arith)) }
+              | inl past ↦ record {
+                spilled = omega (arith, s, f, ends, lowered_is j (omega arith), pushed j past (omega arith), same j (omega arith) (λ q. omega arith));
+                counted = omega (arith, s, f, ends, pushed j past (omega arith), same j (omega arith) (λ q. omega arith));
+              }
               | inr at ↦
                   let p : j ≡ a = omega arith in
-                  record { spilled = omega (arith, s, f, ends, lowered_is j (omega arith), more, ap (λ x. d (z + x)) p, ap (λ x. c (z + x)) p); counted = omega (arith, s, f, ends, more, ap (λ x. d (z + x)) p, ap (λ x. c (z + x)) p) }
+                  record {
+                    spilled = omega (arith, s, f, ends, lowered_is j (omega arith), more, ap (λ x. d (z + x)) p, ap (λ x. c (z + x)) p);
+                    counted = omega (arith, s, f, ends, more, ap (λ x. d (z + x)) p, ap (λ x. c (z + x)) p);
+                  }
             ]

@@ -57,7 +57,8 @@ group_below x p r is_count is_group =
 pub group_from_middle : (x y p r : ℕ) → IsPartitionCount p → IsGroupOf x p r → SameMiddle x y → IsGroupOf y p r
 group_from_middle x y p r is_count is_group same k ek =
     let small : k ≤ 16 = exponent_le k (subst (λ q. q ≤ 2 ^ 16) ek is_count.most) in
-    let masked : (z : ℕ) → bit_and (z / 2 ^ (56 - k)) (p - 1) ≡ z / 2 ^ 40 % 2 ^ 16 / 2 ^ (16 - k) = λ z. ap (λ q. bit_and (z / 2 ^ (56 - k)) (q - 1)) ek ∙ and_mask (z / 2 ^ (56 - k)) k ∙ middle_field z k small in
+    let masked : (z : ℕ) → bit_and (z / 2 ^ (56 - k)) (p - 1) ≡ z / 2 ^ 40 % 2 ^ 16 / 2 ^ (16 - k) =
+    λ z. ap (λ q. bit_and (z / 2 ^ (56 - k)) (q - 1)) ek ∙ and_mask (z / 2 ^ (56 - k)) k ∙ middle_field z k small in
     is_group k ek ∙ masked x ∙ ap (λ n. n / 2 ^ (16 - k)) same ∙ sym (masked y)
 
 -- 2^k ends in fewer zeros than there are bits below the top byte

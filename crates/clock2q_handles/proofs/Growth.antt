@@ -57,7 +57,8 @@ module _ {H : Type 0} (key : H → ℕ) (homes : List (List (ℕ × H))) (m : �
   rebuilt_best fits = best-placed (rebuilt key m homes) (omega (arith, rebuilt-total key homes m room some, ap capacity (rebuilt-length key homes m), fits))
 
 -- an insertion finds no home's entries further past it than they were
-pub grown_nearer : {H : Type 0} (key : H → ℕ) (homes : List (List (ℕ × H))) → IsSlotCount (length homes) → total homes ≤ capacity (length homes) → (IsFull homes → IsHashOf key homes) → IsNearer homes (grown key homes)
+pub grown_nearer : {H : Type 0} (key : H → ℕ) (homes : List (List (ℕ × H))) → IsSlotCount (length homes)
+    → total homes ≤ capacity (length homes) → (IsFull homes → IsHashOf key homes) → IsNearer homes (grown key homes)
 grown_nearer key homes is_count room hashes = by_fullness (total homes == capacity (length homes)) refl
   where
     by_fullness : (b : Bool) → (total homes == capacity (length homes)) ≡ b → IsNearer homes (cond b (rebuilt key (doubled (length homes)) homes) homes)
@@ -67,4 +68,5 @@ grown_nearer key homes is_count room hashes = by_fullness (total homes == capaci
         let more = doubled_more homes (length homes) refl is_count in
         let less : total homes < max (length homes * 2) 16 = omega (arith, room, more, capacity-lt (max (length homes * 2) 16) (omega arith)) in
         subst (λ m. spill_of (rebuilt key m homes) x + count (rebuilt key m homes) x ≤ spill_of homes x + count homes x) is
-        (rebuilt-reach key homes (max (length homes * 2) 16) room less (doubled_multiple homes (length homes) refl is_count) (hashes (eqb→eq (total homes) (capacity (length homes)) (subst T (sym q) tt))) x)
+        (rebuilt-reach key homes (max (length homes * 2) 16) room less (doubled_multiple homes (length homes) refl is_count)
+        (hashes (eqb→eq (total homes) (capacity (length homes)) (subst T (sym q) tt))) x)

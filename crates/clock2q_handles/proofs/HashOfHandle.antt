@@ -31,9 +31,12 @@ module _ {H : Type 0} (key : H → ℕ) where
   some_slots [] q = absurd (cc)
   some_slots (es ∷ homes) q = omega arith
 
-  grown_by : (homes : List (List (ℕ × H))) (b : Bool) → (total homes == capacity (length homes)) ≡ b → IsHashOf key homes → (0 < length (cond b (rebuilt key (doubled (length homes)) homes) homes)) × IsHashOf key (cond b (rebuilt key (doubled (length homes)) homes) homes)
-  grown_by homes true q hashes =
-      (omega (arith, rebuilt-length key homes (doubled (length homes))), hashes-rebuilt key homes (doubled (length homes)) (omega (arith, eqb→eq (total homes) (capacity (length homes)) (subst T (sym q) tt))) (omega arith) hashes)
+  grown_by : (homes : List (List (ℕ × H))) (b : Bool) → (total homes == capacity (length homes)) ≡ b → IsHashOf key homes
+      → (0 < length (cond b (rebuilt key (doubled (length homes)) homes) homes)) × IsHashOf key (cond b (rebuilt key (doubled (length homes)) homes) homes)
+  grown_by homes true q hashes = (
+    omega (arith, rebuilt-length key homes (doubled (length homes))),
+    hashes-rebuilt key homes (doubled (length homes)) (omega (arith, eqb→eq (total homes) (capacity (length homes)) (subst T (sym q) tt))) (omega arith) hashes,
+  )
   grown_by homes false q hashes = (some_slots homes q, hashes)
 
   -- a table that grew where it was full
@@ -53,7 +56,8 @@ module _ {H : Type 0} (key : H → ℕ) where
   keyed_inserted_under : (homes : List (List (ℕ × H))) (h : ℕ) (v : H) → h ≡ key v → IsHashOf key homes → IsHashOf key (with_handle (grown key homes) h v)
   keyed_inserted_under homes h v is hashes = subst (λ x. IsHashOf key (with_handle (grown key homes) x v)) (sym is) (keyed_inserted homes v hashes)
 
-  keyed_settled : (homes new : List (List (ℕ × H))) (h : ℕ) (v : H) (found : Option H) (result : Result (H × Bool) TableError) → h ≡ key v → Settles (grown key homes) h v found result new → IsHashOf key homes → IsHashOf key new
+  keyed_settled : (homes new : List (List (ℕ × H))) (h : ℕ) (v : H) (found : Option H) (result : Result (H × Bool) TableError)
+      → h ≡ key v → Settles (grown key homes) h v found result new → IsHashOf key homes → IsHashOf key new
   keyed_settled homes new h v (Some c) result is s hashes = subst (IsHashOf key) (sym s.1) (keyed_grown homes hashes).1
   keyed_settled homes new h v None (Ok r) is s hashes = subst (IsHashOf key) (sym s.1) (keyed_inserted_under homes h v is hashes)
   keyed_settled homes new h v None (Err e) is s hashes = subst (IsHashOf key) (sym s.1) (keyed_grown homes hashes).1
@@ -67,7 +71,8 @@ module _ {H : Type 0} (key : H → ℕ) where
     keyed_put (Err Size) put memory is hashes gives = subst (IsHashOf key) (sym (put (λ e. absurd (cc)) key (λ _. gives)).1) (keyed_grown homes hashes).1
     keyed_put (Err RunTooLong) put memory is hashes gives = subst (IsHashOf key) (sym (put (λ e. absurd (cc)) key (λ _. gives)).1) (keyed_grown homes hashes).1
 
-    keyed_settles : {M : Type 0} (m : Mut M (H × Unit {0}) Bool) (matches : M) (result : Result (H × Bool) TableError) → (last : M) × AfterGrowth g f homes (λ hs. FindsOrPuts m matches hs h v result new last)
+    keyed_settles : {M : Type 0} (m : Mut M (H × Unit {0}) Bool) (matches : M) (result : Result (H × Bool) TableError)
+        → (last : M) × AfterGrowth g f homes (λ hs. FindsOrPuts m matches hs h v result new last)
         → h ≡ key v → IsHashOf key homes → GivesHashes g key homes f → IsHashOf key new
     keyed_settles m matches result settles is hashes gives =
         let s = settles.1 key (λ _. gives) in
@@ -86,7 +91,8 @@ module _ {H : Type 0} (key : H → ℕ) where
     pub keyed_reserved : (before after : TableValue H) (n : ℕ) (result : Result (Unit {0}) TableError)
         → OnOk result ((k : H → ℕ) → (IsShortOf homes n → GivesHashes g k homes f) → new ≡ reserved k homes n)
         → OnErr result (after ≡ before) → new ≡ after.homes → before.homes ≡ homes → total homes ≤ capacity (length homes) → IsHashOf key homes → GivesHashes g key homes f → IsHashOf key new
-    keyed_reserved before after n (Ok r) ok err to from room hashes gives = subst (IsHashOf key) (sym (ok key (λ _. gives))) (reserved_by homes (fit (total homes + n)) (nat_le (total homes + n) (capacity (length homes))) room (fit_some (total homes + n)) hashes)
+    keyed_reserved before after n (Ok r) ok err to from room hashes gives =
+        subst (IsHashOf key) (sym (ok key (λ _. gives))) (reserved_by homes (fit (total homes + n)) (nat_le (total homes + n) (capacity (length homes))) room (fit_some (total homes + n)) hashes)
     keyed_reserved before after n (Err e) ok err to from room hashes gives = subst (IsHashOf key) (sym (to ∙ ap (λ t. t.homes) err ∙ from)) hashes
 
   -- one handle less
@@ -111,5 +117,6 @@ module _ {H : Type 0} (key : H → ℕ) where
     }
 
   -- a closure that answers what its key says gives each held handle its hash
-  pub keyed_given : {F : Type 0} (g : Mut F (H × Unit {0}) ℕ) (homes : List (List (ℕ × H))) (f : F) → IsHashOf key homes → ((f' : F) (h : H) → Takes g f' (h, tt)) → ((f' : F) (h : H) (r : ℕ) (next : F) → Called g f' (h, tt) r next → r ≡ key h) → GivesHashes g key homes f
+  pub keyed_given : {F : Type 0} (g : Mut F (H × Unit {0}) ℕ) (homes : List (List (ℕ × H))) (f : F) → IsHashOf key homes
+      → ((f' : F) (h : H) → Takes g f' (h, tt)) → ((f' : F) (h : H) (r : ℕ) (next : F) → Called g f' (h, tt) r next → r ≡ key h) → GivesHashes g key homes f
   keyed_given g homes f hashes takes answers = keyed_given_by g homes (λ _. Unit {0}) (λ f' h _ _. takes f' h) (λ f' h r next _ _ called. (answers f' h r next called, tt)) f tt hashes

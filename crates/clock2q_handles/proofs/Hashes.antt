@@ -16,16 +16,19 @@ use Rattle.clock2q_handles.proofs.FewerEntries.{length-put_all, total-put_all, t
 module _ {E : Type 0} where
   -- the entries before a slot, once it is passed
   pub entries-none : (slots : List (Option (Placed E))) (k : ℕ) → k < length slots → get_or slots k None ≡ None → entries (take (suc k) slots) ≡ entries (take k slots)
-  entries-none slots k l none = ap entries (take-suc slots k None l) ∙ filter_map-append (λ s. s) (take k slots) (get_or slots k None ∷ []) ∙ ap (λ o. entries (take k slots) ++ entries (o ∷ [])) none ∙ append-nil (entries (take k slots))
+  entries-none slots k l none = ap entries (take-suc slots k None l) ∙ filter_map-append (λ s. s) (take k slots) (get_or slots k None ∷ [])
+      ∙ ap (λ o. entries (take k slots) ++ entries (o ∷ [])) none ∙ append-nil (entries (take k slots))
 
   pub entries-some : (slots : List (Option (Placed E))) (k : ℕ) (s : Placed E) → k < length slots → get_or slots k None ≡ Some s → entries (take (suc k) slots) ≡ entries (take k slots) ++ s ∷ []
-  entries-some slots k s l some = ap entries (take-suc slots k None l) ∙ filter_map-append (λ s. s) (take k slots) (get_or slots k None ∷ []) ∙ ap (λ o. entries (take k slots) ++ entries (o ∷ [])) some
+  entries-some slots k s l some =
+      ap entries (take-suc slots k None l) ∙ filter_map-append (λ s. s) (take k slots) (get_or slots k None ∷ []) ∙ ap (λ o. entries (take k slots) ++ entries (o ∷ [])) some
 
   pub entries-all : (slots : List (Option (Placed E))) → entries (take (length slots) slots) ≡ entries slots
   entries-all slots = ap entries (take_all (length slots) slots (omega arith))
 
   pub entries-front : (slots : List (Option (Placed E))) (k : ℕ) → length (entries (take k slots)) ≤ length (entries slots)
-  entries-front slots k = omega (arith, length-append (entries (take k slots)) (entries (drop k slots)), ap length (sym (filter_map-append (λ s. s) (take k slots) (drop k slots)) ∙ ap entries (take-append-drop k slots)))
+  entries-front slots k =
+      omega (arith, length-append (entries (take k slots)) (entries (drop k slots)), ap length (sym (filter_map-append (λ s. s) (take k slots) (drop k slots)) ∙ ap entries (take-append-drop k slots)))
 
   -- each entry by slot stands in a slot
   pub entries-from : (slots : List (Option (Placed E))) (i : ℕ) (s : Placed E) → slice_get (entries slots) i ≡ Some s → (n : ℕ) × (n < length slots) × (get_or slots n None ≡ Some s)
@@ -38,7 +41,8 @@ module _ {E : Type 0} where
       let r = entries-from slots i s is in
       (suc r.0, omega arith, r.2)
 
-  kept_by : (test : E → Bool) (x : E) (es : List E) (i : ℕ) (e : E) (b : Bool) → ((i : ℕ) → slice_get (without_first test es) i ≡ Some e → (j : ℕ) × (slice_get es j ≡ Some e)) → slice_get (cond b es (x ∷ without_first test es)) i ≡ Some e → (j : ℕ) × (slice_get (x ∷ es) j ≡ Some e)
+  kept_by : (test : E → Bool) (x : E) (es : List E) (i : ℕ) (e : E) (b : Bool) → ((i : ℕ) → slice_get (without_first test es) i ≡ Some e → (j : ℕ) × (slice_get es j ≡ Some e))
+      → slice_get (cond b es (x ∷ without_first test es)) i ≡ Some e → (j : ℕ) × (slice_get (x ∷ es) j ≡ Some e)
   kept_by test x es i e true rest is = (suc i, is)
   kept_by test x es zero e false rest is = (0, is)
   kept_by test x es (suc i) e false rest is =
@@ -52,7 +56,8 @@ module _ {E : Type 0} where
 
 module _ {H : Type 0} (key : H → ℕ) where
   -- an entry of any home, counted on past the last
-  pub hash-at : (homes : List (List (ℕ × H))) → IsHashOf key homes → 0 < length homes → (n i : ℕ) (e : ℕ × H) → slice_get (listed homes n) i ≡ Some e → (home homes (key e.1) ≡ home homes n) × (top (key e.1) ≡ e.0)
+  pub hash-at : (homes : List (List (ℕ × H))) → IsHashOf key homes → 0 < length homes → (n i : ℕ) (e : ℕ × H)
+      → slice_get (listed homes n) i ≡ Some e → (home homes (key e.1) ≡ home homes n) × (top (key e.1) ≡ e.0)
   hash-at homes hashes some n i e is =
       let q : n % length homes % length homes ≡ n % length homes = mod-eq_of_lt (omega arith) in
       hashes (n % length homes) i e (omega arith) (ap (λ x. slice_get (get_or homes x []) i) q ∙ is)
@@ -72,11 +77,13 @@ module _ {H : Type 0} (key : H → ℕ) where
   -- no entries have no hashes
   pub hashes-none : (m : ℕ) → IsHashOf key (no_entries m)
   hashes-none m h i e l is =
-      let none : listed (no_entries {E = ℕ × H} m) h ≡ [] = get_or-replicate m (h % length (no_entries {E = ℕ × H} m)) [] [] (omega (arith, l, length-replicate {A = List (ℕ × H)} m [], mod-eq_of_lt l)) in
+      let none : listed (no_entries {E = ℕ × H} m) h ≡ [] =
+      get_or-replicate m (h % length (no_entries {E = ℕ × H} m)) [] [] (omega (arith, l, length-replicate {A = List (ℕ × H)} m [], mod-eq_of_lt l)) in
       absurd (omega (arith, slice_get_within (listed (no_entries {E = ℕ × H} m) h) i e is, ap length none))
 
   -- a list put in the place of a home's, of which each entry has a hash of that home
-  pub hashes-with_list : (homes : List (List (ℕ × H))) (x : ℕ) (es : List (ℕ × H)) → IsHashOf key homes → ((i : ℕ) (e : ℕ × H) → slice_get es i ≡ Some e → (home homes (key e.1) ≡ home homes x) × (top (key e.1) ≡ e.0)) → IsHashOf key (with_list homes x es)
+  pub hashes-with_list : (homes : List (List (ℕ × H))) (x : ℕ) (es : List (ℕ × H)) → IsHashOf key homes
+      → ((i : ℕ) (e : ℕ × H) → slice_get es i ≡ Some e → (home homes (key e.1) ≡ home homes x) × (top (key e.1) ≡ e.0)) → IsHashOf key (with_list homes x es)
   hashes-with_list homes x es hashes new h i e l is =
       let len : length (with_list homes x es) ≡ length homes = length-with_list homes x es in
       let l' : h < length homes = omega (arith, l, len) in
@@ -92,7 +99,8 @@ module _ {H : Type 0} (key : H → ℕ) where
       ]
 
   -- an entry put last
-  pub hashes-put_last : (homes : List (List (ℕ × H))) (x : ℕ) (e : ℕ × H) → 0 < length homes → IsHashOf key homes → home homes (key e.1) ≡ home homes x → top (key e.1) ≡ e.0 → IsHashOf key (put_last homes x e)
+  pub hashes-put_last : (homes : List (List (ℕ × H))) (x : ℕ) (e : ℕ × H) → 0 < length homes → IsHashOf key homes
+      → home homes (key e.1) ≡ home homes x → top (key e.1) ≡ e.0 → IsHashOf key (put_last homes x e)
   hashes-put_last homes x e some hashes into fingerprint = hashes-with_list homes x (listed homes x ++ e ∷ []) hashes (λ i f is. elim (slice_get-append (listed homes x) (e ∷ []) i f is) [
     | inl old ↦ hash-at homes hashes some x i f old
     | inr new ↦
@@ -109,9 +117,12 @@ module _ {H : Type 0} (key : H → ℕ) where
       hash-at homes hashes some x r.0 e r.1)
 
   -- entries put in one after another
-  pub hashes-put_all : (homes : List (List (ℕ × H))) (es : List (Placed (ℕ × H))) → 0 < length homes → IsHashOf key homes → ((i : ℕ) (s : Placed (ℕ × H)) → slice_get es i ≡ Some s → top (key s.entry.1) ≡ s.entry.0) → IsHashOf key (put_all key homes es)
+  pub hashes-put_all : (homes : List (List (ℕ × H))) (es : List (Placed (ℕ × H))) → 0 < length homes → IsHashOf key homes
+      → ((i : ℕ) (s : Placed (ℕ × H)) → slice_get es i ≡ Some s → top (key s.entry.1) ≡ s.entry.0) → IsHashOf key (put_all key homes es)
   hashes-put_all homes [] some hashes all = hashes
-  hashes-put_all homes (s ∷ es) some hashes all = hashes-put_all (put_last homes (key s.entry.1) s.entry) es (omega (arith, some, length-with_list homes (key s.entry.1) (listed homes (key s.entry.1) ++ s.entry ∷ []))) (hashes-put_last homes (key s.entry.1) s.entry some hashes refl (all 0 s refl)) (λ i t is. all (suc i) t is)
+  hashes-put_all homes (s ∷ es) some hashes all =
+      hashes-put_all (put_last homes (key s.entry.1) s.entry) es (omega (arith, some, length-with_list homes (key s.entry.1) (listed homes (key s.entry.1) ++ s.entry ∷ [])))
+      (hashes-put_last homes (key s.entry.1) s.entry some hashes refl (all 0 s refl)) (λ i t is. all (suc i) t is)
 
   -- the entries keep their fingerprints and homes through a rebuild
   pub hashes-rebuilt : (homes : List (List (ℕ × H))) (m : ℕ) → total homes ≤ capacity (length homes) → 0 < m → IsHashOf key homes → IsHashOf key (rebuilt key m homes)
@@ -125,8 +136,16 @@ module _ {H : Type 0} (key : H → ℕ) where
 
   -- as many entries as before
   pub rebuilt-total : (homes : List (List (ℕ × H))) (m : ℕ) → total homes ≤ capacity (length homes) → 0 < m → total (rebuilt key m homes) ≡ total homes
-  rebuilt-total homes m room some = omega (arith, total-put_all key (no_entries m) (entries (layout homes)) (omega (arith, some, length-replicate {A = List (ℕ × H)} m [])), total-no_entries key m, layout-total homes room)
+  rebuilt-total homes m room some =
+      omega (arith, total-put_all key (no_entries m) (entries (layout homes)) (omega (arith, some, length-replicate {A = List (ℕ × H)} m [])), total-no_entries key m, layout-total homes room)
 
   -- and no more on the way
   pub rebuilding-total : (homes : List (List (ℕ × H))) (m i : ℕ) → total homes ≤ capacity (length homes) → 0 < m → total (put_all key (no_entries m) (entries (take i (layout homes)))) ≤ total homes
-  rebuilding-total homes m i room some = omega (arith, total-put_all key (no_entries m) (entries (take i (layout homes))) (omega (arith, some, length-replicate {A = List (ℕ × H)} m [])), total-no_entries key m, layout-total homes room, entries-front (layout homes) i)
+  rebuilding-total homes m i room some =
+      omega (
+        arith,
+        total-put_all key (no_entries m) (entries (take i (layout homes))) (omega (arith, some, length-replicate {A = List (ℕ × H)} m [])),
+        total-no_entries key m,
+        layout-total homes room,
+        entries-front (layout homes) i,
+      )

@@ -94,7 +94,8 @@ module _ {H : Type 0} (key : H → ℕ) where
   all_new homes [] i s some is = absurd (cc)
   all_new homes (t ∷ es) zero s some is =
       let q : t ≡ s = cc in
-      subst (λ u. IsEntry (put_all key homes (t ∷ es)) u.entry) q (all_kept (put_last homes (key t.entry.1) t.entry) es t.entry (put_some homes t some) (entry_new homes (key t.entry.1) t.entry t.entry some))
+      subst (λ u. IsEntry (put_all key homes (t ∷ es)) u.entry) q
+      (all_kept (put_last homes (key t.entry.1) t.entry) es t.entry (put_some homes t some) (entry_new homes (key t.entry.1) t.entry t.entry some))
   all_new homes (t ∷ es) (suc i) s some is = all_new (put_last homes (key t.entry.1) t.entry) es i s (put_some homes t some) is
 
   all_from : (homes : List (List (ℕ × H))) (es : List (Placed (ℕ × H))) (f : ℕ × H) → 0 < length homes → IsEntry (put_all key homes es) f

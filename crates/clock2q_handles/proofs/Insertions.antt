@@ -33,7 +33,8 @@ search_far f n b (suc w) = elim (search_far f n b w) [
 
 module _ {E : Type 0} where
   -- entries that have room to move on stay near enough
-  pub opened-near : (slots others : List (Option (Placed E))) (g n w : ℕ) (e : E) → length others ≡ length slots → Opens (slot_at slots) (slot_at others) (length slots) g n w e → HasRoom (slot_at slots) 16777214 g n w
+  pub opened-near : (slots others : List (Option (Placed E))) (g n w : ℕ) (e : E) → length others ≡ length slots
+      → Opens (slot_at slots) (slot_at others) (length slots) g n w e → HasRoom (slot_at slots) 16777214 g n w
       → ((k : ℕ) → reach (slot_at slots k) ≤ 16777215) → (k : ℕ) → reach (slot_at others k) ≤ 16777215
   opened-near slots others g n w e same opens room near = near_by_lap others g 16777215 (omega (arith, opens.upto, same)) (λ j l. elim (cases_lt j n) [
     | inl early ↦ omega (arith, near (g + j), ap reach (opens.before j early))
@@ -44,7 +45,13 @@ module _ {E : Type 0} where
         | inr upto ↦
             let k : ℕ = j - 1 in
             let q : suc k ≡ j = omega arith in
-            omega (arith, room.others k (omega arith) (omega arith), ap (λ i. reach (slot_at others (g + i))) q, ap reach (opens.moved k (omega arith) (omega arith)), (reach-moved_on (slot_at slots (g + k))).1)
+            omega (
+              arith,
+              room.others k (omega arith) (omega arith),
+              ap (λ i. reach (slot_at others (g + i))) q,
+              ap reach (opens.moved k (omega arith) (omega arith)),
+              (reach-moved_on (slot_at slots (g + k))).1,
+            )
       ]
     ]
   ])
@@ -57,7 +64,8 @@ pub record HasEnded {E : Type 0} (slots : List (Option (Placed E))) (x g n : ℕ
   pub stop : reach (slot_at slots (g + n)) ≤ n
 
 -- the same, of slots that are seen as a table's
-pub has_ended : {H : Type 0} (slots : List (Option (Placed (ℕ × H)))) (t : TableValue H) (x g n writes : ℕ) → table_value (homes_of slots) slots writes ≡ t → total t.homes < capacity (length t.homes) → g ≡ x % length t.slots
+pub has_ended : {H : Type 0} (slots : List (Option (Placed (ℕ × H)))) (t : TableValue H) (x g n writes : ℕ)
+    → table_value (homes_of slots) slots writes ≡ t → total t.homes < capacity (length t.homes) → g ≡ x % length t.slots
     → ((j : ℕ) → j < n → j < reach (slot_at t.slots (g + j))) → reach (slot_at t.slots (g + n)) ≤ n → HasEnded slots x g n
 has_ended slots t x g n writes is room home passed stop =
     let back = ap (λ u. u.slots) (sym is) in
@@ -129,6 +137,7 @@ module _ {H : Type 0} (x : ℕ) (v : H) (slots others : List (Option (Placed (�
     | inr own ↦ elim (search_far (λ j. reach (slot_at slots (g + j))) n 16777214 first.0) [
       | inl near ↦ absurd (far first.0 first.2 (record { own = own; others = near }))
       | inr found ↦
-          long-by-moved slots table.tidy x n (top x, v) stops ended.fits found.0 found.1 (λ i from upto. omega (arith, first.2.occupied i (omega (arith, upto, found.2)), ap reach (past i))) (omega (arith, found.3, ap reach (past found.0)))
+          long-by-moved slots table.tidy x n (top x, v) stops ended.fits found.0 found.1
+          (λ i from upto. omega (arith, first.2.occupied i (omega (arith, upto, found.2)), ap reach (past i))) (omega (arith, found.3, ap reach (past found.0)))
     ]
   ]

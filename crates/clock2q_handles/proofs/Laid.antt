@@ -47,7 +47,8 @@ module _ {E : Type 0} where
       append-nil (at_home (A (h + d)) d) ∙ ap (λ x. at_home (A (h + x)) x) e
   met-last A h d (suc k) =
       let e : suc d + k ≡ d + suc k = omega arith in
-      ap (λ xs. at_home (A (h + d)) d ++ xs) (met-last A h (suc d) k) ∙ sym (append_assoc (at_home (A (h + d)) d) (met A h (suc d) k) (at_home (A (h + (suc d + k))) (suc d + k))) ∙ ap (λ x. (at_home (A (h + d)) d ++ met A h (suc d) k) ++ at_home (A (h + x)) x) e
+      ap (λ xs. at_home (A (h + d)) d ++ xs) (met-last A h (suc d) k) ∙ sym (append_assoc (at_home (A (h + d)) d) (met A h (suc d) k) (at_home (A (h + (suc d + k))) (suc d + k)))
+      ∙ ap (λ x. (at_home (A (h + d)) d ++ met A h (suc d) k) ++ at_home (A (h + x)) x) e
 
   pub met-add : (A : ℕ → Option (Placed E)) (h d k l : ℕ) → met A h d (k + l) ≡ met A h d k ++ met A h (d + k) l
   met-add A h d k zero =
@@ -56,12 +57,15 @@ module _ {E : Type 0} where
   met-add A h d k (suc l) =
       let e : k + suc l ≡ suc (k + l) = omega arith in
       let s : d + (k + l) ≡ d + k + l = omega arith in
-      ap (met A h d) e ∙ met-last A h d (k + l) ∙ ap (λ xs. xs ++ at_home (A (h + (d + (k + l)))) (d + (k + l))) (met-add A h d k l) ∙ append_assoc (met A h d k) (met A h (d + k) l) (at_home (A (h + (d + (k + l)))) (d + (k + l))) ∙ ap (λ x. met A h d k ++ (met A h (d + k) l ++ at_home (A (h + x)) x)) s ∙ ap (λ xs. met A h d k ++ xs) (sym (met-last A h (d + k) l))
+      ap (met A h d) e ∙ met-last A h d (k + l) ∙ ap (λ xs. xs ++ at_home (A (h + (d + (k + l)))) (d + (k + l))) (met-add A h d k l)
+      ∙ append_assoc (met A h d k) (met A h (d + k) l) (at_home (A (h + (d + (k + l)))) (d + (k + l)))
+      ∙ ap (λ x. met A h d k ++ (met A h (d + k) l ++ at_home (A (h + x)) x)) s ∙ ap (λ xs. met A h d k ++ xs) (sym (met-last A h (d + k) l))
 
   pub met-same : (A B : ℕ → Option (Placed E)) (g h d k : ℕ) → ((j : ℕ) → d ≤ j → j < d + k → A (g + j) ≡ B (h + j)) → met A g d k ≡ met B h d k
   met-same A B g h d zero same = refl
   met-same A B g h d (suc k) same =
-      ap (λ o. at_home o d ++ met A g (suc d) k) (same d (omega arith) (omega arith)) ∙ ap (λ xs. at_home (B (h + d)) d ++ xs) (met-same A B g h (suc d) k (λ j from upto. same j (omega arith) (omega arith)))
+      ap (λ o. at_home o d ++ met A g (suc d) k) (same d (omega arith) (omega arith))
+      ∙ ap (λ xs. at_home (B (h + d)) d ++ xs) (met-same A B g h (suc d) k (λ j from upto. same j (omega arith) (omega arith)))
 
   pub met-again : (A : ℕ → Option (Placed E)) (m h d k : ℕ) → ((n : ℕ) → A (n + m) ≡ A n) → met A (h + m) d k ≡ met A h d k
   met-again A m h d k again = met-same A A (h + m) h d k (λ j _ _.
@@ -166,7 +170,8 @@ module _ {E : Type 0} where
                 let e : suc (k - spill (counts L) m h) ≡ suc k - spill (counts L) m h = omega arith in
                 last ∙ ap (λ xs. met A h 0 k ++ xs) r.1 ∙ ap (λ xs. xs ++ r.0 ∷ []) (met_take h l k) ∙ sym (take-more-get (L h) (k - spill (counts L) m h) r.0 r.2) ∙ ap (λ x. take x (L h)) e
             | inr late ↦
-                last ∙ ap (λ xs. met A h 0 k ++ xs) (not_own h k l (λ p. omega arith)) ∙ append-nil (met A h 0 k) ∙ met_take h l k ∙ take_all (k - spill (counts L) m h) (L h) (omega arith) ∙ sym (take_all (suc k - spill (counts L) m h) (L h) (omega arith))
+                last ∙ ap (λ xs. met A h 0 k ++ xs) (not_own h k l (λ p. omega arith)) ∙ append-nil (met A h 0 k) ∙ met_take h l k
+                ∙ take_all (k - spill (counts L) m h) (L h) (omega arith) ∙ sym (take_all (suc k - spill (counts L) m h) (L h) (omega arith))
           ]
         ]
 
@@ -181,10 +186,13 @@ module _ {E : Type 0} where
 
       -- and each home's list is read off them
       pub laid-met : ((n : ℕ) → L (n + m) ≡ L n) → (h : ℕ) → met A h 0 m ≡ L h
-      laid-met same h = sym (met-again A m h 0 m again) ∙ met_take (h + m) (omega (arith, spill-lt (counts L) m roomy 0)) m ∙ take_all (m - spill (counts L) m (h + m)) (L (h + m)) (omega (arith, spill-step (counts L) m roomy (h + m), spill-lt (counts L) m roomy (suc (h + m)), spill-lt (counts L) m roomy (h + m))) ∙ same h
+      laid-met same h = sym (met-again A m h 0 m again) ∙ met_take (h + m) (omega (arith, spill-lt (counts L) m roomy 0)) m
+          ∙ take_all (m - spill (counts L) m (h + m)) (L (h + m))
+          (omega (arith, spill-step (counts L) m roomy (h + m), spill-lt (counts L) m roomy (suc (h + m)), spill-lt (counts L) m roomy (h + m))) ∙ same h
 
   -- two tables of slots laid out for the same lists show the same
-  pub laid-same : (m : ℕ) (L : ℕ → List E) (A B : ℕ → Option (Placed E)) → Roomy (counts L) m → ((n : ℕ) → A (n + m) ≡ A n) → ((n : ℕ) → B (n + m) ≡ B n) → IsLaid m L A → IsLaid m L B → (n : ℕ) → A n ≡ B n
+  pub laid-same : (m : ℕ) (L : ℕ → List E) (A B : ℕ → Option (Placed E)) → Roomy (counts L) m
+      → ((n : ℕ) → A (n + m) ≡ A n) → ((n : ℕ) → B (n + m) ≡ B n) → IsLaid m L A → IsLaid m L B → (n : ℕ) → A n ≡ B n
   laid-same m L A B roomy a b p q n = sym (a n) ∙ at_lap ∙ b n
     where
       at_lap : A (n + m) ≡ B (n + m)

@@ -156,7 +156,8 @@ full_again-capacity = refl
 abbrev wide : Numbers
 wide = rebuilt hash_of 32 full
 
-wide-layout : layout wide ≡ (at 0xAB 3 1 ∷ at 0xAB 5 2 ∷ at 0xAB 7 3 ∷ at 0xAB 9 4 ∷ at 0xAB 11 5 ∷ []) ++ vacant 10 ++ (at 0xAB 2 0 ∷ at 0xAB 4 1 ∷ at 0xAB 6 2 ∷ at 0xAB 8 3 ∷ at 0xAB 10 4 ∷ at 0xAB 0 5 ∷ []) ++ vacant 10 ++ at 0xAB 1 0 ∷ []
+wide-layout : layout wide ≡ (at 0xAB 3 1 ∷ at 0xAB 5 2 ∷ at 0xAB 7 3 ∷ at 0xAB 9 4 ∷ at 0xAB 11 5 ∷ []) ++ vacant 10
+    ++ (at 0xAB 2 0 ∷ at 0xAB 4 1 ∷ at 0xAB 6 2 ∷ at 0xAB 8 3 ∷ at 0xAB 10 4 ∷ at 0xAB 0 5 ∷ []) ++ vacant 10 ++ at 0xAB 1 0 ∷ []
 unfolding layout spill
 wide-layout = refl
 
@@ -239,11 +240,14 @@ two_held = with_handle one_held 5 1
 abbrev three_held : Numbers
 three_held = with_handle two_held 9 2
 
-held-candidates : (candidates one_held 5 ≡ 0 ∷ []) × (map (candidates two_held) (5 ∷ 9 ∷ []) ≡ (0 ∷ 1 ∷ []) ∷ [] ∷ []) × (map (candidates three_held) (5 ∷ 9 ∷ []) ≡ (0 ∷ 1 ∷ []) ∷ (2 ∷ []) ∷ []) × (total three_held ≡ 3)
+held-candidates : (candidates one_held 5 ≡ 0 ∷ []) × (map (candidates two_held) (5 ∷ 9 ∷ []) ≡ (0 ∷ 1 ∷ []) ∷ [] ∷ [])
+    × (map (candidates three_held) (5 ∷ 9 ∷ []) ≡ (0 ∷ 1 ∷ []) ∷ (2 ∷ []) ∷ []) × (total three_held ≡ 3)
 held-candidates = (refl, refl, refl, refl)
 
-held-replies : Settles (no_entries 16) 5 0 None (Ok (0, true)) one_held × Settles one_held 5 7 (Some 0) (Ok (0, false)) one_held × Settles one_held 5 1 None (Ok (1, true)) two_held × Settles two_held 9 2 None (Ok (2, true)) three_held
-held-replies = ((refl, refl, few_fit (no_entries 16) 5 0 (lit< tt) (lit< tt)), (refl, refl), (refl, refl, few_fit one_held 5 1 (lit< tt) (lit< tt)), (refl, refl, few_fit two_held 9 2 (lit< tt) (lit< tt)))
+held-replies : Settles (no_entries 16) 5 0 None (Ok (0, true)) one_held × Settles one_held 5 7 (Some 0) (Ok (0, false)) one_held
+    × Settles one_held 5 1 None (Ok (1, true)) two_held × Settles two_held 9 2 None (Ok (2, true)) three_held
+held-replies =
+    ((refl, refl, few_fit (no_entries 16) 5 0 (lit< tt) (lit< tt)), (refl, refl), (refl, refl, few_fit one_held 5 1 (lit< tt) (lit< tt)), (refl, refl, few_fit two_held 9 2 (lit< tt) (lit< tt)))
 
 -- the groups of hashes
 groups : IsGroupOf 0xAB000000000000 256 171 × IsGroupOf 0xFFFFFFFFFFFFFFFF 1 0 × IsGroupOf 0xFFFFFFFFFFFFFFFF 65536 65535

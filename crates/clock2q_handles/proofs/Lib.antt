@@ -7,6 +7,7 @@ pub mod Groups
 pub mod Growth
 pub mod Hashes
 pub mod Held
+pub mod Holding
 pub mod Insertions
 pub mod HashOfHandle
 pub mod Laid

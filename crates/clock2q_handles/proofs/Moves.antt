@@ -12,11 +12,13 @@ use Rattle.clock2q_handles.proofs.TidyLayout.{tidy-vacant}
 module _ {E : Type 0} (slots : List (Option (Placed E))) (x : Option (Placed E)) where
   -- the slot that was written
   pub slot_at-set_same : (n : ℕ) → 0 < length slots → slot_at (set slots (n % length slots) x) n ≡ x
-  slot_at-set_same n some = ap (λ m. get_or (set slots (n % length slots) x) (n % m) None) (length-set slots (n % length slots) x) ∙ get_or-set_same slots (n % length slots) x None (mod_below n (length slots) some)
+  slot_at-set_same n some = ap (λ m. get_or (set slots (n % length slots) x) (n % m) None) (length-set slots (n % length slots) x)
+      ∙ get_or-set_same slots (n % length slots) x None (mod_below n (length slots) some)
 
   -- a slot that was not
   pub slot_at-set_other : (n k : ℕ) → k % length slots ≢ n % length slots → slot_at (set slots (n % length slots) x) k ≡ slot_at slots k
-  slot_at-set_other n k other = ap (λ m. get_or (set slots (n % length slots) x) (k % m) None) (length-set slots (n % length slots) x) ∙ get_or-set_other slots (n % length slots) (k % length slots) x None other
+  slot_at-set_other n k other = ap (λ m. get_or (set slots (n % length slots) x) (k % m) None) (length-set slots (n % length slots) x)
+      ∙ get_or-set_other slots (n % length slots) (k % length slots) x None other
 
 -- slots less than a lap past one home are different slots
 pub apart_on_lap : (m h i j : ℕ) → i < m → j < m → i ≢ j → (h + i) % m ≢ (h + j) % m
@@ -112,7 +114,8 @@ module _ {E : Type 0} (A : ℕ → Option (Placed E)) (slots slots' : List (Opti
   at_other d j within lj ne e = ap (λ s. slot_at s (h + j)) e ∙ slot_at-set_other slots x (h + d) (h + j) (apart_on_lap (length slots) h j d lj within ne)
 
   -- one entry more has moved on
-  pub moving_more : (d v : ℕ) → 0 < d → d ≤ v → v < length slots → Moving A (slot_at slots) (length slots) h d v → x ≡ moved_on (slot_at slots (h + (d - 1))) → slots' ≡ set slots ((h + d) % length slots) x
+  pub moving_more : (d v : ℕ) → 0 < d → d ≤ v → v < length slots → Moving A (slot_at slots) (length slots) h d v
+      → x ≡ moved_on (slot_at slots (h + (d - 1))) → slots' ≡ set slots ((h + d) % length slots) x
       → Moving A (slot_at slots') (length slots) h (d - 1) v
   moving_more d v some upto within so_far is e = record {
     moved = λ j from below. elim (cases_lt j d) [
@@ -127,7 +130,8 @@ module _ {E : Type 0} (A : ℕ → Option (Placed E)) (slots slots' : List (Opti
   }
 
   -- one entry more has moved back
-  pub moving_back_more : (n d k : ℕ) → k ≡ suc d → n ≤ d → k < length slots → MovingBack A (slot_at slots) (length slots) h n d → slot_at slots (h + k) ≡ moved_on x → slots' ≡ set slots ((h + d) % length slots) x
+  pub moving_back_more : (n d k : ℕ) → k ≡ suc d → n ≤ d → k < length slots → MovingBack A (slot_at slots) (length slots) h n d
+      → slot_at slots (h + k) ≡ moved_on x → slots' ≡ set slots ((h + d) % length slots) x
       → MovingBack A (slot_at slots') (length slots) h n k
   moving_back_more n d k next from within so_far is e = record {
     moved = λ j l below. elim (cases_lt j d) [
@@ -142,7 +146,8 @@ module _ {E : Type 0} (A : ℕ → Option (Placed E)) (slots slots' : List (Opti
   }
 
   -- once they have moved on, the entry is put in
-  pub opened : (n v : ℕ) (entry : E) → n ≤ v → v < length slots → A (h + v) ≡ None → Moving A (slot_at slots) (length slots) h n v → x ≡ Some (placed n entry) → slots' ≡ set slots ((h + n) % length slots) x
+  pub opened : (n v : ℕ) (entry : E) → n ≤ v → v < length slots → A (h + v) ≡ None
+      → Moving A (slot_at slots) (length slots) h n v → x ≡ Some (placed n entry) → slots' ≡ set slots ((h + n) % length slots) x
       → Opens A (slot_at slots') (length slots) h n v entry
   opened n v entry from within vacant done is e = record {
     from = from;
@@ -155,7 +160,8 @@ module _ {E : Type 0} (A : ℕ → Option (Placed E)) (slots slots' : List (Opti
   }
 
   -- once they have moved back, the last slot is emptied
-  pub closed : (n v : ℕ) (entry : E) → n ≤ v → v < length slots → A (h + n) ≡ Some (placed n entry) → MovingBack A (slot_at slots) (length slots) h n v → x ≡ None → slots' ≡ set slots ((h + v) % length slots) x
+  pub closed : (n v : ℕ) (entry : E) → n ≤ v → v < length slots → A (h + n) ≡ Some (placed n entry)
+      → MovingBack A (slot_at slots) (length slots) h n v → x ≡ None → slots' ≡ set slots ((h + v) % length slots) x
       → Opens (slot_at slots') A (length slots) h n v entry
   closed n v entry from within was done is e = record {
     from = from;

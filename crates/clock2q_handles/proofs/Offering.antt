@@ -21,7 +21,8 @@ module _ {M H : Type 0} (m : Mut M (H × Unit {0}) Bool) where
   always_offered [] f always = tt
   always_offered (h ∷ hs) f always = ((always.at ((h, tt) ∷ [])).0, λ next called. always_offered hs next (mut_next m f (h, tt) false next next called refl always))
 
-  module _ (I : M → Type 0) (allowed : H → Type 0) (takes : (f : M) (h : H) → I f → allowed h → Takes m f (h, tt)) (keeps : (f : M) (h : H) (next : M) → I f → allowed h → Called m f (h, tt) false next → I next) where
+  module _ (I : M → Type 0) (allowed : H → Type 0) (takes : (f : M) (h : H) → I f → allowed h → Takes m f (h, tt))
+      (keeps : (f : M) (h : H) (next : M) → I f → allowed h → Called m f (h, tt) false next → I next) where
     -- where what a closure needs lasts through its rejections, it may be offered handles that it takes
     pub offered_by : (hs : List H) (f : M) → I f → ((i : ℕ) (h : H) → slice_get hs i ≡ Some h → allowed h) → TakesInTurn m f hs
     offered_by [] f i all = tt

@@ -65,7 +65,8 @@ among-rows q f c (suc n) h = elim (among-row_onto q (f n) (c n) (rows f c n) h) 
       (r.0, r.1, omega arith, r.3, r.4)
 ]
 
-distinct-row_onto : (g : ℕ → ℕ) (n : ℕ) (rest : List ℕ) → IsDistinct eqb rest → ((i j : ℕ) → i < j → j < n → g i ≡ g j → ⊥) → ((j : ℕ) → j < n → list_any (eqb (g j)) rest ≡ true → ⊥) → IsDistinct eqb (row_onto g n rest)
+distinct-row_onto : (g : ℕ → ℕ) (n : ℕ) (rest : List ℕ) → IsDistinct eqb rest → ((i j : ℕ) → i < j → j < n → g i ≡ g j → ⊥)
+    → ((j : ℕ) → j < n → list_any (eqb (g j)) rest ≡ true → ⊥) → IsDistinct eqb (row_onto g n rest)
 unfolding IsDistinct
 distinct-row_onto g zero rest d inj other = d
 distinct-row_onto g (suc n) rest d inj other = (
@@ -79,12 +80,15 @@ distinct-row_onto g (suc n) rest d inj other = (
 distinct-rows : (f : ℕ → ℕ → ℕ) (c : ℕ → ℕ) (n : ℕ) → ((t j u k : ℕ) → t < n → j < c t → u < n → k < c u → f t j ≡ f u k → (t ≡ u) × (j ≡ k)) → IsDistinct eqb (rows f c n)
 unfolding IsDistinct
 distinct-rows f c zero inj = tt
-distinct-rows f c (suc n) inj = distinct-row_onto (f n) (c n) (rows f c n) (distinct-rows f c n (λ t j u k lt lj lu lk. inj t j u k (omega arith) lj (omega arith) lk)) (λ i j l u e. omega (arith, (inj n i n j (omega arith) (omega arith) (omega arith) u e).1)) (λ j l h.
+distinct-rows f c (suc n) inj =
+    distinct-row_onto (f n) (c n) (rows f c n) (distinct-rows f c n (λ t j u k lt lj lu lk. inj t j u k (omega arith) lj (omega arith) lk))
+    (λ i j l u e. omega (arith, (inj n i n j (omega arith) (omega arith) (omega arith) u e).1)) (λ j l h.
     let r = among-rows (f n j) f c n h in
     omega (arith, (inj r.0 r.1 n j (omega arith) r.3 (omega arith) l r.4).0, r.2))
 
 -- numbers of which no two are equal, all below b, are at most b
-pub pairs-fit : (f : ℕ → ℕ → ℕ) (c : ℕ → ℕ) (n b : ℕ) → ((t j u k : ℕ) → t < n → j < c t → u < n → k < c u → f t j ≡ f u k → (t ≡ u) × (j ≡ k)) → ((t j : ℕ) → t < n → j < c t → f t j < b) → window c 0 n ≤ b
+pub pairs-fit : (f : ℕ → ℕ → ℕ) (c : ℕ → ℕ) (n b : ℕ) → ((t j u k : ℕ) → t < n → j < c t → u < n → k < c u → f t j ≡ f u k → (t ≡ u) × (j ≡ k))
+    → ((t j : ℕ) → t < n → j < c t → f t j < b) → window c 0 n ≤ b
 pairs-fit f c n b inj below = omega (
   arith,
   length-rows f c n,
@@ -144,7 +148,8 @@ round_trip m g p lg lp = elim (cases_lt p g) [
       ap (λ x. (g + x) % m) r ∙ ap (λ x. x % m) s ∙ mod-eq_of_lt lp
 ]
 
-module _ {E : Type 0} (homes : List (List E)) (room : total homes < length homes) (place : ℕ → ℕ → ℕ) (placement : IsPlacement homes place) (h : ℕ) (within : h < length homes) (has : 0 < count homes h) where
+module _ {E : Type 0} (homes : List (List E)) (room : total homes < length homes) (place : ℕ → ℕ → ℕ)
+    (placement : IsPlacement homes place) (h : ℕ) (within : h < length homes) (has : 0 < count homes h) where
   -- the homes of the window that attains the spill, and h after them
   abbrev wide : ℕ
   wide = (spill-found (count homes) (length homes) h (omega arith)).0
@@ -173,9 +178,11 @@ module _ {E : Type 0} (homes : List (List E)) (room : total homes < length homes
       let m : ℕ = length homes in
       let d : ℕ = (place (from_home t) j + m - from_home t) % m in
       let e : h + m - wide + (t + d) ≡ h + m - wide + t + d = omega arith in
-      ap (λ x. x % m) e ∙ sym (rem-same (λ x. (x + d) % m) m (λ n. let q : n + m + d ≡ n + d + m = omega arith in ap (λ x. x % m) q ∙ add-mod_right (n + d) m) (h + m - wide + t)) ∙ round_trip m (from_home t) (place (from_home t) j) (home_lt t) (placement.within (from_home t) j (home_lt t) (omega (arith, home_count t)))
+      ap (λ x. x % m) e ∙ sym (rem-same (λ x. (x + d) % m) m (λ n. let q : n + m + d ≡ n + d + m = omega arith in ap (λ x. x % m) q ∙ add-mod_right (n + d) m) (h + m - wide + t))
+      ∙ round_trip m (from_home t) (place (from_home t) j) (home_lt t) (placement.within (from_home t) j (home_lt t) (omega (arith, home_count t)))
 
-  offsets_apart : (t j u k : ℕ) → t < suc wide → j < count homes (h + length homes - wide + t) → u < suc wide → k < count homes (h + length homes - wide + u) → offset t j ≡ offset u k → (t ≡ u) × (j ≡ k)
+  offsets_apart : (t j u k : ℕ) → t < suc wide → j < count homes (h + length homes - wide + t)
+      → u < suc wide → k < count homes (h + length homes - wide + u) → offset t j ≡ offset u k → (t ≡ u) × (j ≡ k)
   offsets_apart t j u k lt lj lu lk e =
       let m : ℕ = length homes in
       let same : place (from_home t) j ≡ place (from_home u) k = sym (slot_of t j lj) ∙ ap (λ x. (h + m - wide + x) % m) e ∙ slot_of u k lk in
@@ -197,10 +204,17 @@ module _ {E : Type 0} (homes : List (List E)) (room : total homes < length homes
       omega (arith, window-from (count homes) (h + length homes - wide) (suc wide), wide_sum, ap (count homes) e, count-again homes h)
 
   some_past : StandsPast homes place (spill_of homes h + count homes h - 1)
-  some_past = elim (some_in_rows (λ t j. (place (from_home t) j + length homes - from_home t) % length homes) (λ t. count homes (h + length homes - wide + t)) (suc wide) (spill_of homes h + count homes h - 1)) [
-    | inl r ↦ (from_home r.0, r.1, home_lt r.0, omega (arith, home_count r.0, r.3), r.4)
-    | inr all ↦ absurd (omega (arith, overfull, pairs-fit offset (λ t. count homes (h + length homes - wide + t)) (suc wide) (spill_of homes h + count homes h - 1 + wide) offsets_apart (λ t j lt lj. omega (arith, all t j lt lj))))
-  ]
+  some_past =
+      elim (some_in_rows (λ t j. (place (from_home t) j + length homes - from_home t) % length homes)
+      (λ t. count homes (h + length homes - wide + t)) (suc wide) (spill_of homes h + count homes h - 1)) [
+        | inl r ↦ (from_home r.0, r.1, home_lt r.0, omega (arith, home_count r.0, r.3), r.4)
+        | inr all ↦ absurd (omega (
+          arith,
+          overfull,
+          pairs-fit offset (λ t. count homes (h + length homes - wide + t))
+              (suc wide) (spill_of homes h + count homes h - 1 + wide) offsets_apart (λ t j lt lj. omega (arith, all t j lt lj)),
+        ))
+      ]
 
 -- however a table's entries are placed, some entry stands as far past its home as any in the layout
 pub best-placed : {E : Type 0} (homes : List (List E)) → total homes ≤ capacity (length homes) → IsBestPlaced homes

@@ -52,7 +52,8 @@ module _ {H : Type 0} where
       omega (arith, few, more, too-long-total (with_handle homes x v) (omega (arith, room, more, ap capacity as_long)) long)
 
   -- with the lists that an insertion leaves, taking the entry out again gives the slots of before
-  pub restored_by : (eq : H → H → Bool) (slots : List (Option (Placed (ℕ × H)))) (homes new : List (List (ℕ × H))) (x : ℕ) (v : H) → homes_of slots ≡ homes → IsTidy slots → total homes < capacity (length homes)
+  pub restored_by : (eq : H → H → Bool) (slots : List (Option (Placed (ℕ × H)))) (homes new : List (List (ℕ × H))) (x : ℕ) (v : H)
+      → homes_of slots ≡ homes → IsTidy slots → total homes < capacity (length homes)
       → eq v v ≡ true → new ≡ with_handle homes x v → IsNew eq homes x v → layout (removed eq new x v) ≡ slots
   restored_by eq slots homes new x v are tidy room same is fresh =
       let some : 0 < length slots = omega (arith, room, length-homes_of slots, ap length are) in

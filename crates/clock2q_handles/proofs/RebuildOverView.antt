@@ -71,13 +71,20 @@ module _ {F H : Type 0} (g : Mut F (H × Unit {0}) ℕ) where
           room =
               let key = may.asked.0 in
               let gives = may.asked.1 in
-              subst (λ m. total (homes_of new) < capacity m) (length-homes_of new) (step_room homes old (total homes) (length from) i (come i within) v holds key gives.hashes (homes_of new) (so_far.built key gives.answers gives.hashes) r (answered key gives.answers) may.fits)
+              subst (λ m. total (homes_of new) < capacity m) (length-homes_of new)
+              (step_room homes old (total homes) (length from) i (come i within) v holds key gives.hashes
+              (homes_of new) (so_far.built key gives.answers gives.hashes) r (answered key gives.answers) may.fits)
 
           few : total (homes_of new) ≤ 16777214
           few =
               let key = may.asked.0 in
               let gives = may.asked.1 in
-              omega (arith, may.few, step_few homes old (total homes) (length from) i (come i within) v holds key gives.hashes (homes_of new) (so_far.built key gives.answers gives.hashes) r (answered key gives.answers) may.fits)
+              omega (
+                arith,
+                may.few,
+                step_few homes old (total homes) (length from) i (come i within) v holds key gives.hashes
+                    (homes_of new) (so_far.built key gives.answers gives.hashes) r (answered key gives.answers) may.fits,
+              )
 
           -- the new slots take one entry more
           pub moving_near : (k : ℕ) → reach (slot_at new k) ≤ 16777214
@@ -98,7 +105,8 @@ module _ {F H : Type 0} (g : Mut F (H × Unit {0}) ℕ) where
                 asked = λ key answers hashes.
                     let more = handles_more homes old (total homes) (length from) i (come i within) v holds in
                     subst (λ hs. Asks g key f hs next) (sym more)
-                    (Asks-push g key f (map (λ s. s.entry.1) (entries (take i old))) last v next (so_far.asked key answers hashes) (subst (λ n. Called g last (v, tt) n next) (answered key answers) called));
+                    (Asks-push g key f (map (λ s. s.entry.1) (entries (take i old))) last v next
+                    (so_far.asked key answers hashes) (subst (λ n. Called g last (v, tt) n next) (answered key answers) called));
               }
 
     -- once every slot has been moved, so has every entry

@@ -58,7 +58,8 @@ module _ {H : Type 0} (slots : List (Option (Placed (ℕ × H)))) (len : ℕ) (t
     pub put_next : IsHashOf key (homes_of slots) → with_handle (made i) (key s.entry.1) s.entry.1 ≡ made (i + 1)
     put_next hashes =
         let e : i + 1 ≡ suc i = omega arith in
-        ap (λ t. put_last (made i) (key s.entry.1) (t, s.entry.1)) (hash-slot key slots table.tidy hashes (0 + i) s is) ∙ sym (ap made e ∙ ap (put_all key (no_entries m)) more ∙ put_all-push key (no_entries m) (entries (take i slots)) s)
+        ap (λ t. put_last (made i) (key s.entry.1) (t, s.entry.1)) (hash-slot key slots table.tidy hashes (0 + i) s is)
+        ∙ sym (ap made e ∙ ap (put_all key (no_entries m)) more ∙ put_all-push key (no_entries m) (entries (take i slots)) s)
 
     -- there is room for it
     pub room_for : len ≤ capacity m → total (made i) < capacity (length (made i))
@@ -83,7 +84,8 @@ module _ {H : Type 0} (slots : List (Option (Placed (ℕ × H)))) (len : ℕ) (t
         let room : total homes < length homes = omega (arith, tidy-room slots table.tidy, capacity-lt (length homes) (omega (arith, within, length-homes_of slots))) in
         let some : 0 < k * length homes = omega (arith, few, fits, multiple) in
         rebuilding-short key homes k (suc i) room some hashes (table-short slots len table)
-        (subst (λ hs. IsTooLong hs) (put_next hashes ∙ ap made e ∙ ap (λ n. put_all key (no_entries n) (entries (take (suc i) slots))) multiple ∙ ap (λ ss. put_all key (no_entries (k * length homes)) (entries (take (suc i) ss))) (tidy-layout slots table.tidy)) long)
+        (subst (λ hs. IsTooLong hs) (put_next hashes ∙ ap made e ∙ ap (λ n. put_all key (no_entries n) (entries (take (suc i) slots))) multiple
+        ∙ ap (λ ss. put_all key (no_entries (k * length homes)) (entries (take (suc i) ss))) (tidy-layout slots table.tidy)) long)
 
 -- what stands in a slot that isn't empty
 some_of : {E : Type 0} (o : Option (Placed E)) → 0 < reach o → (s : Placed E) × (o ≡ Some s)
@@ -103,7 +105,8 @@ pub record Holds {H : Type 0} (slots : List (Option (Placed (ℕ × H)))) (i : �
 
 module _ {H : Type 0} (homes : List (List (ℕ × H))) (slots : List (Option (Placed (ℕ × H)))) (len m i : ℕ) (come : HasCome homes slots len i) where
   -- a slot that is empty
-  pub step_empty : (key : H → ℕ) (made_so : List (List (ℕ × H))) → slot_at slots (0 + i) ≡ None → made_so ≡ put_all key (no_entries m) (entries (take i slots)) → made_so ≡ put_all key (no_entries m) (entries (take (i + 1) slots))
+  pub step_empty : (key : H → ℕ) (made_so : List (List (ℕ × H))) → slot_at slots (0 + i) ≡ None
+      → made_so ≡ put_all key (no_entries m) (entries (take i slots)) → made_so ≡ put_all key (no_entries m) (entries (take (i + 1) slots))
   step_empty key made_so empty so_far = so_far ∙ sym (passed_empty slots len come.table key m i come.within empty)
 
   -- and adds no handle
@@ -125,7 +128,8 @@ module _ {H : Type 0} (homes : List (List (ℕ × H))) (slots : List (Option (Pl
     pub handles_more : map (λ s. s.entry.1) (entries (take (i + 1) slots)) ≡ map (λ s. s.entry.1) (entries (take i slots)) ++ v ∷ []
     handles_more =
         let e : i + 1 ≡ suc i = omega arith in
-        ap (λ n. map (λ s. s.entry.1) (entries (take n slots))) e ∙ ap (map (λ s. s.entry.1)) (more slots len come.table (λ _. 0) m i come.within found.0 found.1) ∙ map-append (λ s. s.entry.1) (entries (take i slots)) (found.0 ∷ [])
+        ap (λ n. map (λ s. s.entry.1) (entries (take n slots))) e ∙ ap (map (λ s. s.entry.1)) (more slots len come.table (λ _. 0) m i come.within found.0 found.1)
+        ∙ map-append (λ s. s.entry.1) (entries (take i slots)) (found.0 ∷ [])
         ∙ ap (λ w. map (λ s. s.entry.1) (entries (take i slots)) ++ w ∷ []) (sym same)
 
     module _ (key : H → ℕ) (hashes : IsHashOf key homes) (made_so : List (List (ℕ × H))) (so_far : made_so ≡ put_all key (no_entries m) (entries (take i slots))) (r : ℕ) (answered : r ≡ key v) where
@@ -133,7 +137,8 @@ module _ {H : Type 0} (homes : List (List (ℕ × H))) (slots : List (Option (Pl
       hashes_read = subst (IsHashOf key) come.lists hashes
 
       as_put : with_handle made_so r v ≡ with_handle (put_all key (no_entries m) (entries (take i slots))) (key found.0.entry.1) found.0.entry.1
-      as_put = ap (λ hs. with_handle hs r v) so_far ∙ ap (λ x. with_handle (put_all key (no_entries m) (entries (take i slots))) x v) answered ∙ ap (λ w. with_handle (put_all key (no_entries m) (entries (take i slots))) (key w) w) same
+      as_put = ap (λ hs. with_handle hs r v) so_far ∙ ap (λ x. with_handle (put_all key (no_entries m) (entries (take i slots))) x v) answered
+          ∙ ap (λ w. with_handle (put_all key (no_entries m) (entries (take i slots))) (key w) w) same
 
       pub step_made : with_handle made_so r v ≡ put_all key (no_entries m) (entries (take (i + 1) slots))
       step_made = as_put ∙ put_next slots len come.table key m i come.within found.0 found.1 hashes_read

@@ -18,7 +18,8 @@ module _ {E : Type 0} (test : E → Bool) where
   without_first-none [] none = refl
   without_first-none (e ∷ es) none = none_at e es (test e) (without_first-none es) none
 
-  later_at : (x e : E) (xs ys : List E) (b : Bool) → (list_any test xs ≡ false → without_first test (xs ++ e ∷ ys) ≡ xs ++ ys) → (b || list_any test xs) ≡ false → cond b (xs ++ e ∷ ys) (x ∷ without_first test (xs ++ e ∷ ys)) ≡ x ∷ xs ++ ys
+  later_at : (x e : E) (xs ys : List E) (b : Bool) → (list_any test xs ≡ false → without_first test (xs ++ e ∷ ys) ≡ xs ++ ys)
+      → (b || list_any test xs) ≡ false → cond b (xs ++ e ∷ ys) (x ∷ without_first test (xs ++ e ∷ ys)) ≡ x ∷ xs ++ ys
   later_at x e xs ys true rest none = absurd (cc)
   later_at x e xs ys false rest none = ap (λ zs. x ∷ zs) (rest none)
 
@@ -41,8 +42,11 @@ module _ {H : Type 0} (eq : H → H → Bool) where
   removed-none homes x v none = ap (set homes (home homes x)) (without_first-none (is_entry_of eq x v) (listed homes x) none) ∙ set-get_or homes (home homes x) []
 
   -- the entry that stands d past its home is taken out, where those before it pass no test and it does
-  pub removed-found : (slots : List (Option (Placed (ℕ × H)))) (x d : ℕ) (v : H) (e : ℕ × H) → d < length slots → slot_at slots (x + d) ≡ Some (placed d e) → list_any (is_entry_of eq x v) (met (slot_at slots) x 0 d) ≡ false → is_entry_of eq x v e ≡ true → removed eq (homes_of slots) x v ≡ with_list (homes_of slots) x (list_without slots x d)
-  removed-found slots x d v e l here none is = ap (set (homes_of slots) (home (homes_of slots) x)) (ap (without_first (is_entry_of eq x v)) (read-split slots x d e l here) ∙ without_first-at (is_entry_of eq x v) (met (slot_at slots) x 0 d) (met (slot_at slots) x (suc d) (length slots - suc d)) e none is)
+  pub removed-found : (slots : List (Option (Placed (ℕ × H)))) (x d : ℕ) (v : H) (e : ℕ × H) → d < length slots → slot_at slots (x + d) ≡ Some (placed d e)
+      → list_any (is_entry_of eq x v) (met (slot_at slots) x 0 d) ≡ false → is_entry_of eq x v e ≡ true → removed eq (homes_of slots) x v ≡ with_list (homes_of slots) x (list_without slots x d)
+  removed-found slots x d v e l here none is =
+      ap (set (homes_of slots) (home (homes_of slots) x)) (ap (without_first (is_entry_of eq x v)) (read-split slots x d e l here)
+      ∙ without_first-at (is_entry_of eq x v) (met (slot_at slots) x 0 d) (met (slot_at slots) x (suc d) (length slots - suc d)) e none is)
 
   -- no walk becomes longer
   pub removed-walk : (homes : List (List (ℕ × H))) (x : ℕ) (v : H) → total homes ≤ capacity (length homes) → (y : ℕ) → walk (removed eq homes x v) y ≤ walk homes y
@@ -55,9 +59,12 @@ module _ {H : Type 0} (eq : H → H → Bool) where
       let len : length more ≡ length homes = length-with_list homes x (listed homes x ++ (top x, v) ∷ []) in
       let lists : listed more x ≡ listed homes x ++ (top x, v) ∷ [] = listed-with_same homes x x (listed homes x ++ (top x, v) ∷ []) some refl in
       let passes : is_entry_of eq x v (top x, v) ≡ true = ap (λ b. b && eq v v) (eq-eqb (top x) (top x) refl) ∙ same in
-      let less : without_first (is_entry_of eq x v) (listed more x) ≡ listed homes x = ap (without_first (is_entry_of eq x v)) lists ∙ without_first-at (is_entry_of eq x v) (listed homes x) [] (top x, v) new passes ∙ append-nil (listed homes x) in
-      ap (set more (home more x)) less ∙ ap (λ m. set more (x % m) (listed homes x)) len ∙ set-set homes (home homes x) (listed homes x ++ (top x, v) ∷ []) (listed homes x) ∙ set-get_or homes (home homes x) []
+      let less : without_first (is_entry_of eq x v) (listed more x) ≡ listed homes x =
+      ap (without_first (is_entry_of eq x v)) lists ∙ without_first-at (is_entry_of eq x v) (listed homes x) [] (top x, v) new passes ∙ append-nil (listed homes x) in
+      ap (set more (home more x)) less ∙ ap (λ m. set more (x % m) (listed homes x)) len
+      ∙ set-set homes (home homes x) (listed homes x ++ (top x, v) ∷ []) (listed homes x) ∙ set-get_or homes (home homes x) []
 
   -- and so the slots
-  pub restored-slots : (slots : List (Option (Placed (ℕ × H)))) (x : ℕ) (v : H) → IsTidy slots → 0 < length slots → eq v v ≡ true → IsNew eq (homes_of slots) x v → layout (removed eq (with_handle (homes_of slots) x v) x v) ≡ slots
+  pub restored-slots : (slots : List (Option (Placed (ℕ × H)))) (x : ℕ) (v : H) → IsTidy slots → 0 < length slots
+      → eq v v ≡ true → IsNew eq (homes_of slots) x v → layout (removed eq (with_handle (homes_of slots) x v) x v) ≡ slots
   restored-slots slots x v tidy some same new = ap layout (restored-homes (homes_of slots) x v (omega (arith, length-homes_of slots)) same new) ∙ sym (tidy-layout slots tidy)

@@ -10,7 +10,8 @@ use Rattle.clock2q_handles.proofs.Laid.{counts, IsLaid}
 use Rattle.clock2q_handles.proofs.Gaps.{IsOneMore}
 
 module _ {E : Type 0} where
-  inserted_get : (xs ys : List E) (e f : E) (k : ℕ) → slice_get (xs ++ e ∷ ys) k ≡ Some f → ((k < length xs) × (slice_get (xs ++ ys) k ≡ Some f)) ⊎ (((k ≡ length xs) × (e ≡ f)) ⊎ ((length xs < k) × (slice_get (xs ++ ys) (k - 1) ≡ Some f)))
+  inserted_get : (xs ys : List E) (e f : E) (k : ℕ) → slice_get (xs ++ e ∷ ys) k ≡ Some f
+      → ((k < length xs) × (slice_get (xs ++ ys) k ≡ Some f)) ⊎ (((k ≡ length xs) × (e ≡ f)) ⊎ ((length xs < k) × (slice_get (xs ++ ys) (k - 1) ≡ Some f)))
   inserted_get [] ys e f zero is =
       let s : e ≡ f = cc in
       inr (inl (refl, s))
@@ -28,7 +29,8 @@ module _ {E : Type 0} where
     ]
   ]
 
-  get_inserted : (xs ys : List E) (e f : E) (k : ℕ) → slice_get (xs ++ ys) k ≡ Some f → ((k < length xs) × (slice_get (xs ++ e ∷ ys) k ≡ Some f)) ⊎ ((length xs ≤ k) × (slice_get (xs ++ e ∷ ys) (suc k) ≡ Some f))
+  get_inserted : (xs ys : List E) (e f : E) (k : ℕ) → slice_get (xs ++ ys) k ≡ Some f
+      → ((k < length xs) × (slice_get (xs ++ e ∷ ys) k ≡ Some f)) ⊎ ((length xs ≤ k) × (slice_get (xs ++ e ∷ ys) (suc k) ≡ Some f))
   get_inserted [] ys e f k is = inr (omega arith, is)
   get_inserted (x ∷ xs) ys e f zero is = inl (omega arith, is)
   get_inserted (x ∷ xs) ys e f (suc k) is = elim (get_inserted xs ys e f k is) [
@@ -41,13 +43,17 @@ module _ {E : Type 0} where
   get_here (x ∷ xs) ys e = get_here xs ys e
 
   -- a layout is known from one lap
-  pub laid-lap : (m : ℕ) (L : ℕ → List E) (A : ℕ → Option (Placed E)) → ((n : ℕ) → L (n + m) ≡ L n) → ((n : ℕ) → A (n + m) ≡ A n) → 0 < m → (z : ℕ) → ((j i : ℕ) (e : E) → j < m → slice_get (L (z + j)) i ≡ Some e → A (z + j + spill (counts L) m (z + j) + i) ≡ Some (placed (spill (counts L) m (z + j) + i) e)) → ((j : ℕ) → j < m → IsGap (counts L) m (z + j) → A (z + j) ≡ None) → IsLaid m L A
+  pub laid-lap : (m : ℕ) (L : ℕ → List E) (A : ℕ → Option (Placed E)) → ((n : ℕ) → L (n + m) ≡ L n) → ((n : ℕ) → A (n + m) ≡ A n) → 0 < m → (z : ℕ)
+      → ((j i : ℕ) (e : E) → j < m → slice_get (L (z + j)) i ≡ Some e → A (z + j + spill (counts L) m (z + j) + i) ≡ Some (placed (spill (counts L) m (z + j) + i) e))
+      → ((j : ℕ) → j < m → IsGap (counts L) m (z + j) → A (z + j) ≡ None) → IsLaid m L A
   laid-lap m L A same again some z standing rest = record {
     standing = λ h i e is.
         let j : ℕ = lap m z h in
         let ls : L (z + j) ≡ L h = lap-same L m same some z h in
         let ss : spill (counts L) m (z + j) ≡ spill (counts L) m h = lap-same (spill (counts L) m) m (spill-again (counts L) m (λ n. ap length (same n))) some z h in
-        let around : A (z + j + spill (counts L) m h + i) ≡ A (h + spill (counts L) m h + i) = lap-same (λ x. A (x + spill (counts L) m h + i)) m (λ n. let q : n + m + spill (counts L) m h + i ≡ n + spill (counts L) m h + i + m = omega arith in ap A q ∙ again (n + spill (counts L) m h + i)) some z h in
+        let around : A (z + j + spill (counts L) m h + i) ≡ A (h + spill (counts L) m h + i) =
+        lap-same (λ x. A (x + spill (counts L) m h + i)) m (λ n. let q : n + m + spill (counts L) m h + i ≡ n + spill (counts L) m h + i + m = omega arith in
+        ap A q ∙ again (n + spill (counts L) m h + i)) some z h in
         sym around ∙ ap (λ x. A (z + j + x + i)) (sym ss) ∙ standing j i e (lap-lt m z h some) (ap (λ xs. slice_get xs i) ls ∙ is) ∙ ap (λ x. Some (placed (x + i) e)) ss;
     rest = λ n g.
         let j : ℕ = lap m z n in
@@ -103,8 +109,11 @@ module _ {E : Type 0} where
 
     module _ (laid : IsLaid m L A) where
       -- an entry that moves on with its slot
-      on_by_one : (j k : ℕ) (f : E) → j < m → a ≤ j → (j ≡ a → length xs ≤ k) → slice_get (L (z + j)) k ≡ Some f → B (suc (z + j + spill (counts L) m (z + j) + k)) ≡ Some (placed (suc (spill (counts L) m (z + j) + k)) f)
-      on_by_one j k f l from past is = moved_to A B z (z + a + spill (counts L) m (z + a) + length xs) v (spill (counts L) m (z + a) + length xs) e opened (z + j + spill (counts L) m (z + j) + k) (spill (counts L) m (z + j) + k) f (
+      on_by_one : (j k : ℕ) (f : E) → j < m → a ≤ j → (j ≡ a → length xs ≤ k) → slice_get (L (z + j)) k ≡ Some f
+          → B (suc (z + j + spill (counts L) m (z + j) + k)) ≡ Some (placed (suc (spill (counts L) m (z + j) + k)) f)
+      on_by_one j k f l from past is =
+          moved_to A B z (z + a + spill (counts L) m (z + a) + length xs) v (spill (counts L) m (z + a) + length xs)
+          e opened (z + j + spill (counts L) m (z + j) + k) (spill (counts L) m (z + j) + k) f (
           elim (cases_lt a j) [
             | inl above ↦ omega (arith, apart (counts L) m roomy (z + a) (z + j) (omega arith), upto_here)
             | inr upto ↦
@@ -113,7 +122,8 @@ module _ {E : Type 0} where
           ]) (upto_last j k l (slice_get_within (L (z + j)) k f is)) (laid.standing (z + j) k f is)
 
       -- an entry that keeps its slot
-      in_place : (j k : ℕ) (f : E) → j < m → z + j + spill (counts L) m (z + j) + k < z + a + spill (counts L) m (z + a) + length xs → slice_get (L (z + j)) k ≡ Some f → B (z + j + spill (counts L) m (z + j) + k) ≡ Some (placed (spill (counts L) m (z + j) + k) f)
+      in_place : (j k : ℕ) (f : E) → j < m → z + j + spill (counts L) m (z + j) + k < z + a + spill (counts L) m (z + a) + length xs
+          → slice_get (L (z + j)) k ≡ Some f → B (z + j + spill (counts L) m (z + j) + k) ≡ Some (placed (spill (counts L) m (z + j) + k) f)
       in_place j k f l before is = opened.kept (z + j + spill (counts L) m (z + j) + k) (omega arith) before ∙ laid.standing (z + j) k f is
 
       open_standing : (j k : ℕ) (f : E) → j < m → slice_get (M (z + j)) k ≡ Some f → B (z + j + spill (counts M) m (z + j) + k) ≡ Some (placed (spill (counts M) m (z + j) + k) f)
@@ -121,7 +131,8 @@ module _ {E : Type 0} where
         | inl before ↦
             let s : spill (counts L) m (z + j) ≡ spill (counts M) m (z + j) = omega (arith, one.spills j l) in
             let is' : slice_get (L (z + j)) k ≡ Some f = ap (λ x. slice_get x k) (sym (same j l (λ q. omega arith))) ∙ is in
-            ap (λ x. B (z + j + x + k)) (sym s) ∙ in_place j k f l (omega (arith, apart (counts L) m roomy (z + j) (z + a) (omega arith), slice_get_within (L (z + j)) k f is')) is' ∙ ap (λ x. Some (placed (x + k) f)) s
+            ap (λ x. B (z + j + x + k)) (sym s)
+            ∙ in_place j k f l (omega (arith, apart (counts L) m roomy (z + j) (z + a) (omega arith), slice_get_within (L (z + j)) k f is')) is' ∙ ap (λ x. Some (placed (x + k) f)) s
         | inr from ↦ elim (cases_lt a j) [
           | inl past ↦
               let s : suc (spill (counts L) m (z + j) + k) ≡ spill (counts M) m (z + j) + k = omega (arith, one.spills j l) in
@@ -151,7 +162,8 @@ module _ {E : Type 0} where
 
       open_rest : (j : ℕ) → j < m → IsGap (counts M) m (z + j) → B (z + j) ≡ None
       open_rest j l g = elim (cases_lt j a) [
-        | inl before ↦ opened.kept (z + j) (omega arith) (omega arith) ∙ laid.rest (z + j) (record { spilled = omega (arith, one.spills j l, g.spilled); counted = omega (arith, one.same j l (λ q. omega arith), g.counted) })
+        | inl before ↦ opened.kept (z + j) (omega arith) (omega arith)
+            ∙ laid.rest (z + j) (record { spilled = omega (arith, one.spills j l, g.spilled); counted = omega (arith, one.same j l (λ q. omega arith), g.counted) })
         | inr from ↦ elim (cases_lt a j) [
           | inl past ↦ absurd (omega (arith, one.spills j l, g.spilled))
           | inr upto ↦
@@ -170,31 +182,38 @@ module _ {E : Type 0} where
         | inl before ↦
             let s : spill (counts M) m (z + j) ≡ spill (counts L) m (z + j) = omega (arith, one.spills j l) in
             let is' : slice_get (M (z + j)) k ≡ Some f = ap (λ x. slice_get x k) (same j l (λ q. omega arith)) ∙ is in
-            sym (opened.kept (z + j + spill (counts L) m (z + j) + k) (omega arith) (omega (arith, apart (counts L) m roomy (z + j) (z + a) (omega arith), slice_get_within (L (z + j)) k f is))) ∙ ap (λ x. B (z + j + x + k)) (sym s) ∙ laid.standing (z + j) k f is' ∙ ap (λ x. Some (placed (x + k) f)) s
+            sym (opened.kept (z + j + spill (counts L) m (z + j) + k) (omega arith) (omega (arith, apart (counts L) m roomy (z + j) (z + a) (omega arith), slice_get_within (L (z + j)) k f is)))
+            ∙ ap (λ x. B (z + j + x + k)) (sym s) ∙ laid.standing (z + j) k f is' ∙ ap (λ x. Some (placed (x + k) f)) s
         | inr from ↦ elim (cases_lt a j) [
           | inl past ↦
               let s : spill (counts M) m (z + j) + k ≡ suc (spill (counts L) m (z + j) + k) = omega (arith, one.spills j l) in
               let p : suc (z + j + spill (counts L) m (z + j) + k) ≡ z + j + spill (counts M) m (z + j) + k = omega (arith, one.spills j l) in
               let is' : slice_get (M (z + j)) k ≡ Some f = ap (λ x. slice_get x k) (same j l (λ q. omega arith)) ∙ is in
-              moved_from A B z (z + a + spill (counts L) m (z + a) + length xs) v (spill (counts L) m (z + a) + length xs) e opened (z + j + spill (counts L) m (z + j) + k) (spill (counts L) m (z + j) + k) f (omega (arith, apart (counts L) m roomy (z + a) (z + j) (omega arith), upto_here)) (upto_last j k l (slice_get_within (L (z + j)) k f is)) (ap B p ∙ laid.standing (z + j) k f is' ∙ ap (λ x. Some (placed x f)) s)
+              moved_from A B z (z + a + spill (counts L) m (z + a) + length xs) v (spill (counts L) m (z + a) + length xs) e opened (z + j + spill (counts L) m (z + j) + k)
+              (spill (counts L) m (z + j) + k) f (omega (arith, apart (counts L) m roomy (z + a) (z + j) (omega arith), upto_here))
+              (upto_last j k l (slice_get_within (L (z + j)) k f is)) (ap B p ∙ laid.standing (z + j) k f is' ∙ ap (λ x. Some (placed x f)) s)
           | inr upto ↦
               let q : j ≡ a = omega arith in
               let qs : spill (counts L) m (z + j) ≡ spill (counts L) m (z + a) = ap (λ x. spill (counts L) m (z + x)) q in
               let s : spill (counts M) m (z + j) ≡ spill (counts L) m (z + j) = omega (arith, one.spills j l) in
               let mq : M (z + j) ≡ xs ++ e ∷ ys = ap (λ x. M (z + x)) q ∙ more in
               elim (get_inserted xs ys e f k (ap (λ x. slice_get x k) (sym less) ∙ ap (λ x. slice_get (L (z + x)) k) (sym q) ∙ is)) [
-                | inl front ↦ sym (opened.kept (z + j + spill (counts L) m (z + j) + k) (omega arith) (omega arith)) ∙ ap (λ x. B (z + j + x + k)) (sym s) ∙ laid.standing (z + j) k f (ap (λ x. slice_get x k) mq ∙ front.1) ∙ ap (λ x. Some (placed (x + k) f)) s
+                | inl front ↦ sym (opened.kept (z + j + spill (counts L) m (z + j) + k) (omega arith) (omega arith))
+                    ∙ ap (λ x. B (z + j + x + k)) (sym s) ∙ laid.standing (z + j) k f (ap (λ x. slice_get x k) mq ∙ front.1) ∙ ap (λ x. Some (placed (x + k) f)) s
                 | inr back ↦
                     let t : spill (counts M) m (z + j) + suc k ≡ suc (spill (counts L) m (z + j) + k) = omega arith in
                     let p : suc (z + j + spill (counts L) m (z + j) + k) ≡ z + j + spill (counts M) m (z + j) + suc k = omega arith in
-                    moved_from A B z (z + a + spill (counts L) m (z + a) + length xs) v (spill (counts L) m (z + a) + length xs) e opened (z + j + spill (counts L) m (z + j) + k) (spill (counts L) m (z + j) + k) f (omega arith) (upto_last j k l (slice_get_within (L (z + j)) k f is)) (ap B p ∙ laid.standing (z + j) (suc k) f (ap (λ x. slice_get x (suc k)) mq ∙ back.1) ∙ ap (λ x. Some (placed x f)) t)
+                    moved_from A B z (z + a + spill (counts L) m (z + a) + length xs) v (spill (counts L) m (z + a) + length xs) e opened (z + j + spill (counts L) m (z + j) + k)
+                    (spill (counts L) m (z + j) + k) f (omega arith) (upto_last j k l (slice_get_within (L (z + j)) k f is))
+                    (ap B p ∙ laid.standing (z + j) (suc k) f (ap (λ x. slice_get x (suc k)) mq ∙ back.1) ∙ ap (λ x. Some (placed x f)) t)
               ]
         ]
       ]
 
       close_rest : (j : ℕ) → j < m → IsGap (counts L) m (z + j) → A (z + j) ≡ None
       close_rest j l g = elim (cases_lt j a) [
-        | inl before ↦ sym (opened.kept (z + j) (omega arith) (omega arith)) ∙ laid.rest (z + j) (record { spilled = omega (arith, one.spills j l, g.spilled); counted = omega (arith, one.same j l (λ q. omega arith), g.counted) })
+        | inl before ↦ sym (opened.kept (z + j) (omega arith) (omega arith))
+            ∙ laid.rest (z + j) (record { spilled = omega (arith, one.spills j l, g.spilled); counted = omega (arith, one.same j l (λ q. omega arith), g.counted) })
         | inr from ↦ elim (cases_lt (suc j) m) [
           | inl inner ↦ absurd (omega (arith, one.full j from inner, g.spilled, g.counted))
           | inr last ↦

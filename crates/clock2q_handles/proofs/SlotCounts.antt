@@ -22,7 +22,9 @@ doubled_found e (suc i) m (suc k) l before fits = elim (leb_tells e (capacity m)
   | inl enough ↦ let o : m ≡ 2 ^ zero * m = omega arith in absurd (omega (arith, before zero (omega arith), enough.1, ap capacity o))
   | inr less ↦
       let step : (j : ℕ) → 2 ^ j * (2 * m) ≡ 2 ^ suc j * m = λ j. rw (two-pow-succ j) (omega arith) in
-      rw (less.0, doubled_until) (doubled_found e i (2 * m) k (omega (arith, l)) (λ j u. subst (λ x. capacity x < e) (sym (step j)) (before (suc j) (omega (arith, u)))) (subst (λ x. e ≤ capacity x) (sym (step i)) fits) ∙ step i)
+      rw (less.0, doubled_until)
+      (doubled_found e i (2 * m) k (omega (arith, l)) (λ j u. subst (λ x. capacity x < e) (sym (step j)) (before (suc j) (omega (arith, u)))) (subst (λ x. e ≤ capacity x) (sym (step i)) fits)
+      ∙ step i)
 ]
 
 -- a number is below its power of two

@@ -28,7 +28,8 @@ module _ {E : Type 0} where
   -- the slots past a home are those past any hash of it
   pub past_home : (slots : List (Option (Placed E))) (m g x : ℕ) → length slots ≡ m → g ≡ x % m → (j : ℕ) → slot_at slots (g + j) ≡ slot_at slots (x + j)
   past_home slots m g x len at j =
-      ap (λ n. slot_at slots (n + j)) (at ∙ ap (λ n. x % n) (sym len)) ∙ rem-same (λ n. slot_at slots (n + j)) (length slots) (λ n. let e : n + length slots + j ≡ n + j + length slots = omega arith in ap (slot_at slots) e ∙ slot-again slots (n + j)) x
+      ap (λ n. slot_at slots (n + j)) (at ∙ ap (λ n. x % n) (sym len))
+      ∙ rem-same (λ n. slot_at slots (n + j)) (length slots) (λ n. let e : n + length slots + j ≡ n + j + length slots = omega arith in ap (slot_at slots) e ∙ slot-again slots (n + j)) x
 
   -- an entry that moved on was one
   entry_on : (o p : Option (Placed E)) → 0 < reach o → p ≡ moved_on o → (s : Placed E) × (o ≡ Some s) × (p ≡ Some (placed (suc s.displacement) s.entry))
@@ -51,7 +52,8 @@ module _ {E : Type 0} where
       omega (arith, lap_near l (lap-lt (length slots) g n some), ap reach (lap-same (slot_at slots) (length slots) (slot-again slots) some g n))
 
   -- entries that moved back are no further from their homes
-  pub closed-near : (slots others : List (Option (Placed E))) (g n w b : ℕ) (e : E) → length slots ≡ length others → 0 < length others → Opens (slot_at slots) (slot_at others) (length others) g n w e → ((k : ℕ) → reach (slot_at others k) ≤ b) → (k : ℕ) → reach (slot_at slots k) ≤ b
+  pub closed-near : (slots others : List (Option (Placed E))) (g n w b : ℕ) (e : E) → length slots ≡ length others → 0 < length others
+      → Opens (slot_at slots) (slot_at others) (length others) g n w e → ((k : ℕ) → reach (slot_at others k) ≤ b) → (k : ℕ) → reach (slot_at slots k) ≤ b
   closed-near slots others g n w b e same some opens near = near_by_lap slots g b (omega (arith, same, some)) (λ j l. elim (cases_lt j n) [
     | inl early ↦ omega (arith, near (g + j), ap reach (opens.before j early))
     | inr from ↦ elim (cases_lt j w) [
@@ -80,7 +82,8 @@ module _ {E : Type 0} where
           | inr past ↦
               let k : ℕ = j - m in
               let q : x + j ≡ x + k + m = omega arith in
-              ap (slot_at others) q ∙ ap (λ y. slot_at others (x + k + y)) (sym len') ∙ slot-again others (x + k) ∙ sym (b k) ∙ opens.before k (omega arith) ∙ a k ∙ sym (slot-again slots (x + k)) ∙ ap (λ y. slot_at slots (x + k + y)) len ∙ ap (slot_at slots) (sym q)
+              ap (slot_at others) q ∙ ap (λ y. slot_at others (x + k + y)) (sym len') ∙ slot-again others (x + k) ∙ sym (b k)
+              ∙ opens.before k (omega arith) ∙ a k ∙ sym (slot-again slots (x + k)) ∙ ap (λ y. slot_at slots (x + k + y)) len ∙ ap (slot_at slots) (sym q)
         ];
       }
 
@@ -112,7 +115,8 @@ module _ {H : Type 0} (eq : H → H → Bool) (x : ℕ) (v : H) (others slots : 
 
   moved : IsMovedOn (slot_at slots) (slot_at others) (length slots) x n w found.entry
   moved = subst (λ m. IsMovedOn (slot_at slots) (slot_at others) m x n w found.entry) (sym same)
-      (opens-moved slots others (length others) g x n w found.entry same refl at closes.opens (λ j from upto. entry_off (slot_at slots (g + j)) (slot_at others (g + suc j)) (closes.occupied (suc j) upto) (closes.opens.moved j from upto)))
+      (opens-moved slots others (length others) g x n w found.entry same refl at closes.opens
+      (λ j from upto. entry_off (slot_at slots (g + j)) (slot_at others (g + suc j)) (closes.occupied (suc j) upto) (closes.opens.moved j from upto)))
 
   near : reach (slot_at others (x + suc w)) ≤ 1
   near = omega (arith, closes.ends, ap reach (past (suc w)))
@@ -123,7 +127,8 @@ module _ {H : Type 0} (eq : H → H → Bool) (x : ℕ) (v : H) (others slots : 
 
   -- there was such an entry
   pub taken-found : list_any (is_entry_of eq x v) (listed (homes_of others) x) ≡ true
-  taken-found = ap (list_any (is_entry_of eq x v)) (read-split others x n found.entry within (sym (past n) ∙ found.here)) ∙ list_any-at (is_entry_of eq x v) (met (slot_at others) x 0 n) found.entry (met (slot_at others) x (suc n) (length others - suc n)) found.passes
+  taken-found = ap (list_any (is_entry_of eq x v)) (read-split others x n found.entry within (sym (past n) ∙ found.here))
+      ∙ list_any-at (is_entry_of eq x v) (met (slot_at others) x 0 n) found.entry (met (slot_at others) x (suc n) (length others - suc n)) found.passes
 
   -- what is left is the table without the entry
   pub taken-homes : homes_of slots ≡ removed eq (homes_of others) x v
@@ -162,7 +167,8 @@ pub record Removal {H : Type 0} (eq : H → H → Bool) (x : ℕ) (v : H) (other
   pub counted : before ≤ after
   pub writes : after ≤ before + run others x
 
-pub removal : {H : Type 0} (eq : H → H → Bool) (x : ℕ) (v : H) (others slots : List (Option (Placed (ℕ × H)))) (len before after : ℕ) → IsTable others len → TakesOut (is_entry_of eq x v) others slots (x % length others) before after → Removal eq x v others slots len before after
+pub removal : {H : Type 0} (eq : H → H → Bool) (x : ℕ) (v : H) (others slots : List (Option (Placed (ℕ × H)))) (len before after : ℕ)
+    → IsTable others len → TakesOut (is_entry_of eq x v) others slots (x % length others) before after → Removal eq x v others slots len before after
 removal eq x v others slots len before after table taken =
     let g : ℕ = x % length others in
     let n : ℕ = taken.distance in

@@ -30,8 +30,16 @@ module _ {E : Type 0} where
   -- the entries by slot add up to what the slots do
   pub entries-sum : (w : E → ℕ) (slots : List (Option (Placed E))) → sum_by (λ s. w s.entry) (entries slots) ≡ window (λ n. weight w (get_or slots n None)) 0 (length slots)
   entries-sum w [] = refl
-  entries-sum w (None ∷ slots) = omega (arith, entries-sum w slots, window-front (λ n. weight w (get_or (None ∷ slots) n None)) 0 (length slots), window-shift (λ n. weight w (get_or (None ∷ slots) n None)) 0 (length slots))
-  entries-sum w (Some s ∷ slots) = omega (arith, entries-sum w slots, sum_by-cons (λ s. w s.entry) s (entries slots), window-front (λ n. weight w (get_or (Some s ∷ slots) n None)) 0 (length slots), window-shift (λ n. weight w (get_or (Some s ∷ slots) n None)) 0 (length slots))
+  entries-sum w (None ∷ slots) =
+      omega (arith, entries-sum w slots, window-front (λ n. weight w (get_or (None ∷ slots) n None)) 0 (length slots), window-shift (λ n. weight w (get_or (None ∷ slots) n None)) 0 (length slots))
+  entries-sum w (Some s ∷ slots) =
+      omega (
+        arith,
+        entries-sum w slots,
+        sum_by-cons (λ s. w s.entry) s (entries slots),
+        window-front (λ n. weight w (get_or (Some s ∷ slots) n None)) 0 (length slots),
+        window-shift (λ n. weight w (get_or (Some s ∷ slots) n None)) 0 (length slots),
+      )
 
   module _ (m : ℕ) (L : ℕ → List E) (A : ℕ → Option (Placed E)) (roomy : Roomy (counts L) m) (laid : IsLaid m L A) (w : E → ℕ) where
     -- the slots of home h add up to its list
@@ -53,7 +61,15 @@ module _ {E : Type 0} where
         let step : spill (counts L) m (suc (z + k)) ≡ spill (counts L) m (z + k) + counts L (z + k) - 1 = spill-step (counts L) m roomy (z + k) in
         let o : z + suc k ≡ suc (z + k) = omega arith in
         let p : z + (k + spill (counts L) m (z + k)) ≡ z + k + spill (counts L) m (z + k) = omega arith in
-        let part : window (λ n. weight w (A n)) z (k + spill (counts L) m (z + k) + counts L (z + k)) ≡ window (λ h. sum_by w (L h)) z (suc k) = omega (arith, homes_sum z start k, window-add (λ n. weight w (A n)) z (k + spill (counts L) m (z + k)) (counts L (z + k)), ap (λ x. window (λ n. weight w (A n)) x (counts L (z + k))) p, part_sum (z + k) (counts L (z + k)) (omega arith), ap (sum_by w) (take_all (counts L (z + k)) (L (z + k)) (omega arith))) in
+        let part : window (λ n. weight w (A n)) z (k + spill (counts L) m (z + k) + counts L (z + k)) ≡ window (λ h. sum_by w (L h)) z (suc k) =
+        omega (
+          arith,
+          homes_sum z start k,
+          window-add (λ n. weight w (A n)) z (k + spill (counts L) m (z + k)) (counts L (z + k)),
+          ap (λ x. window (λ n. weight w (A n)) x (counts L (z + k))) p,
+          part_sum (z + k) (counts L (z + k)) (omega arith),
+          ap (sum_by w) (take_all (counts L (z + k)) (L (z + k)) (omega arith)),
+        ) in
         elim (cases_lt 0 (spill (counts L) m (z + k) + counts L (z + k))) [
           | inl more ↦
               let e : suc k + spill (counts L) m (z + suc k) ≡ k + spill (counts L) m (z + k) + counts L (z + k) = omega (arith, step, ap (spill (counts L) m) o) in
@@ -71,4 +87,10 @@ module _ {E : Type 0} where
         let z : ℕ = suc (0 + g.0) in
         let s : spill (counts L) m z ≡ 0 = omega (arith, spill-step (counts L) m roomy (0 + g.0), g.2.spilled, g.2.counted) in
         let e : m + spill (counts L) m (z + m) ≡ m = omega (arith, spill-again (counts L) m roomy.again z, s) in
-        omega (arith, homes_sum z s m, ap (window (λ n. weight w (A n)) z) e, window-lap (λ n. weight w (A n)) m (λ n. ap (weight w) (again n)) z, window-lap (λ h. sum_by w (L h)) m (λ n. ap (sum_by w) (same n)) z)
+        omega (
+          arith,
+          homes_sum z s m,
+          ap (window (λ n. weight w (A n)) z) e,
+          window-lap (λ n. weight w (A n)) m (λ n. ap (weight w) (again n)) z,
+          window-lap (λ h. sum_by w (L h)) m (λ n. ap (sum_by w) (same n)) z,
+        )

@@ -65,7 +65,8 @@ module _ {E : Type 0} where
   listed-homes_of slots h = elim (cases_lt 0 (length slots)) [
     | inl some ↦
         let l : h % length slots < length slots = omega arith in
-        ap (λ x. get_or (homes_of slots) (h % x) []) (length-homes_of slots) ∙ get-read_upto slots (length slots) (h % length slots) l ∙ rem-same (λ x. met (slot_at slots) x 0 (length slots)) (length slots) (met-slots slots) h
+        ap (λ x. get_or (homes_of slots) (h % x) []) (length-homes_of slots) ∙ get-read_upto slots (length slots) (h % length slots) l
+        ∙ rem-same (λ x. met (slot_at slots) x 0 (length slots)) (length slots) (met-slots slots) h
     | inr none ↦
         let z : 0 ≡ length slots = omega arith in
         get_or_past (homes_of slots) (h % length (homes_of slots)) [] (omega (arith, length-homes_of slots)) ∙ ap (met (slot_at slots) h 0) z
@@ -79,7 +80,8 @@ module _ {E : Type 0} where
       ap (λ x. get_or slots x None) (sym a) ∙ same i ∙ ap (λ x. get_or others x None) b)
 
   -- slots that lay out lists are their layout
-  pub laid-layout : (homes : List (List E)) (slots : List (Option (Placed E))) → total homes < length homes → length slots ≡ length homes → IsLaid (length homes) (listed homes) (slot_at slots) → slots ≡ layout homes
+  pub laid-layout : (homes : List (List E)) (slots : List (Option (Placed E))) → total homes < length homes
+      → length slots ≡ length homes → IsLaid (length homes) (listed homes) (slot_at slots) → slots ≡ layout homes
   laid-layout homes slots l len laid =
       same-slots slots (layout homes) (len ∙ sym (length-layout homes)) (laid-same (length homes) (listed homes) (slot_at slots) (slot_at (layout homes)) (roomy-of homes l)
       (λ n. ap (λ x. slot_at slots (n + x)) (sym len) ∙ slot-again slots n)
@@ -111,7 +113,13 @@ module _ {E : Type 0} where
     pub read-room : total (homes_of slots) < length slots
     read-room =
         let r = lists-roomy (slot_at slots) ordered (length slots) (slot-again slots) some v vacant in
-        omega (arith, r.room, sum-window length (homes_of slots), ap (window (count (homes_of slots)) 0) (length-homes_of slots), window-same (count (homes_of slots)) (λ n. length (met (slot_at slots) n 0 (length slots))) 0 (length slots) (λ j _. ap length (listed-homes_of slots (0 + j))))
+        omega (
+          arith,
+          r.room,
+          sum-window length (homes_of slots),
+          ap (window (count (homes_of slots)) 0) (length-homes_of slots),
+          window-same (count (homes_of slots)) (λ n. length (met (slot_at slots) n 0 (length slots))) 0 (length slots) (λ j _. ap length (listed-homes_of slots (0 + j))),
+        )
 
     pub read-laid-homes : IsLaid (length (homes_of slots)) (listed (homes_of slots)) (slot_at slots)
     read-laid-homes = subst (λ m. IsLaid m (listed (homes_of slots)) (slot_at slots)) (sym (length-homes_of slots)) read-laid
@@ -125,20 +133,25 @@ module _ {E : Type 0} where
       let m : ℕ = length homes in
       let A : ℕ → Option (Placed E) = slot_at (layout homes) in
       let again : (n : ℕ) → A (n + m) ≡ A n = λ n. ap (λ x. slot_at (layout homes) (n + x)) (sym (length-layout homes)) ∙ slot-again (layout homes) n in
-      let around : window (λ n. weight w (get_or (layout homes) n None)) 0 (length (layout homes)) ≡ window (λ n. weight w (A n)) 0 (length (layout homes)) = window-same (λ n. weight w (get_or (layout homes) n None)) (λ n. weight w (A n)) 0 (length (layout homes)) (λ j lj.
+      let around : window (λ n. weight w (get_or (layout homes) n None)) 0 (length (layout homes)) ≡ window (λ n. weight w (A n)) 0 (length (layout homes)) =
+      window-same (λ n. weight w (get_or (layout homes) n None)) (λ n. weight w (A n)) 0 (length (layout homes)) (λ j lj.
       let e : (0 + j) % length (layout homes) ≡ 0 + j = mod-eq_of_lt (omega arith) in
       ap (λ x. weight w (get_or (layout homes) x None)) (sym e)) in
-      entries-sum w (layout homes) ∙ around ∙ ap (window (λ n. weight w (A n)) 0) (length-layout homes) ∙ laid-sum m (listed homes) A (roomy-of homes l) (layout-laid homes (roomy-of homes l)) w (listed-again homes) again
+      entries-sum w (layout homes) ∙ around ∙ ap (window (λ n. weight w (A n)) 0) (length-layout homes)
+      ∙ laid-sum m (listed homes) A (roomy-of homes l) (layout-laid homes (roomy-of homes l)) w (listed-again homes) again
 
   laid-total : (homes : List (List E)) → total homes < length homes → length (entries (layout homes)) ≡ total homes
-  laid-total homes l = sym (sum_by_one (entries (layout homes))) ∙ layout-sum (λ _. 1) homes l ∙ window-same (λ h. sum_by (λ _. 1) (listed homes h)) (count homes) 0 (length homes) (λ j _. sum_by_one (listed homes (0 + j))) ∙ sum-window length homes
+  laid-total homes l = sym (sum_by_one (entries (layout homes))) ∙ layout-sum (λ _. 1) homes l
+      ∙ window-same (λ h. sum_by (λ _. 1) (listed homes h)) (count homes) 0 (length homes) (λ j _. sum_by_one (listed homes (0 + j))) ∙ sum-window length homes
 
   -- an entry of a list stands where the layout says
-  pub layout-standing : (homes : List (List E)) → total homes < length homes → (h i : ℕ) (e : E) → slice_get (listed homes h) i ≡ Some e → slot_at (layout homes) (h + spill_of homes h + i) ≡ Some (placed (spill_of homes h + i) e)
+  pub layout-standing : (homes : List (List E)) → total homes < length homes → (h i : ℕ) (e : E)
+      → slice_get (listed homes h) i ≡ Some e → slot_at (layout homes) (h + spill_of homes h + i) ≡ Some (placed (spill_of homes h + i) e)
   layout-standing homes l h i e is = (layout-laid homes (roomy-of homes l)).standing h i e is
 
   -- and what stands in a slot is such an entry
-  pub layout-only : (homes : List (List E)) → total homes < length homes → (n : ℕ) (s : Placed E) → slot_at (layout homes) n ≡ Some s → (h : ℕ) × (i : ℕ) × (slice_get (listed homes h) i ≡ Some s.entry) × (s.displacement ≡ spill_of homes h + i) × ((h + spill_of homes h + i) % length homes ≡ n % length homes)
+  pub layout-only : (homes : List (List E)) → total homes < length homes → (n : ℕ) (s : Placed E) → slot_at (layout homes) n ≡ Some s
+      → (h : ℕ) × (i : ℕ) × (slice_get (listed homes h) i ≡ Some s.entry) × (s.displacement ≡ spill_of homes h + i) × ((h + spill_of homes h + i) % length homes ≡ n % length homes)
   layout-only homes l n s is =
       let m : ℕ = length homes in
       let A : ℕ → Option (Placed E) = slot_at (layout homes) in
@@ -159,7 +172,8 @@ module _ {E : Type 0} where
 
   pub layout-ordered : (homes : List (List E)) → total homes < length homes → IsOrdered (slot_at (layout homes))
   layout-ordered homes l =
-      let again : (n : ℕ) → slot_at (layout homes) (n + length homes) ≡ slot_at (layout homes) n = λ n. ap (λ x. slot_at (layout homes) (n + x)) (sym (length-layout homes)) ∙ slot-again (layout homes) n in
+      let again : (n : ℕ) → slot_at (layout homes) (n + length homes) ≡ slot_at (layout homes) n =
+      λ n. ap (λ x. slot_at (layout homes) (n + x)) (sym (length-layout homes)) ∙ slot-again (layout homes) n in
       laid-ordered (length homes) (listed homes) (slot_at (layout homes)) (roomy-of homes l) (layout-laid homes (roomy-of homes l)) again
 
   read_back : (homes : List (List E)) → total homes < length homes → homes_of (layout homes) ≡ homes
@@ -171,7 +185,8 @@ module _ {E : Type 0} where
       ext_get_or [] (homes_of (layout homes)) homes len (λ i li.
       let a : i % length (homes_of (layout homes)) ≡ i = mod-eq_of_lt li in
       let b : i % m ≡ i = mod-eq_of_lt (omega arith) in
-      ap (λ x. get_or (homes_of (layout homes)) x []) (sym a) ∙ listed-homes_of (layout homes) i ∙ ap (met A i 0) (length-layout homes) ∙ laid-met m (listed homes) A (roomy-of homes l) (layout-laid homes (roomy-of homes l)) again (listed-again homes) i ∙ ap (λ x. get_or homes x []) b)
+      ap (λ x. get_or (homes_of (layout homes)) x []) (sym a) ∙ listed-homes_of (layout homes) i ∙ ap (met A i 0) (length-layout homes)
+      ∙ laid-met m (listed homes) A (roomy-of homes l) (layout-laid homes (roomy-of homes l)) again (listed-again homes) i ∙ ap (λ x. get_or homes x []) b)
 
   below_all : (homes : List (List E)) (es : List E) → total (es ∷ homes) ≤ capacity (length (es ∷ homes)) → total (es ∷ homes) < length (es ∷ homes)
   below_all homes es l = omega (arith, capacity-lt (suc (length homes)) (omega arith))

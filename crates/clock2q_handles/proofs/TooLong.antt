@@ -102,14 +102,20 @@ module _ {E : Type 0} where
       more_room = omega (arith, more_total, capacity-lt (length slots) some_slots)
 
       more_here : count more h ≡ suc (count (homes_of slots) h)
-      more_here = omega (arith, ap length (listed-with_same (homes_of slots) h h (listed (homes_of slots) h ++ e ∷ []) (omega (arith, length-homes_of slots)) refl), length-append (listed (homes_of slots) h) (e ∷ []))
+      more_here =
+          omega (
+            arith,
+            ap length (listed-with_same (homes_of slots) h h (listed (homes_of slots) h ++ e ∷ []) (omega (arith, length-homes_of slots)) refl),
+            length-append (listed (homes_of slots) h) (e ∷ []),
+          )
 
       stop_sum : d ≡ spill (count (homes_of slots)) (length slots) h + count (homes_of slots) h
       stop_sum = read-stop slots tidy some_slots h d stops ∙ ap (λ x. spill (count (homes_of slots)) x h + count (homes_of slots) h) (length-homes_of slots)
 
       module _ (v : ℕ) (within : v < length slots) (hole : slot_at slots (h + v) ≡ None) (full : (j : ℕ) → j < v → 1 ≤ reach (slot_at slots (h + j))) where
         one : IsOneMore (count (homes_of slots)) (count more) (length slots) (h + suc v) (length slots - suc v)
-        one = one-put (length slots) h v (listed (homes_of slots)) (listed more) (slot_at slots) (read_roomy some_slots) (roomy_at more (length slots) more_length more_room) within more_here (λ n q. ap length (other_at (homes_of slots) (length slots) h (listed (homes_of slots) h ++ e ∷ []) (length-homes_of slots) n q)) (read_laid some_slots) (slot-again slots) hole full
+        one = one-put (length slots) h v (listed (homes_of slots)) (listed more) (slot_at slots) (read_roomy some_slots) (roomy_at more (length slots) more_length more_room) within more_here
+            (λ n q. ap length (other_at (homes_of slots) (length slots) h (listed (homes_of slots) h ++ e ∷ []) (length-homes_of slots) n q)) (read_laid some_slots) (slot-again slots) hole full
 
         there : h + suc v + (length slots - suc v) ≡ h + length slots
         there = omega arith
@@ -118,10 +124,18 @@ module _ {E : Type 0} where
         same_spill =
             let c : ℕ → ℕ = count (homes_of slots) in
             let m : ℕ = length slots in
-            omega (arith, one.spills (m - suc v) (omega arith), ap (spill c m) there, ap (spill (count more) m) there, spill-again c m (read_roomy some_slots).again h, spill-again (count more) m (roomy_at more m more_length more_room).again h)
+            omega (
+              arith,
+              one.spills (m - suc v) (omega arith),
+              ap (spill c m) there,
+              ap (spill (count more) m) there,
+              spill-again c m (read_roomy some_slots).again h,
+              spill-again (count more) m (roomy_at more m more_length more_room).again h,
+            )
 
         new_long : 2 ^ 24 ≤ suc d → IsTooLong more
-        new_long far = too-long-at more (omega (arith, more_room, more_length)) h (omega (arith, more_here)) (omega (arith, far, stop_sum, same_spill, more_here, ap (λ x. spill (count more) x h) more_length))
+        new_long far =
+            too-long-at more (omega (arith, more_room, more_length)) h (omega (arith, more_here)) (omega (arith, far, stop_sum, same_spill, more_here, ap (λ x. spill (count more) x h) more_length))
 
         moved_long : (j : ℕ) → d ≤ j → j < v → 2 ^ 24 ≤ suc (reach (slot_at slots (h + j))) → IsTooLong more
         moved_long j from upto far =
@@ -151,9 +165,12 @@ module _ {E : Type 0} where
             let g : ℕ = z + k in
             let lk : k < m = lap-lt m z long.0 some_slots in
             let cg : count more g ≡ count more long.0 = lap-same (count more) m (roomy_at more m more_length more_room).again some_slots z long.0 in
-            let sg : spill (count more) m g ≡ spill_of more long.0 = lap-same (spill (count more) m) m (spill-again (count more) m (roomy_at more m more_length more_room).again) some_slots z long.0 ∙ ap (λ x. spill (count more) x long.0) (sym more_length) in
+            let sg : spill (count more) m g ≡ spill_of more long.0 =
+            lap-same (spill (count more) m) m (spill-again (count more) m (roomy_at more m more_length more_room).again) some_slots z long.0
+            ∙ ap (λ x. spill (count more) x long.0) (sym more_length) in
             elim (cases_lt k (m - suc v)) [
-              | inl before ↦ inl (too-long-at (homes_of slots) (omega (arith, read_room some_slots, length-homes_of slots)) g (omega (arith, one.same k lk (λ q. omega arith), cg, long.2)) (omega (arith, one.same k lk (λ q. omega arith), cg, sg, long.3, one.spills k lk, ap (λ x. spill c x g) (length-homes_of slots))))
+              | inl before ↦ inl (too-long-at (homes_of slots) (omega (arith, read_room some_slots, length-homes_of slots)) g (omega (arith, one.same k lk (λ q. omega arith), cg, long.2))
+                  (omega (arith, one.same k lk (λ q. omega arith), cg, sg, long.3, one.spills k lk, ap (λ x. spill c x g) (length-homes_of slots))))
               | inr from ↦ elim (cases_lt (m - suc v) k) [
                 | inl past ↦
                     let r = get_some (listed (homes_of slots) g) (c g - 1) (omega (arith, one.same k lk (λ q. omega arith), cg, long.2)) in
@@ -161,7 +178,8 @@ module _ {E : Type 0} where
                     let shown : reach (slot_at slots n) ≡ suc (spill c m g + (c g - 1)) = ap reach ((read_laid some_slots).standing g (c g - 1) r.0 r.1) in
                     let j : ℕ = n - (h + m) in
                     let some : 0 < c g = omega (arith, one.same k lk (λ q. omega arith), cg, long.2) in
-                    let above : h + m + d ≤ n = omega (arith, stop_sum, apart c m (read_roomy some_slots) (h + m) g (omega arith), spill-again c m (read_roomy some_slots).again h, (read_roomy some_slots).again h) in
+                    let above : h + m + d ≤ n =
+                    omega (arith, stop_sum, apart c m (read_roomy some_slots) (h + m) g (omega arith), spill-again c m (read_roomy some_slots).again h, (read_roomy some_slots).again h) in
                     let last : ℕ = m - 1 in
                     let gap : IsGap c m (z + last) = one.gap last (omega arith) in
                     let below : n < h + m + v = elim (cases_lt k last) [
@@ -171,11 +189,29 @@ module _ {E : Type 0} where
                           absurd (omega (arith, gap.counted, ap c q, some))
                     ] in
                     let q : n ≡ h + j + m = omega arith in
-                    inr (inr (j, omega arith, omega arith, omega (arith, shown, ap (λ x. reach (slot_at slots x)) q, ap reach (slot-again slots (h + j)), one.spills k lk, sg, cg, long.3, one.same k lk (λ q. omega arith), some)))
+                    inr (inr (
+                      j,
+                      omega arith,
+                      omega arith,
+                      omega
+                          (arith, shown, ap (λ x. reach (slot_at slots x)) q, ap reach (slot-again slots (h + j)), one.spills k lk, sg, cg, long.3, one.same k lk (λ q. omega arith), some),
+                    ))
                 | inr at ↦
                     let q : k ≡ m - suc v = omega arith in
                     let w : g ≡ h + m = omega arith in
-                    inr (inl (omega (arith, long.3, sg, cg, stop_sum, same_spill, more_here, ap (spill (count more) m) w, ap (count more) w, spill-again (count more) m (roomy_at more m more_length more_room).again h, (roomy_at more m more_length more_room).again h)))
+                    inr (inl (omega (
+                      arith,
+                      long.3,
+                      sg,
+                      cg,
+                      stop_sum,
+                      same_spill,
+                      more_here,
+                      ap (spill (count more) m) w,
+                      ap (count more) w,
+                      spill-again (count more) m (roomy_at more m more_length more_room).again h,
+                      (roomy_at more m more_length more_room).again h,
+                    )))
               ]
             ]
 
@@ -211,19 +247,29 @@ module _ {E : Type 0} where
         long-by-new h r.0 e r.2 fits (omega arith)
 
 -- a rebuild to k times the slots makes no table too long, at no time on its way
-pub rebuilding-short : {H : Type 0} (key : H → ℕ) (homes : List (List (ℕ × H))) (k i : ℕ) → total homes < length homes → 0 < k * length homes → IsHashOf key homes → (IsTooLong homes → ⊥) → IsTooLong (put_all key (no_entries (k * length homes)) (entries (take i (layout homes)))) → ⊥
-rebuilding-short key homes k i room some hashes short long = short (too-long-at homes room long.0 (omega (arith, long.2, rebuilding-count key homes k i long.0 room some hashes)) (omega (arith, long.3, rebuilding-reach key homes k i long.0 room some hashes)))
+pub rebuilding-short : {H : Type 0} (key : H → ℕ) (homes : List (List (ℕ × H))) (k i : ℕ) → total homes < length homes → 0 < k * length homes
+    → IsHashOf key homes → (IsTooLong homes → ⊥) → IsTooLong (put_all key (no_entries (k * length homes)) (entries (take i (layout homes)))) → ⊥
+rebuilding-short key homes k i room some hashes short long =
+    short (too-long-at homes room long.0 (omega (arith, long.2, rebuilding-count key homes k i long.0 room some hashes))
+    (omega (arith, long.3, rebuilding-reach key homes k i long.0 room some hashes)))
 
-module _ {H : Type 0} (key : H → ℕ) (homes : List (List (ℕ × H))) (m : ℕ) (room : total homes ≤ capacity (length homes)) (fits : total homes < m) (multiple : 0 < length homes → (k : ℕ) × (m ≡ k * length homes)) (hashes : IsHashOf key homes) where
+module _ {H : Type 0} (key : H → ℕ) (homes : List (List (ℕ × H))) (m : ℕ) (room : total homes ≤ capacity (length homes))
+    (fits : total homes < m) (multiple : 0 < length homes → (k : ℕ) × (m ≡ k * length homes)) (hashes : IsHashOf key homes) where
   -- a rebuild gives no home a longer reach than the home that its entries came from had
   pub rebuilt-reach : (n : ℕ) → spill_of (rebuilt key m homes) n + count (rebuilt key m homes) n ≤ spill_of homes n + count homes n
   rebuilt-reach n = elim (cases_lt 0 (length homes)) [
     | inl some ↦
         let k = multiple some in
         let below : total homes < length homes = omega (arith, room, capacity-lt (length homes) some) in
-        let all : put_all key (no_entries (k.0 * length homes)) (entries (take (length (layout homes)) (layout homes))) ≡ rebuilt key m homes = ap (λ es. put_all key (no_entries (k.0 * length homes)) es) (entries-all (layout homes)) ∙ ap (λ x. rebuilt key x homes) (sym k.1) in
+        let all : put_all key (no_entries (k.0 * length homes)) (entries (take (length (layout homes)) (layout homes))) ≡ rebuilt key m homes =
+        ap (λ es. put_all key (no_entries (k.0 * length homes)) es) (entries-all (layout homes)) ∙ ap (λ x. rebuilt key x homes) (sym k.1) in
         subst (λ hs. spill_of hs n + count hs n ≤ spill_of homes n + count homes n) all (rebuilding-reach key homes k.0 (length (layout homes)) n below (omega (arith, k.1, fits)) hashes)
-    | inr none ↦ omega (arith, reach-total (rebuilt key m homes) (omega (arith, rebuilt-length key homes m, rebuilt-total key homes m room (omega arith))) n, rebuilt-total key homes m room (omega arith), room)
+    | inr none ↦ omega (
+      arith,
+      reach-total (rebuilt key m homes) (omega (arith, rebuilt-length key homes m, rebuilt-total key homes m room (omega arith))) n,
+      rebuilt-total key homes m room (omega arith),
+      room,
+    )
   ]
 
   -- so it is never refused for a run
@@ -232,7 +278,14 @@ module _ {H : Type 0} (key : H → ℕ) (homes : List (List (ℕ × H))) (m : �
     | inl some ↦
         let k = multiple some in
         let below : total homes < length homes = omega (arith, room, capacity-lt (length homes) some) in
-        let all : rebuilt key m homes ≡ put_all key (no_entries (k.0 * length homes)) (entries (take (length (layout homes)) (layout homes))) = ap (λ x. rebuilt key x homes) k.1 ∙ ap (λ es. put_all key (no_entries (k.0 * length homes)) es) (sym (entries-all (layout homes))) in
+        let all : rebuilt key m homes ≡ put_all key (no_entries (k.0 * length homes)) (entries (take (length (layout homes)) (layout homes))) =
+        ap (λ x. rebuilt key x homes) k.1 ∙ ap (λ es. put_all key (no_entries (k.0 * length homes)) es) (sym (entries-all (layout homes))) in
         rebuilding-short key homes k.0 (length (layout homes)) below (omega (arith, k.1, fits)) hashes short (subst IsTooLong all long)
-    | inr none ↦ omega (arith, reach-total (rebuilt key m homes) (omega (arith, rebuilt-length key homes m, rebuilt-total key homes m room (omega arith))) long.0, rebuilt-total key homes m room (omega arith), room, long.3)
+    | inr none ↦ omega (
+      arith,
+      reach-total (rebuilt key m homes) (omega (arith, rebuilt-length key homes m, rebuilt-total key homes m room (omega arith))) long.0,
+      rebuilt-total key homes m room (omega arith),
+      room,
+      long.3,
+    )
   ]

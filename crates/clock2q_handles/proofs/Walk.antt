@@ -216,19 +216,33 @@ module _ {E : Type 0} (A : ℕ → Option (Placed E)) (ordered : IsOrdered A) wh
           let e : m ≡ suc k = omega arith in
           let s : suc v + k ≡ v + m = omega arith in
           let none : counts lists v ≡ 0 = omega (arith, lists-length v, ending_at_vacant) in
-          omega (arith, window-lap (counts lists) m (λ n. ap length (lists-again n)) (suc v), ap (window (counts lists) (suc v)) e, lap_sum (suc v) k, ap pushed s, pushed-again v, pushed-le v, ending_at_vacant, none, ap length (lists-again v), ap (counts lists) s);
+          omega (
+            arith,
+            window-lap (counts lists) m (λ n. ap length (lists-again n)) (suc v),
+            ap (window (counts lists) (suc v)) e,
+            lap_sum (suc v) k,
+            ap pushed s,
+            pushed-again v,
+            pushed-le v,
+            ending_at_vacant,
+            none,
+            ap length (lists-again v),
+            ap (counts lists) s,
+          );
     }
 
     spill_from : (j : ℕ) → j ≤ m → spill (counts lists) m (suc v + j) ≡ pushed (suc v + j)
     spill_from =
         let o : suc v + 0 ≡ suc v = omega arith in
-        unique (counts lists) m lists-roomy (suc v) (λ j. pushed (suc v + j)) (omega (arith, ap pushed o, pushed-step v, ending_at_vacant)) (omega (arith, pushed-again (suc v), pushed-step v, ending_at_vacant)) (λ j l.
+        unique (counts lists) m lists-roomy (suc v) (λ j. pushed (suc v + j)) (omega (arith, ap pushed o, pushed-step v, ending_at_vacant))
+        (omega (arith, pushed-again (suc v), pushed-step v, ending_at_vacant)) (λ j l.
         let e : suc v + suc j ≡ suc (suc v + j) = omega arith in
         omega (arith, ap pushed e, pushed-step (suc v + j), lists-length (suc v + j), pushed-le (suc v + j)))
 
     -- what is spilled at a home is what a walk from it passes first
     pub spill-pushed : (h : ℕ) → spill (counts lists) m h ≡ pushed h
-    spill-pushed h = sym (lap-same (spill (counts lists) m) m (spill-again (counts lists) m (λ n. ap length (lists-again n))) some (suc v) h) ∙ spill_from (lap m (suc v) h) (omega (arith, lap-lt m (suc v) h some)) ∙ lap-same pushed m pushed-again some (suc v) h
+    spill-pushed h = sym (lap-same (spill (counts lists) m) m (spill-again (counts lists) m (λ n. ap length (lists-again n))) some (suc v) h)
+        ∙ spill_from (lap m (suc v) h) (omega (arith, lap-lt m (suc v) h some)) ∙ lap-same pushed m pushed-again some (suc v) h
 
     -- and with its own entries it has passed all up to its stop
     pub ending-sum : (h : ℕ) → ending h ≡ spill (counts lists) m h + counts lists h

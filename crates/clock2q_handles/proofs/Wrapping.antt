@@ -15,13 +15,23 @@ module _ {H : Type 0} where
   cells_along {ms' = ms'} {vs = vs} e f = ap (λ m. cells m vs) e ∙ ap (cells ms') f
 
 module _ {E : Type 0} where
-  pub puts_along : {old old' new new' : List (Option (Placed E))} (x : ℕ) {b b' a a' : ℕ} {e : E} → PutsIn old new (x % length old) e b a → old ≡ old' → new ≡ new' → b ≡ b' → a ≡ a' → PutsIn old' new' (x % length old') e b' a'
+  pub puts_along : {old old' new new' : List (Option (Placed E))} (x : ℕ) {b b' a a' : ℕ} {e : E}
+      → PutsIn old new (x % length old) e b a → old ≡ old' → new ≡ new' → b ≡ b' → a ≡ a' → PutsIn old' new' (x % length old') e b' a'
   puts_along {old = old} {old' = old'} {new = new} {new' = new'} x {b = b} {b' = b'} {a = a} {a' = a'} {e = e} puts o n f g =
-      subst (λ s. PutsIn s new' (x % length s) e b' a') o (subst (λ s. PutsIn old s (x % length old) e b' a') n (subst (λ k. PutsIn old new (x % length old) e k a') f (subst (λ k. PutsIn old new (x % length old) e b k) g puts)))
+      subst (λ s. PutsIn s new' (x % length s) e b' a') o (subst (λ s. PutsIn old s (x % length old) e b' a') n
+      (subst (λ k. PutsIn old new (x % length old) e k a') f (subst (λ k. PutsIn old new (x % length old) e b k) g puts)))
 
-  pub takes_along : (r : Bool) (test : E → Bool) {old old' new new' : List (Option (Placed E))} (x a : ℕ) {b b' : ℕ} → OnTrue r (TakesOut test old new (x % length old) b a) → old ≡ old' → new ≡ new' → b ≡ b' → OnTrue r (TakesOut test old' new' (x % length old') b' a)
+  pub takes_out_along : (test : E → Bool) {old old' new new' : List (Option (Placed E))} (x : ℕ) {b b' a a' : ℕ}
+      → TakesOut test old new (x % length old) b a → old ≡ old' → new ≡ new' → b ≡ b' → a ≡ a' → TakesOut test old' new' (x % length old') b' a'
+  takes_out_along test {old = old} {old' = old'} {new = new} {new' = new'} x {b = b} {b' = b'} {a = a} {a' = a'} takes o n f g =
+      subst (λ s. TakesOut test s new' (x % length s) b' a') o (subst (λ s. TakesOut test old s (x % length old) b' a') n
+      (subst (λ k. TakesOut test old new (x % length old) k a') f (subst (λ k. TakesOut test old new (x % length old) b k) g takes)))
+
+  pub takes_along : (r : Bool) (test : E → Bool) {old old' new new' : List (Option (Placed E))} (x a : ℕ) {b b' : ℕ}
+      → OnTrue r (TakesOut test old new (x % length old) b a) → old ≡ old' → new ≡ new' → b ≡ b' → OnTrue r (TakesOut test old' new' (x % length old') b' a)
   takes_along r test {old = old} {old' = old'} {new = new} {new' = new'} x a {b = b} {b' = b'} takes o n f =
-      subst (λ s. OnTrue r (TakesOut test s new' (x % length s) b' a)) o (subst (λ s. OnTrue r (TakesOut test old s (x % length old) b' a)) n (subst (λ k. OnTrue r (TakesOut test old new (x % length old) k a)) f takes))
+      subst (λ s. OnTrue r (TakesOut test s new' (x % length s) b' a)) o
+      (subst (λ s. OnTrue r (TakesOut test old s (x % length old) b' a)) n (subst (λ k. OnTrue r (TakesOut test old new (x % length old) k a)) f takes))
 
 pub ends_along : {H : Type 0} {old old' : List (Option (Placed (ℕ × H)))} {x n : ℕ} {s : Mark} → EndsAt old x s n → old ≡ old' → EndsAt old' x s n
 ends_along {x = x} {n = n} {s = s} ends o = subst (λ slots. EndsAt slots x s n) o ends

@@ -106,7 +106,8 @@ module _ {H : Type 0} (x : ℕ) where
   -- at the end of the walk none is left
   pub matching-end : (A : ℕ → Option (Placed (ℕ × H))) → IsOrdered A → (h a b c : ℕ) → a ≤ b → b ≤ c → reach (A (h + b)) ≤ b → matching x (met A h a (b - a)) ≡ [] → matching x (met A h a (c - a)) ≡ []
   matching-end A ordered h a b c l u near before =
-      ap (matching x) (met-split A h a b c l u ∙ ap (λ xs. met A h a (b - a) ++ xs) (met-past A ordered h b (c - b) near)) ∙ filter-append (λ e. e.0 == top x) (met A h a (b - a)) [] ∙ ap (λ xs. xs ++ []) before
+      ap (matching x) (met-split A h a b c l u ∙ ap (λ xs. met A h a (b - a) ++ xs) (met-past A ordered h b (c - b) near))
+      ∙ filter-append (λ e. e.0 == top x) (met A h a (b - a)) [] ∙ ap (λ xs. xs ++ []) before
 
 module _ {H : Type 0} (slots : List (Option (Placed (ℕ × H)))) (x : ℕ) where
   -- a lookup that begins has all candidates left
@@ -128,7 +129,9 @@ module _ {H : Type 0} (slots : List (Option (Placed (ℕ × H)))) (x : ℕ) wher
       ap (matching x) (met-next A g n n (omega arith) ∙ ap (λ i. met A g n i ++ at_home (A (g + n)) n) (let s : n - n ≡ 0 = omega arith in s)) ∙ matching-here x (A (g + n)) n next.handle next.here in
       let split : met A g d (m - d) ≡ met A g d (n - d) ++ (met A g n (n + 1 - n) ++ rest) =
       met-split A g d n m next.from (omega (arith, next.within)) ∙ ap (λ xs. met A g d (n - d) ++ xs) (met-split A g n (n + 1) m (omega arith) (omega (arith, next.within))) in
-      ap (λ h. map (λ e. e.1) (matching x (met A h d (m - d)))) (sym at) ∙ ap (λ es. map (λ e. e.1) es) (ap (matching x) split ∙ filter-append (λ e. e.0 == top x) (met A g d (n - d)) (met A g n (n + 1 - n) ++ rest) ∙ ap (λ xs. xs ++ matching x (met A g n (n + 1 - n) ++ rest)) next.none_before
+      ap (λ h. map (λ e. e.1) (matching x (met A h d (m - d)))) (sym at)
+      ∙ ap (λ es. map (λ e. e.1) es) (ap (matching x) split ∙ filter-append (λ e. e.0 == top x) (met A g d (n - d)) (met A g n (n + 1 - n) ++ rest)
+      ∙ ap (λ xs. xs ++ matching x (met A g n (n + 1 - n) ++ rest)) next.none_before
       ∙ filter-append (λ e. e.0 == top x) (met A g n (n + 1 - n)) rest ∙ ap (λ xs. xs ++ matching x rest) one)
       ∙ ap (λ h. next.handle ∷ map (λ e. e.1) (matching x (met A h (n + 1) (m - (n + 1))))) at
 
@@ -185,11 +188,13 @@ module _ {H : Type 0} (slots : List (Option (Placed (ℕ × H)))) (tidy : IsTidy
       let z : d - d ≡ 0 = omega arith in
       let first : matching x (met A g d (d + 1 - d)) ≡ [] = matching-more x A g d d (omega arith) (ap (λ k. matching x (met A g d k)) z) (matching-other x (A (g + d)) d other) in
       ap (λ h. map (λ e. e.1) (matching x (met A h d (m - d)))) (sym base)
-      ∙ ap (λ es. map (λ e. e.1) es) (ap (matching x) (met-split A g d (d + 1) m (omega arith) (omega (arith, within))) ∙ filter-append (λ e. e.0 == top x) (met A g d (d + 1 - d)) (met A g (d + 1) (m - (d + 1))) ∙ ap (λ xs. xs ++ matching x (met A g (d + 1) (m - (d + 1)))) first)
+      ∙ ap (λ es. map (λ e. e.1) es) (ap (matching x) (met-split A g d (d + 1) m (omega arith) (omega (arith, within)))
+      ∙ filter-append (λ e. e.0 == top x) (met A g d (d + 1 - d)) (met A g (d + 1) (m - (d + 1))) ∙ ap (λ xs. xs ++ matching x (met A g (d + 1) (m - (d + 1)))) first)
       ∙ ap (λ h. map (λ e. e.1) (matching x (met A h (d + 1) (m - (d + 1))))) base
 
   -- a candidate is the first that is left
-  pub left_take : (d : ℕ) (r : H) → d < length slots → ((j : ℕ) → j < d → j < reach (slot_at slots (g + j))) → mark_of (slot_at slots (g + d)) ≡ Some (d, top x) → IfSome (slot_at slots (g + d)) (λ p. r ≡ p.entry.1) → left_from slots x d ≡ r ∷ left_from slots x (d + 1)
+  pub left_take : (d : ℕ) (r : H) → d < length slots → ((j : ℕ) → j < d → j < reach (slot_at slots (g + j)))
+      → mark_of (slot_at slots (g + d)) ≡ Some (d, top x) → IfSome (slot_at slots (g + d)) (λ p. r ≡ p.entry.1) → left_from slots x d ≡ r ∷ left_from slots x (d + 1)
   left_take d r within passed is handle =
       let z : d - d ≡ 0 = omega arith in
       let entry = candidate_entry x (slot_at slots (g + d)) d is in

@@ -23,7 +23,8 @@ pub record MayBeOffered {F H : Type 0} (g : Mut F (H × Unit {0}) Bool) (f : F) 
 -- the one that was accepted is answered, and nothing changes; or v is put in under x, where no run becomes too long
 abbrev pub Settles : {H : Type 0} → List (List (ℕ × H)) → ℕ → H → Option H → Result (H × Bool) TableError → List (List (ℕ × H)) → Type 0
 Settles old x v (Some c) result new = (result ≡ Ok (c, false)) × (new ≡ old)
-Settles old x v None result new = MatchResult result (λ r. (r ≡ (v, true)) × (new ≡ with_handle old x v) × (IsTooLong (with_handle old x v) → ⊥)) (λ e. (e ≡ RunTooLong) × (new ≡ old) × IsTooLong (with_handle old x v))
+Settles old x v None result new =
+    MatchResult result (λ r. (r ≡ (v, true)) × (new ≡ with_handle old x v) × (IsTooLong (with_handle old x v) → ⊥)) (λ e. (e ≡ RunTooLong) × (new ≡ old) × IsTooLong (with_handle old x v))
 
 -- the candidates of x are offered to f, which leads to last, and what comes of that is answered and done
 abbrev pub FindsOrPuts : {M H : Type 0} → Mut M (H × Unit {0}) Bool → M → List (List (ℕ × H)) → ℕ → H → Result (H × Bool) TableError → List (List (ℕ × H)) → M → Type 0

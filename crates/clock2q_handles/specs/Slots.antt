@@ -64,7 +64,8 @@ abbrev pub slots_value : {H : Type 0} → List (Option (Placed (ℕ × H))) → 
 slots_value slots writes = record { slots = slots; writes = writes }
 
 abbrev pub slots_code : {H : Type 0} → Coded H → Coded (SlotsValue H)
-slots_code {H} h = code_by (List (Option (Placed (ℕ × H))) × ℕ) (coded× (coded_list (coded_option (placed_code (coded× coded_ℕ h)))) coded_ℕ) (λ s. (s.slots, s.writes)) (λ p. slots_value p.0 p.1) (λ _. refl)
+slots_code {H} h =
+    code_by (List (Option (Placed (ℕ × H))) × ℕ) (coded× (coded_list (coded_option (placed_code (coded× coded_ℕ h)))) coded_ℕ) (λ s. (s.slots, s.writes)) (λ p. slots_value p.0 p.1) (λ _. refl)
 
 -- there are no slots, or a power of two of them, from 16 up
 pub record IsSlotCount (m : ℕ) : Type 0 where

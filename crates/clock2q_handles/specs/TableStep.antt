@@ -15,13 +15,10 @@ abbrev pub table_value : {H : Type 0} → List (List (ℕ × H)) → List (Optio
 table_value homes slots writes = record { homes = homes; slots = slots; writes = writes }
 
 abbrev pub table_code : {H : Type 0} → Coded H → Coded (TableValue H)
-table_code {H} h = code_by (List (List (ℕ × H)) × (List (Option (Placed (ℕ × H))) × ℕ)) (coded× (coded_list (coded_list (coded× coded_ℕ h))) (coded× (coded_list (coded_option (placed_code (coded× coded_ℕ h)))) coded_ℕ)) (λ t. (t.homes, (t.slots, t.writes))) (λ p. table_value p.0 p.1.0 p.1.1) (λ _. refl)
-
--- m is a power of two from 16 up, and e entries fit
-pub record IsSlotCountFor (e m : ℕ) : Type 0 where
-  pub power : (j : ℕ) × (m ≡ 2 ^ j)
-  pub least : 16 ≤ m
-  pub enough : e ≤ capacity m
+table_code {H} h =
+    code_by (List (List (ℕ × H)) × (List (Option (Placed (ℕ × H))) × ℕ))
+    (coded× (coded_list (coded_list (coded× coded_ℕ h))) (coded× (coded_list (coded_option (placed_code (coded× coded_ℕ h)))) coded_ℕ))
+    (λ t. (t.homes, (t.slots, t.writes))) (λ p. table_value p.0 p.1.0 p.1.1) (λ _. refl)
 
 -- the first of m, 2 m, 4 m .. in which e entries fit, after k doublings at most
 abbrev pub doubled_until : ℕ → ℕ → ℕ → ℕ

@@ -103,17 +103,6 @@ impl Metadata {
     }
 }
 
-#[cfg(test)]
-impl Metadata {
-    /// Returns whether this is the metadata of an entry of `hash` that stands `displacement` slots
-    /// past its home.
-    pub(super) fn is_of(self, hash: u64, displacement: usize) -> bool
-        requires { displacement ≤ MAX_DISPLACEMENT }
-    {
-        self.word == Metadata::new(hash, displacement).word
-    }
-}
-
 /// The same unit in a word of 64 bits.
 const WANTED_UNIT: u64 = 1 << 8;
 

@@ -28,15 +28,3 @@ pub fn partition(hash: u64, partitions: usize) -> usize
     let shift = 56 - partitions.trailing_zeros();
     (hash >> shift) as usize & (partitions - 1)
 }
-
-#[cfg(test)]
-mod tests {
-    use super::*;
-
-    #[test]
-    fn groups(rt: HostRuntime) {
-        assert_eq!(rt; partition(0xAB << 48, 256), 171);
-        assert_eq!(rt; partition(u64::MAX, 1), 0);
-        assert_eq!(rt; partition(u64::MAX, 65536), 65535);
-    }
-}

@@ -10,7 +10,9 @@ ghost use Rattle.std.specs.Bool.{OnTrue, OnFalse};
 ghost use Rattle.std.specs.List.{list_any};
 ghost use Rattle.std.specs.Prelude.{false, ◌≡◌, ◌+◌, ◌%◌, ◌^◌, ◌<◌, ◌≤◌, [], ℕ, None, IfOk, IfSome, length, replicate, set};
 
+mod clearing;
 mod reader;
+mod removal;
 mod view;
 
 use crate::metadata::{MAX_DISPLACEMENT, Metadata, Wanted};
@@ -83,6 +85,13 @@ impl<H: Copy + Default, A: Allocator> Slots<H, A> {
         *self.metadata.allocator()
     }
 
+    /// Adds the writes that were counted of slots that these take the place of.
+    pub(super) fn take_over_writes(&mut self, replaced: &Slots<H, A>)
+        ensures counted { self.new ≡ slots_value self.old.slots (self.old.writes + replaced.now.writes) }
+    {
+        self.writes.raise(&replaced.writes);
+    }
+
     /// Returns a view that reads the slots.
     #[inline(always)]
     pub(super) fn view(&self) -> SlotsRef<'_, H>
@@ -134,27 +143,6 @@ impl<H: Copy + Default, A: Allocator> Slots<H, A> {
         ensures { IfSome (slot_at self.now.slots slot) (λ p. result ≡ p.entry.1) }
     {
         self.handles[slot]
-    }
-
-    /// Removes the first candidate of `hash` that equals `handle`, and returns whether there was
-    /// one.
-    #[inline(always)]
-    pub(super) fn remove(&mut self, hash: u64, handle: H) -> bool
-    where
-        H: PartialEq,
-        requires tidy { IsTidy self.old.slots }
-        requires near { (n : ℕ) → reach (slot_at self.old.slots n) ≤ 16777215 }
-        ensures taken { OnTrue result (TakesOut (is_entry_of H.PartialEq.eq hash handle) self.old.slots self.new.slots (hash % length self.old.slots) self.old.writes self.new.writes) }
-        ensures none { OnFalse result (list_any (is_entry_of H.PartialEq.eq hash handle) (listed (homes_of self.old.slots) (hash % length self.old.slots)) ≡ false) }
-        ensures kept { OnFalse result (self.new ≡ self.old) }
-    {
-        remove_from(
-            self.metadata.as_mut_slice(),
-            self.handles.as_mut_slice(),
-            &mut self.writes,
-            hash,
-            handle,
-        )
     }
 
     /// Inserts an entry into slots of which no entry is too far past its home to move on.
@@ -251,29 +239,6 @@ impl<H: Copy + Default, A: Allocator> Slots<H, A> {
             handle,
         );
     }
-}
-
-/// Removes an entry over a view of both vectors.
-#[inline(always)]
-fn remove_from<H: Copy + Default + PartialEq>(
-    metadata: &mut [Metadata],
-    handles: &mut [H],
-    writes: &mut Count,
-    hash: u64,
-    handle: H,
-) -> bool
-    requires same { length handles.old ≡ length metadata.old }
-    requires slot_count { IsSlotCount (length metadata.old) }
-    requires tidy { IsTidy (cells metadata.old handles.old) }
-    requires near { (n : ℕ) → reach (slot_at (cells metadata.old handles.old) n) ≤ 16777215 }
-    ensures taken { OnTrue result (TakesOut (is_entry_of H.PartialEq.eq hash handle) (cells metadata.old handles.old) (cells metadata.new handles.new) (hash % length (cells metadata.old handles.old)) writes.old.total writes.new.total) }
-    ensures none { OnFalse result (list_any (is_entry_of H.PartialEq.eq hash handle) (listed (homes_of (cells metadata.old handles.old)) (hash % length (cells metadata.old handles.old))) ≡ false) }
-    ensures kept { OnFalse result ((metadata.new ≡ metadata.old) × (handles.new ≡ handles.old) × (writes.new ≡ writes.old)) }
-    ensures as_many { length handles.new ≡ length metadata.new }
-    ensures len { length metadata.new ≡ length metadata.old }
-{
-    let mut slots = SlotsMut::new(metadata, handles, writes);
-    slots.remove(hash, handle)
 }
 
 /// Inserts an entry over a view of both vectors.

@@ -7,11 +7,11 @@ ghost use Rattle.clock2q_handles.specs.Offers.{FindsOrPuts, MayBeOffered};
 ghost use Rattle.clock2q_handles.specs.Slots.{sought};
 ghost use Rattle.clock2q_handles.specs.TableStep.{fit, IsBelowCapacity};
 ghost use Rattle.std.specs.Bool.{OnFalse};
-ghost use Rattle.std.specs.Prelude.{◌≡◌, ◌≢◌, Err, ◌%◌, ◌^◌, ◌<◌, ◌≤◌, ◌+◌, ◌↔◌, ℕ, [], IsTrue, IsOk, IsErrOf, OnOk, OnErr, IfOk, length};
+ghost use Rattle.std.specs.Prelude.{false, ◌≡◌, ◌≢◌, Err, ◌%◌, ◌^◌, ◌<◌, ◌≤◌, ◌+◌, ◌↔◌, ℕ, [], IsTrue, IsOk, IsErrOf, OnOk, OnErr, IfOk, length};
 
+mod clearing;
 mod growth;
-#[cfg(test)]
-mod tests;
+mod removal;
 
 use crate::candidates::Candidates;
 use crate::error::TableError;
@@ -134,6 +134,7 @@ impl<H: Copy + Eq + Default, A: Allocator + Copy> Table<H, A> {
         ensures restores { IsBelowCapacity self.old.homes → OnOk result (Restores H.PartialEq.eq hash handle self.old self.new) }
         ensures laid { IsLaidOut self.new }
         ensures nearer { AfterGrowth F.FnMut rehash self.old.homes (IsNearer self.old.homes) }
+        ensures counted { self.old.writes ≤ self.new.writes }
     {
         self.make_room(&mut rehash)?;
         self.insert_within_capacity(hash, handle)
@@ -169,6 +170,8 @@ impl<H: Copy + Eq + Default, A: Allocator + Copy> Table<H, A> {
         ensures writes { IsBelowCapacity self.old.homes → WritesAtMost (run self.old.slots hash + 1) self.old self.new }
         ensures laid { IsLaidOut self.new }
         ensures nearer { AfterGrowth F.FnMut rehash self.old.homes (IsNearer self.old.homes) }
+        ensures found { IsBelowCapacity self.old.homes → IfOk result (λ r. r.1 ≡ false → self.new ≡ self.old) }
+        ensures counted { self.old.writes ≤ self.new.writes }
         ensures restores { IsBelowCapacity self.old.homes → IfOk result (λ r. IsTrue r.1 → Restores H.PartialEq.eq hash handle self.old self.new) }
     {
         self.make_room(&mut rehash)?;
@@ -281,6 +284,7 @@ impl<H: Copy + Eq + Default, A: Allocator> Table<H, A> {
         requires room { IsBelowCapacity self.old.homes }
         requires callable { MayBeOffered M.FnMut matches.old (candidates self.old.homes hash) }
         ensures settles { FindsOrPuts M.FnMut matches.old self.old.homes hash handle result self.new.homes matches.new }
+        ensures found { IfOk result (λ r. r.1 ≡ false → self.new ≡ self.old) }
         ensures only { result ≢ Err TableError.Memory }
         ensures few { total self.old.homes + 1 < 2 ^ 24 → IsOk result }
         ensures writes { WritesAtMost (run self.old.slots hash + 1) self.old self.new }
@@ -346,28 +350,6 @@ impl<H: Copy + Eq + Default, A: Allocator> Table<H, A> {
         }
         self.len += 1;
         Ok(())
-    }
-
-    /// Removes the first candidate of `hash` that equals `handle`, and returns whether there was
-    /// one. The entries after it move back by one slot, up to an empty slot or an entry at its
-    /// home. The table keeps its memory.
-    ///
-    /// # Cost
-    ///
-    /// It writes the slots from the removed entry's to that of the last entry that moves back.
-    pub fn remove(&mut self, hash: u64, handle: H) -> bool
-        ensures removed { self.new.homes ≡ removed H.PartialEq.eq self.old.homes hash handle }
-        ensures found { result ≡ list_any (is_entry_of H.PartialEq.eq hash handle) (listed self.old.homes hash) }
-        ensures none { OnFalse result (self.new ≡ self.old) }
-        ensures writes { WritesAtMost (run self.old.slots hash) self.old self.new }
-        ensures laid { IsLaidOut self.new }
-        ensures shorter { (x : ℕ) → walk self.new.homes x ≤ walk self.old.homes x }
-    {
-        if !self.slots.remove(hash, handle) {
-            return false;
-        }
-        self.len -= 1;
-        true
     }
 }
 

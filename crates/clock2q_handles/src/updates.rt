@@ -9,7 +9,7 @@ ghost use Rattle.clock2q_handles.specs.Slots.{cells, told, sought};
 ghost use Rattle.clock2q_handles.specs.Views.{shown, IsView, IsSameView};
 ghost use Rattle.std.specs.Bool.{OnTrue, OnFalse};
 ghost use Rattle.std.specs.List.{list_any};
-ghost use Rattle.std.specs.Prelude.{◌≡◌, ◌+◌, ◌%◌, ◌<◌, ◌≤◌, ℕ, false, Some, IfSome, IfNone, length};
+ghost use Rattle.std.specs.Prelude.{◌≡◌, ◌+◌, ◌%◌, ◌<◌, ◌≤◌, ℕ, true, false, Some, IfSome, IfNone, length};
 
 use crate::metadata::{MAX_DISPLACEMENT, Metadata, Wanted};
 use crate::slots::{SlotsMut, SlotsRef};
@@ -42,6 +42,46 @@ impl<'a, H: Copy + Default> SlotsMut<'a, H> {
             slot = self.after(slot);
             wanted = wanted.next();
         }
+    }
+
+    /// Returns the slot of the first candidate of `hash` that equals `handle`, where there is one.
+    #[inline(always)]
+    fn find_held(&self, hash: u64, handle: H) -> usize
+    where
+        H: PartialEq,
+        requires view { IsView self.now }
+        requires tidy { IsTidy (shown self.now) }
+        requires near { (n : ℕ) → reach (slot_at (shown self.now) n) ≤ 16777215 }
+        requires held { list_any (is_entry_of H.PartialEq.eq hash handle) (listed (homes_of (shown self.now)) (hash % length (shown self.now))) ≡ true }
+        ensures found { FindsAt (is_entry_of H.PartialEq.eq hash handle) (shown self.now) (hash % length (shown self.now)) result }
+    {
+        let mut slot = self.home(hash);
+        let mut wanted = Wanted::new(hash);
+        loop {
+            let metadata = self.metadata(slot);
+            if metadata.is(wanted) && self.handle(slot) == handle {
+                return slot;
+            }
+            slot = self.after(slot);
+            wanted = wanted.next();
+        }
+    }
+
+    /// Removes the first candidate of `hash` that equals `handle`, where there is one.
+    #[inline(always)]
+    pub(super) fn remove_held(&mut self, hash: u64, handle: H)
+    where
+        H: PartialEq,
+        requires view { IsView self.old }
+        requires tidy { IsTidy (shown self.old) }
+        requires near { (n : ℕ) → reach (slot_at (shown self.old) n) ≤ 16777215 }
+        requires held { list_any (is_entry_of H.PartialEq.eq hash handle) (listed (homes_of (shown self.old)) (hash % length (shown self.old))) ≡ true }
+        ensures same { IsSameView self.old self.new }
+        ensures view { IsView self.new }
+        ensures taken { TakesOut (is_entry_of H.PartialEq.eq hash handle) (shown self.old) (shown self.new) (hash % length (shown self.old)) self.old.writes.now.total self.new.writes.now.total }
+    {
+        let slot = self.find_held(hash, handle);
+        self.take_out(slot);
     }
 
     /// Removes the entry in a slot. The entries after it move back by one slot, up to an empty slot

@@ -58,6 +58,7 @@ impl<H: Copy + Eq + Default, A: Allocator + Copy> Table<H, A> {
         ensures only { result ≢ Err TableError.RunTooLong }
         ensures refused { OnErr result (self.new ≡ self.old) }
         ensures laid { IsLaidOut self.new }
+        ensures counted { self.old.writes ≤ self.new.writes }
 
         // No home's entries reach further past it than they did.
         ensures nearer { IsNearer self.old.homes self.new.homes }
@@ -90,6 +91,7 @@ impl<H: Copy + Eq + Default, A: Allocator + Copy> Table<H, A> {
         ensures as_many { total self.new.homes ≡ total self.old.homes }
         ensures only { IsOkUnless result TableError.Memory }
         ensures laid { IsLaidOut self.new }
+        ensures counted { self.old.writes ≤ self.new.writes }
         ensures nearer { AfterGrowth F.FnMut rehash.old self.old.homes (IsNearer self.old.homes) }
     {
         if self.len() == self.capacity() {
@@ -111,6 +113,7 @@ impl<H: Copy + Eq + Default, A: Allocator + Copy> Table<H, A> {
         ensures as_many { total self.new.homes ≡ total self.old.homes }
         ensures only { IsOkUnless result TableError.Memory }
         ensures laid { IsLaidOut self.new }
+        ensures counted { self.old.writes ≤ self.new.writes }
     {
         let count = (self.slots.count() * 2).max(MIN_SLOTS);
         *self = self.rebuilt(count, rehash)?;
@@ -132,6 +135,7 @@ impl<H: Copy + Eq + Default, A: Allocator + Copy> Table<H, A> {
         ensures asks { OnOk result (AsksHeld F.FnMut rehash.old self.now.homes rehash.new) }
         ensures unasked { OnErr result (rehash.new ≡ rehash.old) }
         ensures laid { IfOk result IsLaidOut }
+        ensures counted { IfOk result (λ t. self.now.writes ≤ t.writes) }
         ensures only { IsOkUnless result TableError.Memory }
     {
         if self.len > MAX_DISPLACEMENT {
@@ -141,6 +145,7 @@ impl<H: Copy + Eq + Default, A: Allocator + Copy> Table<H, A> {
             return Err(TableError::Memory);
         };
         slots.put_all(self.slots.view(), rehash);
+        slots.take_over_writes(&self.slots);
         Ok(Table {
             slots,
             len: self.len,
@@ -161,11 +166,13 @@ impl<H: Copy + Eq + Default, A: Allocator + Copy> Table<H, A> {
         ensures asks { OnOk result (AsksHeld F.FnMut rehash.old self.now.homes rehash.new) }
         ensures unasked { OnErr result (rehash.new ≡ rehash.old) }
         ensures laid { IfOk result IsLaidOut }
+        ensures counted { IfOk result (λ t. self.now.writes ≤ t.writes) }
         ensures only { IsOkUnless result TableError.Memory }
     {
-        let Ok(slots) = Slots::with_count(self.slots.allocator(), count) else {
+        let Ok(mut slots) = Slots::with_count(self.slots.allocator(), count) else {
             return Err(TableError::Memory);
         };
+        slots.take_over_writes(&self.slots);
         let mut table = Table { slots, len: 0 };
         let old = self.slots.view();
         for slot in 0..old.count() {

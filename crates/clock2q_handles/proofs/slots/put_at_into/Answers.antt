@@ -7,4 +7,5 @@ put_at-requires-clause-ends g c = (c.requires.ends.0, ends_along c.requires.ends
 
 pub returns-clause-put : goal.returns-clause-put
 returns-clause-put g c x ends =
-    puts_along x (c.put_at.ensures.put x (ends_along ends (cells_along (search rules) (search rules)))) (cells_along (search rules) (search rules)) (cells_along (search rules) (search rules)) (search rules) (search rules)
+    puts_along x (c.put_at.ensures.put x (ends_along ends (cells_along (search rules) (search rules))))
+    (cells_along (search rules) (search rules)) (cells_along (search rules) (search rules)) (search rules) (search rules)

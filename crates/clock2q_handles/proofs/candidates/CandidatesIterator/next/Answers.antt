@@ -26,7 +26,8 @@ on g c far =
 pub invariant_of-self-2 : goal.invariant_of-self-2
 invariant_of-self-2 g c =
     let before = goal.at.invariant_of-self-2 g c in
-    subst (λ s. IsLookup s.now.slots (sought c.next-self-inside.result) c.after-self-inside.result) (sym c.candidate.ensures.same) (on g before.After-next-self-inside (far g before.After-handle-handle)).lookup
+    subst (λ s. IsLookup s.now.slots (sought c.next-self-inside.result) c.after-self-inside.result)
+    (sym c.candidate.ensures.same) (on g before.After-next-self-inside (far g before.After-handle-handle)).lookup
 
 pub returns-clause-steps : goal.returns-clause-steps
 returns-clause-steps g c =
@@ -36,8 +37,16 @@ returns-clause-steps g c =
     let same = ap (λ s. s.now.slots) (sym c.candidate.ensures.same) in
     let next = on g before.After-next-self-inside (far g before.After-handle-handle) in
     let handle = subst (λ s. IfSome (slot_at s.now.slots c.in-Ok.slot) (λ p. v ≡ p.entry.1)) c.candidate.ensures.same c.handle-handle.ensures in (
-      ap (λ t. t.left) (sym c.self.view_is) ∙ c.in-Ok.ensures.left ∙ next.takes v c.in-Ok.ensures.found handle ∙ ap (λ s. v ∷ left_at s (sought c.next-self-inside.result) c.after-self-inside.result) same,
-      omega (arith, ap (λ s. unread_at s (sought c.next-self-inside.result) c.after-self-inside.result) same, next.read, c.in-Ok.ensures.read, ap (λ t. t.reads) c.self.view_is, ap (λ t. t.unread) c.self.view_is),
+      ap (λ t. t.left) (sym c.self.view_is) ∙ c.in-Ok.ensures.left ∙ next.takes v c.in-Ok.ensures.found handle
+          ∙ ap (λ s. v ∷ left_at s (sought c.next-self-inside.result) c.after-self-inside.result) same,
+      omega (
+        arith,
+        ap (λ s. unread_at s (sought c.next-self-inside.result) c.after-self-inside.result) same,
+        next.read,
+        c.in-Ok.ensures.read,
+        ap (λ t. t.reads) c.self.view_is,
+        ap (λ t. t.unread) c.self.view_is,
+      ),
       tt,
     )
 

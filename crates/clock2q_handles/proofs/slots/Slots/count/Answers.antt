@@ -10,4 +10,11 @@ pub returns-clause-power : goal.returns-clause-power
 returns-clause-power g c = subst IsSlotCount (words c.self.inside.metadata.items c.self.inside.handles.items c.self.invariant.0 c.self.view_is) c.self.invariant.1
 
 pub returns-clause-small : goal.returns-clause-small
-returns-clause-small g c = omega (arith, words c.self.inside.metadata.items c.self.inside.handles.items c.self.invariant.0 c.self.view_is, c.self.inside.metadata.ok.0, c.self.inside.metadata.ok.1, c.self.inside.metadata.small)
+returns-clause-small g c =
+    omega (
+      arith,
+      words c.self.inside.metadata.items c.self.inside.handles.items c.self.invariant.0 c.self.view_is,
+      c.self.inside.metadata.ok.0,
+      c.self.inside.metadata.ok.1,
+      c.self.inside.metadata.small,
+    )

@@ -11,7 +11,15 @@ pub returns-clause-told : goal.returns-clause-told
 returns-clause-told g c =
     subst (λ s. told c.index.result.now ≡ mark_of (slot_at s.slots (c.args.home + c.args.distance))) c.self.view_is
     (mark_read c.self.inside.metadata.items c.self.inside.handles.items (c.args.home + c.args.distance) c.slot.result c.index.result.now c.self.invariant.0
-    (c.slot.ensures.slot ∙ ap (λ m. (c.args.home + c.args.distance) % m) (sym (ap (λ s. length s.slots) c.self.view_is))) (omega (arith, words c.self.inside.metadata.items c.self.inside.handles.items c.self.invariant.0 c.self.view_is, c.slot.ensures.within)) c.index.ensures)
+    (c.slot.ensures.slot ∙ ap (λ m. (c.args.home + c.args.distance) % m) (sym (ap (λ s. length s.slots) c.self.view_is)))
+    (omega (arith, words c.self.inside.metadata.items c.self.inside.handles.items c.self.invariant.0 c.self.view_is, c.slot.ensures.within)) c.index.ensures)
 
 pub returns-clause-small : goal.returns-clause-small
-returns-clause-small g c = omega (arith, words c.self.inside.metadata.items c.self.inside.handles.items c.self.invariant.0 c.self.view_is, c.self.inside.metadata.ok.0, c.self.inside.metadata.ok.1, c.self.inside.metadata.small)
+returns-clause-small g c =
+    omega (
+      arith,
+      words c.self.inside.metadata.items c.self.inside.handles.items c.self.invariant.0 c.self.view_is,
+      c.self.inside.metadata.ok.0,
+      c.self.inside.metadata.ok.1,
+      c.self.inside.metadata.small,
+    )

@@ -10,4 +10,5 @@ index-requires g c = omega (arith, words c.self.inside.metadata.items c.self.ins
 pub returns : goal.returns
 returns g c =
     subst (λ s. told c.index.result.now ≡ mark_of (slot_at s.slots c.args.slot)) c.self.view_is
-    (mark_read_at c.self.inside.metadata.items c.self.inside.handles.items c.args.slot c.index.result.now c.self.invariant.0 (omega (arith, words c.self.inside.metadata.items c.self.inside.handles.items c.self.invariant.0 c.self.view_is, c.requires)) c.index.ensures)
+    (mark_read_at c.self.inside.metadata.items c.self.inside.handles.items c.args.slot c.index.result.now c.self.invariant.0
+    (omega (arith, words c.self.inside.metadata.items c.self.inside.handles.items c.self.invariant.0 c.self.view_is, c.requires)) c.index.ensures)

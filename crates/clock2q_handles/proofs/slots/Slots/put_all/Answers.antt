@@ -4,12 +4,14 @@ use Rattle.clock2q_handles.proofs.Wrapping.{cells_along, movable_along, moves_al
 use Rattle.clock2q_handles.proofs.slots.Slots.put_all.Goals as goal
 
 pub put_all_into-requires-clause-movable : goal.put_all_into-requires-clause-movable
-put_all_into-requires-clause-movable g c = movable_along g.F.FnMut c.requires.movable refl (sym (cells_along c.as_mut_slice.ensures.value c.as_mut_slice-2.ensures.value ∙ ap (λ s. s.slots) c.self.view_is))
+put_all_into-requires-clause-movable g c =
+    movable_along g.F.FnMut c.requires.movable refl (sym (cells_along c.as_mut_slice.ensures.value c.as_mut_slice-2.ensures.value ∙ ap (λ s. s.slots) c.self.view_is))
 
 pub returns : goal.returns
 returns g c =
     let ms : take c.self.inside.metadata.len (c.put_all_into.new.metadata ++ drop (length c.put_all_into.new.metadata) c.self.inside.metadata.items) ≡ c.put_all_into.new.metadata =
-    kept_whole c.put_all_into.new.metadata (drop (length c.put_all_into.new.metadata) c.self.inside.metadata.items) c.self.inside.metadata.len (omega (arith, c.put_all_into.ensures.len, c.as_mut_slice.ensures.len, ap length c.as_mut_slice.ensures.value, c.self.inside.metadata.ok.0)) in
+    kept_whole c.put_all_into.new.metadata (drop (length c.put_all_into.new.metadata) c.self.inside.metadata.items) c.self.inside.metadata.len
+    (omega (arith, c.put_all_into.ensures.len, c.as_mut_slice.ensures.len, ap length c.as_mut_slice.ensures.value, c.self.inside.metadata.ok.0)) in
     let vs : take c.self.inside.handles.len (c.put_all_into.new.handles ++ drop (length c.put_all_into.new.handles) c.self.inside.handles.items) ≡ c.put_all_into.new.handles =
     kept_whole c.put_all_into.new.handles (drop (length c.put_all_into.new.handles) c.self.inside.handles.items) c.self.inside.handles.len
     (omega (arith, c.put_all_into.ensures.len, c.put_all_into.ensures.as_many, ap length c.as_mut_slice.ensures.value, c.self.invariant.0, c.self.inside.handles.ok.0)) in

@@ -6,7 +6,8 @@ use Rattle.clock2q_handles.proofs.slots.Slots.put_at.Goals as goal
 pub returns : goal.returns
 returns g c =
     let ms : take c.self.inside.metadata.len (c.put_at_into.new.metadata ++ drop (length c.put_at_into.new.metadata) c.self.inside.metadata.items) ≡ c.put_at_into.new.metadata =
-    kept_whole c.put_at_into.new.metadata (drop (length c.put_at_into.new.metadata) c.self.inside.metadata.items) c.self.inside.metadata.len (omega (arith, c.put_at_into.ensures.len, c.as_mut_slice.ensures.len, ap length c.as_mut_slice.ensures.value, c.self.inside.metadata.ok.0)) in
+    kept_whole c.put_at_into.new.metadata (drop (length c.put_at_into.new.metadata) c.self.inside.metadata.items) c.self.inside.metadata.len
+    (omega (arith, c.put_at_into.ensures.len, c.as_mut_slice.ensures.len, ap length c.as_mut_slice.ensures.value, c.self.inside.metadata.ok.0)) in
     let vs : take c.self.inside.handles.len (c.put_at_into.new.handles ++ drop (length c.put_at_into.new.handles) c.self.inside.handles.items) ≡ c.put_at_into.new.handles =
     kept_whole c.put_at_into.new.handles (drop (length c.put_at_into.new.handles) c.self.inside.handles.items) c.self.inside.handles.len
     (omega (arith, c.put_at_into.ensures.len, c.put_at_into.ensures.as_many, ap length c.as_mut_slice.ensures.value, c.self.invariant.0, c.self.inside.handles.ok.0)) in

@@ -19,7 +19,8 @@ returns-clause-put g c v is_vacancy =
     } in
     let opens = opened A c.move_on.new.self.slots c.write.new.self.slots (cell (told c.new.result) c.args.handle) h d c.in-Some.vacancy (top c.args.hash, c.args.handle) c.in-Some.ensures.within.0
     (omega (arith, c.in-Some.ensures.within.1, c.move_on.ensures.len)) c.in-Some.ensures.vacancy.vacant moving (ap (λ m. cell m c.args.handle) c.new.ensures) (ap (λ s. s.slots) c.write.ensures) in
-    subst (λ m. Opens A (slot_at c.write.new.self.slots) m h d v (top c.args.hash, c.args.handle)) c.move_on.ensures.len (subst (λ w. Opens A (slot_at c.write.new.self.slots) (length c.move_on.new.self.slots) h d w (top c.args.hash, c.args.handle)) (sym same) opens)
+    subst (λ m. Opens A (slot_at c.write.new.self.slots) m h d v (top c.args.hash, c.args.handle)) c.move_on.ensures.len
+    (subst (λ w. Opens A (slot_at c.write.new.self.slots) (length c.move_on.new.self.slots) h d w (top c.args.hash, c.args.handle)) (sym same) opens)
 
 pub returns-clause-writes : goal.returns-clause-writes
 returns-clause-writes g c v is_vacancy =

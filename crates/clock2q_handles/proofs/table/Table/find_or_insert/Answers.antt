@@ -12,14 +12,16 @@ find_or_put-requires-clause-callable g c =
           let asked = c.requires.rehash full in
           subst (λ hs. MayBeOffered g.M.FnMut c.args.matches (candidates hs c.args.hash)) (sym (c.in_ok-make_room.ensures.grown asked.0 (λ _. asked.1))) (c.requires.callable asked.0 (λ _. asked.1))
       | inr room ↦
-          subst (λ hs. MayBeOffered g.M.FnMut c.args.matches (candidates hs c.args.hash)) (sym (c.in_ok-make_room.ensures.grown (λ _. 0) (λ full. absurd (room full)))) (c.requires.callable (λ _. 0) (λ full. absurd (room full)))
+          subst (λ hs. MayBeOffered g.M.FnMut c.args.matches (candidates hs c.args.hash))
+          (sym (c.in_ok-make_room.ensures.grown (λ _. 0) (λ full. absurd (room full)))) (c.requires.callable (λ _. 0) (λ full. absurd (room full)))
     ]
 
 pub returns-clause-settles : goal.returns-clause-settles
 returns-clause-settles g c _ = (
   _,
   λ key gives.
-      subst (λ hs. FindsOrPuts g.M.FnMut c.args.matches hs c.args.hash c.args.handle c.find_or_put.result c.find_or_put.new.self.homes c.find_or_put.new.matches) (c.in_ok-make_room.ensures.grown key gives) c.find_or_put.ensures.settles,
+      subst (λ hs. FindsOrPuts g.M.FnMut c.args.matches hs c.args.hash c.args.handle c.find_or_put.result c.find_or_put.new.self.homes c.find_or_put.new.matches)
+      (c.in_ok-make_room.ensures.grown key gives) c.find_or_put.ensures.settles,
 )
 
 pub returns-clause-asks : goal.returns-clause-asks

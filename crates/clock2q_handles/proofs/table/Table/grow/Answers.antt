@@ -50,14 +50,16 @@ pub returns-clause-grown : goal.returns-clause-grown
 returns-clause-grown g c key gives =
     let homes = c.args.self.now.homes in
     let before = (goal.at.returns-clause-grown g c).After-count in
-    ap (λ t. t.homes) c.drop.view_is ∙ c.in_ok-self-inside.ensures.made key gives ∙ ap (λ m. rebuilt key m homes) (c.max-count.ensures ∙ doubled_is homes c.count.result (len g before) (is_count g before))
+    ap (λ t. t.homes) c.drop.view_is ∙ c.in_ok-self-inside.ensures.made key gives
+    ∙ ap (λ m. rebuilt key m homes) (c.max-count.ensures ∙ doubled_is homes c.count.result (len g before) (is_count g before))
 
 pub returns-clause-room : goal.returns-clause-room
 returns-clause-room g c =
     let homes = c.args.self.now.homes in
     let before = (goal.at.returns-clause-room g c).After-count in
     let more = doubled_more homes c.count.result (len g before) (is_count g before) in
-    subst (λ hs. total hs < capacity (length hs)) (sym (made g c)) (rebuilt_room c.requires.asked.0 homes c.max-count.result (room g before) (omega (arith, c.max-count.ensures)) (omega (arith, c.requires.full, more, ap capacity c.max-count.ensures)))
+    subst (λ hs. total hs < capacity (length hs)) (sym (made g c))
+    (rebuilt_room c.requires.asked.0 homes c.max-count.result (room g before) (omega (arith, c.max-count.ensures)) (omega (arith, c.requires.full, more, ap capacity c.max-count.ensures)))
 
 pub returns-clause-laid : goal.returns-clause-laid
 returns-clause-laid g c = table-laid c.drop.inside.slots.slots c.drop.inside.len c.drop.invariant c.drop.inside.slots.writes

@@ -6,7 +6,8 @@ use Rattle.clock2q_handles.proofs.table.Table.insert.Goals as goal
 
 pub returns-clause-put : goal.returns-clause-put
 returns-clause-put g c _ key gives =
-    subst (λ hs. PutIn hs c.args.hash c.args.handle c.insert_within_capacity.result c.insert_within_capacity.new.self.homes) (c.in_ok-make_room.ensures.grown key gives) c.insert_within_capacity.ensures.put
+    subst (λ hs. PutIn hs c.args.hash c.args.handle c.insert_within_capacity.result c.insert_within_capacity.new.self.homes)
+    (c.in_ok-make_room.ensures.grown key gives) c.insert_within_capacity.ensures.put
 
 pub returns-clause-few : goal.returns-clause-few
 returns-clause-few g c few is =
@@ -21,4 +22,5 @@ returns-clause-asks g c _ full = (_, c.in_ok-make_room.ensures.asks full)
 
 pub returns-clause-restores : goal.returns-clause-restores
 returns-clause-restores g c room =
-    subst (λ t. OnOk c.insert_within_capacity.result (Restores g.H.PartialEq.eq c.args.hash c.args.handle t c.insert_within_capacity.new.self)) (c.in_ok-make_room.ensures.kept room).1 c.insert_within_capacity.ensures.restores
+    subst (λ t. OnOk c.insert_within_capacity.result (Restores g.H.PartialEq.eq c.args.hash c.args.handle t c.insert_within_capacity.new.self))
+    (c.in_ok-make_room.ensures.kept room).1 c.insert_within_capacity.ensures.restores

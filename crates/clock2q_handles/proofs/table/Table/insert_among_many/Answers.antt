@@ -13,11 +13,13 @@ end-distance-requires-clause-home g c =
 
 pub returns-clause-few : goal.returns-clause-few
 returns-clause-few g c few =
-    ok_where_no_error c.place.result (put_err c.args.self.now.homes c.place.new.self.homes c.args.hash c.args.handle c.place.result c.place.ensures.put) (few_fit c.args.self.now.homes c.args.hash c.args.handle c.requires.room few)
+    ok_where_no_error c.place.result (put_err c.args.self.now.homes c.place.new.self.homes c.args.hash c.args.handle c.place.result c.place.ensures.put)
+    (few_fit c.args.self.now.homes c.args.hash c.args.handle c.requires.room few)
 
 pub returns-clause-restores : goal.returns-clause-restores
 returns-clause-restores g c =
     let slots = c.self.inside.slots.slots in
     on_ok c.place.result (λ is fresh.
-    restored_by g.H.PartialEq.eq slots c.args.self.now.homes c.place.new.self.homes c.args.hash c.args.handle (ap (λ t. t.homes) c.self.view_is) c.self.invariant.tidy c.requires.room (g.met.H.Eq.laws.refl c.args.handle) is fresh
+    restored_by g.H.PartialEq.eq slots c.args.self.now.homes c.place.new.self.homes c.args.hash c.args.handle
+    (ap (λ t. t.homes) c.self.view_is) c.self.invariant.tidy c.requires.room (g.met.H.Eq.laws.refl c.args.handle) is fresh
     ∙ ap (λ t. t.slots) c.self.view_is) (put_ok c.args.self.now.homes c.place.new.self.homes c.args.hash c.args.handle c.place.result c.place.ensures.put)

@@ -20,8 +20,11 @@ put_at-requires-clause-ends g c = (c.args.hash, ends_along c.requires.ends (ap (
 -- what was put in
 step : (g : Over) (c : After-put_at g) → Insertion c.args.hash c.args.handle c.self.inside.slots.slots c.put_at.new.self.slots c.self.inside.len c.self.inside.slots.writes c.put_at.new.self.writes
 step g c =
-    insertion_few c.args.hash c.args.handle c.self.inside.slots.slots c.put_at.new.self.slots c.self.inside.len c.self.inside.slots.writes c.put_at.new.self.writes c.self.invariant (omega (arith, c.if-self-le-MAX_DISPLACEMENT.true))
-    (subst (λ m. total (homes_of c.self.inside.slots.slots) < capacity m) (length-homes_of c.self.inside.slots.slots) (subst (λ t. total t.homes < capacity (length t.homes)) (sym c.self.view_is) c.requires.room)) (c.put_at.ensures.put c.args.hash (ends_along c.requires.ends (ap (λ t. t.slots) (sym c.self.view_is))))
+    insertion_few c.args.hash c.args.handle c.self.inside.slots.slots c.put_at.new.self.slots c.self.inside.len
+    c.self.inside.slots.writes c.put_at.new.self.writes c.self.invariant (omega (arith, c.if-self-le-MAX_DISPLACEMENT.true))
+    (subst (λ m. total (homes_of c.self.inside.slots.slots) < capacity m) (length-homes_of c.self.inside.slots.slots)
+    (subst (λ t. total t.homes < capacity (length t.homes)) (sym c.self.view_is) c.requires.room))
+    (c.put_at.ensures.put c.args.hash (ends_along c.requires.ends (ap (λ t. t.slots) (sym c.self.view_is))))
 
 pub invariant_of-self : goal.invariant_of-self
 invariant_of-self g c = (step g (goal.at.invariant_of-self g c).After-put_at).table
@@ -38,10 +41,12 @@ returns-then-self-le-MAX_DISPLACEMENT-clause-writes g c =
     subst (λ t. (t.writes ≤ c.put_at.new.self.writes) × (c.put_at.new.self.writes ≤ t.writes + (run t.slots c.args.hash + 1))) c.self.view_is (done.counted, within)
 
 pub returns-then-self-le-MAX_DISPLACEMENT-clause-laid : goal.returns-then-self-le-MAX_DISPLACEMENT-clause-laid
-returns-then-self-le-MAX_DISPLACEMENT-clause-laid g c = table-laid c.put_at.new.self.slots (c.self.inside.len + 1) (step g (goal.at.returns-then-self-le-MAX_DISPLACEMENT-clause-laid g c).After-put_at).table c.put_at.new.self.writes
+returns-then-self-le-MAX_DISPLACEMENT-clause-laid g c =
+    table-laid c.put_at.new.self.slots (c.self.inside.len + 1) (step g (goal.at.returns-then-self-le-MAX_DISPLACEMENT-clause-laid g c).After-put_at).table c.put_at.new.self.writes
 
 pub returns-then-self-le-MAX_DISPLACEMENT-clause-restores : goal.returns-then-self-le-MAX_DISPLACEMENT-clause-restores
 returns-then-self-le-MAX_DISPLACEMENT-clause-restores g c fresh =
     let slots = c.self.inside.slots.slots in
-    restored_by g.H.PartialEq.eq slots c.args.self.now.homes (homes_of c.put_at.new.self.slots) c.args.hash c.args.handle (ap (λ t. t.homes) c.self.view_is) c.self.invariant.tidy c.requires.room (g.met.H.Eq.laws.refl c.args.handle) (returns-then-self-le-MAX_DISPLACEMENT-clause-put g c).0 fresh
+    restored_by g.H.PartialEq.eq slots c.args.self.now.homes (homes_of c.put_at.new.self.slots) c.args.hash c.args.handle (ap (λ t. t.homes) c.self.view_is)
+    c.self.invariant.tidy c.requires.room (g.met.H.Eq.laws.refl c.args.handle) (returns-then-self-le-MAX_DISPLACEMENT-clause-put g c).0 fresh
     ∙ ap (λ t. t.slots) c.self.view_is

@@ -16,14 +16,17 @@ put-requires-clause-near g c = near_few c.self.inside.slots.slots c.self.inside.
 pub put-requires-clause-some : goal.put-requires-clause-some
 put-requires-clause-some g c =
     let room : total (homes_of c.self.inside.slots.slots) < capacity (length c.self.inside.slots.slots) =
-    subst (λ m. total (homes_of c.self.inside.slots.slots) < capacity m) (length-homes_of c.self.inside.slots.slots) (subst (λ t. total t.homes < capacity (length t.homes)) (sym c.self.view_is) c.requires.room) in
+    subst (λ m. total (homes_of c.self.inside.slots.slots) < capacity m) (length-homes_of c.self.inside.slots.slots)
+    (subst (λ t. total t.homes < capacity (length t.homes)) (sym c.self.view_is) c.requires.room) in
     omega (arith, room)
 
 -- what was put in
 step : (g : Over) (c : After-put g) → Insertion c.args.hash c.args.handle c.self.inside.slots.slots c.put.new.self.slots c.self.inside.len c.self.inside.slots.writes c.put.new.self.writes
 step g c =
-    insertion_few c.args.hash c.args.handle c.self.inside.slots.slots c.put.new.self.slots c.self.inside.len c.self.inside.slots.writes c.put.new.self.writes c.self.invariant (omega (arith, c.if-self-gt-MAX_DISPLACEMENT.false))
-    (subst (λ m. total (homes_of c.self.inside.slots.slots) < capacity m) (length-homes_of c.self.inside.slots.slots) (subst (λ t. total t.homes < capacity (length t.homes)) (sym c.self.view_is) c.requires.room)) c.put.ensures.put
+    insertion_few c.args.hash c.args.handle c.self.inside.slots.slots c.put.new.self.slots c.self.inside.len
+    c.self.inside.slots.writes c.put.new.self.writes c.self.invariant (omega (arith, c.if-self-gt-MAX_DISPLACEMENT.false))
+    (subst (λ m. total (homes_of c.self.inside.slots.slots) < capacity m) (length-homes_of c.self.inside.slots.slots)
+    (subst (λ t. total t.homes < capacity (length t.homes)) (sym c.self.view_is) c.requires.room)) c.put.ensures.put
 
 pub invariant_of-self : goal.invariant_of-self
 invariant_of-self g c = (step g (goal.at.invariant_of-self g c).After-put).table
@@ -45,5 +48,6 @@ returns-clause-laid g c = table-laid c.put.new.self.slots (c.self.inside.len + 1
 pub returns-clause-restores : goal.returns-clause-restores
 returns-clause-restores g c fresh =
     let slots = c.self.inside.slots.slots in
-    restored_by g.H.PartialEq.eq slots c.args.self.now.homes (homes_of c.put.new.self.slots) c.args.hash c.args.handle (ap (λ t. t.homes) c.self.view_is) c.self.invariant.tidy c.requires.room (g.met.H.Eq.laws.refl c.args.handle) (returns-clause-put g c).0 fresh
+    restored_by g.H.PartialEq.eq slots c.args.self.now.homes (homes_of c.put.new.self.slots) c.args.hash c.args.handle
+    (ap (λ t. t.homes) c.self.view_is) c.self.invariant.tidy c.requires.room (g.met.H.Eq.laws.refl c.args.handle) (returns-clause-put g c).0 fresh
     ∙ ap (λ t. t.slots) c.self.view_is

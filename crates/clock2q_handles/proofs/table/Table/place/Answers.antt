@@ -10,23 +10,29 @@ use Rattle.clock2q_handles.proofs.table.Table.place.Goals.{After-put_in, Else-no
 use Rattle.clock2q_handles.proofs.table.Table.place.Goals as goal
 
 ended : (g : Over) (c : After-put_in g) → HasEnded c.self.inside.slots.slots c.args.hash c.args.home c.args.distance
-ended g c = has_ended c.self.inside.slots.slots c.args.self.now c.args.hash c.args.home c.args.distance c.self.inside.slots.writes c.self.view_is c.requires.room c.requires.home c.requires.passed c.requires.stop
+ended g c =
+    has_ended c.self.inside.slots.slots c.args.self.now c.args.hash c.args.home c.args.distance
+    c.self.inside.slots.writes c.self.view_is c.requires.room c.requires.home c.requires.passed c.requires.stop
 
 step : (g : Over) (c : Else-not-put_in g) → Insertion c.args.hash c.args.handle c.self.inside.slots.slots c.put_in.new.self.slots c.self.inside.len c.self.inside.slots.writes c.put_in.new.self.writes
 step g c =
-    insertion c.args.hash c.args.handle c.self.inside.slots.slots c.put_in.new.self.slots c.args.home c.args.distance c.self.inside.len c.self.invariant (ended g (goal.at.overflow_add-self g c).After-put_in) c.self.inside.slots.writes c.put_in.new.self.writes
+    insertion c.args.hash c.args.handle c.self.inside.slots.slots c.put_in.new.self.slots c.args.home c.args.distance c.self.inside.len c.self.invariant
+    (ended g (goal.at.overflow_add-self g c).After-put_in) c.self.inside.slots.writes c.put_in.new.self.writes
     c.if-not-put_in.ensures.put c.if-not-put_in.ensures.room c.if-not-put_in.ensures.writes c.put_in.ensures.len
 
 pub returns-then-not-put_in-clause-put : goal.returns-then-not-put_in-clause-put
 returns-then-not-put_in-clause-put g c =
     let before = (goal.at.returns-then-not-put_in-clause-put g c).After-put_in in
     let same : homes_of c.put_in.new.self.slots ≡ c.args.self.now.homes = ap (λ s. homes_of s.slots) c.if-not-put_in.ensures.refused ∙ ap (λ t. t.homes) c.self.view_is in
-    let long = refusal c.args.hash c.args.handle c.self.inside.slots.slots c.self.inside.slots.slots c.args.home c.args.distance c.self.inside.len c.self.invariant (ended g before) c.if-not-put_in.ensures.far in
+    let long =
+    refusal c.args.hash c.args.handle c.self.inside.slots.slots c.self.inside.slots.slots c.args.home
+    c.args.distance c.self.inside.len c.self.invariant (ended g before) c.if-not-put_in.ensures.far in
     (refl, same, subst (λ t. IsTooLong (with_handle t.homes c.args.hash c.args.handle)) c.self.view_is long)
 
 pub returns-then-not-put_in-clause-laid : goal.returns-then-not-put_in-clause-laid
 returns-then-not-put_in-clause-laid g c =
-    subst (λ s. IsLaidOut (table_value (homes_of s.slots) s.slots s.writes)) (sym c.if-not-put_in.ensures.refused) (table-laid c.self.inside.slots.slots c.self.inside.len c.self.invariant c.self.inside.slots.writes)
+    subst (λ s. IsLaidOut (table_value (homes_of s.slots) s.slots s.writes)) (sym c.if-not-put_in.ensures.refused)
+    (table-laid c.self.inside.slots.slots c.self.inside.len c.self.invariant c.self.inside.slots.writes)
 
 pub overflow_add-self : goal.overflow_add-self
 overflow_add-self g c = omega (arith, c.self.invariant.counted, (ended g (goal.at.overflow_add-self g c).After-put_in).fits, c.if-not-put_in.ensures.small)

@@ -2,7 +2,7 @@ use Rattle.std.proofs.Common.{◌≡◌, ℕ, IfSome, ◌+◌, [], ◌∷◌, �
 use Rattle.std.specs.Fn.{Called}
 use Rattle.clock2q_handles.specs.Homes.{no_entries}
 use Rattle.clock2q_handles.specs.Layout.{homes_of, entries, slot_at, layout, IsTidy}
-use Rattle.clock2q_handles.specs.Slots.{cells, mark_of}
+use Rattle.clock2q_handles.specs.Slots.{cells, mark_of, slots_value}
 use Rattle.clock2q_handles.specs.TableStep.{table_value, put_all}
 use Rattle.clock2q_handles.specs.Changes.{IsLaidOut}
 use Rattle.clock2q_handles.specs.Rehash.{Asks, Reaches, IsHeld, held_handles}
@@ -18,13 +18,14 @@ use Rattle.clock2q_handles.proofs.table.Table.rebuilt_of_many.Goals as goal
 use Rattle.clock2q_handles.proofs.table.Table.rebuilt_of_many.Goals.{After-is_empty, After-handle-handle, After-rehash-hash, then-not-is_empty+in_ok-insert_within_capacity, else-not-is_empty}
 
 pub invariant_of-table : goal.invariant_of-table
-invariant_of-table g c = subst (λ s. IsTable s.slots 0) (sym c.in-Ok.ensures) (table-empty _ c.args.count c.requires.count)
+invariant_of-table g c = subst (λ s. IsTable s.slots 0) (sym (c.take_over_writes.ensures.counted ∙ ap (λ s. slots_value s.slots (s.writes + c.self.inside.slots.writes)) c.in-Ok.ensures)) (table-empty _ c.args.count c.requires.count)
 
 pub loop-slot-init : goal.loop-slot-init
 loop-slot-init g c = record {
   reached = ([], refl);
-  laid = subst (λ s. IsLaidOut (table_value (homes_of s.slots) s.slots s.writes)) (sym c.in-Ok.ensures) (table-laid (empty _ c.args.count) 0 (table-empty _ c.args.count c.requires.count) 0);
-  built = λ key answers hashes. ap (λ s. homes_of s.slots) c.in-Ok.ensures ∙ homes_of-empty _ c.args.count;
+  laid = subst (λ s. IsLaidOut (table_value (homes_of s.slots) s.slots s.writes)) (sym (c.take_over_writes.ensures.counted ∙ ap (λ s. slots_value s.slots (s.writes + c.self.inside.slots.writes)) c.in-Ok.ensures)) (table-laid (empty _ c.args.count) 0 (table-empty _ c.args.count c.requires.count) (0 + c.self.inside.slots.writes));
+  counted = omega (arith, ap (λ s. s.writes) (c.take_over_writes.ensures.counted ∙ ap (λ s. slots_value s.slots (s.writes + c.self.inside.slots.writes)) c.in-Ok.ensures), ap (λ t. t.writes) c.self.view_is);
+  built = λ key answers hashes. ap (λ s. homes_of s.slots) (c.take_over_writes.ensures.counted ∙ ap (λ s. slots_value s.slots (s.writes + c.self.inside.slots.writes)) c.in-Ok.ensures) ∙ homes_of-empty _ c.args.count;
   asked = λ key answers hashes. refl;
 }
 
@@ -112,6 +113,7 @@ loop-slot-preserved g c =
                   (Reaches-push g.F.FnMut held_is c.args.rehash.now reached.0 c.loop-slot.rehash v w.rehash-hash.result w.rehash-hash.new.self reached.1 held w.rehash-hash.ensures),
             );
             laid = subst IsLaidOut (sym w.table-is) w.in_ok-insert_within_capacity.ensures.laid;
+            counted = omega (arith, c.loop-slot.invariant.counted, w.in_ok-insert_within_capacity.ensures.writes.0, ap (λ t. t.writes) w.table-is);
             built = λ key answers hashes.
                 let answered = answers.answers reached.0 c.loop-slot.rehash v w.rehash-hash.result _ reached.1 held w.rehash-hash.ensures in
                 ap (λ t. t.homes) w.table-is ∙ w.in_ok-insert_within_capacity.ensures.put.0 ∙ step_made c.args.self.now.homes slots c.self.inside.len c.args.count c.loop-slot.slot at v entry
@@ -130,6 +132,7 @@ loop-slot-preserved g c =
           record {
             reached = (c.loop-slot.invariant.reached.0, subst (λ f. Reaches g.F.FnMut (IsHeld c.args.self.now.homes) c.args.rehash.now c.loop-slot.invariant.reached.0 f) (sym w.rehash-is) c.loop-slot.invariant.reached.1);
             laid = subst IsLaidOut (sym w.table-is) c.loop-slot.invariant.laid;
+            counted = omega (arith, c.loop-slot.invariant.counted, ap (λ t. t.writes) w.table-is);
             built = λ key answers hashes. ap (λ t. t.homes) w.table-is ∙ step_empty c.args.self.now.homes slots c.self.inside.len c.args.count c.loop-slot.slot at key c.loop-slot.table.homes empty (c.loop-slot.invariant.built key answers hashes);
             asked = λ key answers hashes.
                 subst (λ f. Asks g.F.FnMut key c.args.rehash.now (map (λ s. s.entry.1) (entries (take (c.loop-slot.slot + 1) slots))) f) (sym w.rehash-is)

@@ -15,11 +15,15 @@ use Rattle.clock2q_handles.proofs.table.Table.remove.Goals as goal
 -- no entry passes where none was found
 none : (g : Over) (c : Then-not-remove g) → list_any (is_entry_of g.H.PartialEq.eq c.args.hash c.args.handle) (listed (homes_of c.self.inside.slots.slots) c.args.hash) ≡ false
 none g c =
-    ap (list_any (is_entry_of g.H.PartialEq.eq c.args.hash c.args.handle)) (sym (listed-home c.self.inside.slots.slots (c.args.hash % length c.self.inside.slots.slots) c.args.hash (λ _. refl))) ∙ c.if-not-remove.ensures.none
+    ap (list_any (is_entry_of g.H.PartialEq.eq c.args.hash c.args.handle)) (sym (listed-home c.self.inside.slots.slots (c.args.hash % length c.self.inside.slots.slots) c.args.hash (λ _. refl)))
+    ∙ c.if-not-remove.ensures.none
 
 -- what was taken out
-step : (g : Over) (c : Else-not-remove g) → Removal g.H.PartialEq.eq c.args.hash c.args.handle c.self.inside.slots.slots c.remove.new.self.slots c.self.inside.len c.self.inside.slots.writes c.remove.new.self.writes
-step g c = removal g.H.PartialEq.eq c.args.hash c.args.handle c.self.inside.slots.slots c.remove.new.self.slots c.self.inside.len c.self.inside.slots.writes c.remove.new.self.writes c.self.invariant c.if-not-remove.ensures.taken
+step : (g : Over) (c : Else-not-remove g)
+    → Removal g.H.PartialEq.eq c.args.hash c.args.handle c.self.inside.slots.slots c.remove.new.self.slots c.self.inside.len c.self.inside.slots.writes c.remove.new.self.writes
+step g c =
+    removal g.H.PartialEq.eq c.args.hash c.args.handle c.self.inside.slots.slots c.remove.new.self.slots
+    c.self.inside.len c.self.inside.slots.writes c.remove.new.self.writes c.self.invariant c.if-not-remove.ensures.taken
 
 pub invariant_of-self : goal.invariant_of-self
 invariant_of-self g c = subst (λ s. IsTable s.slots c.self.inside.len) (sym c.if-not-remove.ensures.kept) c.self.invariant
@@ -32,11 +36,13 @@ returns-then-not-remove-clause-removed g c =
 
 pub returns-then-not-remove-clause-found : goal.returns-then-not-remove-clause-found
 returns-then-not-remove-clause-found g c =
-    subst (λ t. false ≡ list_any (is_entry_of g.H.PartialEq.eq c.args.hash c.args.handle) (listed t.homes c.args.hash)) c.self.view_is (sym (none g (goal.at.returns-then-not-remove-clause-found g c).Then-not-remove))
+    subst (λ t. false ≡ list_any (is_entry_of g.H.PartialEq.eq c.args.hash c.args.handle) (listed t.homes c.args.hash))
+    c.self.view_is (sym (none g (goal.at.returns-then-not-remove-clause-found g c).Then-not-remove))
 
 pub returns-then-not-remove-clause-laid : goal.returns-then-not-remove-clause-laid
 returns-then-not-remove-clause-laid g c =
-    subst (λ s. IsLaidOut (table_value (homes_of s.slots) s.slots s.writes)) (sym c.if-not-remove.ensures.kept) (table-laid c.self.inside.slots.slots c.self.inside.len c.self.invariant c.self.inside.slots.writes)
+    subst (λ s. IsLaidOut (table_value (homes_of s.slots) s.slots s.writes)) (sym c.if-not-remove.ensures.kept)
+    (table-laid c.self.inside.slots.slots c.self.inside.len c.self.invariant c.self.inside.slots.writes)
 
 pub overflow_sub-self : goal.overflow_sub-self
 overflow_sub-self g c = omega (arith, (step g (goal.at.overflow_sub-self g c).Else-not-remove).total_less)
@@ -48,7 +54,9 @@ pub returns-clause-removed : goal.returns-clause-removed
 returns-clause-removed g c = (step g (goal.at.returns-clause-removed g c).Else-not-remove).homes ∙ ap (λ t. removed g.H.PartialEq.eq t.homes c.args.hash c.args.handle) c.self.view_is
 
 pub returns-clause-found : goal.returns-clause-found
-returns-clause-found g c = subst (λ t. true ≡ list_any (is_entry_of g.H.PartialEq.eq c.args.hash c.args.handle) (listed t.homes c.args.hash)) c.self.view_is (sym (step g (goal.at.returns-clause-found g c).Else-not-remove).found)
+returns-clause-found g c =
+    subst (λ t. true ≡ list_any (is_entry_of g.H.PartialEq.eq c.args.hash c.args.handle) (listed t.homes c.args.hash))
+    c.self.view_is (sym (step g (goal.at.returns-clause-found g c).Else-not-remove).found)
 
 pub returns-clause-writes : goal.returns-clause-writes
 returns-clause-writes g c =
@@ -62,4 +70,5 @@ pub returns-clause-shorter : goal.returns-clause-shorter
 returns-clause-shorter g c x =
     let homes = homes_of c.self.inside.slots.slots in
     subst (λ t. walk (homes_of c.remove.new.self.slots) x ≤ walk t.homes x) c.self.view_is
-    (subst (λ hs. walk hs x ≤ walk homes x) (sym (step g (goal.at.returns-clause-shorter g c).Else-not-remove).homes) (removed-walk g.H.PartialEq.eq homes c.args.hash c.args.handle (tidy-room c.self.inside.slots.slots c.self.invariant.tidy) x))
+    (subst (λ hs. walk hs x ≤ walk homes x) (sym (step g (goal.at.returns-clause-shorter g c).Else-not-remove).homes)
+    (removed-walk g.H.PartialEq.eq homes c.args.hash c.args.handle (tidy-room c.self.inside.slots.slots c.self.invariant.tidy) x))

@@ -18,14 +18,17 @@ returns-then-ends_walk_for-clause-none g c =
     let slots = c.args.self.now.slots.now.slots in
     let l = c.loop-metadata.invariant in
     let mark = here g (goal.at.returns-then-ends_walk_for-clause-none g c).After-is in
-    l.left ∙ (lookup_ends slots (sought c.loop-metadata.wanted) c.loop-metadata.slot l.some l.lookup (omega (arith, reach_told _ (slot_at slots c.loop-metadata.slot) mark, c.ends_walk_for.ensures.0 c.if-ends_walk_for.true))).0
+    l.left ∙ (lookup_ends slots (sought c.loop-metadata.wanted) c.loop-metadata.slot l.some l.lookup
+    (omega (arith, reach_told _ (slot_at slots c.loop-metadata.slot) mark, c.ends_walk_for.ensures.0 c.if-ends_walk_for.true))).0
 
 pub returns-then-ends_walk_for-clause-read_all : goal.returns-then-ends_walk_for-clause-read_all
 returns-then-ends_walk_for-clause-read_all g c =
     let slots = c.args.self.now.slots.now.slots in
     let l = c.loop-metadata.invariant in
     let mark = here g (goal.at.returns-then-ends_walk_for-clause-read_all g c).After-is in
-    let end = lookup_ends slots (sought c.loop-metadata.wanted) c.loop-metadata.slot l.some l.lookup (omega (arith, reach_told _ (slot_at slots c.loop-metadata.slot) mark, c.ends_walk_for.ensures.0 c.if-ends_walk_for.true)) in
+    let end =
+    lookup_ends slots (sought c.loop-metadata.wanted) c.loop-metadata.slot l.some l.lookup
+    (omega (arith, reach_told _ (slot_at slots c.loop-metadata.slot) mark, c.ends_walk_for.ensures.0 c.if-ends_walk_for.true)) in
     omega (arith, l.read, end.1, c.read-metadata.ensures.counted)
 
 pub returns-then-ends_walk_for-clause-ends : goal.returns-then-ends_walk_for-clause-ends
@@ -37,8 +40,11 @@ returns-then-ends_walk_for-clause-ends g c x walk =
       stop = omega (arith, reach_told _ (slot_at slots c.loop-metadata.slot) mark, c.ends_walk_for.ensures.0 c.if-ends_walk_for.true);
     }
 
-on : (g : Over) (c : After-after-slot g) → told c.read-metadata.result ≡ mark_of (slot_at c.args.self.now.slots.now.slots c.loop-metadata.slot) → mark_reach (sought c.loop-metadata.wanted) ≤ reach (slot_at c.args.self.now.slots.now.slots c.loop-metadata.slot)
-on g c mark = goes_on c.args.self.now.slots.now.slots c.ends_walk_for.result (sought c.loop-metadata.wanted) (told c.read-metadata.result) c.loop-metadata.slot c.ends_walk_for.ensures c.if-ends_walk_for.false mark
+on : (g : Over) (c : After-after-slot g) → told c.read-metadata.result ≡ mark_of (slot_at c.args.self.now.slots.now.slots c.loop-metadata.slot)
+    → mark_reach (sought c.loop-metadata.wanted) ≤ reach (slot_at c.args.self.now.slots.now.slots c.loop-metadata.slot)
+on g c mark =
+    goes_on c.args.self.now.slots.now.slots c.ends_walk_for.result (sought c.loop-metadata.wanted)
+    (told c.read-metadata.result) c.loop-metadata.slot c.ends_walk_for.ensures c.if-ends_walk_for.false mark
 
 pub next-wanted-requires-clause-room : goal.next-wanted-requires-clause-room
 next-wanted-requires-clause-room g c =
@@ -46,7 +52,8 @@ next-wanted-requires-clause-room g c =
     omega (arith, on g before.After-after-slot (here g before.After-is), c.loop-metadata.invariant.lookup.near c.loop-metadata.slot)
 
 -- the walk goes on to the next slot
-gone : (g : Over) (c : After-after-slot g) (mark : told c.read-metadata.result ≡ mark_of (slot_at c.args.self.now.slots.now.slots c.loop-metadata.slot)) (wanted : Wanted) → sought wanted ≡ mark_on (sought c.loop-metadata.wanted)
+gone : (g : Over) (c : After-after-slot g) (mark : told c.read-metadata.result ≡ mark_of (slot_at c.args.self.now.slots.now.slots c.loop-metadata.slot)) (wanted : Wanted)
+    → sought wanted ≡ mark_on (sought c.loop-metadata.wanted)
     → HasStepped c.args.self.now.slots.now.slots (sought c.loop-metadata.wanted) (sought wanted) c.loop-metadata.slot c.after-slot.result
 gone g c mark wanted is =
     let l = c.loop-metadata.invariant in
@@ -68,7 +75,9 @@ loop-metadata-preserved g c =
       same = c.read-metadata.ensures.same ∙ l.same;
       lookup = next.lookup;
       some = next.some;
-      walks = λ x walk. walks_on c.args.self.now.slots.now.slots l.lookup.tidy x (sought c.loop-metadata.wanted) (sought c.next-wanted.result) c.loop-metadata.slot c.after-slot.result (l.walks x walk) (on g before.After-after-slot mark) c.next-wanted.ensures
+      walks =
+          λ x walk. walks_on c.args.self.now.slots.now.slots l.lookup.tidy x (sought c.loop-metadata.wanted) (sought c.next-wanted.result)
+          c.loop-metadata.slot c.after-slot.result (l.walks x walk) (on g before.After-after-slot mark) c.next-wanted.ensures
           (c.after-slot.ensures.after ∙ ap (λ s. (c.loop-metadata.slot + 1) % length s.now.slots) (c.read-metadata.ensures.same ∙ l.same));
       reads = omega (arith, l.reads, c.read-metadata.ensures.counted);
       left = l.left ∙ next.skips (λ e. refused c.is.result c.is.ensures c.if-is.false (mark ∙ e));

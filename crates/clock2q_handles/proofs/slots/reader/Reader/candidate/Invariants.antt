@@ -12,7 +12,8 @@ invariant-loop-metadata g l = record {
   walks : (x : ℕ) → IsWalkFor l.initial.self.slots.now.slots x (sought l.initial.wanted) l.initial.slot → IsWalkFor l.initial.self.slots.now.slots x (sought l.wanted) l.slot;
   reads : l.initial.self.reads.total ≤ l.self.reads.total;
   left : left_at l.initial.self.slots.now.slots (sought l.initial.wanted) l.initial.slot ≡ left_at l.initial.self.slots.now.slots (sought l.wanted) l.slot;
-  read : l.self.reads.total + unread_at l.initial.self.slots.now.slots (sought l.wanted) l.slot ≡ l.initial.self.reads.total + unread_at l.initial.self.slots.now.slots (sought l.initial.wanted) l.initial.slot;
+  read : l.self.reads.total + unread_at l.initial.self.slots.now.slots (sought l.wanted) l.slot
+      ≡ l.initial.self.reads.total + unread_at l.initial.self.slots.now.slots (sought l.initial.wanted) l.initial.slot;
 }
 
 abbrev pub decreases-loop-metadata : goal.decreases-loop-metadata

@@ -33,15 +33,18 @@ loop-end-init g c =
 pub returns-in-Err-clause-ends : goal.returns-in-Err-clause-ends
 returns-in-Err-clause-ends g c =
     let l = c.loop-end.invariant in
-    subst (λ s. EndsAt s.now.slots c.args.hash (sought c.in-Err.end.1) c.in-Err.end.0) l.same (c.in-Err.ensures.ends c.args.hash (subst (λ s. IsWalkFor s.now.slots c.args.hash (sought c.loop-end.wanted) c.loop-end.slot) (sym l.same) l.walk))
+    subst (λ s. EndsAt s.now.slots c.args.hash (sought c.in-Err.end.1) c.in-Err.end.0) l.same
+    (c.in-Err.ensures.ends c.args.hash (subst (λ s. IsWalkFor s.now.slots c.args.hash (sought c.loop-end.wanted) c.loop-end.slot) (sym l.same) l.walk))
 
 -- the candidate that was found
 found : (g : Over) (c : After-handle-handle g)
-    → HasFound c.args.self.now.slots.now.slots (sought c.loop-end.wanted) (sought c.in-Ok.found) c.loop-end.slot c.in-Ok.here c.handle-handle.result c.loop-end.self.reads.total c.candidate.new.self.reads.total
+    → HasFound c.args.self.now.slots.now.slots (sought c.loop-end.wanted) (sought c.in-Ok.found)
+    c.loop-end.slot c.in-Ok.here c.handle-handle.result c.loop-end.self.reads.total c.candidate.new.self.reads.total
 found g c =
     let is = c.in-Ok.ensures in
     let handle = subst (λ s. IfSome (slot_at s.now.slots c.in-Ok.here) (λ p. c.handle-handle.result ≡ p.entry.1)) c.candidate.ensures.same c.handle-handle.ensures in
-    subst (λ s. HasFound s.now.slots (sought c.loop-end.wanted) (sought c.in-Ok.found) c.loop-end.slot c.in-Ok.here c.handle-handle.result c.loop-end.self.reads.total c.candidate.new.self.reads.total) c.loop-end.invariant.same
+    subst (λ s. HasFound s.now.slots (sought c.loop-end.wanted) (sought c.in-Ok.found)
+    c.loop-end.slot c.in-Ok.here c.handle-handle.result c.loop-end.self.reads.total c.candidate.new.self.reads.total) c.loop-end.invariant.same
     (has_found c.loop-end.self.slots.now.slots _ _ _ _ c.handle-handle.result _ _ is.lookup is.some is.found is.left handle is.read)
 
 -- it is the first that is left
@@ -69,11 +72,14 @@ returns-then-matches-clause-read g c =
 
 -- the walk goes on to the next slot
 on : (g : Over) (c : After-next-wanted g)
-    → HasFound c.args.self.now.slots.now.slots (sought c.loop-end.wanted) (sought c.in-Ok.found) c.loop-end.slot c.in-Ok.here c.handle-handle.result c.loop-end.self.reads.total c.candidate.new.self.reads.total
+    → HasFound c.args.self.now.slots.now.slots (sought c.loop-end.wanted) (sought c.in-Ok.found)
+    c.loop-end.slot c.in-Ok.here c.handle-handle.result c.loop-end.self.reads.total c.candidate.new.self.reads.total
     → HasStepped c.args.self.now.slots.now.slots (sought c.in-Ok.found) (sought c.next-wanted.result) c.in-Ok.here c.after-slot.result
-    × (left_at c.args.self.now.slots.now.slots (sought c.loop-end.wanted) c.loop-end.slot ≡ c.handle-handle.result ∷ left_at c.args.self.now.slots.now.slots (sought c.next-wanted.result) c.after-slot.result)
+    × (left_at c.args.self.now.slots.now.slots (sought c.loop-end.wanted) c.loop-end.slot
+    ≡ c.handle-handle.result ∷ left_at c.args.self.now.slots.now.slots (sought c.next-wanted.result) c.after-slot.result)
 on g c here =
-    here.on (sought c.next-wanted.result) c.after-slot.result c.next-wanted.ensures (c.after-slot.ensures.after ∙ ap (λ s. (c.in-Ok.here + 1) % length s.now.slots) (c.candidate.ensures.same ∙ c.loop-end.invariant.same))
+    here.on (sought c.next-wanted.result) c.after-slot.result c.next-wanted.ensures (c.after-slot.ensures.after
+    ∙ ap (λ s. (c.in-Ok.here + 1) % length s.now.slots) (c.candidate.ensures.same ∙ c.loop-end.invariant.same))
 
 pub loop-end-smaller : goal.loop-end-smaller
 loop-end-smaller g c =

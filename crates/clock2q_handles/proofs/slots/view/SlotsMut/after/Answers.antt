@@ -5,7 +5,8 @@ use Rattle.clock2q_handles.specs.Views.{shown}
 use Rattle.clock2q_handles.proofs.slots.view.SlotsMut.after.Goals as goal
 
 pub overflow_add-result : goal.overflow_add-result
-overflow_add-result g c = let l : c.args.slot < length c.args.self.now.metadata.now = omega (arith, c.requires.within, length-cells c.args.self.now.metadata.now c.args.self.now.handles.now c.requires.view.same) in search rules
+overflow_add-result g c = let l : c.args.slot < length c.args.self.now.metadata.now =
+    omega (arith, c.requires.within, length-cells c.args.self.now.metadata.now c.args.self.now.handles.now c.requires.view.same) in search rules
 
 pub returns-clause-after : goal.returns-clause-after
 returns-clause-after g c =

@@ -9,7 +9,8 @@ abbrev pub invariant-loop-there : goal.invariant-loop-there
 invariant-loop-there g l = record {
   same : IsSameView l.initial.self l.self;
   view : IsView l.self;
-  state : CarryState (shown l.initial.self) (shown l.self) (cell (told l.initial.metadata) l.initial.handle) (cell (told l.metadata) l.handle) (told l.there) l.initial.slot l.slot l.initial.self.writes.now.total l.self.writes.now.total;
+  state : CarryState (shown l.initial.self) (shown l.self) (cell (told l.initial.metadata) l.initial.handle)
+      (cell (told l.metadata) l.handle) (told l.there) l.initial.slot l.slot l.initial.self.writes.now.total l.self.writes.now.total;
 }
 
 abbrev pub decreases-loop-there : goal.decreases-loop-there

@@ -12,18 +12,28 @@ pub loop-slot-init : goal.loop-slot-init
 loop-slot-init g c =
     let slots = shown c.args.self.now in
     let home : ℕ = c.args.hash % length slots in
-    record { come = (0, come_home slots c.requires.tidy home (top c.args.hash) c.home-slot.result c.home-slot.ensures.home (omega (arith, c.home-slot.ensures.home, c.home-slot.ensures.within)), c.new-wanted.ensures) }
+    record {
+      come = (
+        0,
+        come_home slots c.requires.tidy home (top c.args.hash) c.home-slot.result c.home-slot.ensures.home
+            (omega (arith, c.home-slot.ensures.home, c.home-slot.ensures.within)),
+        c.new-wanted.ensures,
+      );
+    }
 
 pub next-wanted-requires-clause-room : goal.next-wanted-requires-clause-room
 next-wanted-requires-clause-room g c =
-    looks_room (shown c.args.self.now) c.requires.tidy 0 0 c.loop-slot.invariant.come.0 c.loop-slot.slot c.ends_walk_for.result (sought c.loop-slot.wanted) _ c.ends_walk_for.ensures c.loop-slot-test.true c.metadata.ensures c.requires.near
+    looks_room (shown c.args.self.now) c.requires.tidy 0 0 c.loop-slot.invariant.come.0 c.loop-slot.slot c.ends_walk_for.result
+    (sought c.loop-slot.wanted) _ c.ends_walk_for.ensures c.loop-slot-test.true c.metadata.ensures c.requires.near
 
 more : (g : Over) (c : After-next-wanted g)
-    → HasCome (shown c.args.self.now) (c.args.hash % length (shown c.args.self.now)) (suc c.loop-slot.invariant.come.0) c.after-slot.result × (sought c.next-wanted.result ≡ Some (suc c.loop-slot.invariant.come.0, top c.args.hash))
+    → HasCome (shown c.args.self.now) (c.args.hash % length (shown c.args.self.now)) (suc c.loop-slot.invariant.come.0) c.after-slot.result
+    × (sought c.next-wanted.result ≡ Some (suc c.loop-slot.invariant.come.0, top c.args.hash))
 more g c =
     let slots = shown c.args.self.now in
     let l = c.loop-slot.invariant.come in
-    looks_on slots c.requires.tidy (c.args.hash % length slots) (top c.args.hash) l.0 c.loop-slot.slot c.after-slot.result c.ends_walk_for.result (sought c.loop-slot.wanted) (sought c.next-wanted.result) _ l.1 l.2
+    looks_on slots c.requires.tidy (c.args.hash % length slots) (top c.args.hash)
+    l.0 c.loop-slot.slot c.after-slot.result c.ends_walk_for.result (sought c.loop-slot.wanted) (sought c.next-wanted.result) _ l.1 l.2
     c.ends_walk_for.ensures c.loop-slot-test.true c.metadata.ensures c.after-slot.ensures.after c.next-wanted.ensures
 
 pub loop-slot-smaller : goal.loop-slot-smaller
@@ -40,5 +50,7 @@ pub returns : goal.returns
 returns g c =
     let slots = shown c.args.self.now in
     let l = c.loop-slot.invariant.come in
-    let near = looks_end slots c.requires.tidy 0 (top c.args.hash) l.0 c.loop-slot.slot c.ends_walk_for.result (sought c.loop-slot.wanted) _ l.2 c.ends_walk_for.ensures c.loop-slot-test.false c.metadata.ensures in
+    let near =
+    looks_end slots c.requires.tidy 0 (top c.args.hash) l.0 c.loop-slot.slot c.ends_walk_for.result
+    (sought c.loop-slot.wanted) _ l.2 c.ends_walk_for.ensures c.loop-slot-test.false c.metadata.ensures in
     record { end = record { walk = record { distance = l.0; come = l.1; mark = l.2 }; stop = omega (arith, near, ap mark_reach l.2) } }

@@ -23,7 +23,15 @@ pub loop-handle-init : goal.loop-handle-init
 loop-handle-init g c =
     let slots = shown c.args.self.now in
     let home : ℕ = c.args.hash % length slots in
-    record { come = (0, come_home slots c.requires.tidy home (top c.args.hash) c.home-slot.result c.home-slot.ensures.home (omega (arith, c.home-slot.ensures.home, c.home-slot.ensures.within)), c.new-wanted.ensures, refl) }
+    record {
+      come = (
+        0,
+        come_home slots c.requires.tidy home (top c.args.hash) c.home-slot.result c.home-slot.ensures.home
+            (omega (arith, c.home-slot.ensures.home, c.home-slot.ensures.within)),
+        c.new-wanted.ensures,
+        refl,
+      );
+    }
 
 pub returns-then-eq-clause-found : goal.returns-then-eq-clause-found
 returns-then-eq-clause-found g c =
@@ -48,19 +56,24 @@ returns-then-ends_walk_for-clause-none g c =
     let slots = shown c.args.self.now in
     let home : ℕ = c.args.hash % length slots in
     let l = c.loop-handle.invariant.come in
-    let near = looks_end slots c.requires.tidy 0 (top c.args.hash) l.0 c.loop-handle.slot c.ends_walk_for.result (sought c.loop-handle.wanted) _ l.2 c.ends_walk_for.ensures c.if-ends_walk_for.true c.metadata-metadata.ensures in
-    ap (list_any (is_entry_of g.H.PartialEq.eq c.args.hash c.args.handle)) (met_all slots c.requires.tidy home l.0 l.1.within l.1.passed (omega (arith, near, ap reach (come_here slots home l.0 c.loop-handle.slot l.1)))) ∙ l.3
+    let near = looks_end slots c.requires.tidy 0 (top c.args.hash) l.0 c.loop-handle.slot c.ends_walk_for.result
+    (sought c.loop-handle.wanted) _ l.2 c.ends_walk_for.ensures c.if-ends_walk_for.true c.metadata-metadata.ensures in
+    ap (list_any (is_entry_of g.H.PartialEq.eq c.args.hash c.args.handle))
+    (met_all slots c.requires.tidy home l.0 l.1.within l.1.passed (omega (arith, near, ap reach (come_here slots home l.0 c.loop-handle.slot l.1)))) ∙ l.3
 
 pub next-wanted-requires-clause-room : goal.next-wanted-requires-clause-room
 next-wanted-requires-clause-room g c =
-    looks_room (shown c.args.self.now) c.requires.tidy 0 0 c.loop-handle.invariant.come.0 c.loop-handle.slot c.ends_walk_for.result (sought c.loop-handle.wanted) _ c.ends_walk_for.ensures c.if-ends_walk_for.false c.metadata-metadata.ensures c.requires.near
+    looks_room (shown c.args.self.now) c.requires.tidy 0 0 c.loop-handle.invariant.come.0 c.loop-handle.slot c.ends_walk_for.result
+    (sought c.loop-handle.wanted) _ c.ends_walk_for.ensures c.if-ends_walk_for.false c.metadata-metadata.ensures c.requires.near
 
 more : (g : Over) (c : After-next-wanted g)
-    → HasCome (shown c.args.self.now) (c.args.hash % length (shown c.args.self.now)) (suc c.loop-handle.invariant.come.0) c.after-slot.result × (sought c.next-wanted.result ≡ Some (suc c.loop-handle.invariant.come.0, top c.args.hash))
+    → HasCome (shown c.args.self.now) (c.args.hash % length (shown c.args.self.now)) (suc c.loop-handle.invariant.come.0) c.after-slot.result
+    × (sought c.next-wanted.result ≡ Some (suc c.loop-handle.invariant.come.0, top c.args.hash))
 more g c =
     let slots = shown c.args.self.now in
     let l = c.loop-handle.invariant.come in
-    looks_on slots c.requires.tidy (c.args.hash % length slots) (top c.args.hash) l.0 c.loop-handle.slot c.after-slot.result c.ends_walk_for.result (sought c.loop-handle.wanted) (sought c.next-wanted.result) _ l.1 l.2
+    looks_on slots c.requires.tidy (c.args.hash % length slots) (top c.args.hash)
+    l.0 c.loop-handle.slot c.after-slot.result c.ends_walk_for.result (sought c.loop-handle.wanted) (sought c.next-wanted.result) _ l.1 l.2
     c.ends_walk_for.ensures c.if-ends_walk_for.false c.metadata-metadata.ensures c.after-slot.ensures.after c.next-wanted.ensures
 
 pub loop-handle-smaller : goal.loop-handle-smaller
@@ -81,7 +94,8 @@ loop-handle-preserved g c =
     let test = is_entry_of g.H.PartialEq.eq c.args.hash c.args.handle in
     let none = none_more test A home d l.3 (elim c.else-is.branch [
       | else-is-via-then-is+else-eq w ↦
-          any-failed _ (A (home + d)) d (top c.args.hash, w.handle.result) (sym at ∙ candidate c.args.hash _ (A c.loop-handle.slot) d w.handle.result c.metadata-metadata.ensures (c.is.ensures.0 w.if-is.true ∙ l.2) w.handle.ensures)
+          any-failed _ (A (home + d)) d (top c.args.hash, w.handle.result)
+          (sym at ∙ candidate c.args.hash _ (A c.loop-handle.slot) d w.handle.result c.metadata-metadata.ensures (c.is.ensures.0 w.if-is.true ∙ l.2) w.handle.ensures)
           (is_entry_of-candidate g.H.PartialEq.eq c.args.hash c.args.handle w.handle.result ∙ sym w.eq.ensures ∙ w.if-eq.false)
       | else-is-via-else-is w ↦
           any-other g.H.PartialEq.eq c.args.hash c.args.handle (A (home + d)) d (λ e. refused c.is.result c.is.ensures w.if-is.false (c.metadata-metadata.ensures ∙ ap mark_of at ∙ e ∙ sym l.2))

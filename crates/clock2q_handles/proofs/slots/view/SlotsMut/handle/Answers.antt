@@ -9,4 +9,6 @@ pub bounds-self-slot : goal.bounds-self-slot
 bounds-self-slot g c = omega (arith, c.requires.within, length-cells _ _ c.requires.view.same, c.requires.view.same)
 
 pub returns : goal.returns
-returns g c = handle_read_at c.args.self.now.metadata.now c.args.self.now.handles.now c.args.slot _ c.requires.view.same (omega (arith, c.requires.within, length-cells _ _ c.requires.view.same)) (ap (get_or c.args.self.now.handles.now c.args.slot) c.index-self-slot.is)
+returns g c =
+    handle_read_at c.args.self.now.metadata.now c.args.self.now.handles.now c.args.slot _ c.requires.view.same
+    (omega (arith, c.requires.within, length-cells _ _ c.requires.view.same)) (ap (get_or c.args.self.now.handles.now c.args.slot) c.index-self-slot.is)

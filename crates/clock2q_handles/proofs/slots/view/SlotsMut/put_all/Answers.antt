@@ -15,7 +15,8 @@ pub loop-slot-init : goal.loop-slot-init
 loop-slot-init g c = record {
   same = search rules;
   view = c.requires.view;
-  moved = moving_begins g.F.FnMut c.args.rehash.now (cells c.args.old.metadata.now c.args.old.handles.now) (shown c.args.self.now) c.requires.movable (subst IsSlotCount (sym (length-cells c.args.self.now.metadata.now c.args.self.now.handles.now c.requires.view.same)) c.requires.view.slot_count);
+  moved = moving_begins g.F.FnMut c.args.rehash.now (cells c.args.old.metadata.now c.args.old.handles.now) (shown c.args.self.now) c.requires.movable
+      (subst IsSlotCount (sym (length-cells c.args.self.now.metadata.now c.args.self.now.handles.now c.requires.view.same)) c.requires.view.slot_count);
 }
 
 -- the slot by its number
@@ -30,26 +31,31 @@ holds : (g : Over) (c : After-handle-handle g) → Holds (cells c.args.old.metad
 holds g c =
     let slots = cells c.args.old.metadata.now c.args.old.handles.now in
     record {
-      occupied = occupied_told c.is_empty.result _ (slot_at slots (0 + c.loop-slot.slot)) c.is_empty.ensures c.if-not-is_empty.true (c.metadata.ensures ∙ ap (λ n. mark_of (slot_at slots n)) (numbered c.loop-slot.slot));
+      occupied =
+          occupied_told c.is_empty.result _ (slot_at slots (0 + c.loop-slot.slot)) c.is_empty.ensures c.if-not-is_empty.true
+          (c.metadata.ensures ∙ ap (λ n. mark_of (slot_at slots n)) (numbered c.loop-slot.slot));
       handle = subst (λ n. IfSome (slot_at slots n) (λ p. c.handle-handle.result ≡ p.entry.1)) (numbered c.loop-slot.slot) c.handle-handle.ensures;
     }
 
 pub rehash-hash-requires : goal.rehash-hash-requires
 rehash-hash-requires g c =
     let before = goal.at.rehash-hash-requires g c in
-    moving_takes g.F.FnMut c.args.rehash.now (cells c.args.old.metadata.now c.args.old.handles.now) (shown c.args.self.now) c.requires.movable c.loop-slot.rehash (shown c.loop-slot.self) c.loop-slot.slot c.loop-slot.invariant.moved
+    moving_takes g.F.FnMut c.args.rehash.now (cells c.args.old.metadata.now c.args.old.handles.now) (shown c.args.self.now)
+    c.requires.movable c.loop-slot.rehash (shown c.loop-slot.self) c.loop-slot.slot c.loop-slot.invariant.moved
     (within g before.After-is_empty) c.handle-handle.result (holds g before.After-handle-handle)
 
 pub put-requires-clause-near : goal.put-requires-clause-near
 put-requires-clause-near g c =
     let before = goal.at.put-requires-clause-near g c in
-    moving_near g.F.FnMut c.args.rehash.now (cells c.args.old.metadata.now c.args.old.handles.now) (shown c.args.self.now) c.requires.movable c.loop-slot.rehash (shown c.loop-slot.self) c.loop-slot.slot c.loop-slot.invariant.moved
+    moving_near g.F.FnMut c.args.rehash.now (cells c.args.old.metadata.now c.args.old.handles.now) (shown c.args.self.now)
+    c.requires.movable c.loop-slot.rehash (shown c.loop-slot.self) c.loop-slot.slot c.loop-slot.invariant.moved
     (within g before.After-is_empty) c.handle-handle.result (holds g before.After-handle-handle) c.rehash-hash.result c.rehash-hash.new.self c.rehash-hash.ensures
 
 pub put-requires-clause-some : goal.put-requires-clause-some
 put-requires-clause-some g c =
     let before = goal.at.put-requires-clause-some g c in
-    moving_some g.F.FnMut c.args.rehash.now (cells c.args.old.metadata.now c.args.old.handles.now) (shown c.args.self.now) c.requires.movable c.loop-slot.rehash (shown c.loop-slot.self) c.loop-slot.slot c.loop-slot.invariant.moved
+    moving_some g.F.FnMut c.args.rehash.now (cells c.args.old.metadata.now c.args.old.handles.now) (shown c.args.self.now)
+    c.requires.movable c.loop-slot.rehash (shown c.loop-slot.self) c.loop-slot.slot c.loop-slot.invariant.moved
     (within g before.After-is_empty) c.handle-handle.result (holds g before.After-handle-handle) c.rehash-hash.result c.rehash-hash.new.self c.rehash-hash.ensures
 
 pub loop-slot-preserved : goal.loop-slot-preserved
@@ -62,7 +68,9 @@ loop-slot-preserved g c =
       | then-not-is_empty w ↦
           let v = w.handle-handle.result in
           let entry : Holds slots c.loop-slot.slot v = record {
-            occupied = occupied_told c.is_empty.result _ (slot_at slots (0 + c.loop-slot.slot)) c.is_empty.ensures w.if-not-is_empty.true (c.metadata.ensures ∙ ap (λ n. mark_of (slot_at slots n)) (numbered c.loop-slot.slot));
+            occupied =
+                occupied_told c.is_empty.result _ (slot_at slots (0 + c.loop-slot.slot))
+                c.is_empty.ensures w.if-not-is_empty.true (c.metadata.ensures ∙ ap (λ n. mark_of (slot_at slots n)) (numbered c.loop-slot.slot));
             handle = subst (λ n. IfSome (slot_at slots n) (λ p. w.handle-handle.result ≡ p.entry.1)) (numbered c.loop-slot.slot) w.handle-handle.ensures;
           } in
           let moved = moving_on g.F.FnMut c.args.rehash.now slots from c.requires.movable c.loop-slot.rehash (shown c.loop-slot.self) c.loop-slot.slot c.loop-slot.invariant.moved
@@ -74,7 +82,9 @@ loop-slot-preserved g c =
                 (subst (λ s. MovedSo g.F.FnMut c.args.rehash.now w.rehash-hash.new.self slots from (shown s) (c.loop-slot.slot + 1)) (sym w.self-is) moved);
           }
       | else-not-is_empty w ↦
-          let empty = vacant_told _ (slot_at slots (0 + c.loop-slot.slot)) (c.is_empty.ensures.0 w.if-not-is_empty.false) (c.metadata.ensures ∙ ap (λ n. mark_of (slot_at slots n)) (numbered c.loop-slot.slot)) in
+          let empty =
+          vacant_told _ (slot_at slots (0 + c.loop-slot.slot)) (c.is_empty.ensures.0 w.if-not-is_empty.false)
+          (c.metadata.ensures ∙ ap (λ n. mark_of (slot_at slots n)) (numbered c.loop-slot.slot)) in
           let moved = moving_past g.F.FnMut c.args.rehash.now slots from c.requires.movable c.loop-slot.rehash (shown c.loop-slot.self) c.loop-slot.slot c.loop-slot.invariant.moved inside empty in
           record {
             same = search rules;
@@ -88,4 +98,5 @@ pub returns-clause-moved : goal.returns-clause-moved
 returns-clause-moved g c =
     let slots = cells c.args.old.metadata.now c.args.old.handles.now in
     moving_ends g.F.FnMut c.args.rehash.now slots (shown c.args.self.now) c.requires.movable c.loop-slot.rehash (shown c.loop-slot.self) c.loop-slot.slot
-    (omega (arith, c.loop-slot-test.false, c.loop-slot.auto.slot-end, c.count-slot-end.ensures, length-cells c.args.old.metadata.now c.args.old.handles.now c.requires.same)) c.loop-slot.invariant.moved
+    (omega (arith, c.loop-slot-test.false, c.loop-slot.auto.slot-end, c.count-slot-end.ensures, length-cells c.args.old.metadata.now c.args.old.handles.now c.requires.same))
+    c.loop-slot.invariant.moved

@@ -17,9 +17,13 @@ loop-metadata-init g c = record {
   state = close_begins (shown c.args.self.now) c.args.slot c.args.self.now.writes.now.total c.requires.within c.requires.occupied;
 }
 
-more : (g : Over) (c : After-write g) → CloseState (shown c.args.self.now) (shown c.write.new.self) c.args.slot c.after-next.result c.args.self.now.writes.now.total (c.loop-metadata.self.writes.now.total + 1)
-more g c = close_goes (shown c.args.self.now) (shown c.loop-metadata.self) c.requires.tidy c.args.slot c.loop-metadata.hole _ _ c.loop-metadata.invariant.state c.after-next.result c.after-next.ensures.after (shown c.write.new.self)
-    (told c.metadata-metadata.result) (told c.one_nearer.result) c.handle-handle.result c.metadata-metadata.ensures (c.can_move_back.ensures.0 c.if-not-can_move_back.false) c.one_nearer.ensures c.handle-handle.ensures c.write.ensures.written
+more : (g : Over) (c : After-write g)
+    → CloseState (shown c.args.self.now) (shown c.write.new.self) c.args.slot c.after-next.result c.args.self.now.writes.now.total (c.loop-metadata.self.writes.now.total + 1)
+more g c =
+    close_goes (shown c.args.self.now) (shown c.loop-metadata.self)
+    c.requires.tidy c.args.slot c.loop-metadata.hole _ _ c.loop-metadata.invariant.state c.after-next.result c.after-next.ensures.after (shown c.write.new.self)
+    (told c.metadata-metadata.result) (told c.one_nearer.result) c.handle-handle.result c.metadata-metadata.ensures
+    (c.can_move_back.ensures.0 c.if-not-can_move_back.false) c.one_nearer.ensures c.handle-handle.ensures c.write.ensures.written
 
 pub loop-metadata-smaller : goal.loop-metadata-smaller
 loop-metadata-smaller g c =
@@ -43,5 +47,7 @@ pub returns-clause-closes : goal.returns-clause-closes
 returns-clause-closes g c h n e come was =
     let near = near_told c.can_move_back.result _ (slot_at (shown c.loop-metadata.self) c.after-next.result) c.can_move_back.ensures c.if-not-can_move_back.true c.metadata-metadata.ensures in
     let written = c.write-2.ensures.written ∙ ap (λ m. set (shown c.loop-metadata.self) c.loop-metadata.hole (cell m c.default.result)) c.empty.ensures in
-    let ended = close_ends (shown c.args.self.now) (shown c.loop-metadata.self) c.requires.tidy c.args.slot c.loop-metadata.hole _ _ c.loop-metadata.invariant.state c.after-next.result c.after-next.ensures.after (shown c.write-2.new.self) near written h n e come was in
+    let ended =
+    close_ends (shown c.args.self.now) (shown c.loop-metadata.self) c.requires.tidy c.args.slot c.loop-metadata.hole _ _
+    c.loop-metadata.invariant.state c.after-next.result c.after-next.ensures.after (shown c.write-2.new.self) near written h n e come was in
     (ended.0, ended.1, omega (arith, ended.2, c.write-2.ensures.counted))

@@ -1,8 +1,0 @@
-use Rattle.std.proofs.Common.{sym, subst}
-use Rattle.clock2q_handles.specs.TableStep.{IsHashOf}
-use Rattle.clock2q_handles.specs.contracts.table.tests.hashed.HandlePartialEq.TheImpl as equals
-use Rattle.clock2q_handles.proofs.HashOfHandle.{keyed_removed}
-use Rattle.clock2q_handles.proofs.table.tests.hashed.Hashed.remove.Goals as goal
-
-pub invariant_of-self : goal.invariant_of-self
-invariant_of-self c = subst (IsHashOf (λ handle. handle.hash)) (sym c.remove.ensures.removed) (keyed_removed (λ handle. handle.hash) equals.ghosts.eq c.self.inside.table.homes c.args.hash c.args.handle c.self.invariant)

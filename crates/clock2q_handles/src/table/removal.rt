@@ -1,0 +1,51 @@
+//! Entries removed from a table.
+ghost use Rattle.clock2q_handles.specs.Changes.{WritesAtMost, IsLaidOut};
+ghost use Rattle.clock2q_handles.specs.Homes.{listed, removed, is_entry_of};
+ghost use Rattle.clock2q_handles.specs.Layout.{run, walk};
+ghost use Rattle.std.specs.Bool.{OnFalse};
+ghost use Rattle.std.specs.List.{list_any};
+ghost use Rattle.std.specs.Prelude.{true, ◌≡◌, ◌≤◌, ◌+◌, ℕ};
+
+use crate::table::Table;
+use std::alloc::Allocator;
+
+impl<H: Copy + Eq + Default, A: Allocator> Table<H, A> {
+    /// Removes the first candidate of `hash` that equals `handle`, and returns whether there was
+    /// one. The entries after it move back by one slot, up to an empty slot or an entry at its
+    /// home. The table keeps its memory.
+    ///
+    /// # Cost
+    ///
+    /// It writes the slots from the removed entry's to that of the last entry that moves back.
+    pub fn remove(&mut self, hash: u64, handle: H) -> bool
+        ensures removed { self.new.homes ≡ removed H.PartialEq.eq self.old.homes hash handle }
+        ensures found { result ≡ list_any (is_entry_of H.PartialEq.eq hash handle) (listed self.old.homes hash) }
+        ensures none { OnFalse result (self.new ≡ self.old) }
+        ensures writes { WritesAtMost (run self.old.slots hash) self.old self.new }
+        ensures laid { IsLaidOut self.new }
+        ensures shorter { (x : ℕ) → walk self.new.homes x ≤ walk self.old.homes x }
+    {
+        if !self.slots.remove(hash, handle) {
+            return false;
+        }
+        self.len -= 1;
+        true
+    }
+
+    /// Removes the first candidate of `hash` that equals `handle`, as [remove](Table::remove) does,
+    /// where the caller knows that there is one. It looks for no end of the walk.
+    ///
+    /// # Cost
+    ///
+    /// That of [remove](Table::remove).
+    pub fn remove_held(&mut self, hash: u64, handle: H)
+        requires held { list_any (is_entry_of H.PartialEq.eq hash handle) (listed self.old.homes hash) ≡ true }
+        ensures removed { self.new.homes ≡ removed H.PartialEq.eq self.old.homes hash handle }
+        ensures writes { WritesAtMost (run self.old.slots hash) self.old self.new }
+        ensures laid { IsLaidOut self.new }
+        ensures shorter { (x : ℕ) → walk self.new.homes x ≤ walk self.old.homes x }
+    {
+        self.slots.remove_held(hash, handle);
+        self.len -= 1;
+    }
+}

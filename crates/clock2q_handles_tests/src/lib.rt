@@ -1,0 +1,19 @@
+//! Tests of `clock2q_handles` over its public calls.
+#![tactic(auto)]
+
+#[cfg(test)]
+mod growing;
+#[cfg(test)]
+mod hashed;
+#[cfg(test)]
+mod partitions;
+#[cfg(test)]
+mod plain;
+#[cfg(test)]
+mod refusals;
+#[cfg(test)]
+mod seeded;
+#[cfg(test)]
+mod tables;
+#[cfg(test)]
+mod walks;

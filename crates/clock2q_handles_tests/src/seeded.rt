@@ -1,0 +1,218 @@
+//! Lists of calls from seeds, each call's reply and what it leaves compared with plain lists.
+ghost use Rattle.std.specs.Prelude.{◌<◌};
+
+use crate::hashed::{Handle, Hashed, Seen};
+use crate::plain::Plain;
+use crate::walks::yields;
+use std::alloc::{AllocError, Global};
+use std::process::Abort;
+use std::test::Fail;
+
+const LISTS: u64 = 200;
+
+const CALLS: u64 = 500;
+
+/// A bit of a hash that no small table reads.
+const UNREAD: u32 = 40;
+
+/// Numbers that follow from a seed: a sum that grows by an odd step, its bits mixed.
+#[derive(Drop)]
+struct Draws {
+    sum: u64,
+    /// How many homes near the end of the slots the hashes have.
+    homes: u64,
+}
+
+/// A call of a table.
+#[derive(Clone, Copy, Debug)]
+enum Call {
+    Insert(Handle),
+    FindOrInsert(Handle, u64),
+    Remove(u64, Handle),
+    Get(u64),
+    Reserve(usize),
+    Len,
+    Capacity,
+    IsEmpty,
+}
+
+impl Draws {
+    fn next(&mut self) -> u64 {
+        self.sum = self.sum.wrapping_add(0x9E37_79B9_7F4A_7C15);
+        let mixed = (self.sum ^ (self.sum >> 30)).wrapping_mul(0xBF58_476D_1CE4_E5B9);
+        let mixed = (mixed ^ (mixed >> 27)).wrapping_mul(0x94D0_49BB_1331_11EB);
+        mixed ^ (mixed >> 31)
+    }
+
+    /// A number below the bound, or 0.
+    fn below(&mut self, bound: u64) -> u64
+        ensures { 0 < bound → result < bound }
+    {
+        self.next().checked_rem(bound).unwrap_or(0)
+    }
+
+    /// A hash of one of three fingerprints. Half of the hashes have one of the homes just before
+    /// and after the end of the slots, however many there are; the others do up to some count of
+    /// slots, and have another home in larger tables.
+    fn hash(&mut self) -> u64 {
+        let top = self.below(3) * 0x7F << 56;
+        let unread = self.below(2) << UNREAD;
+        let home = self.below(self.homes).wrapping_sub(self.homes / 2) & 0xFFFF;
+        let leaving = match self.below(2) {
+            0 => 0,
+            _ => 16 << self.below(6),
+        };
+        top | unread | (home ^ leaving)
+    }
+
+    /// An entry that is held, or now and then one that is not.
+    fn held(&mut self, number: u64, plain: &Plain) -> Handle {
+        let place = self.below((plain.len() as u64).saturating_add(2));
+        match plain.entry(place as usize) {
+            Some(handle) => handle,
+            None => Handle {
+                hash: self.hash(),
+                number,
+            },
+        }
+    }
+
+    /// A handle to put in: mostly a new one.
+    fn handle(&mut self, number: u64, plain: &Plain) -> Handle {
+        match self.below(8) {
+            0 => self.held(number, plain),
+            _ => Handle {
+                hash: self.hash(),
+                number,
+            },
+        }
+    }
+
+    /// The call of that number in a list: first they mostly put entries in, and from half way on
+    /// mostly take them out.
+    fn call(&mut self, number: u64, plain: &Plain) -> Call {
+        let additions = if number < CALLS / 2 { 10 } else { 4 };
+        match self.below(20) {
+            kind if kind < additions && kind % 2 == 0 => Call::Insert(self.handle(number, plain)),
+            kind if kind < additions => {
+                let accepted = self.held(number, plain);
+                let hash = match self.below(2) {
+                    0 => self.hash(),
+                    _ => accepted.hash ^ (self.below(2) << UNREAD),
+                };
+                Call::FindOrInsert(Handle { hash, number }, accepted.number)
+            }
+            0..=12 => {
+                let handle = self.held(number, plain);
+                Call::Remove(handle.hash ^ (self.below(2) << UNREAD), handle)
+            }
+            13 | 14 => Call::Get(self.hash()),
+            15 => Call::Reserve(self.below(8) as usize),
+            16 => Call::Reserve(usize::MAX - self.below(2) as usize),
+            17 => Call::Len,
+            18 => Call::Capacity,
+            _ => Call::IsEmpty,
+        }
+    }
+}
+
+/// A table and its plain lists.
+#[derive(Drop)]
+struct Pair {
+    tested: Hashed,
+    plain: Plain,
+}
+
+impl Pair {
+    fn with_capacity(alloc: Global, entries: usize) -> Result<Pair, Fail> {
+        Ok(Pair {
+            tested: Hashed::with_capacity(alloc, entries)?,
+            plain: Plain::with_capacity(alloc, entries)?,
+        })
+    }
+
+    /// Makes the call of both. The reply is the same, and so are the handles that closures were
+    /// called on.
+    fn call(&mut self, rt: &impl Abort, call: Call, shown: &str) -> Result<(), Fail> {
+        let (offered, asked) = (Seen::new(), Seen::new());
+        let (offers, asks) = (Seen::new(), Seen::new());
+        match call {
+            Call::Insert(handle) => {
+                let reply = self.tested.insert(handle.hash, handle.number, &asked);
+                assert_eq!(rt; reply, Ok(()), "{shown}");
+                self.plain.insert(handle, &asks)?;
+            }
+            Call::FindOrInsert(handle, accepted) => {
+                let reply = self
+                    .tested
+                    .find_or_insert(handle, accepted, &offered, &asked);
+                let wanted = self.plain.find_or_insert(handle, accepted, &offers, &asks)?;
+                assert_eq!(rt; reply, Ok(wanted), "{shown}");
+            }
+            Call::Remove(hash, handle) => {
+                let wanted = self.plain.remove(hash, handle);
+                assert_eq!(rt; self.tested.remove(hash, handle), wanted, "{shown}");
+            }
+            Call::Reserve(additional) => {
+                let reply = self.tested.reserve(rt, additional, &asked);
+                assert_eq!(rt; reply, self.plain.reserve(additional, &asks), "{shown}");
+            }
+            Call::Get(hash) => self.lookup_is_same(rt, hash, shown)?,
+            Call::Len | Call::Capacity => self.sizes_are_same(rt, shown),
+            Call::IsEmpty => {
+                let wanted = self.plain.len() == 0;
+                assert_eq!(rt; self.tested.table.is_empty(), wanted, "{shown}");
+            }
+        }
+        offered.is_same(rt, &offers, shown);
+        asked.is_same(rt, &asks, shown);
+        Ok(())
+    }
+
+    fn sizes_are_same(&self, rt: &impl Abort, shown: &str) {
+        assert_eq!(rt; self.tested.table.len(), self.plain.len(), "{shown}");
+        assert_eq!(rt;
+            self.tested.table.capacity(),
+            self.plain.capacity(),
+            "{shown}"
+        );
+    }
+
+    /// Grows both. They ask for the hash of each held handle, in the order of the slots.
+    fn order_is_same(&mut self, rt: &impl Abort, shown: &str) -> Result<(), Fail> {
+        let vacant = self.plain.capacity().saturating_sub(self.plain.len());
+        self.call(rt, Call::Reserve(vacant.saturating_add(1)), shown)
+    }
+
+    fn lookup_is_same(&self, rt: &impl Abort, hash: u64, shown: &str) -> Result<(), AllocError> {
+        let wanted = self.plain.candidates(hash)?;
+        yields(rt, self.tested.table.get(hash), &wanted, shown);
+        Ok(())
+    }
+}
+
+#[test]
+fn plain_lists(rt: HostRuntime) -> Result<(), Fail> {
+    for seed in 0..LISTS {
+        let mut draws = Draws {
+            sum: seed,
+            homes: 1 << (seed % 4),
+        };
+        let mut pair = Pair::with_capacity(rt.alloc(), (seed % 3 * 10) as usize)?;
+        for number in 0..CALLS {
+            let call = draws.call(number, &pair.plain);
+            let shown = format!(in rt.alloc(); "list {seed}, call {number}: {call:?}")?;
+            pair.call(&rt, call, shown.as_str())?;
+            pair.sizes_are_same(&rt, shown.as_str());
+            if number % (CALLS / 2) == CALLS / 2 - 1 {
+                pair.order_is_same(&rt, shown.as_str())?;
+            }
+            if number % 5 == 4 {
+                for _ in 0..8 {
+                    pair.lookup_is_same(&rt, draws.hash(), shown.as_str())?;
+                }
+            }
+        }
+    }
+    Ok(())
+}

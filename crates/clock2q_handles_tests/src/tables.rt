@@ -1,0 +1,145 @@
+//! Tables whose lookups are worked out by hand.
+use crate::walks::{A, B, yields};
+use clock2q_handles::{Table, TableError};
+use std::process::Abort;
+use std::test::Fail;
+
+/// Puts a handle in where there is room.
+fn put(rt: &impl Abort, table: &mut Table<usize>, hash: u64, handle: usize) {
+    assert!(rt; table.len() < table.capacity(), "the table is full");
+    assert_eq!(rt;
+        table.insert(hash, handle, |_| 0),
+        Ok(()),
+        "handle {handle}"
+    );
+}
+
+#[test]
+fn four_handles(rt: HostRuntime) -> Result<(), Fail> {
+    let first = 0xAB00_0000_0000_0005;
+    let mut table: Table<usize> = Table::with_capacity(rt.alloc(), 12)?;
+    put(&rt, &mut table, first, 0);
+    put(&rt, &mut table, 0xAB00_0100_0000_0005, 1);
+    put(&rt, &mut table, 0xAB00_0000_0000_0006, 2);
+    put(&rt, &mut table, 0xCD00_0000_0000_0005, 3);
+    yields(&rt, table.get(first), &[0, 1], "first");
+    yields(&rt, table.get(0xAB00_0000_0000_0006), &[2], "third");
+    yields(&rt, table.get(0xCD00_0000_0000_0005), &[3], "fourth");
+    let shown = format!(in rt.alloc(); "{table:?}")?;
+    assert_eq!(rt; shown.as_str(), "Table { len: 4, slots: 16 }");
+    put(&rt, &mut table, first, 4);
+    yields(&rt, table.get(first), &[0, 1, 4], "five");
+    assert!(rt; table.remove(first, 4));
+    yields(&rt, table.get(first), &[0, 1], "restored");
+    Ok(())
+}
+
+#[test]
+fn four_handles_less_one(rt: HostRuntime) -> Result<(), Fail> {
+    let first = 0xAB00_0000_0000_0005;
+    let mut table: Table<usize> = Table::with_capacity(rt.alloc(), 12)?;
+    for (handle, hash) in [
+        (0, first),
+        (1, 0xAB00_0100_0000_0005),
+        (2, 0xAB00_0000_0000_0006),
+        (3, 0xCD00_0000_0000_0005),
+    ] {
+        put(&rt, &mut table, hash, handle);
+    }
+    assert!(rt; table.remove(0xAB00_0100_0000_0005, 0));
+    yields(&rt, table.get(first), &[1], "after the removal");
+    assert!(rt; !table.remove(first, 0));
+    assert_eq!(rt; table.len(), 3);
+    Ok(())
+}
+
+#[test]
+fn figure(rt: HostRuntime) -> Result<(), Fail> {
+    let mut table: Table<usize> = Table::with_capacity(rt.alloc(), 12)?;
+    for (handle, hash) in [(0, 4), (1, 4), (2, 5), (3, 7), (4, 7)] {
+        put(&rt, &mut table, hash, handle);
+    }
+    yields(&rt, table.get(4), &[0, 1], "home 4");
+    yields(&rt, table.get(7), &[3, 4], "home 7");
+    assert!(rt; table.remove(4, 1));
+    yields(&rt, table.get(4), &[0], "home 4, after");
+    yields(&rt, table.get(5), &[2], "home 5, after");
+    Ok(())
+}
+
+// Homes near the end of the slots, whose entries stand at their beginning too.
+#[test]
+fn wrapped(rt: HostRuntime) -> Result<(), Fail> {
+    let mut table: Table<usize> = Table::with_capacity(rt.alloc(), 12)?;
+    for (handle, hash) in [(0, 14), (1, 14), (2, 15), (3, 0), (4, 0)] {
+        put(&rt, &mut table, hash, handle);
+    }
+    yields(&rt, table.get(14), &[0, 1], "home 14");
+    yields(&rt, table.get(15), &[2], "home 15");
+    yields(&rt, table.get(0), &[3, 4], "home 0");
+    assert!(rt; table.remove(14, 0));
+    yields(&rt, table.get(14), &[1], "home 14, after");
+    yields(&rt, table.get(15), &[2], "home 15, after");
+    yields(&rt, table.get(0), &[3, 4], "home 0, after");
+    Ok(())
+}
+
+#[test]
+fn wrapped_in_another_order(rt: HostRuntime) -> Result<(), Fail> {
+    let mut table: Table<usize> = Table::with_capacity(rt.alloc(), 12)?;
+    for (handle, hash) in [(0, 0), (1, 15), (2, 14), (3, 0), (4, 14)] {
+        put(&rt, &mut table, hash, handle);
+    }
+    yields(&rt, table.get(14), &[2, 4], "home 14");
+    yields(&rt, table.get(15), &[1], "home 15");
+    yields(&rt, table.get(0), &[0, 3], "home 0");
+    Ok(())
+}
+
+#[test]
+fn full_table(rt: HostRuntime) -> Result<(), Fail> {
+    let mut table: Table<usize> = Table::with_capacity(rt.alloc(), 12)?;
+    for handle in 0..12usize {
+        put(&rt, &mut table, if handle % 2 == 0 { A } else { B }, handle);
+    }
+    let all = [0, 1, 2, 3, 4, 5, 6, 7, 8, 9, 10, 11];
+    yields(&rt, table.get(A), &all, "full");
+    assert!(rt; table.remove(B, 5));
+    let fewer = [0, 1, 2, 3, 4, 6, 7, 8, 9, 10, 11];
+    yields(&rt, table.get(A), &fewer, "one less");
+    put(&rt, &mut table, A, 12);
+    let again = [0, 1, 2, 3, 4, 6, 7, 8, 9, 10, 11, 12];
+    yields(&rt, table.get(A), &again, "one more");
+    assert_eq!(rt; table.capacity(), 12);
+    Ok(())
+}
+
+#[test]
+fn unallocated(rt: HostRuntime) {
+    let mut table: Table<usize> = Table::new(rt.alloc());
+    table.prefetch(5);
+    assert!(rt; table.is_empty());
+    yields(&rt, table.get(5), &[], "unallocated");
+    assert!(rt; !table.remove(5, 0));
+    assert_eq!(rt; table.capacity(), 0);
+}
+
+#[test]
+fn capacities(rt: HostRuntime) -> Result<(), Fail> {
+    for (entries, capacity) in [(0, 0), (1, 12), (12, 12), (13, 24), (384, 384), (385, 768)] {
+        let table: Table<usize> = Table::with_capacity(rt.alloc(), entries)?;
+        assert_eq!(rt; table.capacity(), capacity, "for {entries}");
+    }
+    let most = 6_917_529_027_641_081_856;
+    for (entries, error) in [
+        (usize::MAX, TableError::Size),
+        (most, TableError::Memory),
+        (most + 1, TableError::Size),
+    ] {
+        match Table::<usize>::with_capacity(rt.alloc(), entries) {
+            Ok(_) => assert!(rt; false, "{entries} fit"),
+            Err(refusal) => assert_eq!(rt; refusal, error, "for {entries}"),
+        }
+    }
+    Ok(())
+}

@@ -1,0 +1,23 @@
+//! What a lookup of a table yields, and two hashes that a small table can't tell apart.
+use clock2q_handles::Candidates;
+use std::fmt::Debug;
+use std::process::Abort;
+
+/// Two hashes of one fingerprint, and of one home in 16 slots.
+pub(crate) const A: u64 = 0xAB00_0000_0000_000F;
+
+pub(crate) const B: u64 = 0xAB00_0000_0000_001F;
+
+/// A walk yields just the wanted handles, and None from then on.
+pub(crate) fn yields<H: Copy + Eq + Default + Debug>(
+    rt: &impl Abort,
+    mut walk: Candidates<'_, H>,
+    wanted: &[H],
+    shown: &str,
+) {
+    for handle in wanted {
+        assert_eq!(rt; walk.next(), Some(*handle), "{shown}");
+    }
+    assert_eq!(rt; walk.next(), None, "{shown}");
+    assert_eq!(rt; walk.next(), None, "{shown}");
+}
