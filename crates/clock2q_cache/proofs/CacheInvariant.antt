@@ -1,31 +1,29 @@
 -- What holds of a cache's fields goes on to hold after each change of the layers, and the machine becomes what it should.
-use Rattle.std.proofs.Common.{◌≡◌, ℕ, zero, suc, ◌+◌, ◌-◌, ◌*◌, ◌^◌, ◌<◌, ◌≤◌, ◌==◌, Bool, true, false, not, ◌||◌, cond, eqb, Option, Some, None, List, [], ◌∷◌, ◌++◌, map, length, take, drop, reverse, inl, inr, refl, sym, ap, ◌∙◌, subst, arith, eqb-true, eq-eqb, ne_eqb, length-append}
-use Rattle.std.specs.Prelude.{if◌then◌else◌, nat_lt, is_some, slice_get, slice_set, IfNone}
+use Rattle.std.proofs.Common.{◌≡◌, ℕ, ◌+◌, ◌^◌, ◌<◌, ◌==◌, Bool, true, false, ◌||◌, eqb, Option, Some, None, List, [], ◌∷◌, ◌++◌, length, drop, reverse, refl, sym, ap, ◌∙◌, subst, arith, ne_eqb, length-append}
+use Rattle.std.specs.Prelude.{if◌then◌else◌, is_some, IfNone}
 use Rattle.std.specs.Cmp.{IsEquivalence}
-use Rattle.std.specs.List.{filter, find, last_or, AllByRecursion}
-use Rattle.std.proofs.lemmas.Bool.{cases_Bool, cases_lt, both_ways, lt-ltb, le-ltb}
-use Rattle.clock2q_handles.specs.Homes.{total, capacity, with_handle, removed}
-use Rattle.clock2q_queues.specs.Ages.{Age, is_promoted}
+use Rattle.std.specs.List.{last_or, AllByRecursion}
+use Rattle.clock2q_handles.specs.Homes.{total, capacity, with_handle}
+use Rattle.clock2q_machine.specs.Ages.{Age}
 use Rattle.clock2q_queues.specs.declared.keys.cells.Entry.{Entry}
 use Rattle.clock2q_queues.specs.Rings.{has, AllApart}
-use Rattle.clock2q_queues.specs.Keys.{KeyPlaces, entry, written, hash_at, key_at}
+use Rattle.clock2q_queues.specs.Keys.{KeyPlaces, entry, written, key_at}
 use Rattle.clock2q_queues.specs.Small.{admitted}
-use Rattle.clock2q_queues.specs.MainRing.{from_victim}
 use Rattle.clock2q_queues.specs.Queues.{QueueState, slots_of}
 use Rattle.clock2q_queues.specs.History.{Remembered}
 use Rattle.clock2q_queues.proofs.Rings.{has-append}
-use Rattle.clock2q_queues.proofs.Indexes.{length-put, length-taken}
+use Rattle.clock2q_queues.proofs.Indexes.{length-put}
 use Rattle.clock2q_queues.proofs.Booleans.{or_true, or_parts}
-use Rattle.clock2q_cache.specs.Shares.{Shares, main_share, history_share}
-use Rattle.clock2q_cache.specs.Entries as machine
-use Rattle.clock2q_cache.specs.Machine.{Machine, Placement, vacancy, vacant_slot, into_main, into_small, into_small_at, joining_main, replacing_victim, evicting_tail, promoting_tail, stored}
-use Rattle.clock2q_cache.specs.Cache.{IsWhole, known_count}
+use Rattle.clock2q_machine.specs.Shares.{Shares, main_share}
+use Rattle.clock2q_machine.specs.Entries as machine
+use Rattle.clock2q_machine.specs.Machine.{Machine, Placement, vacancy, vacant_slot, into_main, into_small, into_small_at, joining_main, replacing_victim, stored}
+use Rattle.clock2q_machine.specs.Whole.{IsWhole, known_count}
 use Rattle.clock2q_cache.specs.Insertions.{IsValueFor, Fills}
 use Rattle.clock2q_cache.specs.CacheFields.{machine_of, places_of, with_keys_small, with_keys_main, IsStored, IsSized, IsKept}
 use Rattle.clock2q_cache.proofs.WithKeys.{HaveKeys, small-admitted, main-behind, small-agree, main-agree, length-small, length-main}
-use Rattle.clock2q_cache.proofs.Stored.{stored-entered, stored-renewed, stored-same, key_at-own, key_at-others, values-written, length-values}
-use Rattle.clock2q_cache.proofs.Slots.{IsVacant, vacant, vacancy-taken, vacancy-there, places_apart, small_keys, main_keys, length-places, has-appended, has-from_victim, length-swept}
-use Rattle.clock2q_cache.proofs.Whole.{IsPlaced, whole-stored, placed-admitted, placed-joining}
+use Rattle.clock2q_cache.proofs.Stored.{stored-entered, stored-same, key_at-own, key_at-others, values-written, length-values}
+use Rattle.clock2q_cache.proofs.Slots.{IsVacant, vacant, vacancy-taken, vacancy-there, places_apart, small_keys, main_keys, length-places, has-appended}
+use Rattle.clock2q_machine.proofs.Whole.{IsPlaced, whole-stored, placed-admitted, placed-joining}
 
 or_turned : (a b c : Bool) → (a || (b || (c || false))) ≡ (c || (a || b))
 or_turned true true true = refl
@@ -51,8 +49,8 @@ sized-same shares q q' l l' n n' k k' f f' s a b c d e g = record {
   short = s.short;
 }
 
-module _ {K V : Type 0} (eq : K → K → Bool) (laws : IsEquivalence eq) (hash : K → ℕ) (shares : Shares) (q : QueueState) (h : Remembered K) (index : List (List (ℕ × ℕ))) (keys : KeyPlaces K V) (free : List ℕ) (room : ℕ)
-    (kept : IsKept eq hash shares q h index keys free room) where
+module _ {K V : Type 0} {eq : K → K → Bool} {hash : K → ℕ} {shares : Shares} {q : QueueState} {h : Remembered K} {index : List (List (ℕ × ℕ))} {keys : KeyPlaces K V} {free : List ℕ} {room : ℕ}
+    (laws : IsEquivalence eq) (kept : IsKept eq hash shares q h index keys free room) where
   abbrev m : Machine K V
   m = machine_of shares q keys.entries h.entries free
 
@@ -84,7 +82,8 @@ module _ {K V : Type 0} (eq : K → K → Bool) (laws : IsEquivalence eq) (hash 
 
   -- the slot that is taken is the vacancy
   pub taken-here : (slot made : ℕ) → made ≡ length keys.entries → is_some (vacancy m) ≡ true → vacant_slot (reverse free) made (made + 1) ≡ Some slot → vacancy m ≡ Some slot
-  taken-here slot made is some taken = vacancy-taken eq hash shares q index keys.entries h.entries free kept.whole kept.stored slot some (subst (λ z. vacant_slot (reverse free) z (z + 1) ≡ Some slot) is taken)
+  taken-here slot made is some taken =
+      vacancy-taken eq hash shares q index keys.entries h.entries free kept.whole kept.stored slot some (subst (λ z. vacant_slot (reverse free) z (z + 1) ≡ Some slot) is taken)
 
   pub vacancy-here : length q.small + length q.main < shares.capacity → is_some (vacancy m) ≡ true
   vacancy-here few = vacancy-there eq hash shares q index keys.entries h.entries free kept.whole kept.stored few
@@ -134,7 +133,8 @@ module _ {K V : Type 0} (eq : K → K → Bool) (laws : IsEquivalence eq) (hash 
     pub made-main : (key : K) (value : Option V) → length m.main < main_share shares → IfNone value ((into_main key m).slot < length m.values) → IfNone value (slot < length keys.entries)
     made-main key value some =
         let below : (length m.main == main_share m.shares) ≡ false = ne_eqb (length m.main) (main_share m.shares) (λ e. omega (arith, e, some)) in
-        made-there value (into_main key m).slot (ap (λ b. (if b then replacing_victim key (machine.from_victim m.main) m else joining_main key (vacancy m) m).slot) below ∙ ap (λ v. (joining_main key v m).slot) taken)
+        made-there value (into_main key m).slot (ap (λ b. (if b then replacing_victim key (machine.from_victim m.main) m else joining_main key (vacancy m) m).slot) below
+        ∙ ap (λ v. (joining_main key v m).slot) taken)
 
   -- a key at a vacancy
   module _ (key : K) (value : V) (hsh slot : ℕ) (free' : List ℕ) (is : hsh ≡ hash key) (taken : vacancy m ≡ Some slot) (others : reverse free' ≡ drop 1 (reverse free)) where
@@ -201,7 +201,8 @@ module _ {K V : Type 0} (eq : K → K → Bool) (laws : IsEquivalence eq) (hash 
 
     -- what the layers become
     module _ (q' : QueueState) (index' : List (List (ℕ × ℕ))) (keys' : KeyPlaces K V) (room' : ℕ) (absent : known_count (eq key) m ≡ 0)
-        (slots : q'.slots ≡ q.slots) (window : q'.window ≡ q.window) (indexed : index' ≡ with_handle index hsh slot) (wrote : keys'.entries ≡ entries') (keys_room : keys'.room ≡ keys.room) (free_room : room' ≡ room) where
+        (slots : q'.slots ≡ q.slots) (window : q'.window ≡ q.window) (indexed : index' ≡ with_handle index hsh slot)
+        (wrote : keys'.entries ≡ entries') (keys_room : keys'.room ≡ keys.room) (free_room : room' ≡ room) where
       sized : IsSized shares q' h.limit (length index') keys'.room room'
       sized = sized-same shares q q' h.limit h.limit (length index) (length index') keys.room keys'.room room room' kept.sized slots window refl
           (ap (λ (z : List (List (ℕ × ℕ))). length z) indexed ∙ length-put index hsh slot) keys_room free_room
@@ -226,10 +227,12 @@ module _ {K V : Type 0} (eq : K → K → Bool) (laws : IsEquivalence eq) (hash 
       pub main-done : length m.main < main_share shares → q'.small ≡ q.small → q'.main ≡ q.main ++ (slot, false) ∷ [] → IsDone slot value (into_main key m) q' h index' keys' free' room'
       main-done some small main =
           let below : (length m.main == main_share shares) ≡ false = ne_eqb (length m.main) (main_share shares) (λ e. omega (arith, e, some)) in
-          let at : into_main key m ≡ joining_main key (Some slot) m = ap (λ b. if b then replacing_victim key (machine.from_victim m.main) m else joining_main key (vacancy m) m) below ∙ ap (λ v. joining_main key v m) taken in
+          let at : into_main key m ≡ joining_main key (Some slot) m =
+          ap (λ b. if b then replacing_victim key (machine.from_victim m.main) m else joining_main key (vacancy m) m) below ∙ ap (λ v. joining_main key v m) taken in
           subst (λ p. IsDone slot value p q' h index' keys' free' room') (sym at)
           (done (joining_main key (Some slot) m) (placed-joining eq m kept.whole key slot taken some) (joined_main q' small main) (joined_main_stored q' small main) refl)
 
 -- a key was placed, and its slot has its value
-pub fills : {K V : Type 0} (value : Option V) (slot : ℕ) (held : V) (p : Placement K V) (old new : Machine K V) → slot ≡ p.slot → IsValueFor value slot old.values held → new ≡ stored p.slot held p.machine → Fills value p old new
+pub fills : {K V : Type 0} (value : Option V) (slot : ℕ) (held : V) (p : Placement K V) (old new : Machine K V)
+    → slot ≡ p.slot → IsValueFor value slot old.values held → new ≡ stored p.slot held p.machine → Fills value p old new
 fills value slot held p old new at is becomes = record { held = held; is = subst (λ s. IsValueFor value s old.values held) at is; becomes = becomes }

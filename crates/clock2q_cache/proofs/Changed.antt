@@ -1,31 +1,30 @@
 -- What holds of a cache's fields goes on to hold where a key's history is erased or a value is replaced, and holds of a new cache.
-use Rattle.std.proofs.Common.{◌≡◌, ℕ, zero, suc, ◌+◌, ◌-◌, ◌*◌, ◌^◌, ◌<◌, ◌≤◌, ◌==◌, max, Bool, true, false, not, ◌||◌, ◌&&◌, cond, eqb, Option, Some, None, slice_get, List, [], ◌∷◌, ◌++◌, map, length, take, drop, reverse, inl, inr, refl, sym, ap, ◌∙◌, subst, arith, eqb-true, eq-eqb, ne_eqb}
-use Rattle.std.specs.Prelude.{if◌then◌else◌, nat_lt, nat_le, is_some, slice_set, IfSome}
+use Rattle.std.proofs.Common.{◌≡◌, ℕ, zero, suc, ◌^◌, ◌<◌, ◌≤◌, ◌==◌, Bool, true, false, not, ◌||◌, ◌&&◌, eqb, Option, Some, None, slice_get, List, [], ◌∷◌, ◌++◌, map, length, reverse, inl, inr, refl, sym, ap, ◌∙◌, subst, arith, eqb-true, eq-eqb, ne_eqb}
+use Rattle.std.specs.Prelude.{nat_le, is_some, slice_set, IfSome}
 use Rattle.std.specs.Cmp.{IsEquivalence}
 use Rattle.std.specs.List.{filter, list_any, last_or, AllByRecursion}
-use Rattle.std.proofs.lemmas.Bool.{cases_Bool, both_ways, lt-ltb, eqb-false}
-use Rattle.clock2q_queues.specs.Ages.{Age, is_promoted}
+use Rattle.std.proofs.lemmas.Bool.{cases_Bool, both_ways}
+use Rattle.clock2q_machine.specs.Ages.{Age, is_promoted}
 use Rattle.clock2q_queues.specs.declared.keys.cells.Entry.{Entry}
 use Rattle.clock2q_queues.specs.Rings.{has}
 use Rattle.clock2q_queues.proofs.Rings.{has_first, has_later}
 use Rattle.clock2q_queues.specs.Keys.{KeyPlaces, entry, written, hash_at, key_at, value_at, with_value}
-use Rattle.clock2q_queues.specs.Indexes.{IsIndex, HasHash, Empties, index_room}
+use Rattle.clock2q_queues.specs.Indexes.{IsIndex, HasHash, index_room}
 use Rattle.clock2q_handles.specs.TableStep.{made_for}
 use Rattle.clock2q_queues.specs.Queues.{QueueState, slots_of, tail_promoted}
-use Rattle.clock2q_queues.specs.History.{Remembered, is_remembered, forgotten}
+use Rattle.clock2q_queues.specs.History.{Remembered, forgotten}
 use Rattle.clock2q_queues.proofs.Entries.{slice_get-written, slice_get-written_other, length-written}
 use Rattle.clock2q_queues.proofs.Indexes.{IsIndex-kept, IsIndex-new, half_new}
-use Rattle.clock2q_cache.specs.Shares.{Shares, history_share}
-use Rattle.clock2q_cache.specs.Machine as cache
-use Rattle.clock2q_cache.specs.Machine.{Machine, stored, empty, vacancy, goes_to_main}
-use Rattle.clock2q_cache.specs.Entries.{SmallEntry}
-use Rattle.clock2q_cache.specs.Cache.{IsWhole}
+use Rattle.clock2q_machine.specs.Shares.{Shares, history_share}
+use Rattle.clock2q_machine.specs.Machine as cache
+use Rattle.clock2q_machine.specs.Machine.{Machine, stored, empty, vacancy, goes_to_main}
+use Rattle.clock2q_machine.specs.Whole.{IsWhole}
 use Rattle.clock2q_cache.specs.CacheFields.{machine_of, places_of, with_keys_small, with_keys_main, IsStored, IsSized, IsKept}
-use Rattle.clock2q_cache.proofs.WithKeys.{small-agree, main-agree, small-last, small_with}
+use Rattle.clock2q_cache.proofs.WithKeys.{small-agree, main-agree, small-last}
 use Rattle.clock2q_cache.proofs.Stored.{all-written, values-written, length-values, below-more}
-use Rattle.clock2q_cache.proofs.CacheInvariant.{apart, small_have, length_in_small, length_in_main, sized-same, vacancy-here}
-use Rattle.clock2q_cache.proofs.Whole.{whole-forgotten, all_resident, small_share}
-use Rattle.clock2q_cache.proofs.MachineInvariant.{whole-changed, lasting-empty}
+use Rattle.clock2q_cache.proofs.CacheInvariant.{small_have, length_in_small, sized-same}
+use Rattle.clock2q_machine.proofs.Whole.{whole-forgotten, all_resident, small_share}
+use Rattle.clock2q_machine.proofs.MachineInvariant.{whole-changed, lasting-empty}
 
 module _ {K : Type 0} (is : K → Bool) where
   pub known-any : (es : List (ℕ × K)) → list_any (λ (e : ℕ × K). is e.1) es ≡ list_any is (map (λ (e : ℕ × K). e.1) es)
@@ -46,7 +45,8 @@ module _ {K : Type 0} (is : K → Bool) where
     | inr f ↦ rw f ((a.0, all-filtered P es a.1))
   ]
 
-hash-there : {K : Type 0} (eq : K → K → Bool) (hash : K → ℕ) (key : K) (hsh : ℕ) (es : List (ℕ × K)) → ((x y : K) → eq x y ≡ true → hash x ≡ hash y) → hsh ≡ hash key → AllByRecursion (λ (e : ℕ × K). e.0 ≡ hash e.1) es → HasHash eq hsh key es
+hash-there : {K : Type 0} (eq : K → K → Bool) (hash : K → ℕ) (key : K) (hsh : ℕ) (es : List (ℕ × K))
+    → ((x y : K) → eq x y ≡ true → hash x ≡ hash y) → hsh ≡ hash key → AllByRecursion (λ (e : ℕ × K). e.0 ≡ hash e.1) es → HasHash eq hsh key es
 hash-there eq hash key hsh [] respects is a = tt
 hash-there eq hash key hsh (e ∷ es) respects is a = ((λ q. a.0 ∙ sym (respects key e.1 q) ∙ sym is), hash-there eq hash key hsh es respects is a.1)
 
@@ -91,7 +91,8 @@ module _ {K V : Type 0} where
             subst (λ z. key_at (written slot (record r.entry { value = value }) es) z ≡ key_at es z) (sym q)
             (ap (λ z. elim z [ None ↦ None | Some e ↦ Some e.key ]) (slice_get-written slot (record r.entry { value = value }) es (omega (arith, below)))
             ∙ sym (ap (λ z. elim z [ None ↦ None | Some e ↦ Some e.key ]) r.at))
-        | inr e ↦ ap (λ z. elim z [ None ↦ None | Some e ↦ Some e.key ]) (slice_get-written_other slot t (record r.entry { value = value }) es (omega (arith, below)) (λ q. both_ways (eqb t slot) e (eq-eqb t slot q)))
+        | inr e ↦ ap (λ z. elim z [ None ↦ None | Some e ↦ Some e.key ])
+            (slice_get-written_other slot t (record r.entry { value = value }) es (omega (arith, below)) (λ q. both_ways (eqb t slot) e (eq-eqb t slot q)))
       ]
 
   hash-same : (slot : ℕ) (value : V) (es : List (Entry K V)) (r : Replaces slot value es) → slot < length es → (t : ℕ) → hash_at (with_value slot value es) t ≡ hash_at es t
@@ -102,7 +103,8 @@ module _ {K V : Type 0} where
             subst (λ z. hash_at (written slot (record r.entry { value = value }) es) z ≡ hash_at es z) (sym q)
             (ap (λ z. elim z [ None ↦ None | Some e ↦ Some e.hash ]) (slice_get-written slot (record r.entry { value = value }) es (omega (arith, below)))
             ∙ sym (ap (λ z. elim z [ None ↦ None | Some e ↦ Some e.hash ]) r.at))
-        | inr e ↦ ap (λ z. elim z [ None ↦ None | Some e ↦ Some e.hash ]) (slice_get-written_other slot t (record r.entry { value = value }) es (omega (arith, below)) (λ q. both_ways (eqb t slot) e (eq-eqb t slot q)))
+        | inr e ↦ ap (λ z. elim z [ None ↦ None | Some e ↦ Some e.hash ])
+            (slice_get-written_other slot t (record r.entry { value = value }) es (omega (arith, below)) (λ q. both_ways (eqb t slot) e (eq-eqb t slot q)))
       ]
 
   all-at : (P : Entry K V → Type 0) (es : List (Entry K V)) (slot : ℕ) (e : Entry K V) → AllByRecursion P es → slice_get es slot ≡ Some e → P e
@@ -126,8 +128,8 @@ tail-has : (t : ℕ) (xs : List (ℕ × Age)) (a : Age) → last_or None xs ≡ 
 tail-has t [] a l = absurd (cc)
 tail-has t (x ∷ xs) a l = tail-has_from t x xs a l
 
-module _ {K V : Type 0} (eq : K → K → Bool) (laws : IsEquivalence eq) (hash : K → ℕ) (shares : Shares) (q : QueueState) (h : Remembered K) (index : List (List (ℕ × ℕ))) (keys : KeyPlaces K V) (free : List ℕ) (room : ℕ)
-    (kept : IsKept eq hash shares q h index keys free room) where
+module _ {K V : Type 0} {eq : K → K → Bool} {hash : K → ℕ} {shares : Shares} {q : QueueState} {h : Remembered K} {index : List (List (ℕ × ℕ))} {keys : KeyPlaces K V} {free : List ℕ} {room : ℕ}
+    (laws : IsEquivalence eq) (kept : IsKept eq hash shares q h index keys free room) where
   abbrev m : Machine K V
   m = machine_of shares q keys.entries h.entries free
 
@@ -168,8 +170,10 @@ module _ {K V : Type 0} (eq : K → K → Bool) (laws : IsEquivalence eq) (hash 
 
     pub replaced-machine : machine_of shares q (with_value slot value keys.entries) h.entries free ≡ stored slot value m
     replaced-machine =
-        let s : with_keys_small (key_at (with_value slot value keys.entries)) q.small ≡ m.small = small-agree (key_at keys.entries) (key_at (with_value slot value keys.entries)) q.small (λ t g. key-same slot value keys.entries r made t) in
-        let t : with_keys_main (key_at (with_value slot value keys.entries)) q.main ≡ m.main = main-agree (key_at keys.entries) (key_at (with_value slot value keys.entries)) q.main (λ t g. key-same slot value keys.entries r made t) in
+        let s : with_keys_small (key_at (with_value slot value keys.entries)) q.small ≡ m.small =
+        small-agree (key_at keys.entries) (key_at (with_value slot value keys.entries)) q.small (λ t g. key-same slot value keys.entries r made t) in
+        let t : with_keys_main (key_at (with_value slot value keys.entries)) q.main ≡ m.main =
+        main-agree (key_at keys.entries) (key_at (with_value slot value keys.entries)) q.main (λ t g. key-same slot value keys.entries r made t) in
         let v = ap (λ z. map (λ (e : Entry K V). e.value) z) r.written ∙ values-written slot (record r.entry { value = value }) keys.entries (omega (arith, made)) in
         cc
 
@@ -177,9 +181,14 @@ module _ {K V : Type 0} (eq : K → K → Bool) (laws : IsEquivalence eq) (hash 
     kept-replaced keys' is keys_room = record {
       whole = subst (λ z. IsWhole eq (machine_of shares q z h.entries free)) (sym is) (subst (IsWhole eq) (sym replaced-machine) (whole-changed eq m kept.whole slot value below));
       stored = subst (λ z. IsStored hash index z (places_of q)) (sym is) (record {
-        made = below-more (length keys.entries) (length (with_value slot value keys.entries)) (places_of q) (omega (arith, ap (λ (z : List (Entry K V)). length z) r.written, length-written slot (record r.entry { value = value }) keys.entries (omega (arith, made)))) kept.stored.made;
+        made =
+            below-more (length keys.entries) (length (with_value slot value keys.entries)) (places_of q)
+            (omega (arith, ap (λ (z : List (Entry K V)). length z) r.written, length-written slot (record r.entry { value = value }) keys.entries (omega (arith, made)))) kept.stored.made;
         indexed = IsIndex-kept index keys.entries (with_value slot value keys.entries) (places_of q) (λ t g. hash-same slot value keys.entries r made t) kept.stored.indexed;
-        hashed = subst (λ z. AllByRecursion (λ e. e.hash ≡ hash e.key) z) (sym r.written) (all-written (λ e. e.hash ≡ hash e.key) slot (record r.entry { value = value }) keys.entries kept.stored.hashed (all-at (λ e. e.hash ≡ hash e.key) keys.entries slot r.entry kept.stored.hashed r.at));
+        hashed =
+            subst (λ z. AllByRecursion (λ e. e.hash ≡ hash e.key) z) (sym r.written)
+            (all-written (λ e. e.hash ≡ hash e.key) slot (record r.entry { value = value })
+            keys.entries kept.stored.hashed (all-at (λ e. e.hash ≡ hash e.key) keys.entries slot r.entry kept.stored.hashed r.at));
       });
       hashed = kept.hashed;
       sized = sized-same shares q q h.limit h.limit (length index) (length index) keys.room keys'.room room room kept.sized refl refl refl refl keys_room refl;
@@ -190,7 +199,7 @@ module _ {K V : Type 0} (eq : K → K → Bool) (laws : IsEquivalence eq) (hash 
   tail-tells some b is = of (last_or None q.small) refl
     where
       of : (o : Option (ℕ × Age)) → last_or None q.small ≡ o → IfSome (last_or None m.small) (λ tail. b ≡ is_promoted tail.age)
-      of None none = absurd (nothing q.small none (omega (arith, some, length_in_small eq laws hash shares q h index keys free room kept)))
+      of None none = absurd (nothing q.small none (omega (arith, some, length_in_small laws kept)))
         where
           last-some : (x : ℕ × Age) (xs : List (ℕ × Age)) → last_or (Some x) xs ≡ None → ⊥
           last-some x [] e = cc
@@ -200,13 +209,14 @@ module _ {K V : Type 0} (eq : K → K → Bool) (laws : IsEquivalence eq) (hash 
           nothing [] e s = omega arith
           nothing (x ∷ xs) e s = last-some x xs e
       of (Some e) last =
-          let k = small_have eq laws hash shares q h index keys free room kept e.0 (tail-has e.0 q.small e.1 last) in
-          let l = small-last (key_at keys.entries) None None q.small e k.0 (small_have eq laws hash shares q h index keys free room kept) (λ e. absurd (cc)) last k.1 in
+          let k = small_have laws kept e.0 (tail-has e.0 q.small e.1 last) in
+          let l = small-last (key_at keys.entries) None None q.small e k.0 (small_have laws kept) (λ e. absurd (cc)) last k.1 in
           rw l (is ∙ ap (λ z. tail_promoted z) last)
 
 module _ {K V : Type 0} where
   -- whether a key enters Main, where Small has a share and there is a vacancy
-  pub admits : (m : Machine K V) (known : Bool) (share n : ℕ) → share ≡ m.shares.small → known ≡ false → (share ≡ 0 → ⊥) → is_some (vacancy m) ≡ true → n ≡ length m.small → nat_le share n ≡ goes_to_main known m
+  pub admits : (m : Machine K V) (known : Bool) (share n : ℕ) → share ≡ m.shares.small → known ≡ false
+      → (share ≡ 0 → ⊥) → is_some (vacancy m) ≡ true → n ≡ length m.small → nat_le share n ≡ goes_to_main known m
   admits m known share n at new some vacant is =
       let share_some : (m.shares.small == 0) ≡ false = ne_eqb m.shares.small 0 (λ e. some (at ∙ e)) in
       ap (λ z. nat_le z n) at ∙ ap (λ z. nat_le m.shares.small z) is
@@ -216,20 +226,31 @@ module _ {K V : Type 0} where
 
   -- a full cache has an entry in Small, where that has a share
   pub small-some : (eq : K → K → Bool) (m : Machine K V) → IsWhole eq m → is_some (vacancy m) ≡ false → goes_to_main false m ≡ false → 0 < length m.small
-  small-some eq m whole none small = omega (arith, all_resident eq m whole (nothing (vacancy m) none), whole.main_within, whole.small_below, small_share m.shares.small (is_some (vacancy m) && nat_le m.shares.small (length m.small)) small)
+  small-some eq m whole none small =
+      omega (
+        arith,
+        all_resident eq m whole (nothing (vacancy m) none),
+        whole.main_within,
+        whole.small_below,
+        small_share m.shares.small (is_some (vacancy m) && nat_le m.shares.small (length m.small)) small,
+      )
     where
       nothing : (o : Option ℕ) → is_some o ≡ false → o ≡ None
       nothing None h = refl
       nothing (Some x) h = absurd (both_ways true h refl)
 
   -- nothing is resident, remembered or free
-  pub kept-empty : (eq : K → K → Bool) (laws : IsEquivalence eq) (hash : K → ℕ) (shares : Shares) (q : QueueState) (h : Remembered K) (index : List (List (ℕ × ℕ))) (keys : KeyPlaces K V) (free : List ℕ) (room : ℕ)
-      → shares.small < shares.capacity → q.small ≡ [] → q.main ≡ [] → h.entries ≡ [] → IsIndex {K = K} {V = V} index [] [] → keys.entries ≡ [] → free ≡ [] → IsSized shares q h.limit (length index) keys.room room
+  pub kept-empty : {eq : K → K → Bool} {hash : K → ℕ} {shares : Shares} {q : QueueState} {h : Remembered K} {index : List (List (ℕ × ℕ))} {keys : KeyPlaces K V} {free : List ℕ} {room : ℕ}
+      → IsEquivalence eq
+      → shares.small < shares.capacity → q.small ≡ [] → q.main ≡ [] → h.entries ≡ [] → IsIndex {K = K} {V = V} index [] []
+      → keys.entries ≡ [] → free ≡ [] → IsSized shares q h.limit (length index) keys.room room
       → IsKept eq hash shares q h index keys free room × (machine_of shares q keys.entries h.entries free ≡ empty shares)
-  kept-empty eq laws hash shares q h index keys free room below small main entries indexed keyed none sized = (
+  kept-empty {eq} {hash} {shares} {q} {h} {index} {keys} {free} {room} laws below small main entries indexed keyed none sized = (
     record {
       whole = subst (IsWhole eq) (sym is) (lasting-empty eq laws shares below);
-      stored = subst (λ (z : List (Entry K V)). IsStored hash index z (places_of q)) (sym keyed) (subst (λ z. IsStored {K = K} {V = V} hash index [] z) (sym places) (record { made = tt; indexed = indexed; hashed = tt }));
+      stored =
+          subst (λ (z : List (Entry K V)). IsStored hash index z (places_of q)) (sym keyed)
+          (subst (λ z. IsStored {K = K} {V = V} hash index [] z) (sym places) (record { made = tt; indexed = indexed; hashed = tt }));
       hashed = subst (λ z. AllByRecursion (λ e. e.0 ≡ hash e.1) z) (sym entries) tt;
       sized = sized;
     },
@@ -249,13 +270,14 @@ module _ {K V : Type 0} where
           cc
 
   -- a new cache
-  pub kept-new : (eq : K → K → Bool) (laws : IsEquivalence eq) (hash : K → ℕ) (shares : Shares) (q : QueueState) (h : Remembered K) (index : List (List (ℕ × ℕ))) (keys : KeyPlaces K V) (free : List ℕ) (room : ℕ)
+  pub kept-new : {eq : K → K → Bool} {hash : K → ℕ} {shares : Shares} {q : QueueState} {h : Remembered K} {index : List (List (ℕ × ℕ))} {keys : KeyPlaces K V} {free : List ℕ} {room : ℕ}
+      → IsEquivalence eq
       → shares.small < shares.capacity → (0 < shares.small → 0 < shares.window) → shares.capacity < 2 ^ 24
       → q.small ≡ [] → q.main ≡ [] → q.slots ≡ shares.capacity → q.window ≡ shares.window → h.entries ≡ [] → h.limit ≡ history_share shares → index ≡ made_for (index_room shares.capacity)
       → keys.entries ≡ [] → shares.capacity ≤ keys.room → free ≡ [] → shares.capacity ≤ room
       → IsKept eq hash shares q h index keys free room × (machine_of shares q keys.entries h.entries free ≡ empty shares)
-  kept-new eq laws hash shares q h index keys free room below windowed short small main slots window entries limit homes keyed keys_room none free_room =
-      kept-empty eq laws hash shares q h index keys free room below small main entries (subst (λ z. IsIndex {K = K} {V = V} z [] []) (sym homes) (IsIndex-new (index_room shares.capacity) [])) keyed none
+  kept-new {eq} {hash} {shares} {q} {h} {index} {keys} {free} {room} laws below windowed short small main slots window entries limit homes keyed keys_room none free_room =
+      kept-empty laws below small main entries (subst (λ z. IsIndex {K = K} {V = V} z [] []) (sym homes) (IsIndex-new (index_room shares.capacity) [])) keyed none
       (record {
         as_many = slots;
         window = window;
@@ -266,13 +288,3 @@ module _ {K V : Type 0} where
         room_for_free = free_room;
         short = short;
       })
-
-  -- a cleared cache
-  pub kept-cleared : (eq : K → K → Bool) (laws : IsEquivalence eq) (hash : K → ℕ) (shares : Shares) (q : QueueState) (h : Remembered K) (index : List (List (ℕ × ℕ))) (keys : KeyPlaces K V) (free : List ℕ) (room : ℕ) → IsKept eq hash shares q h index keys free room
-      → (q' : QueueState) (h' : Remembered K) (index' : List (List (ℕ × ℕ))) (keys' : KeyPlaces K V) (free' : List ℕ) (room' : ℕ)
-      → Empties index index' keys.entries → q'.small ≡ [] → q'.main ≡ [] → q'.slots ≡ q.slots → q'.window ≡ q.window → h'.entries ≡ [] → h'.limit ≡ h.limit → keys'.entries ≡ [] → keys'.room ≡ keys.room → free' ≡ [] → room' ≡ room
-      → IsKept eq hash shares q' h' index' keys' free' room' × (machine_of shares q' keys'.entries h'.entries free' ≡ empty shares)
-  kept-cleared eq laws hash shares q h index keys free room k q' h' index' keys' free' room' emptied small main slots window entries limit keyed keys_room none free_room =
-      kept-empty eq laws hash shares q' h' index' keys' free' room' k.whole.small_below small main entries
-      (IsIndex-kept index' keys.entries [] [] (λ t g. absurd (both_ways false refl g)) (emptied.emptied (places_of q) (apart eq laws hash shares q h index keys free room k) k.stored.made k.stored.indexed))
-      keyed none (sized-same shares q q' h.limit h'.limit (length index) (length index') keys.room keys'.room room room' k.sized slots window limit emptied.as_many keys_room free_room)

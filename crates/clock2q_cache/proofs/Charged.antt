@@ -4,33 +4,44 @@ use Rattle.std.specs.declared.hash.Hasher as hasher
 use Rattle.std.specs.declared.hash.BuildHasher as builder
 use Rattle.std.specs.HashMap.Lent.{HashMembers}
 use Rattle.clock2q_queues.specs.History.{Places}
-use Rattle.clock2q_cache.specs.Bounds.{inspections_for}
+use Rattle.clock2q_machine.specs.Bounds.{inspections_for}
 use Rattle.clock2q_cache.specs.CacheState.{CacheState, Counts, cache_state}
+use Rattle.clock2q_machine.specs.Calls.{Put}
 use Rattle.clock2q_cache.specs.Charged.{most_links, most_keys, with_slot}
 use Rattle.clock2q_cache.specs.Closures.{Takes}
-use Rattle.clock2q_cache.specs.Costs.{Spends, alike}
-use Rattle.clock2q_cache.specs.Machine.{Machine, stored}
+use Rattle.clock2q_cache.specs.Costs.{Costs, Spends, accesses_for, alike}
+use Rattle.clock2q_machine.specs.Machine.{Machine, stored}
 use Rattle.clock2q_cache.specs.Places.{residents_with, remembered_with}
-use Rattle.clock2q_cache.specs.Steps.{put, slotted}
+use Rattle.clock2q_machine.specs.Steps.{put, slotted}
 use Rattle.clock2q_cache.proofs.Fetched.{stored_same}
+use Rattle.clock2q_cache.proofs.Spent.{costs-of}
 
-state-from : {K V S : Type 0} (m m' : Machine K V) (r r' : List (List (ℕ × ℕ))) (p p' : Places) (h h' : S) (c c' : Counts) → m ≡ m' → r ≡ r' → p ≡ p' → h ≡ h' → c ≡ c' → cache_state m r p h c ≡ cache_state m' r' p' h' c'
-state-from m m' r r' p p' h h' c c' a b d e f =
+state-from : {K V S : Type 0} {m m' : Machine K V} {r r' : List (List (ℕ × ℕ))} {p p' : Places} {h h' : S} {c c' : Counts}
+    → m ≡ m' → r ≡ r' → p ≡ p' → h ≡ h' → c ≡ c' → cache_state m r p h c ≡ cache_state m' r' p' h' c'
+state-from {m} {m'} {r} {r'} {p} {p'} {h} {h'} {c} {c'} a b d e f =
     ap (λ z. cache_state z r p h c) a ∙ ap (λ z. cache_state m' z p h c) b ∙ ap (λ z. cache_state m' r' z h c) d ∙ ap (λ z. cache_state m' r' p' z c) e ∙ ap (λ z. cache_state m' r' p' h' z) f
 
-counts-from : (i i' a a' q q' : ℕ) → i ≡ i' → a ≡ a' → q ≡ q' → ◌≡◌ {A = Counts} (record { inspections = i; accesses = a; questions = q }) (record { inspections = i'; accesses = a'; questions = q' })
-counts-from i i' a a' q q' x y z =
-    ap (λ n. record { inspections = n; accesses = a; questions = q }) x ∙ ap (λ n. record { inspections = i'; accesses = n; questions = q }) y ∙ ap (λ n. record { inspections = i'; accesses = a'; questions = n }) z
+counts-from : {i i' a a' q q' : ℕ} → i ≡ i' → a ≡ a' → q ≡ q' → ◌≡◌ {A = Counts} (record { inspections = i; accesses = a; questions = q }) (record { inspections = i'; accesses = a'; questions = q' })
+counts-from {i} {i'} {a} {a'} {q} {q'} x y z =
+    ap (λ n. record { inspections = n; accesses = a; questions = q }) x ∙ ap (λ n. record { inspections = i'; accesses = n; questions = q }) y
+    ∙ ap (λ n. record { inspections = i'; accesses = a'; questions = n }) z
 
 module _ {K V S H : Type 0} (key : HashMembers K) (build : builder.Ghosts S H) (hash : hasher.Ghosts H) (k : K) (made : V → Type 0) (old new : CacheState K V S) (slot : ℕ)
     (taken : Takes (key.eq k) k made old.machine slot new.machine) (residents : new.residents ≡ residents_with key build hash k old) (remembered : new.remembered ≡ remembered_with key build hash k old) (same : new.hasher ≡ old.hasher)
-    (spent : Spends (inspections_for (key.eq k) old.machine) (inspections_for (key.eq k) old.machine + 80) (alike key build hash k old) old.counts new.counts) where
+    (spent : Spends (inspections_for (key.eq k) old.machine) (accesses_for (key.eq k) old.machine) (alike key build hash k old) old.counts new.counts) where
   -- what the caller leaves behind the reference is then the key's value
   pub lent : (links keys : ℕ) → links ≡ most_links key build hash k old → keys ≡ most_keys key build hash k old → (w : V)
-      → cache_state (stored slot w new.machine) new.residents new.remembered new.hasher (record { inspections = new.counts.inspections; accesses = new.counts.accesses + (links - new.counts.accesses); questions = new.counts.questions + (keys - new.counts.questions) }) ≡ with_slot key build hash k w old
-  lent links keys is_links is_keys w = state-from _ _ _ _ _ _ _ _ _ _ (taken.writes w) residents remembered same
-      (counts-from _ _ _ _ _ _ spent.inspections (omega (arith, is_links, spent.accesses.1)) (omega (arith, is_keys, spent.questions.1)))
+      → cache_state (stored slot w new.machine) new.residents new.remembered new.hasher
+      (record { inspections = new.counts.inspections; accesses = new.counts.accesses + (links - new.counts.accesses); questions = new.counts.questions + (keys - new.counts.questions) })
+      ≡ with_slot key build hash k w old
+  lent links keys is_links is_keys w = state-from (taken.writes w) residents remembered same
+      (counts-from spent.inspections (omega (arith, is_links, spent.accesses.1)) (omega (arith, is_keys, spent.questions.1)))
+
+-- counts at their bounds are those of a put
+pub charged-costs : {K V S H : Type 0} (key : HashMembers K) (build : builder.Ghosts S H) (hash : hasher.Ghosts H) (k : K) (w : V) (old : CacheState K V S) → Costs key build hash (Put k w) old (with_slot key build hash k w old)
+charged-costs key build hash k w old = costs-of key build hash (Put k w) old (with_slot key build hash k w old) refl (record { inspections = refl; accesses = (omega arith, omega arith); questions = (omega arith, omega arith) })
 
 -- what was taken and is not written to is as it was taken
-pub unwritten : {K V : Type 0} (is : K → Bool) (key : K) (made : V → Type 0) (old new : Machine K V) (slot : ℕ) (t : Takes is key made old slot new) → put is key t.value old ≡ slotted is key t.value old
+pub unwritten : {K V : Type 0} (is : K → Bool) (key : K) (made : V → Type 0) (old new : Machine K V) (slot : ℕ) (t : Takes is key made old slot new)
+    → put is key t.value old ≡ slotted is key t.value old
 unwritten is key made old new slot t = sym (t.writes t.value) ∙ stored_same new slot t.value t.there ∙ t.becomes

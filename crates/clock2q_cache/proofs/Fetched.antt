@@ -1,18 +1,18 @@
 -- A key that is hit, or else inserted with a value that was made.
-use Rattle.std.proofs.Common.{◌≡◌, ℕ, zero, suc, ◌≤◌, ◌<◌, Bool, true, List, [], ◌∷◌, ◌++◌, length, inl, inr, Some, None, refl, sym, ap, ◌∙◌, subst, arith, length-append}
+use Rattle.std.proofs.Common.{◌≡◌, ℕ, zero, suc, ◌≤◌, Bool, true, List, [], ◌∷◌, ◌++◌, length, inl, inr, Some, None, refl, sym, ap, ◌∙◌, subst, arith, length-append}
 use Rattle.std.specs.Prelude.{is_some, if◌then◌else◌, nat_lt, slice_get, slice_set}
 use Rattle.std.specs.Cmp.{IsEquivalence}
 use Rattle.std.specs.Option.{UnwrapsOrElse, option_and_then}
 use Rattle.std.proofs.lemmas.Bool.{cases_lt, lt-ltb, le-ltb}
 use Rattle.std.proofs.lemmas.Option.{slice_get_within}
 use Rattle.std.proofs.Math.ListN.{length-set}
-use Rattle.clock2q_cache.specs.Machine.{Machine, slot_of, value_of, hit, stored, inserted, placement}
-use Rattle.clock2q_cache.specs.Steps.{put, fetched, replaced_at}
-use Rattle.clock2q_cache.specs.Cache.{IsWhole}
+use Rattle.clock2q_machine.specs.Machine.{Machine, slot_of, value_of, hit, stored, inserted, placement}
+use Rattle.clock2q_machine.specs.Steps.{put, fetched, replaced_at}
+use Rattle.clock2q_machine.specs.Whole.{IsWhole}
 use Rattle.clock2q_cache.specs.Closures.{Fetches}
-use Rattle.clock2q_cache.proofs.MachineInvariant.{resident_made}
-use Rattle.clock2q_cache.proofs.Standing.{get-within}
-use Rattle.clock2q_cache.proofs.Laws.{slot_at_most, inserted_value}
+use Rattle.clock2q_machine.proofs.MachineInvariant.{resident_made}
+use Rattle.clock2q_machine.proofs.Standing.{get-within}
+use Rattle.clock2q_machine.proofs.Laws.{slot_at_most, inserted_value}
 
 module _ {V : Type 0} where
   set_again : (values : List V) (slot : ℕ) (v w : V) → slice_set (slice_set values slot v) slot w ≡ slice_set values slot w
@@ -47,7 +47,8 @@ pub stored_same : {K V : Type 0} (m : Machine K V) (slot : ℕ) (v : V) → slic
 stored_same m slot v there = rw (lt-ltb slot (length m.values) (slice_get_within m.values slot v there)) (ap (λ vs. record m { values = vs }) (set_same m.values slot v there))
 
 -- so what was fetched and is not written to is as it was fetched
-pub unwritten : {K V : Type 0} (is : K → Bool) (key : K) (made : V → Type 0) (old new : Machine K V) (slot : ℕ) (f : Fetches is key made old slot new) → put is key f.value old ≡ fetched is key f.value old
+pub unwritten : {K V : Type 0} (is : K → Bool) (key : K) (made : V → Type 0) (old new : Machine K V) (slot : ℕ) (f : Fetches is key made old slot new)
+    → put is key f.value old ≡ fetched is key f.value old
 unwritten is key made old new slot f = sym (f.writes f.value) ∙ stored_same new slot f.value f.there ∙ f.becomes
 
 module _ {K V : Type 0} (eq : K → K → Bool) (laws : IsEquivalence eq) (m : Machine K V) (h : IsWhole eq m) (key : K) (made : V → Type 0) where

@@ -1,5 +1,5 @@
 -- Slots that were never made are made and free.
-use Rattle.std.proofs.Common.{◌≡◌, ℕ, zero, suc, ◌+◌, ◌-◌, ◌<◌, Bool, true, false, ◌&&◌, ◌||◌, Some, None, slice_get, List, [], ◌∷◌, ◌++◌, map, length, reverse, inl, inr, refl, sym, ap, ◌∙◌, subst, arith, length-append}
+use Rattle.std.proofs.Common.{◌≡◌, ℕ, zero, suc, ◌+◌, ◌-◌, ◌<◌, Bool, true, false, ◌&&◌, Some, None, slice_get, List, [], ◌∷◌, ◌++◌, map, length, reverse, inl, inr, refl, sym, ap, ◌∙◌, subst, arith, length-append}
 use Rattle.std.specs.Cmp.{IsEquivalence}
 use Rattle.std.specs.Fn.{Mut, Called}
 use Rattle.std.specs.List.{FoldsTo, AllByRecursion, range_with_len}
@@ -13,15 +13,15 @@ use Rattle.clock2q_queues.specs.Keys.{KeyPlaces, entry, hash_at, key_at}
 use Rattle.clock2q_queues.specs.Queues.{QueueState, slots_of}
 use Rattle.clock2q_queues.specs.History.{Remembered}
 use Rattle.clock2q_queues.proofs.Rings.{has-append, below_of}
-use Rattle.clock2q_cache.specs.Closures.{Fills}
-use Rattle.clock2q_cache.specs.Shares.{Shares}
-use Rattle.clock2q_cache.specs.Machine.{Machine, prefilled}
-use Rattle.clock2q_cache.specs.Cache.{IsWhole}
+use Rattle.clock2q_cache.specs.Closures.{FillsUp}
+use Rattle.clock2q_machine.specs.Shares.{Shares}
+use Rattle.clock2q_machine.specs.Machine.{Machine, prefilled}
+use Rattle.clock2q_machine.specs.Whole.{IsWhole}
 use Rattle.clock2q_cache.specs.CacheFields.{machine_of, places_of, with_keys_small, with_keys_main, IsStored, IsKept}
 use Rattle.clock2q_cache.proofs.WithKeys.{small-agree, main-agree}
 use Rattle.clock2q_cache.proofs.Stored.{length-values, below-has}
 use Rattle.clock2q_cache.proofs.CacheInvariant.{sized-same}
-use Rattle.clock2q_cache.proofs.MachineInvariant.{lasting-prefilled}
+use Rattle.clock2q_machine.proofs.MachineInvariant.{lasting-prefilled}
 
 -- Lists
 
@@ -45,15 +45,13 @@ freed-more free slot to h =
     append_assoc free (reverse (range_with_len (slot + 1) (to - (slot + 1)))) (slot ∷ [])
     ∙ ap (λ z. free ++ z) (sym (ap (λ z. reverse (range_with_len slot z)) n ∙ reverse-append (slot ∷ []) (range_with_len (slot + 1) (to - (slot + 1)))))
 
-pub freed-none : (free : List ℕ) (to : ℕ) → free ≡ free ++ reverse (range_with_len to (to - to))
-freed-none free to = let n : to - to ≡ 0 = omega arith in sym (ap (λ z. free ++ reverse (range_with_len to z)) n ∙ append-nil free)
+module _ {F K V : Type 0} {g : Mut F Unit V} {f : F} {hash : K → ℕ} {old : List (Entry K V)} where
+  pub FillsUp-none : {n : ℕ} → n ≡ length old → FillsUp g f hash n old old f
+  FillsUp-none h = record { added = []; is = sym (append-nil old); as_many = omega (arith, h); hashed = tt; called = refl }
 
-module _ {F K V : Type 0} (g : Mut F Unit V) (f : F) (hash : K → ℕ) (old : List (Entry K V)) where
-  pub fills-none : (n : ℕ) → n ≡ length old → Fills g f hash n old old f
-  fills-none n h = record { added = []; is = sym (append-nil old); as_many = omega (arith, h); hashed = tt; called = refl }
-
-  pub fills-more : (n : ℕ) (now : List (Entry K V)) (p : F) (h : ℕ) (key : K) (value : V) (last : F) → Fills g f hash n old now p → h ≡ hash key → Called g p tt value last → Fills g f hash (n + 1) old (now ++ entry h key value ∷ []) last
-  fills-more n now p h key value last s is called = record {
+  pub FillsUp-more : {n : ℕ} {now : List (Entry K V)} {p : F} {h : ℕ} {key : K} {value : V} {last : F} → FillsUp g f hash n old now p
+      → h ≡ hash key → Called g p tt value last → FillsUp g f hash (n + 1) old (now ++ entry h key value ∷ []) last
+  FillsUp-more {n} {now} {p} {h} {key} {value} {last} s is called = record {
     added = s.added ++ entry h key value ∷ [];
     is = ap (λ z. z ++ entry h key value ∷ []) s.is ∙ append_assoc old s.added (entry h key value ∷ []);
     as_many = omega (arith, s.as_many, length-append s.added (entry h key value ∷ []));
@@ -63,8 +61,8 @@ module _ {F K V : Type 0} (g : Mut F Unit V) (f : F) (hash : K → ℕ) (old : L
   }
 
   -- as many as there are
-  pub fills-length : (n : ℕ) (now : List (Entry K V)) (p : F) → Fills g f hash n old now p → length now ≡ n
-  fills-length n now p s = ap (λ (z : List (Entry K V)). length z) s.is ∙ length-append old s.added ∙ s.as_many
+  pub FillsUp-length : {n : ℕ} {now : List (Entry K V)} {p : F} → FillsUp g f hash n old now p → length now ≡ n
+  FillsUp-length s = ap (λ (z : List (Entry K V)). length z) s.is ∙ length-append old s.added ∙ s.as_many
 
 -- An index stays one where entries come behind its places.
 module _ {K V : Type 0} (entries added : List (Entry K V)) where
@@ -90,8 +88,8 @@ module _ {K V : Type 0} (entries added : List (Entry K V)) where
         | inr e ↦ rw e refl
       ]
 
-module _ {K V : Type 0} (eq : K → K → Bool) (laws : IsEquivalence eq) (hash : K → ℕ) (shares : Shares) (q : QueueState) (h : Remembered K) (index : List (List (ℕ × ℕ))) (keys : KeyPlaces K V) (free : List ℕ) (room : ℕ)
-    (kept : IsKept eq hash shares q h index keys free room)
+module _ {K V : Type 0} {eq : K → K → Bool} {hash : K → ℕ} {shares : Shares} {q : QueueState} {h : Remembered K} {index : List (List (ℕ × ℕ))} {keys : KeyPlaces K V} {free : List ℕ} {room : ℕ}
+    (laws : IsEquivalence eq) (kept : IsKept eq hash shares q h index keys free room)
     (added : List (Entry K V)) (keys' : KeyPlaces K V) (free' : List ℕ) (room' : ℕ)
     (is : keys'.entries ≡ keys.entries ++ added) (as_many : length keys.entries + length added ≡ shares.capacity)
     (freed : free' ≡ free ++ reverse (range_with_len (length keys.entries) (shares.capacity - length keys.entries))) where

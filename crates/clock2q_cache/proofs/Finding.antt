@@ -1,23 +1,22 @@
 -- What a look-up through the index finds is the machine's slot of the key, and what a hit there makes of the machine.
-use Rattle.std.proofs.Common.{◌≡◌, ℕ, zero, suc, ◌+◌, ◌-◌, ◌*◌, ◌^◌, ◌<◌, ◌≤◌, ◌==◌, ◌⊎◌, Bool, true, false, not, ◌||◌, ◌&&◌, cond, eqb, Option, Some, None, slice_get, List, [], ◌∷◌, ◌++◌, map, length, take, drop, reverse, inl, inr, refl, sym, ap, ◌∙◌, subst, arith, eqb-true, eq-eqb, ne_eqb, length-append}
-use Rattle.std.specs.Prelude.{if◌then◌else◌, nat_lt, is_some, slice_set, IfSome}
+use Rattle.std.proofs.Common.{◌≡◌, ℕ, zero, suc, ◌+◌, ◌<◌, ◌≤◌, ◌⊎◌, Bool, true, false, ◌&&◌, cond, eqb, Option, Some, None, slice_get, List, [], ◌∷◌, ◌++◌, map, length, inl, inr, refl, sym, ap, ◌∙◌, subst, arith, eqb-true}
+use Rattle.std.specs.Prelude.{IfSome}
 use Rattle.std.specs.Cmp.{IsEquivalence}
 use Rattle.std.specs.Option.{option_map}
-use Rattle.std.specs.List.{count_by, find, list_any, last_or, cons_option, AllByRecursion}
+use Rattle.std.specs.List.{count_by, find, list_any, cons_option, AllByRecursion}
 use Rattle.std.proofs.lemmas.Bool.{cases_Bool, both_ways, or_cases}
-use Rattle.std.proofs.lemmas.List.Sums.{sum_by-cons, sum_by-append}
-use Rattle.std.proofs.Math.ListN.{length-set}
+use Rattle.std.proofs.lemmas.List.Sums.{sum_by-cons}
 use Rattle.clock2q_handles.specs.Homes.{candidates}
 use Rattle.clock2q_queues.proofs.Booleans.{or_true}
-use Rattle.clock2q_queues.specs.Ages.{Age, is_promoted}
+use Rattle.clock2q_machine.specs.Ages.{Age}
 use Rattle.clock2q_queues.specs.declared.keys.cells.Entry.{Entry}
-use Rattle.clock2q_queues.specs.Rings.{has, AllApart, AllBelow}
-use Rattle.clock2q_queues.specs.Keys.{KeyPlaces, entry, hash_at, key_at, hashed_at, value_at, entries_of, is_key_at, with_value}
-use Rattle.clock2q_queues.specs.Indexes.{IsIndex, AllDistinct, HasHash, has_key}
+use Rattle.clock2q_queues.specs.Rings.{has}
+use Rattle.clock2q_queues.specs.Keys.{KeyPlaces, key_at, hashed_at, entries_of, is_key_at}
+use Rattle.clock2q_queues.specs.Indexes.{AllDistinct, HasHash}
 use Rattle.clock2q_queues.specs.Small.{small_hit_at}
 use Rattle.clock2q_queues.specs.MainRing.{main_hit_at}
 use Rattle.std.specs.Bool.{then_some}
-use Rattle.clock2q_queues.specs.Queues.{QueueState, slots_of, tail_promoted, IsStanding}
+use Rattle.clock2q_queues.specs.Queues.{QueueState, slots_of, IsStanding}
 use Rattle.clock2q_queues.specs.declared.queues.Standing.{Standing}
 use Rattle.clock2q_queues.specs.declared.queues.Standing.TheVariants.{Free, Small, Main}
 use Rattle.clock2q_queues.specs.History.{Remembered}
@@ -25,18 +24,17 @@ use Rattle.clock2q_queues.proofs.Rings.{has-append, has_first, has_later, below_
 use Rattle.clock2q_queues.proofs.Indexes.{candidate_there}
 use Rattle.clock2q_queues.proofs.Entries.{same_place}
 use Rattle.clock2q_queues.proofs.Lookups.{look-up, found_there, not_found}
-use Rattle.clock2q_cache.specs.Shares.{Shares}
-use Rattle.clock2q_cache.specs.Entries as machine
-use Rattle.clock2q_cache.specs.Entries.{SmallEntry, MainEntry}
-use Rattle.clock2q_cache.specs.Machine.{Machine, residents, slot_of, hit, stored}
-use Rattle.clock2q_cache.specs.Steps.{is_at}
-use Rattle.clock2q_cache.specs.Cache.{IsWhole, known_count}
-use Rattle.clock2q_cache.specs.CacheFields.{machine_of, places_of, with_keys_small, with_keys_main, IsStored, IsSized, IsKept}
+use Rattle.clock2q_machine.specs.Shares.{Shares}
+use Rattle.clock2q_machine.specs.Entries as machine
+use Rattle.clock2q_machine.specs.Entries.{SmallEntry, MainEntry}
+use Rattle.clock2q_machine.specs.Machine.{Machine, slot_of, hit}
+use Rattle.clock2q_machine.specs.Steps.{is_at}
+use Rattle.clock2q_machine.specs.Whole.{IsWhole, known_count}
+use Rattle.clock2q_cache.specs.CacheFields.{machine_of, places_of, with_keys_small, with_keys_main, IsStored, IsKept}
 use Rattle.clock2q_cache.proofs.WithKeys.{HaveKeys, have_later, small_with, main_with, small-cons, main-cons, small-hit, main-hit}
-use Rattle.clock2q_cache.proofs.Stored.{entry_there, length-values}
-use Rattle.clock2q_cache.proofs.Slots.{length-places}
+use Rattle.clock2q_cache.proofs.Stored.{length-values}
 use Rattle.clock2q_cache.proofs.CacheInvariant.{small_have, main_have, sized-same}
-use Rattle.clock2q_cache.proofs.Whole.{whole-hit}
+use Rattle.clock2q_machine.proofs.Whole.{whole-hit}
 
 pub all-has : (P : ℕ → Type 0) (xs : List ℕ) → ((t : ℕ) → has t xs ≡ true → P t) → AllByRecursion P xs
 all-has P [] h = tt
@@ -105,29 +103,45 @@ module _ {K V : Type 0} (entries : List (Entry K V)) where
       of (Some e) h = ap (λ z. eq key z) (inner e.key k h)
 
   -- as many keys pass at the slots as in the queues
-  small-counted : (is : K → Bool) (es : List (ℕ × Age)) → HaveKeys (key_at entries) (slots_of es) → count_by (λ (e : ℕ × K). is e.1) (entries_of entries (slots_of es)) ≡ count_by (λ (e : SmallEntry K). is e.key) (with_keys_small (key_at entries) es)
+  small-counted : (is : K → Bool) (es : List (ℕ × Age)) → HaveKeys (key_at entries) (slots_of es)
+      → count_by (λ (e : ℕ × K). is e.1) (entries_of entries (slots_of es)) ≡ count_by (λ (e : SmallEntry K). is e.key) (with_keys_small (key_at entries) es)
   small-counted is [] h = refl
   small-counted is (e ∷ es) h =
       let k = h e.0 (has_first e.0 (slots_of es)) in
       let x = hashed-there e.0 k.0 k.1 in
       ap (λ z. count_by (λ (e : ℕ × K). is e.1) (cons_option z (entries_of entries (slots_of es)))) x.hashed
-      ∙ omega (arith, sum_by-cons (λ (e : ℕ × K). cond (is e.1) 1 0) (x.hash, k.0) (entries_of entries (slots_of es)), sum_by-cons (λ (e : SmallEntry K). cond (is e.key) 1 0) (small_with (key_at entries) e k.0) (with_keys_small (key_at entries) es), small-counted is es (have_later (key_at entries) e.0 (slots_of es) h))
+      ∙ omega (
+        arith,
+        sum_by-cons (λ (e : ℕ × K). cond (is e.1) 1 0) (x.hash, k.0) (entries_of entries (slots_of es)),
+        sum_by-cons (λ (e : SmallEntry K). cond (is e.key) 1 0)
+            (small_with (key_at entries) e k.0) (with_keys_small (key_at entries) es),
+        small-counted is es (have_later (key_at entries) e.0 (slots_of es) h),
+      )
       ∙ sym (ap (λ z. count_by (λ (e : SmallEntry K). is e.key) z) (small-cons (key_at entries) e es k.0 k.1))
 
-  main-counted : (is : K → Bool) (es : List (ℕ × Bool)) → HaveKeys (key_at entries) (slots_of es) → count_by (λ (e : ℕ × K). is e.1) (entries_of entries (slots_of es)) ≡ count_by (λ (e : MainEntry K). is e.key) (with_keys_main (key_at entries) es)
+  main-counted : (is : K → Bool) (es : List (ℕ × Bool)) → HaveKeys (key_at entries) (slots_of es)
+      → count_by (λ (e : ℕ × K). is e.1) (entries_of entries (slots_of es)) ≡ count_by (λ (e : MainEntry K). is e.key) (with_keys_main (key_at entries) es)
   main-counted is [] h = refl
   main-counted is (e ∷ es) h =
       let k = h e.0 (has_first e.0 (slots_of es)) in
       let x = hashed-there e.0 k.0 k.1 in
       ap (λ z. count_by (λ (e : ℕ × K). is e.1) (cons_option z (entries_of entries (slots_of es)))) x.hashed
-      ∙ omega (arith, sum_by-cons (λ (e : ℕ × K). cond (is e.1) 1 0) (x.hash, k.0) (entries_of entries (slots_of es)), sum_by-cons (λ (e : MainEntry K). cond (is e.key) 1 0) (main_with (key_at entries) e k.0) (with_keys_main (key_at entries) es), main-counted is es (have_later (key_at entries) e.0 (slots_of es) h))
+      ∙ omega (
+        arith,
+        sum_by-cons (λ (e : ℕ × K). cond (is e.1) 1 0) (x.hash, k.0) (entries_of entries (slots_of es)),
+        sum_by-cons (λ (e : MainEntry K). cond (is e.key) 1 0) (main_with (key_at entries) e k.0) (with_keys_main (key_at entries) es),
+        main-counted is es (have_later (key_at entries) e.0 (slots_of es) h),
+      )
       ∙ sym (ap (λ z. count_by (λ (e : MainEntry K). is e.key) z) (main-cons (key_at entries) e es k.0 k.1))
 
-  appended-counted : (is : K → Bool) (xs ys : List ℕ) → count_by (λ (e : ℕ × K). is e.1) (entries_of entries (xs ++ ys)) ≡ count_by (λ (e : ℕ × K). is e.1) (entries_of entries xs) + count_by (λ (e : ℕ × K). is e.1) (entries_of entries ys)
+  appended-counted : (is : K → Bool) (xs ys : List ℕ) → count_by (λ (e : ℕ × K). is e.1) (entries_of entries (xs ++ ys))
+      ≡ count_by (λ (e : ℕ × K). is e.1) (entries_of entries xs) + count_by (λ (e : ℕ × K). is e.1) (entries_of entries ys)
   appended-counted is [] ys = omega arith
   appended-counted is (x ∷ xs) ys = of (appended-counted is xs ys) (hashed_at entries x)
     where
-      of : count_by (λ (e : ℕ × K). is e.1) (entries_of entries (xs ++ ys)) ≡ count_by (λ (e : ℕ × K). is e.1) (entries_of entries xs) + count_by (λ (e : ℕ × K). is e.1) (entries_of entries ys) → (o : Option (ℕ × K)) → count_by (λ (e : ℕ × K). is e.1) (cons_option o (entries_of entries (xs ++ ys))) ≡ count_by (λ (e : ℕ × K). is e.1) (cons_option o (entries_of entries xs)) + count_by (λ (e : ℕ × K). is e.1) (entries_of entries ys)
+      of : count_by (λ (e : ℕ × K). is e.1) (entries_of entries (xs ++ ys)) ≡ count_by (λ (e : ℕ × K). is e.1) (entries_of entries xs) + count_by (λ (e : ℕ × K). is e.1) (entries_of entries ys)
+          → (o : Option (ℕ × K)) → count_by (λ (e : ℕ × K). is e.1) (cons_option o (entries_of entries (xs ++ ys)))
+          ≡ count_by (λ (e : ℕ × K). is e.1) (cons_option o (entries_of entries xs)) + count_by (λ (e : ℕ × K). is e.1) (entries_of entries ys)
       of r None = r
       of r (Some e) = omega (arith, r, sum_by-cons (λ (e : ℕ × K). cond (is e.1) 1 0) e (entries_of entries (xs ++ ys)), sum_by-cons (λ (e : ℕ × K). cond (is e.1) 1 0) e (entries_of entries xs))
 
@@ -140,11 +154,13 @@ distinct-once eq laws (e ∷ es) h = (
 )
 
 -- each key has its hash, so equal ones the same
-hashes-same : {K V : Type 0} (eq : K → K → Bool) (hash : K → ℕ) (key : K) (entries : List (Entry K V)) (ps : List ℕ) → ((x y : K) → eq x y ≡ true → hash x ≡ hash y) → AllByRecursion (λ e. e.hash ≡ hash e.key) entries → HasHash eq (hash key) key (entries_of entries ps)
+hashes-same : {K V : Type 0} (eq : K → K → Bool) (hash : K → ℕ) (key : K) (entries : List (Entry K V)) (ps : List ℕ)
+    → ((x y : K) → eq x y ≡ true → hash x ≡ hash y) → AllByRecursion (λ e. e.hash ≡ hash e.key) entries → HasHash eq (hash key) key (entries_of entries ps)
 hashes-same eq hash key entries [] respects a = tt
 hashes-same {K} {V} eq hash key entries (p ∷ ps) respects a = of (hashes-same eq hash key entries ps respects a) entries p a
   where
-    of : HasHash eq (hash key) key (entries_of entries ps) → (es : List (Entry K V)) (t : ℕ) → AllByRecursion (λ e. e.hash ≡ hash e.key) es → HasHash eq (hash key) key (cons_option (hashed_at es t) (entries_of entries ps))
+    of : HasHash eq (hash key) key (entries_of entries ps) → (es : List (Entry K V)) (t : ℕ)
+        → AllByRecursion (λ e. e.hash ≡ hash e.key) es → HasHash eq (hash key) key (cons_option (hashed_at es t) (entries_of entries ps))
     of r [] t b = r
     of r (e ∷ es) zero b = ((λ q. b.0 ∙ sym (respects key e.key q)), r)
     of r (e ∷ es) (suc t) b = of r es t b.1
@@ -169,8 +185,8 @@ slots-main_hit : (slot : ℕ) (es : List (ℕ × Bool)) → slots_of (main_hit_a
 slots-main_hit slot [] = refl
 slots-main_hit slot (e ∷ es) = elim (cases_Bool (eqb e.0 slot)) [ inl q ↦ rw q (ap (λ zs. e.0 ∷ zs) (slots-main_hit slot es)) | inr q ↦ rw q (ap (λ zs. e.0 ∷ zs) (slots-main_hit slot es)) ]
 
-module _ {K V : Type 0} (eq : K → K → Bool) (laws : IsEquivalence eq) (hash : K → ℕ) (shares : Shares) (q : QueueState) (h : Remembered K) (index : List (List (ℕ × ℕ))) (keys : KeyPlaces K V) (free : List ℕ) (room : ℕ)
-    (kept : IsKept eq hash shares q h index keys free room) where
+module _ {K V : Type 0} {eq : K → K → Bool} {hash : K → ℕ} {shares : Shares} {q : QueueState} {h : Remembered K} {index : List (List (ℕ × ℕ))} {keys : KeyPlaces K V} {free : List ℕ} {room : ℕ}
+    (laws : IsEquivalence eq) (kept : IsKept eq hash shares q h index keys free room) where
   abbrev m : Machine K V
   m = machine_of shares q keys.entries h.entries free
 
@@ -179,15 +195,23 @@ module _ {K V : Type 0} (eq : K → K → Bool) (laws : IsEquivalence eq) (hash 
   candidates-there x = all-has (λ place. place < length keys.entries) (candidates index x) (λ t g. (candidate_there index keys.entries (places_of q) x t kept.stored.indexed g).1)
 
   known_at : (is : K → Bool) → count_by (λ (e : ℕ × K). is e.1) (entries_of keys.entries (places_of q)) ≤ known_count is m
-  known_at is = omega (arith, appended-counted keys.entries is (slots_of q.small) (slots_of q.main), small-counted keys.entries is q.small (small_have eq laws hash shares q h index keys free room kept), main-counted keys.entries is q.main (main_have eq laws hash shares q h index keys free room kept))
+  known_at is =
+      omega (
+        arith,
+        appended-counted keys.entries is (slots_of q.small) (slots_of q.main),
+        small-counted keys.entries is q.small (small_have laws kept),
+        main-counted keys.entries is q.main (main_have laws kept),
+      )
 
   pub distinct : AllDistinct eq (entries_of keys.entries (places_of q))
   distinct = distinct-once eq laws (entries_of keys.entries (places_of q)) (λ k. omega (arith, known_at (eq k), kept.whole.keys_once k))
 
   module _ (key : K) where
     slot-among : slot_of (eq key) m ≡ find (is_key_at eq key keys.entries) (places_of q)
-    slot-among = small-found (key_at keys.entries) (eq key) (is_key_at eq key keys.entries) (key-tells keys.entries eq key) q.small (map (λ (e : MainEntry K). (e.key, e.slot)) m.main) (slots_of q.main) (small_have eq laws hash shares q h index keys free room kept)
-        (main-found (key_at keys.entries) (eq key) (is_key_at eq key keys.entries) (key-tells keys.entries eq key) q.main (main_have eq laws hash shares q h index keys free room kept))
+    slot-among =
+        small-found (key_at keys.entries) (eq key) (is_key_at eq key keys.entries) (key-tells keys.entries eq key)
+        q.small (map (λ (e : MainEntry K). (e.key, e.slot)) m.main) (slots_of q.main) (small_have laws kept)
+        (main-found (key_at keys.entries) (eq key) (is_key_at eq key keys.entries) (key-tells keys.entries eq key) q.main (main_have laws kept))
 
     -- what a look-up finds
     pub found : ((x y : K) → eq x y ≡ true → hash x ≡ hash y) → (hsh : ℕ) → hsh ≡ hash key → find (is_key_at eq key keys.entries) (candidates index hsh) ≡ slot_of (eq key) m
@@ -212,7 +236,9 @@ module _ {K V : Type 0} (eq : K → K → Bool) (laws : IsEquivalence eq) (hash 
         nothing false b h = refl
 
         of : (o : Option ℕ) → slot_of (eq key) m ≡ o → is_at slot o ≡ (has slot (places_of q) && is_key_at eq key keys.entries slot)
-        of None none = nothing (has slot (places_of q)) (is_key_at eq key keys.entries slot) (λ there it. both_ways (is_key_at eq key keys.entries slot) (not_found (is_key_at eq key keys.entries) (places_of q) (sym none ∙ slot-among) slot there) it)
+        of None none =
+            nothing (has slot (places_of q)) (is_key_at eq key keys.entries slot)
+            (λ there it. both_ways (is_key_at eq key keys.entries slot) (not_found (is_key_at eq key keys.entries) (places_of q) (sym none ∙ slot-among) slot there) it)
         of (Some p) some =
             let f = found-there p some in
             elim (cases_Bool (eqb p slot)) [
@@ -221,7 +247,8 @@ module _ {K V : Type 0} (eq : K → K → Bool) (laws : IsEquivalence eq) (hash 
                   let a : has slot (places_of q) ≡ true = subst (λ z. has z (places_of q) ≡ true) same f.0 in
                   let b : is_key_at eq key keys.entries slot ≡ true = subst (λ z. is_key_at eq key keys.entries z ≡ true) same f.1 in
                   rw (e, a, b) refl
-              | inr e ↦ e ∙ nothing (has slot (places_of q)) (is_key_at eq key keys.entries slot) (λ there it. both_ways (eqb p slot) e (same_place eq laws key keys.entries (places_of q) distinct p slot f.0 there f.1 it))
+              | inr e ↦ e ∙ nothing (has slot (places_of q)) (is_key_at eq key keys.entries slot)
+                  (λ there it. both_ways (eqb p slot) e (same_place eq laws key keys.entries (places_of q) distinct p slot f.0 there f.1 it))
             ]
 
     pub at-places : (slot : ℕ) → has slot (places_of q) ≡ true → is_key_at eq key keys.entries slot ≡ is_at slot (slot_of (eq key) m)
@@ -245,7 +272,8 @@ module _ {K V : Type 0} (eq : K → K → Bool) (laws : IsEquivalence eq) (hash 
         of None h = absurd (both_ways false refl h)
         of (Some p) h = ap (λ z. Some z) (eqb-true p slot h)
 
-    pub found-at : (slot : ℕ) (b : Bool) → b ≡ is_at slot (slot_of (eq key) m) → IfSome (then_some b slot) (λ found. slot_of (eq key) m ≡ Some found) × IfSome (then_some b slot) (λ found. found < length m.values)
+    pub found-at : (slot : ℕ) (b : Bool) → b ≡ is_at slot (slot_of (eq key) m)
+        → IfSome (then_some b slot) (λ found. slot_of (eq key) m ≡ Some found) × IfSome (then_some b slot) (λ found. found < length m.values)
     found-at slot true is = (slot-at slot (sym is), found-made (Some slot) (sym (slot-at slot (sym is))))
     found-at slot false is = (tt, tt)
 
@@ -269,13 +297,14 @@ module _ {K V : Type 0} (eq : K → K → Bool) (laws : IsEquivalence eq) (hash 
       hit-machine q' small main =
           let s : with_keys_small (key_at keys.entries) q'.small ≡ machine.small_hit (eq key) m.small =
           ap (λ z. with_keys_small (key_at keys.entries) z) small ∙ sym (small-hit (key_at keys.entries) (eq key) slot q.small
-          (λ t k g at. key-there k t (has-append t (slots_of q.small) (slots_of q.main) ∙ rw g refl) at) (small_have eq laws hash shares q h index keys free room kept)) in
+          (λ t k g at. key-there k t (has-append t (slots_of q.small) (slots_of q.main) ∙ rw g refl) at) (small_have laws kept)) in
           let t : with_keys_main (key_at keys.entries) q'.main ≡ machine.main_hit (eq key) m.main =
           ap (λ z. with_keys_main (key_at keys.entries) z) main ∙ sym (main-hit (key_at keys.entries) (eq key) slot q.main
-          (λ t k g at. key-there k t (has-append t (slots_of q.small) (slots_of q.main) ∙ rw g (or_true (has t (slots_of q.small)))) at) (main_have eq laws hash shares q h index keys free room kept)) in
+          (λ t k g at. key-there k t (has-append t (slots_of q.small) (slots_of q.main) ∙ rw g (or_true (has t (slots_of q.small)))) at) (main_have laws kept)) in
           cc
 
-      pub kept-hit : (q' : QueueState) → q'.small ≡ small_hit_at slot q.small → q'.main ≡ main_hit_at slot q.main → q'.slots ≡ q.slots → q'.window ≡ q.window → IsKept eq hash shares q' h index keys free room
+      pub kept-hit : (q' : QueueState) → q'.small ≡ small_hit_at slot q.small → q'.main ≡ main_hit_at slot q.main
+          → q'.slots ≡ q.slots → q'.window ≡ q.window → IsKept eq hash shares q' h index keys free room
       kept-hit q' small main slots window = record {
         whole = subst (IsWhole eq) (sym (hit-machine q' small main)) (whole-hit eq m kept.whole (eq key));
         stored = subst (λ z. IsStored hash index keys.entries z) (sym places) kept.stored;

@@ -5,7 +5,7 @@ use Rattle.std.specs.List.{list_any, zip, filter_map, cons_option, AllByRecursio
 use Rattle.std.proofs.lemmas.Bool.{cases_Bool}
 use Rattle.std.proofs.lemmas.List.{length-map}
 use Rattle.std.specs.Cmp.{IsEquivalence}
-use Rattle.clock2q_queues.specs.Ages.{Age}
+use Rattle.clock2q_machine.specs.Ages.{Age}
 use Rattle.clock2q_queues.specs.declared.keys.cells.Entry.{Entry}
 use Rattle.clock2q_queues.specs.Rings.{has, AllBelow}
 use Rattle.clock2q_queues.specs.Keys.{KeyPlaces, key_at, hash_at, hashed_at, entries_of}
@@ -13,9 +13,9 @@ use Rattle.clock2q_queues.specs.Indexes.{IsIndex, is_named, is_alike}
 use Rattle.clock2q_queues.specs.Queues.{QueueState, slots_of}
 use Rattle.clock2q_queues.specs.History.{Remembered, IsWholeHistory}
 use Rattle.clock2q_queues.proofs.Rings.{has_first}
-use Rattle.clock2q_cache.specs.Entries.{SmallEntry, MainEntry}
-use Rattle.clock2q_cache.specs.Shares.{Shares}
-use Rattle.clock2q_cache.specs.Machine.{residents}
+use Rattle.clock2q_machine.specs.Entries.{SmallEntry, MainEntry}
+use Rattle.clock2q_machine.specs.Shares.{Shares}
+use Rattle.clock2q_machine.specs.Machine.{residents}
 use Rattle.clock2q_cache.specs.CacheFields.{machine_of, places_of, with_keys_small, with_keys_main, IsKept}
 use Rattle.clock2q_cache.specs.Indexed.{HasPlaces}
 use Rattle.clock2q_cache.proofs.WithKeys.{HaveKeys, have_later, small-cons, main-cons}
@@ -107,7 +107,8 @@ module _ {K V : Type 0} (hash : K → ℕ) (entries : List (Entry K V)) where
         elim (cases_Bool (eqb place s)) [
           | inl is ↦
               let e : place ≡ s = eqb-true place s is in
-              let n : is_named index entries x place ≡ is_alike index x (hash k) = ap (λ z. elim (hash_at entries z) [ None ↦ false | Some y ↦ is_alike index x y ]) e ∙ ap (λ o. elim o [ None ↦ false | Some y ↦ is_alike index x y ]) (hash-of s (hash k) k a.0.1) in
+              let n : is_named index entries x place ≡ is_alike index x (hash k) =
+              ap (λ z. elim (hash_at entries z) [ None ↦ false | Some y ↦ is_alike index x y ]) e ∙ ap (λ o. elim o [ None ↦ false | Some y ↦ is_alike index x y ]) (hash-of s (hash k) k a.0.1) in
               let rest = list_any (λ e. (place == e.1) && is_alike index x (hash e.0)) (paired (key_at entries) ss) in
               ap (λ b. (b || has place ss) && is_named index entries x place) is ∙ n ∙ absorb (is_alike index x (hash k)) (has place ss)
               ∙ ap (λ z. is_alike index x (hash k) || (has place ss && z)) (sym n) ∙ ap (λ z. is_alike index x (hash k) || z) later
@@ -142,7 +143,8 @@ module _ {K V : Type 0} (hash : K → ℕ) (entries : List (Entry K V)) where
   told [] many a = record { stand = tt; zipped = refl }
   told (s ∷ ss) many a = of (hashed_at entries s) refl (λ n b. told ss n b) many a
     where
-      of : (o : Option (ℕ × K)) → hashed_at entries s ≡ o → (length (entries_of entries ss) ≡ length ss → AllByRecursion (λ (e : ℕ × K). e.0 ≡ hash e.1) (entries_of entries ss) → Told ss) → length (cons_option o (entries_of entries ss)) ≡ suc (length ss) → AllByRecursion (λ (e : ℕ × K). e.0 ≡ hash e.1) (cons_option o (entries_of entries ss)) → Told (s ∷ ss)
+      of : (o : Option (ℕ × K)) → hashed_at entries s ≡ o → (length (entries_of entries ss) ≡ length ss → AllByRecursion (λ (e : ℕ × K). e.0 ≡ hash e.1) (entries_of entries ss) → Told ss)
+          → length (cons_option o (entries_of entries ss)) ≡ suc (length ss) → AllByRecursion (λ (e : ℕ × K). e.0 ≡ hash e.1) (cons_option o (entries_of entries ss)) → Told (s ∷ ss)
       of None is next many a = absurd (omega (arith, many, entries_within ss))
       of (Some e) is next many a =
           let later = next (omega (arith, many)) a.1 in
@@ -152,17 +154,19 @@ module _ {K V : Type 0} (hash : K → ℕ) (entries : List (Entry K V)) where
                 ∙ ap (λ zs. (e.1, s) ∷ zs) later.zipped ∙ sym (paired-cons (key_at entries) s ss e.1 (key-of s e.0 e.1 is));
           }
 
-module _ {K V : Type 0} (eq : K → K → Bool) (laws : IsEquivalence eq) (hash : K → ℕ) (shares : Shares) (q : QueueState) (h : Remembered K) (index : List (List (ℕ × ℕ))) (keys : KeyPlaces K V) (free : List ℕ) (room : ℕ) (kept : IsKept eq hash shares q h index keys free room) where
+module _ {K V : Type 0} {eq : K → K → Bool} {hash : K → ℕ} {shares : Shares} {q : QueueState} {h : Remembered K} {index : List (List (ℕ × ℕ))} {keys : KeyPlaces K V} {free : List ℕ} {room : ℕ}
+    (laws : IsEquivalence eq) (kept : IsKept eq hash shares q h index keys free room) where
   -- the residents are the keys at the slots in use
   pub residents-paired : residents (machine_of shares q keys.entries h.entries free) ≡ paired (key_at keys.entries) (places_of q)
   residents-paired =
-      let main = main-paired (key_at keys.entries) q.main (main_have eq laws hash shares q h index keys free room kept) in
-      small-paired (key_at keys.entries) q.small _ (slots_of q.main) (small_have eq laws hash shares q h index keys free room kept) main
+      let main = main-paired (key_at keys.entries) q.main (main_have laws kept) in
+      small-paired (key_at keys.entries) q.small _ (slots_of q.main) (small_have laws kept) main
 
   -- the index of the residents
   pub residents-have : HasPlaces hash index (residents (machine_of shares q keys.entries h.entries free))
   residents-have =
-      subst (λ z. HasPlaces hash index z) (sym residents-paired) (has-places hash keys.entries index (places_of q) (stored_stand hash keys.entries (places_of q) kept.stored.made kept.stored.hashed) kept.stored.indexed)
+      subst (λ z. HasPlaces hash index z) (sym residents-paired)
+      (has-places hash keys.entries index (places_of q) (stored_stand hash keys.entries (places_of q) kept.stored.made kept.stored.hashed) kept.stored.indexed)
 
   -- the index of the history
   pub record Remembers : Type 0 where
@@ -176,5 +180,7 @@ module _ {K V : Type 0} (eq : K → K → Bool) (laws : IsEquivalence eq) (hash 
       let t = told hash w.0 taken (ap (λ (z : List (ℕ × K)). length z) (sym w.1) ∙ w.2) (subst (λ z. AllByRecursion (λ (e : ℕ × K). e.0 ≡ hash e.1) z) w.1 kept.hashed) in
       record {
         as_many = sym w.2 ∙ sym (length-map h.entries (λ (e : ℕ × K). e.1));
-        have = subst (λ z. HasPlaces hash h.places.index z) (sym (ap (λ (z : List (ℕ × K)). zip (map (λ (e : ℕ × K). e.1) z) taken) w.1 ∙ t.zipped)) (has-places hash w.0 h.places.index taken t.stand w.3);
+        have =
+            subst (λ z. HasPlaces hash h.places.index z) (sym (ap (λ (z : List (ℕ × K)). zip (map (λ (e : ℕ × K). e.1) z) taken) w.1 ∙ t.zipped))
+            (has-places hash w.0 h.places.index taken t.stand w.3);
       }

@@ -1,5 +1,5 @@
 -- What the insertion of a key spends.
-use Rattle.std.proofs.Common.{◌≡◌, ℕ, ◌+◌, ◌<◌, ◌≤◌, ◌==◌, Bool, true, false, not, ◌&&◌, List, [], ◌∷◌, length, Option, Some, None, refl, ap, sym, ◌∙◌, subst, arith, eq-eqb, ne_eqb}
+use Rattle.std.proofs.Common.{◌≡◌, ℕ, ◌+◌, ◌<◌, ◌≤◌, ◌==◌, Bool, true, false, not, ◌&&◌, List, [], ◌∷◌, length, Option, Some, None, refl, ap, sym, ◌∙◌, arith, eq-eqb, ne_eqb}
 use Rattle.std.specs.Prelude.{if◌then◌else◌, is_some, IfSome}
 use Rattle.std.specs.List.{list_any, last_or}
 use Rattle.std.specs.Cmp.{IsEquivalence}
@@ -12,25 +12,26 @@ use Rattle.std.specs.declared.hash.Hasher as hasher
 use Rattle.std.specs.declared.hash.BuildHasher as builder
 use Rattle.std.specs.HashMap.Lent.{HashMembers}
 use Rattle.clock2q_handles.specs.Homes.{candidates}
-use Rattle.clock2q_queues.specs.Ages.{is_promoted}
-use Rattle.clock2q_queues.proofs.Joining.{last_some}
-use Rattle.clock2q_cache.specs.Shares.{Shares, main_share}
-use Rattle.clock2q_cache.specs.Entries as machine
-use Rattle.clock2q_cache.specs.Entries.{SmallEntry}
-use Rattle.clock2q_cache.specs.Machine.{Machine, slot_of, vacancy, goes_to_main, forgotten}
-use Rattle.clock2q_cache.specs.Bounds.{goes_on, takes_victim, inspections_for}
+use Rattle.clock2q_machine.specs.Ages.{is_promoted}
+use Rattle.clock2q_machine.proofs.Whole.{last_some}
+use Rattle.clock2q_machine.specs.Shares.{Shares, main_share}
+use Rattle.clock2q_machine.specs.Entries as machine
+use Rattle.clock2q_machine.specs.Entries.{SmallEntry}
+use Rattle.clock2q_machine.specs.Machine.{Machine, slot_of, vacancy, goes_to_main, forgotten}
+use Rattle.clock2q_machine.specs.Bounds.{goes_on, takes_victim, inspections_for}
 use Rattle.clock2q_cache.specs.Insertions.{placed_inspections, main_inspections, small_inspections}
 use Rattle.clock2q_cache.specs.CacheFields.{machine_of, IsKept, counts_of}
 use Rattle.clock2q_cache.specs.CacheState.{CacheState, Counts}
-use Rattle.clock2q_cache.specs.Costs.{Spends, alike}
+use Rattle.clock2q_cache.specs.Costs.{Spends, accesses_for, alike}
 use Rattle.clock2q_cache.specs.Hashes.{hash_of}
 use Rattle.clock2q_cache.proofs.WithKeys.{main-inspections}
 use Rattle.clock2q_cache.proofs.CacheInvariant.{main_have}
-use Rattle.clock2q_cache.proofs.Whole.{none_is}
+use Rattle.clock2q_machine.proofs.Whole.{none_is}
 
 module _ {K V : Type 0} (q : QueueState) (h : Remembered K) (keys : KeyPlaces K V) where
   -- a key that joins a queue
-  pub joined-spends : (q' : QueueState) (keys' : KeyPlaces K V) (least most : ℕ) → q'.inspections ≡ q.inspections → Rises least most q.accesses q'.accesses → most ≤ 28 → keys'.questions ≡ keys.questions
+  pub joined-spends : (q' : QueueState) (keys' : KeyPlaces K V) (least most : ℕ) → q'.inspections ≡ q.inspections
+      → Rises least most q.accesses q'.accesses → most ≤ 28 → keys'.questions ≡ keys.questions
       → Spends 0 28 0 (counts_of q h keys) (counts_of q' h keys')
   joined-spends q' keys' least most looks links few asked = record {
     inspections = omega (arith, looks);
@@ -39,7 +40,8 @@ module _ {K V : Type 0} (q : QueueState) (h : Remembered K) (keys : KeyPlaces K 
   }
 
   -- one that takes the slot of Small's tail, which goes out
-  pub evicted-spends : (q1 q2 : QueueState) (h' : Remembered K) (keys' : KeyPlaces K V) → q1.inspections ≡ q.inspections → Rises 0 7 q.accesses q1.accesses → q2.inspections ≡ q1.inspections → Rises 3 10 q1.accesses q2.accesses
+  pub evicted-spends : (q1 q2 : QueueState) (h' : Remembered K) (keys' : KeyPlaces K V) → q1.inspections ≡ q.inspections
+      → Rises 0 7 q.accesses q1.accesses → q2.inspections ≡ q1.inspections → Rises 3 10 q1.accesses q2.accesses
       → Rises 0 8 h.accesses h'.accesses → h'.questions ≡ h.questions → keys'.questions ≡ keys.questions → Spends 0 28 0 (counts_of q h keys) (counts_of q2 h' keys')
   evicted-spends q1 q2 h' keys' looks links looks2 links2 pushed asked asked2 = record {
     inspections = omega (arith, looks, looks2);
@@ -47,16 +49,17 @@ module _ {K V : Type 0} (q : QueueState) (h : Remembered K) (keys : KeyPlaces K 
     questions = (omega (arith, asked, asked2), omega (arith, asked, asked2));
   }
 
-module _ {K V : Type 0} (eq : K → K → Bool) (laws : IsEquivalence eq) (hash : K → ℕ) (shares : Shares) (q : QueueState) (h : Remembered K) (index : List (List (ℕ × ℕ))) (keys : KeyPlaces K V) (free : List ℕ) (room : ℕ)
-    (kept : IsKept eq hash shares q h index keys free room) where
+module _ {K V : Type 0} {eq : K → K → Bool} {hash : K → ℕ} {shares : Shares} {q : QueueState} {h : Remembered K} {index : List (List (ℕ × ℕ))} {keys : KeyPlaces K V} {free : List ℕ} {room : ℕ}
+    (laws : IsEquivalence eq) (kept : IsKept eq hash shares q h index keys free room) where
   abbrev m : Machine K V
   m = machine_of shares q keys.entries h.entries free
 
   looked : machine.inspections m.main ≡ inspections q.main
-  looked = main-inspections (key_at keys.entries) q.main (main_have eq laws hash shares q h index keys free room kept)
+  looked = main-inspections (key_at keys.entries) q.main (main_have laws kept)
 
   -- one that takes the slot of Main's victim
-  pub replaced-spends : (q1 q2 : QueueState) (keys' : KeyPlaces K V) → q1.inspections ≡ q.inspections + inspections q.main → q1.accesses ≡ q.accesses + inspections q.main + 5 → q2.inspections ≡ q1.inspections → Rises 1 6 q1.accesses q2.accesses
+  pub replaced-spends : (q1 q2 : QueueState) (keys' : KeyPlaces K V) → q1.inspections ≡ q.inspections + inspections q.main
+      → q1.accesses ≡ q.accesses + inspections q.main + 5 → q2.inspections ≡ q1.inspections → Rises 1 6 q1.accesses q2.accesses
       → keys'.questions ≡ keys.questions → Spends (machine.inspections m.main) (machine.inspections m.main + 28) 0 (counts_of q h keys) (counts_of q2 h keys')
   replaced-spends q1 q2 keys' looks links looks2 links2 asked = record {
     inspections = omega (arith, looked, looks, looks2);
@@ -66,7 +69,8 @@ module _ {K V : Type 0} (eq : K → K → Bool) (laws : IsEquivalence eq) (hash 
 
   -- one that takes the slot of Main's victim while Small's tail goes on
   pub promoted-spends : (q1 q2 q3 q4 : QueueState) (keys' : KeyPlaces K V) → q1.inspections ≡ q.inspections + inspections q.main → q1.accesses ≡ q.accesses + inspections q.main + 5
-      → q2.inspections ≡ q1.inspections → Rises 0 7 q1.accesses q2.accesses → q3.inspections ≡ q2.inspections → Rises 1 6 q2.accesses q3.accesses → q4.inspections ≡ q3.inspections → Rises 3 10 q3.accesses q4.accesses
+      → q2.inspections ≡ q1.inspections → Rises 0 7 q1.accesses q2.accesses → q3.inspections ≡ q2.inspections
+      → Rises 1 6 q2.accesses q3.accesses → q4.inspections ≡ q3.inspections → Rises 3 10 q3.accesses q4.accesses
       → keys'.questions ≡ keys.questions → Spends (machine.inspections m.main) (machine.inspections m.main + 28) 0 (counts_of q h keys) (counts_of q4 h keys')
   promoted-spends q1 q2 q3 q4 keys' looks links looks2 links2 looks3 links3 looks4 links4 asked = record {
     inspections = omega (arith, looked, looks, looks2, looks3, looks4);
@@ -93,8 +97,10 @@ module _ {K V : Type 0} (m : Machine K V) where
     of None none at = absurd (no_last m.small some none)
     of (Some tail) is at = sym at
 
-  pub tail-inspections : (b : Bool) → is_some (vacancy m) ≡ false → 0 < length m.small → IfSome (last_or None m.small) (λ tail. b ≡ is_promoted tail.age) → small_inspections m ≡ (if b then machine.inspections m.main else 0)
-  tail-inspections b none some at = ap (λ v. if not v && goes_on (last_or None m.small) then machine.inspections m.main else 0) none ∙ ap (λ v. if v then machine.inspections m.main else 0) (tail-goes b some at)
+  pub tail-inspections : (b : Bool) → is_some (vacancy m) ≡ false → 0 < length m.small
+      → IfSome (last_or None m.small) (λ tail. b ≡ is_promoted tail.age) → small_inspections m ≡ (if b then machine.inspections m.main else 0)
+  tail-inspections b none some at = ap (λ v. if not v && goes_on (last_or None m.small) then machine.inspections m.main else 0) none
+      ∙ ap (λ v. if v then machine.inspections m.main else 0) (tail-goes b some at)
 
   -- into either
   module _ (is : K → Bool) (absent : slot_of is m ≡ None) where
@@ -102,15 +108,19 @@ module _ {K V : Type 0} (m : Machine K V) where
     looks_of = ap (λ o. if is_some o then 0 else (if takes_victim is m then machine.inspections m.main else 0)) absent
 
     pub main-insertion : goes_to_main (list_any is m.history) m ≡ true → inspections_for is m ≡ main_inspections m
-    main-insertion goes = looks_of ∙ ap (λ b. if (if b then length m.main == main_share m.shares else not (is_some (vacancy m)) && goes_on (last_or None m.small)) then machine.inspections m.main else 0) goes
+    main-insertion goes =
+        looks_of ∙ ap (λ b. if (if b then length m.main == main_share m.shares else not (is_some (vacancy m)) && goes_on (last_or None m.small)) then machine.inspections m.main else 0) goes
 
     pub small-insertion : goes_to_main (list_any is m.history) m ≡ false → inspections_for is m ≡ small_inspections m
-    small-insertion goes = looks_of ∙ ap (λ b. if (if b then length m.main == main_share m.shares else not (is_some (vacancy m)) && goes_on (last_or None m.small)) then machine.inspections m.main else 0) goes
+    small-insertion goes =
+        looks_of ∙ ap (λ b. if (if b then length m.main == main_share m.shares else not (is_some (vacancy m)) && goes_on (last_or None m.small)) then machine.inspections m.main else 0) goes
 
 -- how often the hand looks where a key is placed whose history is erased first
-pub placed-inspections : {K V : Type 0} (is : K → Bool) (m m1 : Machine K V) (known main : Bool) → known ≡ list_any is m.history → m1 ≡ forgotten is m → main ≡ goes_to_main known m1 → slot_of is m ≡ None → placed_inspections main m1 ≡ inspections_for is m
+pub placed-inspections : {K V : Type 0} (is : K → Bool) (m m1 : Machine K V) (known main : Bool) → known ≡ list_any is m.history
+    → m1 ≡ forgotten is m → main ≡ goes_to_main known m1 → slot_of is m ≡ None → placed_inspections main m1 ≡ inspections_for is m
 placed-inspections is m m1 known main had erased goes absent =
-    ap (λ b. placed_inspections b m1) goes ∙ ap (λ z. placed_inspections (goes_to_main known z) z) erased ∙ ap (λ b. placed_inspections (goes_to_main b m) m) had ∙ of (goes_to_main (list_any is m.history) m) refl
+    ap (λ b. placed_inspections b m1) goes ∙ ap (λ z. placed_inspections (goes_to_main known z) z) erased
+    ∙ ap (λ b. placed_inspections (goes_to_main b m) m) had ∙ of (goes_to_main (list_any is m.history) m) refl
   where
     of : (b : Bool) → goes_to_main (list_any is m.history) m ≡ b → placed_inspections b m ≡ inspections_for is m
     of true main = sym (main-insertion m is absent main)
@@ -125,37 +135,36 @@ looked-spends looks a b c before after = record {
 }
 
 -- after the key's history was erased
-pub forgotten-spends : (looks most keys : ℕ) (a b c : Counts) → most ≤ looks + 73 → Spends 0 7 keys a b → Spends looks most 0 b c → Spends looks (looks + 80) keys a c
+pub forgotten-spends : (looks most keys : ℕ) (a b c : Counts) → most ≤ looks + 29 → Spends 0 7 keys a b → Spends looks most 0 b c → Spends looks (looks + 36) keys a c
 forgotten-spends looks most keys a b c few before after = record {
   inspections = omega (arith, before.inspections, after.inspections);
   accesses = (omega (arith, before.accesses.0, after.accesses.0), omega (arith, few, before.accesses.1, after.accesses.1));
   questions = (omega (arith, before.questions.0, after.questions.0), omega (arith, before.questions.1, after.questions.1));
 }
 
--- a look-up spends no more than a call may
-pub asked-spends : (keys : ℕ) (a b : Counts) → Spends 0 0 keys a b → Spends 0 80 keys a b
-asked-spends keys a b asked = record { inspections = asked.inspections; accesses = (asked.accesses.0, omega (arith, asked.accesses.1)); questions = asked.questions }
-
 -- A key is looked up, and is hit or inserted.
-module _ {K V S H : Type 0} (key : HashMembers K) (build : builder.Ghosts S H) (hash : hasher.Ghosts H) (k : K) (x : ℕ) (old found : CacheState K V S) (same : x ≡ hash_of build hash old.hasher (key.hash_input k))
+module _ {K V S H : Type 0} (key : HashMembers K) (build : builder.Ghosts S H) (hash : hasher.Ghosts H)
+    (k : K) (x : ℕ) (old found : CacheState K V S) (same : x ≡ hash_of build hash old.hasher (key.hash_input k))
     (kept : found ≡ record old { counts = found.counts }) (asked : Spends 0 0 (length (candidates old.residents x)) old.counts found.counts) where
   asked_there : length (candidates old.residents x) ≡ length (candidates old.residents (hash_of build hash old.hasher (key.hash_input k)))
   asked_there = ap (λ y. length (candidates old.residents y)) same
 
   pub hit-spends : (slot : ℕ) → Some slot ≡ slot_of (key.eq k) old.machine → (new : Counts) → new ≡ found.counts
-      → Spends (inspections_for (key.eq k) old.machine) (inspections_for (key.eq k) old.machine + 80) (alike key build hash k old) old.counts new
+      → Spends (inspections_for (key.eq k) old.machine) (accesses_for (key.eq k) old.machine) (alike key build hash k old) old.counts new
   hit-spends slot there new is =
       let none : inspections_for (key.eq k) old.machine ≡ 0 = sym (ap (λ o. if is_some o then 0 else (if takes_victim (key.eq k) old.machine then machine.inspections old.machine.main else 0)) there) in
-      rw (is, none) (record { inspections = asked.inspections; accesses = (asked.accesses.0, omega (arith, asked.accesses.1)); questions = (asked.questions.0, omega (arith, asked.questions.1, asked_there)) })
+      let no_link : accesses_for (key.eq k) old.machine ≡ 0 = sym (ap (λ o. if is_some o then 0 else inspections_for (key.eq k) old.machine + 36) there) in
+      rw (is, no_link, none) (record { inspections = asked.inspections; accesses = (asked.accesses.0, omega (arith, asked.accesses.1)); questions = (asked.questions.0, omega (arith, asked.questions.1, asked_there)) })
 
-  pub insert-spends : (new : Counts) → Spends (inspections_for (key.eq k) found.machine) (inspections_for (key.eq k) found.machine + 80) (length (candidates found.remembered.index x)) found.counts new
-      → Spends (inspections_for (key.eq k) old.machine) (inspections_for (key.eq k) old.machine + 80) (alike key build hash k old) old.counts new
-  insert-spends new spent =
+  pub insert-spends : None ≡ slot_of (key.eq k) old.machine → (new : Counts) → Spends (inspections_for (key.eq k) found.machine) (inspections_for (key.eq k) found.machine + 36) (length (candidates found.remembered.index x)) found.counts new
+      → Spends (inspections_for (key.eq k) old.machine) (accesses_for (key.eq k) old.machine) (alike key build hash k old) old.counts new
+  insert-spends absent new spent =
+      let links : accesses_for (key.eq k) old.machine ≡ inspections_for (key.eq k) old.machine + 36 = sym (ap (λ o. if is_some o then 0 else inspections_for (key.eq k) old.machine + 36) absent) in
       let looks = ap (λ (z : CacheState K V S). inspections_for (key.eq k) z.machine) kept in
       let places = ap (λ (z : CacheState K V S). length (candidates z.remembered.index x)) kept in
       let places_there = ap (λ y. length (candidates old.remembered.index y)) same in
       record {
         inspections = omega (arith, asked.inspections, spent.inspections, looks);
-        accesses = (omega (arith, asked.accesses.0, spent.accesses.0), omega (arith, asked.accesses.1, spent.accesses.1, looks));
+        accesses = (omega (arith, asked.accesses.0, spent.accesses.0), omega (arith, asked.accesses.1, spent.accesses.1, looks, links));
         questions = (omega (arith, asked.questions.0, spent.questions.0), omega (arith, asked.questions.1, spent.questions.1, asked_there, places, places_there));
       }

@@ -1,5 +1,5 @@
 -- Where a key that is placed makes a slot, and where it finds the value of one.
-use Rattle.std.proofs.Common.{◌≡◌, ℕ, ◌+◌, ◌<◌, ◌≤◌, ◌==◌, Bool, true, false, not, ◌&&◌, cond, List, [], ◌∷◌, length, inl, inr, Option, Some, None, refl, sym, ap, ◌∙◌, subst, arith, eq-eqb, eqb-true, ne_eqb}
+use Rattle.std.proofs.Common.{◌≡◌, ℕ, ◌<◌, ◌≤◌, ◌==◌, Bool, true, false, not, ◌&&◌, List, [], ◌∷◌, length, inl, inr, Option, Some, None, refl, sym, ap, ◌∙◌, subst, arith, eq-eqb, eqb-true, ne_eqb}
 use Rattle.std.specs.Prelude.{if◌then◌else◌, nat_lt, is_some, slice_get, IfSome, IfNone}
 use Rattle.std.specs.Cmp.{IsEquivalence}
 use Rattle.std.specs.List.{count_by, list_any, last_or}
@@ -7,18 +7,18 @@ use Rattle.std.specs.Option.{UnwrapsOrElse}
 use Rattle.std.proofs.lemmas.Bool.{cases_lt, lt-ltb, le-ltb, eqb-false, both_ways}
 use Rattle.std.proofs.lemmas.Option.{slice_get_within, slice_get_past}
 use Rattle.std.proofs.lemmas.List.Sums.{sum_by-cons}
-use Rattle.clock2q_cache.specs.Shares.{main_share}
-use Rattle.clock2q_cache.specs.Entries.{MainEntry, from_victim}
-use Rattle.clock2q_cache.specs.Machine.{Machine, Placement, vacancy, vacant_slot, goes_to_main, into_main, into_small, into_small_at, joining_main, replacing_victim, placement, forgotten, slot_of, value_of, stored, reused, inserted, hit}
-use Rattle.clock2q_cache.specs.Steps.{put, slotted, slotted_at, fetched_value, replaced_at}
-use Rattle.clock2q_cache.specs.Cache.{IsWhole}
+use Rattle.clock2q_machine.specs.Shares.{main_share}
+use Rattle.clock2q_machine.specs.Entries.{MainEntry, from_victim}
+use Rattle.clock2q_machine.specs.Machine.{Machine, Placement, vacancy, vacant_slot, goes_to_main, into_main, into_small, into_small_at, joining_main, replacing_victim, placement, forgotten, slot_of, stored, reused, inserted, hit}
+use Rattle.clock2q_machine.specs.Steps.{slotted_at, fetched_value, replaced_at}
+use Rattle.clock2q_machine.specs.Whole.{IsWhole}
 use Rattle.clock2q_cache.specs.Closures.{Reuses, Takes}
 use Rattle.clock2q_cache.specs.Insertions.{IsValueFor, Fills, placed, next_is_vacant, makes_slot}
-use Rattle.clock2q_cache.proofs.Whole.{one_if, some_is, none_is, stands_made, victim_made, no_vacancy, all_resident, placed-main, placed-small}
-use Rattle.clock2q_cache.proofs.Weights.{length-from_victim}
-use Rattle.clock2q_cache.proofs.MachineInvariant.{placed-key, resident_made}
-use Rattle.clock2q_cache.proofs.Standing.{get-within}
-use Rattle.clock2q_cache.proofs.Laws.{slot_at_most, reused_value}
+use Rattle.clock2q_machine.proofs.Whole.{one_if, some_is, none_is, stands_made, victim_made, no_vacancy, all_resident, placed-main, placed-small}
+use Rattle.clock2q_machine.proofs.Weights.{length-from_victim}
+use Rattle.clock2q_machine.proofs.MachineInvariant.{resident_made}
+use Rattle.clock2q_machine.proofs.Standing.{get-within}
+use Rattle.clock2q_machine.proofs.Laws.{slot_at_most, reused_value}
 use Rattle.clock2q_cache.proofs.Fetched.{stored_again, stored_same}
 
 with_true : (b : Bool) → (b && true) ≡ b
@@ -33,7 +33,8 @@ module _ {K V : Type 0} (eq : K → K → Bool) (m : Machine K V) (h : IsWhole e
   -- the vacancy is a new slot where none is free
   vacant-made : (slot : ℕ) → vacancy m ≡ Some slot → nat_lt slot (length m.values) ≡ not (next_is_vacant m)
   vacant-made slot is = by m.free refl is where
-    by : (free : List ℕ) → m.free ≡ free → vacant_slot free (length m.values) m.shares.capacity ≡ Some slot → nat_lt slot (length m.values) ≡ not ((length free == 0) && nat_lt (length m.values) m.shares.capacity)
+    by : (free : List ℕ) → m.free ≡ free → vacant_slot free (length m.values) m.shares.capacity ≡ Some slot
+        → nat_lt slot (length m.values) ≡ not ((length free == 0) && nat_lt (length m.values) m.shares.capacity)
     by [] e v = elim (cases_lt (length m.values) m.shares.capacity) [
       | inl below ↦
           let at : length m.values ≡ slot = some_is (length m.values) slot (sym (ap (λ b. if b then Some (length m.values) else None) (lt-ltb (length m.values) m.shares.capacity below)) ∙ v) in
@@ -43,7 +44,8 @@ module _ {K V : Type 0} (eq : K → K → Bool) (m : Machine K V) (h : IsWhole e
     by (f ∷ fs) e v =
         let at : f ≡ slot = some_is f slot v in
         let stands : 0 < count_by (λ s. s == slot) m.free = omega (arith, sum_by-cons (λ s. one_if (s == slot)) f fs, ap (count_by (λ s. s == slot)) e, ap one_if (eq-eqb f slot at)) in
-        lt-ltb slot (length m.values) (stands_made eq m h slot (omega (arith, stands))) ∙ ap (λ b. not (b && nat_lt (length m.values) m.shares.capacity)) (sym (ne_eqb (length {A = ℕ} (f ∷ fs)) 0 (λ e. omega (arith, e))))
+        lt-ltb slot (length m.values) (stands_made eq m h slot (omega (arith, stands)))
+        ∙ ap (λ b. not (b && nat_lt (length m.values) m.shares.capacity)) (sym (ne_eqb (length {A = ℕ} (f ∷ fs)) 0 (λ e. omega (arith, e))))
 
   module _ (key : K) where
     pub main-makes : nat_lt (into_main key m).slot (length m.values) ≡ not (makes_slot true m)
@@ -82,7 +84,8 @@ goes-unknown true m e = cc
 goes-unknown false m e = e
 
 -- how a key is placed whose history is erased first
-module _ {K V : Type 0} (is : K → Bool) (key : K) (m m1 : Machine K V) (known main : Bool) (had : known ≡ list_any is m.history) (erased : m1 ≡ forgotten is m) (goes : main ≡ goes_to_main known m1) where
+module _ {K V : Type 0} (is : K → Bool) (key : K) (m m1 : Machine K V) (known main : Bool)
+    (had : known ≡ list_any is m.history) (erased : m1 ≡ forgotten is m) (goes : main ≡ goes_to_main known m1) where
   pub placed-there : placed main key m1 ≡ placement is key m
   placed-there = ap (λ b. placed b key m1) goes ∙ ap (λ z. placed (goes_to_main known z) key z) erased ∙ ap (λ b. placed (goes_to_main b (forgotten is m)) key (forgotten is m)) had
 
@@ -116,7 +119,8 @@ made-or-none (Some v) slot made is = tt
 
 -- a slot keeps its value, or a new one has the one that was made
 module _ {K V : Type 0} (is : K → Bool) (key : K) (made : V → Type 0) (m : Machine K V) (values : (placement is key m).machine.values ≡ m.values) where
-  pub reuses : (value : Option V) (new : Machine K V) → nat_lt (placement is key m).slot (length m.values) ≡ not (is_some value) → IfSome value made → Fills value (placement is key m) m new → Reuses is key made m new
+  pub reuses : (value : Option V) (new : Machine K V) → nat_lt (placement is key m).slot (length m.values) ≡ not (is_some value)
+      → IfSome value made → Fills value (placement is key m) m new → Reuses is key made m new
   reuses None new has gave f =
       let p = placement is key m in
       record {

@@ -8,18 +8,18 @@ use Rattle.clock2q_queues.specs.Rings.{has}
 use Rattle.clock2q_queues.specs.Keys.{KeyPlaces, key_at, hash_at}
 use Rattle.clock2q_queues.specs.Queues.{QueueState}
 use Rattle.clock2q_queues.specs.History.{Remembered, Places, oldest_hash, pushed_places}
-use Rattle.clock2q_queues.proofs.Rings.{has_first, eqb_swap, eqb_self}
-use Rattle.clock2q_cache.specs.Shares.{Shares, history_share}
-use Rattle.clock2q_cache.specs.Machine.{Machine, residents, resident_at, slot_of, goes_to_main, forgotten, placement}
+use Rattle.clock2q_queues.proofs.Rings.{has_first, eqb_swap}
+use Rattle.clock2q_machine.specs.Shares.{Shares, history_share}
+use Rattle.clock2q_machine.specs.Machine.{Machine, resident_at, slot_of, goes_to_main, forgotten, placement}
 use Rattle.clock2q_cache.specs.CacheFields.{machine_of, places_of, IsKept}
 use Rattle.std.specs.Prelude.{if◌then◌else◌, IfSome, is_some}
 use Rattle.std.specs.declared.hash.Hasher as hasher
 use Rattle.std.specs.declared.hash.BuildHasher as builder
 use Rattle.std.specs.HashMap.Lent.{HashMembers}
 use Rattle.std.specs.Option.{option_map}
-use Rattle.clock2q_queues.specs.Ages.{is_promoted}
+use Rattle.clock2q_machine.specs.Ages.{is_promoted}
 use Rattle.clock2q_queues.specs.Queues.{slots_of}
-use Rattle.clock2q_cache.specs.Entries.{SmallEntry}
+use Rattle.clock2q_machine.specs.Entries.{SmallEntry}
 use Rattle.clock2q_cache.specs.Places.{remembering, remembering_any, left_by, entered, discarded, key_out, out_of, hash_in, residents_with, remembered_with}
 use Rattle.clock2q_cache.specs.CacheState.{CacheState}
 use Rattle.clock2q_cache.proofs.WithKeys.{HaveKeys, have_later}
@@ -69,8 +69,8 @@ oldest-hashed : {K : Type 0} (hash : K → ℕ) (o : Option (ℕ × K)) (p : Opt
 oldest-hashed hash o p [] same all = same
 oldest-hashed hash o p (e ∷ es) same all = oldest-hashed hash (Some e) (Some e.1) es all.0 all.1
 
-module _ {K V : Type 0} (eq : K → K → Bool) (laws : IsEquivalence eq) (hash : K → ℕ) (shares : Shares) (q : QueueState) (h : Remembered K) (index : List (List (ℕ × ℕ))) (keys : KeyPlaces K V) (free : List ℕ) (room : ℕ)
-    (kept : IsKept eq hash shares q h index keys free room) where
+module _ {K V : Type 0} {eq : K → K → Bool} {hash : K → ℕ} {shares : Shares} {q : QueueState} {h : Remembered K} {index : List (List (ℕ × ℕ))} {keys : KeyPlaces K V} {free : List ℕ} {room : ℕ}
+    (laws : IsEquivalence eq) (kept : IsKept eq hash shares q h index keys free room) where
   abbrev m : Machine K V
   m = machine_of shares q keys.entries h.entries free
 
@@ -80,13 +80,13 @@ module _ {K V : Type 0} (eq : K → K → Bool) (laws : IsEquivalence eq) (hash 
   -- the resident at a slot of the queues
   pub resident-there : (slot : ℕ) (k : K) → has slot (places_of q) ≡ true → key_at keys.entries slot ≡ Some k → resident_at m slot ≡ Some (k, slot)
   resident-there slot k there at =
-      ap (λ (z : List (K × ℕ)). find (λ (r : K × ℕ). r.1 == slot) z) (residents-paired eq laws hash shares q h index keys free room kept)
+      ap (λ (z : List (K × ℕ)). find (λ (r : K × ℕ). r.1 == slot) z) (residents-paired laws kept)
       ∙ found-paired (key_at keys.entries) slot k (places_of q) have there at
 
   -- another slot has none
   pub resident-none : (slot : ℕ) → has slot (places_of q) ≡ false → resident_at m slot ≡ None
   resident-none slot absent =
-      ap (λ (z : List (K × ℕ)). find (λ (r : K × ℕ). r.1 == slot) z) (residents-paired eq laws hash shares q h index keys free room kept)
+      ap (λ (z : List (K × ℕ)). find (λ (r : K × ℕ). r.1 == slot) z) (residents-paired laws kept)
       ∙ none-paired (key_at keys.entries) slot (places_of q) have absent
 
   -- a key enters at a slot that has no resident
@@ -94,7 +94,8 @@ module _ {K V : Type 0} (eq : K → K → Bool) (laws : IsEquivalence eq) (hash 
   entered-vacant key slot absent = ap (λ z. with_handle (left_by hash z slot index) (hash key) slot) (resident-none slot absent)
 
   -- a key takes the slot of a resident
-  pub entered-renewed : (key : K) (slot old : ℕ) → has slot (places_of q) ≡ true → hash_at keys.entries slot ≡ Some old → entered hash key slot m index ≡ with_handle (removed eqb index old slot) (hash key) slot
+  pub entered-renewed : (key : K) (slot old : ℕ) → has slot (places_of q) ≡ true → hash_at keys.entries slot ≡ Some old
+      → entered hash key slot m index ≡ with_handle (removed eqb index old slot) (hash key) slot
   entered-renewed key slot old there at =
       let k = have slot there in
       let is : old ≡ hash k.0 = hash-of-key hash keys.entries slot old k.0 kept.stored.hashed at k.1 in
@@ -109,10 +110,11 @@ module _ {K V : Type 0} (eq : K → K → Bool) (laws : IsEquivalence eq) (hash 
       ∙ ap (λ z. pushed_places (history_share shares) (hash key) z p) (oldest-hashed hash None None h.entries refl kept.hashed)
 
   -- the key of Small's tail
-  pub out-of-tail : (tail : ℕ) (key : K) → last_or None (slots_of q.small) ≡ Some tail → key_at keys.entries tail ≡ Some key → option_map (λ (e : SmallEntry K). e.key) (last_or None m.small) ≡ Some key
+  pub out-of-tail : (tail : ℕ) (key : K) → last_or None (slots_of q.small) ≡ Some tail
+      → key_at keys.entries tail ≡ Some key → option_map (λ (e : SmallEntry K). e.key) (last_or None m.small) ≡ Some key
   out-of-tail tail key last at =
-      ap (λ o. option_map (λ (e : SmallEntry K). e.key) o) (last_entry eq laws hash shares q h index keys free room kept tail last)
-      ∙ sym (tail_key eq laws hash shares q h index keys free room kept tail last).1 ∙ at
+      ap (λ o. option_map (λ (e : SmallEntry K). e.key) o) (last_entry laws kept tail last)
+      ∙ sym (tail_key laws kept tail last).1 ∙ at
 
 -- What stands in the indexes once a key has its slot.
 module _ {K V S H : Type 0} (key : HashMembers K) (build : builder.Ghosts S H) (hash : hasher.Ghosts H) (k : K) (c : CacheState K V S) where
@@ -136,13 +138,18 @@ module _ {K V S H : Type 0} (key : HashMembers K) (build : builder.Ghosts S H) (
 
   -- it was not, and was inserted after it was looked up
   module _ (absent : None ≡ slot_of is c.machine) (found : CacheState K V S) (kept : found ≡ record c { counts = found.counts }) where
-    pub new-residents : (new : List (List (ℕ × ℕ))) (slot : ℕ) → slot ≡ (placement is k found.machine).slot → new ≡ entered (hash_in key build hash found) k slot found.machine found.residents → new ≡ residents_with key build hash k c
+    pub new-residents : (new : List (List (ℕ × ℕ))) (slot : ℕ) → slot ≡ (placement is k found.machine).slot
+        → new ≡ entered (hash_in key build hash found) k slot found.machine found.residents → new ≡ residents_with key build hash k c
     new-residents new slot at e =
         e ∙ ap (λ s. entered (hash_in key build hash found) k s found.machine found.residents) at
         ∙ ap (λ (z : CacheState K V S). entered (hash_in key build hash z) k (placement is k z.machine).slot z.machine z.residents) kept ∙ ap has_slot absent
 
     pub new-remembered : (new : Places) (x : ℕ) → x ≡ hash_in key build hash c k
-        → new ≡ (let m = forgotten is found.machine in remembering_any (hash_in key build hash found) (out_of (goes_to_main (list_any is found.machine.history) found.machine) m) m (discarded is x found)) → new ≡ remembered_with key build hash k c
+        → new ≡ (let m = forgotten is found.machine in
+        remembering_any (hash_in key build hash found) (out_of (goes_to_main (list_any is found.machine.history) found.machine) m) m (discarded is x found))
+        → new ≡ remembered_with key build hash k c
     new-remembered new x same e =
-        e ∙ ap (λ (z : CacheState K V S). let m = forgotten is z.machine in remembering_any (hash_in key build hash z) (out_of (goes_to_main (list_any is z.machine.history) z.machine) m) m (discarded is x z)) kept
-        ∙ ap (λ y. let m = forgotten is c.machine in remembering_any (hash_in key build hash c) (out_of (goes_to_main (list_any is c.machine.history) c.machine) m) m (discarded is y c)) same ∙ ap has_place absent
+        e ∙ ap (λ (z : CacheState K V S). let m = forgotten is z.machine in
+        remembering_any (hash_in key build hash z) (out_of (goes_to_main (list_any is z.machine.history) z.machine) m) m (discarded is x z)) kept
+        ∙ ap (λ y. let m = forgotten is c.machine in
+        remembering_any (hash_in key build hash c) (out_of (goes_to_main (list_any is c.machine.history) c.machine) m) m (discarded is y c)) same ∙ ap has_place absent

@@ -1,12 +1,12 @@
 -- A key that takes the slot of another: Main's victim's, or that of Small's tail.
-use Rattle.std.proofs.Common.{◌≡◌, ℕ, zero, suc, ◌+◌, ◌-◌, ◌*◌, ◌^◌, ◌<◌, ◌≤◌, ◌==◌, Bool, true, false, not, ◌||◌, cond, eqb, Option, Some, None, List, [], ◌∷◌, ◌++◌, map, length, take, drop, reverse, inl, inr, refl, sym, ap, ◌∙◌, subst, arith, eqb-true, eq-eqb, ne_eqb, length-append}
-use Rattle.std.specs.Prelude.{if◌then◌else◌, nat_lt, is_some, slice_get, slice_set, IfSome}
+use Rattle.std.proofs.Common.{◌≡◌, ℕ, zero, suc, ◌+◌, ◌-◌, ◌^◌, ◌<◌, ◌≤◌, ◌==◌, Bool, true, false, ◌||◌, cond, eqb, Option, Some, None, List, [], ◌∷◌, ◌++◌, map, length, take, drop, inl, inr, refl, sym, ap, ◌∙◌, subst, arith, eq-eqb, length-append}
+use Rattle.std.specs.Prelude.{if◌then◌else◌, slice_get, IfSome}
 use Rattle.std.specs.Cmp.{IsEquivalence}
 use Rattle.std.specs.List.{count_by, list_any, last_or, AllByRecursion}
-use Rattle.std.proofs.lemmas.Bool.{cases_Bool, both_ways}
+use Rattle.std.proofs.lemmas.Bool.{cases_Bool}
 use Rattle.std.proofs.lemmas.List.Sums.{sum_by-cons, sum_by-append}
-use Rattle.clock2q_handles.specs.Homes.{total, capacity, with_handle, removed}
-use Rattle.clock2q_queues.specs.Ages.{Age, is_promoted}
+use Rattle.clock2q_handles.specs.Homes.{capacity, with_handle, removed}
+use Rattle.clock2q_machine.specs.Ages.{Age, is_promoted}
 use Rattle.clock2q_queues.specs.declared.keys.cells.Entry.{Entry}
 use Rattle.clock2q_queues.specs.Rings.{has, AllApart}
 use Rattle.clock2q_queues.specs.Keys.{KeyPlaces, entry, written, hash_at, key_at}
@@ -18,18 +18,18 @@ use Rattle.clock2q_queues.specs.History.{Remembered, is_remembered}
 use Rattle.clock2q_queues.proofs.Rings.{has-append, eqb_self, has_first, below_of}
 use Rattle.clock2q_queues.proofs.Indexes.{length-put, length-taken}
 use Rattle.clock2q_queues.proofs.Booleans.{or_true, or_parts, or_neither}
-use Rattle.clock2q_cache.specs.Shares.{Shares, main_share, history_share}
-use Rattle.clock2q_cache.specs.Entries as machine
-use Rattle.clock2q_cache.specs.Entries.{SmallEntry, MainEntry}
-use Rattle.clock2q_cache.specs.Machine.{Machine, Placement, vacancy, into_main, into_small, into_small_at, joining_main, replacing_victim, evicting_tail, promoting_tail, stored}
-use Rattle.clock2q_cache.specs.Cache.{IsWhole, known_count}
-use Rattle.clock2q_cache.specs.CacheFields.{machine_of, places_of, with_keys_small, with_keys_main, IsStored, IsSized, IsKept}
-use Rattle.clock2q_cache.proofs.WithKeys.{HaveKeys, small_with, main_with, main-cons, small-admitted, main-behind, small-agree, main-agree, small-take, small-last, length-small, length-main, main-from_victim}
+use Rattle.clock2q_machine.specs.Shares.{Shares, main_share, history_share}
+use Rattle.clock2q_machine.specs.Entries as machine
+use Rattle.clock2q_machine.specs.Entries.{SmallEntry, MainEntry}
+use Rattle.clock2q_machine.specs.Machine.{Machine, Placement, vacancy, into_main, into_small, into_small_at, joining_main, replacing_victim, evicting_tail, promoting_tail, stored}
+use Rattle.clock2q_machine.specs.Whole.{known_count}
+use Rattle.clock2q_cache.specs.CacheFields.{machine_of, places_of, with_keys_small, with_keys_main, IsStored, IsKept}
+use Rattle.clock2q_cache.proofs.WithKeys.{main-cons, small-admitted, main-behind, small-agree, main-agree, small-take, small-last, main-from_victim}
 use Rattle.clock2q_cache.proofs.Stored.{stored-renewed, stored-same, key_at-own, key_at-others, values-written, length-values}
-use Rattle.clock2q_cache.proofs.Slots.{times, times-cons, times-none, times-some, at_most_once, length-places, has-appended, has-from_victim, length-swept}
+use Rattle.clock2q_cache.proofs.Slots.{times, times-cons, times-none, at_most_once, length-places, has-appended, has-from_victim, length-swept}
 use Rattle.clock2q_cache.proofs.CacheInvariant.{length_in_small, length_in_main, small_have, main_have, apart, index_some, IsDone, kept-placed, sized-same}
-use Rattle.clock2q_cache.proofs.Whole.{IsPlaced, placed-replacing, placed-evicting, placed-promoting}
-use Rattle.clock2q_cache.proofs.Weights.{weight-last}
+use Rattle.clock2q_machine.proofs.Whole.{IsPlaced, placed-replacing, placed-evicting, placed-promoting}
+use Rattle.clock2q_machine.proofs.Weights.{weight-last}
 
 -- Lists
 
@@ -37,7 +37,8 @@ first-is : {X : Type 0} (xs : List X) (x : X) → slice_get xs 0 ≡ Some x → 
 first-is [] x h = absurd (cc)
 first-is (y ∷ xs) x h = let e : y ≡ x = cc in ap (λ z. z ∷ xs) e
 
-last-slot : {X : Type 0} (o : Option (ℕ × X)) (p : Option ℕ) (xs : List (ℕ × X)) (t : ℕ) → (p ≡ Some t → (x : X) × (o ≡ Some (t, x))) → last_or p (slots_of xs) ≡ Some t → (x : X) × (last_or o xs ≡ Some (t, x))
+last-slot : {X : Type 0} (o : Option (ℕ × X)) (p : Option ℕ) (xs : List (ℕ × X)) (t : ℕ)
+    → (p ≡ Some t → (x : X) × (o ≡ Some (t, x))) → last_or p (slots_of xs) ≡ Some t → (x : X) × (last_or o xs ≡ Some (t, x))
 last-slot o p [] t first h = first h
 last-slot o p (y ∷ xs) t first h = last-slot (Some y) (Some y.0) xs t (λ e. let q : y.0 ≡ t = inner y.0 t e in (y.1, ap (λ z. Some (z, y.1)) q)) h
   where
@@ -136,8 +137,8 @@ turned_promoting false false true false = refl
 turned_promoting false false false true = refl
 turned_promoting false false false false = refl
 
-module _ {K V : Type 0} (eq : K → K → Bool) (laws : IsEquivalence eq) (hash : K → ℕ) (shares : Shares) (q : QueueState) (h : Remembered K) (index : List (List (ℕ × ℕ))) (keys : KeyPlaces K V) (free : List ℕ) (room : ℕ)
-    (kept : IsKept eq hash shares q h index keys free room) where
+module _ {K V : Type 0} {eq : K → K → Bool} {hash : K → ℕ} {shares : Shares} {q : QueueState} {h : Remembered K} {index : List (List (ℕ × ℕ))} {keys : KeyPlaces K V} {free : List ℕ} {room : ℕ}
+    (laws : IsEquivalence eq) (kept : IsKept eq hash shares q h index keys free room) where
   abbrev m : Machine K V
   m = machine_of shares q keys.entries h.entries free
 
@@ -151,10 +152,10 @@ module _ {K V : Type 0} (eq : K → K → Bool) (laws : IsEquivalence eq) (hash 
       let n = length-places q in (
         places_of q,
         kept.stored.indexed,
-        apart eq laws hash shares q h index keys free room kept,
+        apart laws kept,
         there,
-        omega (arith, n, kept.whole.small_within, kept.whole.main_within, kept.whole.small_below, kept.sized.short, length_in_small eq laws hash shares q h index keys free room kept, length_in_main eq laws hash shares q h index keys free room kept),
-        omega (arith, n, kept.whole.small_within, kept.whole.main_within, kept.whole.small_below, kept.sized.half, length_in_small eq laws hash shares q h index keys free room kept, length_in_main eq laws hash shares q h index keys free room kept),
+        omega (arith, n, kept.whole.small_within, kept.whole.main_within, kept.whole.small_below, kept.sized.short, length_in_small laws kept, length_in_main laws kept),
+        omega (arith, n, kept.whole.small_within, kept.whole.main_within, kept.whole.small_below, kept.sized.half, length_in_small laws kept, length_in_main laws kept),
       )
 
   -- a resident's slot was made, and is below the capacity
@@ -175,7 +176,8 @@ module _ {K V : Type 0} (eq : K → K → Bool) (laws : IsEquivalence eq) (hash 
     victim-there = sym (has-from_victim victim q.main) ∙ ap (λ z. has victim (slots_of z)) swept ∙ has_first victim (slots_of rest)
 
     victim_times : times victim (slots_of q.main) ≡ 1 + times victim (slots_of rest)
-    victim_times = sym (times-split victim (set_front q.main) q.main) ∙ ap (λ z. times victim (slots_of z)) swept ∙ omega (arith, times-cons victim victim (slots_of rest), ap {B = ℕ} (λ b. cond b 1 0) (eqb_self victim))
+    victim_times = sym (times-split victim (set_front q.main) q.main) ∙ ap (λ z. times victim (slots_of z)) swept
+        ∙ omega (arith, times-cons victim victim (slots_of rest), ap {B = ℕ} (λ b. cond b 1 0) (eqb_self victim))
 
     pub victim-not_in_rest : has victim (slots_of rest) ≡ false
     victim-not_in_rest = times-none victim (slots_of rest) (omega (arith, victim_times, once_at victim))
@@ -193,7 +195,7 @@ module _ {K V : Type 0} (eq : K → K → Bool) (laws : IsEquivalence eq) (hash 
     length-rest = sym (ap (λ (z : List (ℕ × Bool)). length z) swept) ∙ length-swept q.main
 
     victim_key : (k : K) × (key_at keys.entries victim ≡ Some k)
-    victim_key = main_have eq laws hash shares q h index keys free room kept victim victim-there
+    victim_key = main_have laws kept victim victim-there
 
     abbrev victim_entry : MainEntry K
     victim_entry = record { key = victim_key.0; slot = victim; bit = false }
@@ -202,7 +204,7 @@ module _ {K V : Type 0} (eq : K → K → Bool) (laws : IsEquivalence eq) (hash 
     others = with_keys_main (key_at keys.entries) rest
 
     choice : machine.from_victim m.main ≡ victim_entry ∷ others
-    choice = main-from_victim (key_at keys.entries) q.main (main_have eq laws hash shares q h index keys free room kept)
+    choice = main-from_victim (key_at keys.entries) q.main (main_have laws kept)
         ∙ ap (λ z. with_keys_main (key_at keys.entries) z) swept ∙ main-cons (key_at keys.entries) (victim, false) rest victim_key.0 victim_key.1
 
   -- a key takes a resident's slot
@@ -221,7 +223,7 @@ module _ {K V : Type 0} (eq : K → K → Bool) (laws : IsEquivalence eq) (hash 
 
     renewed : IsStored hash index' entries' (places_of q)
     renewed = subst (λ z. IsStored hash (with_handle (removed eqb index old slot) z slot) (written slot (entry z key value) keys.entries) (places_of q)) (sym is)
-        (stored-renewed hash index keys.entries (places_of q) slot old key value kept.stored (index_some eq laws hash shares q h index keys free room kept) (apart eq laws hash shares q h index keys free room kept) there at)
+        (stored-renewed hash index keys.entries (places_of q) slot old key value kept.stored (index_some laws kept) (apart laws kept) there at)
 
     own : key_at entries' slot ≡ Some key
     own = key_at-own slot hsh key value keys.entries next
@@ -234,17 +236,18 @@ module _ {K V : Type 0} (eq : K → K → Bool) (laws : IsEquivalence eq) (hash 
 
     -- what the layers become
     module _ (q' : QueueState) (h' : Remembered K) (index2 : List (List (ℕ × ℕ))) (keys' : KeyPlaces K V) (absent : known_count (eq key) m ≡ 0)
-        (slots : q'.slots ≡ q.slots) (window : q'.window ≡ q.window) (limit : h'.limit ≡ h.limit) (indexed : index2 ≡ index') (wrote : keys'.entries ≡ entries') (keys_room : keys'.room ≡ keys.room) where
+        (slots : q'.slots ≡ q.slots) (window : q'.window ≡ q.window) (limit : h'.limit ≡ h.limit)
+        (indexed : index2 ≡ index') (wrote : keys'.entries ≡ entries') (keys_room : keys'.room ≡ keys.room) where
       done : (p : Placement K V) → IsPlaced key m p → machine_of shares q' entries' h'.entries free ≡ stored p.slot value p.machine
           → ((t : ℕ) → has t (places_of q') ≡ has t (places_of q)) → length (places_of q') ≡ length (places_of q) → AllByRecursion (λ e. e.0 ≡ hash e.1) h'.entries → slot ≡ p.slot
-          → IsDone eq laws hash shares q h index keys free room kept slot value p q' h' index2 keys' free room
+          → IsDone laws kept slot value p q' h' index2 keys' free room
       done p placed e same as_many hashed at =
           let result : machine_of shares q' keys'.entries h'.entries free ≡ stored p.slot value p.machine = ap (λ z. machine_of shares q' z h'.entries free) wrote ∙ e in
           let st = stored-same hash index' entries' (places_of q) (places_of q') renewed same as_many in
           let sized = sized-same shares q q' h.limit h'.limit (length index) (length index2) keys.room keys'.room room room kept.sized slots window limit
           (ap (λ (z : List (List (ℕ × ℕ))). length z) indexed ∙ length-put (removed eqb index old slot) hsh slot ∙ length-taken index old slot) keys_room refl in
           record {
-            holds = kept-placed eq laws hash shares q h index keys free room kept key value p absent placed q' h' index2 keys' free room result
+            holds = kept-placed laws kept key value p absent placed q' h' index2 keys' free room result
                 (subst (λ z. IsStored hash z keys'.entries (places_of q')) (sym indexed) (subst (λ z. IsStored hash index' z (places_of q')) (sym wrote) st)) hashed sized;
             machine = result;
             at = at;
@@ -253,24 +256,28 @@ module _ {K V : Type 0} (eq : K → K → Bool) (laws : IsEquivalence eq) (hash 
   -- a key that takes the slot of Main's victim
   module _ (victim : ℕ) (first : slice_get (from_victim q.main) 0 ≡ Some (victim, false)) (key : K) (value : V) (hsh old : ℕ) (is : hsh ≡ hash key) (at : hash_at keys.entries victim ≡ Some old)
       (q' : QueueState) (index2 : List (List (ℕ × ℕ))) (keys' : KeyPlaces K V) (absent : known_count (eq key) m ≡ 0)
-      (slots : q'.slots ≡ q.slots) (window : q'.window ≡ q.window) (indexed : index2 ≡ with_handle (removed eqb index old victim) hsh victim) (wrote : keys'.entries ≡ written victim (entry hsh key value) keys.entries) (keys_room : keys'.room ≡ keys.room) where
+      (slots : q'.slots ≡ q.slots) (window : q'.window ≡ q.window) (indexed : index2 ≡ with_handle (removed eqb index old victim) hsh victim)
+      (wrote : keys'.entries ≡ written victim (entry hsh key value) keys.entries) (keys_room : keys'.room ≡ keys.room) where
     abbrev there : has victim (places_of q) ≡ true
     there = victim-in victim first
 
     -- goes to the end of Main
     pub replaced-done : length m.main ≡ main_share shares → q'.small ≡ q.small → q'.main ≡ rest victim first ++ (victim, false) ∷ []
-        → IsDone eq laws hash shares q h index keys free room kept victim value (into_main key m) q' h index2 keys' free room
+        → IsDone laws kept victim value (into_main key m) q' h index2 keys' free room
     replaced-done full small main =
         let es = entries' key value hsh victim old is there at in
-        let s : with_keys_small (key_at es) q'.small ≡ m.small = ap (λ z. with_keys_small (key_at es) z) small ∙ small_other key value hsh victim old is there at q.small (victim-not_in_small victim first) in
+        let s : with_keys_small (key_at es) q'.small ≡ m.small =
+        ap (λ z. with_keys_small (key_at es) z) small ∙ small_other key value hsh victim old is there at q.small (victim-not_in_small victim first) in
         let t : with_keys_main (key_at es) q'.main ≡ machine.behind_hand key victim (others victim first) =
         ap (λ z. with_keys_main (key_at es) z) main ∙ main-behind (key_at es) victim key (rest victim first) (own key value hsh victim old is there at)
         ∙ ap (λ z. machine.behind_hand key victim z) (main_other key value hsh victim old is there at (rest victim first) (victim-not_in_rest victim first)) in
         let v = values-written victim (entry hsh key value) keys.entries (next key value hsh victim old is there at) in
         let p = replacing_victim key (victim_entry victim first ∷ others victim first) m in
         let e : machine_of shares q' es h.entries free ≡ stored p.slot value p.machine = cc in
-        let is_p : into_main key m ≡ p = ap (λ b. if b then replacing_victim key (machine.from_victim m.main) m else joining_main key (vacancy m) m) (eq-eqb (length m.main) (main_share shares) full) ∙ ap (λ z. replacing_victim key z m) (choice victim first) in
-        subst (λ z. IsDone eq laws hash shares q h index keys free room kept victim value z q' h index2 keys' free room) (sym is_p)
+        let is_p : into_main key m ≡ p =
+        ap (λ b. if b then replacing_victim key (machine.from_victim m.main) m else joining_main key (vacancy m) m) (eq-eqb (length m.main) (main_share shares) full)
+        ∙ ap (λ z. replacing_victim key z m) (choice victim first) in
+        subst (λ z. IsDone laws kept victim value z q' h index2 keys' free room) (sym is_p)
         (done key value hsh victim old is there at q' h index2 keys' absent slots window refl indexed wrote keys_room p
         (placed-replacing eq m kept.whole key (victim_entry victim first) (others victim first) (choice victim first)) e
         (λ u. has-append u (slots_of q'.small) (slots_of q'.main)
@@ -280,7 +287,15 @@ module _ {K V : Type 0} (eq : K → K → Bool) (laws : IsEquivalence eq) (hash 
         ∙ turned_replacing (has u (slots_of q.small)) (has u (slots_of (rest victim first))) (eqb u victim)
         ∙ ap (λ z. has u (slots_of q.small) || z) (sym (rest-in_main victim first u))
         ∙ sym (has-append u (slots_of q.small) (slots_of q.main)))
-        (omega (arith, length-places q', length-places q, ap (λ (z : List (ℕ × Age)). length z) small, ap (λ (z : List (ℕ × Bool)). length z) main, length-append (rest victim first) ((victim, false) ∷ []), length-rest victim first))
+        (omega (
+          arith,
+          length-places q',
+          length-places q,
+          ap (λ (z : List (ℕ × Age)). length z) small,
+          ap (λ (z : List (ℕ × Bool)). length z) main,
+          length-append (rest victim first) ((victim, false) ∷ []),
+          length-rest victim first,
+        ))
         kept.hashed refl)
 
   -- Small's tail
@@ -328,20 +343,20 @@ module _ {K V : Type 0} (eq : K → K → Bool) (laws : IsEquivalence eq) (hash 
         some (x ∷ xs) e = omega arith
 
     pub tail_key : (k : K) × (key_at keys.entries tail ≡ Some k)
-    tail_key = small_have eq laws hash shares q h index keys free room kept tail tail-there_in_small
+    tail_key = small_have laws kept tail tail-there_in_small
 
     abbrev pub tail_entry : SmallEntry K
     tail_entry = record { key = tail_key.0; slot = tail; age = tail_at.0 }
 
     pub last_entry : last_or None m.small ≡ Some tail_entry
-    last_entry = small-last (key_at keys.entries) None None q.small (tail, tail_at.0) tail_key.0 (small_have eq laws hash shares q h index keys free room kept) (λ e. absurd (cc)) tail_at.1 tail_key.1
+    last_entry = small-last (key_at keys.entries) None None q.small (tail, tail_at.0) tail_key.0 (small_have laws kept) (λ e. absurd (cc)) tail_at.1 tail_key.1
 
     small_some : 0 < length m.small
-    small_some = omega (arith, length_in_small eq laws hash shares q h index keys free room kept, length-front)
+    small_some = omega (arith, length_in_small laws kept, length-front)
 
     front_entries : with_keys_small (key_at keys.entries) front ≡ take (length m.small - 1) m.small
-    front_entries = small-take (key_at keys.entries) (length q.small - 1) q.small (small_have eq laws hash shares q h index keys free room kept)
-        ∙ ap (λ n. take (n - 1) m.small) (sym (length_in_small eq laws hash shares q h index keys free room kept))
+    front_entries = small-take (key_at keys.entries) (length q.small - 1) q.small (small_have laws kept)
+        ∙ ap (λ n. take (n - 1) m.small) (sym (length_in_small laws kept))
 
     -- its key has no history
     pub tail-unremembered : (old_key : K) → key_at keys.entries tail ≡ Some old_key → is_remembered eq old_key h.entries ≡ false
@@ -357,7 +372,8 @@ module _ {K V : Type 0} (eq : K → K → Bool) (laws : IsEquivalence eq) (hash 
     -- a key that takes its slot
     module _ (key : K) (value : V) (hsh old : ℕ) (is : hsh ≡ hash key) (at : hash_at keys.entries tail ≡ Some old) (old_key : K) (key_is : key_at keys.entries tail ≡ Some old_key)
         (q' : QueueState) (h' : Remembered K) (index2 : List (List (ℕ × ℕ))) (keys' : KeyPlaces K V) (absent : known_count (eq key) m ≡ 0)
-        (slots : q'.slots ≡ q.slots) (window : q'.window ≡ q.window) (limit : h'.limit ≡ h.limit) (indexed : index2 ≡ with_handle (removed eqb index old tail) hsh tail) (wrote : keys'.entries ≡ written tail (entry hsh key value) keys.entries) (keys_room : keys'.room ≡ keys.room) where
+        (slots : q'.slots ≡ q.slots) (window : q'.window ≡ q.window) (limit : h'.limit ≡ h.limit) (indexed : index2 ≡ with_handle (removed eqb index old tail) hsh tail)
+        (wrote : keys'.entries ≡ written tail (entry hsh key value) keys.entries) (keys_room : keys'.room ≡ keys.room) where
       same_key : tail_key.0 ≡ old_key
       same_key = inner tail_key.0 old_key (sym tail_key.1 ∙ key_is)
         where
@@ -366,7 +382,7 @@ module _ {K V : Type 0} (eq : K → K → Bool) (laws : IsEquivalence eq) (hash 
 
       pub evicted-done : vacancy m ≡ None → IfSome (last_or None m.small) (λ tail. is_promoted tail.age ≡ false) → q'.small ≡ admitted q.window tail front → q'.main ≡ q.main
           → h'.entries ≡ take h.limit ((old, old_key) ∷ h.entries) → AllByRecursion (λ e. e.0 ≡ hash e.1) h'.entries
-          → IsDone eq laws hash shares q h index keys free room kept tail value (into_small key m) q' h' index2 keys' free room
+          → IsDone laws kept tail value (into_small key m) q' h' index2 keys' free room
       evicted-done none out small main pushed hashed =
           let es = entries' key value hsh tail old is tail-in at in
           let s : with_keys_small (key_at es) q'.small ≡ machine.small_admitted shares.window key tail (take (length m.small - 1) m.small) =
@@ -383,7 +399,7 @@ module _ {K V : Type 0} (eq : K → K → Bool) (laws : IsEquivalence eq) (hash 
           let out' : is_promoted tail_at.0 ≡ false = subst (λ z. IfSome z (λ tail. is_promoted tail.age ≡ false)) last_entry out in
           let is_p : into_small key m ≡ p = ap (λ z. into_small_at key z (last_or None m.small) m) none ∙ ap (λ z. into_small_at key None z m) last_entry
           ∙ ap (λ b. if b then promoting_tail key tail_entry (machine.from_victim m.main) m else evicting_tail key tail_entry m) out' in
-          subst (λ z. IsDone eq laws hash shares q h index keys free room kept tail value z q' h' index2 keys' free room) (sym is_p)
+          subst (λ z. IsDone laws kept tail value z q' h' index2 keys' free room) (sym is_p)
           (done key value hsh tail old is tail-in at q' h' index2 keys' absent slots window limit indexed wrote keys_room p
           (placed-evicting eq m kept.whole key tail_entry last_entry small_some) e
           (λ u. has-append u (slots_of q'.small) (slots_of q'.main)
@@ -399,9 +415,11 @@ module _ {K V : Type 0} (eq : K → K → Bool) (laws : IsEquivalence eq) (hash 
     -- a key that takes the slot of Main's victim, while the tail goes to the end of Main
     module _ (victim : ℕ) (first : slice_get (from_victim q.main) 0 ≡ Some (victim, false)) (key : K) (value : V) (hsh old : ℕ) (is : hsh ≡ hash key) (at : hash_at keys.entries victim ≡ Some old)
         (q' : QueueState) (index2 : List (List (ℕ × ℕ))) (keys' : KeyPlaces K V) (absent : known_count (eq key) m ≡ 0)
-        (slots : q'.slots ≡ q.slots) (window : q'.window ≡ q.window) (indexed : index2 ≡ with_handle (removed eqb index old victim) hsh victim) (wrote : keys'.entries ≡ written victim (entry hsh key value) keys.entries) (keys_room : keys'.room ≡ keys.room) where
-      pub promoted-done : vacancy m ≡ None → IfSome (last_or None m.small) (λ tail. is_promoted tail.age ≡ true) → q'.small ≡ admitted q.window victim front → q'.main ≡ rest victim first ++ (tail, false) ∷ []
-          → IsDone eq laws hash shares q h index keys free room kept victim value (into_small key m) q' h index2 keys' free room
+        (slots : q'.slots ≡ q.slots) (window : q'.window ≡ q.window) (indexed : index2 ≡ with_handle (removed eqb index old victim) hsh victim)
+        (wrote : keys'.entries ≡ written victim (entry hsh key value) keys.entries) (keys_room : keys'.room ≡ keys.room) where
+      pub promoted-done : vacancy m ≡ None → IfSome (last_or None m.small) (λ tail. is_promoted tail.age ≡ true)
+          → q'.small ≡ admitted q.window victim front → q'.main ≡ rest victim first ++ (tail, false) ∷ []
+          → IsDone laws kept victim value (into_small key m) q' h index2 keys' free room
       promoted-done none on small main =
           let there : has victim (places_of q) ≡ true = victim-in victim first in
           let es = entries' key value hsh victim old is there at in
@@ -409,7 +427,8 @@ module _ {K V : Type 0} (eq : K → K → Bool) (laws : IsEquivalence eq) (hash 
           ap (λ z. with_keys_small (key_at es) z) small ∙ small-admitted (key_at es) q.window victim key front (own key value hsh victim old is there at)
           ∙ ap (λ z. machine.small_admitted q.window key victim z) (small_other key value hsh victim old is there at front (victim-not_in_front victim first) ∙ front_entries)
           ∙ ap (λ z. machine.small_admitted z key victim (take (length m.small - 1) m.small)) kept.sized.window in
-          let k : key_at es tail ≡ Some tail_key.0 = key_at-others victim hsh key value keys.entries (next key value hsh victim old is there at) (slots_of q.small) (victim-not_in_small victim first) tail tail-there_in_small ∙ tail_key.1 in
+          let k : key_at es tail ≡ Some tail_key.0 =
+          key_at-others victim hsh key value keys.entries (next key value hsh victim old is there at) (slots_of q.small) (victim-not_in_small victim first) tail tail-there_in_small ∙ tail_key.1 in
           let t : with_keys_main (key_at es) q'.main ≡ machine.behind_hand tail_key.0 tail (others victim first) =
           ap (λ z. with_keys_main (key_at es) z) main ∙ main-behind (key_at es) tail tail_key.0 (rest victim first) k
           ∙ ap (λ z. machine.behind_hand tail_key.0 tail z) (main_other key value hsh victim old is there at (rest victim first) (victim-not_in_rest victim first)) in
@@ -420,7 +439,7 @@ module _ {K V : Type 0} (eq : K → K → Bool) (laws : IsEquivalence eq) (hash 
           let is_p : into_small key m ≡ p = ap (λ z. into_small_at key z (last_or None m.small) m) none ∙ ap (λ z. into_small_at key None z m) last_entry
           ∙ ap (λ b. if b then promoting_tail key tail_entry (machine.from_victim m.main) m else evicting_tail key tail_entry m) on'
           ∙ ap (λ z. promoting_tail key tail_entry z m) (choice victim first) in
-          subst (λ z. IsDone eq laws hash shares q h index keys free room kept victim value z q' h index2 keys' free room) (sym is_p)
+          subst (λ z. IsDone laws kept victim value z q' h index2 keys' free room) (sym is_p)
           (done key value hsh victim old is there at q' h index2 keys' absent slots window refl indexed wrote keys_room p
           (placed-promoting eq m kept.whole key tail_entry last_entry small_some (victim_entry victim first) (others victim first) (choice victim first)) e
           (λ u. has-append u (slots_of q'.small) (slots_of q'.main)
@@ -432,5 +451,15 @@ module _ {K V : Type 0} (eq : K → K → Bool) (laws : IsEquivalence eq) (hash 
           ∙ ap (λ z. z || (eqb u victim || has u (slots_of (rest victim first)))) (sym (tail-in_small u))
           ∙ ap (λ z. has u (slots_of q.small) || z) (sym (rest-in_main victim first u))
           ∙ sym (has-append u (slots_of q.small) (slots_of q.main)))
-          (omega (arith, length-places q', length-places q, ap (λ (z : List (ℕ × Age)). length z) small, ap (λ (z : List (ℕ × Bool)). length z) main, length-grown q.window victim front, length-front, length-append (rest victim first) ((tail, false) ∷ []), length-rest victim first))
+          (omega (
+            arith,
+            length-places q',
+            length-places q,
+            ap (λ (z : List (ℕ × Age)). length z) small,
+            ap (λ (z : List (ℕ × Bool)). length z) main,
+            length-grown q.window victim front,
+            length-front,
+            length-append (rest victim first) ((tail, false) ∷ []),
+            length-rest victim first,
+          ))
           kept.hashed refl)

@@ -1,24 +1,26 @@
 -- The residents of the first slots were asked, and those that were refused left: one slot more, until all were asked.
-use Rattle.std.proofs.Common.{◌≡◌, ℕ, zero, suc, ◌+◌, ◌≤◌, ◌==◌, Bool, true, false, not, cond, eqb, Option, Some, None, List, [], ◌∷◌, ◌++◌, map, length, inl, inr, refl, sym, ap, ◌∙◌, subst, arith, eqb-true, ne_eqb, length-append}
+use Rattle.std.proofs.Common.{◌≡◌, ℕ, zero, suc, ◌+◌, ◌-◌, ◌<◌, ◌≤◌, ◌==◌, Bool, true, false, not, cond, eqb, Option, Some, None, List, [], ◌∷◌, ◌++◌, map, length, inl, inr, refl, sym, ap, ◌∙◌, subst, arith, eqb-true, ne_eqb, length-append}
 use Rattle.std.specs.Prelude.{slice_get}
 use Rattle.std.specs.Borrow.{Bor}
-use Rattle.std.specs.Fn.{Mut, Called}
+use Rattle.std.specs.Fn.{Mut, Called, Takes}
+use denote.Param.Always.{always_mut, mut_next}
 use Rattle.std.specs.List.{filter, filter_map, cons_option, find, range_with_len}
 use Rattle.std.specs.List.Retain.{ReturnsInTurn}
 use Rattle.std.proofs.lemmas.Bool.{cases_Bool}
 use Rattle.std.proofs.lemmas.List.{append-nil, map-append}
 use Rattle.std.proofs.lemmas.List.Elements.{filter_map-append}
 use Rattle.std.proofs.lemmas.List.Sums.{fold-append}
-use Rattle.clock2q_cache.specs.Closures.{AsksResident, Retains}
-use Rattle.clock2q_cache.specs.Entries.{SmallEntry, MainEntry}
-use Rattle.clock2q_cache.specs.Machine.{Machine, resident_at, vacated, vacated_all}
-use Rattle.clock2q_cache.specs.Steps.{refused_slots}
+use Rattle.clock2q_cache.specs.Closures.{AsksResident, MayBeAsked, Retains, TakesInTurn}
+use Rattle.clock2q_machine.specs.Entries.{SmallEntry, MainEntry}
+use Rattle.clock2q_machine.specs.Machine.{Machine, by_slot, resident_at, vacated, vacated_all}
+use Rattle.clock2q_machine.specs.Steps.{refused_slots, retained}
 
 range-last : (a n : ℕ) → range_with_len a (suc n) ≡ range_with_len a n ++ (a + n) ∷ []
 range-last a zero = let e : a ≡ a + 0 = omega arith in ap (λ z. z ∷ []) e
 range-last a (suc n) = let e : a + 1 + n ≡ a + suc n = omega arith in ap (λ zs. a ∷ zs) (range-last (a + 1) n ∙ ap (λ z. range_with_len (a + 1) n ++ z ∷ []) e)
 
-returns-more : {X P : Type 0} (R : P → X → Bool → P → Type 0) (p : P) (bs : List Bool) (xs : List X) (q : P) (b : Bool) (x : X) (last : P) → length bs ≡ length xs → ReturnsInTurn R p bs xs q → R q x b last → ReturnsInTurn R p (bs ++ b ∷ []) (xs ++ x ∷ []) last
+returns-more : {X P : Type 0} (R : P → X → Bool → P → Type 0) (p : P) (bs : List Bool) (xs : List X) (q : P) (b : Bool) (x : X) (last : P)
+    → length bs ≡ length xs → ReturnsInTurn R p bs xs q → R q x b last → ReturnsInTurn R p (bs ++ b ∷ []) (xs ++ x ∷ []) last
 returns-more R p [] [] q b x last many h r = (last, subst (λ z. R z x b last) (sym h) r, refl)
 returns-more R p [] (y ∷ xs) q b x last many h r = absurd (omega (arith, many))
 returns-more R p (c ∷ bs) [] q b x last many h r = absurd (omega (arith, many))
@@ -65,8 +67,43 @@ module _ {K X : Type 0} (at : X → K × ℕ) (s t : ℕ) (differ : eqb s t ≡ 
 
 pub resident-other : {K V : Type 0} (m : Machine K V) (s t : ℕ) → eqb s t ≡ false → resident_at (vacated s m) t ≡ resident_at m t
 resident-other {K} {V} m s t differ =
-    others (λ (e : SmallEntry K). (e.key, e.slot)) s t differ m.small (map (λ (e : MainEntry K). (e.key, e.slot)) m.main) (map (λ (e : MainEntry K). (e.key, e.slot)) (filter (λ (e : MainEntry K). not (e.slot == s)) m.main))
+    others (λ (e : SmallEntry K). (e.key, e.slot)) s t differ m.small (map (λ (e : MainEntry K). (e.key, e.slot)) m.main)
+    (map (λ (e : MainEntry K). (e.key, e.slot)) (filter (λ (e : MainEntry K). not (e.slot == s)) m.main))
     (last-others (λ (e : MainEntry K). (e.key, e.slot)) s t differ m.main)
+
+module _ {F K V : Type 0} (g : Mut F (Bor K × (Bor V × Unit {0})) Bool) where
+  module _ (I : F → Type 0) (values : List V)
+      (takes : (f : F) (key : Bor K) (value : Bor V) (slot : ℕ) → I f → slice_get values slot ≡ Some value.now → Takes g f (key, (value, tt)))
+      (keeps : (f : F) (key : Bor K) (value : Bor V) (slot : ℕ) (b : Bool) (next : F) → I f → slice_get values slot ≡ Some value.now → Called g f (key, (value, tt)) b next → I next) where
+    in_turn_by : (rs : List (K × ℕ)) (f : F) → I f → TakesInTurn g values f rs
+    in_turn_by [] f i = tt
+    in_turn_by (r ∷ rs) f i = λ key value shows there. (takes f key value r.1 i there, λ b next called. in_turn_by rs next (keeps f key value r.1 b next i there called))
+
+  -- where what a closure needs lasts through its calls, it may be asked about the residents
+  pub asked_by : (I : F → Type 0) (m : Machine K V) (takes : (f : F) (key : Bor K) (value : Bor V) (slot : ℕ) → I f → slice_get m.values slot ≡ Some value.now → Takes g f (key, (value, tt)))
+      (keeps : (f : F) (key : Bor K) (value : Bor V) (slot : ℕ) (b : Bool) (next : F) → I f → slice_get m.values slot ≡ Some value.now → Called g f (key, (value, tt)) b next → I next)
+      (f : F) → I f → MayBeAsked g f m
+  asked_by I m takes keeps f i = record { in_turn = in_turn_by I m.values takes keeps _ f i }
+
+  -- and so may one that may always be called
+  pub asked_always : (m : Machine K V) (f : F) → always_mut g f → MayBeAsked g f m
+  asked_always m f always = asked_by (always_mut g) m (λ f key value slot may there. (may.at ((key, (value, tt)) ∷ [])).0)
+      (λ f key value slot b next may there called. mut_next g f (key, (value, tt)) b next next called refl may) f always
+
+  -- a closure that answers as a test does, as long as what it needs lasts, keeps the residents that pass the test
+  module _ (I : F → Type 0) (m : Machine K V) (test : K × ℕ → Bool)
+      (says : (f : F) (key : Bor K) (value : Bor V) (r : K × ℕ) (b : Bool) (next : F) → I f → key.now ≡ r.0 → slice_get m.values r.1 ≡ Some value.now → Called g f (key, (value, tt)) b next → (b ≡ test r) × I next) where
+    bits_of : (bits : List Bool) (rs : List (K × ℕ)) (f last : F) → length bits ≡ length rs → I f → ReturnsInTurn (AsksResident g m.values) f bits rs last → bits ≡ map test rs
+    bits_of [] [] f last many i asked = refl
+    bits_of [] (r ∷ rs) f last many i asked = absurd (omega (arith, many))
+    bits_of (b ∷ bits) [] f last many i asked = absurd (omega (arith, many))
+    bits_of (b ∷ bits) (r ∷ rs) f last many i asked =
+        let a = asked.1 in
+        let s = says f a.key a.value r b asked.0 i a.shows.0 a.shows.1 a.called in
+        ap (λ z. z ∷ bits) s.0 ∙ ap (λ z. test r ∷ z) (bits_of bits rs asked.0 last (omega (arith, many)) s.1 asked.2)
+
+    pub retained_by : (f : F) (new : Machine K V) → I f → Retains g f m new → new ≡ retained (map test (by_slot m)) m
+    retained_by f new i r = r.becomes ∙ ap (λ bits. retained bits m) (bits_of r.bits (by_slot m) f r.last r.as_many i r.asked)
 
 module _ {F K V : Type 0} (g : Mut F (Bor K × (Bor V × Unit {0})) Bool) (f : F) (old : Machine K V) where
   -- the residents at the slots below
@@ -80,6 +117,15 @@ module _ {F K V : Type 0} (g : Mut F (Bor K × (Bor V × Unit {0})) Bool) (f : F
       ap (λ z. below z) e ∙ ap (λ z. filter_map (resident_at old) z) (range-last 0 n ∙ ap (λ z. range_with_len 0 n ++ z ∷ []) start) ∙ filter_map-append (resident_at old) (range_with_len 0 n) (n ∷ [])
       ∙ ap (λ z. below n ++ cons_option z []) at
 
+  -- the residents at this slot and above it
+  abbrev pub above : ℕ → List (K × ℕ)
+  above n = filter_map (resident_at old) (range_with_len n (length old.values - n))
+
+  above-more : (n : ℕ) (o : Option (K × ℕ)) → n < length old.values → resident_at old n ≡ o → above n ≡ cons_option o (above (n + 1))
+  above-more n o made at =
+      let e : length old.values - n ≡ suc (length old.values - (n + 1)) = omega (arith, made) in
+      ap (λ z. filter_map (resident_at old) (range_with_len n z)) e ∙ ap (λ z. cons_option z (above (n + 1))) at
+
   -- these were asked, and those that were refused left
   pub record RetainsOver (rs : List (K × ℕ)) (f' : F) (now : Machine K V) : Type 0 where
     pub bits : List Bool
@@ -87,7 +133,8 @@ module _ {F K V : Type 0} (g : Mut F (Bor K × (Bor V × Unit {0})) Bool) (f : F
     pub asked : ReturnsInTurn (AsksResident g old.values) f bits rs f'
     pub becomes : now ≡ vacated_all (refused_slots bits (map (λ r. r.1) rs)) old
 
-  over-more : (rs : List (K × ℕ)) (f' : F) (now : Machine K V) (r : K × ℕ) (b : Bool) (last : F) → RetainsOver rs f' now → AsksResident g old.values f' r b last → RetainsOver (rs ++ r ∷ []) last (cond b now (vacated r.1 now))
+  over-more : (rs : List (K × ℕ)) (f' : F) (now : Machine K V) (r : K × ℕ) (b : Bool) (last : F) → RetainsOver rs f' now
+      → AsksResident g old.values f' r b last → RetainsOver (rs ++ r ∷ []) last (cond b now (vacated r.1 now))
   over-more rs f' now r b last h asks = record {
     bits = h.bits ++ b ∷ [];
     as_many = omega (arith, h.as_many, length-append h.bits (b ∷ []), length-append rs (r ∷ []));
@@ -107,50 +154,66 @@ module _ {F K V : Type 0} (g : Mut F (Bor K × (Bor V × Unit {0})) Bool) (f : F
     pub over : RetainsOver (below n) f' now
     pub later : (t : ℕ) → n ≤ t → resident_at now t ≡ resident_at old t
     pub values : now.values ≡ old.values
+    pub callable : TakesInTurn g old.values f' (above n)
 
-  pub retains-none : RetainsBelow 0 f old
-  retains-none = record {
+  pub retains-none : MayBeAsked g f old → RetainsBelow 0 f old
+  retains-none may = record {
+    callable = let e : length old.values ≡ length old.values - 0 = omega arith in subst (λ z. TakesInTurn g old.values f (filter_map (resident_at old) (range_with_len 0 z))) e may.in_turn;
     over = record { bits = []; as_many = refl; asked = refl; becomes = refl };
     later = λ t le. refl;
     values = refl;
   }
 
-  module _ (n : ℕ) (f' : F) (now : Machine K V) (h : RetainsBelow n f' now) where
+  module _ (n : ℕ) (f' : F) (now : Machine K V) (h : RetainsBelow n f' now) (made : n < length old.values) where
     -- there is no resident
     pub retains-past : resident_at now n ≡ None → RetainsBelow (n + 1) f' now
     retains-past none = record {
+      callable = subst (λ rs. TakesInTurn g old.values f' rs) (above-more n None made (sym (h.later n (omega arith)) ∙ none)) h.callable;
       over = subst (λ z. RetainsOver z f' now) (sym (below-more n None (sym (h.later n (omega arith)) ∙ none) ∙ append-nil (below n))) h.over;
       later = λ t le. h.later t (omega (arith, le));
       values = h.values;
     }
 
-    module _ (key : Bor K) (value : Bor V) (here : resident_at now n ≡ Some (key.now, n)) (shown : slice_get now.values n ≡ Some value.now) (last : F) where
-      asks : (b : Bool) → Called g f' (key, (value, tt)) b last → AsksResident g old.values f' (key.now, n) b last
-      asks b called = record {
-        key = key;
-        value = value;
-        shows = (refl, subst (λ z. slice_get z n ≡ Some value.now) h.values shown);
-        called = called;
-      }
+    module _ (key : Bor K) (value : Bor V) (here : resident_at now n ≡ Some (key.now, n)) (shown : slice_get now.values n ≡ Some value.now) where
+      turn : TakesInTurn g old.values f' ((key.now, n) ∷ above (n + 1))
+      turn = subst (λ rs. TakesInTurn g old.values f' rs) (above-more n (Some (key.now, n)) made (sym (h.later n (omega arith)) ∙ here)) h.callable
 
-      among : below (n + 1) ≡ below n ++ (key.now, n) ∷ []
-      among = below-more n (Some (key.now, n)) (sym (h.later n (omega arith)) ∙ here)
+      there : slice_get old.values n ≡ Some value.now
+      there = subst (λ z. slice_get z n ≡ Some value.now) h.values shown
 
-      -- the resident stays
-      pub retains-kept : Called g f' (key, (value, tt)) true last → RetainsBelow (n + 1) last now
-      retains-kept called = record {
-        over = subst (λ z. RetainsOver z last now) (sym among) (over-more (below n) f' now (key.now, n) true last h.over (asks true called));
-        later = λ t le. h.later t (omega (arith, le));
-        values = h.values;
-      }
+      -- the closure may be called at this one
+      pub retains-asks : Takes g f' (key, (value, tt))
+      retains-asks = (turn key value refl there).0
 
-      -- it leaves
-      pub retains-refused : Called g f' (key, (value, tt)) false last → RetainsBelow (n + 1) last (vacated n now)
-      retains-refused called = record {
-        over = subst (λ z. RetainsOver z last (vacated n now)) (sym among) (over-more (below n) f' now (key.now, n) false last h.over (asks false called));
-        later = λ t le. resident-other now n t (ne_eqb n t (λ e. omega (arith, e, le))) ∙ h.later t (omega (arith, le));
-        values = h.values;
-      }
+      module _ (last : F) where
+        asks : (b : Bool) → Called g f' (key, (value, tt)) b last → AsksResident g old.values f' (key.now, n) b last
+        asks b called = record {
+          key = key;
+          value = value;
+          shows = (refl, there);
+          called = called;
+        }
+
+        among : below (n + 1) ≡ below n ++ (key.now, n) ∷ []
+        among = below-more n (Some (key.now, n)) (sym (h.later n (omega arith)) ∙ here)
+
+        -- the resident stays
+        pub retains-kept : Called g f' (key, (value, tt)) true last → RetainsBelow (n + 1) last now
+        retains-kept called = record {
+          callable = (turn key value refl there).1 true last called;
+          over = subst (λ z. RetainsOver z last now) (sym among) (over-more (below n) f' now (key.now, n) true last h.over (asks true called));
+          later = λ t le. h.later t (omega (arith, le));
+          values = h.values;
+        }
+
+        -- it leaves
+        pub retains-refused : Called g f' (key, (value, tt)) false last → RetainsBelow (n + 1) last (vacated n now)
+        retains-refused called = record {
+          callable = (turn key value refl there).1 false last called;
+          over = subst (λ z. RetainsOver z last (vacated n now)) (sym among) (over-more (below n) f' now (key.now, n) false last h.over (asks false called));
+          later = λ t le. resident-other now n t (ne_eqb n t (λ e. omega (arith, e, le))) ∙ h.later t (omega (arith, le));
+          values = h.values;
+        }
 
   -- all were asked
   pub retains-all : (n : ℕ) (f' : F) (now : Machine K V) → n ≡ length old.values → RetainsBelow n f' now → Retains g f old now

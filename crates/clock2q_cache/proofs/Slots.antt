@@ -1,21 +1,19 @@
 -- How often a slot stands in a cache's queues, and which slots are apart.
-use Rattle.std.proofs.Common.{◌≡◌, ℕ, zero, suc, ◌+◌, ◌-◌, ◌<◌, ◌≤◌, ◌==◌, Bool, true, false, not, ◌||◌, cond, eqb, Option, Some, None, List, [], ◌∷◌, ◌++◌, map, length, take, drop, reverse, inl, inr, refl, sym, ap, ◌∙◌, subst, arith, eqb-true, eq-eqb, ne_eqb, length-append}
+use Rattle.std.proofs.Common.{◌≡◌, ℕ, zero, suc, ◌+◌, ◌<◌, ◌≤◌, ◌==◌, Bool, true, false, ◌||◌, cond, eqb, Option, Some, None, List, [], ◌∷◌, ◌++◌, map, length, take, drop, reverse, inl, inr, refl, sym, ap, ◌∙◌, subst, arith, eqb-true, eq-eqb, length-append}
 use Rattle.std.specs.Prelude.{if◌then◌else◌, nat_lt, is_some}
-use Rattle.std.specs.List.{count_by, last_or}
+use Rattle.std.specs.List.{count_by}
 use Rattle.std.proofs.lemmas.Bool.{cases_Bool, cases_lt, both_ways, lt-ltb, le-ltb}
-use Rattle.std.proofs.lemmas.List.{length-reverse}
 use Rattle.std.proofs.lemmas.List.Sums.{sum_by-cons, sum_by-append}
 use Rattle.clock2q_queues.proofs.Booleans.{or_true}
-use Rattle.clock2q_queues.specs.Ages.{Age}
 use Rattle.clock2q_queues.specs.declared.keys.cells.Entry.{Entry}
-use Rattle.clock2q_queues.specs.Rings.{has, AllApart, AllBelow}
+use Rattle.clock2q_queues.specs.Rings.{has, AllApart}
 use Rattle.clock2q_queues.specs.Keys.{key_at}
 use Rattle.clock2q_queues.specs.MainRing.{set_front, from_victim}
 use Rattle.clock2q_queues.specs.Queues.{QueueState, slots_of}
-use Rattle.clock2q_queues.proofs.Rings.{has-append, has_first, has_later, eqb_self}
-use Rattle.clock2q_cache.specs.Shares.{Shares}
-use Rattle.clock2q_cache.specs.Machine.{Machine, vacancy, vacant_slot}
-use Rattle.clock2q_cache.specs.Cache.{IsWhole, standings}
+use Rattle.clock2q_queues.proofs.Rings.{has-append, eqb_self}
+use Rattle.clock2q_machine.specs.Shares.{Shares}
+use Rattle.clock2q_machine.specs.Machine.{Machine, vacancy, vacant_slot}
+use Rattle.clock2q_machine.specs.Whole.{IsWhole, standings}
 use Rattle.clock2q_cache.specs.CacheFields.{machine_of, places_of, IsStored}
 use Rattle.clock2q_cache.proofs.WithKeys.{HaveKeys, small-standing, main-standing, length-small, length-main}
 use Rattle.clock2q_cache.proofs.Stored.{have_keys, length-values}
@@ -59,7 +57,8 @@ has-split t zero main = or_none (has t (slots_of main))
     or_none true = refl
     or_none false = refl
 has-split t (suc n) [] = refl
-has-split t (suc n) (e ∷ main) = ap (λ z. eqb t e.0 || z) (has-split t n main) ∙ swapped (eqb t e.0) (has t (slots_of (drop n main))) (has t (slots_of (map {B = ℕ × Bool} (λ e. (e.0, false)) (take n main))))
+has-split t (suc n) (e ∷ main) = ap (λ z. eqb t e.0 || z) (has-split t n main)
+    ∙ swapped (eqb t e.0) (has t (slots_of (drop n main))) (has t (slots_of (map {B = ℕ × Bool} (λ e. (e.0, false)) (take n main))))
   where
     swapped : (a b c : Bool) → (a || (b || c)) ≡ (b || (a || c))
     swapped true true c = refl
@@ -100,7 +99,12 @@ module _ {K V : Type 0} (eq : K → K → Bool) (hash : K → ℕ) (shares : Sha
 
   pub standing-times : (t : ℕ) → standings t m ≡ times t (places_of q) + times t (reverse free)
   standing-times t =
-      omega (arith, small-standing (key_at entries) t q.small small_keys, main-standing (key_at entries) t q.main main_keys, sum_by-append (λ s. cond (s == t) 1 0) (slots_of q.small) (slots_of q.main))
+      omega (
+        arith,
+        small-standing (key_at entries) t q.small small_keys,
+        main-standing (key_at entries) t q.main main_keys,
+        sum_by-append (λ s. cond (s == t) 1 0) (slots_of q.small) (slots_of q.main),
+      )
 
   once_at_most : (b : Bool) → (if b then 1 else 0) ≤ 1
   once_at_most true = omega arith
@@ -125,7 +129,9 @@ module _ {K V : Type 0} (eq : K → K → Bool) (hash : K → ℕ) (shares : Sha
 
   -- nor has the next slot
   next_slot : has (length m.values) (places_of q) ≡ false
-  next_slot = times-none (length m.values) (places_of q) (omega (arith, standing-times (length m.values), whole.slots_once (length m.values), ap {B = ℕ} (λ b. if b then 1 else 0) (le-ltb (length m.values) (length m.values) (omega arith))))
+  next_slot =
+      times-none (length m.values) (places_of q)
+      (omega (arith, standing-times (length m.values), whole.slots_once (length m.values), ap {B = ℕ} (λ b. if b then 1 else 0) (le-ltb (length m.values) (length m.values) (omega arith))))
 
   -- a vacancy has no resident, and was made or is the next slot
   pub record IsVacant (slot : ℕ) : Type 0 where
@@ -158,14 +164,16 @@ module _ {K V : Type 0} (eq : K → K → Bool) (hash : K → ℕ) (shares : Sha
   pub vacancy-taken : (slot : ℕ) → is_some (vacancy m) ≡ true → vacant_slot (reverse free) (length entries) (length entries + 1) ≡ Some slot → vacancy m ≡ Some slot
   vacancy-taken slot some taken = of (reverse free) some taken
     where
-      of : (fs : List ℕ) → is_some (vacant_slot fs (length m.values) shares.capacity) ≡ true → vacant_slot fs (length entries) (length entries + 1) ≡ Some slot → vacant_slot fs (length m.values) shares.capacity ≡ Some slot
+      of : (fs : List ℕ) → is_some (vacant_slot fs (length m.values) shares.capacity) ≡ true
+          → vacant_slot fs (length entries) (length entries + 1) ≡ Some slot → vacant_slot fs (length m.values) shares.capacity ≡ Some slot
       of (s ∷ fs) some e = e
       of [] some e = elim (cases_lt (length m.values) shares.capacity) [
         | inl below ↦
             ap (λ b. if b then Some (length m.values) else None) (lt-ltb (length m.values) shares.capacity below)
             ∙ ap Some (length-values entries)
             ∙ sym (ap (λ b. if b then Some (length entries) else None) (lt-ltb (length entries) (length entries + 1) (omega arith))) ∙ e
-        | inr above ↦ absurd (both_ways false refl (sym (ap (λ (z : Option ℕ). is_some z) (ap (λ b. if b then Some (length m.values) else None) (le-ltb (length m.values) shares.capacity above))) ∙ some))
+        | inr above ↦ absurd (both_ways false refl
+            (sym (ap (λ (z : Option ℕ). is_some z) (ap (λ b. if b then Some (length m.values) else None) (le-ltb (length m.values) shares.capacity above))) ∙ some))
       ]
 
   -- where fewer slots are residents' than there may be, there is a vacancy
@@ -175,5 +183,6 @@ module _ {K V : Type 0} (eq : K → K → Bool) (hash : K → ℕ) (shares : Sha
       of : (fs : List ℕ) → reverse free ≡ fs → is_some (vacant_slot fs (length m.values) shares.capacity) ≡ true
       of (s ∷ fs) at = refl
       of [] at =
-          let below : length m.values < shares.capacity = omega (arith, few, whole.slots_counted, length-small (key_at entries) q.small small_keys, length-main (key_at entries) q.main main_keys, ap (λ (z : List ℕ). length z) at) in
+          let below : length m.values < shares.capacity =
+          omega (arith, few, whole.slots_counted, length-small (key_at entries) q.small small_keys, length-main (key_at entries) q.main main_keys, ap (λ (z : List ℕ). length z) at) in
           ap (λ (z : Option ℕ). is_some z) (ap (λ b. if b then Some (length m.values) else None) (lt-ltb (length m.values) shares.capacity below))

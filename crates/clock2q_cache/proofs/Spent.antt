@@ -8,21 +8,22 @@ use Rattle.clock2q_queues.specs.Keys.{KeyPlaces, questions_of}
 use Rattle.clock2q_queues.specs.History.{Remembered}
 use Rattle.clock2q_queues.specs.Queues.{QueueState}
 use Rattle.clock2q_queues.proofs.Lookups.{questions-most}
-use Rattle.clock2q_cache.specs.Bounds.{set_bits, inspections_of}
-use Rattle.clock2q_cache.specs.Calls.{Call, Get, GetAt, Set, Remove, Retain, Prefill}
+use Rattle.clock2q_machine.specs.Bounds.{set_bits, inspections_of}
+use Rattle.clock2q_machine.specs.Calls.{Call, Get, GetAt, Set, Remove, Retain, Prefill}
 use Rattle.clock2q_cache.specs.CacheFields.{counts_of}
 use Rattle.clock2q_cache.specs.CacheState.{CacheState, Counts}
 use Rattle.clock2q_cache.specs.Costs.{Spends, Costs, Becomes, most_accesses, most_questions}
 use Rattle.clock2q_cache.specs.Hashes.{hash_of}
-use Rattle.clock2q_cache.specs.Machine.{slot_of, hit, stored, prefilled, vacated, removed_at, removed}
+use Rattle.clock2q_machine.specs.Machine.{slot_of, hit, stored, prefilled, vacated, removed_at, removed}
 use Rattle.std.specs.Bool.{then_some}
-use Rattle.clock2q_cache.specs.Steps.{is_at, after, hit_at, retained, replaced, replaced_at}
-use Rattle.clock2q_cache.proofs.Clock.{clock_bounded}
-use Rattle.clock2q_cache.proofs.Residents.{hit-absent}
+use Rattle.clock2q_machine.specs.Steps.{is_at, after, hit_at, retained, replaced, replaced_at}
+use Rattle.clock2q_machine.proofs.Clock.{clock_bounded}
+use Rattle.clock2q_machine.proofs.Residents.{hit-absent}
 
 module _ {K V : Type 0} (q : QueueState) (h : Remembered K) (keys : KeyPlaces K V) where
   -- a look-up asks at most as many keys as there are places to look at
-  pub asked-spends : (keys' : KeyPlaces K V) (test : ℕ → Bool) (places all : List ℕ) → places ≡ all → keys' ≡ record keys { questions = keys.questions + questions_of test places } → Spends 0 0 (length all) (counts_of q h keys) (counts_of q h keys')
+  pub asked-spends : (keys' : KeyPlaces K V) (test : ℕ → Bool) (places all : List ℕ) → places ≡ all
+      → keys' ≡ record keys { questions = keys.questions + questions_of test places } → Spends 0 0 (length all) (counts_of q h keys) (counts_of q h keys')
   asked-spends keys' test places all same is = record {
     inspections = omega arith;
     accesses = (omega arith, omega arith);
@@ -70,10 +71,12 @@ module _ {K V S H : Type 0} (key : HashMembers K) (build : builder.Ghosts S H) (
       → Costs key build hash call old new
   costs-unlooked call old new none fewer spent = record { counts = rw none spent; clock = omega (arith, spent.inspections, fewer) }
 
-  pub prefill-costs : (values made : List V) (old new : CacheState K V S) → new.machine ≡ prefilled made old.machine → Spends 0 0 0 old.counts new.counts → Costs key build hash (Prefill values) old new
+  pub prefill-costs : (values made : List V) (old new : CacheState K V S) → new.machine ≡ prefilled made old.machine
+      → Spends 0 0 0 old.counts new.counts → Costs key build hash (Prefill values) old new
   prefill-costs values made old new is spent = costs-unlooked (Prefill values) old new refl (omega (arith, ap set_bits is)) spent
 
-  pub retain-costs : (bits asked : List Bool) (old new : CacheState K V S) → new.machine ≡ retained asked old.machine → Spends 0 (9 * length old.machine.values) 0 old.counts new.counts → Costs key build hash (Retain bits) old new
+  pub retain-costs : (bits asked : List Bool) (old new : CacheState K V S) → new.machine ≡ retained asked old.machine
+      → Spends 0 (9 * length old.machine.values) 0 old.counts new.counts → Costs key build hash (Retain bits) old new
   retain-costs bits asked old new is spent = costs-unlooked (Retain bits) old new refl (omega (arith, ap set_bits is, clock_bounded key.eq (Retain asked) old.machine)) spent
 
   -- a look-up under the key's hash asks no more than a call with the key may
@@ -93,11 +96,9 @@ module _ {K V S H : Type 0} (key : HashMembers K) (build : builder.Ghosts S H) (
       let m = ap (λ (z : CacheState K V S). z.machine) kept ∙ sym (hit-absent (key.eq k) old.machine absent) in
       (m, ap (λ (z : CacheState K V S). z.hasher) kept, costs-of (Get k) old new m (found-spends k x old new.counts same spent))
 
-  pub unhit-becomes : (k : K) (x : ℕ) (old new : CacheState K V S) → x ≡ hash_of build hash old.hasher (key.hash_input k) → slot_of (key.eq k) old.machine ≡ None
-      → new ≡ record old { counts = new.counts } → Spends 0 0 (length (candidates old.residents x)) old.counts new.counts
-      → Becomes key build hash (Get k) old.machine old new
-  unhit-becomes k x old new same absent kept spent =
-      subst (λ m. Becomes key build hash (Get k) m old new) (hit-absent (key.eq k) old.machine absent) (missed-becomes k x old new same absent kept spent)
+  pub unhit-becomes : (k : K) (old new : CacheState K V S) → slot_of (key.eq k) old.machine ≡ None
+      → Becomes key build hash (Get k) (hit (key.eq k) old.machine) old new → Becomes key build hash (Get k) old.machine old new
+  unhit-becomes k old new absent missed = subst (λ m. Becomes key build hash (Get k) m old new) (hit-absent (key.eq k) old.machine absent) missed
 
   -- a look-up that finds one, which is hit
   pub hit-becomes : (k : K) (x : ℕ) (old found new : CacheState K V S) → x ≡ hash_of build hash old.hasher (key.hash_input k)
@@ -124,23 +125,21 @@ module _ {K V S H : Type 0} (key : HashMembers K) (build : builder.Ghosts S H) (
       })
 
   -- the value of the key that is hit is lent, and this is left behind the reference
-  pub lent-becomes : (k : K) (x slot : ℕ) (value : V) (old found new : CacheState K V S) → x ≡ hash_of build hash old.hasher (key.hash_input k) → Some slot ≡ slot_of (key.eq k) old.machine
-      → found ≡ record old { counts = found.counts } → Spends 0 0 (length (candidates old.residents x)) old.counts found.counts
-      → new ≡ record found { machine = new.machine } → new.machine ≡ hit (key.eq k) found.machine
+  pub lent-becomes : (k : K) (slot : ℕ) (value : V) (old new : CacheState K V S) → Some slot ≡ slot_of (key.eq k) old.machine
+      → Becomes key build hash (Get k) (hit (key.eq k) old.machine) old new
       → Becomes key build hash (Set k value) (replaced (key.eq k) value old.machine) old (record new { machine = stored slot value new.machine })
-  lent-becomes k x slot value old found new same there kept spent after_hit is =
-      let h = is ∙ ap (λ (z : CacheState K V S). hit (key.eq k) z.machine) kept in
-      let m : stored slot value new.machine ≡ replaced (key.eq k) value old.machine = ap (λ z. stored slot value z) h ∙ ap (λ o. replaced_at (key.eq k) value o old.machine) there in
-      let c = ap (λ (z : CacheState K V S). z.counts) after_hit in
-      (m, ap (λ (z : CacheState K V S). z.hasher) after_hit ∙ ap (λ (z : CacheState K V S). z.hasher) kept, costs-of (Set k value) old (record new { machine = stored slot value new.machine }) m (rw c (found-spends k x old found.counts same spent)))
+  lent-becomes k slot value old new there found =
+      let m : stored slot value new.machine ≡ replaced (key.eq k) value old.machine
+      = ap (λ z. stored slot value z) found.0 ∙ ap (λ o. replaced_at (key.eq k) value o old.machine) there in
+      (m, found.1, costs-of (Set k value) old (record new { machine = stored slot value new.machine }) m found.2.counts)
 
   -- none is lent
-  pub unlent-becomes : (k : K) (x : ℕ) (value : V) (old new : CacheState K V S) → x ≡ hash_of build hash old.hasher (key.hash_input k) → slot_of (key.eq k) old.machine ≡ None
-      → new ≡ record old { counts = new.counts } → Spends 0 0 (length (candidates old.residents x)) old.counts new.counts
+  pub unlent-becomes : (k : K) (value : V) (old new : CacheState K V S) → slot_of (key.eq k) old.machine ≡ None
+      → Becomes key build hash (Get k) (hit (key.eq k) old.machine) old new
       → Becomes key build hash (Set k value) (replaced (key.eq k) value old.machine) old new
-  unlent-becomes k x value old new same absent kept spent =
-      let m : new.machine ≡ replaced (key.eq k) value old.machine = ap (λ (z : CacheState K V S). z.machine) kept ∙ ap (λ o. replaced_at (key.eq k) value o old.machine) (sym absent) in
-      (m, ap (λ (z : CacheState K V S). z.hasher) kept, costs-of (Set k value) old new m (found-spends k x old new.counts same spent))
+  unlent-becomes k value old new absent missed =
+      let m : new.machine ≡ replaced (key.eq k) value old.machine = missed.0 ∙ hit-absent (key.eq k) old.machine absent ∙ ap (λ o. replaced_at (key.eq k) value o old.machine) (sym absent) in
+      (m, missed.1, costs-of (Set k value) old new m missed.2.counts)
 
   -- the same at a slot
   pub missed_at-becomes : (slot : ℕ) (k : K) (old new : CacheState K V S) → None ≡ then_some (is_at slot (slot_of (key.eq k) old.machine)) slot

@@ -1,17 +1,17 @@
 -- The keys by slot and their index: what becomes of them where a key enters or one is replaced.
-use Rattle.std.proofs.Common.{◌≡◌, ℕ, zero, suc, ◌+◌, ◌-◌, ◌^◌, ◌<◌, ◌≤◌, ◌==◌, Bool, true, false, not, ◌||◌, ◌&&◌, cond, eqb, max, Option, Some, None, slice_get, List, [], ◌∷◌, ◌++◌, map, length, take, drop, inl, inr, refl, sym, ap, ◌∙◌, subst, arith, eqb-true, length-append}
+use Rattle.std.proofs.Common.{◌≡◌, ℕ, zero, suc, ◌+◌, ◌^◌, ◌<◌, ◌≤◌, Bool, true, false, not, ◌&&◌, eqb, Some, None, slice_get, List, [], ◌∷◌, ◌++◌, map, length, inl, inr, refl, sym, ap, ◌∙◌, subst, arith, eqb-true}
 use Rattle.std.specs.Prelude.{if◌then◌else◌, nat_lt, slice_set}
 use Rattle.std.specs.List.{AllByRecursion}
 use Rattle.std.proofs.lemmas.Bool.{cases_Bool, cases_lt, both_ways, lt-ltb, le-ltb}
-use Rattle.clock2q_handles.specs.Homes.{candidates, total, capacity, with_handle, removed}
+use Rattle.clock2q_handles.specs.Homes.{total, capacity, with_handle, removed}
 use Rattle.clock2q_queues.specs.declared.keys.cells.Entry.{Entry}
 use Rattle.clock2q_queues.specs.Rings.{has, without, AllApart, AllBelow}
-use Rattle.clock2q_queues.specs.Keys.{entry, written, with_key, hash_at, key_at, value_at}
+use Rattle.clock2q_queues.specs.Keys.{entry, written, with_key, hash_at, key_at}
 use Rattle.clock2q_queues.specs.Indexes.{IsIndex, is_named}
-use Rattle.clock2q_queues.proofs.Rings.{has_first, has_later, has-append, eqb_self, below_of, differs, has-without_test}
+use Rattle.clock2q_queues.proofs.Rings.{has_first, has_later, eqb_self, below_of, has-without_test}
 use Rattle.clock2q_queues.proofs.Joining.{length-without}
 use Rattle.clock2q_queues.proofs.Entries.{slice_get-written, slice_get-written_other, length-written}
-use Rattle.clock2q_queues.proofs.Indexes.{IsIndex-put, IsIndex-taken, length-put, length-taken}
+use Rattle.clock2q_queues.proofs.Indexes.{IsIndex-put, IsIndex-taken, length-taken}
 use Rattle.clock2q_cache.specs.CacheFields.{IsStored}
 use Rattle.clock2q_cache.specs.Insertions.{Writes}
 use Rattle.clock2q_cache.proofs.WithKeys.{HaveKeys}
@@ -117,19 +117,22 @@ module _ {K V : Type 0} (hash : K → ℕ) where
   }
 
   -- a key enters at a slot
-  pub stored-entered : (index : List (List (ℕ × ℕ))) (entries : List (Entry K V)) (places : List ℕ) (slot : ℕ) (key : K) (value : V) → IsStored hash index entries places → 0 < length index → has slot places ≡ false → slot ≤ length entries
+  pub stored-entered : (index : List (List (ℕ × ℕ))) (entries : List (Entry K V)) (places : List ℕ) (slot : ℕ) (key : K) (value : V)
+      → IsStored hash index entries places → 0 < length index → has slot places ≡ false → slot ≤ length entries
       → IsStored hash (with_handle index (hash key) slot) (written slot (entry (hash key) key value) entries) (slot ∷ places)
   stored-entered index entries places slot key value i some absent next =
       let e = entry (hash key) key value in
       let n = length-written slot e entries next in
       record {
         made = (omega (arith, n), below-more (length entries) (length (written slot e entries)) places (omega (arith, n)) i.made);
-        indexed = IsIndex-put index entries (written slot e entries) places slot (hash key) i.indexed some absent (hash_at-others slot (hash key) key value entries next places absent) (hash_at-own slot (hash key) key value entries next);
+        indexed = IsIndex-put index entries (written slot e entries) places slot (hash key) i.indexed some absent
+            (hash_at-others slot (hash key) key value entries next places absent) (hash_at-own slot (hash key) key value entries next);
         hashed = all-written (λ e. e.hash ≡ hash e.key) slot e entries i.hashed refl;
       }
 
   -- a resident's slot goes out of the index
-  pub stored-left : (index : List (List (ℕ × ℕ))) (entries : List (Entry K V)) (places : List ℕ) (slot old : ℕ) → IsStored hash index entries places → 0 < length index → AllApart places → hash_at entries slot ≡ Some old
+  pub stored-left : (index : List (List (ℕ × ℕ))) (entries : List (Entry K V)) (places : List ℕ) (slot old : ℕ)
+      → IsStored hash index entries places → 0 < length index → AllApart places → hash_at entries slot ≡ Some old
       → IsStored hash (removed eqb index old slot) entries (without slot places)
   stored-left index entries places slot old i some apart at = record {
     made = below-has (length entries) (without slot places) (λ t g. below_of (length entries) places i.made t (kept t g));
@@ -145,14 +148,16 @@ module _ {K V : Type 0} (hash : K → ℕ) where
           left false b h = absurd (both_ways false refl h)
 
   -- a key takes the place of a resident
-  pub stored-renewed : (index : List (List (ℕ × ℕ))) (entries : List (Entry K V)) (places : List ℕ) (slot old : ℕ) (key : K) (value : V) → IsStored hash index entries places → 0 < length index → AllApart places → has slot places ≡ true → hash_at entries slot ≡ Some old
+  pub stored-renewed : (index : List (List (ℕ × ℕ))) (entries : List (Entry K V)) (places : List ℕ) (slot old : ℕ) (key : K) (value : V)
+      → IsStored hash index entries places → 0 < length index → AllApart places → has slot places ≡ true → hash_at entries slot ≡ Some old
       → IsStored hash (with_handle (removed eqb index old slot) (hash key) slot) (written slot (entry (hash key) key value) entries) places
   stored-renewed index entries places slot old key value i some apart there at =
       let l = stored-left index entries places slot old i some apart at in
       let gone : has slot (without slot places) ≡ false = has-without_test slot slot places ∙ rw (eqb_self slot) (and_none (has slot places)) in
       let below : slot < length entries = below_of (length entries) places i.made slot there in
       let e = stored-entered (removed eqb index old slot) entries (without slot places) slot key value l (omega (arith, some, length-taken index old slot)) gone (omega (arith, below)) in
-      stored-same (with_handle (removed eqb index old slot) (hash key) slot) (written slot (entry (hash key) key value) entries) (slot ∷ without slot places) places e again (sym (omega (arith, length-without slot places apart there)))
+      stored-same (with_handle (removed eqb index old slot) (hash key) slot) (written slot (entry (hash key) key value) entries)
+      (slot ∷ without slot places) places e again (sym (omega (arith, length-without slot places apart there)))
     where
       and_none : (b : Bool) → (b && false) ≡ false
       and_none true = refl
@@ -168,12 +173,9 @@ module _ {K V : Type 0} (hash : K → ℕ) where
           and_all true = refl
           and_all false = refl
 
-  -- how many there are in the index
-  pub stored-counted : (index : List (List (ℕ × ℕ))) (entries : List (Entry K V)) (places : List ℕ) → IsStored hash index entries places → total index ≡ length places
-  stored-counted index entries places i = i.indexed.counted
-
 -- one of the places goes out of an index: it has room for another
-pub left-room : {K V : Type 0} (index index' : List (List (ℕ × ℕ))) (entries : List (Entry K V)) (places : List ℕ) (slot old : ℕ) → IsIndex index entries places → AllApart places → has slot places ≡ true → hash_at entries slot ≡ Some old
+pub left-room : {K V : Type 0} (index index' : List (List (ℕ × ℕ))) (entries : List (Entry K V)) (places : List ℕ) (slot old : ℕ)
+    → IsIndex index entries places → AllApart places → has slot places ≡ true → hash_at entries slot ≡ Some old
     → length places < 2 ^ 24 → length places ≤ capacity (length index) → index' ≡ removed eqb index old slot → (total index' < capacity (length index')) × (total index' + 1 < 2 ^ 24)
 left-room index index' entries places slot old i apart there at few room is =
     let n = length-without slot places apart there in

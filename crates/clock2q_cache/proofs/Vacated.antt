@@ -7,7 +7,7 @@ use Rattle.std.specs.List.{filter, find, count_by}
 use Rattle.std.proofs.lemmas.Bool.{cases_Bool, both_ways}
 use Rattle.std.proofs.lemmas.List.Sums.{sum_by-append}
 use Rattle.clock2q_handles.specs.Homes.{removed}
-use Rattle.clock2q_queues.specs.Ages.{Age}
+use Rattle.clock2q_machine.specs.Ages.{Age}
 use Rattle.clock2q_queues.specs.declared.queues.Standing.{Standing}
 use Rattle.clock2q_queues.specs.declared.queues.Standing.TheVariants as standing
 use Rattle.clock2q_queues.specs.Rings.{has, without}
@@ -16,16 +16,16 @@ use Rattle.clock2q_queues.specs.Queues.{QueueState, slots_of, without_slot, IsSt
 use Rattle.clock2q_queues.specs.History.{Remembered}
 use Rattle.clock2q_queues.proofs.Rings.{has-append, has_first, eqb_swap, below_of}
 use Rattle.clock2q_queues.proofs.Indexes.{length-taken}
-use Rattle.clock2q_cache.specs.Shares.{Shares}
-use Rattle.clock2q_cache.specs.Entries.{SmallEntry, MainEntry}
-use Rattle.clock2q_cache.specs.Machine.{Machine, residents, resident_at, slot_of, vacated}
-use Rattle.clock2q_cache.specs.Cache.{IsWhole}
+use Rattle.clock2q_machine.specs.Shares.{Shares}
+use Rattle.clock2q_machine.specs.Entries.{SmallEntry, MainEntry}
+use Rattle.clock2q_machine.specs.Machine.{Machine, residents, resident_at, slot_of, vacated}
+use Rattle.clock2q_machine.specs.Whole.{IsWhole}
 use Rattle.clock2q_cache.specs.CacheFields.{machine_of, places_of, with_keys_small, with_keys_main, IsStored, IsKept}
 use Rattle.clock2q_cache.proofs.WithKeys.{HaveKeys, have_later, small-cons, main-cons, small-standing, main-standing}
 use Rattle.clock2q_cache.proofs.Stored.{stored-left, have_keys, length-values}
 use Rattle.clock2q_cache.proofs.Slots.{times-some}
 use Rattle.clock2q_cache.proofs.CacheInvariant.{small_have, main_have, apart, index_some, sized-same}
-use Rattle.clock2q_cache.proofs.MachineInvariant.{whole-vacated}
+use Rattle.clock2q_machine.proofs.MachineInvariant.{whole-vacated}
 
 some_same : {X : Type 0} (x y : X) → Some x ≡ Some y → x ≡ y
 some_same x y e = cc
@@ -129,15 +129,15 @@ both_asked : {X : Type 0} (a b : Bool) (x y : X) → (if a then x else (if b the
 both_asked true b x y = refl
 both_asked false b x y = refl
 
-module _ {K V : Type 0} (eq : K → K → Bool) (laws : IsEquivalence eq) (hash : K → ℕ) (shares : Shares) (q : QueueState) (h : Remembered K) (index : List (List (ℕ × ℕ))) (keys : KeyPlaces K V) (free : List ℕ) (room : ℕ)
-    (kept : IsKept eq hash shares q h index keys free room) where
+module _ {K V : Type 0} {eq : K → K → Bool} {hash : K → ℕ} {shares : Shares} {q : QueueState} {h : Remembered K} {index : List (List (ℕ × ℕ))} {keys : KeyPlaces K V} {free : List ℕ} {room : ℕ}
+    (laws : IsEquivalence eq) (kept : IsKept eq hash shares q h index keys free room) where
   abbrev m : Machine K V
   m = machine_of shares q keys.entries h.entries free
 
   resident-at : (t : ℕ) → resident_at m t ≡ (if has t (places_of q) then option_map (λ k. (k, t)) (key_at keys.entries t) else None)
   resident-at t =
-      small-at (key_at keys.entries) t q.small (map (λ (e : MainEntry K). (e.key, e.slot)) m.main) (small_have eq laws hash shares q h index keys free room kept)
-      ∙ ap (λ z. if has t (slots_of q.small) then option_map (λ k. (k, t)) (key_at keys.entries t) else z) (main-at (key_at keys.entries) t q.main (main_have eq laws hash shares q h index keys free room kept))
+      small-at (key_at keys.entries) t q.small (map (λ (e : MainEntry K). (e.key, e.slot)) m.main) (small_have laws kept)
+      ∙ ap (λ z. if has t (slots_of q.small) then option_map (λ k. (k, t)) (key_at keys.entries t) else z) (main-at (key_at keys.entries) t q.main (main_have laws kept))
       ∙ both_asked (has t (slots_of q.small)) (has t (slots_of q.main)) (option_map (λ k. (k, t)) (key_at keys.entries t)) None
       ∙ ap (λ b. if b then option_map (λ k. (k, t)) (key_at keys.entries t) else None) (sym (has-append t (slots_of q.small) (slots_of q.main)))
 
@@ -175,27 +175,31 @@ module _ {K V : Type 0} (eq : K → K → Bool) (laws : IsEquivalence eq) (hash 
       arith,
       times-some slot (places_of q) stands,
       sum_by-append (λ s. cond (s == slot) 1 0) (slots_of q.small) (slots_of q.main),
-      small-standing (key_at keys.entries) slot q.small (small_have eq laws hash shares q h index keys free room kept),
-      main-standing (key_at keys.entries) slot q.main (main_have eq laws hash shares q h index keys free room kept),
+      small-standing (key_at keys.entries) slot q.small (small_have laws kept),
+      main-standing (key_at keys.entries) slot q.main (main_have laws kept),
     )
 
     -- the resident leaves
-    module _ (q' : QueueState) (index' : List (List (ℕ × ℕ))) (free' : List ℕ) (room' old : ℕ) (small : q'.small ≡ without_slot slot q.small) (main : q'.main ≡ without_slot slot q.main) (freed : reverse free' ≡ slot ∷ reverse free) where
+    module _ (q' : QueueState) (index' : List (List (ℕ × ℕ))) (free' : List ℕ) (room' old : ℕ) (small : q'.small ≡ without_slot slot q.small)
+        (main : q'.main ≡ without_slot slot q.main) (freed : reverse free' ≡ slot ∷ reverse free) where
       pub vacated-machine : machine_of shares q' keys.entries h.entries free' ≡ vacated slot m
       vacated-machine =
           let s : with_keys_small (key_at keys.entries) q'.small ≡ filter (λ e. not (e.slot == slot)) m.small =
-          ap (λ z. with_keys_small (key_at keys.entries) z) small ∙ small-without (key_at keys.entries) slot q.small (small_have eq laws hash shares q h index keys free room kept) in
+          ap (λ z. with_keys_small (key_at keys.entries) z) small ∙ small-without (key_at keys.entries) slot q.small (small_have laws kept) in
           let t : with_keys_main (key_at keys.entries) q'.main ≡ filter (λ e. not (e.slot == slot)) m.main =
-          ap (λ z. with_keys_main (key_at keys.entries) z) main ∙ main-without (key_at keys.entries) slot q.main (main_have eq laws hash shares q h index keys free room kept) in
+          ap (λ z. with_keys_main (key_at keys.entries) z) main ∙ main-without (key_at keys.entries) slot q.main (main_have laws kept) in
           cc
 
-      pub kept-vacated : hash_at keys.entries slot ≡ Some old → index' ≡ removed eqb index old slot → q'.slots ≡ q.slots → q'.window ≡ q.window → room' ≡ room → IsKept eq hash shares q' h index' keys free' room'
+      pub kept-vacated : hash_at keys.entries slot ≡ Some old → index' ≡ removed eqb index old slot
+          → q'.slots ≡ q.slots → q'.window ≡ q.window → room' ≡ room → IsKept eq hash shares q' h index' keys free' room'
       kept-vacated at out slots window free_room = record {
         whole = subst (IsWhole eq) (sym vacated-machine) (whole-vacated eq m kept.whole slot standing-counted);
         stored = subst (λ z. IsStored hash z keys.entries (places_of q')) (sym out) (subst (λ z. IsStored hash (removed eqb index old slot) keys.entries z) (sym places)
-            (stored-left hash index keys.entries (places_of q) slot old kept.stored (index_some eq laws hash shares q h index keys free room kept) (apart eq laws hash shares q h index keys free room kept) at));
+            (stored-left hash index keys.entries (places_of q) slot old kept.stored (index_some laws kept) (apart laws kept) at));
         hashed = kept.hashed;
-        sized = sized-same shares q q' h.limit h.limit (length index) (length index') keys.room keys.room room room' kept.sized slots window refl (ap (λ (z : List (List (ℕ × ℕ))). length z) out ∙ length-taken index old slot) refl free_room;
+        sized =
+            sized-same shares q q' h.limit h.limit (length index) (length index') keys.room keys.room room room' kept.sized slots window refl
+            (ap (λ (z : List (List (ℕ × ℕ))). length z) out ∙ length-taken index old slot) refl free_room;
       }
         where
           places : places_of q' ≡ without slot (places_of q)

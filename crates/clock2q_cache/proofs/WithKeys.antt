@@ -1,19 +1,19 @@
 -- What becomes of the queues' lists of slots is what becomes of the machine's, with the keys that stand at the slots.
-use Rattle.std.proofs.Common.{◌≡◌, ℕ, zero, suc, ◌+◌, ◌-◌, ◌<◌, ◌≤◌, ◌==◌, Bool, true, false, not, cond, eqb, Option, Some, None, List, [], ◌∷◌, ◌++◌, map, length, take, drop, inl, inr, refl, sym, ap, ◌∙◌, subst, arith}
-use Rattle.std.specs.List.{filter, find, last_or, count_by, cons_option}
+use Rattle.std.proofs.Common.{◌≡◌, ℕ, zero, suc, ◌+◌, ◌==◌, Bool, true, false, cond, eqb, Option, Some, None, List, [], ◌∷◌, ◌++◌, map, length, take, drop, inl, inr, refl, sym, ap, ◌∙◌, arith}
+use Rattle.std.specs.List.{last_or, count_by, cons_option}
 use Rattle.std.specs.Option.{option_map}
-use Rattle.std.proofs.lemmas.Bool.{cases_Bool, both_ways}
+use Rattle.std.proofs.lemmas.Bool.{cases_Bool}
 use Rattle.std.proofs.lemmas.List.Elements.{filter_map-append}
 use Rattle.std.proofs.lemmas.List.Sums.{sum_by-cons}
-use Rattle.clock2q_queues.specs.Ages as ages
-use Rattle.clock2q_queues.specs.Ages.{Age, grown, touched}
+use Rattle.clock2q_machine.specs.Ages as ages
+use Rattle.clock2q_machine.specs.Ages.{Age, grown, touched}
 use Rattle.clock2q_queues.specs.Rings.{has}
 use Rattle.clock2q_queues.specs.Small.{admitted, small_hit_at}
 use Rattle.clock2q_queues.specs.MainRing.{set_front, inspections, from_victim, main_hit_at}
-use Rattle.clock2q_queues.specs.Queues.{slots_of, without_slot}
+use Rattle.clock2q_queues.specs.Queues.{slots_of}
 use Rattle.clock2q_queues.proofs.Rings.{has_first, has_later}
-use Rattle.clock2q_cache.specs.Entries as machine
-use Rattle.clock2q_cache.specs.Entries.{SmallEntry, MainEntry}
+use Rattle.clock2q_machine.specs.Entries as machine
+use Rattle.clock2q_machine.specs.Entries.{SmallEntry, MainEntry}
 use Rattle.clock2q_cache.specs.CacheFields.{with_keys_small, with_keys_main}
 
 module _ {K : Type 0} (key : ℕ → Option K) where
@@ -42,12 +42,14 @@ module _ {K : Type 0} (key : ℕ → Option K) where
   small-grown window (e ∷ es) = of (key e.0) (with_keys_small key es) (with_keys_small key (map {B = ℕ × Age} (λ (e : ℕ × Age). (e.0, grown window e.1)) es)) (small-grown window es)
     where
       of : (o : Option K) (xs ys : List (SmallEntry K)) → map (λ (e : SmallEntry K). record e { age = grown window e.age }) xs ≡ ys
-          → map (λ (e : SmallEntry K). record e { age = grown window e.age }) (cons_option (option_map (λ k. small_with e k) o) xs) ≡ cons_option (option_map (λ k. small_with (e.0, grown window e.1) k) o) ys
+          → map (λ (e : SmallEntry K). record e { age = grown window e.age }) (cons_option (option_map (λ k. small_with e k) o) xs)
+          ≡ cons_option (option_map (λ k. small_with (e.0, grown window e.1) k) o) ys
       of None xs ys r = r
       of (Some k) xs ys r = ap (λ zs. small_with (e.0, grown window e.1) k ∷ zs) r
 
   -- an admission
-  pub small-admitted : (window slot : ℕ) (k : K) (es : List (ℕ × Age)) → key slot ≡ Some k → with_keys_small key (admitted window slot es) ≡ machine.small_admitted window k slot (with_keys_small key es)
+  pub small-admitted : (window slot : ℕ) (k : K) (es : List (ℕ × Age)) → key slot ≡ Some k
+      → with_keys_small key (admitted window slot es) ≡ machine.small_admitted window k slot (with_keys_small key es)
   small-admitted window slot k es h =
       small-cons (slot, ages.Young 0) (map {B = ℕ × Age} (λ (e : ℕ × Age). (e.0, grown window e.1)) es) k h
       ∙ ap (λ zs. small_with (slot, ages.Young 0) k ∷ zs) (sym (small-grown window es))
@@ -81,7 +83,8 @@ module _ {K : Type 0} (key : ℕ → Option K) where
       ∙ ap (λ zs. small_with e k.0 ∷ zs) (small-take n es (have_later e.0 (slots_of es) h))
       ∙ sym (ap (λ z. take (suc n) z) (small-cons e es k.0 k.1))
 
-  pub small-last : (o : Option (ℕ × Age)) (p : Option (SmallEntry K)) (es : List (ℕ × Age)) (e : ℕ × Age) (k : K) → HaveKeys (slots_of es) → (o ≡ Some e → p ≡ Some (small_with e k)) → last_or o es ≡ Some e → key e.0 ≡ Some k
+  pub small-last : (o : Option (ℕ × Age)) (p : Option (SmallEntry K)) (es : List (ℕ × Age)) (e : ℕ × Age) (k : K)
+      → HaveKeys (slots_of es) → (o ≡ Some e → p ≡ Some (small_with e k)) → last_or o es ≡ Some e → key e.0 ≡ Some k
       → last_or p (with_keys_small key es) ≡ Some (small_with e k)
   small-last o p [] e k h first last is = first last
   small-last o p (x ∷ es) e k h first last is =
@@ -172,14 +175,24 @@ module _ {K : Type 0} (key : ℕ → Option K) where
   small-standing t (e ∷ es) h =
       let k = h e.0 (has_first e.0 (slots_of es)) in
       ap (λ z. count_by (λ (e : SmallEntry K). e.slot == t) z) (small-cons e es k.0 k.1)
-      ∙ omega (arith, sum_by-cons (λ (e : SmallEntry K). cond (e.slot == t) 1 0) (small_with e k.0) (with_keys_small key es), sum_by-cons (λ s. cond (s == t) 1 0) e.0 (slots_of es), small-standing t es (have_later e.0 (slots_of es) h))
+      ∙ omega (
+        arith,
+        sum_by-cons (λ (e : SmallEntry K). cond (e.slot == t) 1 0) (small_with e k.0) (with_keys_small key es),
+        sum_by-cons (λ s. cond (s == t) 1 0) e.0 (slots_of es),
+        small-standing t es (have_later e.0 (slots_of es) h),
+      )
 
   pub main-standing : (t : ℕ) (es : List (ℕ × Bool)) → HaveKeys (slots_of es) → count_by (λ (e : MainEntry K). e.slot == t) (with_keys_main key es) ≡ count_by (λ s. s == t) (slots_of es)
   main-standing t [] h = refl
   main-standing t (e ∷ es) h =
       let k = h e.0 (has_first e.0 (slots_of es)) in
       ap (λ z. count_by (λ (e : MainEntry K). e.slot == t) z) (main-cons e es k.0 k.1)
-      ∙ omega (arith, sum_by-cons (λ (e : MainEntry K). cond (e.slot == t) 1 0) (main_with e k.0) (with_keys_main key es), sum_by-cons (λ s. cond (s == t) 1 0) e.0 (slots_of es), main-standing t es (have_later e.0 (slots_of es) h))
+      ∙ omega (
+        arith,
+        sum_by-cons (λ (e : MainEntry K). cond (e.slot == t) 1 0) (main_with e k.0) (with_keys_main key es),
+        sum_by-cons (λ s. cond (s == t) 1 0) e.0 (slots_of es),
+        main-standing t es (have_later e.0 (slots_of es) h),
+      )
 
 module _ {K : Type 0} (key key' : ℕ → Option K) where
   -- the same keys at these slots

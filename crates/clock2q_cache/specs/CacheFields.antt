@@ -2,17 +2,17 @@
 use Rattle.std.specs.Prelude.{◌≡◌, ℕ, ◌+◌, ◌*◌, ◌^◌, ◌<◌, ◌≤◌, Bool, List, ◌++◌, map, length, reverse, Option}
 use Rattle.std.specs.List.{filter_map, AllByRecursion}
 use Rattle.std.specs.Option.{option_map}
-use Rattle.clock2q_queues.specs.Ages.{Age}
+use Rattle.clock2q_machine.specs.Ages.{Age}
 use Rattle.clock2q_queues.specs.declared.keys.cells.Entry.{Entry}
 use Rattle.clock2q_queues.specs.Keys.{KeyPlaces, key_at}
 use Rattle.clock2q_queues.specs.Indexes.{IsIndex}
 use Rattle.clock2q_queues.specs.Rings.{AllBelow}
 use Rattle.clock2q_queues.specs.Queues.{QueueState, slots_of}
 use Rattle.clock2q_queues.specs.History.{Remembered}
-use Rattle.clock2q_cache.specs.Shares.{Shares, history_share}
-use Rattle.clock2q_cache.specs.Entries.{SmallEntry, MainEntry}
-use Rattle.clock2q_cache.specs.Machine.{Machine}
-use Rattle.clock2q_cache.specs.Cache.{IsWhole}
+use Rattle.clock2q_machine.specs.Shares.{Shares, history_share}
+use Rattle.clock2q_machine.specs.Entries.{SmallEntry, MainEntry}
+use Rattle.clock2q_machine.specs.Machine.{Machine}
+use Rattle.clock2q_machine.specs.Whole.{IsWhole}
 use Rattle.clock2q_cache.specs.CacheState.{Counts}
 
 module _ {K : Type 0} where
@@ -58,7 +58,8 @@ pub record IsSized (shares : Shares) (q : QueueState) (limit homes keys_room fre
   pub short : shares.capacity < 2 ^ 24
 
 -- what holds of a cache's fields
-pub record IsKept {K V : Type 0} (eq : K → K → Bool) (hash : K → ℕ) (shares : Shares) (q : QueueState) (h : Remembered K) (index : List (List (ℕ × ℕ))) (keys : KeyPlaces K V) (free : List ℕ) (room : ℕ) : Type 0 where
+pub record IsKept {K V : Type 0} (eq : K → K → Bool) (hash : K → ℕ) (shares : Shares) (q : QueueState)
+    (h : Remembered K) (index : List (List (ℕ × ℕ))) (keys : KeyPlaces K V) (free : List ℕ) (room : ℕ) : Type 0 where
   pub whole : IsWhole eq (machine_of shares q keys.entries h.entries free)
   pub stored : IsStored hash index keys.entries (places_of q)
   pub hashed : AllByRecursion (λ e. e.0 ≡ hash e.1) h.entries

@@ -6,10 +6,10 @@ use Rattle.std.specs.declared.alloc.Allocator as alloc
 use Rattle.std.specs.declared.hash.Hasher as hasher
 use Rattle.std.specs.declared.hash.BuildHasher as builder
 use mathlib.Core.Option.{none}
-use Rattle.clock2q_cache.specs.Calls.{Call, Put, Get, Set, Try}
+use Rattle.clock2q_machine.specs.Calls.{Call, Put, Get, Set, Try}
 use Rattle.clock2q_cache.specs.Costs.{Becomes}
-use Rattle.clock2q_cache.specs.Machine.{Machine, stored}
-use Rattle.clock2q_cache.specs.Steps.{replaced, put}
+use Rattle.clock2q_machine.specs.Machine.{Machine, stored}
+use Rattle.clock2q_machine.specs.Steps.{replaced, put}
 use Rattle.clock2q_cache.specs.CacheState.{CacheState}
 use Rattle.clock2q_cache.specs.Charged.{with_slot}
 use Rattle.clock2q_cache.specs.contracts.cache.Cache.{the_row}
@@ -29,7 +29,8 @@ module _ (K V S A H : RattleType) (key : HashMembers K.Denot) (build : builder.G
 
   -- the key is hit, and its value is what the caller leaves behind the reference; at `None` the machine is as it was
   abbrev pub LendsHit : MutBor (CacheState K.Denot V.Denot S.Denot) → K.Denot → Option (MutBor V.Denot) → Fml
-  LendsHit c k r = LendsSo cache_row V c r (λ n w. Becomes key build hash (Set k w) (replaced (key.eq k) w c.now.machine) c.now n) (λ n. IfNone r (Becomes key build hash (Get k) c.now.machine c.now n))
+  LendsHit c k r =
+      LendsSo cache_row V c r (λ n w. Becomes key build hash (Set k w) (replaced (key.eq k) w c.now.machine) c.now n) (λ n. IfNone r (Becomes key build hash (Get k) c.now.machine c.now n))
 
   -- the key has the value that the caller leaves behind the reference, as after `put`; at `Err` the machine is as it was
   abbrev pub LendsPut : {E : Type 0} → MutBor (CacheState K.Denot V.Denot S.Denot) → K.Denot → Result (MutBor V.Denot) E → Fml

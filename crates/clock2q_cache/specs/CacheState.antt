@@ -2,7 +2,7 @@
 use Rattle.std.specs.Prelude.{ℕ, List, refl}
 use Rattle.std.specs.Coded.{Coded, code_by, coded×, coded_ℕ, coded_list}
 use Rattle.clock2q_queues.specs.History.{Places, places_code}
-use Rattle.clock2q_cache.specs.Machine.{Machine, machine_code}
+use Rattle.clock2q_machine.specs.Machine.{Machine, machine_code}
 
 -- how often the hand looked, a link was accessed, and a key was asked about
 pub record Counts : Type 0 where
@@ -15,7 +15,9 @@ abbrev pub uncounted : Counts
 uncounted = record { inspections = 0; accesses = 0; questions = 0 }
 
 abbrev pub counts_code : Coded Counts
-counts_code = code_by (ℕ × (ℕ × ℕ)) (coded× coded_ℕ (coded× coded_ℕ coded_ℕ)) (λ c. (c.inspections, (c.accesses, c.questions))) (λ p. record { inspections = p.0; accesses = p.1.0; questions = p.1.1 }) (λ _. refl)
+counts_code =
+    code_by (ℕ × (ℕ × ℕ)) (coded× coded_ℕ (coded× coded_ℕ coded_ℕ)) (λ c. (c.inspections, (c.accesses, c.questions)))
+    (λ p. record { inspections = p.0; accesses = p.1.0; questions = p.1.1 }) (λ _. refl)
 
 -- the machine that the cache is, the lists by home of the index of its residents, the places of its history's keys, what its hasher is, and what was counted
 pub record CacheState (K V S : Type 0) : Type 0 where

@@ -3,16 +3,16 @@ use Rattle.std.specs.Prelude.{ℕ, ◌+◌}
 use Rattle.std.specs.declared.hash.Hasher as hasher
 use Rattle.std.specs.declared.hash.BuildHasher as builder
 use Rattle.std.specs.HashMap.Lent.{HashMembers}
-use Rattle.clock2q_cache.specs.Bounds.{inspections_for}
+use Rattle.clock2q_machine.specs.Bounds.{inspections_for}
 use Rattle.clock2q_cache.specs.CacheState.{CacheState, Counts, cache_state}
-use Rattle.clock2q_cache.specs.Costs.{alike}
+use Rattle.clock2q_cache.specs.Costs.{accesses_for, alike}
 use Rattle.clock2q_cache.specs.Places.{residents_with, remembered_with}
-use Rattle.clock2q_cache.specs.Steps.{put}
+use Rattle.clock2q_machine.specs.Steps.{put}
 
 module _ {K V S H : Type 0} (key : HashMembers K) (build : builder.Ghosts S H) (hash : hasher.Ghosts H) where
   -- the most links that a call for a key's slot accesses, and keys that it asks about, added to what was counted
   abbrev pub most_links : K → CacheState K V S → ℕ
-  most_links k c = c.counts.accesses + (inspections_for (key.eq k) c.machine + 80)
+  most_links k c = c.counts.accesses + accesses_for (key.eq k) c.machine
 
   abbrev pub most_keys : K → CacheState K V S → ℕ
   most_keys k c = c.counts.questions + alike key build hash k c

@@ -1,13 +1,13 @@
 -- What the calls that are handed a closure ask of it.
-use Rattle.std.specs.Prelude.{◌≡◌, ℕ, ◌+◌, Bool, List, ◌++◌, map, length, slice_get, Some}
+use Rattle.std.specs.Prelude.{◌≡◌, ℕ, ◌+◌, Bool, List, [], ◌∷◌, ◌++◌, map, length, slice_get, Some}
 use Rattle.std.specs.Borrow.{Bor}
-use Rattle.std.specs.Fn.{Mut, Called}
+use Rattle.std.specs.Fn.{Mut, Called, Takes as IsCallableAt}
 use Rattle.std.specs.Option.{UnwrapsOrElse}
 use Rattle.std.specs.List.{FoldsTo, AllByRecursion}
 use Rattle.std.specs.List.Retain.{ReturnsInTurn}
 use Rattle.clock2q_queues.specs.declared.keys.cells.Entry.{Entry}
-use Rattle.clock2q_cache.specs.Machine.{Machine, slot_of, value_of, placement, reused, stored, by_slot, prefilled}
-use Rattle.clock2q_cache.specs.Steps.{put, fetched, slotted, slotted_at, retained}
+use Rattle.clock2q_machine.specs.Machine.{Machine, slot_of, value_of, placement, reused, stored, by_slot, prefilled}
+use Rattle.clock2q_machine.specs.Steps.{put, fetched, slotted, slotted_at, retained}
 
 module _ {F K V : Type 0} (g : Mut F (Bor K × (Bor V × Unit {0})) Bool) where
   -- a call at the key of a resident and the value of its slot gave b
@@ -16,6 +16,16 @@ module _ {F K V : Type 0} (g : Mut F (Bor K × (Bor V × Unit {0})) Bool) where
     pub value : Bor V
     pub shows : (key.now ≡ resident.0) × (slice_get values resident.1 ≡ Some value.now)
     pub called : Called g f (key, (value, tt)) b f'
+
+  -- f may be called at the key of the first resident and the value of its slot, and whatever it gives there, at the next
+  abbrev pub TakesInTurn : List V → F → List (K × ℕ) → Type 0
+  TakesInTurn values f [] = Unit {0}
+  TakesInTurn values f (r ∷ rs) = (key : Bor K) (value : Bor V) → key.now ≡ r.0 → slice_get values r.1 ≡ Some value.now
+      → IsCallableAt g f (key, (value, tt)) × ((b : Bool) (next : F) → Called g f (key, (value, tt)) b next → TakesInTurn values next rs)
+
+  -- f may be asked about each resident, by ascending slot
+  pub record MayBeAsked (f : F) (m : Machine K V) : Type 0 where
+    pub in_turn : TakesInTurn m.values f (by_slot m)
 
   -- there was one call for each resident, by ascending slot, and the residents at which it gave false left
   pub record Retains (f : F) (old new : Machine K V) : Type 0 where
@@ -35,7 +45,7 @@ module _ {F K V : Type 0} (g : Mut F Unit V) where
     pub becomes : new ≡ prefilled made old
 
   -- entries were added up to this many, each with the hash of its key and a value that the closure gave, in order
-  pub record Fills (f : F) (hash : K → ℕ) (many : ℕ) (old new : List (Entry K V)) (last : F) : Type 0 where
+  pub record FillsUp (f : F) (hash : K → ℕ) (many : ℕ) (old new : List (Entry K V)) (last : F) : Type 0 where
     pub added : List (Entry K V)
     pub is : new ≡ old ++ added
     pub as_many : length old + length added ≡ many

@@ -1,13 +1,13 @@
 -- What a call costs a cache: looks of the hand, accesses of links, questions to keys.
-use Rattle.std.specs.Prelude.{◌≡◌, ℕ, ◌+◌, ◌*◌, ◌≤◌, Bool, length}
+use Rattle.std.specs.Prelude.{◌≡◌, ℕ, ◌+◌, ◌*◌, ◌≤◌, Bool, if◌then◌else◌, Some, is_some, length}
 use Rattle.std.specs.declared.hash.Hasher as hasher
 use Rattle.std.specs.declared.hash.BuildHasher as builder
 use Rattle.std.specs.HashMap.Lent.{HashMembers}
 use Rattle.clock2q_handles.specs.Homes.{candidates}
 use Rattle.clock2q_queues.specs.Cells.{Rises}
-use Rattle.clock2q_cache.specs.Calls.{Call, Put, Get, GetAt, Set, With, Try, SlotFor, Remove, Retain, Clear, Prefill}
-use Rattle.clock2q_cache.specs.Machine.{Machine}
-use Rattle.clock2q_cache.specs.Bounds.{set_bits, inspections_of, main_victims, settings}
+use Rattle.clock2q_machine.specs.Calls.{Call, Put, Get, GetAt, Set, With, Try, SlotFor, Remove, Retain, Clear}
+use Rattle.clock2q_machine.specs.Machine.{Machine, slot_of}
+use Rattle.clock2q_machine.specs.Bounds.{set_bits, inspections_for, inspections_of, main_victims, settings}
 use Rattle.clock2q_cache.specs.CacheState.{CacheState, Counts}
 use Rattle.clock2q_cache.specs.Hashes.{hash_of}
 
@@ -17,16 +17,21 @@ pub record Spends (inspected links keys : ℕ) (old new : Counts) : Type 0 where
   pub accesses : Rises 0 links old.accesses new.accesses
   pub questions : Rises 0 keys old.questions new.questions
 
--- how often a call may access links: 80 times beside the hand's looks, fewer times if it brings no key, and so often for each slot if it goes through all of them
+-- how often links may be accessed where a key is wanted: never if it is resident, else 36 times beside the hand's looks
+abbrev pub accesses_for : {K V : Type 0} → (K → Bool) → Machine K V → ℕ
+accesses_for is m = if is_some (slot_of is m) then 0 else inspections_for is m + 36
+
+-- how often a call may access links: so often for a key that it brings, and so often for each slot if it goes through all of them
 abbrev pub most_accesses : {K V : Type 0} → (K → K → Bool) → Call K V → Machine K V → ℕ
-most_accesses eq (Get key) m = 0
-most_accesses eq (Set key value) m = 0
+most_accesses eq (Put key value) m = accesses_for (eq key) m
+most_accesses eq (With key value) m = accesses_for (eq key) m
+most_accesses eq (Try key (Some value)) m = accesses_for (eq key) m
+most_accesses eq (SlotFor key value) m = accesses_for (eq key) m
 most_accesses eq (GetAt slot key) m = 1
 most_accesses eq (Remove key) m = 8
 most_accesses eq (Retain bits) m = 9 * length m.values
 most_accesses eq Clear m = m.shares.capacity + m.shares.window
-most_accesses eq (Prefill values) m = 0
-most_accesses eq call m = inspections_of eq call m + 80
+most_accesses eq other m = 0
 
 module _ {K V S H : Type 0} (key : HashMembers K) (build : builder.Ghosts S H) (hash : hasher.Ghosts H) where
   -- how many places stand in the two indexes under the hash of a key

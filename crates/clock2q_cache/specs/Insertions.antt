@@ -1,12 +1,12 @@
 -- Where a key that is not known is inserted: how often the hand looks, and the value that its slot has then. No public clause cites this file.
 use Rattle.std.specs.Prelude.{◌≡◌, ℕ, Bool, not, ◌&&◌, ◌==◌, if◌then◌else◌, nat_lt, List, map, length, slice_get, Option, Some, None, is_some}
 use Rattle.std.specs.List.{last_or}
-use Rattle.clock2q_cache.specs.Shares.{main_share}
-use Rattle.clock2q_cache.specs.Entries.{inspections}
+use Rattle.clock2q_machine.specs.Shares.{main_share}
+use Rattle.clock2q_machine.specs.Entries.{inspections}
 use Rattle.clock2q_queues.specs.declared.keys.cells.Entry.{Entry}
 use Rattle.clock2q_queues.specs.Keys.{entry, written}
-use Rattle.clock2q_cache.specs.Machine.{Machine, Placement, vacancy, into_main, into_small, stored}
-use Rattle.clock2q_cache.specs.Bounds.{goes_on}
+use Rattle.clock2q_machine.specs.Machine.{Machine, Placement, vacancy, into_main, into_small, stored}
+use Rattle.clock2q_machine.specs.Bounds.{goes_on}
 
 module _ {K V : Type 0} where
   -- where it enters Main

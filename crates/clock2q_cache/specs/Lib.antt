@@ -1,11 +1,5 @@
-pub mod Shares
-pub mod Entries
-pub mod Machine
-pub mod Calls
-pub mod Steps
-pub mod Bounds
 pub mod Costs
-pub mod Cache
+pub mod Runs
 pub mod CacheFields
 pub mod CacheState
 pub mod Hashes
@@ -14,7 +8,4 @@ pub mod Places
 pub mod CacheLends
 pub mod Charged
 pub mod Closures
-pub mod Policies
-pub use Rattle.clock2q_queues.specs.Ages
-pub use Rattle.clock2q_queues.specs.Hand
 pub mod Insertions

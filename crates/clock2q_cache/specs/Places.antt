@@ -1,16 +1,16 @@
 -- What a call makes of the two indexes of a cache: of the residents' slots, and of the places of the history's keys.
-use Rattle.std.specs.Prelude.{◌≡◌, ℕ, ◌+◌, Bool, nat_eq, if◌then◌else◌, List, Option, Some, None, is_some}
+use Rattle.std.specs.Prelude.{◌≡◌, ℕ, Bool, nat_eq, if◌then◌else◌, List, Option, Some, None, is_some}
 use Rattle.std.specs.List.{list_any, last_or}
 use Rattle.std.specs.declared.hash.Hasher as hasher
 use Rattle.std.specs.declared.hash.BuildHasher as builder
 use Rattle.std.specs.HashMap.Lent.{HashMembers}
-use Rattle.clock2q_queues.specs.Ages.{is_promoted}
-use Rattle.clock2q_cache.specs.Entries.{SmallEntry}
+use Rattle.clock2q_machine.specs.Ages.{is_promoted}
+use Rattle.clock2q_machine.specs.Entries.{SmallEntry}
 use Rattle.clock2q_cache.specs.Hashes.{hash_of}
 use Rattle.clock2q_handles.specs.Homes.{with_handle, removed}
 use Rattle.clock2q_queues.specs.History.{Places, place_of, freed_place, pushed_places, oldest_hash}
-use Rattle.clock2q_cache.specs.Shares.{history_share}
-use Rattle.clock2q_cache.specs.Machine.{Machine, resident_at, slot_of, vacancy, goes_to_main, forgotten, placement}
+use Rattle.clock2q_machine.specs.Shares.{history_share}
+use Rattle.clock2q_machine.specs.Machine.{Machine, resident_at, slot_of, vacancy, goes_to_main, forgotten, placement}
 use Rattle.clock2q_cache.specs.CacheState.{CacheState}
 
 -- the resident that stood at a slot, if there was one, goes out of the index

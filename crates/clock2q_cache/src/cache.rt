@@ -22,8 +22,11 @@ use std::marker::Model;
 /// The largest capacity that a cache can have, in keys: 16,777,215.
 pub const MAX_CAPACITY: usize = (1 << 24) - 1;
 
-/// The builder of the hashers that [`Cache::new`] uses. Its seed is fixed, so an attacker can pick
-/// keys that collide.
+/// The builder of the hashers that [`Cache::new`] uses.
+///
+/// Its seed is fixed, so whoever chooses the keys can choose ones that collide. The replies stay the
+/// same, but 20,000 such keys took 250 times as long as others. Where strangers choose the keys,
+/// hand [`Cache::with_hasher`] a `RandomState` of `std::hash`.
 pub type DefaultHashBuilder = BuildHasherDefault<FoldHasher>;
 
 /// A key-value cache of fixed capacity.
@@ -41,13 +44,13 @@ pub type DefaultHashBuilder = BuildHasherDefault<FoldHasher>;
 /// # Example
 ///
 /// ```
-/// let mut cache: Cache<u64, u64, _> = Cache::new(rt.alloc(), capacity)?;
+/// let mut cache: Cache<u64, u64> = Cache::new(rt.alloc(), capacity)?;
 /// cache.put(1, 10);
 /// assert_eq!(rt; cache.get(&1), Some(&10));
 /// assert_eq!(rt; cache.get(&2), None);
 /// ```
 #[derive(Drop)]
-pub struct Cache<K: Hash + Eq, V, S: BuildHasher, A: Allocator = Global> {
+pub struct Cache<K: Hash + Eq, V, S: BuildHasher = DefaultHashBuilder, A: Allocator = Global> {
     shares: Shares,
     queues: Queues<A>,
     history: History<K, A>,
@@ -76,18 +79,18 @@ impl<K: Hash + Eq, V, S: BuildHasher, A: Allocator> Cache<K, V, S, A> {
     ghost use Rattle.std.specs.Prelude.{◌≡◌, IsTrue, ◌↔◌, IsSome, IfSome, IfNone, Some, None, ◌<◌, length, slice_get};
     ghost use Rattle.std.specs.Option.{option_copied, option_copied_mut};
     ghost use Rattle.std.specs.Borrow.{sem};
-    ghost use Rattle.clock2q_cache.specs.Cache.{IsWhole};
+    ghost use Rattle.clock2q_machine.specs.Whole.{IsWhole};
     ghost use Rattle.clock2q_handles.specs.Homes.{candidates};
-    ghost use Rattle.clock2q_cache.specs.Calls.{Get, GetAt};
+    ghost use Rattle.clock2q_machine.specs.Calls.{Get, GetAt};
     ghost use Rattle.clock2q_cache.specs.CacheLends.{LeavesMachine, LendsHit, LendsSlot};
-    ghost use Rattle.clock2q_cache.specs.Costs.{Spends};
+    ghost use Rattle.clock2q_cache.specs.Costs.{Becomes, Costs, Spends};
     ghost use Rattle.clock2q_cache.specs.Hashes.{hash_of};
-    ghost use Rattle.clock2q_cache.specs.Indexed.{IsIndexed};
+    ghost use Rattle.clock2q_cache.specs.Indexed.{IsIndexed, IsSpacious};
     ghost use Rattle.std.specs.Bool.{then_some};
     ghost use Rattle.std.specs.List.{list_any};
-    ghost use Rattle.clock2q_cache.specs.Machine.{resident_count, slot_of, value_of, hit, forgotten};
+    ghost use Rattle.clock2q_machine.specs.Machine.{resident_count, slot_of, value_of, hit, forgotten};
     ghost use Rattle.clock2q_cache.specs.Places.{discarded};
-    ghost use Rattle.clock2q_cache.specs.Steps.{is_at, hit_at, value_at};
+    ghost use Rattle.clock2q_machine.specs.Steps.{is_at, hit_at, value_at};
 
     /// Returns how many keys the cache can hold: the number that it was made with.
     pub fn capacity(&self) -> usize
@@ -102,6 +105,7 @@ impl<K: Hash + Eq, V, S: BuildHasher, A: Allocator> Cache<K, V, S, A> {
         ensures count { result ≡ resident_count self.now.machine }
         ensures whole { IsWhole K.eq self.now.machine }
         ensures indexed { IsIndexed K.Hash S.BuildHasher S.Hasher.Hasher self.now }
+        ensures spacious { IsSpacious self.now }
     {
         let _ = self.history.len();
         self.queues.small_len() + self.queues.main_len()
@@ -150,10 +154,26 @@ impl<K: Hash + Eq, V, S: BuildHasher, A: Allocator> Cache<K, V, S, A> {
         ensures* machine { sem 𝓛 (LeavesMachine K.row V.row S.row A.row S.Hasher.row K.Hash S.BuildHasher S.Hasher.Hasher A.Allocator self.entry (Get key.now) (hit (K.eq key.now) self.old.machine)) }
         ensures value { option_copied result ≡ value_of (K.eq key.now) self.old.machine }
     {
-        let hash = self.hash(key);
-        let slot = self.find(hash, key)?;
-        self.record_hit(slot, key);
+        let slot = self.hit(key)?;
         Some(self.value(slot))
+    }
+
+    /// Returns the slot of a resident key and records a hit, as [`get`](Cache::get) does. The key
+    /// keeps its slot until it is evicted or removed, so the slots number the frames of a caller's
+    /// own arrays: each is below the capacity.
+    ///
+    /// Returns `None` and changes nothing if the key isn't resident.
+    ///
+    /// # Cost
+    ///
+    /// That of [`get`](Cache::get).
+    pub fn slot(&mut self, key: &K) -> Option<usize>
+        ensures slot { result ≡ slot_of (K.eq key.now) self.old.machine }
+        ensures machine { self.new.machine ≡ hit (K.eq key.now) self.old.machine }
+        ensures hasher { self.new.hasher ≡ self.old.hasher }
+        ensures costs { Costs K.Hash S.BuildHasher S.Hasher.Hasher (Get key.now) self.old self.new }
+    {
+        Some(self.hit(key)? as usize)
     }
 
     /// Returns the value of a key that is resident at this slot and records a hit, as
@@ -187,9 +207,7 @@ impl<K: Hash + Eq, V, S: BuildHasher, A: Allocator> Cache<K, V, S, A> {
         ensures value { option_copied_mut result ≡ value_of (K.eq key.now) self.old.machine }
         ensures missed { IfNone result (slot_of (K.eq key.now) self.old.machine ≡ None) }
     {
-        let hash = self.hash(key);
-        let resident = self.find(hash, key)?;
-        self.record_hit(resident, key);
+        let resident = self.hit(key)?;
         Some(self.value_mut(resident))
     }
 
@@ -253,6 +271,18 @@ impl<K: Hash + Eq, V, S: BuildHasher, A: Allocator> Cache<K, V, S, A> {
         self.keys.find(self.index.get(hash), key)
     }
 
+    /// Returns the slot of a resident key, and records a hit on it.
+    fn hit(&mut self, key: &K) -> Option<u32>
+        ensures slot { result ≡ slot_of (K.eq key.now) self.old.machine }
+        ensures made { IfSome result (λ slot. slot < length self.new.machine.values) }
+        ensures becomes { Becomes K.Hash S.BuildHasher S.Hasher.Hasher (Get key.now) (hit (K.eq key.now) self.old.machine) self.old self.new }
+    {
+        let hash = self.hash(key);
+        let slot = self.find(hash, key)?;
+        self.record_hit(slot, key);
+        Some(slot)
+    }
+
     /// Records a hit on the key that is resident at a slot.
     fn record_hit(&mut self, slot: u32, key: &K)
         requires { slot_of (K.eq key.now) self.old.machine ≡ Some slot }
@@ -287,10 +317,10 @@ impl<K: Hash + Eq, V, S: BuildHasher, A: Allocator> Cache<K, V, S, A> {
 
 impl<K: Hash + Eq + Drop, V: Drop, S: BuildHasher, A: Allocator> Cache<K, V, S, A> {
     ghost use Rattle.std.specs.Prelude.{◌≡◌, ◌<◌, length, slice_get, Some};
-    ghost use Rattle.clock2q_cache.specs.Calls.{Put};
+    ghost use Rattle.clock2q_machine.specs.Calls.{Put};
     ghost use Rattle.clock2q_cache.specs.Costs.{Costs};
-    ghost use Rattle.clock2q_cache.specs.Machine.{value_of, stored};
-    ghost use Rattle.clock2q_cache.specs.Steps.{put};
+    ghost use Rattle.clock2q_machine.specs.Machine.{value_of, stored};
+    ghost use Rattle.clock2q_machine.specs.Steps.{put};
 
     /// Stores a value for a key, and returns the one that it replaces.
     ///
@@ -301,7 +331,7 @@ impl<K: Hash + Eq + Drop, V: Drop, S: BuildHasher, A: Allocator> Cache<K, V, S, 
     /// # Cost
     ///
     /// One hash of the key, and at most one comparison with each candidate among the residents and
-    /// in the history. No link is accessed if the key is resident; else there are at most 80
+    /// in the history. No link is accessed if the key is resident; else there are at most 36
     /// accesses to links more than inspections by the hand.
     pub fn put(&mut self, key: K, value: V) -> Option<V>
         ensures value { result ≡ value_of (K.eq key) self.old.machine }

@@ -1,7 +1,7 @@
 //! Slots made before they are needed: their keys and values, and the list of free slots.
 ghost use Rattle.std.specs.Prelude.{◌≡◌, ◌+◌, ◌-◌, ◌^◌, ◌≤◌, ◌++◌, reverse, length, vec_len, vec_capacity};
 ghost use Rattle.std.specs.List.{range_with_len};
-ghost use Rattle.clock2q_cache.specs.Closures.{Fills};
+ghost use Rattle.clock2q_cache.specs.Closures.{FillsUp};
 ghost use Rattle.clock2q_cache.specs.Hashes.{hash_of};
 
 use crate::hashes::hash_of;
@@ -19,7 +19,7 @@ pub(crate) fn fill<K: Hash + Default, V, S: BuildHasher, A: Allocator, F: FnMut(
     requires callable { F.IsAlwaysCallable make }
     requires within { length keys.old.entries ≤ many }
     requires room { many ≤ keys.old.room }
-    ensures filled { (last : F) × Fills F.FnMut make (λ k. hash_of S.BuildHasher S.Hasher.Hasher hasher.now (K.hash_input k)) many keys.old.entries keys.new.entries last }
+    ensures filled { (last : F) × FillsUp F.FnMut make (λ k. hash_of S.BuildHasher S.Hasher.Hasher hasher.now (K.hash_input k)) many keys.old.entries keys.new.entries last }
     ensures kept_room { keys.new.room ≡ keys.old.room }
     ensures questions { keys.new.questions ≡ keys.old.questions }
 {

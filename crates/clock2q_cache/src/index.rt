@@ -1,10 +1,10 @@
 //! The residents' keys and values, which stand by slot, and the index, which has each resident's
 //! slot under its key's hash.
 ghost use Rattle.std.specs.Prelude.{◌≡◌, ℕ, ◌+◌, ◌<◌, ◌≤◌, ◌^◌, ◌==◌, true, List, [], length, Some, IfNone};
-ghost use Rattle.clock2q_handles.specs.Homes.{total, capacity, with_handle, removed};
+ghost use Rattle.clock2q_handles.specs.Homes.{total, capacity, no_entries, with_handle, removed};
 ghost use Rattle.clock2q_queues.specs.Rings.{has, AllApart};
 ghost use Rattle.clock2q_queues.specs.Keys.{hash_at, key_at};
-ghost use Rattle.clock2q_queues.specs.Indexes.{IsIndex, Empties};
+ghost use Rattle.clock2q_queues.specs.Indexes.{IsIndex};
 ghost use Rattle.clock2q_cache.specs.Insertions.{Writes};
 
 use clock2q_handles::Table;
@@ -74,15 +74,14 @@ pub(crate) fn renew<K: Drop, V: Drop, A: Allocator>(
     old
 }
 
-/// Removes every key, and each resident's slot from the index.
+/// Removes every key, and empties the index.
 pub(crate) fn empty<K: Drop, V: Drop, A: Allocator>(
     index: &mut Table<u32, A>,
     keys: &mut Keys<K, V, A>,
 )
-    requires countable { length keys.old.entries ≤ 2 ^ 32 }
-    ensures index { Empties index.old.homes index.new.homes keys.old.entries }
+    ensures index { index.new.homes ≡ no_entries (length index.old.homes) }
     ensures keys { keys.new ≡ record keys.old { entries = [] } }
 {
-    keys.unindex(index);
+    index.clear();
     keys.clear();
 }

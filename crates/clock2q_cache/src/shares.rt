@@ -1,7 +1,7 @@
 //! How a cache's capacity is shared out among its queues.
 ghost use Rattle.std.specs.Prelude.{◌≡◌, ◌<◌, ◌≤◌, ◌^◌, MatchOption};
-ghost use Rattle.clock2q_cache.specs.Shares.{usual_shares, main_share, history_share};
-ghost use Rattle.clock2q_cache.specs.Policies.{IsPolicy, shares_of};
+ghost use Rattle.clock2q_machine.specs.Shares.{usual_shares, main_share, history_share};
+ghost use Rattle.clock2q_machine.specs.Policies.{IsPolicy, shares_of};
 
 use std::marker::Model;
 
@@ -15,8 +15,8 @@ pub(crate) struct Shares {
 }
 
 impl Model for Shares {
-    ghost use Rattle.clock2q_cache.specs.Shares.{Shares as Parts};
-    ghost use Rattle.clock2q_cache.specs.Policies.{IsPolicy};
+    ghost use Rattle.clock2q_machine.specs.Shares.{Shares as Parts};
+    ghost use Rattle.clock2q_machine.specs.Policies.{IsPolicy};
 
     ghost Value = { Parts };
 

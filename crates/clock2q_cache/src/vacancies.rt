@@ -1,6 +1,6 @@
 //! The free slots of a cache, and those that have no value yet.
 ghost use Rattle.std.specs.Prelude.{◌≡◌, ◌∷◌, vec_len, ◌+◌, ◌<◌, ◌^◌, drop, reverse, Some, vec_capacity};
-ghost use Rattle.clock2q_cache.specs.Machine.{vacant_slot};
+ghost use Rattle.clock2q_machine.specs.Machine.{vacant_slot};
 
 use std::alloc::Allocator;
 

@@ -4,16 +4,16 @@ use Rattle.std.specs.Prelude.{slice_get}
 use Rattle.std.specs.List.{find}
 use Rattle.std.specs.Cmp.{IsEquivalence}
 use Rattle.std.specs.Option.{option_map, option_and_then}
-use Rattle.clock2q_cache.specs.Shares.{Shares, usual_small, usual_shares}
-use Rattle.clock2q_cache.specs.Machine.{Machine, empty, residents, slot_of, value_of, hit, inserted}
-use Rattle.clock2q_cache.specs.Steps.{fetched, put}
-use Rattle.clock2q_cache.specs.Cache.{IsWhole}
-use Rattle.clock2q_cache.proofs.Whole.{some_is, none_is}
-use Rattle.clock2q_cache.proofs.MachineInvariant.{lasting-empty, resident_made, lasting-inserted}
-use Rattle.clock2q_cache.proofs.Residents.{hit-absent}
-use Rattle.clock2q_cache.proofs.Standing.{get-within}
-use Rattle.clock2q_cache.proofs.Entering.{weight-hit, same_slots, others_entered}
-use Rattle.clock2q_cache.proofs.Laws.{inserted_there}
+use Rattle.clock2q_machine.specs.Shares.{Shares, usual_small, usual_shares}
+use Rattle.clock2q_machine.specs.Machine.{Machine, empty, residents, slot_of, value_of, hit, inserted}
+use Rattle.clock2q_machine.specs.Steps.{fetched, put}
+use Rattle.clock2q_machine.specs.Whole.{IsWhole}
+use Rattle.clock2q_machine.proofs.Whole.{some_is, none_is}
+use Rattle.clock2q_machine.proofs.MachineInvariant.{lasting-empty, resident_made, lasting-inserted}
+use Rattle.clock2q_machine.proofs.Residents.{hit-absent}
+use Rattle.clock2q_machine.proofs.Standing.{get-within}
+use Rattle.clock2q_machine.proofs.Entering.{weight-hit, same_slots, others_entered}
+use Rattle.clock2q_machine.proofs.Laws.{inserted_there}
 use Rattle.clock2q_memo.specs.Memo.{Remembers, evaluations_for, looked_up}
 
 -- tests that agree find the same

@@ -1,8 +1,8 @@
 -- A list of lookups, one more and all of them.
 use Rattle.std.proofs.Common.{◌≡◌, ℕ, ◌+◌, Bool, List, [], ◌∷◌, ◌++◌, ◌∙◌, sym, ap, arith}
 use Rattle.std.proofs.lemmas.List.{append_assoc, append-nil}
-use Rattle.clock2q_cache.specs.Machine.{Machine}
-use Rattle.clock2q_cache.specs.Steps.{fetched}
+use Rattle.clock2q_machine.specs.Machine.{Machine}
+use Rattle.clock2q_machine.specs.Steps.{fetched}
 use Rattle.clock2q_memo.specs.Memo.{recalled, evaluations_of, evaluations_for}
 
 module _ {K V : Type 0} (eq : K → K → Bool) where

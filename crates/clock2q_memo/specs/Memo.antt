@@ -1,8 +1,8 @@
 -- What contracts see of a memo, and what it keeps.
 use Rattle.std.specs.Prelude.{◌≡◌, ℕ, ◌+◌, Bool, true, List, ◌∷◌, Some, is_some, if◌then◌else◌, refl}
 use Rattle.std.specs.Coded.{Coded, code_by, coded×, coded_ℕ}
-use Rattle.clock2q_cache.specs.Machine.{Machine, machine_code, slot_of, value_of, inserted}
-use Rattle.clock2q_cache.specs.Steps.{fetched}
+use Rattle.clock2q_machine.specs.Machine.{Machine, machine_code, slot_of, value_of, inserted}
+use Rattle.clock2q_machine.specs.Steps.{fetched}
 
 -- the machine of its cache, its function, and how often that was called
 pub record MemoState (K V F : Type 0) : Type 0 where

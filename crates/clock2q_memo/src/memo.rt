@@ -23,13 +23,13 @@ use std::num::NonZeroUsize;
 /// assert_eq!(rt; squares.get(12), 144); // and this time nothing was multiplied
 /// ```
 #[derive(Drop)]
-pub struct Memo<K: Hash + Eq, V, F, S: BuildHasher, A: Allocator = Global> {
+pub struct Memo<K: Hash + Eq, V, F, S: BuildHasher = DefaultHashBuilder, A: Allocator = Global> {
     cache: Cache<K, V, S, A>,
     evaluator: Evaluator<F>,
 }
 
 impl<K: Hash + Eq, V, F, S: BuildHasher, A: Allocator> Model for Memo<K, V, F, S, A> {
-    ghost use Rattle.clock2q_cache.specs.Cache.{IsWhole};
+    ghost use Rattle.clock2q_machine.specs.Whole.{IsWhole};
     ghost use Rattle.clock2q_memo.specs.Memo.{MemoState, memo_state, memo_code};
 
     ghost Value = { MemoState K V F };
@@ -50,13 +50,14 @@ where
 {
     ghost use Rattle.std.specs.Prelude.{◌≡◌, ◌≢◌, ◌<◌, ◌↔◌, Err, IfOk, IsErrOf};
     ghost use Rattle.std.specs.NonZero.{non_zero_usize_get};
-    ghost use Rattle.clock2q_cache.specs.Shares.{usual_shares};
-    ghost use Rattle.clock2q_cache.specs.Machine.{empty};
+    ghost use Rattle.clock2q_machine.specs.Shares.{usual_shares};
+    ghost use Rattle.clock2q_machine.specs.Machine.{empty};
     ghost use Rattle.std.specs.Fn.{FnReturnsAt};
     ghost use Rattle.clock2q_memo.specs.Memo.{memo_state, Remembers};
 
     /// Makes a memo of `function` that remembers up to `capacity` values, as
-    /// [`Cache::new`](clock2q_cache::Cache::new) makes a cache.
+    /// [`Cache::new`](clock2q_cache::Cache::new) makes a cache. Its hasher's seed is fixed too:
+    /// where strangers choose the keys, use [`with_hasher`](Memo::with_hasher).
     ///
     /// # Errors
     ///
@@ -86,8 +87,8 @@ where
 {
     ghost use Rattle.std.specs.Prelude.{◌≡◌, ◌≢◌, ◌<◌, ◌↔◌, Err, IfOk, IsErrOf};
     ghost use Rattle.std.specs.NonZero.{non_zero_usize_get};
-    ghost use Rattle.clock2q_cache.specs.Shares.{usual_shares};
-    ghost use Rattle.clock2q_cache.specs.Machine.{empty};
+    ghost use Rattle.clock2q_machine.specs.Shares.{usual_shares};
+    ghost use Rattle.clock2q_machine.specs.Machine.{empty};
     ghost use Rattle.std.specs.Fn.{FnReturnsAt};
     ghost use Rattle.clock2q_memo.specs.Memo.{memo_state, Remembers};
 
@@ -121,7 +122,7 @@ where
 
 impl<K: Hash + Eq, V, F, S: BuildHasher, A: Allocator> Memo<K, V, F, S, A> {
     ghost use Rattle.std.specs.Prelude.{◌≡◌, IsTrue, ◌↔◌, IsSome};
-    ghost use Rattle.clock2q_cache.specs.Machine.{resident_count, slot_of};
+    ghost use Rattle.clock2q_machine.specs.Machine.{resident_count, slot_of};
 
     /// Returns how many values can be remembered: the number that the memo was made with.
     pub fn capacity(&self) -> usize
@@ -166,8 +167,8 @@ where
     A: Allocator,
 {
     ghost use Rattle.std.specs.Prelude.{◌≡◌, ◌+◌, None, Some};
-    ghost use Rattle.clock2q_cache.specs.Machine.{slot_of, value_of, inserted, cleared};
-    ghost use Rattle.clock2q_cache.specs.Steps.{fetched};
+    ghost use Rattle.clock2q_machine.specs.Machine.{slot_of, value_of, inserted, cleared};
+    ghost use Rattle.clock2q_machine.specs.Steps.{fetched};
     ghost use Rattle.std.specs.Fn.{FnReturnsAt};
     ghost use Rattle.clock2q_memo.specs.Memo.{Remembers, IsValueAt, evaluations_for, looked_up};
 

@@ -71,13 +71,15 @@ module _ {K : Type 0} where
 
 module _ {K V : Type 0} where
   -- a key and then a value, at a place that has an entry
-  pub written-replaced : (place hash : ℕ) (key : K) (value : V) (xs : List (Entry K V)) → place < length xs → with_value place value (with_key place hash key xs) ≡ written place (entry hash key value) xs
+  pub written-replaced : (place hash : ℕ) (key : K) (value : V) (xs : List (Entry K V)) → place < length xs
+      → with_value place value (with_key place hash key xs) ≡ written place (entry hash key value) xs
   written-replaced place hash key value xs h =
       let e = slice_get_some xs place h in
       let d = entry hash key e.0.value in
       let keyed : with_key place hash key xs ≡ slice_set xs place d = ap (λ z. elim z [ None ↦ xs | Some e ↦ slice_set xs place (entry hash key e.value) ]) e.1 in
       let ys = slice_set xs place d in
-      let valued : with_value place value ys ≡ slice_set ys place (entry hash key value) = ap (λ z. elim z [ None ↦ ys | Some e ↦ slice_set ys place (entry e.hash e.key value) ]) (get_set place d xs h) in
+      let valued : with_value place value ys ≡ slice_set ys place (entry hash key value) =
+      ap (λ z. elim z [ None ↦ ys | Some e ↦ slice_set ys place (entry e.hash e.key value) ]) (get_set place d xs h) in
       ap (λ z. with_value place value z) keyed ∙ valued ∙ set_twice place d (entry hash key value) xs h
 
   -- Keys at places
@@ -144,7 +146,8 @@ module _ {K V : Type 0} where
     pub any_entry : (key : K) (keys : List (Entry K V)) (ps : List ℕ) (t : ℕ) (e : ℕ × K) → has t ps ≡ true → hashed_at keys t ≡ Some e → eq key e.1 ≡ true → has_key eq key (entries_of keys ps) ≡ true
     any_entry key keys [] t e h s k = absurd (both_ways false refl h)
     any_entry key keys (p ∷ ps) t e h s k = elim (or_cases (eqb t p) (has t ps) h) [
-      | inl q ↦ subst (λ z. has_key eq key (cons_option z (entries_of keys ps)) ≡ true) (sym (subst (λ z. hashed_at keys z ≡ Some e) (eqb-true t p q) s)) (or_left (eq key e.1) (has_key eq key (entries_of keys ps)) k)
+      | inl q ↦ subst (λ z. has_key eq key (cons_option z (entries_of keys ps)) ≡ true)
+          (sym (subst (λ z. hashed_at keys z ≡ Some e) (eqb-true t p q) s)) (or_left (eq key e.1) (has_key eq key (entries_of keys ps)) k)
       | inr q ↦ any_tail eq key (hashed_at keys p) (entries_of keys ps) (any_entry key keys ps t e q s k)
     ]
 
@@ -159,12 +162,14 @@ module _ {K V : Type 0} where
           | inl q ↦ elim (or_cases (eqb u p) (has u ps) hu) [
             | inl r ↦ eq-eqb t u (eqb-true t p q ∙ sym (eqb-true u p r))
             | inr r ↦
-                let d' : AllDistinct eq (e.0 ∷ entries_of keys ps) = subst (λ z. AllDistinct eq (cons_option z (entries_of keys ps))) (subst (λ z. hashed_at keys z ≡ Some e.0) (eqb-true t p q) e.1) d in
+                let d' : AllDistinct eq (e.0 ∷ entries_of keys ps) =
+                subst (λ z. AllDistinct eq (cons_option z (entries_of keys ps))) (subst (λ z. hashed_at keys z ≡ Some e.0) (eqb-true t p q) e.1) d in
                 absurd (both_ways (has_key eq e.0.1 (entries_of keys ps)) d'.0 (any_entry e.0.1 keys ps u f.0 r f.1 (sym (laws.congr key e.0.1 f.0.1 e.2) ∙ f.2)))
           ]
           | inr q ↦ elim (or_cases (eqb u p) (has u ps) hu) [
             | inl r ↦
-                let d' : AllDistinct eq (f.0 ∷ entries_of keys ps) = subst (λ z. AllDistinct eq (cons_option z (entries_of keys ps))) (subst (λ z. hashed_at keys z ≡ Some f.0) (eqb-true u p r) f.1) d in
+                let d' : AllDistinct eq (f.0 ∷ entries_of keys ps) =
+                subst (λ z. AllDistinct eq (cons_option z (entries_of keys ps))) (subst (λ z. hashed_at keys z ≡ Some f.0) (eqb-true u p r) f.1) d in
                 absurd (both_ways (has_key eq f.0.1 (entries_of keys ps)) d'.0 (any_entry f.0.1 keys ps t e.0 q e.1 (sym (laws.congr key f.0.1 e.0.1 f.2) ∙ e.2)))
             | inr r ↦ same_place laws key keys ps (distinct_tail eq (hashed_at keys p) (entries_of keys ps) d) t u q r kt ku
           ]

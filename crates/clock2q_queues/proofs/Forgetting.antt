@@ -95,7 +95,8 @@ module _ {K V : Type 0} (eq : K → K → Bool) where
       ]
 
   -- a key was forgotten that was there
-  pub record Forgets (hash : ℕ) (key : K) (index : List (List (ℕ × ℕ))) (order : PlaceOrder) (keys : KeyPlaces K V) (index' : List (List (ℕ × ℕ))) (order' : PlaceOrder) (keys' : KeyPlaces K V) : Type 0 where
+  pub record Forgets (hash : ℕ) (key : K) (index : List (List (ℕ × ℕ))) (order : PlaceOrder)
+      (keys : KeyPlaces K V) (index' : List (List (ℕ × ℕ))) (order' : PlaceOrder) (keys' : KeyPlaces K V) : Type 0 where
     pub whole : IsHistory eq index' order' keys'
     pub shown : remembered (entries_of keys'.entries order'.places) order'.limit (places_in index' order') (accesses_of order' keys') keys'.questions
         ≡ remembered (forgotten eq key (entries_of keys.entries order.places)) order.limit (places_in index' order') (accesses_of order' keys') keys'.questions
@@ -135,7 +136,8 @@ module _ {K V : Type 0} (eq : K → K → Bool) where
       ]
 
       pub forgets : (index' : List (List (ℕ × ℕ))) (order' : PlaceOrder) (keys' : KeyPlaces K V) → index' ≡ removed eqb index hash place → IsWholeOrder order'
-          → order' ≡ record order { places = without place order.places; free = place ∷ order.free; accesses = order.accesses + 7 } → keys' ≡ record keys { questions = keys'.questions } → Forgets hash key index order keys index' order' keys'
+          → order' ≡ record order { places = without place order.places; free = place ∷ order.free; accesses = order.accesses + 7 }
+          → keys' ≡ record keys { questions = keys'.questions } → Forgets hash key index order keys index' order' keys'
       forgets index' order' keys' is w ordered same =
           let apart = AllApart-left order.places order.free h.whole.apart in
           let at = hash_there eq hash key index keys.entries order.places h.indexed hashed place there.0 there.1 in
@@ -146,18 +148,21 @@ module _ {K V : Type 0} (eq : K → K → Bool) where
           let entries : entries_of keys'.entries order'.places ≡ forgotten eq key (entries_of keys.entries order.places) =
           ap (λ z. entries_of z order'.places) entries' ∙ ap (λ z. entries_of keys.entries z) places ∙ forgets_one key keys.entries place order.places there.1 others_differ in
           let e = key_there eq key keys.entries place there.1 in
-          let count : used order' ≡ used order = omega (arith, ap (λ (z : PlaceOrder). length z.places) ordered, ap (λ (z : PlaceOrder). length z.free) ordered, length-without place order.places apart there.0) in
+          let count : used order' ≡ used order =
+          omega (arith, ap (λ (z : PlaceOrder). length z.places) ordered, ap (λ (z : PlaceOrder). length z.free) ordered, length-without place order.places apart there.0) in
           record {
             whole = record {
               whole = w;
-              indexed = subst (λ z. IsIndex index' z order'.places) (sym entries') (subst (λ z. IsIndex index' keys.entries z) (sym places) (subst (λ z. IsIndex z keys.entries (without place order.places)) (sym is) taken));
+              indexed =
+                  subst (λ z. IsIndex index' z order'.places) (sym entries')
+                  (subst (λ z. IsIndex index' keys.entries z) (sym places) (subst (λ z. IsIndex z keys.entries (without place order.places)) (sym is) taken));
               distinct = subst (λ z. AllDistinct eq z) (sym entries) (distinct-forgotten eq key (entries_of keys.entries order.places) h.distinct);
               as_many = ap (λ (z : List (Entry K V)). length z) entries' ∙ h.as_many ∙ sym count;
               room = rw (limit, ap (λ (z : KeyPlaces K V). z.room) same) h.room;
               half = rw (limit, ap (λ (z : List (List (ℕ × ℕ))). length z) is ∙ length-taken index hash place) h.half;
               short = rw limit h.short;
             };
-            shown = shown-as _ _ _ _ _ _ _ _ entries limit refl;
+            shown = shown-as _ _ entries limit refl;
             accesses =
                 let n = ap (λ (z : PlaceOrder). z.accesses) ordered in
                 let m = ap (λ (z : KeyPlaces K V). z.writes) same in

@@ -143,7 +143,8 @@ module _ (old : LinkState) (main : MainRing) (now : LinkState) (hand : ℕ) (s :
     -- the hand passed an entry whose bit was set
     module _ (b : bit_at now hand ≡ true) where
       after : main_entries l (with_hand (next_at now.records.items hand) main) ≡ es ++ (hand, false) ∷ []
-      after = ap (λ z. map {B = ℕ × Bool} (λ t. (t, bit_at l t)) z) (main_slots-is l (with_hand (next_at now.records.items hand) main) (rest ++ hand ∷ []) (turned now l main hand rest k at_hand)) ∙ entries_turned now l main hand rest k at_hand
+      after = ap (λ z. map {B = ℕ × Bool} (λ t. (t, bit_at l t)) z) (main_slots-is l (with_hand (next_at now.records.items hand) main) (rest ++ hand ∷ []) (turned now l main hand rest k at_hand))
+          ∙ entries_turned now l main hand rest k at_hand
 
       looks_left : inspections (main_entries now (with_hand hand main)) ≡ inspections (main_entries l (with_hand (next_at now.records.items hand) main)) + 1
       looks_left = ap inspections (before true b) ∙ (let e = prefix_len-push es hand in omega arith) ∙ ap (λ z. inspections z + 1) (sym after)
@@ -179,7 +180,8 @@ module _ (old : LinkState) (main : MainRing) (now : LinkState) (hand : ℕ) (s :
     (b : bit_at now hand ≡ false) (a : l.records.accesses ≡ now.records.accesses) where
   chosen_entries : main_entries l (with_hand hand main) ≡ (hand, false) ∷ es old main now hand s
   chosen_entries =
-      ap (λ z. map {B = ℕ × Bool} (λ t. (t, bit_at l t)) z) (main_slots-is l (with_hand hand main) (hand ∷ rest old main now hand s) (stayed now l main hand (rest old main now hand s) k (at_hand old main now hand s)))
+      ap (λ z. map {B = ℕ × Bool} (λ t. (t, bit_at l t)) z)
+      (main_slots-is l (with_hand hand main) (hand ∷ rest old main now hand s) (stayed now l main hand (rest old main now hand s) k (at_hand old main now hand s)))
       ∙ entries_stayed now l main hand (rest old main now hand s) k (at_hand old main now hand s)
 
   Selects-from : Selects old main l (with_hand hand main) hand

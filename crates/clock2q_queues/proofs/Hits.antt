@@ -1,7 +1,7 @@
 -- A hit on a slot sets its bit: a young slot's is not shown, so that one write is the hit in both queues.
 use Rattle.std.proofs.Common.{◌≡◌, ◌⊎◌, ℕ, ◌<◌, Bool, true, cond, eqb, List, [], ◌∷◌, length, map, inl, inr, refl, sym, ap, ◌∙◌, subst}
 use Rattle.std.proofs.lemmas.Bool.{cases_Bool}
-use Rattle.clock2q_queues.specs.Ages.{touched}
+use Rattle.clock2q_machine.specs.Ages.{touched}
 use Rattle.clock2q_queues.specs.Cells.{Counted, HitBits, bit_in}
 use Rattle.clock2q_queues.specs.declared.links.Record.{Record}
 use Rattle.clock2q_queues.specs.declared.links.Mark.{Mark}

@@ -1,5 +1,5 @@
 -- What putting a place into the index, and taking one out, makes of it.
-use Rattle.std.proofs.Common.{◌≡◌, ℕ, zero, suc, ◌+◌, ◌*◌, ◌%◌, ◌<◌, ◌≤◌, Bool, true, false, not, ◌||◌, ◌&&◌, ◌==◌, eqb, Option, Some, None, get_or, List, [], ◌∷◌, ◌++◌, length, map, filter, inl, inr, refl, sym, ap, ◌∙◌, subst, arith, eqb-true}
+use Rattle.std.proofs.Common.{◌≡◌, ℕ, zero, suc, ◌+◌, ◌*◌, ◌/◌, ◌%◌, ◌<◌, ◌≤◌, Bool, true, false, not, ◌||◌, ◌&&◌, ◌==◌, eqb, Option, Some, None, get_or, List, [], ◌∷◌, ◌++◌, length, map, filter, inl, inr, refl, sym, ap, ◌∙◌, subst, arith, eqb-true}
 use Rattle.std.specs.List.{list_any, AllByRecursion}
 use Rattle.std.proofs.lemmas.Bool.{both_ways, cases_Bool}
 use Rattle.std.proofs.lemmas.Bool.Decides.{leb_tells}
@@ -122,10 +122,12 @@ module _ {K V : Type 0} where
       | inl a ↦
           let p = alike_parts index x hash a in
           let cs = candidates-inserted index hash x place some p.0 p.1 in
-          let met : has q (candidates (with_handle index hash place) x) ≡ (has q (candidates index x) || (eqb q place || false)) = ap (λ z. has q z) cs ∙ has-append q (candidates index x) (place ∷ []) in
+          let met : has q (candidates (with_handle index hash place) x) ≡ (has q (candidates index x) || (eqb q place || false)) =
+          ap (λ z. has q z) cs ∙ has-append q (candidates index x) (place ∷ []) in
           elim (cases_Bool (eqb q place)) [
             | inl e ↦
-                let n : is_named (with_handle index hash place) keys' x q ≡ true = ap (λ z. is_named (with_handle index hash place) keys' x z) (eqb-true q place e) ∙ named-length index (with_handle index hash place) keys' x place (length-put index hash place) ∙ named-as index keys' x place hash at ∙ a in
+                let n : is_named (with_handle index hash place) keys' x q ≡ true = ap (λ z. is_named (with_handle index hash place) keys' x z) (eqb-true q place e)
+                ∙ named-length index (with_handle index hash place) keys' x place (length-put index hash place) ∙ named-as index keys' x place hash at ∙ a in
                 met ∙ rw (e, n) (or_true (has q (candidates index x)))
             | inr e ↦ met ∙ rw e (or_false (has q (candidates index x)) ∙ i.listed x q ∙ still_named x q)
           ]
@@ -133,7 +135,8 @@ module _ {K V : Type 0} where
           let cs = candidates-inserted_other index hash x place some (not_alike index x hash a) in
           ap (λ z. has q z) cs ∙ i.listed x q ∙ elim (cases_Bool (eqb q place)) [
             | inl e ↦
-                let n : is_named (with_handle index hash place) keys' x q ≡ false = ap (λ z. is_named (with_handle index hash place) keys' x z) (eqb-true q place e) ∙ named-length index (with_handle index hash place) keys' x place (length-put index hash place) ∙ named-as index keys' x place hash at ∙ a in
+                let n : is_named (with_handle index hash place) keys' x q ≡ false = ap (λ z. is_named (with_handle index hash place) keys' x z) (eqb-true q place e)
+                ∙ named-length index (with_handle index hash place) keys' x place (length-put index hash place) ∙ named-as index keys' x place hash at ∙ a in
                 let h : has q places ≡ false = subst (λ z. has z places ≡ false) (sym (eqb-true q place e)) absent in
                 rw (e, n, h) refl
             | inr e ↦ still_named x q ∙ rw e refl
@@ -162,7 +165,8 @@ module _ {K V : Type 0} where
 
     listed-taken : (x q : ℕ) → has q (candidates (removed eqb index hash place) x) ≡ (has q (without place places) && is_named (removed eqb index hash place) keys x q)
     listed-taken x q =
-        let right : (has q (without place places) && is_named (removed eqb index hash place) keys x q) ≡ ((has q places && not (eqb q place)) && is_named index keys x q) = ap (λ z. z && is_named (removed eqb index hash place) keys x q) (has-without_test q place places) ∙ ap (λ z. (has q places && not (eqb q place)) && z) (named-taken x q) in
+        let right : (has q (without place places) && is_named (removed eqb index hash place) keys x q) ≡ ((has q places && not (eqb q place)) && is_named index keys x q) =
+        ap (λ z. z && is_named (removed eqb index hash place) keys x q) (has-without_test q place places) ∙ ap (λ z. (has q places && not (eqb q place)) && z) (named-taken x q) in
         elim (cases_Bool (is_alike index x hash)) [
           | inl a ↦
               let p = alike_parts index x hash a in
@@ -182,7 +186,8 @@ module _ {K V : Type 0} where
         let test = is_entry_of eqb hash place in
         let named : is_named index keys hash place ≡ true = named-as index keys hash place hash at ∙ rw (eqb_self (home index hash), eqb_self (top hash)) refl in
         let any : list_any test (listed index hash) ≡ has place places = any-candidate hash place (listed index hash) ∙ i.listed hash place ∙ rw named (and_true (has place places)) in
-        let n : length (without_first test (listed index hash)) + one_if (has place places) ≡ count index hash = ap (λ z. length (without_first test (listed index hash)) + one_if z) (sym any) ∙ length-without_first test (listed index hash) in
+        let n : length (without_first test (listed index hash)) + one_if (has place places) ≡ count index hash =
+        ap (λ z. length (without_first test (listed index hash)) + one_if z) (sym any) ∙ length-without_first test (listed index hash) in
         omega (arith, total-with_list index hash (without_first test (listed index hash)) some, n, i.counted)
 
     length-left : length (without place places) + one_if (has place places) ≡ length places
@@ -216,7 +221,8 @@ module _ {K V : Type 0} where
   IsIndex-removed (h ∷ hs) keys places place hash i apart at = IsIndex-taken (h ∷ hs) keys places place hash i (omega arith) apart at
 
   -- the places in another order
-  pub IsIndex-turned : (index : List (List (ℕ × ℕ))) (keys : List (Entry K V)) (ps qs : List ℕ) → ((t : ℕ) → has t qs ≡ has t ps) → length qs ≡ length ps → IsIndex index keys ps → IsIndex index keys qs
+  pub IsIndex-turned : (index : List (List (ℕ × ℕ))) (keys : List (Entry K V)) (ps qs : List ℕ)
+      → ((t : ℕ) → has t qs ≡ has t ps) → length qs ≡ length ps → IsIndex index keys ps → IsIndex index keys qs
   IsIndex-turned index keys ps qs same as_many i = record {
     listed = λ x t. i.listed x t ∙ ap (λ b. b && is_named index keys x t) (sym (same t));
     once = i.once;
@@ -224,7 +230,8 @@ module _ {K V : Type 0} where
   }
 
   -- other keys at other places
-  pub IsIndex-kept : (index : List (List (ℕ × ℕ))) (keys keys' : List (Entry K V)) (places : List ℕ) → ((t : ℕ) → has t places ≡ true → hash_at keys' t ≡ hash_at keys t) → IsIndex index keys places → IsIndex index keys' places
+  pub IsIndex-kept : (index : List (List (ℕ × ℕ))) (keys keys' : List (Entry K V)) (places : List ℕ)
+      → ((t : ℕ) → has t places ≡ true → hash_at keys' t ≡ hash_at keys t) → IsIndex index keys places → IsIndex index keys' places
   IsIndex-kept index keys keys' places same i = record {
     listed = λ x t. i.listed x t ∙ elim (cases_Bool (has t places)) [
       | inl h ↦ rw h (sym (named-kept index keys keys' x t (same t h)))
@@ -235,7 +242,8 @@ module _ {K V : Type 0} where
   }
 
   -- what a look-up yields is a place of the list that has a key
-  pub candidate_there : (index : List (List (ℕ × ℕ))) (keys : List (Entry K V)) (places : List ℕ) (x t : ℕ) → IsIndex index keys places → has t (candidates index x) ≡ true → (has t places ≡ true) × (t < length keys)
+  pub candidate_there : (index : List (List (ℕ × ℕ))) (keys : List (Entry K V)) (places : List ℕ) (x t : ℕ)
+      → IsIndex index keys places → has t (candidates index x) ≡ true → (has t places ≡ true) × (t < length keys)
   candidate_there index keys places x t i h =
       let p = and_parts (has t places) (is_named index keys x t) (sym (i.listed x t) ∙ h) in
       (p.0, named_in (hash_at keys t) refl p.1)
@@ -271,9 +279,12 @@ fits_new (suc k) =
     let e : length (made_for {H = ℕ} (suc k)) ≡ doubled_until (suc k) 16 (suc k) = length-replicate {A = List (ℕ × ℕ)} (fit (suc k)) [] in
     rw e (enough (suc k) (suc k) 16 (omega arith) (omega arith))
 
--- an index that is made for half as many again has twice the slots
+-- an index that is made for twice as many, or half as many again, has twice the slots
 pub half_new : (limit : ℕ) → 2 * limit ≤ length (made_for {H = ℕ} (index_room limit))
-half_new limit = omega (arith, fits_new (index_room limit))
+half_new limit = elim (leb_tells limit 12288) [
+  | inl q ↦ rw q.0 (omega (arith, fits_new (2 * limit)))
+  | inr q ↦ rw q.0 (omega (arith, fits_new (limit + limit / 2)))
+]
 
 none_read : {E : Type 0} (m i : ℕ) → get_or (no_entries {E = E} m) i [] ≡ []
 none_read zero i = refl
@@ -294,3 +305,17 @@ IsIndex-new n keys = record {
   once = λ x. subst (λ z. AllApart z) (sym (none_new n x)) tt;
   counted = total_new n;
 }
+
+-- an index that was cleared has nothing
+pub IsIndex-cleared : {K V : Type 0} (index : List (List (ℕ × ℕ))) (m : ℕ) (keys : List (Entry K V)) → index ≡ no_entries m → IsIndex index keys []
+IsIndex-cleared index m keys is = subst (λ z. IsIndex z keys []) (sym is) (record {
+  listed = λ x p. ap (λ z. has p z) (none x);
+  once = λ x. subst (λ z. AllApart z) (sym (none x)) tt;
+  counted = total-no_entries (λ (h : ℕ). h) m;
+})
+  where
+    none : (x : ℕ) → candidates (no_entries {E = ℕ × ℕ} m) x ≡ []
+    none x = ap (λ es. map {A = ℕ × ℕ} (λ e. e.1) (filter (λ e. e.0 == top x) es)) (none_read m (home (no_entries {E = ℕ × ℕ} m) x))
+
+pub length-cleared : (index index' : List (List (ℕ × ℕ))) → index' ≡ no_entries (length index) → length index' ≡ length index
+length-cleared index index' is = ap (λ (z : List (List (ℕ × ℕ))). length z) is ∙ length-replicate {A = List (ℕ × ℕ)} (length index) []

@@ -7,6 +7,7 @@ use Rattle.std.proofs.lemmas.Bool.{eqb-true, eq-eqb, lt-ltb, both_ways, cases_Bo
 use Rattle.std.proofs.lemmas.List.{append-nil, length-append, length-set}
 use Rattle.std.proofs.lemmas.List.Elements.{filter-append}
 use Rattle.std.proofs.lemmas.Map.Steps.{length-le_from_distinct_below}
+use Rattle.clock2q_machine.proofs.Whole.{last_some}
 use Rattle.clock2q_queues.specs.declared.links.Record.{Record}
 use Rattle.clock2q_queues.specs.declared.links.Mark.{Mark}
 use Rattle.clock2q_queues.specs.Rings.{has, without, AllApart, AllBelow, Joins, IsRing}
@@ -210,8 +211,12 @@ Removes-detached old new ss slot k h d =
     record {
       linked = subst (λ z. IsLinked new.items z) (sym e) (record {
         ring = IsRing-taken (next_at rs) (previous_at rs) (next_at new.items) (previous_at new.items) xs slot ys k'.ring k'.apart d.nexts d.previouses;
-        apart = AllApart-append xs ys (AllApart-left xs (slot ∷ ys) k'.apart) (AllApart-right xs (slot ∷ ys) k'.apart).1 (λ t g. (or_parts (eqb t slot) (has t ys) (apart_from xs (slot ∷ ys) k'.apart t g)).1);
-        below = subst (λ z. AllBelow z (xs ++ ys)) (sym d.as_many) (AllBelow-append (length rs) xs ys (AllBelow-left (length rs) xs (slot ∷ ys) k'.below) (AllBelow-right (length rs) xs (slot ∷ ys) k'.below).1);
+        apart =
+            AllApart-append xs ys (AllApart-left xs (slot ∷ ys) k'.apart) (AllApart-right xs (slot ∷ ys) k'.apart).1
+            (λ t g. (or_parts (eqb t slot) (has t ys) (apart_from xs (slot ∷ ys) k'.apart t g)).1);
+        below =
+            subst (λ z. AllBelow z (xs ++ ys)) (sym d.as_many)
+            (AllBelow-append (length rs) xs ys (AllBelow-left (length rs) xs (slot ∷ ys) k'.below) (AllBelow-right (length rs) xs (slot ∷ ys) k'.below).1);
       });
       standings = d.standings;
       others = λ t g.
@@ -310,10 +315,6 @@ last_gone rs count (s ∷ ss) slot k n e =
     let w : without slot (s ∷ ss) ≡ xs = ap (λ z. without slot z) p.1 ∙ without-parted xs slot [] k'.apart ∙ append-nil xs in
     let m : count ≡ length xs + 1 = n ∙ ap (λ (z : List ℕ). length z) p.1 ∙ length-append xs (slot ∷ []) in
     ap (λ z. then_some (ltb 0 (z - 1)) (previous_at rs slot)) m ∙ last_of_front rs xs slot k'.ring ∙ ap (λ z. last_or None z) (sym w)
-
-pub last_some : {X : Type 0} (ss : List X) (s : X) → (x : X) × (last_or None (s ∷ ss) ≡ Some x)
-last_some [] s = (s, refl)
-last_some (t ∷ ss) s = last_some ss t
 
 -- another one went: the last one stays
 pub last_stays : (ss : List ℕ) (slot : ℕ) → last_or None ss ≢ Some slot → last_or None ss ≡ last_or None (without slot ss)

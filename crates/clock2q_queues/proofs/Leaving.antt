@@ -4,7 +4,7 @@ use Rattle.std.specs.Bool.{then_some}
 use Rattle.std.specs.List.{filter, last_or}
 use Rattle.std.proofs.lemmas.Bool.{eqb-true, eq-eqb, ne_eqb, both_ways, cases_Bool, cases_lt}
 use Rattle.std.proofs.lemmas.List.{length-set, get_or_past, set_past}
-use Rattle.clock2q_queues.specs.Ages.{Age}
+use Rattle.clock2q_machine.specs.Ages.{Age}
 use Rattle.clock2q_queues.specs.declared.links.Record.{Record}
 use Rattle.clock2q_queues.specs.declared.links.Mark.{Mark}
 use Rattle.clock2q_queues.specs.declared.links.Mark.TheVariants.{Free, Young, Old, Main}
@@ -92,7 +92,8 @@ pub record UnlinksSmall (slot : ℕ) (old : LinkState) (small : Small) (new : Li
   pub window : length new.window.items ≡ length old.window.items
 
 module _ (slot : ℕ) (old : LinkState) (small : Small) (mid new : LinkState) (m : IsSmallQueue old small) (h : has slot (small_slots old small) ≡ true)
-    (d : Detaches slot old.records mid.records) (rest : mid ≡ record old { records = mid.records }) (standing : Mark) (was : standing ≡ standing_at old.records.items slot) (e : new ≡ place_freed standing mid) where
+    (d : Detaches slot old.records mid.records) (rest : mid ≡ record old { records = mid.records })
+    (standing : Mark) (was : standing ≡ standing_at old.records.items slot) (e : new ≡ place_freed standing mid) where
   removed : Removes slot (small_slots old small) old.records.items mid.records.items
   removed = Removes-detached old.records mid.records (small_slots old small) slot m.queue.linked h d
 
@@ -152,7 +153,8 @@ module _ (slot : ℕ) (old : LinkState) (small : Small) (mid new : LinkState) (m
 
     oldest_is : small'.oldest ≡ last_or None (without slot (small_slots old small))
     oldest_is = elim (cases_end small.oldest slot) [
-      | inl f ↦ oldest ∙ end_gone small.oldest slot (small.len - 1) (previous_at old.records.items slot) f ∙ last_gone old.records.items small.len (small_slots old small) slot m.queue.linked m.queue.counted (sym m.ends ∙ f)
+      | inl f ↦ oldest ∙ end_gone small.oldest slot (small.len - 1) (previous_at old.records.items slot) f
+          ∙ last_gone old.records.items small.len (small_slots old small) slot m.queue.linked m.queue.counted (sym m.ends ∙ f)
       | inr f ↦ oldest ∙ end_stays small.oldest slot (small.len - 1) (previous_at old.records.items slot) f ∙ m.ends ∙ last_stays (small_slots old small) slot (λ g. f (m.ends ∙ g))
     ]
 
@@ -181,6 +183,11 @@ module _ (slot : ℕ) (old : LinkState) (small : Small) (mid new : LinkState) (m
           (λ t g. ap (λ z. (t, z)) (let w = has-without t slot (small_slots old small) g in rw (window_now, cursor, standing_now t w.1, bit_now t) refl))
           ∙ sym (filter-entries slot (λ s. age_at old small.cursor s) (small_slots old small));
       freed = ap (λ (z : List Record). standing_at z slot) records_now ∙ ap (λ r. r.standing) removed.freed;
-      others = record { others = λ t g. ap (λ z. (z, bit_at new t)) (ap (λ (z : List Record). record_at z t) records_now ∙ removed.others t g) ∙ ap (λ z. (record_at old.records.items t, z)) (bit_now t); as_many = as_many };
+      others =
+          record {
+            others = λ t g. ap (λ z. (z, bit_at new t)) (ap (λ (z : List Record). record_at z t) records_now ∙ removed.others t g)
+                ∙ ap (λ z. (record_at old.records.items t, z)) (bit_now t);
+            as_many = as_many;
+          };
       window = window_now;
     }

@@ -1,10 +1,7 @@
 pub mod Booleans
-pub mod Emptying
 pub mod Entries
-pub mod Filling
 pub mod Forgetting
 pub mod Hand
-pub mod Hashed
 pub mod Histories
 pub mod Hits
 pub mod Indexes
@@ -23,3 +20,4 @@ pub mod SlotLists
 pub mod Standings
 pub mod Window
 mod WorkedQueues
+mod WorkedPlaces

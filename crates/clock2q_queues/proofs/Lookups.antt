@@ -91,7 +91,8 @@ pub record Asked (test : ℕ → Bool) (n bound : ℕ) (all : List ℕ) (asked :
   pub questions : n + questions_of test all ≡ asked + questions_of test left
   pub there : AllByRecursion (λ place. place < bound) left
 
-pub asked-next : (test : ℕ → Bool) (n bound : ℕ) (all : List ℕ) (asked place : ℕ) (left : List ℕ) → Asked test n bound all asked (place ∷ left) → false ≡ test place → Asked test n bound all (asked + 1) left
+pub asked-next : (test : ℕ → Bool) (n bound : ℕ) (all : List ℕ) (asked place : ℕ) (left : List ℕ)
+    → Asked test n bound all asked (place ∷ left) → false ≡ test place → Asked test n bound all (asked + 1) left
 asked-next test n bound all asked place left a other =
     let m : questions_of test (place ∷ left) ≡ suc (questions_of test left) = rw (sym other) refl in
     record {

@@ -64,7 +64,8 @@ module _ (slot : ℕ) (old : LinkState) (main : MainRing) (mid new : LinkState) 
         entries =
             ap (λ z. map {B = ℕ × Bool} (λ s. (s, bit_at new s)) z) (main_slots-is new main' (ss ++ slot ∷ []) is)
             ∙ map-append {B = ℕ × Bool} (λ s. (s, bit_at new s)) ss (slot ∷ [])
-            ∙ ap (λ (z : List (ℕ × Bool)). z ++ (slot, bit_at new slot) ∷ []) (map-agree {X = ℕ × Bool} (λ s. (s, bit_at new s)) (λ s. (s, bit_at old s)) ss (λ t g. ap (λ z. (t, z)) (bit_new t ∙ rw (differs t slot ss g absent) refl)))
+            ∙ ap (λ (z : List (ℕ × Bool)). z ++ (slot, bit_at new slot) ∷ [])
+            (map-agree {X = ℕ × Bool} (λ s. (s, bit_at new s)) (λ s. (s, bit_at old s)) ss (λ t g. ap (λ z. (t, z)) (bit_new t ∙ rw (differs t slot ss g absent) refl)))
             ∙ ap (λ z. map {B = ℕ × Bool} (λ s. (s, bit_at old s)) ss ++ (slot, z) ∷ []) (bit_new slot ∙ rw (eqb_self slot) refl);
         others = record {
           others = λ t g. ap (λ z. (z, bit_at new t)) (i.others t g) ∙ ap (λ z. (record_at old.records.items t, z)) (bit_new t ∙ rw ((or_parts (eqb t slot) (has t ss) g).0) refl);
@@ -78,7 +79,8 @@ module _ (slot : ℕ) (old : LinkState) (main : MainRing) (mid new : LinkState) 
       let starts = sym e ∙ m.queue.starts in
       pushed (Inserts-before old.records new.records (main_slots old main) slot Main hand m.queue.linked starts absent b a') (h ∙ slice_get-push (main_slots old main) slot hand starts)
 
-  pub PushesMain-alone : main.hand ≡ None → new.records ≡ written slot (record { previous = slot; next = slot; standing = Main }) mid.records → main'.hand ≡ Some slot → PushesMain slot old main new main'
+  pub PushesMain-alone : main.hand ≡ None → new.records ≡ written slot (record { previous = slot; next = slot; standing = Main }) mid.records
+      → main'.hand ≡ Some slot → PushesMain slot old main new main'
   PushesMain-alone e w h =
       let starts = sym e ∙ m.queue.starts in
       pushed (Inserts-first old.records new.records (main_slots old main) slot Main starts b (w ∙ ap (λ z. written slot (record { previous = slot; next = slot; standing = Main }) z) cleared.records))
@@ -96,14 +98,22 @@ pub record UnlinksMain (slot : ℕ) (old : LinkState) (main : MainRing) (new : L
   pub whole : IsMainRing new main'
   pub entries : main_entries new main' ≡ filter (λ e. not (eqb e.0 slot)) (main_entries old main)
 
-module _ (slot : ℕ) (old : LinkState) (main : MainRing) (new : LinkState) (m : IsMainRing old main) (h : has slot (main_slots old main) ≡ true) (d : Detaches slot old.records new.records) (rest : new ≡ record old { records = new.records }) where
+module _ (slot : ℕ) (old : LinkState) (main : MainRing) (new : LinkState) (m : IsMainRing old main) (h : has slot (main_slots old main) ≡ true)
+    (d : Detaches slot old.records new.records) (rest : new ≡ record old { records = new.records }) where
   pub UnlinksMain-from : (main' : MainRing) → main'.hand ≡ slice_get (without slot (main_slots old main)) 0 → main'.len ≡ main.len - 1 → UnlinksMain slot old main new main'
   UnlinksMain-from main' s n =
       let ss = main_slots old main in
       let r = Removes-detached old.records new.records ss slot m.queue.linked h d in
       let bits = (λ (t : ℕ). ap (λ (l : LinkState). bit_at l t) rest) in
       let is : IsMain new main' (without slot ss) = record {
-        queue = record { linked = r.linked; starts = s; counted = let e = length-without slot ss m.queue.linked.apart h in let f = m.queue.counted in omega arith; countable = rw r.as_many m.queue.countable };
+        queue =
+            record {
+              linked = r.linked;
+              starts = s;
+              counted = let e = length-without slot ss m.queue.linked.apart h in
+                  let f = m.queue.counted in omega arith;
+              countable = rw r.as_many m.queue.countable;
+            };
         standing = λ t g. let w = has-without t slot ss g in r.standings t w.1 ∙ m.standing t w.0;
       } in
       record {

@@ -61,10 +61,12 @@ module _ {K V : Type 0} (index : List (List (ℕ × ℕ))) (order order' : Place
   pub MakesPlace-new : length order.places < order.limit → place ≡ next_place order → order'.places ≡ place ∷ order.places → order'.free ≡ drop 1 order.free → order'.limit ≡ order.limit
       → Rises 1 7 order.accesses order'.accesses → MakesPlace index index order order' keys place
   MakesPlace-new room is places free limit accesses =
-      let n : FitsNext order.limit place order.places order.free = subst (λ z. FitsNext order.limit z order.places order.free) (sym is) (FitsNext-from order.limit order.places order.free w.apart w.below w.within room) in
+      let n : FitsNext order.limit place order.places order.free =
+      subst (λ z. FitsNext order.limit z order.places order.free) (sym is) (FitsNext-from order.limit order.places order.free w.apart w.below w.within room) in
       let u = used_next order.places order.free (subst (λ z. z < suc (length order.places) + length (drop 1 order.free)) is n.below.0) in
       let all : take (order.limit - 1) order.places ≡ order.places = take_all (order.limit - 1) order.places (omega (arith, room)) in
-      let counts : used order' ≡ suc (length order.places) + length (drop 1 order.free) = ap (λ (z : List ℕ). length z + length order'.free) places ∙ ap (λ (z : List ℕ). suc (length order.places) + length z) free in
+      let counts : used order' ≡ suc (length order.places) + length (drop 1 order.free) =
+      ap (λ (z : List ℕ). length z + length order'.free) places ∙ ap (λ (z : List ℕ). suc (length order.places) + length z) free in
       record {
         places = places ∙ ap (λ zs. place ∷ zs) (sym all);
         absent = ap (λ zs. has place zs) all ∙ n.absent;
@@ -98,12 +100,15 @@ module _ {K V : Type 0} (index : List (List (ℕ × ℕ))) (order order' : Place
       let there = oldest_there last in
       let n : order.limit ≡ length order.places = omega (arith, full, w.within) in
       let front : without place order.places ≡ take (order.limit - 1) order.places = l.0 ∙ ap (λ z. take (z - 1) order.places) (sym n) in
-      let counts : used order' ≡ suc (length (take (order.limit - 1) order.places)) + length order.free = ap (λ (z : List ℕ). length z + length order'.free) places ∙ ap (λ (z : List ℕ). suc (length (take (length order.places - 1) order.places)) + length z) free ∙ ap (λ z. suc (length (take (z - 1) order.places)) + length order.free) (sym n) in
+      let counts : used order' ≡ suc (length (take (order.limit - 1) order.places)) + length order.free = ap (λ (z : List ℕ). length z + length order'.free) places
+      ∙ ap (λ (z : List ℕ). suc (length (take (length order.places - 1) order.places)) + length z) free ∙ ap (λ z. suc (length (take (z - 1) order.places)) + length order.free) (sym n) in
       let left : length (take (order.limit - 1) order.places) + 1 ≡ length order.places = ap (λ (z : List ℕ). length z + 1) (sym front) ∙ length-without place order.places apart l.1 in
       record {
         places = places ∙ ap (λ z. place ∷ take (z - 1) order.places) (sym n);
         absent = ap (λ zs. has place zs) (sym front) ∙ gone place order.places;
-        indexed = subst (λ z. IsIndex z keys (take (order.limit - 1) order.places)) (sym is) (subst (λ zs. IsIndex (removed eqb index hash place) keys zs) front (IsIndex-removed index keys order.places place hash i apart at));
+        indexed =
+            subst (λ z. IsIndex z keys (take (order.limit - 1) order.places)) (sym is)
+            (subst (λ zs. IsIndex (removed eqb index hash place) keys zs) front (IsIndex-removed index keys order.places place hash i apart at));
         as_many = ap (λ (z : List (List (ℕ × ℕ))). length z) is ∙ length-taken index hash place;
         next = omega (arith, there);
         below = omega (arith, there, as_many, w.within);

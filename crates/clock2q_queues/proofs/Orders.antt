@@ -103,8 +103,8 @@ or_swap false false h = h
 
 -- Orders
 
-pub IsOrder-from : (rs : List Record) (newest : Option ℕ) (len : ℕ) (chain : Chain) (ps fs : List ℕ) → IsOrderOf rs newest len chain ps fs → IsOrder rs newest len chain
-IsOrder-from rs newest len chain ps fs o =
+pub IsOrder-from : {rs : List Record} {newest : Option ℕ} {len : ℕ} {chain : Chain} {ps fs : List ℕ} → IsOrderOf rs newest len chain ps fs → IsOrder rs newest len chain
+IsOrder-from {rs} {newest} {len} {chain} {ps} {fs} o =
     subst (λ z. IsOrderOf rs newest len chain z (free_places rs chain)) (sym (slots_from-is rs newest len ps o.queue))
     (subst (λ z. IsOrderOf rs newest len chain ps z) (sym o.chained) o)
 
@@ -112,15 +112,16 @@ pub IsWholeOrder-from : (l : Counted Record) (newest : Option ℕ) (len : ℕ) (
 IsWholeOrder-from l newest len chain o = record { apart = o.apart; below = o.below; within = o.within; countable = o.queue.countable }
 
 -- what is shown of these places and those
-pub order_shown-is : (l : Counted Record) (newest : Option ℕ) (len : ℕ) (chain : Chain) (ps fs : List ℕ) → IsOrderOf l.items newest len chain ps fs
+pub order_shown-is : (l : Counted Record) {newest : Option ℕ} {len : ℕ} {chain : Chain} {ps fs : List ℕ} → IsOrderOf l.items newest len chain ps fs
     → order_shown l newest len chain ≡ record { places = ps; free = fs; limit = length l.items; accesses = l.accesses }
-order_shown-is l newest len chain ps fs o =
+order_shown-is l {newest} {len} {chain} {ps} {fs} o =
     ap (λ z. record { places = z; free = free_places l.items chain; limit = length l.items; accesses = l.accesses }) (slots_from-is l.items newest len ps o.queue)
     ∙ ap (λ z. record { places = ps; free = z; limit = length l.items; accesses = l.accesses }) o.chained
 
 -- The chain
 
-pub chain-put : (old new : Counted Record) (chain : Chain) (place : ℕ) (r : Record) → new ≡ written place r old → r.next ≡ chain.head → place < length old.items → has place (free_places old.items chain) ≡ false
+pub chain-put : (old new : Counted Record) (chain : Chain) (place : ℕ) (r : Record) → new ≡ written place r old
+    → r.next ≡ chain.head → place < length old.items → has place (free_places old.items chain) ≡ false
     → free_places new.items (record { head = place; len = chain.len + 1 }) ≡ place ∷ free_places old.items chain
 chain-put old new chain place r e next fits absent =
     let nexts = (λ (t : ℕ). ap (λ (z : Counted Record). next_at z.items t) e ∙ changed (λ p. p.next) old.items place r vacant t fits) in
@@ -141,7 +142,8 @@ head_fits l newest len chain o some =
     let ps = slots_from l.items newest len in
     let fs = free_places l.items chain in
     let n : chain.len ≡ suc (chain.len - 1) = omega arith in
-    let h : has chain.head fs ≡ true = subst (λ z. has chain.head (around (next_at l.items) chain.head z) ≡ true) (sym n) (has_first chain.head (around (next_at l.items) (next_at l.items chain.head) (chain.len - 1))) in
+    let h : has chain.head fs ≡ true =
+    subst (λ z. has chain.head (around (next_at l.items) chain.head z) ≡ true) (sym n) (has_first chain.head (around (next_at l.items) (next_at l.items chain.head) (chain.len - 1))) in
     omega (arith, below_of (length ps + length fs) fs (AllBelow-right (length ps + length fs) ps fs o.below) chain.head h, o.within)
 
 module _ (l : Counted Record) (newest : Option ℕ) (len : ℕ) (chain : Chain) (o : IsOrder l.items newest len chain) where
@@ -199,7 +201,8 @@ module _ (l : Counted Record) (newest : Option ℕ) (len : ℕ) (chain : Chain) 
           within = rw as_many n.within;
         }
 
-    pub Pushes-attached : (new : Counted Record) (place first : ℕ) → place ≡ place_for (length places_now) free_now → length places_now < length l.items → newest ≡ Some first → Attaches place first Free mid new
+    pub Pushes-attached : (new : Counted Record) (place first : ℕ) → place ≡ place_for (length places_now) free_now
+        → length places_now < length l.items → newest ≡ Some first → Attaches place first Free mid new
         → IsOrderOf new.items (Some place) (len + 1) chain' (place ∷ places_now) (drop 1 free_now)
     Pushes-attached new place first e h is a =
         let n : FitsNext (length l.items) place places_now free_now = subst (λ z. FitsNext (length l.items) z places_now free_now) (sym e) (next_fits h) in
@@ -241,13 +244,14 @@ module _ (l : Counted Record) (newest : Option ℕ) (len : ℕ) (chain : Chain) 
       let count : length places_now ≡ suc (length xs) = omega (arith, ap (λ (z : List ℕ). length z) p.1, length-append xs (oldest ∷ [])) in
       record {
         oldest_was = was;
-        order = subst (λ z. IsOrderOf new.items (Some oldest) len chain (oldest ∷ z) free_now) (sym front) (subst (λ (z : Counted Record). IsOrderOf z.items (Some oldest) len chain (oldest ∷ xs) free_now) (sym w) (record {
-          queue = record { linked = linked; starts = refl; counted = o.queue.counted ∙ count; countable = o.queue.countable };
-          chained = refl;
-          apart = apart-turned places_now (oldest ∷ xs) free_now linked.apart same o.apart;
-          below = below-turned (suc (length xs) + length free_now) places_now (oldest ∷ xs) free_now same (subst (λ n. AllBelow (n + length free_now) (places_now ++ free_now)) count o.below);
-          within = omega (arith, count, o.within);
-        }));
+        order = subst (λ z. IsOrderOf new.items (Some oldest) len chain (oldest ∷ z) free_now) (sym front)
+            (subst (λ (z : Counted Record). IsOrderOf z.items (Some oldest) len chain (oldest ∷ xs) free_now) (sym w) (record {
+              queue = record { linked = linked; starts = refl; counted = o.queue.counted ∙ count; countable = o.queue.countable };
+              chained = refl;
+              apart = apart-turned places_now (oldest ∷ xs) free_now linked.apart same o.apart;
+              below = below-turned (suc (length xs) + length free_now) places_now (oldest ∷ xs) free_now same (subst (λ n. AllBelow (n + length free_now) (places_now ++ free_now)) count o.below);
+              within = omega (arith, count, o.within);
+            }));
       }
 
   -- A place taken out
@@ -281,7 +285,8 @@ module _ (l : Counted Record) (newest : Option ℕ) (len : ℕ) (chain : Chain) 
           let total : length places_now + length free_now ≡ length (without place places_now) + length (place ∷ free_now) = omega (arith, count) in
           let records : (t : ℕ) → has t (without place places_now) ≡ true → record_at new.items t ≡ record_at mid.items t = (λ t h.
           ap (λ (z : Counted Record). record_at z.items t) w ∙ changed (λ p. p) mid.items place r vacant t fits ∙ rw ((has-without t place places_now h).1) refl) in
-          let apart = AllApart-append (without place places_now) (place ∷ free_now) removed.linked.apart (apart_from places_now free_now o.apart place there, AllApart-right places_now free_now o.apart)
+          let apart =
+          AllApart-append (without place places_now) (place ∷ free_now) removed.linked.apart (apart_from places_now free_now o.apart place there, AllApart-right places_now free_now o.apart)
           (λ t h. let g = has-without t place places_now h in or_neither (eqb t place) (has t free_now) g.1 (apart_from places_now free_now o.apart t g.0)) in
           let n = length places_now + length free_now in
           let below = AllBelow-append n (without place places_now) (place ∷ free_now)

@@ -1,7 +1,7 @@
 -- Small and Main share the links: what changes no slot of a queue leaves it as it was.
 use Rattle.std.proofs.Common.{◌≡◌, ℕ, Bool, true, false, get_or, Option, None, List, length, map, inl, inr, sym, ap, ◌∙◌, subst}
 use Rattle.std.proofs.lemmas.Bool.{both_ways, cases_Bool}
-use Rattle.clock2q_queues.specs.Ages.{Age}
+use Rattle.clock2q_machine.specs.Ages.{Age}
 use Rattle.clock2q_queues.specs.declared.links.Record.{Record}
 use Rattle.clock2q_queues.specs.declared.main_ring.MainRing.{MainRing}
 use Rattle.clock2q_queues.specs.declared.small.Small.{Small}
@@ -36,7 +36,8 @@ KeepsMain-from old main new ss m s d =
     record {
       whole = IsMainRing-from new main (main_slots old main) is;
       slots = e;
-      entries = ap (λ z. map {B = ℕ × Bool} (λ s. (s, bit_at new s)) z) e ∙ map-agree {X = ℕ × Bool} (λ s. (s, bit_at new s)) (λ s. (s, bit_at old s)) (main_slots old main) (λ t h. ap (λ z. (t, z.1)) (same t h));
+      entries = ap (λ z. map {B = ℕ × Bool} (λ s. (s, bit_at new s)) z) e
+          ∙ map-agree {X = ℕ × Bool} (λ s. (s, bit_at new s)) (λ s. (s, bit_at old s)) (main_slots old main) (λ t h. ap (λ z. (t, z.1)) (same t h));
     }
 
 -- Small, where none of its slots changed, nor a place

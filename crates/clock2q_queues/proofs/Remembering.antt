@@ -44,7 +44,8 @@ pushed-nowhere limit hash oldest p h none =
     empty (p ∷ ps) e = absurd (omega arith)
 
 -- a key was put in front
-pub record Remembers {K V : Type 0} (eq : K → K → Bool) (hash : ℕ) (key : K) (index : List (List (ℕ × ℕ))) (order : PlaceOrder) (keys : KeyPlaces K V) (index' : List (List (ℕ × ℕ))) (order' : PlaceOrder) (keys' : KeyPlaces K V) : Type 0 where
+pub record Remembers {K V : Type 0} (eq : K → K → Bool) (hash : ℕ) (key : K) (index : List (List (ℕ × ℕ))) (order : PlaceOrder)
+    (keys : KeyPlaces K V) (index' : List (List (ℕ × ℕ))) (order' : PlaceOrder) (keys' : KeyPlaces K V) : Type 0 where
   pub whole : IsHistory eq index' order' keys'
   pub shown : remembered (entries_of keys'.entries order'.places) order'.limit (places_in index' order') (accesses_of order' keys') keys'.questions
       ≡ remembered (take order.limit ((hash, key) ∷ entries_of keys.entries order.places)) order.limit (places_in index' order') (accesses_of order' keys') keys.questions
@@ -70,7 +71,8 @@ module _ {K V : Type 0} (eq : K → K → Bool) (hash : ℕ) (key : K) (value : 
   insert_done (Ok x) put few = put.0
   insert_done (Err e) put few = let ok = few (omega (arith, fewer_now, h.short)) in cc
 
-  module _ (write : keys' ≡ key_places (written place (entry hash key value) keys.entries) keys.room (keys.writes + 1) keys.questions) (put : index' ≡ with_handle index1 hash place) (w : IsWholeOrder order')
+  module _ (write : keys' ≡ key_places (written place (entry hash key value) keys.entries) keys.room (keys.writes + 1) keys.questions)
+      (put : index' ≡ with_handle index1 hash place) (w : IsWholeOrder order')
       (absent : has_key eq key (entries_of keys.entries order.places) ≡ false) where
     wrote : keys'.entries ≡ written place (entry hash key value) keys.entries
     wrote = ap (λ (z : KeyPlaces K V). z.entries) write
@@ -90,7 +92,8 @@ module _ {K V : Type 0} (eq : K → K → Bool) (hash : ℕ) (key : K) (value : 
         let at : hashed_at keys'.entries place ≡ Some (hash, key) = ap (λ z. elim z [ None ↦ None | Some e ↦ Some (e.hash, e.key) ]) stands in
         ap (λ z. entries_of keys'.entries z) m.places
         ∙ entries-cons keys'.entries place (hash, key) fewer at
-        ∙ ap (λ zs. (hash, key) ∷ zs) (entries-agree keys.entries keys'.entries fewer stands_still ∙ entries-take keys.entries (used order) (order.limit - 1) order.places (omega (arith, h.as_many)) below)
+        ∙ ap (λ zs. (hash, key) ∷ zs) (entries-agree keys.entries keys'.entries fewer stands_still
+        ∙ entries-take keys.entries (used order) (order.limit - 1) order.places (omega (arith, h.as_many)) below)
         ∙ ap (λ z. take z ((hash, key) ∷ entries_of keys.entries order.places)) (sym n)
 
     counted : Rises 1 7 order.accesses order'.accesses → keys'.writes ≡ keys.writes + 1 → Rises 0 8 (accesses_of order keys) (accesses_of order' keys')
@@ -113,7 +116,7 @@ module _ {K V : Type 0} (eq : K → K → Bool) (hash : ℕ) (key : K) (value : 
             half = rw (m.limit, slot_count) h.half;
             short = rw m.limit h.short;
           };
-          shown = shown-as _ _ _ _ _ _ _ _ entries_now m.limit (ap (λ (z : KeyPlaces K V). z.questions) write);
+          shown = shown-as _ _ entries_now m.limit (ap (λ (z : KeyPlaces K V). z.questions) write);
           accesses = counted m.accesses (ap (λ (z : KeyPlaces K V). z.writes) write);
           places = ap (λ z. places_with z order'.places order'.free) put ∙ m.placed hash;
         }

@@ -3,7 +3,7 @@ use Rattle.std.proofs.Common.{◌≡◌, ℕ, ◌+◌, ◌^◌, ◌<◌, Bool, t
 use Rattle.std.specs.List.{filter}
 use Rattle.std.proofs.lemmas.Bool.{eqb-true, both_ways, cases_Bool}
 use Rattle.std.proofs.lemmas.List.{length-replicate}
-use Rattle.clock2q_queues.specs.Ages.{Age, grown}
+use Rattle.clock2q_machine.specs.Ages.{Age, grown}
 use Rattle.clock2q_queues.specs.Cells.{Counted, accessed, counted}
 use Rattle.clock2q_queues.specs.declared.links.Record.{Record}
 use Rattle.clock2q_queues.specs.declared.links.Mark.TheVariants.{Free}
@@ -38,10 +38,12 @@ main_slots-of l main = slots_of-entries _ (main_slots l main)
 
 -- What is told of the lists holds of the slots
 
-pub in_small : (l : LinkState) (small : Small) (main : MainRing) (shown : QueueState) (slot : ℕ) (b : Bool) → queues_shown l small main ≡ shown → has slot (slots_of shown.small) ≡ b → has slot (small_slots l small) ≡ b
+pub in_small : (l : LinkState) (small : Small) (main : MainRing) (shown : QueueState) (slot : ℕ) (b : Bool)
+    → queues_shown l small main ≡ shown → has slot (slots_of shown.small) ≡ b → has slot (small_slots l small) ≡ b
 in_small l small main shown slot b e h = ap (λ z. has slot z) (sym (small_slots-of l small)) ∙ ap (λ (q : QueueState). has slot (slots_of q.small)) e ∙ h
 
-pub in_main : (l : LinkState) (small : Small) (main : MainRing) (shown : QueueState) (slot : ℕ) (b : Bool) → queues_shown l small main ≡ shown → has slot (slots_of shown.main) ≡ b → has slot (main_slots l main) ≡ b
+pub in_main : (l : LinkState) (small : Small) (main : MainRing) (shown : QueueState) (slot : ℕ) (b : Bool)
+    → queues_shown l small main ≡ shown → has slot (slots_of shown.main) ≡ b → has slot (main_slots l main) ≡ b
 in_main l small main shown slot b e h = ap (λ z. has slot z) (sym (main_slots-of l main)) ∙ ap (λ (q : QueueState). has slot (slots_of q.main)) e ∙ h
 
 pub IsWholeQueues-from : (l : LinkState) (small : Small) (main : MainRing) → AreQueues l small main → IsWholeQueues (queues_shown l small main)
@@ -74,14 +76,16 @@ module _ (l : LinkState) (small : Small) (main : MainRing) (q : AreQueues l smal
   clear_of_small slot n t h = or_neither (eqb t slot) (has t (main_slots l main)) (differs t slot (small_slots l small) h n) (small_apart l small main q.small q.main t h)
 
   -- what is in neither queue afterwards, where the changed slots are all in a queue or free
-  stays_free : (new : LinkState) (ss : List ℕ) (t : ℕ) → IsSameBut ss l new → has t ss ≡ false → has t (small_slots l small) ≡ false → has t (main_slots l main) ≡ false → standing_at new.records.items t ≡ Free
+  stays_free : (new : LinkState) (ss : List ℕ) (t : ℕ) → IsSameBut ss l new → has t ss ≡ false
+      → has t (small_slots l small) ≡ false → has t (main_slots l main) ≡ false → standing_at new.records.items t ≡ Free
   stays_free new ss t s n a b = ap (λ (z : Record × Bool). z.0.standing) (s.others t n) ∙ q.elsewhere t a b
 
   -- Small changed, and Main did not
   small_changed : (new : LinkState) (small' : Small) (entries : List (ℕ × Age)) → AreQueues new small' main → main_entries new main ≡ main_entries l main
       → small_entries new small' ≡ entries → length new.records.items ≡ length l.records.items → length new.window.items ≡ length l.window.items → new.bits.inspections ≡ l.bits.inspections
       → Becomes new small' main (record (queues_shown l small main) { small = entries; accesses = accesses_of new })
-  small_changed new small' entries w m e n p i = record { queues = w; is = queues_equal (queues_shown new small' main) (record (queues_shown l small main) { small = entries; accesses = accesses_of new }) e m n p refl i }
+  small_changed new small' entries w m e n p i =
+      record { queues = w; is = queues_equal (queues_shown new small' main) (record (queues_shown l small main) { small = entries; accesses = accesses_of new }) e m n p refl i }
 
   main_changed : (new : LinkState) (main' : MainRing) (entries : List (ℕ × Bool)) → AreQueues new small main' → small_entries new small ≡ small_entries l small
       → main_entries new main' ≡ entries → length new.records.items ≡ length l.records.items → new.window ≡ l.window
@@ -93,7 +97,8 @@ module _ (l : LinkState) (small : Small) (main : MainRing) (q : AreQueues l smal
   }
 
   pub after_admission : (new : LinkState) (small' : Small) (slot window : ℕ) → has slot (main_slots l main) ≡ false → IsSmallQueue new small'
-      → small_entries new small' ≡ admitted window slot (small_entries l small) → IsSameBut (slot ∷ small_slots l small) l new → length new.window.items ≡ length l.window.items → new.bits.inspections ≡ l.bits.inspections
+      → small_entries new small' ≡ admitted window slot (small_entries l small) → IsSameBut (slot ∷ small_slots l small) l new
+      → length new.window.items ≡ length l.window.items → new.bits.inspections ≡ l.bits.inspections
       → Becomes new small' main (record (queues_shown l small main) { small = admitted window slot (small_entries l small); accesses = accesses_of new })
   after_admission new small' slot window n w e s p i =
       let k = KeepsMain-from l main new (slot ∷ small_slots l small) q.main s (clear_of_main slot n) in
@@ -129,7 +134,8 @@ module _ (l : LinkState) (small : Small) (main : MainRing) (q : AreQueues l smal
       main_changed new main' (main_entries l main ++ (slot, false) ∷ []) queues k.entries e s.as_many p
 
   pub after_small_left : (new : LinkState) (small' : Small) (slot : ℕ) → IsSmallQueue new small' → standing_at new.records.items slot ≡ Free
-      → small_entries new small' ≡ filter (λ e. not (eqb e.0 slot)) (small_entries l small) → IsSameBut (small_slots l small) l new → length new.window.items ≡ length l.window.items → new.bits.inspections ≡ l.bits.inspections
+      → small_entries new small' ≡ filter (λ e. not (eqb e.0 slot)) (small_entries l small) → IsSameBut (small_slots l small) l new
+      → length new.window.items ≡ length l.window.items → new.bits.inspections ≡ l.bits.inspections
       → Becomes new small' main (record (queues_shown l small main) { small = without_slot slot (small_entries l small); accesses = accesses_of new })
   after_small_left new small' slot w f e s p i =
       let k = KeepsMain-from l main new (small_slots l small) q.main s (main_apart l small main q.small q.main) in
@@ -183,7 +189,8 @@ module _ (l : LinkState) (small : Small) (main : MainRing) (q : AreQueues l smal
       main_changed new main' (from_victim (main_entries l main)) queues k.entries e s.as_many p
 
   -- accesses were counted
-  pub after_counting : (new : LinkState) (more : ℕ) → new ≡ record l { records = counted l.records.items (l.records.accesses + more) } → Becomes new small main (record (queues_shown l small main) { accesses = accesses_of l + more })
+  pub after_counting : (new : LinkState) (more : ℕ) → new ≡ record l { records = counted l.records.items (l.records.accesses + more) }
+      → Becomes new small main (record (queues_shown l small main) { accesses = accesses_of l + more })
   after_counting new more e =
       let s : IsSameBut [] l new = subst (λ z. IsSameBut [] l z) (sym e) (record { others = λ t h. refl; as_many = refl }) in
       let a = KeepsSmall-from l small new [] q.small s (ap (λ (z : LinkState). z.window.items) e) (λ t h. refl) in

@@ -3,12 +3,12 @@ use Rattle.std.proofs.Common.{◌≡◌, ℕ, suc, ◌-◌, Bool, true, false, n
 use Rattle.std.specs.List.{filter, last_or}
 use Rattle.std.proofs.lemmas.Bool.{eq-eqb, cases_Bool}
 use Rattle.std.proofs.lemmas.List.{map-append, take-append-drop}
-use Rattle.clock2q_queues.specs.Ages.{Age}
+use Rattle.clock2q_machine.specs.Ages.{Age}
 use Rattle.clock2q_queues.specs.MainRing.{set_front, from_victim, main_hit_at}
 use Rattle.clock2q_queues.specs.Queues.{slots_of, without_slot}
 use Rattle.clock2q_queues.specs.Rings.{has, without, AllApart}
 use Rattle.clock2q_queues.specs.Small.{small_hit_at}
-use Rattle.clock2q_queues.proofs.Joining.{last_some}
+use Rattle.clock2q_machine.proofs.Whole.{last_some}
 use Rattle.clock2q_queues.proofs.Rings.{eqb_self, eqb_swap, has-append, has_first, has_later, differs}
 use Rattle.clock2q_queues.proofs.Booleans.{or_left, or_neither, or_parts}
 
@@ -46,8 +46,10 @@ members-chosen es t h =
     let front = take (set_front es) es in
     let rest = drop (set_front es) es in
     let p = or_parts (has t (slots_of rest)) (has t (slots_of front))
-    (sym (ap (λ z. has t z) (slots_of-append rest (map (λ e. (e.0, false)) front)) ∙ ap (λ z. has t (slots_of rest ++ z)) (slots_of-mapped (λ b. false) front) ∙ has-append t (slots_of rest) (slots_of front)) ∙ h) in
-    sym (ap (λ z. has t (slots_of z)) (take-append-drop (set_front es) es)) ∙ ap (λ z. has t z) (slots_of-append front rest) ∙ has-append t (slots_of front) (slots_of rest) ∙ or_neither (has t (slots_of front)) (has t (slots_of rest)) p.1 p.0
+    (sym (ap (λ z. has t z) (slots_of-append rest (map (λ e. (e.0, false)) front))
+    ∙ ap (λ z. has t (slots_of rest ++ z)) (slots_of-mapped (λ b. false) front) ∙ has-append t (slots_of rest) (slots_of front)) ∙ h) in
+    sym (ap (λ z. has t (slots_of z)) (take-append-drop (set_front es) es)) ∙ ap (λ z. has t z) (slots_of-append front rest)
+    ∙ has-append t (slots_of front) (slots_of rest) ∙ or_neither (has t (slots_of front)) (has t (slots_of rest)) p.1 p.0
 
 -- A slot that isn't there
 

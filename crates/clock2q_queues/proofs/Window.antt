@@ -3,8 +3,8 @@ use Rattle.std.proofs.Common.{◌≡◌, ℕ, ◌+◌, ◌<◌, ◌≢◌, Bool,
 use Rattle.std.specs.List.{last_or}
 use Rattle.std.proofs.lemmas.Bool.{eqb-true, eq-eqb, ne_eqb, both_ways, cases_Bool, or_cases, lt-ltb, le-ltb, cases_lt}
 use Rattle.std.proofs.lemmas.List.{length-set}
-use Rattle.clock2q_queues.specs.Ages as ages
-use Rattle.clock2q_queues.specs.Ages.{Age, grown}
+use Rattle.clock2q_machine.specs.Ages as ages
+use Rattle.clock2q_machine.specs.Ages.{Age, grown}
 use Rattle.clock2q_queues.specs.declared.links.Mark.{Mark}
 use Rattle.clock2q_queues.specs.declared.links.Mark.TheVariants.{Free, Young, Old, Main}
 use Rattle.clock2q_queues.specs.declared.small.Small.{Small}
@@ -133,7 +133,8 @@ module _ (slot : ℕ) (old : LinkState) (small : Small) (mid aged new : LinkStat
   bit_new t = ap (λ (l : LinkState). bit_at l t) rest ∙ ap (λ (l : LinkState). bit_at l t) e ∙ o.bits t
 
   -- a young slot of the queue that isn't at the cursor has another place
-  elsewhere : (t place : ℕ) → has t (small_slots old small) ≡ true → is_there (place_at old small.cursor) t ≡ false → standing_at old.records.items t ≡ Young place → (place < length old.window.items) × (place ≢ small.cursor)
+  elsewhere : (t place : ℕ) → has t (small_slots old small) ≡ true → is_there (place_at old small.cursor) t ≡ false
+      → standing_at old.records.items t ≡ Young place → (place < length old.window.items) × (place ≢ small.cursor)
   elsewhere t place h n y =
       let p = m.placed t place h y in
       (p.0, λ q. both_ways (is_there (place_at old small.cursor) t) n (is_there-own _ t (subst (λ z. place_at old z ≡ Some t) q p.1)))
@@ -146,7 +147,8 @@ module _ (slot : ℕ) (old : LinkState) (small : Small) (mid aged new : LinkStat
             let y = (m.occupied small.cursor t (is_there-true _ t g)).1 in
             rw (cursor, window_new, standing_new t, bit_new t, d, g, y) (sym (grown-at_cursor (length old.window.items) small.cursor (bit_at old t) within))
         | inr g ↦
-            rw (cursor, window_new, standing_new t, bit_new t, d, g) (aged_standing (length old.window.items) small.cursor (standing_at old.records.items t) (bit_at old t) within (λ place y. elsewhere t place h g y))
+            rw (cursor, window_new, standing_new t, bit_new t, d, g)
+            (aged_standing (length old.window.items) small.cursor (standing_at old.records.items t) (bit_at old t) within (λ place y. elsewhere t place h g y))
       ]
 
   own_standing : standing_at new.records.items slot ≡ Young small.cursor
@@ -174,8 +176,10 @@ module _ (slot : ℕ) (old : LinkState) (small : Small) (mid aged new : LinkStat
   occupied_new place t h = elim (cases_Bool (eqb place small.cursor)) [
     | inl g ↦
         let q : Some slot ≡ Some t = sym (place_new place ∙ rw g refl) ∙ h in
-        let r : t ≡ slot = cc in
-        (or_left (eqb t slot) (has t (small_slots old small)) (eq-eqb t slot r), subst (λ z. standing_at new.records.items z ≡ Young place) (sym r) (own_standing ∙ ap (λ z. Young z) (sym (eqb-true place small.cursor g))))
+        let r : t ≡ slot = cc in (
+          or_left (eqb t slot) (has t (small_slots old small)) (eq-eqb t slot r),
+          subst (λ z. standing_at new.records.items z ≡ Young place) (sym r) (own_standing ∙ ap (λ z. Young z) (sym (eqb-true place small.cursor g))),
+        )
     | inr g ↦
         let q : place_at old place ≡ Some t = sym (place_new place ∙ rw g refl) ∙ h in
         let p = m.occupied place t q in
@@ -230,7 +234,8 @@ module _ (slot : ℕ) (old : LinkState) (small : Small) (mid aged new : LinkStat
         ap (λ z. map {B = ℕ × Age} (λ s. (s, age_at new small'.cursor s)) z) (small_slots-is new small' (slot ∷ small_slots old small) whole_new)
         ∙ ap (λ z. (slot, z) ∷ map {B = ℕ × Age} (λ s. (s, age_at new small'.cursor s)) (small_slots old small))
         (rw (own_standing, window_new, cursor) (ap (λ z. ages.Young z) (admissions_since-own (length old.window.items) small.cursor within)))
-        ∙ ap (λ z. (slot, ages.Young 0) ∷ z) (entries-mapped (λ s. age_at new small'.cursor s) (λ s. age_at old small.cursor s) (λ a. grown (length old.window.items) a) (small_slots old small) aged_at);
+        ∙ ap (λ z. (slot, ages.Young 0) ∷ z)
+        (entries-mapped (λ s. age_at new small'.cursor s) (λ s. age_at old small.cursor s) (λ a. grown (length old.window.items) a) (small_slots old small) aged_at);
     others = record {
       others = λ t h.
           let d : eqb t slot ≡ false = (or_parts (eqb t slot) (has t (small_slots old small)) h).0 in
@@ -284,8 +289,10 @@ module _ (slot : ℕ) (old : LinkState) (small : Small) (mid aged : LinkState) (
       subst (λ (z : Counted Record). (newest < length z.items) × (previous_at z.items newest < length z.items)) (sym records_aged) (f.0, f.2)
 
   module _ (new : LinkState) (small' : Small) (b : slot < length old.records.items) (absent : has slot (small_slots old small) ≡ false) (w : 0 < length old.window.items)
-      (rest : new ≡ record aged { records = new.records }) (n : small'.newest ≡ Some slot) (c : small'.len ≡ small.len + 1) (r : small'.cursor ≡ next_cursor (length old.window.items) small.cursor) where
-    pub Admits-attached : (newest : ℕ) → small.newest ≡ Some newest → Attaches slot newest (Young small.cursor) aged.records new.records → small'.oldest ≡ small.oldest → Admits slot old small new small'
+      (rest : new ≡ record aged { records = new.records }) (n : small'.newest ≡ Some slot)
+      (c : small'.len ≡ small.len + 1) (r : small'.cursor ≡ next_cursor (length old.window.items) small.cursor) where
+    pub Admits-attached : (newest : ℕ) → small.newest ≡ Some newest
+        → Attaches slot newest (Young small.cursor) aged.records new.records → small'.oldest ≡ small.oldest → Admits slot old small new small'
     Admits-attached newest h a d =
         let k = linked_still old mid (small_slots old small) small.cursor m.queue.linked o in
         let s = sym h ∙ m.queue.starts in
@@ -294,9 +301,11 @@ module _ (slot : ℕ) (old : LinkState) (small : Small) (mid aged : LinkState) (
         (Inserts-before mid.records new.records (small_slots old small) slot (Young small.cursor) newest k s absent (rw o.as_many b) a') rest
         n (d ∙ m.ends ∙ last_behind (small_slots old small) slot newest s) c r
 
-    pub Admits-alone : small.newest ≡ None → new.records ≡ written slot (record { previous = slot; next = slot; standing = Young small.cursor }) aged.records → small'.oldest ≡ Some slot → Admits slot old small new small'
+    pub Admits-alone : small.newest ≡ None → new.records ≡ written slot (record { previous = slot; next = slot; standing = Young small.cursor }) aged.records
+        → small'.oldest ≡ Some slot → Admits slot old small new small'
     Admits-alone h a d =
         let s = sym h ∙ m.queue.starts in
         Admits-from slot old small mid aged new small' m b absent w o e
-        (Inserts-first mid.records new.records (small_slots old small) slot (Young small.cursor) s (rw o.as_many b) (a ∙ ap (λ z. written slot (record { previous = slot; next = slot; standing = Young small.cursor }) z) records_aged)) rest
+        (Inserts-first mid.records new.records (small_slots old small) slot (Young small.cursor) s (rw o.as_many b)
+        (a ∙ ap (λ z. written slot (record { previous = slot; next = slot; standing = Young small.cursor }) z) records_aged)) rest
         n (d ∙ last_alone (small_slots old small) slot s) c r

@@ -22,7 +22,9 @@ abbrev pub places_with : List (List (ℕ × ℕ)) → List ℕ → List ℕ → 
 places_with index taken free = record { index = index; taken = taken; free = free }
 
 abbrev pub places_code : Coded Places
-places_code = code_by (List (List (ℕ × ℕ)) × (List ℕ × List ℕ)) (coded× (coded_list (coded_list (coded× coded_ℕ coded_ℕ))) (coded× (coded_list coded_ℕ) (coded_list coded_ℕ))) (λ p. (p.index, (p.taken, p.free))) (λ q. places_with q.0 q.1.0 q.1.1) (λ _. refl)
+places_code =
+    code_by (List (List (ℕ × ℕ)) × (List ℕ × List ℕ)) (coded× (coded_list (coded_list (coded× coded_ℕ coded_ℕ))) (coded× (coded_list coded_ℕ) (coded_list coded_ℕ)))
+    (λ p. (p.index, (p.taken, p.free))) (λ q. places_with q.0 q.1.0 q.1.1) (λ _. refl)
 
 -- a new key stands at a free place, or at one that no key had yet
 abbrev pub taking_free : ℕ → Places → Places
@@ -63,7 +65,9 @@ abbrev pub remembered : {K : Type 0} → List (ℕ × K) → ℕ → Places → 
 remembered entries limit places accesses questions = record { entries = entries; limit = limit; places = places; accesses = accesses; questions = questions }
 
 abbrev pub remembered_code : {K : Type 0} → Coded K → Coded (Remembered K)
-remembered_code {K} k = code_by (List (ℕ × K) × (ℕ × (Places × (ℕ × ℕ)))) (coded× (coded_list (coded× coded_ℕ k)) (coded× coded_ℕ (coded× places_code (coded× coded_ℕ coded_ℕ)))) (λ h. (h.entries, (h.limit, (h.places, (h.accesses, h.questions))))) (λ q. remembered q.0 q.1.0 q.1.1.0 q.1.1.1.0 q.1.1.1.1) (λ _. refl)
+remembered_code {K} k =
+    code_by (List (ℕ × K) × (ℕ × (Places × (ℕ × ℕ)))) (coded× (coded_list (coded× coded_ℕ k)) (coded× coded_ℕ (coded× places_code (coded× coded_ℕ coded_ℕ))))
+    (λ h. (h.entries, (h.limit, (h.places, (h.accesses, h.questions))))) (λ q. remembered q.0 q.1.0 q.1.1.0 q.1.1.1.0 q.1.1.1.1) (λ _. refl)
 
 -- the places as the index and the order have them
 abbrev pub places_in : List (List (ℕ × ℕ)) → PlaceOrder → Places
@@ -78,7 +82,8 @@ module _ {K : Type 0} (eq : K → K → Bool) where
   abbrev pub forgotten : K → List (ℕ × K) → List (ℕ × K)
   forgotten key entries = filter (λ e. not (eq key e.1)) entries
 
--- what a history keeps: the keys are distinct, one stands at each place that was used, the index has the places in order among at least twice as many slots as there may be keys, and there is room for as many
+-- what a history keeps: the keys are distinct, one stands at each place that was used, the index has the
+-- places in order among at least twice as many slots as there may be keys, and there is room for as many
 pub record IsHistory {K V : Type 0} (eq : K → K → Bool) (index : List (List (ℕ × ℕ))) (order : PlaceOrder) (keys : KeyPlaces K V) : Type 0 where
   pub whole : IsWholeOrder order
   pub indexed : IsIndex index keys.entries order.places
@@ -88,7 +93,8 @@ pub record IsHistory {K V : Type 0} (eq : K → K → Bool) (index : List (List 
   pub half : 2 * order.limit ≤ length index
   pub short : order.limit < 2 ^ 24
 
--- what callers may rely on: the keys are distinct and no more than there may be, each of them stands at its place, which the index has under the key's hash, with nothing else, and the index is never more than half full
+-- what callers may rely on: the keys are distinct and no more than there may be, each of them stands at its place,
+-- which the index has under the key's hash, with nothing else, and the index is never more than half full
 pub record IsWholeHistory {K : Type 0} (eq : K → K → Bool) (h : Remembered K) : Type 0 where
   pub distinct : AllDistinct eq h.entries
   pub within : length h.entries ≤ h.limit
@@ -106,7 +112,8 @@ pub record MakesPlace {K V : Type 0} (index index' : List (List (ℕ × ℕ))) (
   pub used_now : used order' ≡ max (length keys) (place + 1)
   pub limit : order'.limit ≡ order.limit
   pub accesses : Rises 1 7 order.accesses order'.accesses
-  pub placed : (hash : ℕ) → places_with (with_handle index' hash place) order'.places order'.free ≡ pushed_places order.limit hash (oldest_hash (λ (e : ℕ × K). e.0) (entries_of keys order.places)) (places_in index order)
+  pub placed : (hash : ℕ) → places_with (with_handle index' hash place) order'.places order'.free
+      ≡ pushed_places order.limit hash (oldest_hash (λ (e : ℕ × K). e.0) (entries_of keys order.places)) (places_in index order)
 
 -- how often links were accessed: the records, and each key that was written to a place
 abbrev pub accesses_of : {K V : Type 0} → PlaceOrder → KeyPlaces K V → ℕ

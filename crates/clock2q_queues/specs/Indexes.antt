@@ -1,14 +1,14 @@
 -- An index of places: a table that has the place of each key under the key's hash.
-use Rattle.std.specs.Prelude.{◌≡◌, ℕ, ◌+◌, ◌/◌, Bool, true, false, ◌&&◌, ◌==◌, List, [], ◌∷◌, length, Some, None}
+use Rattle.std.specs.Prelude.{◌≡◌, ℕ, ◌+◌, ◌*◌, ◌/◌, nat_le, cond, Bool, true, false, ◌&&◌, ◌==◌, List, [], ◌∷◌, length, Some, None}
 use Rattle.std.specs.List.{list_any, AllByRecursion}
-use Rattle.clock2q_queues.specs.Rings.{has, AllApart, AllBelow}
+use Rattle.clock2q_queues.specs.Rings.{has, AllApart}
 use Rattle.clock2q_handles.specs.Homes.{top, home, candidates, total}
 use Rattle.clock2q_queues.specs.declared.keys.cells.Entry.{Entry}
 use Rattle.clock2q_queues.specs.Keys.{hash_at}
 
--- how many entries an index is made for where at most so many stand in it
+-- how many entries an index is made for where at most so many stand in it: twice as many in a small index, half as many again in a large one
 abbrev pub index_room : ℕ → ℕ
-index_room limit = limit + limit / 2
+index_room limit = cond (nat_le limit 12288) (2 * limit) (limit + limit / 2)
 
 -- two hashes that an index can't tell apart: they have the same home and the same fingerprint
 abbrev pub is_alike : List (List (ℕ × ℕ)) → ℕ → ℕ → Bool
@@ -37,8 +37,3 @@ module _ {K : Type 0} (eq : K → K → Bool) where
   -- where this key is among them, it has this hash
   abbrev pub HasHash : ℕ → K → List (ℕ × K) → Type 0
   HasHash hash key entries = AllByRecursion (λ e. eq key e.1 ≡ true → e.0 ≡ hash) entries
-
--- an index of these keys, whatever places it had, has none
-pub record Empties {K V : Type 0} (index index' : List (List (ℕ × ℕ))) (keys : List (Entry K V)) : Type 0 where
-  pub as_many : length index' ≡ length index
-  pub emptied : (places : List ℕ) → AllApart places → AllBelow (length keys) places → IsIndex index keys places → IsIndex index' keys []

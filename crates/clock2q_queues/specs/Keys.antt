@@ -21,7 +21,8 @@ abbrev pub cell_state : {K V : Type 0} → List (Entry K V) → ℕ → ℕ → 
 cell_state entries room writes = record { entries = entries; room = room; writes = writes }
 
 abbrev pub cells_code : {K V : Type 0} → Coded K → Coded V → Coded (CellState K V)
-cells_code {K} {V} k v = code_by (List (Entry K V) × (ℕ × ℕ)) (coded× (coded_list (entry_code k v)) (coded× coded_ℕ coded_ℕ)) (λ c. (c.entries, (c.room, c.writes))) (λ p. cell_state p.0 p.1.0 p.1.1) (λ _. refl)
+cells_code {K} {V} k v =
+    code_by (List (Entry K V) × (ℕ × ℕ)) (coded× (coded_list (entry_code k v)) (coded× coded_ℕ coded_ℕ)) (λ c. (c.entries, (c.room, c.writes))) (λ p. cell_state p.0 p.1.0 p.1.1) (λ _. refl)
 
 -- the same, and how often a key was asked about
 pub record KeyPlaces (K V : Type 0) : Type 0 where
@@ -34,7 +35,9 @@ abbrev pub key_places : {K V : Type 0} → List (Entry K V) → ℕ → ℕ → 
 key_places entries room writes questions = record { entries = entries; room = room; writes = writes; questions = questions }
 
 abbrev pub keys_code : {K V : Type 0} → Coded K → Coded V → Coded (KeyPlaces K V)
-keys_code {K} {V} k v = code_by (List (Entry K V) × (ℕ × (ℕ × ℕ))) (coded× (coded_list (entry_code k v)) (coded× coded_ℕ (coded× coded_ℕ coded_ℕ))) (λ p. (p.entries, (p.room, (p.writes, p.questions)))) (λ q. key_places q.0 q.1.0 q.1.1.0 q.1.1.1) (λ _. refl)
+keys_code {K} {V} k v =
+    code_by (List (Entry K V) × (ℕ × (ℕ × ℕ))) (coded× (coded_list (entry_code k v)) (coded× coded_ℕ (coded× coded_ℕ coded_ℕ)))
+    (λ p. (p.entries, (p.room, (p.writes, p.questions)))) (λ q. key_places q.0 q.1.0 q.1.1.0 q.1.1.1) (λ _. refl)
 
 module _ {E : Type 0} where
   -- an entry at a place: instead of the one that stands there, or as the next one

@@ -1,8 +1,6 @@
-pub mod Ages
 pub mod Cells
 pub mod Ends
 pub mod Links
-pub mod Hand
 pub mod MainRing
 pub mod Rings
 pub mod Small

@@ -1,6 +1,6 @@
 -- Main as a list from the hand, and what the hand's choice makes of it.
 use Rattle.std.specs.Prelude.{◌≡◌, ℕ, Bool, true, false, List, map, ◌==◌, if◌then◌else◌}
-use Rattle.clock2q_queues.specs.Hand as hand
+use Rattle.clock2q_machine.specs.Hand as hand
 use Rattle.clock2q_queues.specs.Rings.{has}
 use Rattle.clock2q_queues.specs.Links.{LinkState, IsQueue, slots_from, standing_at, bit_at}
 use Rattle.clock2q_queues.specs.declared.links.Mark.TheVariants.{Main}

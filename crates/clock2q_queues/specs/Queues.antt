@@ -1,7 +1,7 @@
 -- Small and Main over one set of links, as the two lists that they are.
 use Rattle.std.specs.Prelude.{◌≡◌, ℕ, Bool, true, false, not, ◌==◌, List, [], map, ◌++◌, length, Option, Some, None}
 use Rattle.std.specs.List.{filter}
-use Rattle.clock2q_queues.specs.Ages.{Age, is_promoted}
+use Rattle.clock2q_machine.specs.Ages.{Age, is_promoted}
 use Rattle.clock2q_queues.specs.Rings.{has, AllApart, AllBelow}
 use Rattle.clock2q_queues.specs.Links.{LinkState, accesses_of, standing_at}
 use Rattle.clock2q_queues.specs.Small.{IsSmallQueue, small_slots, small_entries}

@@ -1,8 +1,8 @@
 -- Small as a list, newest first, of slots with their ages, and what an admission makes of it.
 use Rattle.std.specs.Prelude.{◌≡◌, ℕ, ◌+◌, ◌-◌, ◌^◌, ◌<◌, Bool, true, false, nat_lt, ◌==◌, if◌then◌else◌, List, ◌∷◌, map, length, Option, Some, None}
 use Rattle.std.specs.List.{last_or}
-use Rattle.clock2q_queues.specs.Ages as ages
-use Rattle.clock2q_queues.specs.Ages.{Age, grown, touched}
+use Rattle.clock2q_machine.specs.Ages as ages
+use Rattle.clock2q_machine.specs.Ages.{Age, grown, touched}
 use Rattle.clock2q_queues.specs.Rings.{has}
 use Rattle.clock2q_queues.specs.Links.{LinkState, IsQueue, slots_from, next_at, previous_at, standing_at, bit_at, place_at}
 use Rattle.clock2q_queues.specs.declared.links.Mark.{Mark}

@@ -94,6 +94,7 @@ impl MainRing {
         ensures inspections { links.new.bits.inspections ≡ links.old.bits.inspections + inspections (main_entries links.old self.old) }
         ensures accesses { links.new.records.accesses + 1 ≡ links.old.records.accesses + inspections (main_entries links.old self.old) }
     {
+        // a ring with an entry has a hand
         let mut hand = self.hand.unwrap();
         while links.inspect(hand) {
             hand = links.read(hand).next;

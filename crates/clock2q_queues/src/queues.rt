@@ -13,9 +13,6 @@ use crate::small::Small;
 use std::alloc::{AllocError, Allocator, Global};
 use std::marker::Model;
 
-#[cfg(test)]
-mod tests;
-
 /// The queue that a slot stands in.
 ///
 /// # Example

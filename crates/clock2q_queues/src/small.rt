@@ -1,7 +1,7 @@
 //! Small: the queue of the newest residents, of which the last admitted ones are young.
 ghost use Rattle.std.specs.Prelude.{◌≡◌, ℕ, ◌+◌, ◌^◌, ◌<◌, ◌≤◌, ◌==◌, true, false, not, [], ◌∷◌, length, None};
 ghost use Rattle.std.specs.List.{filter, last_or};
-ghost use Rattle.clock2q_queues.specs.Ages.{is_promoted};
+ghost use Rattle.clock2q_machine.specs.Ages.{is_promoted};
 ghost use Rattle.clock2q_queues.specs.Cells.{Rises, accessed};
 ghost use Rattle.clock2q_queues.specs.Rings.{has};
 ghost use Rattle.clock2q_queues.specs.Ends.{end_after, place_freed};
@@ -41,11 +41,6 @@ impl Small {
         ensures { (l : LinkState) → IsSmallQueue l self.now → result ≡ length (small_slots l self.now) }
     {
         self.len
-    }
-
-    #[cfg(test)]
-    pub(crate) fn cursor(&self) -> u32 {
-        self.cursor
     }
 
     /// Returns the oldest slot, or `None` if there is none.

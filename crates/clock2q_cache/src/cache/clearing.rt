@@ -6,9 +6,9 @@ use std::hash::{BuildHasher, Hash};
 
 impl<K: Hash + Eq + Drop, V: Drop, S: BuildHasher, A: Allocator> Cache<K, V, S, A> {
     ghost use Rattle.std.specs.Prelude.{◌≡◌};
-    ghost use Rattle.clock2q_cache.specs.Calls.{Clear};
+    ghost use Rattle.clock2q_machine.specs.Calls.{Clear};
     ghost use Rattle.clock2q_cache.specs.Costs.{Costs};
-    ghost use Rattle.clock2q_cache.specs.Machine.{cleared};
+    ghost use Rattle.clock2q_machine.specs.Machine.{cleared};
 
     /// Removes every key with its value, and the history. The cache is as new, and keeps its
     /// memory.

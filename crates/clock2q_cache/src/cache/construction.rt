@@ -13,12 +13,15 @@ use std::num::NonZeroUsize;
 impl<K: Hash + Eq + Drop, V: Drop, A: Allocator + Copy> Cache<K, V, DefaultHashBuilder, A> {
     ghost use Rattle.std.specs.Prelude.{◌≡◌, ◌≢◌, ◌<◌, ◌↔◌, Err, IfOk, IsErrOf};
     ghost use Rattle.std.specs.NonZero.{non_zero_usize_get};
-    ghost use Rattle.clock2q_cache.specs.Shares.{usual_shares};
+    ghost use Rattle.clock2q_machine.specs.Shares.{usual_shares};
     ghost use Rattle.clock2q_cache.specs.CacheState.{uncounted};
-    ghost use Rattle.clock2q_cache.specs.Machine.{empty};
+    ghost use Rattle.clock2q_machine.specs.Machine.{empty};
 
     /// Makes an empty cache for `capacity` keys. Takes all the memory that the cache will ever use:
     /// room for `capacity` keys with their values, and for half as many evicted keys.
+    ///
+    /// The hasher's seed is fixed ([`DefaultHashBuilder`]): keys can be chosen that collide, which
+    /// makes calls slow. Where strangers choose the keys, use [`with_hasher`](Cache::with_hasher).
     ///
     /// # Errors
     ///
@@ -41,12 +44,13 @@ impl<K: Hash + Eq + Drop, V: Drop, A: Allocator + Copy> Cache<K, V, DefaultHashB
 impl<K: Hash + Eq + Drop, V: Drop, S: BuildHasher + Drop, A: Allocator + Copy> Cache<K, V, S, A> {
     ghost use Rattle.std.specs.Prelude.{◌≡◌, ◌≢◌, ◌<◌, ◌≤◌, ◌↔◌, Err, IfOk, IsErrOf, IsOkUnless};
     ghost use Rattle.std.specs.NonZero.{non_zero_usize_get};
-    ghost use Rattle.clock2q_cache.specs.Shares.{usual_shares};
-    ghost use Rattle.clock2q_cache.specs.Policies.{IsPolicy, shares_of};
+    ghost use Rattle.clock2q_machine.specs.Shares.{usual_shares};
+    ghost use Rattle.clock2q_machine.specs.Policies.{IsPolicy, shares_of};
     ghost use Rattle.clock2q_cache.specs.CacheState.{uncounted};
-    ghost use Rattle.clock2q_cache.specs.Machine.{empty};
+    ghost use Rattle.clock2q_machine.specs.Machine.{empty};
 
-    /// Makes an empty cache as [`new`](Cache::new) does, with a hasher of the caller's.
+    /// Makes an empty cache as [`new`](Cache::new) does, with a hasher of the caller's: a
+    /// `RandomState` where strangers choose the keys.
     ///
     /// # Errors
     ///

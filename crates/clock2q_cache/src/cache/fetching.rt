@@ -8,15 +8,16 @@ impl<K: Hash + Eq + Drop, V: Drop, S: BuildHasher, A: Allocator> Cache<K, V, S, 
     ghost use Rattle.std.specs.Prelude.{◌≡◌, ℕ, ◌+◌, ◌<◌, length, slice_get, None, Ok, Err, IfOk, IfErr, OnOk, OnErr};
     ghost use Rattle.std.specs.Option.{UnwrapsOrElse};
     ghost use Rattle.std.specs.Borrow.{sem};
-    ghost use Rattle.clock2q_cache.specs.Bounds.{inspections_for};
-    ghost use Rattle.clock2q_cache.specs.Calls.{With};
+    ghost use Rattle.clock2q_machine.specs.Bounds.{inspections_for};
+    ghost use Rattle.clock2q_machine.specs.Calls.{Put, With};
+    ghost use Rattle.clock2q_cache.specs.Charged.{with_slot};
     ghost use Rattle.clock2q_cache.specs.CacheLends.{LeavesMachine, LendsPut, LendsTaken};
     ghost use Rattle.clock2q_cache.specs.Hashes.{hash_of};
     ghost use Rattle.clock2q_cache.specs.Closures.{Fetches, Takes};
-    ghost use Rattle.clock2q_cache.specs.Costs.{Spends, alike};
+    ghost use Rattle.clock2q_cache.specs.Costs.{Costs, Spends, accesses_for, alike};
     ghost use Rattle.clock2q_cache.specs.Places.{residents_with, remembered_with};
-    ghost use Rattle.clock2q_cache.specs.Machine.{slot_of, value_of};
-    ghost use Rattle.clock2q_cache.specs.Steps.{put, fetched, slotted, slotted_at};
+    ghost use Rattle.clock2q_machine.specs.Machine.{slot_of, value_of};
+    ghost use Rattle.clock2q_machine.specs.Steps.{put, fetched, slotted, slotted_at};
 
     /// Returns the value of a key, after inserting what `f` returns if the key isn't resident. A
     /// resident key is hit, as by [`get`](Cache::get).
@@ -37,6 +38,10 @@ impl<K: Hash + Eq + Drop, V: Drop, S: BuildHasher, A: Allocator> Cache<K, V, S, 
 
     /// Returns the value of a key as [`get_or_insert_with`](Cache::get_or_insert_with) does, where
     /// `f` may fail.
+    ///
+    /// What the call leaves of the cache and what it costs is tested, but no clause says it. A proof
+    /// that needs either calls
+    /// [`try_get_or_insert_with_mut`](Cache::try_get_or_insert_with_mut).
     ///
     /// # Errors
     ///
@@ -103,6 +108,7 @@ impl<K: Hash + Eq + Drop, V: Drop, S: BuildHasher, A: Allocator> Cache<K, V, S, 
         ensures slot { result.0 ≡ slotted_at (slot_of (K.eq key) self.old.machine) (K.eq key) key self.old.machine }
         ensures value { UnwrapsOrElse (slice_get self.old.machine.values result.0) (F.post make) result.1.now }
         ensures unwritten { put (K.eq key) key result.1.now self.old.machine ≡ slotted (K.eq key) key result.1.now self.old.machine }
+        ensures costs { (value : V) → Costs K.Hash S.BuildHasher S.Hasher.Hasher (Put key value) self.old (with_slot K.Hash S.BuildHasher S.Hasher.Hasher key value self.old) }
     {
         let hash = self.hash(&key);
         let most = self.most(&key);
@@ -138,7 +144,7 @@ impl<K: Hash + Eq + Drop, V: Drop, S: BuildHasher, A: Allocator> Cache<K, V, S, 
         ensures fetched { Fetches (K.eq key) key (F.post f) self.old.machine result self.new.machine }
         ensures made { result < length self.new.machine.values }
         ensures hasher { self.new.hasher ≡ self.old.hasher }
-        ensures counts { let inspected = inspections_for (K.eq key) self.old.machine in Spends inspected (inspected + 80) (alike K.Hash S.BuildHasher S.Hasher.Hasher key self.old) self.old.counts self.new.counts }
+        ensures counts { Spends (inspections_for (K.eq key) self.old.machine) (accesses_for (K.eq key) self.old.machine) (alike K.Hash S.BuildHasher S.Hasher.Hasher key self.old) self.old.counts self.new.counts }
     {
         let hash = self.hash(&key);
         if let Some(slot) = self.find(hash, &key) {
@@ -159,7 +165,7 @@ impl<K: Hash + Eq + Drop, V: Drop, S: BuildHasher, A: Allocator> Cache<K, V, S, 
         ensures residents { self.new.residents ≡ residents_with K.Hash S.BuildHasher S.Hasher.Hasher key self.old }
         ensures remembered { self.new.remembered ≡ remembered_with K.Hash S.BuildHasher S.Hasher.Hasher key self.old }
         ensures hasher { self.new.hasher ≡ self.old.hasher }
-        ensures counts { let inspected = inspections_for (K.eq key) self.old.machine in Spends inspected (inspected + 80) (alike K.Hash S.BuildHasher S.Hasher.Hasher key self.old) self.old.counts self.new.counts }
+        ensures counts { Spends (inspections_for (K.eq key) self.old.machine) (accesses_for (K.eq key) self.old.machine) (alike K.Hash S.BuildHasher S.Hasher.Hasher key self.old) self.old.counts self.new.counts }
     {
         if let Some(found) = self.find(hash, &key) {
             self.record_hit(found, &key);
@@ -168,7 +174,7 @@ impl<K: Hash + Eq + Drop, V: Drop, S: BuildHasher, A: Allocator> Cache<K, V, S, 
         self.insert_reusing(hash, key, make)
     }
 
-    /// Does the same where `f` may fail. Nothing changes then.
+    /// Does what `find_or_insert` does with an `f` that may fail. Nothing changes then.
     fn try_find_or_insert<F: FnOnce() -> Result<V, E>, E>(&mut self, key: K, f: F) -> Result<u32, E>
         requires { slot_of (K.eq key) self.old.machine ≡ None → F.pre f }
         ensures fetched { IfOk result (λ slot. Fetches (K.eq key) key (λ v. F.post f (Ok v)) self.old.machine slot self.new.machine) }
@@ -177,7 +183,7 @@ impl<K: Hash + Eq + Drop, V: Drop, S: BuildHasher, A: Allocator> Cache<K, V, S, 
         ensures absent { OnErr result (slot_of (K.eq key) self.old.machine ≡ None) }
         ensures machine { OnErr result (self.new.machine ≡ self.old.machine) }
         ensures hasher { self.new.hasher ≡ self.old.hasher }
-        ensures counts { OnOk result (let inspected = inspections_for (K.eq key) self.old.machine in Spends inspected (inspected + 80) (alike K.Hash S.BuildHasher S.Hasher.Hasher key self.old) self.old.counts self.new.counts) }
+        ensures counts { OnOk result (Spends (inspections_for (K.eq key) self.old.machine) (accesses_for (K.eq key) self.old.machine) (alike K.Hash S.BuildHasher S.Hasher.Hasher key self.old) self.old.counts self.new.counts) }
         ensures asked { OnErr result (Spends 0 0 (alike K.Hash S.BuildHasher S.Hasher.Hasher key self.old) self.old.counts self.new.counts) }
     {
         let hash = self.hash(&key);

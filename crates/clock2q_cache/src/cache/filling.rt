@@ -6,7 +6,7 @@ use std::hash::{BuildHasher, Hash};
 
 impl<K: Hash + Eq + Default, V, S: BuildHasher, A: Allocator> Cache<K, V, S, A> {
     ghost use Rattle.std.specs.Prelude.{◌≡◌, List};
-    ghost use Rattle.clock2q_cache.specs.Calls.{Prefill};
+    ghost use Rattle.clock2q_machine.specs.Calls.{Prefill};
     ghost use Rattle.clock2q_cache.specs.Closures.{Prefills};
     ghost use Rattle.clock2q_cache.specs.Costs.{Costs};
 

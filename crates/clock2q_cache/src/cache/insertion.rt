@@ -9,18 +9,18 @@ impl<K: Hash + Eq + Drop, V: Drop, S: BuildHasher, A: Allocator> Cache<K, V, S, 
     ghost use Rattle.std.specs.Prelude.{◌≡◌, ◌==◌, ◌+◌, ◌<◌, ◌≤◌, length, true, false, None, IfSome, IfNone, is_some, slice_get};
     ghost use Rattle.std.specs.List.{last_or, list_any};
     ghost use Rattle.std.specs.Option.{option_map};
-    ghost use Rattle.clock2q_cache.specs.Shares.{main_share};
-    ghost use Rattle.clock2q_queues.specs.Ages.{is_promoted};
-    ghost use Rattle.clock2q_cache.specs.Cache.{IsWhole, known_count};
+    ghost use Rattle.clock2q_machine.specs.Shares.{main_share};
+    ghost use Rattle.clock2q_machine.specs.Ages.{is_promoted};
+    ghost use Rattle.clock2q_machine.specs.Whole.{IsWhole, known_count};
     ghost use Rattle.clock2q_handles.specs.Homes.{candidates};
-    ghost use Rattle.clock2q_cache.specs.Bounds.{inspections_for};
+    ghost use Rattle.clock2q_machine.specs.Bounds.{inspections_for};
     ghost use Rattle.clock2q_cache.specs.Costs.{Spends};
-    ghost use Rattle.clock2q_cache.specs.Entries.{inspections};
+    ghost use Rattle.clock2q_machine.specs.Entries.{inspections};
     ghost use Rattle.clock2q_cache.specs.Hashes.{hash_of};
     ghost use Rattle.clock2q_cache.specs.Closures.{Reuses};
     ghost use Rattle.clock2q_cache.specs.Places.{Reindexes, entered, remembering_any, out_of, out_of_small, discarded};
     ghost use Rattle.clock2q_cache.specs.Insertions.{Fills, placed, placed_inspections, makes_slot, next_is_vacant, main_inspections, small_inspections};
-    ghost use Rattle.clock2q_cache.specs.Machine.{slot_of, vacancy, goes_to_main, into_main, into_small, forgotten, placement, inserted};
+    ghost use Rattle.clock2q_machine.specs.Machine.{slot_of, vacancy, goes_to_main, into_main, into_small, forgotten, placement, inserted};
 
     /// Inserts a key that is not resident.
     pub(crate) fn insert(&mut self, hash: u64, key: K, value: V) -> u32
@@ -29,7 +29,7 @@ impl<K: Hash + Eq + Drop, V: Drop, S: BuildHasher, A: Allocator> Cache<K, V, S, 
         ensures slot { result ≡ (placement (K.eq key) key self.old.machine).slot }
         ensures machine { self.new.machine ≡ inserted (K.eq key) key value self.old.machine }
         ensures hasher { self.new.hasher ≡ self.old.hasher }
-        ensures counts { Spends (inspections_for (K.eq key) self.old.machine) (inspections_for (K.eq key) self.old.machine + 80) (length (candidates self.old.remembered.index hash)) self.old.counts self.new.counts }
+        ensures counts { Spends (inspections_for (K.eq key) self.old.machine) (inspections_for (K.eq key) self.old.machine + 36) (length (candidates self.old.remembered.index hash)) self.old.counts self.new.counts }
     {
         let known = self.forget(hash, &key);
         let main = self.admits_to_main(known);
@@ -47,7 +47,7 @@ impl<K: Hash + Eq + Drop, V: Drop, S: BuildHasher, A: Allocator> Cache<K, V, S, 
         ensures residents { self.new.residents ≡ entered (λ k. hash_of S.BuildHasher S.Hasher.Hasher self.old.hasher (K.hash_input k)) key result self.old.machine self.old.residents }
         ensures remembered { let m = forgotten (K.eq key) self.old.machine in self.new.remembered ≡ remembering_any (λ k. hash_of S.BuildHasher S.Hasher.Hasher self.old.hasher (K.hash_input k)) (out_of (goes_to_main (list_any (K.eq key) self.old.machine.history) self.old.machine) m) m (discarded (K.eq key) hash self.old) }
         ensures hasher { self.new.hasher ≡ self.old.hasher }
-        ensures counts { Spends (inspections_for (K.eq key) self.old.machine) (inspections_for (K.eq key) self.old.machine + 80) (length (candidates self.old.remembered.index hash)) self.old.counts self.new.counts }
+        ensures counts { Spends (inspections_for (K.eq key) self.old.machine) (inspections_for (K.eq key) self.old.machine + 36) (length (candidates self.old.remembered.index hash)) self.old.counts self.new.counts }
     {
         let known = self.forget(hash, &key);
         let main = self.admits_to_main(known);
@@ -232,6 +232,7 @@ impl<K: Hash + Eq + Drop, V: Drop, S: BuildHasher, A: Allocator> Cache<K, V, S, 
         ensures hasher { self.new.hasher ≡ self.old.hasher }
         ensures counts { Spends 0 28 0 self.old.counts self.new.counts }
     {
+        // the caller saw that Small isn't empty
         let Some(tail) = self.queues.take_tail() else {
             unreachable!()
         };
@@ -255,6 +256,7 @@ impl<K: Hash + Eq + Drop, V: Drop, S: BuildHasher, A: Allocator> Cache<K, V, S, 
         ensures counts { Spends (inspections self.old.machine.main) (inspections self.old.machine.main + 28) 0 self.old.counts self.new.counts }
     {
         let slot = self.queues.take_victim();
+        // the caller saw that Small isn't empty
         let Some(tail) = self.queues.take_tail() else {
             unreachable!()
         };

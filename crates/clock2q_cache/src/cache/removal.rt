@@ -7,11 +7,11 @@ use std::hash::{BuildHasher, Hash};
 
 impl<K: Hash + Eq, V, S: BuildHasher, A: Allocator> Cache<K, V, S, A> {
     ghost use Rattle.std.specs.Prelude.{◌≡◌, IsTrue, ◌↔◌, IsSome, ◌<◌, length, Some, is_some, List, Bool};
-    ghost use Rattle.clock2q_cache.specs.Calls.{Remove, Retain};
-    ghost use Rattle.clock2q_cache.specs.Closures.{Retains};
+    ghost use Rattle.clock2q_machine.specs.Calls.{Remove, Retain};
+    ghost use Rattle.clock2q_cache.specs.Closures.{MayBeAsked, Retains};
     ghost use Rattle.clock2q_cache.specs.Costs.{Spends, Costs};
     ghost use Rattle.clock2q_cache.specs.Hashes.{hash_of};
-    ghost use Rattle.clock2q_cache.specs.Machine.{slot_of, resident_at, vacated, removed};
+    ghost use Rattle.clock2q_machine.specs.Machine.{slot_of, resident_at, vacated, removed};
 
     /// Removes a key, and returns true if it was resident.
     ///
@@ -48,7 +48,7 @@ impl<K: Hash + Eq, V, S: BuildHasher, A: Allocator> Cache<K, V, S, A> {
     /// At most one access to a link for each slot that has a value, and eight more for each
     /// resident that is removed. No key is hashed.
     pub fn retain<F: FnMut(&K, &V) -> bool>(&mut self, mut keep: F)
-        requires { F.IsAlwaysCallable keep }
+        requires callable { MayBeAsked F.FnMut keep self.old.machine }
         ensures retained { Retains F.FnMut keep self.old.machine self.new.machine }
         ensures hasher { self.new.hasher ≡ self.old.hasher }
         ensures costs { (bits : List Bool) → Costs K.Hash S.BuildHasher S.Hasher.Hasher (Retain bits) self.old self.new }

@@ -1,6 +1,6 @@
 //! The history of the keys that Small evicted, which the literature calls Ghost.
 ghost use Rattle.std.specs.Prelude.{◌≡◌, ℕ, ◌+◌, ◌^◌, ◌<◌, ◌≤◌, false, [], ◌∷◌, map, take, length, IfOk};
-ghost use Rattle.clock2q_handles.specs.Homes.{candidates};
+ghost use Rattle.clock2q_handles.specs.Homes.{candidates, no_entries};
 ghost use Rattle.clock2q_handles.specs.TableStep.{made_for};
 ghost use Rattle.clock2q_queues.specs.Cells.{Rises};
 ghost use Rattle.clock2q_queues.specs.Order.{IsWholeOrder, used};
@@ -8,8 +8,6 @@ ghost use Rattle.clock2q_queues.specs.Indexes.{IsIndex, HasHash, index_room};
 ghost use Rattle.clock2q_queues.specs.History.{IsWholeHistory, MakesPlace, places_with, pushed_places, freed_place, place_of, oldest_hash, remembered, is_remembered, forgotten};
 
 mod order;
-#[cfg(test)]
-mod tests;
 
 use crate::keys::{Keys, index_room};
 use clock2q_handles::Table;
@@ -129,13 +127,13 @@ impl<K: Eq, A: Allocator> History<K, A> {
     ///
     /// # Cost
     ///
-    /// Linear in the number of places that were used since the history was made or cleared.
+    /// Linear in the number of keys that the history may hold: its index is filled anew.
     pub fn clear(&mut self)
     where
         K: Drop,
-        ensures cleared { self.new ≡ record self.old { entries = []; places = places_with self.new.places.index [] [] } }
+        ensures cleared { self.new ≡ record self.old { entries = []; places = places_with (no_entries (length self.old.places.index)) [] [] } }
     {
-        self.keys.unindex(&mut self.index);
+        self.index.clear();
         self.order.clear();
         self.keys.clear();
     }

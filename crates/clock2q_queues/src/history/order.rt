@@ -138,6 +138,7 @@ impl<A: Allocator> Order<A> {
         ensures oldest { last_or None self.old.places ≡ Some result }
         ensures order { self.new ≡ record self.old { places = result ∷ take (length self.old.places - 1) self.old.places; accesses = self.old.accesses + 1 } }
     {
+        // an order with a place has a newest one
         let newest = self.newest.unwrap();
         let oldest = self.records.read(newest).previous;
         self.newest = Some(oldest);

@@ -2,12 +2,10 @@
 ghost use Rattle.std.specs.Prelude.{◌≡◌, ℕ, ◌+◌, ◌^◌, ◌<◌, ◌≤◌, [], ◌∷◌, ◌++◌, length, Some, IfOk};
 ghost use Rattle.std.specs.List.{find, AllByRecursion};
 ghost use Rattle.std.specs.Borrow.{sem};
-ghost use Rattle.clock2q_queues.specs.Indexes.{index_room, Empties};
+ghost use Rattle.clock2q_queues.specs.Indexes.{index_room};
 ghost use Rattle.clock2q_queues.specs.Keys.{is_key_at, questions_of};
 
 mod cells;
-#[cfg(test)]
-mod tests;
 
 use cells::Cells;
 pub use cells::Entry;
@@ -16,13 +14,21 @@ use clock2q_handles::{Candidates, Table};
 use std::alloc::{AllocError, Allocator, Global};
 use std::marker::Model;
 
-/// Returns how many entries to make an index for that holds up to `limit` places: half as many
-/// again. Such an index is never more than half full, which keeps lookups short.
+/// The most places for which an index has room for twice as many. Its slots then take 256 KB.
+const SMALL_INDEX: usize = 12_288;
+
+/// Returns how many entries to make an index for that holds up to `limit` places: twice as many,
+/// or half as many again if that would take much memory. Such an index is never more than half
+/// full, which keeps lookups short.
 pub fn index_room(limit: usize) -> usize
     requires countable { limit < 2 ^ 63 }
     ensures room { result ≡ index_room limit }
 {
-    limit + limit / 2
+    if limit <= SMALL_INDEX {
+        limit * 2
+    } else {
+        limit + limit / 2
+    }
 }
 
 /// A key at each place, with its hash and a value. Places are numbered from 0, in the order in
@@ -161,21 +167,6 @@ impl<K, V, A: Allocator> Keys<K, V, A> {
         }
     }
 
-    /// Removes the place of every key from an index of the places.
-    ///
-    /// # Cost
-    ///
-    /// One removal from the index for each place that has a key.
-    pub fn unindex<B: Allocator>(&self, index: &mut Table<u32, B>)
-        requires countable { length self.now.entries ≤ 2 ^ 32 }
-        ensures emptied { Empties index.old.homes index.new.homes self.now.entries }
-    {
-        for place in 0..self.len() {
-            let place = place as u32;
-            index.remove(self.hash(place), place);
-        }
-    }
-
     /// Drops every key and value. No place has a key then.
     pub fn clear(&mut self)
     where
@@ -206,15 +197,6 @@ impl<K: Eq, V, A: Allocator> Keys<K, V, A> {
         ensures counted { self.new ≡ record self.old { questions = self.old.questions + 1 } }
     {
         self.cells.is(place, key, &mut self.questions)
-    }
-
-    /// Returns whether `key` equals the key at a place. The question is counted in `asked` instead.
-    pub fn is_untold(&self, place: u32, key: &K, asked: &mut Count) -> bool
-        requires used { place < length self.now.entries }
-        ensures value { result ≡ is_key_at K.eq key.now self.now.entries place }
-        ensures counted { asked.new.total ≡ asked.old.total + 1 }
-    {
-        self.cells.is(place, key, asked)
     }
 
     /// Returns the first of `places` whose key equals `key`, and counts each question.

@@ -1,19 +1,18 @@
 -- One entry more, with the next value.
 use Rattle.std.proofs.Common.{of_calls, ◌≡◌, ◌+◌, arith, refl, sym, ap, ◌∙◌, subst}
-use denote.Param.Always.{always_mut}
 use Rattle.clock2q_queues.specs.Keys.{KeyPlaces}
-use Rattle.clock2q_cache.specs.Closures.{Fills}
+use Rattle.clock2q_cache.specs.Closures.{FillsUp}
 use Rattle.clock2q_cache.specs.Hashes.{hash_of}
-use Rattle.clock2q_cache.proofs.Filled.{fills-none, fills-more, fills-length}
+use Rattle.clock2q_cache.proofs.Filled.{FillsUp-none, FillsUp-more, FillsUp-length}
 use Rattle.clock2q_cache.proofs.filling.fill.Goals as goal
 
 pub loop-init : goal.loop-init
-loop-init g c = ((λ h. h), fills-none g.F.FnMut c.args.make (λ k. hash_of g.S.BuildHasher g.S.Hasher.Hasher c.args.hasher.now (g.K.Hash.hash_input k)) c.args.keys.now.entries _ c.len-counter.ensures.len, refl, refl)
+loop-init g c = ((λ h. h), FillsUp-none c.len-counter.ensures.len, refl, refl)
 
 pub push-requires : goal.push-requires
 push-requires g c =
     let i = c.loop.invariant in
-    record { room = omega (arith, c.loop-test.true, c.requires.room, fills-length _ _ _ _ _ _ _ i.1, i.2) }
+    record { room = omega (arith, c.loop-test.true, c.requires.room, FillsUp-length i.1, i.2) }
 
 pub make-requires : goal.make-requires
 make-requires g c = search of_calls
@@ -21,16 +20,19 @@ make-requires g c = search of_calls
 pub loop-preserved : goal.loop-preserved
 loop-preserved g c =
     let i = c.loop.invariant in
-    let can : always_mut g.F.FnMut c.loop.make = i.0 c.requires.callable in
-    let more = fills-more _ _ _ _ _ _ _ _ _ _ _ i.1 c.hash_of-hash.ensures c.make.ensures in
+    let more = FillsUp-more i.1 c.hash_of-hash.ensures c.make.ensures in
     let pushed = ap (λ (z : KeyPlaces _ _). z.entries) c.push.ensures.pushed in (
       (λ a. search of_calls parts 8),
-      subst (λ z. Fills g.F.FnMut c.args.make (λ k. hash_of g.S.BuildHasher g.S.Hasher.Hasher c.args.hasher.now (g.K.Hash.hash_input k)) (c.loop.counter + 1) c.args.keys.now.entries z c.make.new.self) (sym pushed) more,
+      subst (λ z. FillsUp g.F.FnMut c.args.make (λ k. hash_of g.S.BuildHasher g.S.Hasher.Hasher c.args.hasher.now (g.K.Hash.hash_input k))
+          (c.loop.counter + 1) c.args.keys.now.entries z c.make.new.self) (sym pushed) more,
       ap (λ (z : KeyPlaces _ _). z.room) c.push.ensures.pushed ∙ i.2,
       ap (λ (z : KeyPlaces _ _). z.questions) c.push.ensures.pushed ∙ i.3,
     )
 
 pub returns-clause-filled : goal.returns-clause-filled
 returns-clause-filled g c =
-    let same : c.loop.counter ≡ c.args.many = omega (arith, c.loop-test.false, c.loop.auto.counter-end) in
-    (c.loop.make, subst (λ n. Fills g.F.FnMut c.args.make (λ k. hash_of g.S.BuildHasher g.S.Hasher.Hasher c.args.hasher.now (g.K.Hash.hash_input k)) n c.args.keys.now.entries c.loop.keys.entries c.loop.make) same c.loop.invariant.1)
+    let same : c.loop.counter ≡ c.args.many = omega (arith, c.loop-test.false, c.loop.auto.counter-end) in (
+      c.loop.make,
+      subst (λ n. FillsUp g.F.FnMut c.args.make (λ k. hash_of g.S.BuildHasher g.S.Hasher.Hasher c.args.hasher.now (g.K.Hash.hash_input k))
+          n c.args.keys.now.entries c.loop.keys.entries c.loop.make) same c.loop.invariant.1,
+    )

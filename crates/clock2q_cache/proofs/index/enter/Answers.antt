@@ -13,9 +13,11 @@ returns-clause-entries g c =
     elim c.match-value.branch [
       | in-Some w ↦
           let is = ap (λ (z : KeyPlaces _ _). z.entries) w.keys-is ∙ ap (λ (z : KeyPlaces _ _). z.entries) w.write.ensures.written in
-          subst (λ v. Writes c.args.hash c.args.key v c.args.slot es c.match-value.keys.entries) (sym w.in-Some.is) (brings-value c.args.slot c.args.hash c.args.key w.in-Some.value es c.match-value.keys.entries is)
+          subst (λ v. Writes c.args.hash c.args.key v c.args.slot es c.match-value.keys.entries) (sym w.in-Some.is)
+          (brings-value c.args.slot c.args.hash c.args.key w.in-Some.value es c.match-value.keys.entries is)
       | in-None w ↦
           let made = subst (λ v. IfNone v (c.args.slot < length es)) w.in-None.is c.requires.had in
           let is = ap (λ (z : KeyPlaces _ _). z.entries) w.keys-is ∙ ap (λ (z : KeyPlaces _ _). z.entries) w.replace.ensures.replaced in
-          subst (λ v. Writes c.args.hash c.args.key v c.args.slot es c.match-value.keys.entries) (sym w.in-None.is) (keeps-value c.args.slot c.args.hash c.args.key es c.match-value.keys.entries made is)
+          subst (λ v. Writes c.args.hash c.args.key v c.args.slot es c.match-value.keys.entries)
+          (sym w.in-None.is) (keeps-value c.args.slot c.args.hash c.args.key es c.match-value.keys.entries made is)
     ]

@@ -25,8 +25,10 @@ returns-clause-entries g c =
           let is = ap (λ (z : KeyPlaces _ _). z.entries) w.keys-is ∙ ap (λ (z : KeyPlaces _ _). z.entries) w.replace_value.ensures.replaced
           ∙ ap (λ (z : KeyPlaces _ _). with_value c.args.slot w.in-Some.value z.entries) c.replace-old.ensures.replaced
           ∙ written-replaced c.args.slot c.args.hash c.args.key w.in-Some.value es c.requires.made in
-          subst (λ v. Writes c.args.hash c.args.key v c.args.slot es c.match-value.keys.entries) (sym w.in-Some.is) (brings-value c.args.slot c.args.hash c.args.key w.in-Some.value es c.match-value.keys.entries is)
+          subst (λ v. Writes c.args.hash c.args.key v c.args.slot es c.match-value.keys.entries) (sym w.in-Some.is)
+          (brings-value c.args.slot c.args.hash c.args.key w.in-Some.value es c.match-value.keys.entries is)
       | in_default w ↦
           let is = ap (λ (z : KeyPlaces _ _). z.entries) w.keys-is ∙ ap (λ (z : KeyPlaces _ _). z.entries) c.replace-old.ensures.replaced in
-          subst (λ v. Writes c.args.hash c.args.key v c.args.slot es c.match-value.keys.entries) (sym w.in_default.is) (keeps-value c.args.slot c.args.hash c.args.key es c.match-value.keys.entries c.requires.made is)
+          subst (λ v. Writes c.args.hash c.args.key v c.args.slot es c.match-value.keys.entries) (sym w.in_default.is)
+          (keeps-value c.args.slot c.args.hash c.args.key es c.match-value.keys.entries c.requires.made is)
     ]

@@ -14,5 +14,7 @@ pub returns-clause-made : goal.returns-clause-made
 returns-clause-made g c =
     let e = c.reuse_oldest-place.ensures in
     let full : c.args.order.now.limit ≤ length c.args.order.now.places = omega (arith, c.if-len-limit.false, c.len.ensures.len, c.limit.ensures) in
-    MakesPlace-oldest c.args.index.now.homes c.args.order.now c.reuse_oldest-place.new.self c.args.keys.now.entries c.reuse_oldest-place.result c.requires.indexed c.requires.as_many c.len.ensures.whole
-    c.remove.new.self.homes c.hash.result full e.oldest (ap (λ (z : PlaceOrder). z.places) e.order) (ap (λ (z : PlaceOrder). z.free) e.order) (ap (λ (z : PlaceOrder). z.limit) e.order) (ap (λ (z : PlaceOrder). z.accesses) e.order) c.hash.ensures.hash c.remove.ensures.removed
+    MakesPlace-oldest c.args.index.now.homes c.args.order.now c.reuse_oldest-place.new.self
+    c.args.keys.now.entries c.reuse_oldest-place.result c.requires.indexed c.requires.as_many c.len.ensures.whole
+    c.remove.new.self.homes c.hash.result full e.oldest (ap (λ (z : PlaceOrder). z.places) e.order) (ap (λ (z : PlaceOrder). z.free) e.order)
+    (ap (λ (z : PlaceOrder). z.limit) e.order) (ap (λ (z : PlaceOrder). z.accesses) e.order) c.hash.ensures.hash c.remove.ensures.removed

@@ -10,5 +10,5 @@ returns-then-has_vacancy g c =
     let k = c.self.invariant in
     let f = c.if-share-eq0.false in
     let at = c.small-share.ensures.share ∙ ap (λ (z : CacheState _ _ _). z.machine.shares.small) c.self.view_is in
-    let is = c.small_len.ensures.len ∙ sym (length_in_small _ g.met.K.Eq.laws _ _ _ _ _ _ _ _ k) ∙ ap (λ (z : CacheState _ _ _). length z.machine.small) c.self.view_is in
+    let is = c.small_len.ensures.len ∙ sym (length_in_small g.met.K.Eq.laws k) ∙ ap (λ (z : CacheState _ _ _). length z.machine.small) c.self.view_is in
     admits c.args.self.now.machine c.args.known _ _ at f.0 f.1 (sym c.if-has_vacancy.ensures.vacant) is

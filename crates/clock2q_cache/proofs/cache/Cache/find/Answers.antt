@@ -4,7 +4,7 @@ use Rattle.std.specs.List.{find, AllByRecursion}
 use Rattle.clock2q_queues.specs.Keys.{KeyPlaces, is_key_at}
 use Rattle.clock2q_cache.specs.Hashes.{hash_of}
 use Rattle.clock2q_cache.specs.CacheState.{CacheState}
-use Rattle.clock2q_cache.specs.Machine.{slot_of}
+use Rattle.clock2q_machine.specs.Machine.{slot_of}
 use Rattle.clock2q_cache.proofs.Changed.{kept-asked}
 use Rattle.clock2q_cache.proofs.Finding.{candidates-there, found, found-made}
 use Rattle.clock2q_cache.proofs.Spent.{asked-spends}
@@ -13,27 +13,29 @@ use Rattle.clock2q_cache.proofs.cache.Cache.find.Goals as goal
 pub find-requires : goal.find-requires
 find-requires g c =
     let k = c.self.invariant in
-    record { used = subst (λ z. AllByRecursion (λ place. place < length c.self.inside.keys.entries) z) (sym c.get.ensures.candidates) (candidates-there _ g.met.K.Eq.laws _ _ _ _ _ _ _ _ k c.args.hash) }
+    record { used = subst (λ z. AllByRecursion (λ place. place < length c.self.inside.keys.entries) z) (sym c.get.ensures.candidates) (candidates-there g.met.K.Eq.laws k c.args.hash) }
 
 pub invariant_of-self : goal.invariant_of-self
 invariant_of-self g c =
     let k = c.self.invariant in
     let r = c.find.ensures.counted in
-    kept-asked _ g.met.K.Eq.laws _ _ _ _ _ _ _ _ k c.find.new.self (ap (λ (z : KeyPlaces _ _). z.entries) r) (ap (λ (z : KeyPlaces _ _). z.room) r)
+    kept-asked g.met.K.Eq.laws k c.find.new.self (ap (λ (z : KeyPlaces _ _). z.entries) r) (ap (λ (z : KeyPlaces _ _). z.room) r)
 
 pub returns-clause-slot : goal.returns-clause-slot
 returns-clause-slot g c =
     let k = c.self.invariant in
     let same = c.requires ∙ ap (λ (z : CacheState _ _ _). hash_of g.S.BuildHasher g.S.Hasher.Hasher z.hasher (g.K.Hash.hash_input c.args.key.now)) (sym c.self.view_is) in
-    c.find.ensures.found ∙ ap (λ z. find (is_key_at g.K.PartialEq.eq c.args.key.now c.self.inside.keys.entries) z) c.get.ensures.candidates ∙ found _ g.met.K.Eq.laws _ _ _ _ _ _ _ _ k c.args.key.now (λ x y e. ap (λ z. hash_of g.S.BuildHasher g.S.Hasher.Hasher c.self.inside.hasher z) (g.met.K.Hash.respects_eq x y e)) c.args.hash same
+    c.find.ensures.found ∙ ap (λ z. find (is_key_at g.K.PartialEq.eq c.args.key.now c.self.inside.keys.entries) z) c.get.ensures.candidates
+    ∙ found g.met.K.Eq.laws k c.args.key.now (λ x y e. ap (λ z. hash_of g.S.BuildHasher g.S.Hasher.Hasher c.self.inside.hasher z) (g.met.K.Hash.respects_eq x y e)) c.args.hash same
     ∙ ap (λ (z : CacheState _ _ _). slot_of (g.K.PartialEq.eq c.args.key.now) z.machine) c.self.view_is
 
 pub returns-clause-made : goal.returns-clause-made
 returns-clause-made g c =
     let k = c.self.invariant in
     let same = c.requires ∙ ap (λ (z : CacheState _ _ _). hash_of g.S.BuildHasher g.S.Hasher.Hasher z.hasher (g.K.Hash.hash_input c.args.key.now)) (sym c.self.view_is) in
-    let is = c.find.ensures.found ∙ ap (λ z. find (is_key_at g.K.PartialEq.eq c.args.key.now c.self.inside.keys.entries) z) c.get.ensures.candidates ∙ found _ g.met.K.Eq.laws _ _ _ _ _ _ _ _ k c.args.key.now (λ x y e. ap (λ z. hash_of g.S.BuildHasher g.S.Hasher.Hasher c.self.inside.hasher z) (g.met.K.Hash.respects_eq x y e)) c.args.hash same in
-    rw (← c.self.view_is) (found-made _ g.met.K.Eq.laws _ _ _ _ _ _ _ _ k c.args.key.now c.find.result is)
+    let is = c.find.ensures.found ∙ ap (λ z. find (is_key_at g.K.PartialEq.eq c.args.key.now c.self.inside.keys.entries) z) c.get.ensures.candidates
+    ∙ found g.met.K.Eq.laws k c.args.key.now (λ x y e. ap (λ z. hash_of g.S.BuildHasher g.S.Hasher.Hasher c.self.inside.hasher z) (g.met.K.Hash.respects_eq x y e)) c.args.hash same in
+    rw (← c.self.view_is) (found-made g.met.K.Eq.laws k c.args.key.now c.find.result is)
 
 pub returns-clause-counts : goal.returns-clause-counts
 returns-clause-counts g c =

@@ -2,7 +2,7 @@
 use Rattle.std.proofs.Common.{sym, ap, ◌∙◌, subst}
 use Rattle.std.proofs.lemmas.Option.{slice_get_within}
 use Rattle.clock2q_cache.specs.Closures.{Fetches}
-use Rattle.clock2q_cache.specs.Machine.{hit, inserted}
+use Rattle.clock2q_machine.specs.Machine.{hit, inserted}
 use Rattle.clock2q_cache.proofs.Fetched.{hit-fetches, new-fetches}
 use Rattle.clock2q_cache.specs.CacheState.{CacheState}
 use Rattle.clock2q_cache.proofs.Insertions.{hit-spends, insert-spends}
@@ -27,10 +27,11 @@ returns-clause-made g c = let f = returns-clause-fetched g c in slice_get_within
 
 pub returns-in-Some-clause-counts : goal.returns-in-Some-clause-counts
 returns-in-Some-clause-counts g c =
-    hit-spends (record { eq = g.K.PartialEq.eq; hash_input = g.K.Hash.hash_input }) g.S.BuildHasher g.S.Hasher.Hasher c.args.key c.hash-hash.result c.args.self.now c.find.new.self c.hash-hash.ensures c.find.ensures.kept c.find.ensures.counts
+    hit-spends (record { eq = g.K.PartialEq.eq; hash_input = g.K.Hash.hash_input })
+    g.S.BuildHasher g.S.Hasher.Hasher c.args.key c.hash-hash.result c.args.self.now c.find.new.self c.hash-hash.ensures c.find.ensures.kept c.find.ensures.counts
     c.in-Some.slot c.in-Some.ensures.slot c.record_hit.new.self.counts (ap (λ (z : CacheState _ _ _). z.counts) c.record_hit.ensures.kept)
 
 pub returns-clause-counts : goal.returns-clause-counts
 returns-clause-counts g c =
     insert-spends (record { eq = g.K.PartialEq.eq; hash_input = g.K.Hash.hash_input }) g.S.BuildHasher g.S.Hasher.Hasher c.args.key c.hash-hash.result c.args.self.now c.find.new.self c.hash-hash.ensures c.find.ensures.kept c.find.ensures.counts
-    c.insert.new.self.counts c.insert.ensures.counts
+    c.in_default.ensures.slot c.insert.new.self.counts c.insert.ensures.counts

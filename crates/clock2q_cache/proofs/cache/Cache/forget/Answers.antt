@@ -4,7 +4,7 @@ use Rattle.std.specs.List.{list_any}
 use Rattle.clock2q_queues.specs.History.{Remembered}
 use Rattle.clock2q_cache.specs.Hashes.{hash_of}
 use Rattle.clock2q_cache.specs.CacheState.{CacheState}
-use Rattle.clock2q_cache.specs.Machine.{forgotten}
+use Rattle.clock2q_machine.specs.Machine.{forgotten}
 use Rattle.clock2q_cache.specs.Places.{discarded}
 use Rattle.clock2q_cache.proofs.Changed.{known-any, discard-hash, forgotten-machine, kept-forgotten}
 use Rattle.clock2q_cache.proofs.cache.Cache.forget.Goals as goal
@@ -13,22 +13,27 @@ pub discard-requires : goal.discard-requires
 discard-requires g c =
     let k = c.self.invariant in
     let same = c.requires ∙ ap (λ (z : CacheState _ _ _). hash_of g.S.BuildHasher g.S.Hasher.Hasher z.hasher (g.K.Hash.hash_input c.args.key.now)) (sym c.self.view_is) in
-    record { hash = discard-hash _ g.met.K.Eq.laws _ _ _ _ _ _ _ _ k c.args.key.now c.args.hash (λ x y e. ap (λ z. hash_of g.S.BuildHasher g.S.Hasher.Hasher c.self.inside.hasher z) (g.met.K.Hash.respects_eq x y e)) same }
+    record {
+      hash = discard-hash g.met.K.Eq.laws k c.args.key.now c.args.hash
+          (λ x y e. ap (λ z. hash_of g.S.BuildHasher g.S.Hasher.Hasher c.self.inside.hasher z) (g.met.K.Hash.respects_eq x y e)) same;
+    }
 
 pub invariant_of-self : goal.invariant_of-self
 invariant_of-self g c =
     let k = c.self.invariant in
-    kept-forgotten _ g.met.K.Eq.laws _ _ _ _ _ _ _ _ k c.args.key.now c.discard.new.self (ap (λ (z : Remembered _). z.entries) c.discard.ensures.forgotten) (ap (λ (z : Remembered _). z.limit) c.discard.ensures.forgotten)
+    kept-forgotten g.met.K.Eq.laws k c.args.key.now c.discard.new.self
+    (ap (λ (z : Remembered _). z.entries) c.discard.ensures.forgotten) (ap (λ (z : Remembered _). z.limit) c.discard.ensures.forgotten)
 
 pub returns-clause-known : goal.returns-clause-known
 returns-clause-known g c =
-    let k = c.self.invariant in
-    c.discard.ensures.found ∙ known-any (g.K.PartialEq.eq c.args.key.now) c.self.inside.history.entries ∙ ap (λ (z : CacheState _ _ _). list_any (g.K.PartialEq.eq c.args.key.now) z.machine.history) c.self.view_is
+    c.discard.ensures.found ∙ known-any (g.K.PartialEq.eq c.args.key.now) c.self.inside.history.entries
+    ∙ ap (λ (z : CacheState _ _ _). list_any (g.K.PartialEq.eq c.args.key.now) z.machine.history) c.self.view_is
 
 pub returns-clause-machine : goal.returns-clause-machine
 returns-clause-machine g c =
     let k = c.self.invariant in
-    forgotten-machine _ g.met.K.Eq.laws _ _ _ _ _ _ _ _ k c.args.key.now c.discard.new.self (ap (λ (z : Remembered _). z.entries) c.discard.ensures.forgotten) ∙ ap (λ (z : CacheState _ _ _). forgotten (g.K.PartialEq.eq c.args.key.now) z.machine) c.self.view_is
+    forgotten-machine g.met.K.Eq.laws k c.args.key.now c.discard.new.self (ap (λ (z : Remembered _). z.entries) c.discard.ensures.forgotten)
+    ∙ ap (λ (z : CacheState _ _ _). forgotten (g.K.PartialEq.eq c.args.key.now) z.machine) c.self.view_is
 
 pub returns-clause-remembered : goal.returns-clause-remembered
 returns-clause-remembered g c = c.discard.ensures.places ∙ ap (λ (z : CacheState _ _ _). discarded (g.K.PartialEq.eq c.args.key.now) c.args.hash z) c.self.view_is

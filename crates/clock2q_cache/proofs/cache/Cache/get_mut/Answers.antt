@@ -7,7 +7,8 @@ pub returns : goal.returns
 returns g c = (
   (
     refl,
-    (λ w. lent-becomes (record { eq = g.K.PartialEq.eq; hash_input = g.K.Hash.hash_input }) g.S.BuildHasher g.S.Hasher.Hasher c.args.key.now c.hash-hash.result c.in_ok-resident.resident w c.args.self.now c.find.new.self c.record_hit.new.self c.hash-hash.ensures c.in_ok-resident.ensures.slot c.find.ensures.kept c.find.ensures.counts c.record_hit.ensures.kept c.record_hit.ensures.machine),
+    (λ w. lent-becomes (record { eq = g.K.PartialEq.eq; hash_input = g.K.Hash.hash_input })
+        g.S.BuildHasher g.S.Hasher.Hasher c.args.key.now c.in_ok-resident.resident w c.args.self.now c.hit.new.self c.in_ok-resident.ensures.slot c.hit.ensures.becomes),
     tt,
   ),
   record { writes_back = tt; value = search rules; missed = tt },
@@ -16,10 +17,13 @@ returns g c = (
 pub returns-in_err-resident : goal.returns-in_err-resident
 returns-in_err-resident g c =
     let absent = sym c.in_err-resident.ensures.slot in
-    let unhit = unhit-becomes (record { eq = g.K.PartialEq.eq; hash_input = g.K.Hash.hash_input }) g.S.BuildHasher g.S.Hasher.Hasher c.args.key.now c.hash-hash.result c.args.self.now c.find.new.self c.hash-hash.ensures absent c.find.ensures.kept c.find.ensures.counts in (
+    let unhit =
+    unhit-becomes (record { eq = g.K.PartialEq.eq; hash_input = g.K.Hash.hash_input })
+    g.S.BuildHasher g.S.Hasher.Hasher c.args.key.now c.args.self.now c.hit.new.self absent c.hit.ensures.becomes in (
       (
         search rules,
-        (λ w. unlent-becomes (record { eq = g.K.PartialEq.eq; hash_input = g.K.Hash.hash_input }) g.S.BuildHasher g.S.Hasher.Hasher c.args.key.now c.hash-hash.result w c.args.self.now c.find.new.self c.hash-hash.ensures absent c.find.ensures.kept c.find.ensures.counts),
+        (λ w. unlent-becomes (record { eq = g.K.PartialEq.eq; hash_input = g.K.Hash.hash_input })
+            g.S.BuildHasher g.S.Hasher.Hasher c.args.key.now w c.args.self.now c.hit.new.self absent c.hit.ensures.becomes),
         rw c.from_residual.ensures unhit,
       ),
       record { writes_back = tt; value = search rules; missed = rw c.from_residual.ensures absent },

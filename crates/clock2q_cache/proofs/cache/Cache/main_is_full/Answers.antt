@@ -1,6 +1,6 @@
 -- Main has as many entries as slots.
 use Rattle.std.proofs.Common.{ℕ, ◌==◌, length, ap, ◌∙◌, sym}
-use Rattle.clock2q_cache.specs.Shares.{main_share}
+use Rattle.clock2q_machine.specs.Shares.{main_share}
 use Rattle.clock2q_cache.specs.CacheFields.{machine_of}
 use Rattle.clock2q_cache.specs.CacheState.{CacheState}
 use Rattle.clock2q_cache.proofs.CacheInvariant.{length_in_main}
@@ -8,7 +8,7 @@ use Rattle.clock2q_cache.proofs.cache.Cache.main_is_full.Goals as goal
 
 pub returns : goal.returns
 returns g c = record {
-  full = ap (λ (n : ℕ). n == c.main.result) (c.main_len.ensures.len ∙ sym (length_in_main _ g.met.K.Eq.laws _ _ _ _ _ _ _ _ c.self.invariant))
+  full = ap (λ (n : ℕ). n == c.main.result) (c.main_len.ensures.len ∙ sym (length_in_main g.met.K.Eq.laws c.self.invariant))
       ∙ ap (λ (n : ℕ). length (machine_of c.self.inside.shares c.self.inside.queues c.self.inside.keys.entries c.self.inside.history.entries c.self.inside.free.items).main == n) c.main.ensures
       ∙ ap (λ (z : CacheState _ _ _). length z.machine.main == main_share z.machine.shares) c.self.view_is;
 }

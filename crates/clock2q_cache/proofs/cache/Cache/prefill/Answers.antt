@@ -14,7 +14,7 @@ invariant_of-self g c =
     let filled = c.fill.ensures.filled.1 in
     let freed = c.free_down.ensures.items ∙ ap (λ n. i.free.items ++ reverse (range_with_len n (c.capacity-capacity.result - n))) c.len-made.ensures.len
     ∙ ap (λ n. i.free.items ++ reverse (range_with_len (length i.keys.entries) (n - length i.keys.entries))) c.capacity-capacity.ensures in
-    kept-prefilled _ g.met.K.Eq.laws _ _ _ _ _ _ _ _ c.self.invariant filled.added c.fill.new.keys c.free_down.new.free.items _ filled.is (filled.as_many ∙ c.capacity-capacity.ensures) freed
+    kept-prefilled g.met.K.Eq.laws c.self.invariant filled.added c.fill.new.keys c.free_down.new.free.items _ filled.is (filled.as_many ∙ c.capacity-capacity.ensures) freed
     filled.hashed c.fill.ensures.kept_room c.free_down.ensures.capacity
 
 pub returns-clause-made : goal.returns-clause-made
@@ -23,9 +23,10 @@ returns-clause-made g c =
     let filled = c.fill.ensures.filled.1 in
     let freed = c.free_down.ensures.items ∙ ap (λ n. i.free.items ++ reverse (range_with_len n (c.capacity-capacity.result - n))) c.len-made.ensures.len
     ∙ ap (λ n. i.free.items ++ reverse (range_with_len (length i.keys.entries) (n - length i.keys.entries))) c.capacity-capacity.ensures in
-    let count = made-count _ g.met.K.Eq.laws _ _ _ _ _ _ _ _ c.self.invariant filled.added c.fill.new.keys c.free_down.new.free.items 0 filled.is (filled.as_many ∙ c.capacity-capacity.ensures) freed in
-    let machine = machine-prefilled _ g.met.K.Eq.laws _ _ _ _ _ _ _ _ c.self.invariant filled.added c.fill.new.keys c.free_down.new.free.items 0 filled.is (filled.as_many ∙ c.capacity-capacity.ensures) freed in
-    subst (λ (z : CacheState _ _ _). Prefills g.F.FnMut c.args.make z.machine (machine_of i.shares i.queues c.fill.new.keys.entries i.history.entries c.free_down.new.free.items)) c.self.view_is (record {
+    let count = made-count g.met.K.Eq.laws c.self.invariant filled.added c.fill.new.keys c.free_down.new.free.items 0 filled.is (filled.as_many ∙ c.capacity-capacity.ensures) freed in
+    let machine = machine-prefilled g.met.K.Eq.laws c.self.invariant filled.added c.fill.new.keys c.free_down.new.free.items 0 filled.is (filled.as_many ∙ c.capacity-capacity.ensures) freed in
+    subst (λ (z : CacheState _ _ _). Prefills g.F.FnMut c.args.make z.machine
+    (machine_of i.shares i.queues c.fill.new.keys.entries i.history.entries c.free_down.new.free.items)) c.self.view_is (record {
       made = map (λ e. e.value) filled.added;
       last = c.fill.ensures.filled.0;
       as_many = count;
@@ -39,5 +40,6 @@ returns-clause-costs g c values =
     let filled = c.fill.ensures.filled.1 in
     let freed = c.free_down.ensures.items ∙ ap (λ n. i.free.items ++ reverse (range_with_len n (c.capacity-capacity.result - n))) c.len-made.ensures.len
     ∙ ap (λ n. i.free.items ++ reverse (range_with_len (length i.keys.entries) (n - length i.keys.entries))) c.capacity-capacity.ensures in
-    let machine = machine-prefilled _ g.met.K.Eq.laws _ _ _ _ _ _ _ _ c.self.invariant filled.added c.fill.new.keys c.free_down.new.free.items 0 filled.is (filled.as_many ∙ c.capacity-capacity.ensures) freed in
-    rw (← c.self.view_is) (prefill-costs (record { eq = g.K.PartialEq.eq; hash_input = g.K.Hash.hash_input }) g.S.BuildHasher g.S.Hasher.Hasher values _ _ _ machine (made-spends i.queues i.history i.keys c.fill.new.keys c.fill.ensures.questions))
+    let machine = machine-prefilled g.met.K.Eq.laws c.self.invariant filled.added c.fill.new.keys c.free_down.new.free.items 0 filled.is (filled.as_many ∙ c.capacity-capacity.ensures) freed in
+    rw (← c.self.view_is) (prefill-costs (record { eq = g.K.PartialEq.eq; hash_input = g.K.Hash.hash_input })
+    g.S.BuildHasher g.S.Hasher.Hasher values _ _ _ machine (made-spends i.queues i.history i.keys c.fill.new.keys c.fill.ensures.questions))

@@ -2,7 +2,7 @@
 use Rattle.std.proofs.Common.{ap, ◌∙◌}
 use Rattle.clock2q_queues.specs.Queues.{QueueState}
 use Rattle.clock2q_cache.specs.CacheState.{CacheState}
-use Rattle.clock2q_cache.specs.Machine.{hit}
+use Rattle.clock2q_machine.specs.Machine.{hit}
 use Rattle.clock2q_cache.proofs.Finding.{found-there, either-queue, hit-machine, kept-hit}
 use Rattle.clock2q_cache.proofs.cache.Cache.record_hit.Goals as goal
 
@@ -10,16 +10,18 @@ pub hit-requires : goal.hit-requires
 hit-requires g c =
     let k = c.self.invariant in
     let is = rw (← c.self.view_is) at c.requires in
-    record { resident = either-queue c.self.inside.queues c.args.slot (found-there _ g.met.K.Eq.laws _ _ _ _ _ _ _ _ k c.args.key.now c.args.slot is).0 }
+    record { resident = either-queue c.self.inside.queues c.args.slot (found-there g.met.K.Eq.laws k c.args.key.now c.args.slot is).0 }
 
 pub invariant_of-self : goal.invariant_of-self
 invariant_of-self g c =
     let k = c.self.invariant in
     let is = rw (← c.self.view_is) at c.requires in
-    kept-hit _ g.met.K.Eq.laws _ _ _ _ _ _ _ _ k c.args.key.now c.args.slot is c.hit.new.self (ap (λ (z : QueueState). z.small) c.hit.ensures.queues) (ap (λ (z : QueueState). z.main) c.hit.ensures.queues) (ap (λ (z : QueueState). z.slots) c.hit.ensures.queues) (ap (λ (z : QueueState). z.window) c.hit.ensures.queues)
+    kept-hit g.met.K.Eq.laws k c.args.key.now c.args.slot is c.hit.new.self (ap (λ (z : QueueState). z.small) c.hit.ensures.queues)
+    (ap (λ (z : QueueState). z.main) c.hit.ensures.queues) (ap (λ (z : QueueState). z.slots) c.hit.ensures.queues) (ap (λ (z : QueueState). z.window) c.hit.ensures.queues)
 
 pub returns-clause-machine : goal.returns-clause-machine
 returns-clause-machine g c =
     let k = c.self.invariant in
     let is = rw (← c.self.view_is) at c.requires in
-    hit-machine _ g.met.K.Eq.laws _ _ _ _ _ _ _ _ k c.args.key.now c.args.slot is c.hit.new.self (ap (λ (z : QueueState). z.small) c.hit.ensures.queues) (ap (λ (z : QueueState). z.main) c.hit.ensures.queues) ∙ ap (λ (z : CacheState _ _ _). hit (g.K.PartialEq.eq c.args.key.now) z.machine) c.self.view_is
+    hit-machine g.met.K.Eq.laws k c.args.key.now c.args.slot is c.hit.new.self (ap (λ (z : QueueState). z.small) c.hit.ensures.queues) (ap (λ (z : QueueState). z.main) c.hit.ensures.queues)
+    ∙ ap (λ (z : CacheState _ _ _). hit (g.K.PartialEq.eq c.args.key.now) z.machine) c.self.view_is

@@ -1,11 +1,9 @@
 use Rattle.std.specs.Prelude.{◌≡◌, ◌*◌}
-use denote.Param.Always.{always_mut}
 use Rattle.clock2q_cache.specs.Costs.{Spends}
 use Rattle.clock2q_cache.proofs.Retained.{RetainsBelow}
 use Rattle.clock2q_cache.proofs.cache.Cache.retain.Given as goal
 
 abbrev pub invariant-loop-slot : goal.invariant-loop-slot
-invariant-loop-slot g l = (always_mut g.F.FnMut l.initial.keep → always_mut g.F.FnMut l.keep)
-    × RetainsBelow g.F.FnMut l.initial.keep l.initial.self.machine l.slot l.keep l.self.machine
+invariant-loop-slot g l = RetainsBelow g.F.FnMut l.initial.keep l.initial.self.machine l.slot l.keep l.self.machine
     × (l.self.hasher ≡ l.initial.self.hasher)
     × Spends 0 (9 * l.slot) 0 l.initial.self.counts l.self.counts

@@ -1,27 +1,28 @@
 -- What the look-up through the index finds is the slot of the resident.
-use Rattle.std.proofs.Common.{◌≡◌, ◌<◌, length, ap, sym, ◌∙◌, subst}
-use Rattle.std.specs.Prelude.{IfSome}
+use Rattle.std.proofs.Common.{◌<◌, length, ap, sym, ◌∙◌, subst}
 use Rattle.std.specs.List.{find, AllByRecursion}
-use Rattle.clock2q_queues.specs.Keys.{KeyPlaces, is_key_at}
+use Rattle.clock2q_queues.specs.Keys.{is_key_at}
 use Rattle.clock2q_cache.specs.Hashes.{hash_of}
 use Rattle.clock2q_cache.specs.CacheState.{CacheState}
-use Rattle.clock2q_cache.specs.Machine.{slot_of}
+use Rattle.clock2q_machine.specs.Machine.{slot_of}
 use Rattle.clock2q_cache.proofs.Finding.{candidates-there, found, found-made}
 use Rattle.clock2q_cache.proofs.cache.Cache.slot_of.Goals as goal
 
 pub find_untold-requires : goal.find_untold-requires
 find_untold-requires g c =
     let k = c.self.invariant in
-    record { used = subst (λ z. AllByRecursion (λ place. place < length c.self.inside.keys.entries) z) (sym c.get.ensures.candidates) (candidates-there _ g.met.K.Eq.laws _ _ _ _ _ _ _ _ k _) }
+    record { used = subst (λ z. AllByRecursion (λ place. place < length c.self.inside.keys.entries) z) (sym c.get.ensures.candidates) (candidates-there g.met.K.Eq.laws k _) }
 
 pub returns-clause-slot : goal.returns-clause-slot
 returns-clause-slot g c =
     let k = c.self.invariant in
-    c.find_untold.ensures.found ∙ ap (λ z. find (is_key_at g.K.PartialEq.eq c.args.key.now c.self.inside.keys.entries) z) c.get.ensures.candidates ∙ found _ g.met.K.Eq.laws _ _ _ _ _ _ _ _ k c.args.key.now (λ x y e. ap (λ z. hash_of g.S.BuildHasher g.S.Hasher.Hasher c.self.inside.hasher z) (g.met.K.Hash.respects_eq x y e)) _ c.hash_of-hash.ensures
+    c.find_untold.ensures.found ∙ ap (λ z. find (is_key_at g.K.PartialEq.eq c.args.key.now c.self.inside.keys.entries) z) c.get.ensures.candidates
+    ∙ found g.met.K.Eq.laws k c.args.key.now (λ x y e. ap (λ z. hash_of g.S.BuildHasher g.S.Hasher.Hasher c.self.inside.hasher z) (g.met.K.Hash.respects_eq x y e)) _ c.hash_of-hash.ensures
     ∙ ap (λ (z : CacheState _ _ _). slot_of (g.K.PartialEq.eq c.args.key.now) z.machine) c.self.view_is
 
 pub returns-clause-made : goal.returns-clause-made
 returns-clause-made g c =
     let k = c.self.invariant in
-    let is = c.find_untold.ensures.found ∙ ap (λ z. find (is_key_at g.K.PartialEq.eq c.args.key.now c.self.inside.keys.entries) z) c.get.ensures.candidates ∙ found _ g.met.K.Eq.laws _ _ _ _ _ _ _ _ k c.args.key.now (λ x y e. ap (λ z. hash_of g.S.BuildHasher g.S.Hasher.Hasher c.self.inside.hasher z) (g.met.K.Hash.respects_eq x y e)) _ c.hash_of-hash.ensures in
-    rw (← c.self.view_is) (found-made _ g.met.K.Eq.laws _ _ _ _ _ _ _ _ k c.args.key.now c.find_untold.result is)
+    let is = c.find_untold.ensures.found ∙ ap (λ z. find (is_key_at g.K.PartialEq.eq c.args.key.now c.self.inside.keys.entries) z) c.get.ensures.candidates
+    ∙ found g.met.K.Eq.laws k c.args.key.now (λ x y e. ap (λ z. hash_of g.S.BuildHasher g.S.Hasher.Hasher c.self.inside.hasher z) (g.met.K.Hash.respects_eq x y e)) _ c.hash_of-hash.ensures in
+    rw (← c.self.view_is) (found-made g.met.K.Eq.laws k c.args.key.now c.find_untold.result is)

@@ -1,5 +1,4 @@
 -- The tail's age is that of the machine's tail.
-use Rattle.std.proofs.Common.{◌<◌, length, sym}
 use Rattle.clock2q_cache.proofs.Changed.{tail-tells}
 use Rattle.clock2q_cache.proofs.cache.Cache.tail_is_promoted.Goals as goal
 
@@ -7,4 +6,4 @@ pub returns-clause-value : goal.returns-clause-value
 returns-clause-value g c =
     let k = c.self.invariant in
     let some = rw (← c.self.view_is) at c.requires in
-    rw (← c.self.view_is) (tail-tells _ g.met.K.Eq.laws _ _ _ _ _ _ _ _ k some c.tail_is_promoted.result c.tail_is_promoted.ensures.value)
+    rw (← c.self.view_is) (tail-tells g.met.K.Eq.laws k some c.tail_is_promoted.result c.tail_is_promoted.ensures.value)

@@ -1,7 +1,7 @@
 -- Whatever is left behind the reference is the slot's value.
-use Rattle.std.proofs.Common.{◌≡◌, Some, refl, ap, sym, ◌∙◌, slice_get}
+use Rattle.std.proofs.Common.{refl, ap, sym, ◌∙◌, slice_get}
 use Rattle.clock2q_queues.specs.Keys.{with_value}
-use Rattle.clock2q_cache.specs.Machine.{stored}
+use Rattle.clock2q_machine.specs.Machine.{stored}
 use Rattle.clock2q_cache.specs.CacheState.{CacheState, cache_state}
 use Rattle.clock2q_cache.specs.CacheFields.{counts_of}
 use Rattle.clock2q_cache.proofs.Changed.{value-there, replaced-machine, kept-replaced}
@@ -12,7 +12,7 @@ invariant_of-self-lent g c w =
     let k = c.self.invariant in
     let below = rw (← c.self.view_is) at c.requires in
     let i = c.self.inside in
-    kept-replaced _ g.met.K.Eq.laws _ _ _ _ _ _ _ _ k c.args.slot w below (record i.keys { entries = with_value c.args.slot w i.keys.entries }) refl refl
+    kept-replaced g.met.K.Eq.laws k c.args.slot w below (record i.keys { entries = with_value c.args.slot w i.keys.entries }) refl refl
 
 pub returns : goal.returns
 returns g c =
@@ -21,7 +21,7 @@ returns g c =
     let i = c.self.inside in (
       (
         refl,
-        λ w. ap (λ z. cache_state z i.index.homes i.history.places i.hasher (counts_of i.queues i.history i.keys)) (replaced-machine _ g.met.K.Eq.laws _ _ _ _ _ _ _ _ k c.args.slot w below)
+        λ w. ap (λ z. cache_state z i.index.homes i.history.places i.hasher (counts_of i.queues i.history i.keys)) (replaced-machine g.met.K.Eq.laws k c.args.slot w below)
             ∙ ap (λ (z : CacheState _ _ _). record z { machine = stored c.args.slot w z.machine }) c.self.view_is,
       ),
       record {

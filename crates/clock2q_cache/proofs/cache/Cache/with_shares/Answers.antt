@@ -1,6 +1,5 @@
 -- Nothing is resident, remembered or free, and the layers are as large as the shares say.
-use Rattle.std.proofs.Common.{◌≡◌, ◌<◌, ◌≤◌, List, ap, sym, ◌∙◌, arith, inl, inr}
-use Rattle.std.specs.Prelude.{vec_capacity}
+use Rattle.std.proofs.Common.{◌≡◌, ap, ◌∙◌, arith, inl, inr}
 use Rattle.std.proofs.lemmas.Bool.{cases_lt}
 use Rattle.clock2q_handles.specs.TableStep.{TableValue, made_for}
 use Rattle.clock2q_queues.specs.Indexes.{index_room}
@@ -17,12 +16,13 @@ invariant_of-result g c =
     let q = c.in_ok-queues.ensures.made in
     let h = c.in_ok-history.ensures.made in
     let keys = c.in_ok-keys.ensures.made in
-    let made : c.in-Ok.index.homes ≡ made_for (index_room c.args.shares.capacity) = ap (λ (z : TableValue _). z.homes) c.in-Ok.ensures.made ∙ ap (λ n. made_for n) (c.index_room.ensures.room ∙ ap (λ n. index_room n) c.capacity-slots.ensures) in
-    (kept-new g.K.PartialEq.eq g.met.K.Eq.laws (λ x. hash_of g.S.BuildHasher g.S.Hasher.Hasher c.args.hasher (g.K.Hash.hash_input x)) c.args.shares c.in_ok-queues.queues c.in_ok-history.history c.in-Ok.index.homes c.in_ok-keys.keys c.in_ok-free.free.items (vec_capacity c.in_ok-free.free)
-    policy.below
+    let made : c.in-Ok.index.homes ≡ made_for (index_room c.args.shares.capacity) =
+    ap (λ (z : TableValue _). z.homes) c.in-Ok.ensures.made ∙ ap (λ n. made_for n) (c.index_room.ensures.room ∙ ap (λ n. index_room n) c.capacity-slots.ensures) in
+    (kept-new {hash = λ x. hash_of g.S.BuildHasher g.S.Hasher.Hasher c.args.hasher (g.K.Hash.hash_input x)} g.met.K.Eq.laws policy.below
     (λ some. elim (cases_lt 0 c.args.shares.window) [ inl above ↦ above | inr below ↦ absurd (omega (arith, some, policy.both.1 (omega (arith, below)))) ])
     (omega (arith, c.requires))
-    (ap (λ (z : QueueState). z.small) q) (ap (λ (z : QueueState). z.main) q) (ap (λ (z : QueueState). z.slots) q ∙ c.capacity-slots.ensures) (ap (λ (z : QueueState). z.window) q ∙ c.window.ensures.window)
+    (ap (λ (z : QueueState). z.small) q) (ap (λ (z : QueueState). z.main) q)
+    (ap (λ (z : QueueState). z.slots) q ∙ c.capacity-slots.ensures) (ap (λ (z : QueueState). z.window) q ∙ c.window.ensures.window)
     (ap (λ (z : Remembered _). z.entries) h) (ap (λ (z : Remembered _). z.limit) h ∙ c.history.ensures) made
     (ap (λ (z : KeyPlaces _ _). z.entries) keys) (omega (arith, ap (λ (z : KeyPlaces _ _). z.room) keys, c.capacity-slots.ensures))
     c.in_ok-free.ensures.items (omega (arith, c.in_ok-free.ensures.capacity, c.capacity-slots.ensures))).0

@@ -1,7 +1,7 @@
 use Rattle.std.proofs.Common.{rules, ◌≡◌, None, subst, ap, sym, ◌∙◌}
-use Rattle.clock2q_cache.specs.Machine.{hit, slot_of, value_of}
-use Rattle.clock2q_cache.specs.Cache.{IsWhole}
-use Rattle.clock2q_cache.proofs.MachineInvariant.{lasting-hit}
+use Rattle.clock2q_machine.specs.Machine.{hit, slot_of, value_of}
+use Rattle.clock2q_machine.specs.Whole.{IsWhole}
+use Rattle.clock2q_machine.proofs.MachineInvariant.{lasting-hit}
 use Rattle.std.specs.Fn.{FnReturnsAt}
 use Rattle.clock2q_memo.specs.Memo.{Remembers}
 use Rattle.clock2q_memo.proofs.Keeping.{kept-hit, absent_if, missed_hit, fetched_anew, evaluated_once, hit_value}

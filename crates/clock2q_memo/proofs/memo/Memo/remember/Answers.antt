@@ -1,5 +1,5 @@
 use Rattle.std.proofs.Common.{rules, ◌≡◌, None}
-use Rattle.clock2q_cache.specs.Machine.{slot_of}
+use Rattle.clock2q_machine.specs.Machine.{slot_of}
 use Rattle.clock2q_memo.proofs.Keeping.{kept-put, whole-put}
 use Rattle.clock2q_memo.proofs.memo.Memo.remember.Goals as goal
 

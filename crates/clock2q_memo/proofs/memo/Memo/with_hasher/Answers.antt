@@ -1,5 +1,5 @@
 use Rattle.std.proofs.Common.{rules, subst, sym}
-use Rattle.clock2q_cache.specs.Cache.{IsWhole}
+use Rattle.clock2q_machine.specs.Whole.{IsWhole}
 use Rattle.clock2q_memo.proofs.Keeping.{whole-usual}
 use Rattle.clock2q_memo.proofs.memo.Memo.with_hasher.Goals as goal
 

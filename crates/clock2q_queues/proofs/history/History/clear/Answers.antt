@@ -7,6 +7,7 @@ use Rattle.clock2q_queues.proofs.history.History.clear.Goals as goal
 pub invariant_of-self : goal.invariant_of-self
 invariant_of-self g c =
     let i = c.self.inside in
-    let e = c.clear.ensures in
-    IsHistory-cleared g.K.PartialEq.eq i.index.homes c.unindex.new.index.homes i.order c.clear.new.self i.keys c.clear-2.new.self c.self.invariant c.unindex.ensures.emptied
-    e.whole (ap (λ (z : PlaceOrder). z.places) e.order) (ap (λ (z : PlaceOrder). z.free) e.order) (ap (λ (z : PlaceOrder). z.limit) e.order) (ap (λ (z : KeyPlaces _ _). z.entries) c.clear-2.ensures.cleared) (ap (λ (z : KeyPlaces _ _). z.room) c.clear-2.ensures.cleared)
+    let e = c.clear-2.ensures in
+    IsHistory-cleared g.K.PartialEq.eq i.index.homes c.clear.new.self.homes i.order c.clear-2.new.self i.keys c.clear-3.new.self c.self.invariant c.clear.ensures.cleared
+    e.whole (ap (λ (z : PlaceOrder). z.places) e.order) (ap (λ (z : PlaceOrder). z.free) e.order) (ap (λ (z : PlaceOrder). z.limit) e.order)
+    (ap (λ (z : KeyPlaces _ _). z.entries) c.clear-3.ensures.cleared) (ap (λ (z : KeyPlaces _ _). z.room) c.clear-3.ensures.cleared)

@@ -20,7 +20,8 @@ returns-then-eq-clause-whole g c =
     let gone = first_gone old.records.items main.hand main.len (main_slots old main) c.args.slot c.requires.whole.queue (is_first main.hand c.args.slot c.if-eq.ensures) in
     let hand : c.then_some-self.result ≡ then_some (ltb 0 (main.len - 1)) c.detach-was.result.next = c.then_some-self.ensures in
     let next = ap (λ (r : Record). then_some (ltb 0 (main.len - 1)) r.next) c.detach-was.ensures.value in
-    (UnlinksMain-from c.args.slot old main c.detach-was.new.self c.requires.whole c.requires.present c.detach-was.ensures.detached c.detach-was.ensures.rest (record { hand = c.then_some-self.result; len = main.len - 1 }) (hand ∙ next ∙ gone) refl).whole
+    (UnlinksMain-from c.args.slot old main c.detach-was.new.self c.requires.whole c.requires.present c.detach-was.ensures.detached c.detach-was.ensures.rest
+    (record { hand = c.then_some-self.result; len = main.len - 1 }) (hand ∙ next ∙ gone) refl).whole
 
 pub returns-then-eq-clause-entries : goal.returns-then-eq-clause-entries
 returns-then-eq-clause-entries g c =
@@ -29,7 +30,8 @@ returns-then-eq-clause-entries g c =
     let gone = first_gone old.records.items main.hand main.len (main_slots old main) c.args.slot c.requires.whole.queue (is_first main.hand c.args.slot c.if-eq.ensures) in
     let hand : c.then_some-self.result ≡ then_some (ltb 0 (main.len - 1)) c.detach-was.result.next = c.then_some-self.ensures in
     let next = ap (λ (r : Record). then_some (ltb 0 (main.len - 1)) r.next) c.detach-was.ensures.value in
-    (UnlinksMain-from c.args.slot old main c.detach-was.new.self c.requires.whole c.requires.present c.detach-was.ensures.detached c.detach-was.ensures.rest (record { hand = c.then_some-self.result; len = main.len - 1 }) (hand ∙ next ∙ gone) refl).entries
+    (UnlinksMain-from c.args.slot old main c.detach-was.new.self c.requires.whole c.requires.present c.detach-was.ensures.detached c.detach-was.ensures.rest
+    (record { hand = c.then_some-self.result; len = main.len - 1 }) (hand ∙ next ∙ gone) refl).entries
 
 -- it stood elsewhere, and stays
 pub returns-else-eq-clause-whole : goal.returns-else-eq-clause-whole
@@ -37,23 +39,29 @@ returns-else-eq-clause-whole g c =
     let old = c.args.links.now in
     let main = c.args.self.now in
     let stays = first_stays old.records.items main.hand main.len (main_slots old main) c.args.slot c.requires.whole.queue (not_first main.hand c.args.slot c.if-eq.ensures) in
-    (UnlinksMain-from c.args.slot old main c.detach-was.new.self c.requires.whole c.requires.present c.detach-was.ensures.detached c.detach-was.ensures.rest (record { hand = main.hand; len = main.len - 1 }) stays refl).whole
+    (UnlinksMain-from c.args.slot old main c.detach-was.new.self c.requires.whole c.requires.present c.detach-was.ensures.detached c.detach-was.ensures.rest
+    (record { hand = main.hand; len = main.len - 1 }) stays refl).whole
 
 pub returns-else-eq-clause-entries : goal.returns-else-eq-clause-entries
 returns-else-eq-clause-entries g c =
     let old = c.args.links.now in
     let main = c.args.self.now in
     let stays = first_stays old.records.items main.hand main.len (main_slots old main) c.args.slot c.requires.whole.queue (not_first main.hand c.args.slot c.if-eq.ensures) in
-    (UnlinksMain-from c.args.slot old main c.detach-was.new.self c.requires.whole c.requires.present c.detach-was.ensures.detached c.detach-was.ensures.rest (record { hand = main.hand; len = main.len - 1 }) stays refl).entries
+    (UnlinksMain-from c.args.slot old main c.detach-was.new.self c.requires.whole c.requires.present c.detach-was.ensures.detached c.detach-was.ensures.rest
+    (record { hand = main.hand; len = main.len - 1 }) stays refl).entries
 
 pub returns-then-eq-clause-freed : goal.returns-then-eq-clause-freed
-returns-then-eq-clause-freed g c = freed-from c.args.slot c.args.links.now c.args.self.now c.detach-was.new.self c.requires.whole c.requires.present c.detach-was.ensures.detached c.detach-was.ensures.rest
+returns-then-eq-clause-freed g c =
+    freed-from c.args.slot c.args.links.now c.args.self.now c.detach-was.new.self c.requires.whole c.requires.present c.detach-was.ensures.detached c.detach-was.ensures.rest
 
 pub returns-else-eq-clause-freed : goal.returns-else-eq-clause-freed
-returns-else-eq-clause-freed g c = freed-from c.args.slot c.args.links.now c.args.self.now c.detach-was.new.self c.requires.whole c.requires.present c.detach-was.ensures.detached c.detach-was.ensures.rest
+returns-else-eq-clause-freed g c =
+    freed-from c.args.slot c.args.links.now c.args.self.now c.detach-was.new.self c.requires.whole c.requires.present c.detach-was.ensures.detached c.detach-was.ensures.rest
 
 pub returns-then-eq-clause-others : goal.returns-then-eq-clause-others
-returns-then-eq-clause-others g c = others-from c.args.slot c.args.links.now c.args.self.now c.detach-was.new.self c.requires.whole c.requires.present c.detach-was.ensures.detached c.detach-was.ensures.rest
+returns-then-eq-clause-others g c =
+    others-from c.args.slot c.args.links.now c.args.self.now c.detach-was.new.self c.requires.whole c.requires.present c.detach-was.ensures.detached c.detach-was.ensures.rest
 
 pub returns-else-eq-clause-others : goal.returns-else-eq-clause-others
-returns-else-eq-clause-others g c = others-from c.args.slot c.args.links.now c.args.self.now c.detach-was.new.self c.requires.whole c.requires.present c.detach-was.ensures.detached c.detach-was.ensures.rest
+returns-else-eq-clause-others g c =
+    others-from c.args.slot c.args.links.now c.args.self.now c.detach-was.new.self c.requires.whole c.requires.present c.detach-was.ensures.detached c.detach-was.ensures.rest

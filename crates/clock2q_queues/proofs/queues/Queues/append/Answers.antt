@@ -9,10 +9,13 @@ push-requires-clause-absent g c = in_main c.self.inside.links c.self.inside.smal
 
 pub invariant_of-self : goal.invariant_of-self
 invariant_of-self g c = (after_append c.self.inside.links c.self.inside.small c.self.inside.main c.self.invariant c.push.new.links c.push.new.self c.args.slot
-    (in_small c.self.inside.links c.self.inside.small c.self.inside.main c.args.self.now c.args.slot false c.self.view_is c.requires.not_in_small) c.push.ensures.whole c.push.ensures.entries c.push.ensures.others c.push.ensures.window).queues
+    (in_small c.self.inside.links c.self.inside.small c.self.inside.main c.args.self.now c.args.slot false c.self.view_is c.requires.not_in_small)
+    c.push.ensures.whole c.push.ensures.entries c.push.ensures.others c.push.ensures.window).queues
 
 pub returns-clause-queues : goal.returns-clause-queues
 returns-clause-queues g c =
     let q = queues_shown c.self.inside.links c.self.inside.small c.self.inside.main in
     rw (← c.self.view_is) ((after_append c.self.inside.links c.self.inside.small c.self.inside.main c.self.invariant c.push.new.links c.push.new.self c.args.slot
-    (in_small c.self.inside.links c.self.inside.small c.self.inside.main c.args.self.now c.args.slot false c.self.view_is c.requires.not_in_small) c.push.ensures.whole c.push.ensures.entries c.push.ensures.others c.push.ensures.window).is ∙ ap (λ n. record q { main = q.main ++ (c.args.slot, false) ∷ []; accesses = accesses_of c.push.new.links; inspections = n }) c.push.ensures.inspections)
+    (in_small c.self.inside.links c.self.inside.small c.self.inside.main c.args.self.now c.args.slot false c.self.view_is c.requires.not_in_small)
+    c.push.ensures.whole c.push.ensures.entries c.push.ensures.others c.push.ensures.window).is
+    ∙ ap (λ n. record q { main = q.main ++ (c.args.slot, false) ∷ []; accesses = accesses_of c.push.new.links; inspections = n }) c.push.ensures.inspections)

@@ -8,7 +8,8 @@ pub returns-in-Free-clause-queues : goal.returns-in-Free-clause-queues
 returns-in-Free-clause-queues g c =
     let q = c.args.self.now in
     let read = c.in-Free.ensures in
-    read.queues ∙ queues_equal _ _ (without_slot-absent c.args.slot q.small read.value.0) (without_slot-absent c.args.slot q.main read.value.1) refl refl (sym (ap (λ (z : QueueState). z.accesses) read.queues)) refl
+    read.queues ∙ queues_equal _ _ (without_slot-absent c.args.slot q.small read.value.0)
+    (without_slot-absent c.args.slot q.main read.value.1) refl refl (sym (ap (λ (z : QueueState). z.accesses) read.queues)) refl
 
 pub returns-in-Small-clause-queues : goal.returns-in-Small-clause-queues
 returns-in-Small-clause-queues g c =
@@ -22,4 +23,5 @@ returns-in-Main-clause-queues g c =
     let q = c.args.self.now in
     let read = c.in-Main.ensures in
     c.leave_main.ensures.queues ∙ ap (λ (z : QueueState). record z { main = without_slot c.args.slot z.main; accesses = z.accesses + 6 }) read.queues
-    ∙ queues_equal _ _ (without_slot-absent c.args.slot q.small read.value.0) refl refl refl (sym (ap (λ (z : QueueState). z.accesses) c.leave_main.ensures.queues ∙ ap (λ (z : QueueState). z.accesses + 6) read.queues)) refl
+    ∙ queues_equal _ _ (without_slot-absent c.args.slot q.small read.value.0) refl refl refl
+    (sym (ap (λ (z : QueueState). z.accesses) c.leave_main.ensures.queues ∙ ap (λ (z : QueueState). z.accesses + 6) read.queues)) refl

@@ -6,10 +6,12 @@ use Rattle.clock2q_queues.proofs.Standings.{tail_in, tail_standing, tail_promote
 use Rattle.clock2q_queues.proofs.queues.Queues.tail_is_promoted.Goals as goal
 
 pub is_promoted-requires-clause-slot_in : goal.is_promoted-requires-clause-slot_in
-is_promoted-requires-clause-slot_in g c = tail_in c.self.inside.links c.self.inside.small c.self.inside.main c.self.invariant c.in-Some.tail (sym (c.tail.ensures c.self.inside.links c.self.invariant.small) ∙ c.in-Some.is)
+is_promoted-requires-clause-slot_in g c =
+    tail_in c.self.inside.links c.self.inside.small c.self.inside.main c.self.invariant c.in-Some.tail (sym (c.tail.ensures c.self.inside.links c.self.invariant.small) ∙ c.in-Some.is)
 
 pub is_promoted-requires-clause-in_small : goal.is_promoted-requires-clause-in_small
-is_promoted-requires-clause-in_small g c = tail_standing c.self.inside.links c.self.inside.small c.self.inside.main c.self.invariant c.in-Some.tail (sym (c.tail.ensures c.self.inside.links c.self.invariant.small) ∙ c.in-Some.is)
+is_promoted-requires-clause-in_small g c =
+    tail_standing c.self.inside.links c.self.inside.small c.self.inside.main c.self.invariant c.in-Some.tail (sym (c.tail.ensures c.self.inside.links c.self.invariant.small) ∙ c.in-Some.is)
 
 pub invariant_of-self : goal.invariant_of-self
 invariant_of-self g c = (after_reading c.self.inside.links c.self.inside.small c.self.inside.main c.self.invariant c.is_promoted.new.links c.is_promoted.ensures.counted).queues
@@ -21,4 +23,6 @@ returns-in-None-clause-value g c =
 
 pub returns-in-Some-clause-value : goal.returns-in-Some-clause-value
 returns-in-Some-clause-value g c =
-    c.is_promoted.ensures.value ∙ sym (tail_promoted-some c.self.inside.links c.self.inside.small c.self.inside.main c.self.invariant c.in-Some.tail (sym (c.tail.ensures c.self.inside.links c.self.invariant.small) ∙ c.in-Some.is)) ∙ ap (λ (q : QueueState). tail_promoted (last_or None q.small)) c.self.view_is
+    c.is_promoted.ensures.value
+    ∙ sym (tail_promoted-some c.self.inside.links c.self.inside.small c.self.inside.main c.self.invariant c.in-Some.tail
+    (sym (c.tail.ensures c.self.inside.links c.self.invariant.small) ∙ c.in-Some.is)) ∙ ap (λ (q : QueueState). tail_promoted (last_or None q.small)) c.self.view_is

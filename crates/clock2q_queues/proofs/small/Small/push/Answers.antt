@@ -8,10 +8,14 @@ use Rattle.clock2q_queues.proofs.small.Small.push.Goals as goal
 use Rattle.clock2q_queues.proofs.small.Small.push.Goals.{in-None, in-Some}
 
 pub attach-requires-clause-before_in : goal.attach-requires-clause-before_in
-attach-requires-clause-before_in g c = (first_fits c.args.slot c.args.links.now c.args.self.now c.free_place.new.links c.set_place.new.self c.requires.whole c.free_place.ensures.older c.set_place.ensures c.in-Some.newest c.in-Some.is).0
+attach-requires-clause-before_in g c =
+    (first_fits c.args.slot c.args.links.now c.args.self.now c.free_place.new.links c.set_place.new.self
+    c.requires.whole c.free_place.ensures.older c.set_place.ensures c.in-Some.newest c.in-Some.is).0
 
 pub attach-requires-clause-previous_in : goal.attach-requires-clause-previous_in
-attach-requires-clause-previous_in g c = (first_fits c.args.slot c.args.links.now c.args.self.now c.free_place.new.links c.set_place.new.self c.requires.whole c.free_place.ensures.older c.set_place.ensures c.in-Some.newest c.in-Some.is).1
+attach-requires-clause-previous_in g c =
+    (first_fits c.args.slot c.args.links.now c.args.self.now c.free_place.new.links c.set_place.new.self
+    c.requires.whole c.free_place.ensures.older c.set_place.ensures c.in-Some.newest c.in-Some.is).1
 
 pub overflow_add-self : goal.overflow_add-self
 overflow_add-self g c =
@@ -46,7 +50,8 @@ returns g c =
           let rest = w.attach.ensures.rest in
           Admits-attached c.args.slot old small mid aged c.requires.whole c.free_place.ensures.older c.set_place.ensures
           c.match-self.links small' c.requires.slot_in c.requires.absent c.requires.window (rw w.links-is rest)
-          refl (ap (λ (m : Small). m.len + 1) w.self-is) (moved (ap (λ (l : LinkState). length l.window.items) w.links-is ∙ ap (λ (l : LinkState). length l.window.items) rest ∙ window) (ap (λ (m : Small). m.cursor) w.self-is))
+          refl (ap (λ (m : Small). m.len + 1) w.self-is)
+          (moved (ap (λ (l : LinkState). length l.window.items) w.links-is ∙ ap (λ (l : LinkState). length l.window.items) rest ∙ window) (ap (λ (m : Small). m.cursor) w.self-is))
           w.in-Some.newest w.in-Some.is (rw w.links-is w.attach.ensures.attached) (ap (λ (m : Small). m.oldest) w.self-is)
     ] in
     record {

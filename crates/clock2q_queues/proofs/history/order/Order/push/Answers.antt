@@ -38,12 +38,15 @@ invariant_of-self g c =
     let place = c.unwrap_or-place.result in
     let is = chosen i.records i.newest i.len i.chain c.self.invariant place (c.unwrap_or-place.ensures ∙ ap (λ z. unwrap_or z i.len) c.take.ensures.taken) in
     let room : length (slots_from i.records.items i.newest i.len) < length i.records.items = subst (λ (z : PlaceOrder). length z.places < z.limit) (sym c.self.view_is) c.requires in
-    let pushed : IsOrderOf c.match-self.self-inside.records.items (Some place) (c.match-self.self-inside.len + 1) c.match-self.self-inside.chain (place ∷ slots_from i.records.items i.newest i.len) (drop 1 (free_places i.records.items i.chain)) =
+    let pushed : IsOrderOf c.match-self.self-inside.records.items (Some place) (c.match-self.self-inside.len + 1)
+    c.match-self.self-inside.chain (place ∷ slots_from i.records.items i.newest i.len) (drop 1 (free_places i.records.items i.chain)) =
     elim c.match-self.branch [
-      | in-None w ↦ rw w.self-inside-is (Pushes-alone i.records i.newest i.len i.chain c.self.invariant c.take.new.records c.take.new.self c.take.ensures.items c.take.ensures.rest w.write.new.self place is room w.in-None.is w.write.ensures)
-      | in-Some w ↦ rw w.self-inside-is (Pushes-attached i.records i.newest i.len i.chain c.self.invariant c.take.new.records c.take.new.self c.take.ensures.items c.take.ensures.rest w.attach.new.self place w.in-Some.newest is room w.in-Some.is w.attach.ensures)
+      | in-None w ↦ rw w.self-inside-is (Pushes-alone i.records i.newest i.len i.chain c.self.invariant c.take.new.records
+          c.take.new.self c.take.ensures.items c.take.ensures.rest w.write.new.self place is room w.in-None.is w.write.ensures)
+      | in-Some w ↦ rw w.self-inside-is (Pushes-attached i.records i.newest i.len i.chain c.self.invariant c.take.new.records
+          c.take.new.self c.take.ensures.items c.take.ensures.rest w.attach.new.self place w.in-Some.newest is room w.in-Some.is w.attach.ensures)
     ] in
-    IsOrder-from _ _ _ _ _ _ pushed
+    IsOrder-from pushed
 
 pub returns-clause-whole : goal.returns-clause-whole
 returns-clause-whole g c =
@@ -51,12 +54,15 @@ returns-clause-whole g c =
     let place = c.unwrap_or-place.result in
     let is = chosen i.records i.newest i.len i.chain c.self.invariant place (c.unwrap_or-place.ensures ∙ ap (λ z. unwrap_or z i.len) c.take.ensures.taken) in
     let room : length (slots_from i.records.items i.newest i.len) < length i.records.items = subst (λ (z : PlaceOrder). length z.places < z.limit) (sym c.self.view_is) c.requires in
-    let pushed : IsOrderOf c.match-self.self-inside.records.items (Some place) (c.match-self.self-inside.len + 1) c.match-self.self-inside.chain (place ∷ slots_from i.records.items i.newest i.len) (drop 1 (free_places i.records.items i.chain)) =
+    let pushed : IsOrderOf c.match-self.self-inside.records.items (Some place) (c.match-self.self-inside.len + 1)
+    c.match-self.self-inside.chain (place ∷ slots_from i.records.items i.newest i.len) (drop 1 (free_places i.records.items i.chain)) =
     elim c.match-self.branch [
-      | in-None w ↦ rw w.self-inside-is (Pushes-alone i.records i.newest i.len i.chain c.self.invariant c.take.new.records c.take.new.self c.take.ensures.items c.take.ensures.rest w.write.new.self place is room w.in-None.is w.write.ensures)
-      | in-Some w ↦ rw w.self-inside-is (Pushes-attached i.records i.newest i.len i.chain c.self.invariant c.take.new.records c.take.new.self c.take.ensures.items c.take.ensures.rest w.attach.new.self place w.in-Some.newest is room w.in-Some.is w.attach.ensures)
+      | in-None w ↦ rw w.self-inside-is (Pushes-alone i.records i.newest i.len i.chain c.self.invariant c.take.new.records
+          c.take.new.self c.take.ensures.items c.take.ensures.rest w.write.new.self place is room w.in-None.is w.write.ensures)
+      | in-Some w ↦ rw w.self-inside-is (Pushes-attached i.records i.newest i.len i.chain c.self.invariant c.take.new.records
+          c.take.new.self c.take.ensures.items c.take.ensures.rest w.attach.new.self place w.in-Some.newest is room w.in-Some.is w.attach.ensures)
     ] in
-    IsWholeOrder-from _ _ _ _ (IsOrder-from _ _ _ _ _ _ pushed)
+    IsWholeOrder-from _ _ _ _ (IsOrder-from pushed)
 
 pub returns-clause-order : goal.returns-clause-order
 returns-clause-order g c =
@@ -64,14 +70,25 @@ returns-clause-order g c =
     let place = c.unwrap_or-place.result in
     let is = chosen i.records i.newest i.len i.chain c.self.invariant place (c.unwrap_or-place.ensures ∙ ap (λ z. unwrap_or z i.len) c.take.ensures.taken) in
     let room : length (slots_from i.records.items i.newest i.len) < length i.records.items = subst (λ (z : PlaceOrder). length z.places < z.limit) (sym c.self.view_is) c.requires in
-    let pushed : IsOrderOf c.match-self.self-inside.records.items (Some place) (c.match-self.self-inside.len + 1) c.match-self.self-inside.chain (place ∷ slots_from i.records.items i.newest i.len) (drop 1 (free_places i.records.items i.chain)) =
+    let pushed : IsOrderOf c.match-self.self-inside.records.items (Some place) (c.match-self.self-inside.len + 1)
+    c.match-self.self-inside.chain (place ∷ slots_from i.records.items i.newest i.len) (drop 1 (free_places i.records.items i.chain)) =
     elim c.match-self.branch [
-      | in-None w ↦ rw w.self-inside-is (Pushes-alone i.records i.newest i.len i.chain c.self.invariant c.take.new.records c.take.new.self c.take.ensures.items c.take.ensures.rest w.write.new.self place is room w.in-None.is w.write.ensures)
-      | in-Some w ↦ rw w.self-inside-is (Pushes-attached i.records i.newest i.len i.chain c.self.invariant c.take.new.records c.take.new.self c.take.ensures.items c.take.ensures.rest w.attach.new.self place w.in-Some.newest is room w.in-Some.is w.attach.ensures)
+      | in-None w ↦ rw w.self-inside-is (Pushes-alone i.records i.newest i.len i.chain c.self.invariant c.take.new.records
+          c.take.new.self c.take.ensures.items c.take.ensures.rest w.write.new.self place is room w.in-None.is w.write.ensures)
+      | in-Some w ↦ rw w.self-inside-is (Pushes-attached i.records i.newest i.len i.chain c.self.invariant c.take.new.records
+          c.take.new.self c.take.ensures.items c.take.ensures.rest w.attach.new.self place w.in-Some.newest is room w.in-Some.is w.attach.ensures)
     ] in
     let as_many : length c.match-self.self-inside.records.items ≡ length i.records.items =
     elim c.match-self.branch [
-      | in-None w ↦ rw w.self-inside-is (ap (λ (z : Counted Record). length z.items) w.write.ensures ∙ length-set c.take.new.records.items place _ ∙ ap (λ (z : List Record). length z) c.take.ensures.items)
+      | in-None w ↦ rw w.self-inside-is (ap (λ (z : Counted Record). length z.items) w.write.ensures
+          ∙ length-set c.take.new.records.items place _ ∙ ap (λ (z : List Record). length z) c.take.ensures.items)
       | in-Some w ↦ rw w.self-inside-is (w.attach.ensures.as_many ∙ ap (λ (z : List Record). length z) c.take.ensures.items)
     ] in
-    rw (← c.self.view_is) (order_shown-is _ _ _ _ _ _ pushed ∙ ap (λ n. record { places = place ∷ slots_from i.records.items i.newest i.len; free = drop 1 (free_places i.records.items i.chain); limit = n; accesses = c.match-self.self-inside.records.accesses }) as_many)
+    rw (← c.self.view_is)
+    (order_shown-is _ pushed
+    ∙ ap (λ n. record {
+      places = place ∷ slots_from i.records.items i.newest i.len;
+      free = drop 1 (free_places i.records.items i.chain);
+      limit = n;
+      accesses = c.match-self.self-inside.records.accesses;
+    }) as_many)

@@ -1,0 +1,15 @@
+pub mod Clock
+pub mod Entering
+pub mod Laws
+pub mod MachineInvariant
+pub mod Remembered
+pub mod Residents
+pub mod SecondChance
+pub mod Standing
+pub mod Weights
+pub mod Whole
+pub mod WorkedCounts
+pub mod WorkedRuns
+pub mod WorkedShares
+pub mod WorkedSlots
+pub mod WorkedStates

@@ -1,0 +1,10 @@
+pub mod Shares
+pub mod Policies
+pub mod Ages
+pub mod Hand
+pub mod Entries
+pub mod Machine
+pub mod Calls
+pub mod Steps
+pub mod Bounds
+pub mod Whole

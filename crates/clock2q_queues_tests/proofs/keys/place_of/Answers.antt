@@ -1,0 +1,20 @@
+use Rattle.std.proofs.Common.{◌≡◌, ℕ, Bool, true, eqb, Option, Some, None, List}
+use Rattle.std.specs.Prelude.{IfSome}
+use Rattle.std.specs.List.{find}
+use Rattle.clock2q_queues.specs.Keys.{is_key_at}
+use Rattle.clock2q_queues.proofs.Indexes.{candidates_there}
+use Rattle.clock2q_queues.proofs.Lookups.{found_there}
+use Rattle.clock2q_queues_tests.proofs.keys.place_of.Goals as goal
+
+found_passes : (test : ℕ → Bool) (cs : List ℕ) (o : Option ℕ) → o ≡ find test cs → IfSome o (λ p. test p ≡ true)
+found_passes test cs None e = tt
+found_passes test cs (Some p) e = (found_there test cs p e).1
+
+pub find_untold-found-requires : goal.find_untold-found-requires
+find_untold-found-requires c = record { used = rw c.get.ensures.candidates (candidates_there c.args.index.now.homes c.args.keys.now.entries c.requires.indexed.0 c.args.hash c.requires.indexed.1) }
+
+pub find-again-requires : goal.find-again-requires
+find-again-requires c = record { used = rw c.get-2.ensures.candidates (candidates_there c.args.index.now.homes c.args.keys.now.entries c.requires.indexed.0 c.args.hash c.requires.indexed.1) }
+
+pub returns-clause-has : goal.returns-clause-has
+returns-clause-has c = found_passes (λ p. is_key_at eqb c.args.key c.args.keys.now.entries p) c.get.result.left c.find_untold-found.result c.find_untold-found.ensures.found
