@@ -1,15 +1,20 @@
 -- A key that is fetched with a value that stands in a command.
-use Rattle.std.proofs.Common.{◌≡◌, ℕ, Bool, Option, Some, None, Result, Err, OnErr, length, inl, inr, refl, sym, ap, ◌∙◌, subst}
+use Rattle.std.proofs.Common.{arith, ◌≡◌, ◌+◌, ℕ, Bool, Option, Some, None, Result, Err, OnErr, length, inl, inr, refl, sym, ap, ◌∙◌, subst}
 use Rattle.std.specs.Prelude.{if◌then◌else◌, IfNone, is_some, slice_get}
 use Rattle.std.specs.Option.{UnwrapsOrElse, option_and_then}
 use Rattle.std.proofs.lemmas.Bool.{cases_lt, lt-ltb}
 use Rattle.std.proofs.lemmas.Option.{slice_get_past}
-use Rattle.clock2q_cache.specs.Bounds.{takes_victim, inspections_for, inspections_of}
-use Rattle.clock2q_cache.specs.Calls.{Try}
-use Rattle.clock2q_cache.specs.Entries.{inspections}
-use Rattle.clock2q_cache.specs.Machine.{Machine, slot_of, value_of, hit, inserted, reused, placement}
-use Rattle.clock2q_cache.specs.Steps.{fetched, fetched_value, tried, tried_value, slotted, slotted_at}
-use Rattle.clock2q_cache.proofs.Residents.{hit-absent}
+use Rattle.std.specs.HashMap.Lent.{HashMembers}
+use Rattle.std.specs.declared.hash.Hasher as hasher
+use Rattle.std.specs.declared.hash.BuildHasher as builder
+use Rattle.clock2q_cache.specs.CacheState.{CacheState}
+use Rattle.clock2q_cache.specs.Costs.{Costs, accesses_for}
+use Rattle.clock2q_machine.specs.Bounds.{takes_victim, inspections_for, victims_for}
+use Rattle.clock2q_machine.specs.Calls.{Put, Try}
+use Rattle.clock2q_machine.specs.Entries.{inspections}
+use Rattle.clock2q_machine.specs.Machine.{Machine, slot_of, value_of, hit, inserted, reused, placement}
+use Rattle.clock2q_machine.specs.Steps.{fetched, fetched_value, tried, tried_value, slotted, slotted_at}
+use Rattle.clock2q_machine.proofs.Residents.{hit-absent}
 
 -- what holds at an error or at `None` holds where there is one
 pub at_err : {T E : Type 0} {P : Type 0} (r : Result T E) (e : E) → r ≡ Err e → OnErr r P → P
@@ -56,18 +61,29 @@ module _ {K V : Type 0} (is : K → Bool) (key : K) (m : Machine K V) where
   pub untried : slot_of is m ≡ None → (None ≡ tried_value (value_of is m) None) × (m ≡ tried is key None m)
   untried absent = (sym (ap (λ o. tried_value (option_and_then (slice_get m.values) o) None) absent), sym (hit-absent is m absent))
 
--- the hand looks as often as for a value that is offered, and not at all where the key is resident
-module _ {K V : Type 0} (eq : K → K → Bool) (key : K) (m : Machine K V) (made : V → Type 0) (v : V) (offered : Option V) (gives : (w : V) → made w → offered ≡ Some w) where
-  resident_looks : (slot : ℕ) (o : Option V) → slot_of (eq key) m ≡ Some slot → inspections_for (eq key) m ≡ inspections_of eq (Try key o) m
-  resident_looks slot None e = ap (λ z. if is_some z then 0 else (if takes_victim (eq key) m then inspections m.main else 0)) e
-  resident_looks slot (Some w) e = refl
+-- what a put of a key costs, a call costs that offers a value or finds the key
+module _ {K V S H : Type 0} (key : HashMembers K) (build : builder.Ghosts S H) (hash : hasher.Ghosts H) (k : K) (v : V) (old new : CacheState K V S) (spent : Costs key build hash (Put k v) old new) where
+  resident_costs : (slot : ℕ) (o : Option V) → slot_of (key.eq k) old.machine ≡ Some slot → Costs key build hash (Try k o) old new
+  resident_costs slot None e =
+      let looks : inspections_for (key.eq k) old.machine ≡ 0 = ap (λ z. if is_some z then 0 else (if takes_victim (key.eq k) old.machine then inspections old.machine.main else 0)) e in
+      let links : accesses_for (key.eq k) old.machine ≡ 0 = ap (λ z. if is_some z then 0 else inspections_for (key.eq k) old.machine + 36) e in
+      let victims : victims_for (key.eq k) old.machine ≡ 0 = ap (λ z. if is_some z then 0 else (if takes_victim (key.eq k) old.machine then 1 else 0)) e in
+      record {
+        counts = record { inspections = omega (arith, spent.counts.inspections, looks); accesses = (spent.counts.accesses.0, omega (arith, spent.counts.accesses.1, links)); questions = spent.counts.questions };
+        clock = omega (arith, spent.clock, victims);
+      }
+  resident_costs slot (Some w) e = record { counts = spent.counts; clock = spent.clock }
 
-  looks_tried : (o : Option ℕ) → slot_of (eq key) m ≡ o → UnwrapsOrElse (option_and_then (slice_get m.values) o) made v → inspections_for (eq key) m ≡ inspections_of eq (Try key offered) m
-  looks_tried None e h = subst (λ o. inspections_for (eq key) m ≡ inspections_of eq (Try key o) m) (sym (gives v h)) refl
-  looks_tried (Some slot) e h = resident_looks slot offered e
+  offered_costs : (o : Option V) → o ≡ Some v → Costs key build hash (Try k o) old new
+  offered_costs o e = subst (λ o. Costs key build hash (Try k o) old new) (sym e) (record { counts = spent.counts; clock = spent.clock })
 
-  pub looks-given : UnwrapsOrElse (value_of (eq key) m) made v → inspections_for (eq key) m ≡ inspections_of eq (Try key offered) m
-  looks-given h = looks_tried (slot_of (eq key) m) refl h
+  module _ (made : V → Type 0) (offered : Option V) (gives : (w : V) → made w → offered ≡ Some w) where
+    costs_tried : (o : Option ℕ) → slot_of (key.eq k) old.machine ≡ o → UnwrapsOrElse (option_and_then (slice_get old.machine.values) o) made v → Costs key build hash (Try k offered) old new
+    costs_tried None e h = offered_costs offered (gives v h)
+    costs_tried (Some slot) e h = resident_costs slot offered e
+
+    pub tried-costs : UnwrapsOrElse (value_of (key.eq k) old.machine) made v → Costs key build hash (Try k offered) old new
+    tried-costs h = costs_tried (slot_of (key.eq k) old.machine) refl h
 
 -- a key's slot is asked for with a value that stands in a command
 module _ {K V : Type 0} (is : K → Bool) (key : K) (m : Machine K V) (made : V → Type 0) (v : V) (value : V) (gives : (w : V) → made w → w ≡ value) where

@@ -1,11 +1,11 @@
 -- A closure that goes through a list gives a cache what the list itself stands for.
-use Rattle.std.proofs.Common.{◌≡◌, ℕ, zero, suc, ◌+◌, ◌-◌, ◌<◌, Bool, true, false, List, [], ◌∷◌, map, length, drop, get_or, Bor, refl, sym, ap, ◌∙◌, arith}
+use Rattle.std.proofs.Common.{◌≡◌, ℕ, suc, ◌-◌, ◌<◌, Bool, true, false, List, [], ◌∷◌, map, length, drop, get_or, Bor, refl, sym, ap, ◌∙◌, arith}
 use Rattle.std.specs.Fn.{Mut, Called}
 use Rattle.std.specs.List.{FoldsTo}
 use Rattle.std.specs.List.Retain.{ReturnsInTurn}
 use Rattle.clock2q_cache.specs.Closures.{AsksResident, Retains, Prefills}
-use Rattle.clock2q_cache.specs.Machine.{Machine, by_slot, prefilled, vacated_all}
-use Rattle.clock2q_cache.specs.Steps.{refused_slots, supplied, retained, prefilled_with}
+use Rattle.clock2q_machine.specs.Machine.{Machine, by_slot, prefilled, vacated_all}
+use Rattle.clock2q_machine.specs.Steps.{refused_slots, supplied, retained, prefilled_with}
 
 none-refused : (bits : List Bool) → refused_slots bits [] ≡ []
 none-refused [] = refl

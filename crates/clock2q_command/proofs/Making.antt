@@ -1,17 +1,16 @@
 -- A cache that is made with the shares of a script, or refused, and what it replies.
-use Rattle.std.proofs.Common.{◌≡◌, ℕ, ◌+◌, ◌/◌, ◌<◌, ◌≤◌, Bool, true, false, cond, eqb, ltb, max, List, [], ◌∷◌, Option, Some, None, Result, Ok, Err, refl, ap, ◌∙◌, subst, arith, nat_eq, ⊎_elim, ◌⊎◌, inl, inr}
+use Rattle.std.proofs.Common.{◌≡◌, ℕ, ◌+◌, ◌/◌, ◌<◌, ◌≤◌, Bool, true, false, cond, ltb, max, List, Result, Ok, Err, refl, ap, ◌∙◌, arith, nat_eq, ⊎_elim, ◌⊎◌, inl, inr}
 use Rattle.std.specs.Prelude.{◌↔◌, ◌≢◌, IfOk, IsErrOf}
-use Rattle.std.proofs.lemmas.Bool.{cases_lt, ltb-true, ltb-false}
-use Rattle.clock2q_cache.specs.Shares.{Shares, usual_shares, usual_small, usual_window}
-use Rattle.clock2q_cache.specs.Policies.{IsPolicy}
-use Rattle.clock2q_cache.specs.Calls.{Call, Answer}
-use Rattle.clock2q_cache.specs.Machine.{Machine, empty}
-use Rattle.clock2q_cache.specs.Steps.{answers}
+use Rattle.std.proofs.lemmas.Bool.{cases_lt, ltb-true}
+use Rattle.clock2q_machine.specs.Shares.{Shares, usual_shares, usual_small}
+use Rattle.clock2q_machine.specs.Policies.{IsPolicy}
+use Rattle.clock2q_machine.specs.Calls.{Call, Answer}
+use Rattle.clock2q_machine.specs.Machine.{Machine, empty}
+use Rattle.clock2q_machine.specs.Steps.{answers}
 use Rattle.clock2q_cache.specs.declared.error.CacheError.{CacheError}
 use Rattle.clock2q_cache.specs.declared.error.CacheError.TheVariants.{Memory, Capacity, Policy}
-use Rattle.clock2q_command.specs.Serve.{IsUnmade, IsUnanswered, Makes, output_for}
-use Rattle.clock2q_command.specs.ServeError.{refusal_of}
-use Rattle.clock2q_command.specs.Text.{output_of}
+use Rattle.clock2q_command.specs.Serve.{Makes, output_for}
+use Rattle.clock2q_text.specs.Text.{output_of}
 
 -- where more would be refused, and isn't, there's no more
 within : (n : ℕ) (Refused : Type 0) → (16777215 < n → Refused) → (Refused → ⊥) → n < 16777216
@@ -71,9 +70,3 @@ module _ {X K V : Type 0} (machine : X → Machine K V) where
 pub output_for-answers : (shares : Shares) (calls : List (Call ℕ ℕ)) (m : Machine ℕ ℕ) (told : List (Answer ℕ)) → m ≡ empty shares → told ≡ answers nat_eq calls m → output_of told ≡ output_for (record { shares = shares; calls = calls })
 unfolding output_for
 output_for-answers shares calls m told e f = ap output_of (f ∙ ap (answers nat_eq calls) e)
-
--- where no cache is made nothing is answered
-pub IsUnanswered-unmade : (shares : Shares) (refusal : CacheError) → IsUnmade shares refusal → IsUnanswered shares (refusal_of refusal)
-IsUnanswered-unmade shares Memory h = h
-IsUnanswered-unmade shares Capacity h = h
-IsUnanswered-unmade shares Policy h = h

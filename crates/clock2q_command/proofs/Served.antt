@@ -3,12 +3,12 @@ use Rattle.std.proofs.Common.{◌≡◌, ℕ, ◌+◌, Bool, false, true, List, 
 use Rattle.std.specs.Result.{IfErr}
 use Rattle.std.specs.Io.KnownBytes.{Appends, Keeps}
 use Rattle.std.proofs.lemmas.List.{take_all}
-use Rattle.clock2q_command.specs.Ports.{Traffic, traffic_after, one_if}
-use Rattle.clock2q_command.specs.Transfer.{TookAll, TookSome}
+use Rattle.clock2q_text.specs.Ports.{Traffic, traffic_after, one_if}
+use Rattle.clock2q_text.specs.Transfer.{TookAll, TookSome}
 use Rattle.clock2q_command.specs.Serve.{IsReadWhole, IsAnswered, IsSent, Sends, HasNoText, IsRefused, Answers, RepliesTo}
-use Rattle.clock2q_command.specs.Text.{Script, script_of}
-use Rattle.clock2q_command.specs.declared.serve_error.ServeError.{ServeError}
-use Rattle.clock2q_command.specs.declared.serve_error.ServeError.TheVariants.{BadLine, Memory, Capacity, Policy, Read, Write}
+use Rattle.clock2q_text.specs.Text.{Script, script_of}
+use Rattle.clock2q_text.specs.declared.serve_error.ServeError.{ServeError}
+use Rattle.clock2q_text.specs.declared.serve_error.ServeError.TheVariants.{BadLine, Memory, Capacity, Policy, Read, Write}
 
 -- bytes pass, and then there is a stop or a failure
 passed-end : (old : Traffic) (bytes : List ℕ) (stopped failed : Bool) → traffic_after (traffic_after old bytes false false) [] stopped failed ≡ traffic_after old bytes stopped failed

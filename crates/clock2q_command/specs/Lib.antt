@@ -1,9 +1,1 @@
-pub mod Commands
-pub mod Ports
-pub mod Text
-pub mod Cut
-pub mod ServeError
-pub mod Parsing
-pub mod Transfer
 pub mod Serve
-pub mod TableCommands

@@ -1,17 +1,17 @@
 -- What `serve` reads, what it answers, and what it writes.
 use Rattle.std.specs.Prelude.{◌≡◌, ◌⊎◌, ℕ, ◌^◌, ◌<◌, true, false, List, nat_eq, Option, Result, Ok, Err}
 use Rattle.std.specs.Io.KnownBytes.{Appends, Consumes, IsAtEnd}
-use Rattle.clock2q_cache.specs.Policies.{IsPolicy}
-use Rattle.clock2q_cache.specs.Machine.{Machine, empty}
-use Rattle.clock2q_cache.specs.Shares.{Shares}
+use Rattle.clock2q_machine.specs.Policies.{IsPolicy}
+use Rattle.clock2q_machine.specs.Machine.{Machine, empty}
+use Rattle.clock2q_machine.specs.Shares.{Shares}
 use Rattle.clock2q_cache.specs.declared.error.CacheError.{CacheError}
 use Rattle.clock2q_cache.specs.declared.error.CacheError.TheVariants as cache
-use Rattle.clock2q_cache.specs.Steps.{answers}
-use Rattle.clock2q_command.specs.Ports.{Traffic, traffic_after}
-use Rattle.clock2q_command.specs.Transfer.{TookSome, FailsWith, GivesUp}
-use Rattle.clock2q_command.specs.Text.{Script, script_of, output_of}
-use Rattle.clock2q_command.specs.declared.serve_error.ServeError.{ServeError}
-use Rattle.clock2q_command.specs.declared.serve_error.ServeError.TheVariants.{BadLine, Memory, Capacity, Policy, Read, Write}
+use Rattle.clock2q_machine.specs.Steps.{answers}
+use Rattle.clock2q_text.specs.Ports.{Traffic, traffic_after}
+use Rattle.clock2q_text.specs.Transfer.{TookSome, FailsWith, GivesUp}
+use Rattle.clock2q_text.specs.Text.{Script, script_of, output_of}
+use Rattle.clock2q_text.specs.declared.serve_error.ServeError.{ServeError}
+use Rattle.clock2q_text.specs.declared.serve_error.ServeError.TheVariants.{BadLine, Memory, Capacity, Policy, Read, Write}
 
 -- what is written for a script: `ok`, and the answers of a new cache with its shares
 unfoldable pub output_for : Script → List ℕ
@@ -94,6 +94,12 @@ module _ (old new : Traffic) (held holds : Option (List ℕ)) (text : List ℕ) 
   abbrev pub Sends : Result (Unit {0}) ServeError → Type 0
   Sends (Ok done) = IsSent
   Sends (Err refusal) = FailsWith old new held holds text refusal
+
+-- a cache's refusal as that of the program
+abbrev pub refusal_of : CacheError → ServeError
+refusal_of cache.Memory = Memory
+refusal_of cache.Capacity = Capacity
+refusal_of cache.Policy = Policy
 
 -- why no cache with these shares was made: its capacity is too large, or its shares can't be had together, or memory ran out
 abbrev pub IsUnmade : Shares → CacheError → Type 0

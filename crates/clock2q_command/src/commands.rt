@@ -1,90 +1,18 @@
-//! Commands to a cache as data, their replies, and the run of a list of commands.
-ghost use Rattle.std.specs.Prelude.{◌≡◌, ◌+◌, ◌<◌, IfOk, IfErr, OnOk, OnErr, true, drop, get_or, slice_get, length, map};
-ghost use Rattle.clock2q_command.specs.Commands.{call_of, answer_of, IsSupplied, AreSupplied};
-ghost use Rattle.clock2q_cache.specs.Bounds.{inspections_for, inspections_of, summed, IsRunBounded};
-ghost use Rattle.clock2q_cache.specs.Calls.{Try};
-ghost use Rattle.clock2q_cache.specs.Machine.{slot_of, value_of};
-ghost use Rattle.clock2q_cache.specs.Steps.{answer, after, answers, after_all, replaced, fetched, fetched_value, tried, tried_value, slotted, slotted_at, retained, prefilled_with};
+//! The run of a list of commands.
+ghost use Rattle.std.specs.Prelude.{◌≡◌, ◌+◌, ◌<◌, ◌≤◌, IfOk, IfErr, OnOk, OnErr, true, drop, get_or, slice_get, length, map};
+ghost use Rattle.clock2q_cache.specs.Costs.{Costs, most_accesses};
+ghost use Rattle.clock2q_cache.specs.Indexed.{IsIndexed};
+ghost use Rattle.clock2q_cache.specs.Runs.{RunsAtCost};
+ghost use Rattle.clock2q_text.specs.Commands.{call_of, answer_of, IsSupplied, AreSupplied};
+ghost use Rattle.clock2q_machine.specs.Bounds.{inspections_for, inspections_of, summed, IsRunBounded};
+ghost use Rattle.clock2q_machine.specs.Calls.{Prefill, Retain, Set, SlotFor, Try, With};
+ghost use Rattle.clock2q_machine.specs.Machine.{slot_of, value_of};
+ghost use Rattle.clock2q_machine.specs.Steps.{answer, after, answers, after_all, replaced, fetched, fetched_value, tried, tried_value, slotted, slotted_at, retained, prefilled_with};
 
 use clock2q_cache::{Cache, CacheError};
-use std::alloc::{Allocator, Global};
+use clock2q_text::{Command, Reply};
+use std::alloc::Allocator;
 use std::hash::{BuildHasher, Hash};
-
-/// A call of a [`Cache`](clock2q_cache::Cache) as a value, which [`run`] makes. Where the call
-/// takes a closure, the command has the values that the closure is to return.
-///
-/// ```rust
-/// let mut commands = Vec::new(rt.alloc());
-/// commands.push(Command::Put(1, 10))?;
-/// commands.push(Command::Get(1))?;
-/// ```
-#[derive(Debug, Drop, PartialEq)]
-pub enum Command<K, V, A: Allocator = Global> {
-    /// Stores a value for a key. The reply is a `Value`: the value that it replaces.
-    Put(K, V),
-    /// Asks for a key's value, and records a hit. The reply is a `Value`.
-    Get(K),
-    /// Asks for a key's value, and changes nothing. The reply is a `Value`.
-    Peek(K),
-    /// Asks whether a key is resident. The reply is a `Flag`.
-    Contains(K),
-    /// Asks for the value of a key where it is resident at this slot, and records a hit. The reply
-    /// is a `Value`.
-    GetAt(usize, K),
-    /// Replaces the value of a resident key, and records a hit. The reply is a `Value`: the value
-    /// that it replaces. Where the key isn't resident nothing changes.
-    Set(K, V),
-    /// Asks for a key's value, after the key was inserted with this one if it wasn't resident. The
-    /// reply is `Stored`.
-    With(K, V),
-    /// Does the same with a value that may be missing, as after an error. Without a value no key is
-    /// inserted. The reply is `Tried`.
-    Try(K, Option<V>),
-    /// Asks for a key's slot and the value there, after the key was inserted if it wasn't resident.
-    /// A new slot gets this value; another keeps its own. The reply is a `Slot`.
-    Slot(K, V),
-    /// Removes a resident key, or else the key from the history. The reply is a `Flag`: whether it
-    /// was resident.
-    Remove(K),
-    /// Removes each resident whose bit is false. The first bit is that of the resident with the
-    /// lowest slot, and so on; residents past the end of the list are kept. The reply is `Done`.
-    Retain(Vec<bool, A>),
-    /// Removes every key with its value, and the history. The reply is `Done`.
-    Clear,
-    /// Gives each slot that has no value yet one of these, in order; the last one repeats. The
-    /// reply is `Done`. [`run`] requires that the list isn't empty.
-    Prefill(Vec<V, A>),
-    /// Asks how many keys are resident. The reply is a `Number`.
-    Len,
-    /// Asks whether no key is resident. The reply is a `Flag`.
-    IsEmpty,
-    /// Asks how many keys the cache can hold. The reply is a `Number`.
-    Capacity,
-}
-
-/// The reply to a [`Command`]. The command tells which of these it is.
-///
-/// ```rust
-/// let replies = run(rt.alloc(), &mut cache, commands)?; // those of the example at `Command`
-/// assert_eq!(rt; replies.as_slice(), [Reply::Value(None), Reply::Value(Some(10))].as_slice());
-/// ```
-#[derive(Clone, Copy, Debug, PartialEq)]
-pub enum Reply<V> {
-    /// The value asked for, or the one replaced; `None` where the key wasn't resident.
-    Value(Option<V>),
-    /// The value that the key has now.
-    Stored(V),
-    /// The value that the key has now, or `None` where it isn't resident and no value was offered.
-    Tried(Option<V>),
-    /// The slot that the key has now, and the value there.
-    Slot(usize, V),
-    /// Whether what was asked is so.
-    Flag(bool),
-    /// A number of keys.
-    Number(usize),
-    /// The command was carried out.
-    Done,
-}
 
 /// Runs the commands in order, and returns one reply to each, in the same order.
 ///
@@ -110,6 +38,9 @@ where
     ensures replies { IfOk result (λ replies. map answer_of replies.items ≡ answers K.eq (map call_of commands.items) cache.old.machine) }
     ensures machine { OnOk result (cache.new.machine ≡ after_all K.eq (map call_of commands.items) cache.old.machine) }
     ensures inspections { OnOk result (cache.new.counts.inspections ≡ cache.old.counts.inspections + summed K.eq (inspections_of K.eq) (map call_of commands.items) cache.old.machine) }
+    ensures accesses { OnOk result (cache.new.counts.accesses ≤ cache.old.counts.accesses + summed K.eq (most_accesses K.eq) (map call_of commands.items) cache.old.machine) }
+    ensures costs { OnOk result (RunsAtCost K.Hash S.BuildHasher S.Hasher.Hasher (map call_of commands.items) cache.old cache.new) }
+    ensures hasher { cache.new.hasher ≡ cache.old.hasher }
     ensures clock { OnOk result (IsRunBounded K.eq (map call_of commands.items) cache.old.machine) }
     ensures memory { IfErr result (λ e. e ≡ CacheError.Memory) }
     ensures unchanged { OnErr result (cache.new ≡ cache.old) }
@@ -131,8 +62,11 @@ where
     requires prefill { IsSupplied (call_of command) }
     ensures reply { answer_of result ≡ answer K.eq (call_of command) cache.old.machine }
     ensures machine { cache.new.machine ≡ after K.eq (call_of command) cache.old.machine }
-    ensures inspections { cache.new.counts.inspections ≡ cache.old.counts.inspections + inspections_of K.eq (call_of command) cache.old.machine }
+    ensures hasher { cache.new.hasher ≡ cache.old.hasher }
+    ensures costs { Costs K.Hash S.BuildHasher S.Hasher.Hasher (call_of command) cache.old cache.new }
+    ensures indexed { IsIndexed K.Hash S.BuildHasher S.Hasher.Hasher cache.old }
 {
+    let _ = cache.len(); // whose contract says what the indexes have
     match command {
         Command::Put(key, value) => Reply::Value(cache.put(key, value)),
         Command::Get(key) => Reply::Value(cache.get(&key).copied()),
@@ -174,7 +108,8 @@ where
     A: Allocator,
     ensures value { result ≡ value_of (K.eq key.now) cache.old.machine }
     ensures machine { cache.new.machine ≡ replaced (K.eq key.now) value cache.old.machine }
-    ensures inspections { cache.new.counts.inspections ≡ cache.old.counts.inspections }
+    ensures hasher { cache.new.hasher ≡ cache.old.hasher }
+    ensures costs { Costs K.Hash S.BuildHasher S.Hasher.Hasher (Set key.now value) cache.old cache.new }
 {
     let place = cache.get_mut(key)?;
     let before = *place;
@@ -191,7 +126,8 @@ where
     A: Allocator,
     ensures value { result ≡ fetched_value (value_of (K.eq key) cache.old.machine) value }
     ensures machine { cache.new.machine ≡ fetched (K.eq key) key value cache.old.machine }
-    ensures inspections { cache.new.counts.inspections ≡ cache.old.counts.inspections + inspections_for (K.eq key) cache.old.machine }
+    ensures hasher { cache.new.hasher ≡ cache.old.hasher }
+    ensures costs { Costs K.Hash S.BuildHasher S.Hasher.Hasher (With key value) cache.old cache.new }
 {
     *cache.get_or_insert_with(key, || value)
 }
@@ -205,7 +141,8 @@ where
     A: Allocator,
     ensures value { result ≡ tried_value (value_of (K.eq key) cache.old.machine) offered }
     ensures machine { cache.new.machine ≡ tried (K.eq key) key offered cache.old.machine }
-    ensures inspections { cache.new.counts.inspections ≡ cache.old.counts.inspections + inspections_of K.eq (Try key offered) cache.old.machine }
+    ensures hasher { cache.new.hasher ≡ cache.old.hasher }
+    ensures costs { Costs K.Hash S.BuildHasher S.Hasher.Hasher (Try key offered) cache.old cache.new }
 {
     match cache.try_get_or_insert_with_mut(key, || offered.ok_or(())) {
         Ok(value) => Some(*value),
@@ -224,7 +161,8 @@ where
     ensures slot { result.0 ≡ slotted_at (slot_of (K.eq key) cache.old.machine) (K.eq key) key cache.old.machine }
     ensures value { result.1 ≡ fetched_value (slice_get cache.old.machine.values result.0) value }
     ensures machine { cache.new.machine ≡ slotted (K.eq key) key value cache.old.machine }
-    ensures inspections { cache.new.counts.inspections ≡ cache.old.counts.inspections + inspections_for (K.eq key) cache.old.machine }
+    ensures hasher { cache.new.hasher ≡ cache.old.hasher }
+    ensures costs { Costs K.Hash S.BuildHasher S.Hasher.Hasher (SlotFor key value) cache.old cache.new }
 {
     let (slot, found) = cache.get_or_insert_mut(key, || value);
     (slot, *found)
@@ -237,7 +175,8 @@ where
     S: BuildHasher,
     A: Allocator,
     ensures machine { cache.new.machine ≡ retained bits.now cache.old.machine }
-    ensures inspections { cache.new.counts.inspections ≡ cache.old.counts.inspections }
+    ensures hasher { cache.new.hasher ≡ cache.old.hasher }
+    ensures costs { Costs K.Hash S.BuildHasher S.Hasher.Hasher (Retain bits.now) cache.old cache.new }
 {
     let mut rest = bits;
     cache.retain(
@@ -265,7 +204,8 @@ where
     A: Allocator,
     requires some { 0 < length values.now }
     ensures machine { cache.new.machine ≡ prefilled_with values.now cache.old.machine }
-    ensures inspections { cache.new.counts.inspections ≡ cache.old.counts.inspections }
+    ensures hasher { cache.new.hasher ≡ cache.old.hasher }
+    ensures costs { Costs K.Hash S.BuildHasher S.Hasher.Hasher (Prefill values.now) cache.old cache.new }
 {
     let mut rest = values;
     let mut last = values[0];

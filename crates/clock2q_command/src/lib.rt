@@ -7,19 +7,11 @@
 #![tactic(auto)]
 
 mod commands;
-mod ports;
-mod replies;
-mod serve_error;
 mod serving;
 mod standard;
-mod table_commands;
-mod text;
-mod trace;
-mod transfer;
 
-pub use commands::{Command, Reply, run};
-pub use ports::{Device, Failed, Sink, Source};
-pub use serve_error::ServeError;
+pub use clock2q_table_commands::{TableCommand, TableReply, run_table};
+pub use clock2q_text::{Command, Device, Failed, Reply, ServeError, Sink, Source};
+pub use commands::run;
 pub use serving::serve;
 pub use standard::serve_standard;
-pub use table_commands::{TableCommand, TableReply, run_table};

@@ -1,16 +1,14 @@
 //! The program's whole work: from the bytes of a command text to the bytes of its replies.
 ghost use Rattle.std.specs.Prelude.{◌≡◌, ◌≢◌, ◌↔◌, ◌<◌, OnOk, IfErr, IsErrOf, map};
-ghost use Rattle.clock2q_command.specs.Commands.{call_of, AreSupplied};
-ghost use Rattle.clock2q_command.specs.Parsing.{shares_value, script_value};
-ghost use Rattle.clock2q_command.specs.Serve.{Answers, Sends, Makes, RepliesTo, IsServed, IsRefused};
+ghost use Rattle.clock2q_text.specs.Commands.{call_of, AreSupplied};
+ghost use Rattle.clock2q_text.specs.Parsing.{shares_value, script_value};
+ghost use Rattle.clock2q_command.specs.Serve.{Answers, Sends, Makes, RepliesTo, IsServed, IsRefused, refusal_of};
 
 use crate::commands::run;
-use crate::ports::{Sink, Source};
-use crate::replies::reply_text;
-use crate::serve_error::ServeError;
-use crate::text::{ChosenShares, Script, parse};
-use crate::transfer::{read_all, write_all};
 use clock2q_cache::{Cache, CacheError, DefaultHashBuilder};
+use clock2q_text::{
+    ChosenShares, Script, ServeError, Sink, Source, parse, read_all, reply_text, write_all,
+};
 use std::alloc::Allocator;
 use std::num::NonZeroUsize;
 
@@ -31,6 +29,17 @@ fn new_cache<A: Allocator>(
     }
 }
 
+// Returns a cache's refusal as that of the program.
+fn refusal(error: CacheError) -> ServeError
+    ensures { result ≡ refusal_of error }
+{
+    match error {
+        CacheError::Memory => ServeError::Memory,
+        CacheError::Capacity => ServeError::Capacity,
+        CacheError::Policy => ServeError::Policy,
+    }
+}
+
 // Returns the text of a new cache's replies to a script.
 fn reply_to<'a, A: Allocator>(
     alloc: &'a A,
@@ -45,8 +54,13 @@ fn reply_to<'a, A: Allocator>(
         chosen,
         commands,
     } = script;
-    let mut cache = new_cache(alloc, capacity, chosen)?;
-    let replies = run(alloc, &mut cache, commands)?;
+    let mut cache = match new_cache(alloc, capacity, chosen) {
+        Ok(cache) => cache,
+        Err(error) => return Err(refusal(error)),
+    };
+    let Ok(replies) = run(alloc, &mut cache, commands) else {
+        return Err(ServeError::Memory);
+    };
     Ok(reply_text(alloc, &replies)?)
 }
 

@@ -1,7 +1,7 @@
 //! The program: `serve` between standard input and standard output.
 
-use crate::ports::Device;
 use crate::serving::serve;
+use clock2q_text::Device;
 use std::process::ExitCode;
 
 /// Serves standard input to standard output, and returns the program's status.

@@ -1,7 +1,7 @@
 //! Runs the command text on standard input, and writes its replies to standard output.
 #![tactic(auto)]
 
-use clock2q::command::serve_standard;
+use clock2q_command::serve_standard;
 use std::process::ExitCode;
 
 fn main(rt: HostRuntime) -> ExitCode {

@@ -1,10 +1,11 @@
 -- The values were asked for in turn.
-use Rattle.std.proofs.Common.{rules, arith, []}
+use Rattle.std.proofs.Common.{rules}
 use Rattle.clock2q_command.proofs.InTurn.{prefilled-given}
 use Rattle.clock2q_command.proofs.commands.prefill.Goals as goal
 
 pub returns : goal.returns
 returns g c = record {
   machine = prefilled-given _ (λ f. f.0.now) (λ f. f.1) (λ f v f' called. search rules) _ _ _ c.requires.some c.prefill.ensures.made;
-  inspections = omega (arith, (c.prefill.ensures.costs []).counts.inspections);
+  hasher = c.prefill.ensures.hasher;
+  costs = c.prefill.ensures.costs c.args.values.now;
 }

@@ -1,8 +1,13 @@
 -- What is left of the commands brings its values, and each look of the hand is paid for.
-use Rattle.std.proofs.Common.{rules, arith, subst, map}
+use Rattle.std.proofs.Common.{rules, arith, ◌≡◌, refl, sym, ap, ◌∙◌, subst, map}
 use Rattle.std.proofs.lemmas.Grind.{common_steps}
-use Rattle.clock2q_cache.proofs.Clock.{run_bounded}
-use Rattle.clock2q_command.specs.Commands.{call_of, AreSupplied}
+use Rattle.clock2q_machine.proofs.Clock.{run_bounded}
+use Rattle.std.specs.Vec.Iter.{into_iter_items}
+use Rattle.clock2q_cache.specs.Costs.{most_accesses}
+use Rattle.clock2q_cache.specs.Runs.{RunsAtCost}
+use Rattle.clock2q_machine.specs.Bounds.{summed}
+use Rattle.clock2q_command.proofs.commands.run.Invariants.{members}
+use Rattle.clock2q_text.specs.Commands.{call_of, AreSupplied}
 use Rattle.clock2q_command.proofs.commands.run.Goals as goal
 
 pub loop-command-init : goal.loop-command-init
@@ -11,6 +16,9 @@ loop-command-init g c = record {
   ends = search rules;
   told = search rules;
   rest = search rules;
+  ran = λ end ran. subst (λ items. RunsAtCost (members g) g.S.BuildHasher g.S.Hasher.Hasher (map call_of items) c.args.cache.now end) (search rules) ran;
+  hasher = refl;
+  linked = let e : into_iter_items c.into_iter-command-iterator.result ≡ c.args.commands.items = search rules in omega (arith, ap (λ items. summed g.K.PartialEq.eq (most_accesses g.K.PartialEq.eq) (map call_of items) c.args.cache.now.machine) e);
   looked = search rules;
   supplied = subst (λ items. AreSupplied (map call_of items)) (search rules) c.requires.prefills;
   room = search rules;
@@ -25,7 +33,10 @@ loop-command-preserved g c = record {
   ends = search rules;
   told = grind (arith, common_steps);
   rest = grind (arith, common_steps);
-  looked = grind (arith, common_steps);
+  ran = λ end ran. c.loop-command.invariant.ran end (subst (λ items. RunsAtCost (members g) g.S.BuildHasher g.S.Hasher.Hasher (map call_of items) c.loop-command.cache end) (sym c.in-Some.ensures.steps.0) (c.execute.ensures.indexed, (c.execute.new.cache, (c.execute.ensures.machine, c.execute.ensures.hasher, c.execute.ensures.costs), ran)));
+  hasher = c.execute.ensures.hasher ∙ c.loop-command.invariant.hasher;
+  linked = grind (arith, common_steps, c.execute.ensures.costs.counts.accesses.1);
+  looked = grind (arith, common_steps, c.execute.ensures.costs.counts.inspections);
   supplied = (subst (λ items. AreSupplied (map call_of items)) c.in-Some.ensures.steps.0 c.loop-command.invariant.supplied).1;
   room = grind (arith, common_steps);
 }

@@ -1,6 +1,6 @@
 -- A key that isn't resident.
-use Rattle.std.proofs.Common.{rules, ap, sym, ◌∙◌}
-use Rattle.clock2q_cache.specs.Steps.{replaced_at}
+use Rattle.std.proofs.Common.{ap, sym, ◌∙◌}
+use Rattle.clock2q_machine.specs.Steps.{replaced_at}
 use Rattle.clock2q_command.proofs.Fetching.{at_none}
 use Rattle.clock2q_command.proofs.commands.set.Goals as goal
 

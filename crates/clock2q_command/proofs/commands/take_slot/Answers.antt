@@ -1,6 +1,5 @@
 -- The value is the slot's own, or the one of the command where the slot was made.
-use Rattle.std.proofs.Common.{rules, ap, ◌∙◌}
-use Rattle.clock2q_cache.specs.CacheState.{CacheState}
+use Rattle.std.proofs.Common.{rules, refl, ◌∙◌}
 use Rattle.clock2q_command.proofs.Fetching.{slotted-given}
 use Rattle.clock2q_command.proofs.commands.take_slot.Goals as goal
 
@@ -8,4 +7,5 @@ pub returns : goal.returns
 returns g c =
     let e = c.get_or_insert_mut-slot.ensures in
     let h = slotted-given (g.K.PartialEq.eq c.args.key) c.args.key c.args.cache.now.machine _ c.get_or_insert_mut-slot.result.1.now c.args.value (λ w gave. search rules) c.get_or_insert_mut-slot.result.0 e.slot e.value in
-    record { slot = e.slot; value = h.0; machine = e.unwritten ∙ h.1; inspections = search rules }
+    let spent = e.costs c.get_or_insert_mut-slot.result.1.now in
+    record { slot = e.slot; value = h.0; machine = e.unwritten ∙ h.1; hasher = refl; costs = record { counts = spent.counts; clock = spent.clock } }

@@ -1,10 +1,10 @@
 -- The value is the one of the command, where the key is new and there is one.
 use Rattle.std.proofs.Common.{rules, ◌≡◌, ◌+◌, None, refl, sym, subst, ap, ◌∙◌}
 use Rattle.std.specs.Result.{IsOk}
-use Rattle.clock2q_cache.specs.Bounds.{inspections_of}
-use Rattle.clock2q_cache.specs.Calls.{Try}
-use Rattle.clock2q_cache.specs.Steps.{tried}
-use Rattle.clock2q_command.proofs.Fetching.{at_err, tried-given, untried, looks-given}
+use Rattle.clock2q_cache.specs.Costs.{Costs}
+use Rattle.clock2q_machine.specs.Calls.{Try}
+use Rattle.clock2q_machine.specs.Steps.{tried}
+use Rattle.clock2q_command.proofs.Fetching.{at_err, tried-given, tried-costs, untried}
 use Rattle.clock2q_command.proofs.commands.try_fetch.Goals as goal
 
 pub returns-in-Ok : goal.returns-in-Ok
@@ -16,7 +16,8 @@ returns-in-Ok g c =
     record {
       value = h.0;
       machine = becomes.0 ∙ c.in-Ok.ensures.unwritten ∙ h.1;
-      inspections = becomes.2.counts.inspections ∙ ap (λ n. c.args.cache.now.counts.inspections + n) (looks-given eq c.args.key m _ c.in-Ok.value.now c.args.offered (λ w gave. search rules) c.in-Ok.ensures.value);
+      hasher = becomes.1;
+      costs = tried-costs (record { eq = g.K.PartialEq.eq; hash_input = g.K.Hash.hash_input }) g.S.BuildHasher g.S.Hasher.Hasher c.args.key c.in-Ok.value.now c.args.cache.now _ becomes.2 _ c.args.offered (λ w gave. search rules) c.in-Ok.ensures.value;
     }
 
 pub returns-in-Err : goal.returns-in-Err
@@ -29,5 +30,6 @@ returns-in-Err g c =
     record {
       value = search rules;
       machine = becomes.0 ∙ subst (λ o. m ≡ tried (eq c.args.key) c.args.key o m) (sym none) h.1;
-      inspections = becomes.2.counts.inspections ∙ ap (λ o. c.args.cache.now.counts.inspections + inspections_of eq (Try c.args.key o) m) (sym none);
+      hasher = becomes.1;
+      costs = subst (λ o. Costs (record { eq = g.K.PartialEq.eq; hash_input = g.K.Hash.hash_input }) g.S.BuildHasher g.S.Hasher.Hasher (Try c.args.key o) c.args.cache.now c.try_get_or_insert_with_mut.follows.lender-at-none) (sym none) becomes.2;
     }

@@ -1,9 +1,8 @@
-use Rattle.std.proofs.Common.{◌≡◌, Ok, map, sym, ap, ◌∙◌}
-use Rattle.clock2q_command.specs.Commands.{call_of}
-use Rattle.clock2q_command.specs.Parsing.{shares_value, script_value}
-use Rattle.clock2q_command.specs.Text.{script_of}
+use Rattle.std.proofs.Common.{sym, ap, ◌∙◌}
+use Rattle.clock2q_text.specs.Parsing.{shares_value, script_value}
+use Rattle.clock2q_text.specs.Text.{script_of}
 use Rattle.clock2q_command.proofs.Served.{Answers-replied}
-use Rattle.clock2q_command.proofs.Supplying.{supplied-spelled}
+use Rattle.clock2q_text.proofs.Supplying.{supplied-spelled}
 use Rattle.clock2q_command.proofs.serving.answer.Goals as goal
 
 pub reply_to-requires : goal.reply_to-requires

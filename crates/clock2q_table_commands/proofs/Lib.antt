@@ -1,0 +1,3 @@
+pub mod Hashing
+pub mod Rehashing
+pub mod TableReplies

@@ -1,0 +1,80 @@
+-- Commands to a handle table: what each is replied to, and the lists that it leaves.
+use Rattle.std.specs.Prelude.{◌≡◌, ℕ, Bool, true, false, List, [], ◌∷◌, Option, Some, None, Result, Ok, Err}
+use Rattle.std.specs.List.{find, list_any}
+use Rattle.std.specs.declared.vec.Vec.{Vec}
+use Rattle.clock2q_handles.specs.Homes.{candidates, listed, with_handle, removed, is_entry_of}
+use Rattle.clock2q_handles.specs.Layout.{IsTooLong}
+use Rattle.clock2q_handles.specs.TableStep.{grown, reserved, IsFull, IsShortOf, IsPastSize, IsHashOf}
+use Rattle.clock2q_handles.specs.declared.error.TableError.{TableError}
+use Rattle.clock2q_handles.specs.declared.error.TableError.TheVariants.{Memory, Size, RunTooLong}
+use Rattle.clock2q_table_commands.specs.declared.table_commands.TableCommand.{TableCommand}
+use Rattle.clock2q_table_commands.specs.declared.table_commands.TableCommand.TheVariants.{Insert, Remove, Find, Reserve, Get}
+use Rattle.clock2q_table_commands.specs.declared.table_commands.TableReply.{TableReply}
+use Rattle.clock2q_table_commands.specs.declared.table_commands.TableReply.TheVariants.{Done, Removed, Found, Handles, Refused}
+
+-- a call on a handle answers its key alone, and that is a hash of each entry that holds the handle
+pub record IsHashing {H : Type 0} (returns : H → ℕ → Type 0) (key : H → ℕ) (homes : List (List (ℕ × H))) : Type 0 where
+  pub one : (handle : H) (hash : ℕ) → returns handle hash → hash ≡ key handle
+  pub hashes : IsHashOf key homes
+
+-- an outcome as a reply
+abbrev pub told : {H L : Type 0} → Result (Unit {0}) TableError → TableReply H L
+told (Ok done) = Done
+told (Err refusal) = Refused refusal
+
+-- what a look-up with insertion answers, as a reply
+abbrev pub told_found : {H L : Type 0} → Result (H × Bool) TableError → TableReply H L
+told_found (Ok found) = Found found.0 found.1
+told_found (Err refusal) = Refused refusal
+
+-- the first of the handles that equals one of those accepted
+abbrev pub first_accepted : {H : Type 0} → (H → H → Bool) → List H → List H → Option H
+first_accepted eq accepted handles = find (λ h. list_any (λ a. eq a h) accepted) handles
+
+module _ {H A : Type 0} (eq : H → H → Bool) (key : H → ℕ) where
+  -- a full table grows, and v comes last in the home of its hash, where that makes no run too long
+  abbrev pub Inserts : H → List (List (ℕ × H)) → TableReply H (Vec H A) → List (List (ℕ × H)) → Type 0
+  Inserts v old Done new = (new ≡ with_handle (grown key old) (key v) v) × (IsTooLong new → ⊥)
+  Inserts v old (Refused RunTooLong) new = (new ≡ grown key old) × IsTooLong (with_handle (grown key old) (key v) v)
+  Inserts v old (Refused Memory) new = (new ≡ old) × IsFull old
+  Inserts v old reply new = ⊥
+
+  -- a full table grows, and the first candidate that is accepted is told, or v is inserted
+  abbrev pub Finds : H → List H → List (List (ℕ × H)) → TableReply H (Vec H A) → List (List (ℕ × H)) → Type 0
+  Finds v accepted old (Found c false) new = (first_accepted eq accepted (candidates (grown key old) (key v)) ≡ Some c) × (new ≡ grown key old)
+  Finds v accepted old (Found c true) new = (first_accepted eq accepted (candidates (grown key old) (key v)) ≡ None) × (c ≡ v) × Inserts v old Done new
+  Finds v accepted old (Refused RunTooLong) new = (first_accepted eq accepted (candidates (grown key old) (key v)) ≡ None) × Inserts v old (Refused RunTooLong) new
+  Finds v accepted old (Refused Memory) new = (new ≡ old) × IsFull old
+  Finds v accepted old reply new = ⊥
+
+  -- the first candidate of x that equals v goes, if there is one, and it is told whether there was
+  abbrev pub Removes : ℕ → H → List (List (ℕ × H)) → TableReply H (Vec H A) → List (List (ℕ × H)) → Type 0
+  Removes x v old (Removed was) new = (was ≡ list_any (is_entry_of eq x v) (listed old x)) × (new ≡ removed eq old x v)
+  Removes x v old reply new = ⊥
+
+  -- there is room for n entries more, where they can be counted
+  abbrev pub Reserves : ℕ → List (List (ℕ × H)) → TableReply H (Vec H A) → List (List (ℕ × H)) → Type 0
+  Reserves n old Done new = (new ≡ reserved key old n) × (IsPastSize old n → ⊥)
+  Reserves n old (Refused Size) new = (new ≡ old) × IsPastSize old n
+  Reserves n old (Refused Memory) new = (new ≡ old) × IsShortOf old n
+  Reserves n old reply new = ⊥
+
+  -- the candidates of x are told, and nothing changes
+  abbrev pub Gets : ℕ → List (List (ℕ × H)) → TableReply H (Vec H A) → List (List (ℕ × H)) → Type 0
+  Gets x old (Handles handles) new = (handles.items ≡ candidates old x) × (new ≡ old)
+  Gets x old (Refused Memory) new = new ≡ old
+  Gets x old reply new = ⊥
+
+  -- the reply to a command, and what it leaves
+  abbrev pub IsReplied : TableCommand H (Vec H A) → List (List (ℕ × H)) → TableReply H (Vec H A) → List (List (ℕ × H)) → Type 0
+  IsReplied (Insert v) = Inserts v
+  IsReplied (Remove x v) = Removes x v
+  IsReplied (Find v accepted) = Finds v accepted.items
+  IsReplied (Reserve n) = Reserves n
+  IsReplied (Get x) = Gets x
+
+  -- the replies to commands, of which each begins with what the one before leaves
+  abbrev pub AreReplied : List (TableCommand H (Vec H A)) → List (List (ℕ × H)) → List (TableReply H (Vec H A)) → List (List (ℕ × H)) → Type 0
+  AreReplied [] old [] new = new ≡ old
+  AreReplied (command ∷ commands) old (reply ∷ replies) new = (next : List (List (ℕ × H))) × IsReplied command old reply next × AreReplied commands next replies new
+  AreReplied commands old replies new = ⊥

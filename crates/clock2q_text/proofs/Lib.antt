@@ -1,0 +1,12 @@
+pub mod Answering
+pub mod Calling
+pub mod Cutting
+pub mod Decimals
+pub mod Listing
+pub mod Numbers
+pub mod Sharing
+pub mod Spaced
+pub mod Spelling
+pub mod Supplying
+pub mod Transferring
+pub mod WorkedTexts
