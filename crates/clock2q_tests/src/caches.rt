@@ -53,3 +53,18 @@ fn refusals(rt: HostRuntime) -> Result<(), Fail> {
     }
     Ok(())
 }
+
+#[test]
+fn slots_of_keys(rt: HostRuntime) -> Result<(), Fail> {
+    let capacity = NonZeroUsize::new(2).ok_or("not zero")?;
+    let mut cache = Cache::new(rt.alloc(), capacity)?;
+    cache.put(70u64, 7u64);
+    cache.put(80, 8);
+    assert_eq!(rt; cache.slot(&70), Some(0));
+    assert_eq!(rt; cache.slot(&80), Some(1));
+    assert_eq!(rt; cache.slot(&90), None);
+    cache.put(90, 9);
+    assert_eq!(rt; cache.slot(&90), Some(0));
+    assert_eq!(rt; cache.slot(&70), None);
+    Ok(())
+}

@@ -1,6 +1,6 @@
 -- A list of puts.
 use Rattle.std.proofs.Common.{ℕ, List, [], ◌∷◌, map}
-use Rattle.clock2q_command.specs.Commands.{AreSupplied}
+use Rattle.clock2q_text.specs.Commands.{AreSupplied}
 use Rattle.clock2q_uses.specs.Replay.{put_of}
 
 -- a put makes no slots but its own

@@ -12,5 +12,5 @@ unfoldable pub adler32 : List ℕ → ℕ
 adler32 bytes = let both = sums bytes 1 0 in both.1 * 65536 + both.0
 
 -- the checksum of the document of a number, if there is one
-abbrev pub checksum_of : List (Vec ℕ Global) → ℕ → Option ℕ
-checksum_of documents number = option_map (λ document. adler32 document.items) (slice_get documents number)
+abbrev pub document_checksum : List (Vec ℕ Global) → ℕ → Option ℕ
+document_checksum documents number = option_map (λ document. adler32 document.items) (slice_get documents number)

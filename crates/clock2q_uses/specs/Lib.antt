@@ -3,3 +3,4 @@ pub mod Interning
 pub mod Pages
 pub mod Replay
 pub mod Split
+pub mod Squares

@@ -1,10 +1,10 @@
 -- The hits of a trace: a list of keys that are put one after another.
 use Rattle.std.specs.Prelude.{ℕ, Bool, true, false, eqb, List, Some, map}
 use Rattle.std.specs.List.{count_by}
-use Rattle.clock2q_cache.specs.Calls.{Call, Answer, Put, Value}
-use Rattle.clock2q_cache.specs.Machine.{empty}
-use Rattle.clock2q_cache.specs.Shares.{usual_shares}
-use Rattle.clock2q_cache.specs.Steps.{answers}
+use Rattle.clock2q_machine.specs.Calls.{Call, Answer, Put, Value}
+use Rattle.clock2q_machine.specs.Machine.{empty}
+use Rattle.clock2q_machine.specs.Shares.{usual_shares}
+use Rattle.clock2q_machine.specs.Steps.{answers}
 
 -- a put of a resident key returns the value that it replaces
 abbrev pub is_hit : Answer ℕ → Bool

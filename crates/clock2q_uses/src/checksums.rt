@@ -1,7 +1,7 @@
 //! A memo of a costly function: the checksums of documents, which need their every byte.
-ghost use Rattle.clock2q_uses.specs.Checksums.{adler32, checksum_of};
+ghost use Rattle.clock2q_uses.specs.Checksums.{adler32, document_checksum};
 ghost use Rattle.clock2q_memo.specs.Memo.{Computes, Remembers};
-ghost use Rattle.clock2q_cache.specs.Machine.{slot_of};
+ghost use Rattle.clock2q_machine.specs.Machine.{slot_of};
 ghost use Rattle.std.specs.Fn.{FnReturnsAt};
 ghost use Rattle.std.specs.NonZero.{non_zero_usize_get};
 ghost use Rattle.std.specs.Prelude.{◌≡◌, ◌≢◌, ◌<◌, ◌≤◌, ◌+◌, ◌↔◌, ℕ, Err, Option, Some, eqb, IfOk, IsErrOf, IsSome, IsTrue, map};
@@ -27,7 +27,7 @@ pub fn checksums(
     documents: &[Vec<u8>],
     numbers: Vec<usize>,
 ) -> Result<Vec<Option<u32>>, CacheError>
-    ensures checksums { IfOk result (λ sums. sums.items ≡ map (checksum_of documents.now) numbers.items) }
+    ensures checksums { IfOk result (λ sums. sums.items ≡ map (document_checksum documents.now) numbers.items) }
     ensures capacity { IsErrOf result CacheError.Capacity ↔ (MAX_CAPACITY < non_zero_usize_get capacity) }
     ensures policy { result ≢ Err CacheError.Policy }
 {
@@ -60,7 +60,7 @@ where
 
 /// Returns the checksum of the document of a number, if there is one.
 pub fn checksum_of(documents: &[Vec<u8>], number: usize) -> Option<u32>
-    ensures checksum { result ≡ checksum_of documents.now number }
+    ensures checksum { result ≡ document_checksum documents.now number }
 {
     documents.get(number).map(|document| adler32(document))
 }

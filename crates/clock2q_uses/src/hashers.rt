@@ -1,5 +1,5 @@
 //! The same commands under two hashers.
-ghost use Rattle.clock2q_command.specs.Commands.{call_of, answer_of, AreSupplied};
+ghost use Rattle.clock2q_text.specs.Commands.{call_of, answer_of, AreSupplied};
 ghost use Rattle.std.specs.Prelude.{◌≡◌, IfOk, IfErr, map};
 
 use clock2q::command::{Command, Reply, run};

@@ -9,3 +9,4 @@ pub mod interning;
 pub mod pages;
 pub mod replay;
 pub mod split;
+pub mod squares;

@@ -1,53 +1,15 @@
 //! A page cache: the pages of a file that are in memory, each in a frame of its own.
-ghost use Rattle.clock2q_uses.specs.Pages.{AreLoaded, IsLoaded, frame_of};
+ghost use Rattle.clock2q_pages.specs.Pages.{IsLoaded, resident_frame};
+ghost use Rattle.clock2q_uses.specs.Pages.{AreLoaded};
 ghost use Rattle.std.specs.NonZero.{non_zero_usize_get};
-ghost use Rattle.std.specs.Prelude.{◌≡◌, ◌≢◌, ◌<◌, ◌≤◌, ◌↔◌, ℕ, Err, Some, IfOk, IsErrOf, IsTrue, length, map, slice_get};
+ghost use Rattle.std.specs.Prelude.{◌≡◌, ◌≢◌, ◌<◌, ◌≤◌, ◌↔◌, Err, Some, IfOk, IsErrOf, length, map, slice_get};
 
 use clock2q::{Cache, CacheError, MAX_CAPACITY};
+use clock2q_pages::frame_of;
 use std::alloc::Global;
 use std::hash::BuildHasher;
 use std::num::NonZeroUsize;
 use std::test::Fail;
-
-/// Returns the frame of a page: the slot of its number. A page that has none gets a free one, or that
-/// of a page that has to leave. The flag is true if the page is loaded: if it was the last one that
-/// got the frame. Else the caller has to load it.
-pub fn frame_of<S: BuildHasher>(
-    pages: &mut Cache<usize, Option<usize>, S>,
-    page: usize,
-) -> (usize, bool)
-    ensures resident { frame_of pages.new.machine page ≡ Some result.0 }
-    ensures alone { (other : ℕ) → other ≢ page → frame_of pages.new.machine other ≢ Some result.0 }
-    ensures stays { (frame : ℕ) → frame_of pages.old.machine page ≡ Some frame → result.0 ≡ frame }
-    ensures others { (other frame : ℕ) → other ≢ page → frame_of pages.new.machine other ≡ Some frame → frame_of pages.old.machine other ≡ Some frame }
-    ensures within { result.0 < pages.old.machine.shares.capacity }
-    ensures loaded { IsTrue result.1 ↔ IsLoaded pages.old.machine page result.0 }
-    ensures loads { IsLoaded pages.new.machine page result.0 }
-    ensures keeps { (other frame : ℕ) → frame ≢ result.0 → IsLoaded pages.new.machine other frame → IsLoaded pages.old.machine other frame }
-    ensures shares { pages.new.machine.shares ≡ pages.old.machine.shares }
-{
-    let _ = pages.len(); // whose contract says that the cache is whole
-    let (frame, last) = pages.get_or_insert_mut(page, || None);
-    let is_loaded = *last == Some(page);
-    *last = Some(page);
-    (frame, is_loaded)
-}
-
-/// Returns true if the page is in this frame, and records a hit then. Hashes nothing, so whoever
-/// kept the frame asks for it here first.
-pub fn is_in<S: BuildHasher>(
-    pages: &mut Cache<usize, Option<usize>, S>,
-    frame: usize,
-    page: usize,
-) -> bool
-    ensures resident { IsTrue result ↔ (frame_of pages.old.machine page ≡ Some frame) }
-    ensures stay { (other : ℕ) → frame_of pages.new.machine other ≡ frame_of pages.old.machine other }
-    ensures values { pages.new.machine.values ≡ pages.old.machine.values }
-    ensures shares { pages.new.machine.shares ≡ pages.old.machine.shares }
-{
-    let _ = pages.len();
-    pages.get_at(frame, &page).is_some()
-}
 
 /// Returns the frame of a page, with the page in it. A page that isn't loaded is copied from the
 /// file.
@@ -59,15 +21,15 @@ pub fn load<T: Copy, S: BuildHasher>(
 ) -> usize
     requires page { page < length file.now }
     requires frames { pages.old.machine.shares.capacity ≤ length frames.old }
-    ensures resident { frame_of pages.new.machine page ≡ Some result }
+    ensures resident { resident_frame pages.new.machine page ≡ Some result }
     ensures within { result < pages.old.machine.shares.capacity }
     ensures content { AreLoaded file.now pages.old.machine frames.old → slice_get frames.new result ≡ slice_get file.now page }
     ensures loaded { AreLoaded file.now pages.old.machine frames.old → AreLoaded file.now pages.new.machine frames.new }
     ensures unread { IsLoaded pages.old.machine page result → frames.new ≡ frames.old }
     ensures shares { pages.new.machine.shares ≡ pages.old.machine.shares }
 {
-    let (frame, is_loaded) = frame_of(pages, page);
-    if !is_loaded {
+    let (frame, last) = frame_of(pages, page);
+    if last != Some(page) {
         frames[frame] = file[page];
     }
     frame
@@ -129,8 +91,8 @@ fn three_pages_in_two_frames(rt: HostRuntime) -> Result<(), Fail> {
     assert_eq!(rt; load(&mut pages, &mut frames, file, 1), 1);
     assert_eq!(rt; load(&mut pages, &mut frames, file, 2), 0);
     assert_eq!(rt; frames.as_slice(), b"cb".as_slice());
-    assert!(rt; is_in(&mut pages, 0, 2));
-    assert!(rt; !is_in(&mut pages, 0, 0));
+    assert!(rt; clock2q_pages::is_in(&mut pages, 0, 2));
+    assert!(rt; !clock2q_pages::is_in(&mut pages, 0, 0));
     assert_eq!(rt; load(&mut pages, &mut frames, file, 0), 1);
     assert_eq!(rt; frames.as_slice(), b"ca".as_slice());
     Ok(())

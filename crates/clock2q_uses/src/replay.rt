@@ -1,6 +1,6 @@
 //! A trace replayed: how many keys of a list hit in a new cache.
 ghost use Rattle.clock2q_uses.specs.Replay.{is_hit, put_of, trace_hits};
-ghost use Rattle.clock2q_command.specs.Commands.{call_of, answer_of};
+ghost use Rattle.clock2q_text.specs.Commands.{call_of, answer_of};
 ghost use Rattle.std.specs.List.{count_by};
 ghost use Rattle.std.specs.NonZero.{non_zero_usize_get};
 ghost use Rattle.std.specs.Prelude.{◌≡◌, ◌≢◌, ◌<◌, ◌↔◌, Err, IfOk, IfErr, IsErrOf, map};

@@ -3,7 +3,7 @@ use Rattle.std.proofs.lemmas.Option.{slice_get-get_or}
 use Rattle.clock2q_uses.proofs.Paging.{copied_loaded}
 use Rattle.clock2q_uses.proofs.pages.load.Goals as goal
 
-pub returns-then-not-is_loaded-clause-loaded : goal.returns-then-not-is_loaded-clause-loaded
-returns-then-not-is_loaded-clause-loaded g c =
+pub returns-then-ne-clause-loaded : goal.returns-then-ne-clause-loaded
+returns-then-ne-clause-loaded g c =
     let e = c.frame_of-frame.ensures in
     copied_loaded c.args.file.now c.args.frames.now c.args.pages.now.machine c.frame_of-frame.new.pages.machine c.args.page c.frame_of-frame.result.0 c.index-file-page.result (slice_get-get_or c.args.file.now c.args.page c.index-file-page.result c.requires.page ∙ ap Some (sym c.index-file-page.is)) (omega (arith, e.within, c.requires.frames)) e.loads e.keeps

@@ -1,7 +1,7 @@
 -- The hits so far are those of the replies so far.
 use Rattle.std.proofs.Common.{◌≡◌, take}
 use Rattle.std.specs.List.{count_by}
-use Rattle.clock2q_command.specs.Commands.{answer_of}
+use Rattle.clock2q_text.specs.Commands.{answer_of}
 use Rattle.clock2q_uses.specs.Replay.{is_hit}
 use Rattle.clock2q_uses.proofs.replay.hit_count.Given as goal
 

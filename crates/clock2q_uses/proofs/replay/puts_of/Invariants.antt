@@ -1,6 +1,6 @@
 -- The keys so far have their puts, and there is room for the others.
 use Rattle.std.proofs.Common.{◌≡◌, ◌+◌, ◌-◌, ◌≤◌, map, length, take, vec_len, vec_capacity}
-use Rattle.clock2q_command.specs.Commands.{call_of}
+use Rattle.clock2q_text.specs.Commands.{call_of}
 use Rattle.clock2q_uses.specs.Replay.{put_of}
 use Rattle.clock2q_uses.proofs.replay.puts_of.Given as goal
 

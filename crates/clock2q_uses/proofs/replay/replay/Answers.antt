@@ -1,6 +1,6 @@
 -- No put makes slots.
 use Rattle.std.proofs.Common.{rules, sym, subst}
-use Rattle.clock2q_command.specs.Commands.{AreSupplied}
+use Rattle.clock2q_text.specs.Commands.{AreSupplied}
 use Rattle.clock2q_uses.proofs.Replaying.{puts-supplied}
 use Rattle.clock2q_uses.proofs.replay.replay.Goals as goal
 

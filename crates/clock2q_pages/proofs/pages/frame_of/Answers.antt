@@ -1,7 +1,8 @@
-use Rattle.std.proofs.Common.{◌<◌, Some, eqb, slice_get, sym, ap, ◌∙◌, subst}
-use Rattle.clock2q_uses.proofs.Paging.{page_there, page_alone, others_stand, frame_within, value_there, values_elsewhere, same_shares}
-use Rattle.clock2q_cache.specs.Steps.{put}
-use Rattle.clock2q_uses.proofs.pages.frame_of.Goals as goal
+use Rattle.std.proofs.Common.{rules, ◌≡◌, ◌<◌, Some, eqb, slice_get, sym, ap, ◌∙◌, subst}
+use Rattle.clock2q_pages.proofs.Paging.{last_tells, page_there, page_alone, others_stand, frame_within, value_there, values_elsewhere, same_shares}
+use Rattle.clock2q_machine.specs.Steps.{put}
+use Rattle.clock2q_pages.specs.Pages.{last_in}
+use Rattle.clock2q_pages.proofs.pages.frame_of.Goals as goal
 
 pub returns-clause-resident : goal.returns-clause-resident
 returns-clause-resident g c = page_there c.args.pages.now.machine c.len.ensures.whole c.args.page (Some c.args.page) ∙ ap Some (sym c.get_or_insert_mut-frame.ensures.slot)
@@ -14,6 +15,11 @@ returns-clause-others g c = others_stand c.args.pages.now.machine c.len.ensures.
 
 pub returns-clause-within : goal.returns-clause-within
 returns-clause-within g c = subst (λ frame. frame < c.args.pages.now.machine.shares.capacity) (sym c.get_or_insert_mut-frame.ensures.slot) (frame_within c.args.pages.now.machine c.len.ensures.whole c.args.page (Some c.args.page))
+
+pub returns-clause-loaded : goal.returns-clause-loaded
+returns-clause-loaded g c =
+    let last : c.get_or_insert_mut-frame.result.1.now ≡ last_in c.args.pages.now.machine c.get_or_insert_mut-frame.result.0 = search rules in
+    rw last (last_tells c.args.pages.now.machine c.args.page c.get_or_insert_mut-frame.result.0)
 
 pub returns-clause-loads : goal.returns-clause-loads
 returns-clause-loads g c = ap (slice_get (put (eqb c.args.page) c.args.page (Some c.args.page) c.args.pages.now.machine).values) c.get_or_insert_mut-frame.ensures.slot ∙ value_there c.args.pages.now.machine c.len.ensures.whole c.args.page (Some c.args.page)

@@ -1,15 +1,16 @@
 use Rattle.std.proofs.Common.{rules, ◌≡◌, ◌∙◌, ap, eqb}
-use Rattle.clock2q_cache.specs.Steps.{hit_at}
-use Rattle.clock2q_uses.specs.Pages.{frame_of}
-use Rattle.clock2q_uses.proofs.Paging.{asked_frames, asked_values, asked_shares, asked_there}
-use Rattle.clock2q_uses.proofs.pages.is_in.Goals as goal
+use Rattle.clock2q_machine.specs.Steps.{hit_at}
+use Rattle.clock2q_pages.specs.Pages.{resident_frame}
+use Rattle.clock2q_pages.proofs.Paging.{asked_frames, asked_values, asked_shares, asked_there}
+use Rattle.clock2q_pages.proofs.pages.is_in.Goals as goal
 
 pub returns : goal.returns
 returns g c =
     let after : c.get_at.follows.lender-at-none.machine ≡ hit_at c.args.frame (eqb c.args.page) c.args.pages.now.machine = search rules in
     record {
       resident = asked_there c.args.pages.now.machine c.len.ensures.whole c.args.frame c.args.page c.get_at.result c.is_some.result c.get_at.ensures.value c.is_some.ensures;
-      stay = λ other. ap (λ m. frame_of m other) after ∙ asked_frames c.args.pages.now.machine c.len.ensures.whole c.args.frame c.args.page other;
+      machine = after;
+      stay = λ other. ap (λ m. resident_frame m other) after ∙ asked_frames c.args.pages.now.machine c.len.ensures.whole c.args.frame c.args.page other;
       values = ap (λ m. m.values) after ∙ asked_values c.args.pages.now.machine c.len.ensures.whole c.args.frame c.args.page;
       shares = ap (λ m. m.shares) after ∙ asked_shares c.args.pages.now.machine c.len.ensures.whole c.args.frame c.args.page;
     }

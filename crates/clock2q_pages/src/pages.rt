@@ -1,0 +1,65 @@
+//! The frames of a page cache.
+ghost use Rattle.clock2q_machine.specs.Machine.{hit};
+ghost use Rattle.clock2q_machine.specs.Steps.{hit_at, put};
+ghost use Rattle.clock2q_pages.specs.Pages.{IsLoaded, last_in, resident_frame};
+ghost use Rattle.std.specs.Prelude.{eqb, ◌≡◌, ◌≢◌, ◌<◌, ◌↔◌, ℕ, Some, IsTrue};
+
+use clock2q_cache::Cache;
+use std::hash::BuildHasher;
+
+/// Returns the frame of a page, the slot of its number, and the page that got the frame last. A page
+/// that has none gets a free one, or that of a page that has to leave; one that has a frame keeps
+/// it, with a hit.
+///
+/// Where another page got the frame last, or none did, the caller has to load it.
+pub fn frame_of<S: BuildHasher>(
+    pages: &mut Cache<usize, Option<usize>, S>,
+    page: usize,
+) -> (usize, Option<usize>)
+    ensures resident { resident_frame pages.new.machine page ≡ Some result.0 }
+    ensures alone { (other : ℕ) → other ≢ page → resident_frame pages.new.machine other ≢ Some result.0 }
+    ensures stays { (frame : ℕ) → resident_frame pages.old.machine page ≡ Some frame → result.0 ≡ frame }
+    ensures others { (other frame : ℕ) → other ≢ page → resident_frame pages.new.machine other ≡ Some frame → resident_frame pages.old.machine other ≡ Some frame }
+    ensures within { result.0 < pages.old.machine.shares.capacity }
+    ensures last { result.1 ≡ last_in pages.old.machine result.0 }
+    ensures loaded { (result.1 ≡ Some page) ↔ IsLoaded pages.old.machine page result.0 }
+    ensures loads { IsLoaded pages.new.machine page result.0 }
+    ensures keeps { (other frame : ℕ) → frame ≢ result.0 → IsLoaded pages.new.machine other frame → IsLoaded pages.old.machine other frame }
+    ensures machine { pages.new.machine ≡ put (eqb page) page (Some page) pages.old.machine }
+    ensures shares { pages.new.machine.shares ≡ pages.old.machine.shares }
+{
+    let _ = pages.len(); // whose contract says that the cache is whole
+    let (frame, held) = pages.get_or_insert_mut(page, || None);
+    let last = *held;
+    *held = Some(page);
+    (frame, last)
+}
+
+/// Returns true if the page is in this frame, and records a hit then. Any number will do for the
+/// frame. Hashes nothing, so whoever kept the frame asks for it here first.
+pub fn is_in<S: BuildHasher>(
+    pages: &mut Cache<usize, Option<usize>, S>,
+    frame: usize,
+    page: usize,
+) -> bool
+    ensures resident { IsTrue result ↔ (resident_frame pages.old.machine page ≡ Some frame) }
+    ensures machine { pages.new.machine ≡ hit_at frame (eqb page) pages.old.machine }
+    ensures stay { (other : ℕ) → resident_frame pages.new.machine other ≡ resident_frame pages.old.machine other }
+    ensures values { pages.new.machine.values ≡ pages.old.machine.values }
+    ensures shares { pages.new.machine.shares ≡ pages.old.machine.shares }
+{
+    let _ = pages.len();
+    pages.get_at(frame, &page).is_some()
+}
+
+/// Returns the frame of a page that is in memory, and records a hit. Returns `None` and changes
+/// nothing if it isn't.
+pub fn find<S: BuildHasher>(
+    pages: &mut Cache<usize, Option<usize>, S>,
+    page: usize,
+) -> Option<usize>
+    ensures frame { result ≡ resident_frame pages.old.machine page }
+    ensures machine { pages.new.machine ≡ hit (eqb page) pages.old.machine }
+{
+    pages.slot(&page)
+}
