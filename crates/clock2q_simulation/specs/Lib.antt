@@ -1,6 +1,4 @@
-pub mod Policies
-pub mod Stamps
-pub mod Residents
+pub mod MachineHits
 pub mod SimulationError
 pub mod Trace
 pub mod Rows

@@ -1,13 +1,18 @@
 -- What comes of a trace in a new cache of each policy.
-use Rattle.std.specs.Prelude.{◌≡◌, ℕ, List, length}
-use Rattle.std.specs.NonZero.{non_zero_usize_get}
-use Rattle.clock2q_simulation.specs.declared.plain.Policy.TheVariants.{LeastRecentlyUsed, FirstInFirstOut}
-use Rattle.clock2q_simulation.specs.declared.row.Row.{Row}
-use Rattle.clock2q_simulation.specs.Policies.{machine_hits, plain_hits}
+use Rattle.std.specs.Prelude.{◌≡◌, ℕ, List}
+use Rattle.clock2q_policies.specs.declared.plain.PlainPolicy.TheVariants as plain
+use Rattle.clock2q_policies.specs.Policies.{plain_hits}
+use Rattle.clock2q_simulation.specs.declared.policy.Policy.{Policy}
+use Rattle.clock2q_simulation.specs.declared.policy.Policy.TheVariants.{Clock2Q, Sieve, S3Fifo, LeastRecentlyUsed, Optimal, FirstInFirstOut, Clock, Arc}
+use Rattle.clock2q_simulation.specs.MachineHits.{machine_hits}
 
-pub record IsReplayed (numbers : List ℕ) (room : ℕ) (row : Row) : Type 0 where
-  pub capacity : non_zero_usize_get row.capacity ≡ room
-  pub accesses : row.accesses ≡ length numbers
-  pub clock2q : row.clock2q ≡ machine_hits room numbers
-  pub least_recent : row.least_recent ≡ plain_hits LeastRecentlyUsed room numbers
-  pub first_in : row.first_in ≡ plain_hits FirstInFirstOut room numbers
+-- hits are those of the policy's definition; a policy that has none is only tested
+abbrev pub AreHits : Policy → List ℕ → ℕ → ℕ → Type 0
+AreHits Clock2Q numbers room hits = hits ≡ machine_hits room numbers
+AreHits LeastRecentlyUsed numbers room hits = hits ≡ plain_hits plain.LeastRecentlyUsed room numbers
+AreHits FirstInFirstOut numbers room hits = hits ≡ plain_hits plain.FirstInFirstOut room numbers
+AreHits Sieve numbers room hits = Unit {0}
+AreHits S3Fifo numbers room hits = Unit {0}
+AreHits Optimal numbers room hits = Unit {0}
+AreHits Clock numbers room hits = Unit {0}
+AreHits Arc numbers room hits = Unit {0}

@@ -1,7 +1,7 @@
 //! Clock2Q+ on a trace.
 ghost use Rattle.std.specs.Prelude.{◌≡◌, ◌≢◌, ◌<◌, ◌↔◌, Err, IfOk, IsErrOf};
 ghost use Rattle.std.specs.NonZero.{non_zero_usize_get};
-ghost use Rattle.clock2q_simulation.specs.Policies.{machine_hits};
+ghost use Rattle.clock2q_simulation.specs.MachineHits.{machine_hits};
 
 use clock2q_cache::{Cache, CacheError, MAX_CAPACITY};
 use std::alloc::Global;
@@ -22,7 +22,7 @@ use std::num::NonZeroUsize;
 pub fn clock2q_hits(
     alloc: Global,
     capacity: NonZeroUsize,
-    trace: &[usize],
+    trace: &[u32],
 ) -> Result<usize, CacheError>
     ensures hits { IfOk result (λ hits. hits ≡ machine_hits (non_zero_usize_get capacity) trace.now) }
     ensures capacity { IsErrOf result CacheError.Capacity ↔ (MAX_CAPACITY < non_zero_usize_get capacity) }

@@ -17,8 +17,8 @@ use thiserror::Error;
 #[derive(Debug, Clone, Copy, PartialEq, Eq, Error)]
 pub enum SimulationError {
     /// An argument is neither an option nor a number from 1 on, there is no capacity, or there are
-    /// two forms of output.
-    #[error("usage: clock2q-simulate [--csv | --svg] CAPACITY.. < trace")]
+    /// two forms of output or two lists of policies, or a policy is unknown.
+    #[error("usage: clock2q-simulate [--csv | --svg] [--policies NAMES] CAPACITY.. < trace (--help tells more)")]
     Usage,
     /// A capacity is above [`MAX_CAPACITY`](clock2q_cache::MAX_CAPACITY).
     #[error("capacity refused")]

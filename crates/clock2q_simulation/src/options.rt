@@ -4,6 +4,7 @@ ghost use Rattle.std.specs.NonZero.{non_zero_usize_get};
 ghost use Rattle.std.specs.Prelude.{◌<◌, ◌≤◌, IfOk, length};
 
 use crate::error::SimulationError;
+use crate::policy::Policy;
 use clock2q_cache::MAX_CAPACITY;
 use std::alloc::{AllocError, Global};
 use std::num::NonZeroUsize;
@@ -41,13 +42,45 @@ pub struct Options {
     pub format: Format,
     /// The capacities to simulate, in their order.
     pub capacities: Vec<NonZeroUsize>,
+    /// The policies to compare, in their order.
+    pub policies: Vec<Policy>,
 }
 
-/// Reads arguments: capacities, and at most one option that asks for a form.
+/// What the program says of itself.
+pub const HELP: &str = "\
+usage: ./clock2q-simulate [--csv | --svg] [--policies NAMES] CAPACITY.. < TRACE
+
+Replays a trace in a cache of each capacity, and tells which part of its
+accesses hit with Clock2Q+ and with other policies.
+
+A trace is a list of accesses, a key a line, in the order in which they were
+made: the names of the files, blocks or pages that were asked for. A key is a
+line of any bytes. A capacity is how many keys a cache holds, from 1 to
+16777215; several of them give a row each.
+
+    printf 'a\\nb\\na\\nc\\nb\\nd\\na\\nb\\n' | ./clock2q-simulate 2 3
+    ./clock2q-simulate --svg --policies clock2q,lru,opt 9 50 <trace >hits.svg
+
+  --csv             prints the rows with commas
+  --svg             prints a picture of the hit ratio over the capacity
+  --policies NAMES  compares these, with commas between them: clock2q, sieve,
+                    s3fifo, lru, opt, fifo, clock and arc; without it the first
+                    five. opt is the most that a policy hits that keeps each key
+                    that it misses
+  -h, --help        prints this text
+
+Status: 0; 2 where an argument is wrong; 3 where a capacity is too large or
+memory ran out; 4 where reading or writing failed. The first start proves and
+builds the program, which takes minutes.
+";
+
+/// Reads arguments: capacities, at most one option that asks for a form, and `--policies` at most
+/// once, with the names of policies after it.
 ///
 /// # Errors
 ///
-/// `Usage` where an argument is neither, where there is no capacity, or more than one option;
+/// `Usage` where an argument is neither, where there is no capacity, or where an option is
+/// repeated or contradicts another one, or names no policy;
 /// `Capacity` where a capacity is above `MAX_CAPACITY`; `Memory` where the list of capacities can't
 /// be had. The arguments are read in order, and the first bad one ends the call with its error.
 ///
@@ -59,8 +92,22 @@ pub fn parse_options(alloc: Global, arguments: &[String]) -> Result<Options, Sim
     ensures within { IfOk result (λ options. All (λ capacity. non_zero_usize_get capacity ≤ MAX_CAPACITY) options.capacities.items) }
 {
     let mut format = None;
+    let mut policies = None;
+    let mut is_list = false;
     let mut capacities = Vec::new(alloc);
     for argument in arguments {
+        if is_list {
+            policies = Some(policies_of(alloc, argument.as_str())?);
+            is_list = false;
+            continue;
+        }
+        if argument.as_str() == "--policies" {
+            if policies.is_some() {
+                return Err(SimulationError::Usage);
+            }
+            is_list = true;
+            continue;
+        }
         match format_of(argument.as_str()) {
             Some(_) if format.is_some() => return Err(SimulationError::Usage),
             Some(asked) => format = Some(asked),
@@ -69,13 +116,31 @@ pub fn parse_options(alloc: Global, arguments: &[String]) -> Result<Options, Sim
                 .map_err(AllocError::from)?,
         }
     }
-    if capacities.is_empty() {
+    if is_list || capacities.is_empty() {
         return Err(SimulationError::Usage);
     }
     Ok(Options {
         format: format.unwrap_or(Format::Table),
         capacities,
+        policies: match policies {
+            Some(policies) => policies,
+            None => Vec::from_slice(alloc, &Policy::SHOWN)?,
+        },
     })
+}
+
+// Returns the policies that names with commas between them choose.
+fn policies_of(alloc: Global, names: &str) -> Result<Vec<Policy>, SimulationError> {
+    let mut policies: Vec<Policy> = Vec::new(alloc);
+    for name in names.split(',') {
+        match Policy::named(name) {
+            Some(policy) if !policies.contains(&policy) => {
+                policies.push(policy).map_err(AllocError::from)?;
+            }
+            _ => return Err(SimulationError::Usage),
+        }
+    }
+    Ok(policies)
 }
 
 // Returns the form that an option asks for.

@@ -2,9 +2,11 @@
 ghost use Rattle.std.specs.Prelude.{◌<◌};
 
 use crate::axis::Axis;
+use crate::policy::Policy;
 use crate::row::Row;
 use std::alloc::{AllocError, Global};
 use std::fmt::Write;
+use std::num::nearest_usize_to_f64;
 
 // The frame of the curves, in the units of the picture.
 const LEFT: f64 = 80.0;
@@ -20,84 +22,50 @@ const HEAD: &str =
 <rect width=\"720\" height=\"480\" fill=\"white\"/>
 ";
 
-// The curve of a policy.
-#[derive(Clone, Copy)]
-enum Curve {
-    Clock2Q,
-    LeastRecent,
-    FirstIn,
+// How the curve of a policy is drawn. The colours are told apart by people with colour blindness.
+#[derive(Drop)]
+struct Pen {
+    colour: &'static str,
+    // The lengths of the dashes and of the gaps between them.
+    dashes: &'static str,
+    // The radius of the ring round each point. They differ, so that each is seen where curves meet.
+    radius: u32,
 }
 
-impl Curve {
-    const ALL: [Curve; 3] = [Curve::Clock2Q, Curve::LeastRecent, Curve::FirstIn];
-
-    fn hits(self, row: &Row) -> usize {
-        match self {
-            Curve::Clock2Q => row.clock2q,
-            Curve::LeastRecent => row.least_recent,
-            Curve::FirstIn => row.first_in,
-        }
-    }
-
-    fn name(self) -> &'static str {
-        match self {
-            Curve::Clock2Q => "Clock2Q+",
-            Curve::LeastRecent => "least recently used",
-            Curve::FirstIn => "first in, first out",
-        }
-    }
-
-    fn colour(self) -> &'static str {
-        match self {
-            Curve::Clock2Q => "#0b5cad",
-            Curve::LeastRecent => "#c8500a",
-            Curve::FirstIn => "#2a7d2e",
-        }
-    }
-
-    // Returns the lengths of the dashes and of the gaps between them.
-    fn dashes(self) -> &'static str {
-        match self {
-            Curve::Clock2Q => "none",
-            Curve::LeastRecent => "9 5",
-            Curve::FirstIn => "2 4",
-        }
-    }
-
-    // Returns the radius of the ring round each point. They differ, so that each is seen where
-    // curves meet.
-    fn radius(self) -> u32 {
-        match self {
-            Curve::Clock2Q => 2,
-            Curve::LeastRecent => 4,
-            Curve::FirstIn => 6,
-        }
-    }
-
-    // Returns where its line in the legend begins.
-    fn legend(self) -> u32 {
-        match self {
-            Curve::Clock2Q => 80,
-            Curve::LeastRecent => 240,
-            Curve::FirstIn => 460,
-        }
+fn pen_of(policy: Policy) -> Pen {
+    let (colour, dashes, radius) = match policy {
+        Policy::Clock2Q => ("#0072b2", "none", 2),
+        Policy::Sieve => ("#d55e00", "9 3", 4),
+        Policy::S3Fifo => ("#009e73", "2 4", 5),
+        Policy::LeastRecentlyUsed => ("#cc79a7", "14 4 2 4", 3),
+        Policy::Optimal => ("#000000", "5 5", 1),
+        Policy::FirstInFirstOut => ("#e69f00", "4 2", 6),
+        Policy::Clock => ("#56b4e9", "9 3 2 3", 4),
+        Policy::Arc => ("#7a5c00", "14 4", 5),
+    };
+    Pen {
+        colour,
+        dashes,
+        radius,
     }
 }
 
-// Where capacities and ratios stand. The vertical axis ends at `top` percent.
+// Where capacities and ratios stand. The vertical axis goes from `floor` to `top` percent.
 #[derive(Drop)]
 struct Frame {
     axis: Axis,
+    floor: u32,
     top: u32,
 }
 
 impl Frame {
-    // Returns a frame with room for rows in the order of their capacities.
+    // Returns a frame with room for rows.
     fn new(rows: &[Row]) -> Frame {
-        let low = rows.first().map_or(1, |row| row.capacity.get());
-        let high = rows.last().map_or(1, |row| row.capacity.get());
+        let low = rows.iter().map(|row| row.capacity.get()).min().unwrap_or(1);
+        let high = rows.iter().map(|row| row.capacity.get()).max().unwrap_or(1);
         Frame {
             axis: Axis::new(low, high),
+            floor: floor_of(rows),
             top: top_of(rows),
         }
     }
@@ -107,14 +75,15 @@ impl Frame {
     }
 
     fn y(&self, percent: f64) -> f64 {
-        BOTTOM - percent / f64::from(self.top) * (BOTTOM - TOP)
+        let floor = f64::from(self.floor);
+        BOTTOM - (percent - floor) / (f64::from(self.top) - floor) * (BOTTOM - TOP)
     }
 
     // Returns how many percent there are from one line across the picture to the next.
     fn step(&self) -> usize
         ensures positive { 0 < result }
     {
-        match self.top {
+        match self.top.saturating_sub(self.floor) {
             0..=20 => 2,
             21..=50 => 5,
             _ => 10,
@@ -126,9 +95,8 @@ impl Frame {
 fn top_of(rows: &[Row]) -> u32 {
     let mut most = 0.0;
     for row in rows {
-        let hits = row.clock2q.max(row.least_recent).max(row.first_in);
-        if row.ratio(hits) > most {
-            most = row.ratio(hits);
+        for hits in row.hits.iter() {
+            most = row.ratio(hits.hits).max(most);
         }
     }
     for top in [10u8, 20, 30, 40, 50, 60, 70, 80, 90] {
@@ -139,22 +107,43 @@ fn top_of(rows: &[Row]) -> u32 {
     100
 }
 
-/// Returns the hit ratio of each policy over the capacities, as an SVG text.
-pub(crate) fn picture(alloc: Global, rows: &[Row]) -> Result<String, AllocError> {
-    let mut sorted = Vec::with_capacity(alloc, rows.len())?;
+// Returns the lowest ratio of the rows in percent, rounded down to a multiple of ten, where all lie
+// above a half, and else 0.
+fn floor_of(rows: &[Row]) -> u32 {
+    let mut least = 1.0;
     for row in rows {
-        sorted.push(*row)?;
+        for hits in row.hits.iter() {
+            least = row.ratio(hits.hits).min(least);
+        }
     }
-    sorted.sort_unstable_by_key(|row| row.capacity.get());
-    let frame = Frame::new(&sorted);
+    for floor in [90u8, 80, 70, 60, 50] {
+        if least * 100.0 > f64::from(floor) {
+            return u32::from(floor);
+        }
+    }
+    0
+}
+
+/// Returns the hit ratio of each policy over the capacities, as an SVG text.
+pub(crate) fn picture(
+    alloc: Global,
+    policies: &[Policy],
+    rows: &[Row],
+) -> Result<String, AllocError> {
+    let mut order = Vec::with_capacity(alloc, rows.len())?;
+    for row in rows {
+        order.push(row)?;
+    }
+    order.sort_unstable_by_key(|row| row.capacity.get());
+    let frame = Frame::new(rows);
     let mut text = String::from_str(alloc, HEAD)?;
     write_title(&mut text, rows)?;
     write_ratios(&mut text, &frame)?;
     write_capacities(alloc, &mut text, &frame)?;
-    for curve in Curve::ALL {
-        write_curve(&mut text, &frame, &sorted, curve)?;
-        write_rings(&mut text, &frame, &sorted, curve)?;
-        write_legend(&mut text, curve)?;
+    for (place, policy) in policies.iter().enumerate() {
+        write_curve(&mut text, &frame, &order, *policy)?;
+        write_rings(&mut text, &frame, &order, *policy)?;
+        write_legend(&mut text, place, *policy)?;
     }
     text.push_str("</svg>\n")?;
     Ok(text)
@@ -171,12 +160,17 @@ fn write_title(text: &mut String, rows: &[Row]) -> Result<(), AllocError> {
 
 // Writes the vertical axis, with lines across the picture.
 fn write_ratios(text: &mut String, frame: &Frame) -> Result<(), AllocError> {
-    for percent in (0..=frame.top).step_by(frame.step()) {
+    for percent in (frame.floor..=frame.top).step_by(frame.step()) {
         write_ratio(text, frame.y(f64::from(percent)), percent)?;
     }
+    let mark = if frame.floor > 0 {
+        " (the axis doesn't begin at 0%)"
+    } else {
+        ""
+    };
     writeln!(
         text,
-        "<text transform=\"translate(24 247) rotate(-90)\" text-anchor=\"middle\">hit ratio</text>"
+        "<text transform=\"translate(24 247) rotate(-90)\" text-anchor=\"middle\">hit ratio{mark}</text>"
     )
 }
 
@@ -205,9 +199,10 @@ fn write_capacities(alloc: Global, text: &mut String, frame: &Frame) -> Result<(
             text,
             "<path d=\"M {x:.1} {BOTTOM:.0} v 6\" stroke=\"black\"/>"
         )?;
+        let (count, unit) = short(tick);
         writeln!(
             text,
-            "<text x=\"{x:.1}\" y=\"432\" text-anchor=\"middle\">{tick}</text>"
+            "<text x=\"{x:.1}\" y=\"432\" text-anchor=\"middle\">{count}{unit}</text>"
         )?;
     }
     let scale = if frame.axis.is_logarithmic {
@@ -221,19 +216,40 @@ fn write_capacities(alloc: Global, text: &mut String, frame: &Frame) -> Result<(
     )
 }
 
+// Returns a capacity in thousands or millions, where it is so many, and their letter.
+fn short(capacity: usize) -> (usize, &'static str) {
+    if capacity >= 1_000_000 && capacity % 1_000_000 == 0 {
+        (capacity / 1_000_000, "M")
+    } else if capacity >= 1_000 && capacity % 1_000 == 0 {
+        (capacity / 1_000, "k")
+    } else {
+        (capacity, "")
+    }
+}
+
+// Returns the hit ratio of a policy in percent.
+fn percent_of(row: &Row, policy: Policy) -> f64 {
+    for hits in row.hits.iter() {
+        if hits.policy == policy {
+            return row.ratio(hits.hits) * 100.0;
+        }
+    }
+    0.0
+}
+
 // Writes a curve through the points of its policy.
 fn write_curve(
     text: &mut String,
     frame: &Frame,
-    rows: &[Row],
-    curve: Curve,
+    rows: &[&Row],
+    policy: Policy,
 ) -> Result<(), AllocError> {
     write!(text, "<polyline fill=\"none\" ")?;
-    write_pen(text, curve)?;
+    write_pen(text, policy)?;
     write!(text, " points=\"")?;
     for row in rows {
         let x = frame.x(row.capacity.get());
-        let y = frame.y(row.ratio(curve.hits(row)) * 100.0);
+        let y = frame.y(percent_of(row, policy));
         write!(text, " {x:.1},{y:.1}")?;
     }
     writeln!(text, "\"/>")
@@ -243,20 +259,19 @@ fn write_curve(
 fn write_rings(
     text: &mut String,
     frame: &Frame,
-    rows: &[Row],
-    curve: Curve,
+    rows: &[&Row],
+    policy: Policy,
 ) -> Result<(), AllocError> {
     for row in rows {
         let x = frame.x(row.capacity.get());
-        let y = frame.y(row.ratio(curve.hits(row)) * 100.0);
-        write_ring(text, x, y, curve)?;
+        write_ring(text, x, frame.y(percent_of(row, policy)), policy)?;
     }
     Ok(())
 }
 
-fn write_ring(text: &mut String, x: f64, y: f64, curve: Curve) -> Result<(), AllocError> {
-    let radius = curve.radius();
-    let colour = curve.colour();
+fn write_ring(text: &mut String, x: f64, y: f64, policy: Policy) -> Result<(), AllocError> {
+    let pen = pen_of(policy);
+    let (radius, colour) = (pen.radius, pen.colour);
     writeln!(
         text,
         "<circle cx=\"{x:.1}\" cy=\"{y:.1}\" r=\"{radius}\" fill=\"none\" stroke=\"{colour}\"/>"
@@ -264,23 +279,27 @@ fn write_ring(text: &mut String, x: f64, y: f64, curve: Curve) -> Result<(), All
 }
 
 // Writes how a curve's line is drawn.
-fn write_pen(text: &mut String, curve: Curve) -> Result<(), AllocError> {
-    let colour = curve.colour();
-    let dashes = curve.dashes();
+fn write_pen(text: &mut String, policy: Policy) -> Result<(), AllocError> {
+    let pen = pen_of(policy);
+    let (colour, dashes) = (pen.colour, pen.dashes);
     write!(
         text,
         "stroke=\"{colour}\" stroke-width=\"2\" stroke-dasharray=\"{dashes}\""
     )
 }
 
-// Writes a curve's name beside a piece of its line with a ring.
-fn write_legend(text: &mut String, curve: Curve) -> Result<(), AllocError> {
-    let left = curve.legend();
-    let name = curve.name();
-    write!(text, "<path d=\"M {left} 58 h 40\" ")?;
-    write_pen(text, curve)?;
+// Writes a curve's name beside a piece of its line with a ring: four in a line, and two lines.
+fn write_legend(text: &mut String, place: usize, policy: Policy) -> Result<(), AllocError> {
+    let left = LEFT + nearest_usize_to_f64(place % 4) * 150.0;
+    let middle = if place < 4 { 50.0 } else { 70.0 };
+    let name = policy.heading();
+    write!(text, "<path d=\"M {left:.0} {middle:.0} h 40\" ")?;
+    write_pen(text, policy)?;
     writeln!(text, "/>")?;
-    write_ring(text, f64::from(left) + 20.0, 58.0, curve)?;
-    let start = f64::from(left) + 48.0;
-    writeln!(text, "<text x=\"{start:.0}\" y=\"62.5\">{name}</text>")
+    write_ring(text, left + 20.0, middle, policy)?;
+    let (start, baseline) = (left + 48.0, middle + 4.5);
+    writeln!(
+        text,
+        "<text x=\"{start:.0}\" y=\"{baseline:.1}\">{name}</text>"
+    )
 }

@@ -1,14 +1,30 @@
 //! What comes of one capacity.
-ghost use Rattle.std.specs.Prelude.{IfOk};
+ghost use Rattle.std.specs.Prelude.{◌≡◌, IfOk, length, map};
+ghost use Rattle.std.specs.List.{All};
 ghost use Rattle.std.specs.NonZero.{non_zero_usize_get};
-ghost use Rattle.clock2q_simulation.specs.Rows.{IsReplayed};
+ghost use Rattle.clock2q_simulation.specs.Rows.{AreHits};
 
-use crate::clock::clock2q_hits;
 use crate::error::SimulationError;
-use crate::plain::{Policy, plain_hits};
+use crate::policy::{Policy, policy_hits};
 use crate::trace::Trace;
-use std::alloc::Global;
+use std::alloc::{AllocError, Global};
 use std::num::{NonZeroUsize, nearest_usize_to_f64};
+
+/// How many accesses hit with a policy.
+///
+/// # Example
+///
+/// ```
+/// let row = replay(rt.alloc(), two, &[Policy::FirstInFirstOut], &trace)?;
+/// assert_eq!(rt; row.hits[0].hits, 2);
+/// ```
+#[derive(Clone, Copy, Debug, PartialEq, Eq)]
+pub struct Hits {
+    /// The policy.
+    pub policy: Policy,
+    /// How many keys of the trace were resident as they came.
+    pub hits: usize,
+}
 
 /// The hits of a trace in a cache of each policy.
 ///
@@ -17,22 +33,17 @@ use std::num::{NonZeroUsize, nearest_usize_to_f64};
 /// ```
 /// let input = b"a\nb\na\nc\nb\nd\na\nb\n".as_slice();
 /// let trace = read_trace(rt.alloc(), input, &mut progress)?;
-/// let row = replay(rt.alloc(), two, &trace)?; // in caches for two keys
-/// assert_eq!(rt; (row.clock2q, row.least_recent, row.first_in), (3, 1, 2));
-/// assert_eq!(rt; row.ratio(row.first_in), 0.25);
+/// let row = replay(rt.alloc(), two, &[Policy::FirstInFirstOut], &trace)?; // in a cache for two keys
+/// assert_eq!(rt; row.ratio(row.hits[0].hits), 0.25);
 /// ```
-#[derive(Clone, Copy, Debug, PartialEq, Eq)]
+#[derive(Debug, Drop)]
 pub struct Row {
     /// How many keys each cache can hold.
     pub capacity: NonZeroUsize,
     /// How many keys the trace has.
     pub accesses: usize,
-    /// How many of them were hits in Clock2Q+.
-    pub clock2q: usize,
-    /// How many were hits in a cache that evicts the least recently used key.
-    pub least_recent: usize,
-    /// How many were hits in a cache that evicts the key that came first.
-    pub first_in: usize,
+    /// The hits with each policy.
+    pub hits: Vec<Hits>,
 }
 
 impl Row {
@@ -45,31 +56,47 @@ impl Row {
     }
 }
 
-/// Replays a trace in a new cache of each policy.
+/// Replays a trace in a new cache of each policy, in the order of the policies.
 ///
 /// # Errors
 ///
-/// `Capacity` where the capacity is above `MAX_CAPACITY`, and `Memory` where a request for memory
-/// is refused.
+/// Those of [`policy_hits`]; `Memory` also where there is no memory for the row.
 ///
 /// # Cost
 ///
-/// That of [`clock2q_hits`](crate::clock2q_hits), and twice that of
-/// [`plain_hits`](crate::plain_hits). The memory of each cache is given back before the next one is
-/// made.
-pub fn replay(alloc: Global, capacity: NonZeroUsize, trace: &Trace) -> Result<Row, SimulationError>
-    ensures row { IfOk result (IsReplayed trace.now.numbers (non_zero_usize_get capacity)) }
+/// That of [`policy_hits`] for each policy.
+pub fn replay(
+    alloc: Global,
+    capacity: NonZeroUsize,
+    policies: &[Policy],
+    trace: &Trace,
+) -> Result<Row, SimulationError>
+    ensures capacity { IfOk result (λ row. non_zero_usize_get row.capacity ≡ non_zero_usize_get capacity) }
+    ensures accesses { IfOk result (λ row. row.accesses ≡ length trace.now.numbers) }
+    ensures policies { IfOk result (λ row. map (λ h. h.policy) row.hits.items ≡ policies.now) }
+    ensures hits { IfOk result (λ row. All (λ h. AreHits h.policy trace.now.numbers (non_zero_usize_get capacity) h.hits) row.hits.items) }
 {
-    let numbers = trace.numbers();
-    let keys = trace.key_count();
-    let clock2q = clock2q_hits(alloc, capacity, numbers)?;
-    let least_recent = plain_hits(alloc, Policy::LeastRecentlyUsed, capacity, numbers, keys)?;
-    let first_in = plain_hits(alloc, Policy::FirstInFirstOut, capacity, numbers, keys)?;
+    let mut hits = Vec::new(alloc);
+    for policy in policies {
+        hits.push(hits_in(alloc, *policy, capacity, trace)?)
+            .map_err(AllocError::from)?;
+    }
     Ok(Row {
         capacity,
-        accesses: numbers.len(),
-        clock2q,
-        least_recent,
-        first_in,
+        accesses: trace.numbers().len(),
+        hits,
     })
+}
+
+fn hits_in(
+    alloc: Global,
+    policy: Policy,
+    capacity: NonZeroUsize,
+    trace: &Trace,
+) -> Result<Hits, SimulationError>
+    ensures policy { IfOk result (λ h. h.policy ≡ policy) }
+    ensures hits { IfOk result (λ h. AreHits h.policy trace.now.numbers (non_zero_usize_get capacity) h.hits) }
+{
+    let hits = policy_hits(alloc, policy, capacity, trace)?;
+    Ok(Hits { policy, hits })
 }

@@ -9,7 +9,6 @@ use crate::texts::{csv_text, table_text};
 use crate::trace::{Trace, read_trace};
 use std::alloc::{AllocError, Global};
 use std::io::{BufRead, Write};
-use std::num::NonZeroUsize;
 
 /// Reads a trace, replays it in caches of each capacity, and writes the result.
 ///
@@ -31,8 +30,8 @@ pub fn simulate<R: BufRead + Drop, W: Write, P: Write>(
     progress: &mut Progress<P>,
 ) -> Result<(), SimulationError> {
     let trace = read_trace(alloc, reader, progress)?;
-    let rows = rows_of(alloc, &trace, &options.capacities, progress)?;
-    let text = text_of(alloc, options.format, &rows)?;
+    let rows = rows_of(alloc, &trace, options, progress)?;
+    let text = text_of(alloc, options, &rows)?;
     match writer.write_all(text.as_bytes()) {
         Ok(()) => {}
         Err(_) => return Err(SimulationError::Write),
@@ -44,23 +43,24 @@ pub fn simulate<R: BufRead + Drop, W: Write, P: Write>(
 fn rows_of<P: Write>(
     alloc: Global,
     trace: &Trace,
-    capacities: &[NonZeroUsize],
+    options: &Options,
     progress: &mut Progress<P>,
 ) -> Result<Vec<Row>, SimulationError> {
     let mut rows = Vec::new(alloc);
-    for capacity in capacities {
+    for capacity in options.capacities.iter() {
         progress.replay(trace.numbers().len(), capacity.get());
-        rows.push(replay(alloc, *capacity, trace)?)
+        rows.push(replay(alloc, *capacity, &options.policies, trace)?)
             .map_err(AllocError::from)?;
     }
     Ok(rows)
 }
 
 // Returns the rows in the form that is asked for.
-fn text_of(alloc: Global, format: Format, rows: &[Row]) -> Result<String, AllocError> {
-    match format {
-        Format::Table => table_text(alloc, rows),
-        Format::Csv => csv_text(alloc, rows),
-        Format::Svg => picture(alloc, rows),
+fn text_of(alloc: Global, options: &Options, rows: &[Row]) -> Result<String, AllocError> {
+    let policies = options.policies.as_slice();
+    match options.format {
+        Format::Table => table_text(alloc, policies, rows),
+        Format::Csv => csv_text(alloc, policies, rows),
+        Format::Svg => picture(alloc, policies, rows),
     }
 }

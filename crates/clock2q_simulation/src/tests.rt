@@ -1,6 +1,6 @@
 //! Tests over the whole library, with values worked out by hand.
 use crate::{
-    Format, Options, Progress, Row, SimulationError, Trace, parse_options, read_trace, replay,
+    Format, Options, Policy, Progress, SimulationError, Trace, parse_options, read_trace, replay,
     simulate,
 };
 use clock2q_cache::MAX_CAPACITY;
@@ -16,7 +16,7 @@ fn trace_of(alloc: Global, input: &[u8]) -> Result<Trace, SimulationError> {
 
 #[test]
 fn keys_have_numbers(rt: HostRuntime) -> Result<(), Fail> {
-    let cases: [(&[u8], &[usize]); 8] = [
+    let cases: [(&[u8], &[u32]); 8] = [
         (b"", &[]),
         (b"a", &[0]),
         (b"a\n", &[0]),
@@ -49,22 +49,23 @@ fn long_keys_differ_in_their_last_byte(rt: HostRuntime) -> Result<(), Fail> {
 #[test]
 fn hits_of_each_policy(rt: HostRuntime) -> Result<(), Fail> {
     let trace = trace_of(rt.alloc(), b"a\nb\na\nc\nb\nd\na\nb\n")?;
-    for (capacity, clock2q, least_recent, first_in) in [
-        (1, 0, 0, 0),
-        (2, 3, 1, 2),
-        (3, 3, 3, 2),
-        (4, 4, 4, 4),
+    let policies = [
+        Policy::Clock2Q,
+        Policy::LeastRecentlyUsed,
+        Policy::FirstInFirstOut,
+    ];
+    for (capacity, wanted) in [
+        (1, [0, 0, 0]),
+        (2, [3, 1, 2]),
+        (3, [3, 3, 2]),
+        (4, [4, 4, 4]),
     ] {
         let capacity = NonZeroUsize::new(capacity).ok_or("not zero")?;
-        let row = replay(rt.alloc(), capacity, &trace)?;
-        let wanted = Row {
-            capacity,
-            accesses: 8,
-            clock2q,
-            least_recent,
-            first_in,
-        };
-        assert_eq!(rt; row, wanted);
+        let row = replay(rt.alloc(), capacity, &policies, &trace)?;
+        assert_eq!(rt; row.capacity, capacity);
+        assert_eq!(rt; row.accesses, 8);
+        let hits: Vec<usize> = row.hits.iter().map(|hits| hits.hits).collect(rt.alloc())?;
+        assert_eq!(rt; hits.as_slice(), wanted.as_slice());
     }
     Ok(())
 }
@@ -78,7 +79,11 @@ fn arguments(rt: HostRuntime) -> Result<(), Fail> {
         ("5 x", SimulationError::Usage),
         ("--csv", SimulationError::Usage),
         ("--csv --svg 5", SimulationError::Usage),
-        ("--help", SimulationError::Usage),
+        ("--helpless 5", SimulationError::Usage),
+        ("5 --policies", SimulationError::Usage),
+        ("5 --policies lru,second", SimulationError::Usage),
+        ("5 --policies lru,lru", SimulationError::Usage),
+        ("5 --policies lru --policies opt", SimulationError::Usage),
         ("5 16777216", SimulationError::Capacity),
         ("99999999999999999999999", SimulationError::Capacity),
     ];
@@ -119,8 +124,9 @@ fn written(alloc: Global, line: &str, input: &[u8]) -> Result<Vec<u8>, Simulatio
 
 #[test]
 fn texts(rt: HostRuntime) -> Result<(), Fail> {
-    let table = " capacity     accesses     Clock2Q+  ratio          LRU  ratio         FIFO  ratio
-        1            0            0 0.0000            0 0.0000            0 0.0000
+    let table = "0 accesses, hits in percent
+capacity Clock2Q+    SIEVE  S3-FIFO      LRU      OPT
+       1     0.00     0.00     0.00     0.00     0.00
 ";
     assert_eq!(rt; written(rt.alloc(), "1", b"")?.as_slice(), table.as_bytes());
     let lines = "\
@@ -129,7 +135,12 @@ capacity,accesses,clock2q_hits,clock2q_ratio,lru_hits,lru_ratio,fifo_hits,fifo_r
 1,8,0,0.0000,0,0.0000,0,0.0000
 ";
     assert_eq!(rt;
-        written(rt.alloc(), "3 1 --csv", b"a\nb\na\nc\nb\nd\na\nb\n")?.as_slice(),
+        written(
+            rt.alloc(),
+            "3 1 --csv --policies clock2q,lru,fifo",
+            b"a\nb\na\nc\nb\nd\na\nb\n"
+        )?
+        .as_slice(),
         lines.as_bytes()
     );
     Ok(())

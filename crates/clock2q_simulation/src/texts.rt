@@ -1,24 +1,27 @@
 //! The rows of a simulation as a table or as lines with commas.
 
+use crate::policy::Policy;
 use crate::row::Row;
 use std::alloc::{AllocError, Global};
 use std::fmt::Write;
 
-/// Returns the rows in columns, below a line of headings.
-pub fn table_text(alloc: Global, rows: &[Row]) -> Result<String, AllocError> {
+/// Returns the hit ratios in columns, in percent, below the number of accesses and a line of
+/// headings.
+pub fn table_text(alloc: Global, policies: &[Policy], rows: &[Row]) -> Result<String, AllocError> {
     let mut text = String::new(alloc);
-    write!(text, "{:>9} {:>12}", "capacity", "accesses")?;
-    writeln!(
-        text,
-        " {:>12}  ratio {:>12}  ratio {:>12}  ratio",
-        "Clock2Q+", "LRU", "FIFO"
-    )?;
+    let accesses = rows.first().map_or(0, |row| row.accesses);
+    writeln!(text, "{accesses} accesses, hits in percent")?;
+    write!(text, "capacity")?;
+    for policy in policies {
+        write!(text, "{:>9}", policy.heading())?;
+    }
+    text.push('\n')?;
     for row in rows {
         let capacity = row.capacity.get();
-        write!(text, "{capacity:>9} {:>12}", row.accesses)?;
-        for hits in [row.clock2q, row.least_recent, row.first_in] {
-            let ratio = row.ratio(hits);
-            write!(text, " {hits:>12} {ratio:>6.4}")?;
+        write!(text, "{capacity:>8}")?;
+        for hits in row.hits.iter() {
+            let percent = row.ratio(hits.hits) * 100.0;
+            write!(text, "{percent:>9.2}")?;
         }
         text.push('\n')?;
     }
@@ -26,17 +29,19 @@ pub fn table_text(alloc: Global, rows: &[Row]) -> Result<String, AllocError> {
 }
 
 /// Returns the rows with commas, below a line of names.
-pub fn csv_text(alloc: Global, rows: &[Row]) -> Result<String, AllocError> {
-    let mut text = String::from_str(
-        alloc,
-        "capacity,accesses,clock2q_hits,clock2q_ratio,lru_hits,lru_ratio,fifo_hits,fifo_ratio\n",
-    )?;
+pub fn csv_text(alloc: Global, policies: &[Policy], rows: &[Row]) -> Result<String, AllocError> {
+    let mut text = String::from_str(alloc, "capacity,accesses")?;
+    for policy in policies {
+        let name = policy.name();
+        write!(text, ",{name}_hits,{name}_ratio")?;
+    }
+    text.push('\n')?;
     for row in rows {
         let capacity = row.capacity.get();
         write!(text, "{capacity},{}", row.accesses)?;
-        for hits in [row.clock2q, row.least_recent, row.first_in] {
-            let ratio = row.ratio(hits);
-            write!(text, ",{hits},{ratio:.4}")?;
+        for hits in row.hits.iter() {
+            let ratio = row.ratio(hits.hits);
+            write!(text, ",{},{ratio:.4}", hits.hits)?;
         }
         text.push('\n')?;
     }

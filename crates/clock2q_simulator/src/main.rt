@@ -1,9 +1,9 @@
 //! Replays a trace on standard input in caches of the capacities that the arguments name.
 #![tactic(auto)]
 
-use clock2q_simulation::{Progress, SimulationError, parse_options, simulate};
+use clock2q_simulation::{HELP, Progress, SimulationError, parse_options, simulate};
 use std::env;
-use std::io::{BufReader, IsTerminal};
+use std::io::{BufReader, IsTerminal, Write};
 use std::process::ExitCode;
 
 /// On a refusal one line on standard error says which, and so does the status.
@@ -20,6 +20,10 @@ fn main(rt: HostRuntime) -> ExitCode {
 fn run(rt: &HostRuntime) -> Result<(), SimulationError> {
     let arguments = env::args(rt).map_err(|_| SimulationError::Usage)?;
     let arguments: Vec<String> = arguments.skip(1).collect(rt.alloc())?;
+    if arguments.iter().any(|argument| is_help(argument.as_str())) {
+        let written = rt.stdout().write_all(HELP.as_bytes());
+        return written.map_err(|_| SimulationError::Write);
+    }
     let options = parse_options(rt.alloc(), &arguments)?;
     let reader = BufReader::new(rt.alloc(), rt.stdin()).map_err(|_| SimulationError::Memory)?;
     let mut progress = Progress::new(rt.stderr(), rt.stderr().is_terminal());
@@ -30,4 +34,8 @@ fn run(rt: &HostRuntime) -> Result<(), SimulationError> {
         &mut rt.stdout(),
         &mut progress,
     )
+}
+
+fn is_help(argument: &str) -> bool {
+    argument == "-h" || argument == "--help"
 }

@@ -1,7 +1,7 @@
 use Rattle.std.proofs.Common.{◌≡◌, ◌+◌, cond, sym, ap, ◌∙◌, arith, get_or}
 use Rattle.std.specs.Option.{is_some}
-use Rattle.clock2q_simulation.specs.Policies.{machine_holds, machine_after}
-use Rattle.clock2q_simulation.proofs.Counting.{counted}
+use Rattle.clock2q_simulation.specs.MachineHits.{machine_holds, machine_after}
+use Rattle.clock2q_policies.proofs.Counting.{counted}
 use Rattle.clock2q_simulation.proofs.clock.clock2q_hits.Goals.{then-is_some, else-is_some}
 use Rattle.clock2q_simulation.proofs.clock.clock2q_hits.Goals as goal
 

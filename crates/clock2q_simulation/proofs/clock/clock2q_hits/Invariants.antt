@@ -1,7 +1,8 @@
 -- The hits so far and those to come are all hits.
 use Rattle.std.proofs.Common.{◌≡◌, ◌+◌, ◌≤◌, drop}
 use Rattle.std.specs.NonZero.{non_zero_usize_get}
-use Rattle.clock2q_simulation.specs.Policies.{hits, machine_holds, machine_after, machine_hits}
+use Rattle.clock2q_policies.specs.Policies.{hits}
+use Rattle.clock2q_simulation.specs.MachineHits.{machine_holds, machine_after, machine_hits}
 use Rattle.clock2q_simulation.proofs.clock.clock2q_hits.Given as goal
 
 abbrev pub invariant-loop-key : goal.invariant-loop-key

@@ -1,8 +1,8 @@
 use Rattle.std.proofs.Common.{◌≡◌, ◌<◌, refl, arith, subst, length, take, ◌-◌}
-use Rattle.clock2q_simulation.specs.Stamps.{held_at}
-use Rattle.clock2q_simulation.proofs.Holding.{came-room, came-full, holds-room, holds-full}
-use Rattle.clock2q_simulation.proofs.plain.Residents.bring.Goals.{then-self-get, else-self-get}
-use Rattle.clock2q_simulation.proofs.plain.Residents.bring.Goals as goal
+use Rattle.clock2q_policies.specs.Stamps.{held_at}
+use Rattle.clock2q_policies.proofs.Holding.{came-room, came-full, holds-room, holds-full}
+use Rattle.clock2q_policies.proofs.plain.Residents.bring.Goals.{then-self-get, else-self-get}
+use Rattle.clock2q_policies.proofs.plain.Residents.bring.Goals as goal
 
 pub returns-clause-held : goal.returns-clause-held
 returns-clause-held c = elim c.if-self-get.branch [

@@ -1,8 +1,8 @@
 -- The list that stamps tell: who is in it, and what a new stamp or a later beginning makes of it.
 use Rattle.std.proofs.Common.{◌≡◌, ◌≢◌, ◌⊎◌, ℕ, zero, suc, ◌-◌, ◌<◌, ◌≤◌, inl, inr, refl, sym, ap, ◌∙◌, subst, arith, Bool, true, false, cond, ◌||◌, ◌&&◌, eqb, ltb, List, [], ◌∷◌, ◌++◌, length, length-append, take, get_or, set, get_or-set_same, get_or-set_other}
 use Rattle.std.proofs.lemmas.Bool.{cases_Bool, cases_eq, cases_lt, eqb-true, eqb-false, ltb-true, ltb-false, eq-eqb, ne_eqb, lt-ltb, le-ltb, and_parts, and_from, and_left, and_right, and_cases, or_left, or_from, or_cases, or_parts, or_right, false_from_ne_true}
-use Rattle.clock2q_simulation.specs.Policies.{is_in, without, brought}
-use Rattle.clock2q_simulation.specs.Stamps.{is_newest, held_at, AreStamps}
+use Rattle.clock2q_policies.specs.Policies.{is_in, without, brought}
+use Rattle.clock2q_policies.specs.Stamps.{is_newest, held_at, AreStamps}
 
 -- a key that isn't in a list is not taken out of it
 pub without-absent : (key : ℕ) (held : List ℕ) → is_in key held ≡ false → without key held ≡ held

@@ -1,6 +1,6 @@
 use Rattle.std.proofs.Common.{◌≡◌, ◌≢◌, ◌<◌, ◌≤◌, suc, sym, ◌∙◌, arith, add-one, get_or}
-use Rattle.clock2q_simulation.proofs.Stamping.{held-stale, held-oldest, held-none, front-taken, none-taken}
-use Rattle.clock2q_simulation.proofs.plain.after_oldest.Goals as goal
+use Rattle.clock2q_policies.proofs.Stamping.{held-stale, held-oldest, held-none, front-taken, none-taken}
+use Rattle.clock2q_policies.proofs.plain.after_oldest.Goals as goal
 
 pub returns-then-stamps-trace-clause-front : goal.returns-then-stamps-trace-clause-front
 returns-then-stamps-trace-clause-front c =

@@ -1,11 +1,11 @@
 -- A key of a trace comes to a plain cache: what its stamps tell then.
 use Rattle.std.proofs.Common.{◌≡◌, ℕ, suc, ◌+◌, ◌-◌, ◌<◌, ◌≤◌, refl, sym, ap, ◌∙◌, subst, arith, add-one, Bool, true, false, ltb, List, ◌∷◌, length, length-set, length-take, take, get_or, set}
 use Rattle.std.proofs.lemmas.List.{get_or_default}
-use Rattle.clock2q_simulation.specs.declared.plain.Residents.{Residents}
-use Rattle.clock2q_simulation.specs.Policies.{is_in, without, brought}
-use Rattle.clock2q_simulation.specs.Stamps.{held_at, AreStamps, AreKnown}
-use Rattle.clock2q_simulation.specs.Residents.{held_by, IsHolding}
-use Rattle.clock2q_simulation.proofs.Stamping.{without-absent, absent-taken, once, stamped-front, unstamped, stamps-later, stamps-set, brought-room, brought-full, is_in-stamp}
+use Rattle.clock2q_policies.specs.declared.plain.Residents.{Residents}
+use Rattle.clock2q_policies.specs.Policies.{is_in, without, brought}
+use Rattle.clock2q_policies.specs.Stamps.{held_at, AreStamps, AreKnown}
+use Rattle.clock2q_policies.specs.Residents.{held_by, IsHolding}
+use Rattle.clock2q_policies.proofs.Stamping.{without-absent, absent-taken, once, stamped-front, unstamped, stamps-later, stamps-set, brought-room, brought-full, is_in-stamp}
 
 length-taken : (n : ℕ) (held : List ℕ) → n ≤ length held → length (take n held) ≡ n
 length-taken n held within = omega (arith, length-take n held)

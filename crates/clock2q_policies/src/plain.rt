@@ -1,9 +1,9 @@
 //! The plain policies that Clock2Q+ is compared with.
 ghost use Rattle.std.specs.Prelude.{◌≡◌, ◌+◌, ◌-◌, ◌<◌, ◌≤◌, IfOk, false, true, length, take, slice_index};
 ghost use Rattle.std.specs.NonZero.{non_zero_usize_get};
-ghost use Rattle.clock2q_simulation.specs.Policies.{is_in, after_hit, brought, plain_after, plain_hits, AreBelow};
-ghost use Rattle.clock2q_simulation.specs.Stamps.{held_at, AreKnown};
-ghost use Rattle.clock2q_simulation.specs.Residents.{held_by, IsHolding};
+ghost use Rattle.clock2q_policies.specs.Policies.{is_in, after_hit, brought, plain_after, plain_hits, AreBelow};
+ghost use Rattle.clock2q_policies.specs.Stamps.{held_at, AreKnown};
+ghost use Rattle.clock2q_policies.specs.Residents.{held_by, IsHolding};
 
 use std::alloc::{AllocError, Global};
 use std::num::NonZeroUsize;
@@ -14,12 +14,12 @@ use std::num::NonZeroUsize;
 ///
 /// ```
 /// let trace = [0, 1, 0, 2, 0]; // three different keys, in caches for two
-/// let recent = plain_hits(rt.alloc(), Policy::LeastRecentlyUsed, two, &trace, 3)?;
-/// let first = plain_hits(rt.alloc(), Policy::FirstInFirstOut, two, &trace, 3)?;
+/// let recent = plain_hits(rt.alloc(), PlainPolicy::LeastRecentlyUsed, two, &trace, 3)?;
+/// let first = plain_hits(rt.alloc(), PlainPolicy::FirstInFirstOut, two, &trace, 3)?;
 /// assert_eq!(rt; (recent, first), (2, 1));
 /// ```
 #[derive(Clone, Copy, Debug, PartialEq, Eq)]
-pub enum Policy {
+pub enum PlainPolicy {
     /// A hit moves the key to the front of the list.
     LeastRecentlyUsed,
     /// A hit changes nothing.
@@ -37,7 +37,13 @@ struct Residents {
 
 impl Residents {
     // Tells whether the key at a place of the trace is held, and makes what the policy makes of it.
-    fn access(&mut self, policy: Policy, capacity: NonZeroUsize, trace: &[usize], at: usize) -> bool
+    fn access(
+        &mut self,
+        policy: PlainPolicy,
+        capacity: NonZeroUsize,
+        trace: &[u32],
+        at: usize,
+    ) -> bool
         requires at { at < length trace.now }
         requires holding { IsHolding (non_zero_usize_get capacity) trace.now at self.old }
         ensures hit { result ≡ is_in (slice_index trace.now at) (held_by trace.now at self.old) }
@@ -45,7 +51,7 @@ impl Residents {
             (non_zero_usize_get capacity) (slice_index trace.now at) (held_by trace.now at self.old) }
         ensures holding { IsHolding (non_zero_usize_get capacity) trace.now (at + 1) self.new }
     {
-        let key = trace[at];
+        let key = trace[at] as usize;
         let is_hit = self.left < self.stamps[key];
         if is_hit {
             self.hit(policy, capacity, trace, at);
@@ -56,7 +62,7 @@ impl Residents {
     }
 
     // Moves a held key to the front, where the policy does so.
-    fn hit(&mut self, policy: Policy, capacity: NonZeroUsize, trace: &[usize], at: usize)
+    fn hit(&mut self, policy: PlainPolicy, capacity: NonZeroUsize, trace: &[u32], at: usize)
         requires at { at < length trace.now }
         requires holding { IsHolding (non_zero_usize_get capacity) trace.now at self.old }
         requires held { is_in (slice_index trace.now at) (held_by trace.now at self.old) ≡ true }
@@ -65,13 +71,13 @@ impl Residents {
         ensures holding { IsHolding (non_zero_usize_get capacity) trace.now (at + 1) self.new }
     {
         match policy {
-            Policy::LeastRecentlyUsed => self.stamps[trace[at]] = at + 1,
-            Policy::FirstInFirstOut => {}
+            PlainPolicy::LeastRecentlyUsed => self.stamps[trace[at] as usize] = at + 1,
+            PlainPolicy::FirstInFirstOut => {}
         }
     }
 
     // Puts a key that isn't held in front. Where there is no room the oldest key leaves.
-    fn bring(&mut self, capacity: NonZeroUsize, trace: &[usize], at: usize)
+    fn bring(&mut self, capacity: NonZeroUsize, trace: &[u32], at: usize)
         requires at { at < length trace.now }
         requires holding { IsHolding (non_zero_usize_get capacity) trace.now at self.old }
         requires absent { is_in (slice_index trace.now at) (held_by trace.now at self.old) ≡ false }
@@ -84,12 +90,12 @@ impl Residents {
         } else {
             self.count += 1;
         }
-        self.stamps[trace[at]] = at + 1;
+        self.stamps[trace[at] as usize] = at + 1;
     }
 }
 
 // Returns where the list begins once its oldest key has left.
-fn after_oldest(trace: &[usize], stamps: &[usize], left: usize, at: usize) -> usize
+fn after_oldest(trace: &[u32], stamps: &[usize], left: usize, at: usize) -> usize
     requires left { left ≤ at }
     requires at { at ≤ length trace.now }
     requires known { AreKnown trace.now stamps.now }
@@ -99,7 +105,7 @@ fn after_oldest(trace: &[usize], stamps: &[usize], left: usize, at: usize) -> us
     ensures within { result ≤ at }
 {
     for place in left..at {
-        if stamps[trace[place]] == place + 1 {
+        if stamps[trace[place] as usize] == place + 1 {
             return place + 1;
         }
     }
@@ -119,16 +125,16 @@ fn after_oldest(trace: &[usize], stamps: &[usize], left: usize, at: usize) -> us
 /// proportion to `keys`.
 pub fn plain_hits(
     alloc: Global,
-    policy: Policy,
+    policy: PlainPolicy,
     capacity: NonZeroUsize,
-    trace: &[usize],
-    keys: usize,
+    trace: &[u32],
+    keys: u32,
 ) -> Result<usize, AllocError>
     requires below { AreBelow keys trace.now }
     ensures hits { IfOk result (λ hits. hits ≡ plain_hits policy (non_zero_usize_get capacity) trace.now) }
 {
     let mut residents = Residents {
-        stamps: vec![in alloc; 0; keys]?,
+        stamps: vec![in alloc; 0; keys as usize]?,
         left: 0,
         count: 0,
     };

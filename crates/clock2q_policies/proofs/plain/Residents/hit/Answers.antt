@@ -1,6 +1,6 @@
 use Rattle.std.proofs.Common.{refl}
-use Rattle.clock2q_simulation.proofs.Holding.{moved, holds-moved}
-use Rattle.clock2q_simulation.proofs.plain.Residents.hit.Goals as goal
+use Rattle.clock2q_policies.proofs.Holding.{moved, holds-moved}
+use Rattle.clock2q_policies.proofs.plain.Residents.hit.Goals as goal
 
 pub returns-in-LeastRecentlyUsed-clause-held : goal.returns-in-LeastRecentlyUsed-clause-held
 returns-in-LeastRecentlyUsed-clause-held c = rw c.in-LeastRecentlyUsed.is (moved _ _ _ c.args.self.now c.requires.holding c.requires.at)

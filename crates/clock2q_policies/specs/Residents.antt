@@ -1,7 +1,7 @@
 -- What the stamps of a plain cache tell.
 use Rattle.std.specs.Prelude.{◌≡◌, ℕ, ◌≤◌, List, length}
-use Rattle.clock2q_simulation.specs.declared.plain.Residents.{Residents}
-use Rattle.clock2q_simulation.specs.Stamps.{held_at, AreStamps, AreKnown}
+use Rattle.clock2q_policies.specs.declared.plain.Residents.{Residents}
+use Rattle.clock2q_policies.specs.Stamps.{held_at, AreStamps, AreKnown}
 
 -- the keys held after so many of a trace, newest first
 abbrev pub held_by : List ℕ → ℕ → Residents → List ℕ

@@ -1,9 +1,9 @@
 use Rattle.std.proofs.Common.{◌≡◌, true, false, get_or, sym, ◌∙◌}
 use Rattle.std.proofs.lemmas.Bool.{lt-ltb, le-ltb}
-use Rattle.clock2q_simulation.specs.Policies.{is_in}
-use Rattle.clock2q_simulation.specs.Residents.{held_by}
-use Rattle.clock2q_simulation.proofs.Holding.{tells}
-use Rattle.clock2q_simulation.proofs.plain.Residents.access.Goals as goal
+use Rattle.clock2q_policies.specs.Policies.{is_in}
+use Rattle.clock2q_policies.specs.Residents.{held_by}
+use Rattle.clock2q_policies.proofs.Holding.{tells}
+use Rattle.clock2q_policies.proofs.plain.Residents.access.Goals as goal
 
 pub hit-requires-clause-held : goal.hit-requires-clause-held
 hit-requires-clause-held c = tells _ _ _ c.args.self.now c.requires.holding c.requires.at c.index.result.now c.index.ensures ∙ lt-ltb _ _ c.if-is_hit.true

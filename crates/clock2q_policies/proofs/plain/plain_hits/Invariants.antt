@@ -1,9 +1,9 @@
 -- The hits so far and those to come are all hits.
 use Rattle.std.proofs.Common.{◌≡◌, ◌+◌, ◌≤◌, [], drop}
 use Rattle.std.specs.NonZero.{non_zero_usize_get}
-use Rattle.clock2q_simulation.specs.Policies.{hits, is_in, plain_after, plain_hits}
-use Rattle.clock2q_simulation.specs.Residents.{held_by, IsHolding}
-use Rattle.clock2q_simulation.proofs.plain.plain_hits.Given as goal
+use Rattle.clock2q_policies.specs.Policies.{hits, is_in, plain_after, plain_hits}
+use Rattle.clock2q_policies.specs.Residents.{held_by, IsHolding}
+use Rattle.clock2q_policies.proofs.plain.plain_hits.Given as goal
 
 abbrev pub invariant-loop-at : goal.invariant-loop-at
 invariant-loop-at l = record {

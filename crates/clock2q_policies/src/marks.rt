@@ -1,0 +1,27 @@
+//! A small number beside each key.
+
+use std::alloc::{AllocError, Global};
+
+/// What is marked of each key: at first 0.
+#[derive(Drop)]
+pub(crate) struct Marks {
+    marks: Vec<u8>,
+}
+
+impl Marks {
+    pub(crate) fn new(alloc: Global, keys: u32) -> Result<Marks, AllocError> {
+        Ok(Marks {
+            marks: vec![in alloc; 0; keys as usize]?,
+        })
+    }
+
+    pub(crate) fn get(&self, key: u32) -> u8 {
+        self.marks.get(key as usize).copied().unwrap_or(0)
+    }
+
+    pub(crate) fn set(&mut self, key: u32, mark: u8) {
+        if let Some(place) = self.marks.get_mut(key as usize) {
+            *place = mark;
+        }
+    }
+}

@@ -1,0 +1,120 @@
+//! S3-FIFO.
+
+use crate::lists::Lists;
+use crate::marks::Marks;
+use crate::replayed::Replayed;
+use std::alloc::{AllocError, Global};
+
+const SMALL: u8 = 0;
+
+const MAIN: u8 = 1;
+
+// Keys that left the small queue.
+const GHOST: u8 = 2;
+
+// The most hits that are counted of a key.
+const MOST: u8 = 3;
+
+/// S3-FIFO, of 'FIFO Queues are All You Need for Cache Eviction' (2023): a tenth of the room is a
+/// queue for new keys. One that was hit more than once there goes on to the main queue; of another
+/// one only the key is remembered, and it comes into the main queue if it comes again.
+#[derive(Drop)]
+pub(crate) struct S3Fifo {
+    capacity: usize,
+    small: usize,
+    main: usize,
+    queues: Lists,
+    hits: Marks,
+}
+
+impl S3Fifo {
+    pub(crate) fn new(alloc: Global, capacity: usize, keys: u32) -> Result<S3Fifo, AllocError> {
+        let small = (capacity / 10).max(1);
+        Ok(S3Fifo {
+            capacity,
+            small,
+            main: capacity.saturating_sub(small),
+            queues: Lists::new(alloc, keys)?,
+            hits: Marks::new(alloc, keys)?,
+        })
+    }
+
+    fn len(&self) -> usize {
+        self.queues.len(SMALL).saturating_add(self.queues.len(MAIN))
+    }
+
+    fn evict(&mut self) {
+        if self.queues.len(SMALL) >= self.small {
+            self.evict_small();
+        } else {
+            self.evict_main();
+        }
+    }
+
+    fn evict_small(&mut self) {
+        for _ in 0..self.queues.len(SMALL) {
+            let Some(key) = self.queues.oldest(SMALL) else {
+                return;
+            };
+            if self.hits.get(key) <= 1 {
+                self.remember(key);
+                return;
+            }
+            if self.queues.len(MAIN) >= self.main {
+                self.evict_main();
+            }
+            self.hits.set(key, 0);
+            self.queues.put(MAIN, key);
+        }
+    }
+
+    fn evict_main(&mut self) {
+        let rounds = usize::from(MOST) + 1;
+        for _ in 0..self.queues.len(MAIN).saturating_mul(rounds) {
+            let Some(key) = self.queues.oldest(MAIN) else {
+                return;
+            };
+            let hits = self.hits.get(key);
+            if hits == 0 {
+                self.queues.take(key);
+                return;
+            }
+            self.hits.set(key, hits.saturating_sub(1));
+            self.queues.put(MAIN, key);
+        }
+    }
+
+    // Remembers as many keys as the main queue has room for.
+    fn remember(&mut self, key: u32) {
+        self.queues.put(GHOST, key);
+        if self.queues.len(GHOST) > self.main {
+            if let Some(oldest) = self.queues.oldest(GHOST) {
+                self.queues.take(oldest);
+            }
+        }
+    }
+}
+
+impl Replayed for S3Fifo {
+    fn access(&mut self, key: u32) -> bool {
+        if self.queues.has(SMALL, key) || self.queues.has(MAIN, key) {
+            let hits = self.hits.get(key).saturating_add(1);
+            self.hits.set(key, hits.min(MOST));
+            return true;
+        }
+        // where all keys of the small queue go on, none may have left
+        for _ in 0..2 {
+            if self.len() >= self.capacity {
+                self.evict();
+            }
+        }
+        let list = if self.queues.has(GHOST, key) {
+            MAIN
+        } else {
+            SMALL
+        };
+        self.hits.set(key, 0);
+        self.queues.put(list, key);
+        false
+    }
+}

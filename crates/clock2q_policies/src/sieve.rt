@@ -1,0 +1,59 @@
+//! SIEVE.
+
+use crate::lists::Lists;
+use crate::marks::Marks;
+use crate::replayed::Replayed;
+use std::alloc::{AllocError, Global};
+
+const RESIDENT: u8 = 0;
+
+/// SIEVE, of 'SIEVE is Simpler than LRU: an Efficient Turn-Key Eviction Algorithm for Web Caches'
+/// (2024): the hand goes from the oldest key towards the newest, clears the mark of each that was
+/// hit, and evicts the first one without a mark. No key is moved.
+#[derive(Drop)]
+pub(crate) struct Sieve {
+    capacity: usize,
+    residents: Lists,
+    hit: Marks,
+    hand: Option<u32>,
+}
+
+impl Sieve {
+    pub(crate) fn new(alloc: Global, capacity: usize, keys: u32) -> Result<Sieve, AllocError> {
+        Ok(Sieve {
+            capacity,
+            residents: Lists::new(alloc, keys)?,
+            hit: Marks::new(alloc, keys)?,
+            hand: None,
+        })
+    }
+
+    fn evict(&mut self) {
+        for _ in 0..=self.residents.len(RESIDENT) {
+            let Some(key) = self.hand.or(self.residents.oldest(RESIDENT)) else {
+                return;
+            };
+            self.hand = self.residents.newer(key);
+            if self.hit.get(key) == 0 {
+                self.residents.take(key);
+                return;
+            }
+            self.hit.set(key, 0);
+        }
+    }
+}
+
+impl Replayed for Sieve {
+    fn access(&mut self, key: u32) -> bool {
+        if self.residents.has(RESIDENT, key) {
+            self.hit.set(key, 1);
+            return true;
+        }
+        if self.residents.len(RESIDENT) >= self.capacity {
+            self.evict();
+        }
+        self.hit.set(key, 0);
+        self.residents.put(RESIDENT, key);
+        false
+    }
+}

@@ -1,0 +1,12 @@
+-- The hits so far are those of their policies, in order.
+use Rattle.std.proofs.Common.{◌≡◌, map, take}
+use Rattle.std.specs.List.{All}
+use Rattle.std.specs.NonZero.{non_zero_usize_get}
+use Rattle.clock2q_simulation.specs.Rows.{AreHits}
+use Rattle.clock2q_simulation.proofs.row.replay.Given as goal
+
+abbrev pub invariant-loop-policy : goal.invariant-loop-policy
+invariant-loop-policy l = record {
+  policies : map (λ h. h.policy) l.hits.items ≡ take l.policy-index l.policies;
+  hits : All (λ h. AreHits h.policy l.fn.trace.numbers (non_zero_usize_get l.fn.capacity) h.hits) l.hits.items;
+}
