@@ -1,0 +1,187 @@
+/* clock2q: a proved cache of fixed capacity with Clock2Q+ replacement, for C and C++.
+ *
+ * A cache gives each key of 64 bits a slot, a number below its capacity, and chooses which key has
+ * to leave when a new one comes. What a key stands for is yours: keep it in arrays of `capacity`
+ * elements, at the key's slot.
+ *
+ *     clock2q cache = CLOCK2Q_NONE;
+ *     if (clock2q_new(&cache, 1000) != CLOCK2Q_DONE) return 1;
+ *     clock2q_place place;
+ *     clock2q_enter(&cache, page, &place);
+ *     if (!clock2q_has(&place, page)) read_page(page, frames[place.slot]);
+ *     use(frames[place.slot]);
+ *     clock2q_free(&cache);
+ *
+ * All memory is taken when a cache is made: no later call takes any, and none fails.
+ *
+ * What you owe, since no proof reaches across this border:
+ * - A `clock2q` begins as CLOCK2Q_NONE. While there is a cache in it, it isn't copied, moved, read
+ *   or written, but by the calls below.
+ * - A call that says "needs a cache" is made only where there is one. Without NDEBUG that is
+ *   asserted here.
+ * - No pointer that is passed is null, and no two pointers of one call lead to the same place.
+ * - One thread at a time uses a cache. It may be handed to another thread, by a lock, a start or a
+ *   join: nothing in a cache is bound to the thread that made it.
+ * - No call is made from a signal handler, or in a child of fork() that other threads were left
+ *   behind by. */
+#ifndef CLOCK2Q_H
+#define CLOCK2Q_H
+
+#include <assert.h>
+#include <stdbool.h>
+#include <stddef.h>
+#include <stdint.h>
+
+#ifdef __cplusplus
+extern "C" {
+#endif
+
+/* The largest capacity. */
+#define CLOCK2Q_MAX_CAPACITY 16777215
+
+/* A cache, or none. */
+typedef struct {
+    void *at;
+} clock2q;
+
+#define CLOCK2Q_NONE {0}
+
+/* What clock2q_new and clock2q_with_policy answer. Only after CLOCK2Q_DONE there is a cache. */
+enum {
+    CLOCK2Q_DONE = 0,
+    CLOCK2Q_NO_MEMORY = 1,    /* nothing is kept of what was taken */
+    CLOCK2Q_BAD_CAPACITY = 2, /* 0, or above CLOCK2Q_MAX_CAPACITY; no memory was asked for */
+    CLOCK2Q_BAD_POLICY = 3    /* the shares don't fit together; no memory was asked for */
+};
+
+/* Where a key is, and which key entered that slot last before. */
+typedef struct {
+    size_t slot;   /* below the capacity */
+    uint64_t last; /* 0 if no key did */
+    bool has_last;
+} clock2q_place;
+
+/* Makes a cache for `capacity` keys. Needs none there. Takes time and memory in proportion to the
+ * capacity, some 38 bytes a key, in at most twelve requests. */
+uint32_t clock2q_new(clock2q *cache, size_t capacity);
+
+/* Makes a cache of which `small` slots are for new keys, each young until `window` more were
+ * admitted. Needs none there. CLOCK2Q_BAD_POLICY unless small < capacity, window <= small, and both
+ * or neither of them are 0. Costs what clock2q_new does. */
+uint32_t clock2q_with_policy(clock2q *cache, size_t capacity, size_t small, size_t window);
+
+/* Finds the slot of a key and records a hit, or gives the key a slot, which another key may lose.
+ * Needs a cache. Costs one hash; without a hit at most 36 accesses to the queues, and one for each
+ * key that the hand passes over. */
+void clock2q_enter(clock2q *cache, uint64_t key, clock2q_place *place);
+
+/* Finds the slot of a key and records a hit. Returns false, with `slot` as it was, if the key has
+ * none. Needs a cache. Costs one hash. */
+bool clock2q_find(clock2q *cache, uint64_t key, size_t *slot);
+
+/* Returns true, after a hit, if the key is at this slot; any number will do. Needs a cache. Costs
+ * no hash. */
+bool clock2q_at(clock2q *cache, size_t slot, uint64_t key);
+
+/* Returns true if the key has a slot, and records nothing. Needs a cache. Costs one hash. */
+bool clock2q_contains(clock2q *cache, uint64_t key);
+
+/* Takes the slot of a key away and returns true. A key that has none is forgotten, if it was
+ * remembered. Needs a cache. Costs one hash and at most 8 accesses to the queues. */
+bool clock2q_remove(clock2q *cache, uint64_t key);
+
+/* Takes all slots away, and forgets all keys. Needs a cache. Takes time in proportion to the
+ * capacity. */
+void clock2q_clear(clock2q *cache);
+
+/* Returns how many keys have a slot. Needs a cache. */
+size_t clock2q_len(clock2q *cache);
+
+/* Returns how many keys can have a slot. Needs a cache. */
+size_t clock2q_capacity(clock2q *cache);
+
+/* Frees a cache that nobody uses from then on. Needs a cache. clock2q_free is easier to call. */
+void clock2q_release(clock2q cache);
+
+/* Frees the cache, if there is one, and leaves none. */
+static inline void clock2q_free(clock2q *cache) {
+    if (cache->at != NULL) {
+        clock2q_release(*cache);
+        cache->at = NULL;
+    }
+}
+
+/* Returns true if no other key entered the slot since this one did, so that what you keep for the
+ * slot is this key's. */
+static inline bool clock2q_has(const clock2q_place *place, uint64_t key) {
+    return place->has_last && place->last == key;
+}
+
+#ifndef NDEBUG
+static inline uint32_t clock2q_new_checked(clock2q *cache, size_t capacity) {
+    assert(cache != NULL && cache->at == NULL);
+    return clock2q_new(cache, capacity);
+}
+
+static inline uint32_t clock2q_with_policy_checked(clock2q *cache, size_t capacity, size_t small, size_t window) {
+    assert(cache != NULL && cache->at == NULL);
+    return clock2q_with_policy(cache, capacity, small, window);
+}
+
+static inline void clock2q_enter_checked(clock2q *cache, uint64_t key, clock2q_place *place) {
+    assert(cache != NULL && cache->at != NULL && place != NULL);
+    clock2q_enter(cache, key, place);
+}
+
+static inline bool clock2q_find_checked(clock2q *cache, uint64_t key, size_t *slot) {
+    assert(cache != NULL && cache->at != NULL && slot != NULL);
+    return clock2q_find(cache, key, slot);
+}
+
+static inline bool clock2q_at_checked(clock2q *cache, size_t slot, uint64_t key) {
+    assert(cache != NULL && cache->at != NULL);
+    return clock2q_at(cache, slot, key);
+}
+
+static inline bool clock2q_contains_checked(clock2q *cache, uint64_t key) {
+    assert(cache != NULL && cache->at != NULL);
+    return clock2q_contains(cache, key);
+}
+
+static inline bool clock2q_remove_checked(clock2q *cache, uint64_t key) {
+    assert(cache != NULL && cache->at != NULL);
+    return clock2q_remove(cache, key);
+}
+
+static inline void clock2q_clear_checked(clock2q *cache) {
+    assert(cache != NULL && cache->at != NULL);
+    clock2q_clear(cache);
+}
+
+static inline size_t clock2q_len_checked(clock2q *cache) {
+    assert(cache != NULL && cache->at != NULL);
+    return clock2q_len(cache);
+}
+
+static inline size_t clock2q_capacity_checked(clock2q *cache) {
+    assert(cache != NULL && cache->at != NULL);
+    return clock2q_capacity(cache);
+}
+
+#define clock2q_new clock2q_new_checked
+#define clock2q_with_policy clock2q_with_policy_checked
+#define clock2q_enter clock2q_enter_checked
+#define clock2q_find clock2q_find_checked
+#define clock2q_at clock2q_at_checked
+#define clock2q_contains clock2q_contains_checked
+#define clock2q_remove clock2q_remove_checked
+#define clock2q_clear clock2q_clear_checked
+#define clock2q_len clock2q_len_checked
+#define clock2q_capacity clock2q_capacity_checked
+#endif
+
+#ifdef __cplusplus
+}
+#endif
+
+#endif

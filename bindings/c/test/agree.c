@@ -1,0 +1,94 @@
+/* agree [CALLS]: random calls of the library and of a plain model, at capacities 1, 2, 3, 10, 100 and
+ * 1000. Ends with status 1 at the first answer that differs. */
+#include "clock2q.h"
+#include "model.h"
+
+#include <stdio.h>
+
+struct run {
+    clock2q cache;
+    struct model model;
+    uint64_t *last; /* the key that entered each slot last */
+    bool *has_last;
+};
+
+static uint64_t drawn = 88172645463325252u;
+
+static uint64_t draw(void) {
+    drawn ^= drawn << 13;
+    drawn ^= drawn >> 7;
+    drawn ^= drawn << 17;
+    return drawn >> 8;
+}
+
+static bool enters(struct run *run, uint64_t key) {
+    clock2q_place place;
+    clock2q_enter(&run->cache, key, &place);
+    long slot = model_enter(&run->model, key);
+    bool agrees = (long)place.slot == slot && place.has_last == run->has_last[slot] && place.last == run->last[slot];
+    run->has_last[slot] = true;
+    run->last[slot] = key;
+    return agrees;
+}
+
+static bool finds(struct run *run, uint64_t key) {
+    size_t slot = 77;
+    bool found = clock2q_find(&run->cache, key, &slot);
+    long expected = model_slot(&run->model, key);
+    model_hit(&run->model, key);
+    return found == (expected != NOWHERE) && slot == (found ? (size_t)expected : 77);
+}
+
+static bool is_at(struct run *run, uint64_t key) {
+    size_t slot = (size_t)(draw() % (run->model.capacity + 1));
+    bool expected = model_slot(&run->model, key) == (long)slot;
+    if (expected) model_hit(&run->model, key);
+    return clock2q_at(&run->cache, slot, key) == expected;
+}
+
+static bool counts(struct run *run) {
+    size_t count = run->model.small.count + run->model.main.count;
+    bool agrees = clock2q_len(&run->cache) == count && clock2q_capacity(&run->cache) == run->model.capacity;
+    if (draw() % 256 == 0) {
+        clock2q_clear(&run->cache);
+        model_clear(&run->model);
+        memset(run->has_last, 0, run->model.capacity);
+        memset(run->last, 0, run->model.capacity * sizeof *run->last);
+    }
+    return agrees;
+}
+
+static bool call_agrees(struct run *run) {
+    uint64_t key = draw() % (3 * run->model.capacity);
+    unsigned kind = (unsigned)(draw() % 32);
+    if (kind < 16) return enters(run, key);
+    if (kind < 24) return finds(run, key);
+    if (kind < 27) return is_at(run, key);
+    if (kind < 30) return clock2q_contains(&run->cache, key) == (model_slot(&run->model, key) != NOWHERE);
+    if (kind < 31) return clock2q_remove(&run->cache, key) == model_remove(&run->model, key);
+    return counts(run);
+}
+
+static bool run_agrees(size_t capacity, size_t calls) {
+    struct run run = {CLOCK2Q_NONE, model_of(capacity), calloc(capacity, sizeof *run.last), calloc(capacity, sizeof *run.has_last)};
+    if (run.last == NULL || run.has_last == NULL || clock2q_new(&run.cache, capacity) != CLOCK2Q_DONE) return false;
+    bool agrees = true;
+    for (size_t i = 0; i < calls && agrees; i++) {
+        agrees = call_agrees(&run);
+        if (!agrees) printf("capacity %zu: call %zu differs\n", capacity, i);
+    }
+    clock2q_free(&run.cache);
+    clock2q_free(&run.cache);
+    model_free(&run.model);
+    free(run.last);
+    free(run.has_last);
+    return agrees;
+}
+
+int main(int count, char **words) {
+    static const size_t capacities[] = {1, 2, 3, 10, 100, 1000};
+    size_t calls = count > 1 ? strtoull(words[1], NULL, 10) : 1000000;
+    bool agrees = true;
+    for (size_t i = 0; i < sizeof capacities / sizeof *capacities; i++) agrees = run_agrees(capacities[i], calls) && agrees;
+    return agrees ? 0 : 1;
+}

@@ -1,0 +1,186 @@
+/* The cache as plain lists: each call looks at every key. */
+#ifndef MODEL_H
+#define MODEL_H
+
+#include <stdbool.h>
+#include <stddef.h>
+#include <stdint.h>
+#include <stdlib.h>
+#include <string.h>
+
+enum { NOWHERE = -1, OLD = -1 };
+
+struct entry {
+    uint64_t key;
+    long slot;
+    long age; /* in Small, or OLD */
+    bool bit;
+};
+
+struct list {
+    struct entry *entries;
+    size_t count;
+};
+
+struct model {
+    size_t capacity, small_share, window;
+    struct list small, main; /* Small's newest first, Main's next victim first */
+    struct list history;     /* newest first */
+    long *vacant;            /* slots that were freed, as a stack */
+    size_t vacant_count, made;
+};
+
+static struct list list_of(size_t room) {
+    struct list list = {calloc(room, sizeof(struct entry)), 0};
+    if (list.entries == NULL) abort();
+    return list;
+}
+
+static long place_in(const struct list *list, uint64_t key) {
+    for (size_t i = 0; i < list->count; i++) {
+        if (list->entries[i].key == key) return (long)i;
+    }
+    return NOWHERE;
+}
+
+static struct entry taken_out(struct list *list, size_t place) {
+    struct entry entry = list->entries[place];
+    list->count--;
+    memmove(list->entries + place, list->entries + place + 1, (list->count - place) * sizeof entry);
+    return entry;
+}
+
+static void put_first(struct list *list, struct entry entry) {
+    memmove(list->entries + 1, list->entries, list->count * sizeof entry);
+    list->entries[0] = entry;
+    list->count++;
+}
+
+static void put_last(struct list *list, struct entry entry) {
+    list->entries[list->count++] = entry;
+}
+
+static struct model model_of(size_t capacity) {
+    size_t small = capacity == 1 ? 0 : capacity < 20 ? 1 : capacity / 10;
+    struct model model = {.capacity = capacity, .small_share = small, .window = (small + 1) / 2};
+    model.small = list_of(capacity + 1);
+    model.main = list_of(capacity + 1);
+    model.history = list_of(capacity + 1);
+    model.vacant = calloc(capacity + 1, sizeof *model.vacant);
+    if (model.vacant == NULL) abort();
+    return model;
+}
+
+static void model_clear(struct model *model) {
+    model->small.count = model->main.count = model->history.count = 0;
+    model->vacant_count = model->made = 0;
+}
+
+static void model_free(struct model *model) {
+    free(model->small.entries);
+    free(model->main.entries);
+    free(model->history.entries);
+    free(model->vacant);
+}
+
+static long model_slot(const struct model *model, uint64_t key) {
+    long place = place_in(&model->small, key);
+    if (place != NOWHERE) return model->small.entries[place].slot;
+    place = place_in(&model->main, key);
+    return place == NOWHERE ? NOWHERE : model->main.entries[place].slot;
+}
+
+static void model_hit(struct model *model, uint64_t key) {
+    long small = place_in(&model->small, key), main = place_in(&model->main, key);
+    if (small != NOWHERE && model->small.entries[small].age == OLD) model->small.entries[small].bit = true;
+    if (main != NOWHERE) model->main.entries[main].bit = true;
+}
+
+static bool has_vacancy(const struct model *model) {
+    return model->vacant_count > 0 || model->made < model->capacity;
+}
+
+static long take_vacancy(struct model *model) {
+    return model->vacant_count > 0 ? model->vacant[--model->vacant_count] : (long)model->made++;
+}
+
+/* The hand gives each key of Main that was hit another round. */
+static long main_victim(struct model *model) {
+    while (model->main.entries[0].bit) {
+        struct entry entry = taken_out(&model->main, 0);
+        entry.bit = false;
+        put_last(&model->main, entry);
+    }
+    return taken_out(&model->main, 0).slot;
+}
+
+static void join_main(struct model *model, uint64_t key, long slot) {
+    put_last(&model->main, (struct entry){.key = key, .slot = slot, .age = OLD});
+}
+
+static void join_small(struct model *model, uint64_t key, long slot) {
+    for (size_t i = 0; i < model->small.count; i++) {
+        struct entry *entry = &model->small.entries[i];
+        if (entry->age == OLD) continue;
+        entry->age = (size_t)entry->age + 1 < model->window ? entry->age + 1 : OLD;
+    }
+    put_first(&model->small, (struct entry){.key = key, .slot = slot, .age = 0});
+}
+
+static void remember(struct model *model, uint64_t key) {
+    size_t room = model->capacity / 2;
+    if (room == 0) return;
+    if (model->history.count == room) model->history.count--;
+    put_first(&model->history, (struct entry){.key = key});
+}
+
+static bool forget(struct model *model, uint64_t key) {
+    long place = place_in(&model->history, key);
+    if (place != NOWHERE) taken_out(&model->history, (size_t)place);
+    return place != NOWHERE;
+}
+
+static long enter_full_small(struct model *model, uint64_t key) {
+    struct entry tail = taken_out(&model->small, model->small.count - 1);
+    long slot = tail.slot;
+    if (tail.age == OLD && tail.bit) {
+        slot = main_victim(model);
+        join_main(model, tail.key, tail.slot);
+    } else {
+        remember(model, tail.key);
+    }
+    join_small(model, key, slot);
+    return slot;
+}
+
+static long model_enter(struct model *model, uint64_t key) {
+    long slot = model_slot(model, key);
+    if (slot != NOWHERE) {
+        model_hit(model, key);
+        return slot;
+    }
+    bool is_known = forget(model, key), is_vacant = has_vacancy(model);
+    if (is_known || model->small_share == 0 || (is_vacant && model->small_share <= model->small.count)) {
+        bool is_full = model->main.count == model->capacity - model->small_share;
+        slot = is_full ? main_victim(model) : take_vacancy(model);
+        join_main(model, key, slot);
+        return slot;
+    }
+    if (!is_vacant) return enter_full_small(model, key);
+    slot = take_vacancy(model);
+    join_small(model, key, slot);
+    return slot;
+}
+
+static bool model_remove(struct model *model, uint64_t key) {
+    long small = place_in(&model->small, key), main = place_in(&model->main, key);
+    if (small == NOWHERE && main == NOWHERE) {
+        forget(model, key);
+        return false;
+    }
+    struct entry gone = small != NOWHERE ? taken_out(&model->small, (size_t)small) : taken_out(&model->main, (size_t)main);
+    model->vacant[model->vacant_count++] = gone.slot;
+    return true;
+}
+
+#endif

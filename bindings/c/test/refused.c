@@ -1,0 +1,74 @@
+/* Capacities and shares that can't be had, and each request for memory refused in turn. This file
+ * has a malloc of its own, so nothing else of the program asks for memory. */
+#include "clock2q.h"
+
+#include <stdio.h>
+#include <stdlib.h>
+
+void *__real_malloc(size_t size);
+void *__wrap_malloc(size_t size);
+void __real_free(void *block);
+void __wrap_free(void *block);
+
+static long left;   /* requests until one is refused; none is, below 0 */
+static long blocks; /* that are taken */
+
+void *__wrap_malloc(size_t size) {
+    if (left == 0) return NULL;
+    if (left > 0) left--;
+    blocks++;
+    return __real_malloc(size);
+}
+
+void __wrap_free(void *block) {
+    if (block != NULL) blocks--;
+    __real_free(block);
+}
+
+static int failed;
+
+static void must(bool holds, const char *what) {
+    if (holds) return;
+    printf("refused: %s\n", what);
+    failed = 1;
+}
+
+static void bad_numbers(void) {
+    clock2q cache = CLOCK2Q_NONE;
+    left = 0;
+    must(clock2q_new(&cache, 0) == CLOCK2Q_BAD_CAPACITY, "capacity 0");
+    must(clock2q_new(&cache, CLOCK2Q_MAX_CAPACITY + 1) == CLOCK2Q_BAD_CAPACITY, "capacity too large");
+    must(clock2q_with_policy(&cache, 0, 0, 0) == CLOCK2Q_BAD_CAPACITY, "capacity 0 with shares");
+    must(clock2q_with_policy(&cache, 10, 10, 1) == CLOCK2Q_BAD_POLICY, "no slot for Main");
+    must(clock2q_with_policy(&cache, 10, 2, 3) == CLOCK2Q_BAD_POLICY, "a window longer than Small");
+    must(clock2q_with_policy(&cache, 10, 2, 0) == CLOCK2Q_BAD_POLICY, "a share without a window");
+    must(cache.at == NULL, "no cache");
+}
+
+static void no_memory(void) {
+    clock2q cache = CLOCK2Q_NONE;
+    long requests = 0;
+    for (;; requests++) {
+        left = requests;
+        blocks = 0;
+        if (clock2q_new(&cache, 100) == CLOCK2Q_DONE) break;
+        must(cache.at == NULL && blocks == 0, "memory is kept after a refusal");
+        left = requests;
+        must(clock2q_with_policy(&cache, 100, 10, 5) == CLOCK2Q_NO_MEMORY, "shares without memory");
+        must(cache.at == NULL && blocks == 0, "memory is kept after a refusal with shares");
+    }
+    must(requests >= 1 && requests <= 12, "at most twelve requests");
+    left = 0;
+    clock2q_place place;
+    for (uint64_t key = 0; key < 1000; key++) clock2q_enter(&cache, key, &place);
+    must(clock2q_len(&cache) == 100, "no call takes memory");
+    clock2q_free(&cache);
+    must(blocks == 0, "all memory is given back");
+}
+
+int main(void) {
+    bad_numbers();
+    no_memory();
+    left = -1;
+    return failed;
+}

@@ -1,0 +1,50 @@
+//! The functions of `clock2q.h`, as it declares them and with what it asks of its callers.
+#![no_std]
+#![allow(non_camel_case_types)]
+
+use core::ffi::c_void;
+
+/// There is a cache now.
+pub const CLOCK2Q_DONE: u32 = 0;
+/// A request for memory was refused.
+pub const CLOCK2Q_NO_MEMORY: u32 = 1;
+/// The capacity is 0 or above [`CLOCK2Q_MAX_CAPACITY`].
+pub const CLOCK2Q_BAD_CAPACITY: u32 = 2;
+/// The shares don't fit together.
+pub const CLOCK2Q_BAD_POLICY: u32 = 3;
+/// The largest capacity.
+pub const CLOCK2Q_MAX_CAPACITY: usize = 16_777_215;
+
+/// A cache, or none where the pointer is null.
+#[repr(C)]
+pub struct clock2q {
+    pub at: *mut c_void,
+}
+
+/// Where a key is, and which key entered that slot last before.
+#[repr(C)]
+#[derive(Clone, Copy, Debug, Default, PartialEq, Eq)]
+pub struct clock2q_place {
+    pub slot: usize,
+    pub last: u64,
+    pub has_last: bool,
+}
+
+extern "C" {
+    pub fn clock2q_new(cache: *mut clock2q, capacity: usize) -> u32;
+    pub fn clock2q_with_policy(
+        cache: *mut clock2q,
+        capacity: usize,
+        small: usize,
+        window: usize,
+    ) -> u32;
+    pub fn clock2q_enter(cache: *mut clock2q, key: u64, place: *mut clock2q_place);
+    pub fn clock2q_find(cache: *mut clock2q, key: u64, slot: *mut usize) -> bool;
+    pub fn clock2q_at(cache: *mut clock2q, slot: usize, key: u64) -> bool;
+    pub fn clock2q_contains(cache: *mut clock2q, key: u64) -> bool;
+    pub fn clock2q_remove(cache: *mut clock2q, key: u64) -> bool;
+    pub fn clock2q_clear(cache: *mut clock2q);
+    pub fn clock2q_len(cache: *mut clock2q) -> usize;
+    pub fn clock2q_capacity(cache: *mut clock2q) -> usize;
+    pub fn clock2q_release(cache: clock2q);
+}

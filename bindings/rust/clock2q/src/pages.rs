@@ -1,0 +1,165 @@
+//! Keys and their slots.
+
+use crate::Refused;
+use clock2q_sys as sys;
+use std::cell::UnsafeCell;
+use std::fmt;
+use std::marker::PhantomData;
+use std::ptr;
+
+/// The slot of a key, and the key that entered it last before.
+#[derive(Clone, Copy, Debug, PartialEq, Eq)]
+pub struct Place {
+    /// Below the capacity.
+    pub slot: usize,
+    /// The key that entered the slot last before, if any did.
+    pub last: Option<u64>,
+}
+
+impl Place {
+    /// Returns true if no other key entered the slot since this one did, so that what is kept for
+    /// the slot is this key's.
+    pub fn has(&self, key: u64) -> bool {
+        self.last == Some(key)
+    }
+}
+
+/// Gives keys slots, numbers below its capacity, and chooses which key loses its slot to a new one.
+///
+/// It is neither `Send` nor `Sync`: the calls that only ask write to the handle too, and no Rust
+/// check sees into the library. A caller who hands it over by a lock of its own may wrap it.
+///
+/// ```
+/// use clock2q::PageCache;
+///
+/// let mut pages = PageCache::new(2)?;
+/// let mut frames = [0u64; 2];
+/// for page in [7, 8, 7, 9] {
+///     let place = pages.enter(page);
+///     if !place.has(page) {
+///         frames[place.slot] = page * 10;
+///     }
+///     assert_eq!(frames[place.slot], page * 10);
+/// }
+/// # Ok::<(), clock2q::Refused>(())
+/// ```
+pub struct PageCache {
+    handle: UnsafeCell<sys::clock2q>,
+    stays: PhantomData<*mut ()>,
+}
+
+impl PageCache {
+    /// Makes a cache for `capacity` keys, which takes all the memory that it will ever use.
+    ///
+    /// # Errors
+    ///
+    /// [`Refused::Capacity`] and [`Refused::Memory`].
+    pub fn new(capacity: usize) -> Result<PageCache, Refused> {
+        // SAFETY: there is no cache in the handle.
+        PageCache::made(|handle| unsafe { sys::clock2q_new(handle, capacity) })
+    }
+
+    /// Makes a cache in which `small` slots are for new keys, each young until `window` more were
+    /// admitted.
+    ///
+    /// # Errors
+    ///
+    /// Those of [`new`](PageCache::new), and [`Refused::Policy`].
+    pub fn with_policy(capacity: usize, small: usize, window: usize) -> Result<PageCache, Refused> {
+        // SAFETY: there is no cache in the handle.
+        PageCache::made(|handle| unsafe {
+            sys::clock2q_with_policy(handle, capacity, small, window)
+        })
+    }
+
+    fn made(make: impl FnOnce(*mut sys::clock2q) -> u32) -> Result<PageCache, Refused> {
+        let handle = UnsafeCell::new(sys::clock2q { at: ptr::null_mut() });
+        match make(handle.get()) {
+            sys::CLOCK2Q_DONE => Ok(PageCache {
+                handle,
+                stays: PhantomData,
+            }),
+            sys::CLOCK2Q_NO_MEMORY => Err(Refused::Memory),
+            sys::CLOCK2Q_BAD_CAPACITY => Err(Refused::Capacity),
+            _ => Err(Refused::Policy),
+        }
+    }
+
+    /// Returns the handle, in which there is a cache. No two calls use it at once: it is not `Sync`,
+    /// and no call of the library calls back.
+    fn handle(&self) -> *mut sys::clock2q {
+        // SAFETY: nothing else has a reference to the handle.
+        debug_assert!(!unsafe { (*self.handle.get()).at }.is_null());
+        self.handle.get()
+    }
+
+    /// Returns the slot of a key, after a hit or after giving it one that another key may lose.
+    pub fn enter(&mut self, key: u64) -> Place {
+        let mut place = sys::clock2q_place::default();
+        // SAFETY: there is a cache, here and below, and the pointers differ.
+        unsafe { sys::clock2q_enter(self.handle(), key, &mut place) };
+        Place {
+            slot: place.slot,
+            last: place.has_last.then_some(place.last),
+        }
+    }
+
+    /// Returns the slot of a key that has one, after a hit.
+    pub fn find(&mut self, key: u64) -> Option<usize> {
+        let mut slot = 0;
+        unsafe { sys::clock2q_find(self.handle(), key, &mut slot) }.then_some(slot)
+    }
+
+    /// Returns true, after a hit, if the key is at this slot. Hashes nothing.
+    pub fn is_at(&mut self, slot: usize, key: u64) -> bool {
+        unsafe { sys::clock2q_at(self.handle(), slot, key) }
+    }
+
+    /// Returns true if the key has a slot, and records nothing.
+    pub fn contains(&self, key: u64) -> bool {
+        unsafe { sys::clock2q_contains(self.handle(), key) }
+    }
+
+    /// Takes the slot of a key away and returns true. A key that has none is forgotten.
+    pub fn remove(&mut self, key: u64) -> bool {
+        unsafe { sys::clock2q_remove(self.handle(), key) }
+    }
+
+    /// Takes all slots away, and forgets all keys.
+    pub fn clear(&mut self) {
+        unsafe { sys::clock2q_clear(self.handle()) }
+    }
+
+    /// Returns how many keys have a slot.
+    pub fn len(&self) -> usize {
+        unsafe { sys::clock2q_len(self.handle()) }
+    }
+
+    /// Returns true if no key has a slot.
+    pub fn is_empty(&self) -> bool {
+        self.len() == 0
+    }
+
+    /// Returns how many keys can have a slot.
+    pub fn capacity(&self) -> usize {
+        unsafe { sys::clock2q_capacity(self.handle()) }
+    }
+}
+
+impl Drop for PageCache {
+    fn drop(&mut self) {
+        let at = self.handle.get_mut().at;
+        // SAFETY: there is a cache, and nobody uses it after this.
+        unsafe { sys::clock2q_release(sys::clock2q { at }) }
+    }
+}
+
+impl fmt::Debug for PageCache {
+    fn fmt(&self, formatter: &mut fmt::Formatter<'_>) -> fmt::Result {
+        formatter
+            .debug_struct("PageCache")
+            .field("len", &self.len())
+            .field("capacity", &self.capacity())
+            .finish()
+    }
+}

@@ -1,0 +1,448 @@
+/* SQLite's page cache over clock2q: sqlite3_pcache_methods2, as sqlite3.h has it.
+ *
+ * The library chooses which page leaves. Here are the pages' buffers, a table that finds a page by
+ * its key, and a list of the idle pages, those that SQLite has not pinned, the longest idle last.
+ *
+ * The library knows no pins. A pinned page that loses its slot takes another one, so that the next
+ * page is chosen in its place; where that chooses pinned pages alone, the page that was idle for
+ * the longest time leaves. A page without a slot takes one when it's unpinned. So a cache has more
+ * pages than cache_size only while all of them are pinned.
+ *
+ * The index begins small, and is made anew at twice the size as the cache fills. Pages and tables
+ * are memory of SQLite's allocator; the index, some 38 bytes a page, is memory of malloc.
+ *
+ * SQLite calls the methods of a cache under a mutex of the connection's, from one thread after
+ * another. That is allowed: nothing in a cache is bound to a thread. */
+#include "pcache_clock2q.h"
+
+#include "clock2q.h"
+#include <sqlite3.h>
+#include <string.h>
+
+enum {
+    FIRST_CAPACITY = 64, /* of an index */
+    FIRST_BUCKETS = 256,
+    ATTEMPTS = 16 /* to have the library choose a page that isn't pinned */
+};
+
+#define NO_SLOT ((size_t)-1)
+
+struct page {
+    sqlite3_pcache_page base; /* first, since SQLite has pointers to it */
+    unsigned key;
+    bool was_hit;
+    size_t slot;         /* or NO_SLOT */
+    struct page *next;   /* in its bucket */
+    struct page *newer;  /* among the idle ones; null if it's pinned */
+    struct page *older;
+};
+
+struct cache {
+    size_t page_size;
+    size_t extra_size;
+    bool is_purgeable;
+    size_t wanted;  /* pages, at most, but for pinned ones */
+    size_t total;   /* pages */
+    size_t pinned;
+    unsigned highest; /* no key is above it */
+    struct page **buckets;
+    size_t bucket_count; /* a power of two */
+    struct page idle;    /* between the longest idle page, `newer`, and the shortest, `older` */
+    clock2q index;
+    struct page **at; /* the page of each slot, or null */
+    size_t capacity;  /* of the index, or 0 if there is none */
+};
+
+/* SQLite's own, where the program that this is compiled into offers them: what is refused between
+ * them is no error, since the cache does without. */
+__attribute__((weak)) void sqlite3BeginBenignMalloc(void);
+__attribute__((weak)) void sqlite3EndBenignMalloc(void);
+
+static void *allocated(size_t size, bool is_benign) {
+    is_benign = is_benign && sqlite3BeginBenignMalloc != NULL && sqlite3EndBenignMalloc != NULL;
+    if (is_benign) sqlite3BeginBenignMalloc();
+    void *block = sqlite3_malloc64(size);
+    if (is_benign) sqlite3EndBenignMalloc();
+    return block;
+}
+
+/* The idle pages. */
+
+static bool is_idle(const struct page *page) {
+    return page->newer != NULL;
+}
+
+static size_t idle_count(const struct cache *cache) {
+    return cache->total - cache->pinned;
+}
+
+static void make_idle(struct cache *cache, struct page *page) {
+    page->newer = &cache->idle;
+    page->older = cache->idle.older;
+    page->older->newer = page;
+    cache->idle.older = page;
+    cache->pinned--;
+}
+
+static void make_pinned(struct cache *cache, struct page *page) {
+    page->newer->older = page->older;
+    page->older->newer = page->newer;
+    page->newer = page->older = NULL;
+    cache->pinned++;
+}
+
+/* The table of pages. */
+
+static struct page **bucket_of(struct cache *cache, unsigned key) {
+    return &cache->buckets[key & (cache->bucket_count - 1)];
+}
+
+static struct page *look_up(struct cache *cache, unsigned key) {
+    struct page *page = *bucket_of(cache, key);
+    while (page != NULL && page->key != key) page = page->next;
+    return page;
+}
+
+static void link_page(struct cache *cache, struct page *page) {
+    struct page **bucket = bucket_of(cache, page->key);
+    page->next = *bucket;
+    *bucket = page;
+    if (page->key > cache->highest) cache->highest = page->key;
+}
+
+static void unlink_page(struct cache *cache, struct page *page) {
+    struct page **link = bucket_of(cache, page->key);
+    while (*link != page) link = &(*link)->next;
+    *link = page->next;
+}
+
+/* Makes the table twice as long where there are more pages than buckets. Without memory the chains
+ * grow instead. */
+static void fit_table(struct cache *cache) {
+    if (cache->total < cache->bucket_count) return;
+    size_t old_count = cache->bucket_count;
+    struct page **old = cache->buckets;
+    struct page **buckets = allocated(2 * old_count * sizeof *buckets, true);
+    if (buckets == NULL) return;
+    memset(buckets, 0, 2 * old_count * sizeof *buckets);
+    cache->buckets = buckets;
+    cache->bucket_count = 2 * old_count;
+    for (size_t i = 0; i < old_count; i++) {
+        for (struct page *page = old[i], *next; page != NULL; page = next) {
+            next = page->next;
+            link_page(cache, page);
+        }
+    }
+    sqlite3_free(old);
+}
+
+/* The index. */
+
+/* Gives the page a slot, and returns the page that lost it, or null. */
+static struct page *give_slot(struct cache *cache, struct page *page) {
+    clock2q_place place;
+    clock2q_enter(&cache->index, page->key, &place);
+    struct page *loser = cache->at[place.slot];
+    cache->at[place.slot] = page;
+    page->slot = place.slot;
+    if (loser == NULL || loser == page) return NULL;
+    loser->slot = NO_SLOT;
+    return loser;
+}
+
+static void take_slot_away(struct cache *cache, struct page *page) {
+    if (page->slot == NO_SLOT) return;
+    clock2q_remove(&cache->index, page->key);
+    cache->at[page->slot] = NULL;
+    page->slot = NO_SLOT;
+}
+
+static void free_index(struct cache *cache) {
+    for (size_t slot = 0; slot < cache->capacity; slot++) {
+        if (cache->at[slot] != NULL) cache->at[slot]->slot = NO_SLOT;
+    }
+    clock2q_free(&cache->index);
+    sqlite3_free(cache->at);
+    cache->at = NULL;
+    cache->capacity = 0;
+}
+
+/* Has these pages enter the index, and those hit again that were hit. */
+static void enter_pages(struct cache *cache, struct page **pages, size_t count) {
+    for (size_t i = 0; i < count; i++) {
+        if (pages[i] != NULL) pages[i]->slot = NO_SLOT;
+    }
+    for (size_t i = 0; i < count; i++) {
+        if (pages[i] != NULL) give_slot(cache, pages[i]);
+    }
+    for (size_t i = 0; i < count; i++) {
+        struct page *page = pages[i];
+        if (page != NULL && page->was_hit && page->slot != NO_SLOT) clock2q_at(&cache->index, page->slot, page->key);
+    }
+}
+
+/* Makes the index anew with this capacity. Without memory it stays as it is. */
+static void make_index(struct cache *cache, size_t capacity) {
+    clock2q index = CLOCK2Q_NONE;
+    struct page **at = allocated(capacity * sizeof *at, true);
+    if (at == NULL) return;
+    if (clock2q_new(&index, capacity) != CLOCK2Q_DONE) {
+        sqlite3_free(at);
+        return;
+    }
+    memset(at, 0, capacity * sizeof *at);
+    clock2q old_index = cache->index;
+    struct page **old_at = cache->at;
+    size_t old_capacity = cache->capacity;
+    cache->index = index;
+    cache->at = at;
+    cache->capacity = capacity;
+    enter_pages(cache, old_at, old_capacity);
+    clock2q_free(&old_index);
+    sqlite3_free(old_at);
+}
+
+static size_t smaller(size_t one, size_t other) {
+    return one < other ? one : other;
+}
+
+/* Makes the index when it's needed first, makes it larger when it's full, and smaller when fewer
+ * pages are wanted. */
+static void fit_index(struct cache *cache) {
+    size_t largest = cache->is_purgeable ? smaller(cache->wanted, CLOCK2Q_MAX_CAPACITY) : 0;
+    if (largest == 0) {
+        free_index(cache);
+    } else if (cache->capacity == 0) {
+        make_index(cache, smaller(FIRST_CAPACITY, largest));
+    } else if (cache->capacity > largest) {
+        make_index(cache, largest);
+    } else if (cache->capacity < largest && cache->total >= cache->capacity) {
+        make_index(cache, smaller(2 * cache->capacity, largest));
+    }
+}
+
+/* Pages that come and leave. */
+
+static struct page *new_page(struct cache *cache, bool is_benign) {
+    struct page *page = allocated(sizeof *page + cache->page_size + cache->extra_size, is_benign);
+    if (page == NULL) return NULL;
+    page->base.pBuf = page + 1;
+    page->base.pExtra = (char *)(page + 1) + cache->page_size;
+    page->newer = page->older = NULL;
+    cache->total++;
+    cache->pinned++;
+    return page;
+}
+
+static void free_page(struct cache *cache, struct page *page) {
+    take_slot_away(cache, page);
+    unlink_page(cache, page);
+    if (is_idle(page)) make_pinned(cache, page);
+    cache->pinned--;
+    cache->total--;
+    sqlite3_free(page);
+}
+
+static struct page *longest_idle(struct cache *cache) {
+    return cache->idle.newer == &cache->idle ? NULL : cache->idle.newer;
+}
+
+static void free_idle_pages(struct cache *cache, size_t wanted) {
+    while (cache->total > wanted && longest_idle(cache) != NULL) free_page(cache, longest_idle(cache));
+}
+
+/* Gives a page that has no slot one. The page that loses it is freed if it's idle. */
+static void index_page(struct cache *cache, struct page *page) {
+    fit_index(cache);
+    if (cache->capacity == 0) return;
+    page->was_hit = false;
+    struct page *loser = give_slot(cache, page);
+    if (loser != NULL && is_idle(loser)) free_page(cache, loser);
+}
+
+/* Gives a page that is to come a slot, and returns the idle page that leaves for it. There is one. */
+static struct page *chosen_victim(struct cache *cache, struct page *coming) {
+    struct page *loser = cache->capacity == 0 ? NULL : give_slot(cache, coming);
+    for (int attempt = 1; attempt < ATTEMPTS && loser != NULL && !is_idle(loser); attempt++) loser = give_slot(cache, loser);
+    if (loser == NULL || !is_idle(loser)) loser = longest_idle(cache);
+    take_slot_away(cache, loser);
+    return loser;
+}
+
+/* Returns the page of an idle one that leaves, with the slot of the new key. */
+static struct page *reused_page(struct cache *cache, unsigned key) {
+    struct page coming = {.key = key, .slot = NO_SLOT};
+    struct page *page = chosen_victim(cache, &coming);
+    unlink_page(cache, page);
+    make_pinned(cache, page);
+    page->slot = coming.slot;
+    if (page->slot != NO_SLOT) cache->at[page->slot] = page;
+    return page;
+}
+
+/* Whether SQLite's allocator is at its soft limit. */
+static bool is_pressed(void) {
+    sqlite3_int64 limit = sqlite3_soft_heap_limit64(-1);
+    return limit > 0 && sqlite3_memory_used() >= limit;
+}
+
+static struct page *added_page(struct cache *cache, unsigned key, bool is_benign) {
+    bool is_full = cache->is_purgeable && idle_count(cache) > 0 && (cache->total >= cache->wanted || is_pressed());
+    struct page *page;
+    fit_table(cache);
+    fit_index(cache);
+    if (is_full) {
+        page = reused_page(cache, key);
+    } else {
+        page = new_page(cache, is_benign);
+        if (page == NULL) return NULL;
+        page->slot = NO_SLOT;
+    }
+    page->key = key;
+    page->was_hit = false;
+    memset(page->base.pExtra, 0, cache->extra_size);
+    link_page(cache, page);
+    if (!is_full && cache->total <= cache->wanted) index_page(cache, page);
+    return page;
+}
+
+/* The methods. */
+
+static int x_init(void *unused) {
+    (void)unused;
+    return SQLITE_OK;
+}
+
+static void x_shutdown(void *unused) {
+    (void)unused;
+}
+
+static sqlite3_pcache *x_create(int page_size, int extra_size, int is_purgeable) {
+    struct cache *cache = allocated(sizeof *cache, false);
+    struct page **buckets = allocated(FIRST_BUCKETS * sizeof *buckets, false);
+    if (cache == NULL || buckets == NULL) {
+        sqlite3_free(cache);
+        sqlite3_free(buckets);
+        return NULL;
+    }
+    memset(buckets, 0, FIRST_BUCKETS * sizeof *buckets);
+    *cache = (struct cache){
+        .page_size = ((size_t)page_size + 7) / 8 * 8,
+        .extra_size = (size_t)extra_size,
+        .is_purgeable = is_purgeable != 0,
+        .wanted = 100,
+        .buckets = buckets,
+        .bucket_count = FIRST_BUCKETS,
+    };
+    cache->idle.newer = cache->idle.older = &cache->idle;
+    return (sqlite3_pcache *)cache;
+}
+
+static void x_cachesize(sqlite3_pcache *handle, int wanted) {
+    struct cache *cache = (struct cache *)handle;
+    cache->wanted = wanted < 0 ? 0 : (size_t)wanted;
+    if (!cache->is_purgeable) return;
+    free_idle_pages(cache, cache->wanted);
+    if (cache->capacity > cache->wanted) fit_index(cache);
+}
+
+static int x_pagecount(sqlite3_pcache *handle) {
+    return (int)((struct cache *)handle)->total;
+}
+
+/* Whether SQLite should write a page back before another one is made. */
+static bool is_refused(struct cache *cache) {
+    return cache->pinned >= cache->wanted * 9 / 10 || (idle_count(cache) < cache->pinned && is_pressed());
+}
+
+/* Pins an idle page, which is a hit. One that is pinned isn't hit again. */
+static void take_up(struct cache *cache, struct page *page) {
+    make_pinned(cache, page);
+    if (page->slot != NO_SLOT) page->was_hit = clock2q_at(&cache->index, page->slot, page->key);
+}
+
+static sqlite3_pcache_page *x_fetch(sqlite3_pcache *handle, unsigned key, int create) {
+    struct cache *cache = (struct cache *)handle;
+    struct page *page = look_up(cache, key);
+    if (page != NULL) {
+        if (is_idle(page)) take_up(cache, page);
+        return &page->base;
+    }
+    if (create == 0 || (create == 1 && is_refused(cache))) return NULL;
+    page = added_page(cache, key, create == 1);
+    return page == NULL ? NULL : &page->base;
+}
+
+static void x_unpin(sqlite3_pcache *handle, sqlite3_pcache_page *base, int discard) {
+    struct cache *cache = (struct cache *)handle;
+    struct page *page = (struct page *)base;
+    if (discard || (cache->is_purgeable && cache->total > cache->wanted)) {
+        free_page(cache, page);
+        return;
+    }
+    if (page->slot == NO_SLOT && cache->is_purgeable) index_page(cache, page);
+    make_idle(cache, page);
+}
+
+static void x_rekey(sqlite3_pcache *handle, sqlite3_pcache_page *base, unsigned old_key, unsigned new_key) {
+    struct cache *cache = (struct cache *)handle;
+    struct page *page = (struct page *)base;
+    struct page *other = look_up(cache, new_key);
+    if (old_key == new_key) return;
+    if (other != NULL) free_page(cache, other);
+    bool had_slot = page->slot != NO_SLOT;
+    take_slot_away(cache, page);
+    unlink_page(cache, page);
+    page->key = new_key;
+    link_page(cache, page);
+    if (had_slot) index_page(cache, page);
+}
+
+static void free_bucket_from(struct cache *cache, size_t bucket, unsigned limit) {
+    for (struct page *page = cache->buckets[bucket], *next; page != NULL; page = next) {
+        next = page->next;
+        if (page->key >= limit) free_page(cache, page);
+    }
+}
+
+static void x_truncate(sqlite3_pcache *handle, unsigned limit) {
+    struct cache *cache = (struct cache *)handle;
+    if (limit > cache->highest) return;
+    size_t keys = (size_t)cache->highest - limit + 1;
+    size_t buckets = smaller(keys, cache->bucket_count);
+    for (size_t i = 0; i < buckets; i++) free_bucket_from(cache, (limit + i) & (cache->bucket_count - 1), limit);
+    cache->highest = limit == 0 ? 0 : limit - 1;
+}
+
+static void x_destroy(sqlite3_pcache *handle) {
+    struct cache *cache = (struct cache *)handle;
+    free_index(cache);
+    for (size_t bucket = 0; bucket < cache->bucket_count; bucket++) free_bucket_from(cache, bucket, 0);
+    sqlite3_free(cache->buckets);
+    sqlite3_free(cache);
+}
+
+static void x_shrink(sqlite3_pcache *handle) {
+    struct cache *cache = (struct cache *)handle;
+    if (!cache->is_purgeable) return;
+    free_idle_pages(cache, 0);
+    if (cache->total == 0) free_index(cache);
+}
+
+int clock2q_sqlite(void) {
+    static const sqlite3_pcache_methods2 methods = {
+        .iVersion = 1,
+        .xInit = x_init,
+        .xShutdown = x_shutdown,
+        .xCreate = x_create,
+        .xCachesize = x_cachesize,
+        .xPagecount = x_pagecount,
+        .xFetch = x_fetch,
+        .xUnpin = x_unpin,
+        .xRekey = x_rekey,
+        .xTruncate = x_truncate,
+        .xDestroy = x_destroy,
+        .xShrink = x_shrink,
+    };
+    return sqlite3_config(SQLITE_CONFIG_PCACHE2, &methods);
+}

@@ -1,0 +1,171 @@
+/* workload CACHE KIND PAGES FILE: one workload on a database of its own in FILE, on the page cache
+ * `clock2q` or `sqlite`, with this cache_size. Prints the misses, the spilled pages, the most pages
+ * that there were, and a checksum of every answer, which doesn't depend on the cache.
+ *
+ * The kinds: `reads` looks rows up, some far oftener than others, with a scan of the table now and
+ * then; `updates` changes random rows, 100 in a transaction; `mixed` does both, with ranges and
+ * rollbacks. Under valgrind --tool=callgrind --toggle-collect=KIND it counts instructions, without
+ * those of making the database. */
+#include "pcache_clock2q.h"
+
+#include <sqlite3.h>
+#include <stdint.h>
+#include <stdio.h>
+#include <stdlib.h>
+#include <string.h>
+
+#ifndef ROWS
+#define ROWS 400000
+#endif
+
+enum { CALLS = ROWS / 10 };
+
+static sqlite3_pcache_methods2 counted;
+static int most_pages;
+static uint64_t drawn = 88172645463325252u, checksum = 14695981039346656037u;
+
+static sqlite3_pcache_page *counted_fetch(sqlite3_pcache *cache, unsigned key, int create) {
+    sqlite3_pcache_page *page = counted.xFetch(cache, key, create);
+    int pages = create == 0 ? 0 : counted.xPagecount(cache);
+    if (pages > most_pages) most_pages = pages;
+    return page;
+}
+
+static void must(int holds, sqlite3 *database, const char *what) {
+    if (holds) return;
+    fprintf(stderr, "workload: %s: %s\n", what, database == NULL ? "" : sqlite3_errmsg(database));
+    exit(1);
+}
+
+static void count_pages(void) {
+    must(sqlite3_config(SQLITE_CONFIG_GETPCACHE2, &counted) == SQLITE_OK, NULL, "no methods");
+    sqlite3_pcache_methods2 methods = counted;
+    methods.xFetch = counted_fetch;
+    must(sqlite3_config(SQLITE_CONFIG_PCACHE2, &methods) == SQLITE_OK, NULL, "no page cache");
+}
+
+static uint64_t below(uint64_t bound) {
+    drawn ^= drawn << 13;
+    drawn ^= drawn >> 7;
+    drawn ^= drawn << 17;
+    return (drawn >> 11) % bound;
+}
+
+/* Each level has twice the rows of the one before, and all levels are as likely. */
+static int drawn_row(void) {
+    uint64_t level = below(18), rank = (UINT64_C(1) << level) + below(UINT64_C(1) << level);
+    return (int)(rank * 2654435761u % ROWS) + 1;
+}
+
+static void execute(sqlite3 *database, const char *text) {
+    must(sqlite3_exec(database, text, NULL, NULL, NULL) == SQLITE_OK, database, text);
+}
+
+static sqlite3_stmt *prepared(sqlite3 *database, const char *text) {
+    sqlite3_stmt *statement;
+    must(sqlite3_prepare_v2(database, text, -1, &statement, NULL) == SQLITE_OK, database, text);
+    return statement;
+}
+
+/* Runs a statement with numbers for its parameters, and adds each answer to the checksum. */
+static void run(sqlite3_stmt *statement, sqlite3_int64 one, sqlite3_int64 other) {
+    int status;
+    sqlite3_bind_int64(statement, 1, one);
+    sqlite3_bind_int64(statement, 2, other);
+    while ((status = sqlite3_step(statement)) == SQLITE_ROW) {
+        for (int column = 0; column < sqlite3_column_count(statement); column++) {
+            checksum = (checksum ^ (uint64_t)sqlite3_column_int64(statement, column)) * 1099511628211u;
+        }
+    }
+    must(status == SQLITE_DONE, sqlite3_db_handle(statement), "a step");
+    sqlite3_reset(statement);
+}
+
+static sqlite3 *made_database(const char *file, int pages) {
+    sqlite3 *database;
+    char text[200];
+    remove(file);
+    must(sqlite3_open(file, &database) == SQLITE_OK, database, "open");
+    snprintf(text, sizeof text, "PRAGMA cache_size=%d; PRAGMA synchronous=OFF;", pages);
+    execute(database, text);
+    execute(database, "CREATE TABLE t(id INTEGER PRIMARY KEY, a INTEGER, b INTEGER, c TEXT); BEGIN");
+    sqlite3_stmt *insert = prepared(database, "INSERT INTO t VALUES(?1, ?2, ?1 % 97, printf('%.100c', 'x'))");
+    for (int row = 1; row <= ROWS; row++) run(insert, row, (sqlite3_int64)below(1000000007));
+    sqlite3_finalize(insert);
+    execute(database, "COMMIT; CREATE INDEX ta ON t(a)");
+    return database;
+}
+
+__attribute__((noinline)) static void reads(sqlite3 *database) {
+    sqlite3_stmt *get = prepared(database, "SELECT a, b, length(c), ?2 FROM t WHERE id = ?1");
+    sqlite3_stmt *scan = prepared(database, "SELECT count(*), sum(b), sum(length(c)), ?1, ?2 FROM t");
+    for (int call = 1; call <= CALLS; call++) {
+        run(get, drawn_row(), 0);
+        if (call % 5000 == 0) run(scan, 0, 0);
+    }
+    sqlite3_finalize(get);
+    sqlite3_finalize(scan);
+}
+
+__attribute__((noinline)) static void updates(sqlite3 *database) {
+    sqlite3_stmt *update = prepared(database, "UPDATE t SET a = a + ?2, b = b + 1 WHERE id = ?1");
+    for (int call = 1; call <= CALLS; call++) {
+        if (call % 100 == 1) execute(database, "BEGIN");
+        run(update, 1 + (sqlite3_int64)below(ROWS), call);
+        if (call % 100 == 0) execute(database, "COMMIT");
+    }
+    sqlite3_finalize(update);
+}
+
+__attribute__((noinline)) static void mixed(sqlite3 *database) {
+    sqlite3_stmt *get = prepared(database, "SELECT a, b, length(c), ?2 FROM t WHERE id = ?1");
+    sqlite3_stmt *range = prepared(database, "SELECT count(*), sum(b) FROM t WHERE a BETWEEN ?1 AND ?2");
+    sqlite3_stmt *update = prepared(database, "UPDATE t SET a = a + 1, b = b + ?2 WHERE id BETWEEN ?1 AND ?1 + 20");
+    for (int call = 1; call <= CALLS; call++) {
+        run(get, drawn_row(), 0);
+        if (call % 50 == 0) {
+            sqlite3_int64 from = (sqlite3_int64)below(1000000007);
+            run(range, from, from + 1000000);
+        }
+        if (call % 300 != 0) continue;
+        execute(database, "BEGIN");
+        for (int i = 0; i < 30; i++) run(update, drawn_row(), i);
+        execute(database, call % 900 == 0 ? "ROLLBACK" : "COMMIT");
+    }
+    sqlite3_finalize(get);
+    sqlite3_finalize(range);
+    sqlite3_finalize(update);
+}
+
+static int counter(sqlite3 *database, int which) {
+    int now, highest;
+    sqlite3_db_status(database, which, &now, &highest, 0);
+    return now;
+}
+
+static void check_integrity(sqlite3 *database) {
+    sqlite3_stmt *check = prepared(database, "PRAGMA integrity_check");
+    must(sqlite3_step(check) == SQLITE_ROW, database, "integrity_check");
+    must(strcmp((const char *)sqlite3_column_text(check, 0), "ok") == 0, NULL, "the database is corrupt");
+    sqlite3_finalize(check);
+}
+
+int main(int count, char **words) {
+    if (count != 5) return 2;
+    const char *kind = words[2];
+    if (strcmp(words[1], "clock2q") == 0) must(clock2q_sqlite() == SQLITE_OK, NULL, "no page cache");
+    count_pages();
+    sqlite3 *database = made_database(words[4], atoi(words[3]));
+    if (strcmp(kind, "reads") == 0) {
+        reads(database);
+    } else if (strcmp(kind, "updates") == 0) {
+        updates(database);
+    } else {
+        mixed(database);
+    }
+    int misses = counter(database, SQLITE_DBSTATUS_CACHE_MISS), spills = counter(database, SQLITE_DBSTATUS_CACHE_SPILL);
+    check_integrity(database);
+    must(sqlite3_close(database) == SQLITE_OK, database, "close");
+    printf("%d %d %d %016llx\n", misses, spills, most_pages, (unsigned long long)checksum);
+    return 0;
+}

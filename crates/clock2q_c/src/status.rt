@@ -1,0 +1,27 @@
+//! The numbers that a constructor answers with.
+ghost use Rattle.std.specs.Prelude.{◌≡◌, ◌≢◌, ◌↔◌};
+
+use clock2q_cache::CacheError;
+
+/// There is a cache now.
+pub const DONE: u32 = 0;
+/// A request for memory was refused, and nothing is kept of what was taken.
+pub const NO_MEMORY: u32 = 1;
+/// The capacity is 0 or above 16,777,215.
+pub const BAD_CAPACITY: u32 = 2;
+/// The shares leave Main no slot, or don't fit together.
+pub const BAD_POLICY: u32 = 3;
+
+/// Returns the number of a refusal.
+pub(crate) fn status_of(refusal: CacheError) -> u32
+    ensures refused { result ≢ DONE }
+    ensures memory { (result ≡ NO_MEMORY) ↔ (refusal ≡ CacheError.Memory) }
+    ensures capacity { (result ≡ BAD_CAPACITY) ↔ (refusal ≡ CacheError.Capacity) }
+    ensures policy { (result ≡ BAD_POLICY) ↔ (refusal ≡ CacheError.Policy) }
+{
+    match refusal {
+        CacheError::Memory => NO_MEMORY,
+        CacheError::Capacity => BAD_CAPACITY,
+        CacheError::Policy => BAD_POLICY,
+    }
+}

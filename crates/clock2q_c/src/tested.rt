@@ -1,0 +1,85 @@
+//! The exports, called as C calls them.
+ghost use Rattle.std.specs.Prelude.{◌≡◌, ◌≢◌, ◌↔◌, IsSome, None};
+
+use crate::calls::Place;
+use crate::handle::Handle;
+use crate::{
+    BAD_CAPACITY, BAD_POLICY, DONE, clock2q_at, clock2q_capacity, clock2q_clear, clock2q_contains,
+    clock2q_enter, clock2q_find, clock2q_len, clock2q_new, clock2q_release, clock2q_remove,
+    clock2q_with_policy,
+};
+use std::alloc::Global;
+use std::test::Fail;
+
+fn nowhere() -> Place {
+    Place {
+        slot: 0,
+        last: 0,
+        has_last: false,
+    }
+}
+
+#[test]
+fn keys_in_two_slots(rt: HostRuntime) -> Result<(), Fail> {
+    let alloc = rt.alloc();
+    let mut handle = Handle::none(alloc);
+    if clock2q_new(alloc, &mut handle, 2) != DONE {
+        handle.discard();
+        return Err("no memory".into());
+    }
+    let mut place = nowhere();
+    let mut slot = 9;
+    clock2q_enter(alloc, &mut handle, 70, &mut place);
+    assert_eq!(rt; (place.slot, place.has_last), (0, false));
+    clock2q_enter(alloc, &mut handle, 80, &mut place);
+    assert_eq!(rt; (place.slot, place.has_last), (1, false));
+    clock2q_enter(alloc, &mut handle, 90, &mut place);
+    assert_eq!(rt; (place.slot, place.last, place.has_last), (0, 70, true));
+    assert!(rt; !clock2q_find(alloc, &mut handle, 70, &mut slot));
+    assert_eq!(rt; slot, 9);
+    assert!(rt; clock2q_find(alloc, &mut handle, 80, &mut slot));
+    assert_eq!(rt; slot, 1);
+    assert!(rt; clock2q_at(alloc, &mut handle, 0, 90));
+    assert!(rt; !clock2q_at(alloc, &mut handle, 1, 90));
+    assert!(rt; clock2q_contains(alloc, &mut handle, 90));
+    assert!(rt; clock2q_remove(alloc, &mut handle, 90));
+    assert!(rt; !clock2q_contains(alloc, &mut handle, 90));
+    assert_eq!(rt; clock2q_len(alloc, &mut handle), 1);
+    clock2q_clear(alloc, &mut handle);
+    assert_eq!(rt; clock2q_len(alloc, &mut handle), 0);
+    assert_eq!(rt; clock2q_capacity(alloc, &mut handle), 2);
+    clock2q_release(handle);
+    Ok(())
+}
+
+#[test]
+fn refused_caches(rt: HostRuntime) -> Result<(), Fail> {
+    let alloc = rt.alloc();
+    let mut none = Handle::none(alloc);
+    let status = clock2q_new(alloc, &mut none, 0);
+    assert_eq!(rt; let_go(none, status), BAD_CAPACITY);
+    let mut too_large = Handle::none(alloc);
+    let status = clock2q_with_policy(alloc, &mut too_large, 16_777_216, 1, 1);
+    assert_eq!(rt; let_go(too_large, status), BAD_CAPACITY);
+    let mut all_small = Handle::none(alloc);
+    let status = clock2q_with_policy(alloc, &mut all_small, 10, 10, 1);
+    assert_eq!(rt; let_go(all_small, status), BAD_POLICY);
+    let mut made = Handle::none(alloc);
+    let status = clock2q_with_policy(alloc, &mut made, 10, 5, 2);
+    assert_eq!(rt; let_go(made, status), DONE);
+    Ok(())
+}
+
+/// Lets go of what a constructor made, and returns the constructor's answer.
+fn let_go(handle: Handle, status: u32) -> u32
+    requires holds { IsSome handle.cache ↔ (status ≡ DONE) }
+    requires refused { status ≢ DONE → handle.cache ≡ None }
+    ensures status { result ≡ status }
+{
+    if status == DONE {
+        clock2q_release(handle);
+    } else {
+        handle.discard();
+    }
+    status
+}
