@@ -2,6 +2,7 @@ pub mod Booleans
 pub mod Entries
 pub mod Forgetting
 pub mod Hand
+pub mod Hashed
 pub mod Histories
 pub mod Hits
 pub mod Indexes

@@ -1,6 +1,6 @@
 use Rattle.std.proofs.Common.{ℕ, ap}
 use Rattle.clock2q_queues.specs.History.{Remembered}
-use Rattle.clock2q_queues_tests.proofs.Hashed.{has_hash, all-forgotten, absent-forgotten}
+use Rattle.clock2q_queues.proofs.Hashed.{has_hash, all-forgotten, absent-forgotten}
 use Rattle.clock2q_queues_tests.proofs.history.forget.Goals as goal
 
 pub discard-requires : goal.discard-requires

@@ -1,6 +1,6 @@
 use Rattle.std.proofs.Common.{ℕ, ◌%◌, ◌∷◌, ap, refl}
 use Rattle.clock2q_queues.specs.History.{Remembered}
-use Rattle.clock2q_queues_tests.proofs.Hashed.{all-take}
+use Rattle.clock2q_queues.proofs.Hashed.{all-take}
 use Rattle.clock2q_queues_tests.proofs.history.renew.Goals as goal
 
 pub returns : goal.returns
