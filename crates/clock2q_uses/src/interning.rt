@@ -1,6 +1,6 @@
 //! Key interning: each key gets a small number, and equal keys get the same one.
 ghost use Rattle.clock2q_uses.specs.Interning.{spread};
-ghost use Rattle.std.specs.Prelude.{◌≡◌, ◌≢◌, ◌⊎◌, ℕ, [], Some, IfOk, IfSome, IfNone, slice_get};
+ghost use Rattle.std.specs.Prelude.{◌≡◌, ◌≢◌, ◌⊎◌, ℕ, [], Some, IfOk, OnErr, IfSome, IfNone, slice_get};
 
 use clock2q::handles::{Table, TableError};
 use std::alloc::Global;
@@ -72,6 +72,7 @@ impl Interner {
         ensures same { IfOk result (λ number. (other : ℕ) → slice_get self.old other ≡ Some key → number ≡ other) }
         ensures only { (number held : ℕ) → slice_get self.new number ≡ Some held → (slice_get self.old number ≡ Some held) ⊎ (held ≡ key) }
         ensures kept { (number held : ℕ) → slice_get self.old number ≡ Some held → slice_get self.new number ≡ Some held }
+        ensures refused { OnErr result (self.new ≡ self.old) }
     {
         if self.keys.reserve(1).is_err() {
             return Err(TableError::Memory);

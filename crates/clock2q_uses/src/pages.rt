@@ -2,7 +2,7 @@
 ghost use Rattle.clock2q_pages.specs.Pages.{IsLoaded, resident_frame};
 ghost use Rattle.clock2q_uses.specs.Pages.{AreLoaded};
 ghost use Rattle.std.specs.NonZero.{non_zero_usize_get};
-ghost use Rattle.std.specs.Prelude.{◌≡◌, ◌≢◌, ◌<◌, ◌≤◌, ◌↔◌, Err, Some, IfOk, IsErrOf, length, map, slice_get};
+ghost use Rattle.std.specs.Prelude.{◌≡◌, ◌≢◌, ◌<◌, ◌≤◌, ◌↔◌, Err, Some, IfOk, OnErr, IsErrOf, length, map, slice_get};
 
 use clock2q::{Cache, CacheError, MAX_CAPACITY};
 use clock2q_pages::frame_of;
@@ -51,6 +51,7 @@ pub fn read_pages<T: Copy>(
 ) -> Result<Vec<Option<T>>, CacheError>
     requires frames { non_zero_usize_get capacity ≤ length frames.old }
     ensures pages { IfOk result (λ read. read.items ≡ map (slice_get file.now) numbers.now) }
+    ensures unread { OnErr result (frames.new ≡ frames.old) }
     ensures capacity { IsErrOf result CacheError.Capacity ↔ (MAX_CAPACITY < non_zero_usize_get capacity) }
     ensures policy { result ≢ Err CacheError.Policy }
 {

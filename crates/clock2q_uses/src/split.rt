@@ -1,7 +1,7 @@
 //! A split index: several tables, of which a key's hash picks one.
 ghost use Rattle.clock2q_uses.specs.Interning.{spread};
 ghost use Rattle.clock2q_handles.specs.Partition.{IsPartitionCount, IsGroupOf};
-ghost use Rattle.std.specs.Prelude.{◌≡◌, ◌≢◌, ◌<◌, ℕ, [], Some, IfOk, IfSome, IfNone, get_or, length, replicate, slice_get};
+ghost use Rattle.std.specs.Prelude.{◌≡◌, ◌≢◌, ◌<◌, ◌⊎◌, ℕ, [], Some, IfOk, OnErr, IfSome, IfNone, get_or, length, replicate, slice_get};
 
 use crate::interning::{Interner, hash_of};
 use clock2q::handles::{TableError, partition};
@@ -71,6 +71,8 @@ impl SplitIndex {
     pub fn insert(&mut self, key: u64) -> Result<usize, TableError>
         ensures stands { IfOk result (λ number. (part : ℕ) → IsGroupOf (spread key) (length self.old) part → slice_get (get_or self.new part []) number ≡ Some key) }
         ensures kept { (part number held : ℕ) → slice_get (get_or self.old part []) number ≡ Some held → slice_get (get_or self.new part []) number ≡ Some held }
+        ensures only { (part number held : ℕ) → slice_get (get_or self.new part []) number ≡ Some held → (slice_get (get_or self.old part []) number ≡ Some held) ⊎ (held ≡ key) }
+        ensures refused { OnErr result (self.new ≡ self.old) }
         ensures parts { length self.new ≡ length self.old }
     {
         let part = self.part_of(key);
