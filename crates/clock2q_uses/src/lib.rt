@@ -8,5 +8,6 @@ pub mod hashers;
 pub mod interning;
 pub mod pages;
 pub mod replay;
+pub mod routes;
 pub mod split;
 pub mod squares;
