@@ -35,15 +35,25 @@ fn runs(rt: HostRuntime) -> Result<(), Fail> {
 }
 
 #[test]
-fn refusals(rt: HostRuntime) -> Result<(), Fail> {
+fn largest_capacity(rt: HostRuntime) -> Result<(), Fail> {
     let largest = NonZeroUsize::new(MAX_CAPACITY).ok_or("not zero")?;
     let cache = Cache::<u64, u64, _, _>::new(rt.alloc(), largest)?;
     assert_eq!(rt; cache.capacity(), 16_777_215);
+    Ok(())
+}
+
+#[test]
+fn too_large_a_capacity(rt: HostRuntime) -> Result<(), Fail> {
     let too_large = NonZeroUsize::new(MAX_CAPACITY + 1).ok_or("not zero")?;
     match Cache::<u64, u64, _, _>::new(rt.alloc(), too_large) {
         Ok(_) => assert!(rt; false, "made"),
         Err(refusal) => assert_eq!(rt; refusal, CacheError::Capacity),
     }
+    Ok(())
+}
+
+#[test]
+fn refusals_show(rt: HostRuntime) -> Result<(), Fail> {
     for (refusal, text) in [
         (CacheError::Memory, "no memory"),
         (CacheError::Capacity, "capacity refused"),
