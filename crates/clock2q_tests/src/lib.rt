@@ -6,8 +6,6 @@ mod caches;
 #[cfg(test)]
 mod closures;
 #[cfg(test)]
-mod devices;
-#[cfg(test)]
 mod draws;
 #[cfg(test)]
 mod plain_table;
@@ -17,9 +15,3 @@ mod policies;
 mod table_commands;
 #[cfg(test)]
 mod table_lists;
-#[cfg(test)]
-mod text_edges;
-#[cfg(test)]
-mod text_lines;
-#[cfg(test)]
-mod texts;

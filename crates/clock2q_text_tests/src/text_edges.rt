@@ -1,7 +1,7 @@
 //! Lines that are almost commands.
 
 use crate::texts::served;
-use clock2q::command::ServeError;
+use clock2q_command::ServeError;
 use std::alloc::{AllocError, Global};
 use std::test::Fail;
 

@@ -1,7 +1,7 @@
 //! Devices that give and take a few bytes at a time, and fail at one of their calls.
 
 use crate::texts::served;
-use clock2q::command::{Device, Failed, ServeError, Sink, Source, serve};
+use clock2q_command::{Device, Failed, ServeError, Sink, Source, serve};
 use std::alloc::{AllocError, Global};
 use std::io::{Error, ErrorKind, Read, Result as IoResult, Write};
 use std::test::Fail;

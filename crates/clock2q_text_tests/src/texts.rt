@@ -1,6 +1,6 @@
 //! Command texts, and what they are answered.
 
-use clock2q::command::{Device, ServeError, serve};
+use clock2q_command::{Device, ServeError, serve};
 use std::alloc::{AllocError, Global};
 use std::test::Fail;
 
