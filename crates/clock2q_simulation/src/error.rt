@@ -2,9 +2,47 @@
 ghost use Rattle.std.specs.Prelude.{◌≡◌};
 
 use clock2q_cache::CacheError;
-use std::alloc::AllocError;
+use std::alloc::{AllocError, Global};
 use std::io;
 use thiserror::Error;
+
+/// What is wrong with an argument.
+///
+/// # Example
+///
+/// ```
+/// assert_eq!(rt; format!(in rt.alloc(); "{}", Fault::UnknownOption)?.as_str(), "unknown option");
+/// ```
+#[derive(Debug, Clone, Copy, PartialEq, Eq, Error)]
+pub enum Fault {
+    /// It begins with a dash, and no option is named so.
+    #[error("unknown option")]
+    UnknownOption,
+    /// It is no number from 1 on, and has no dots between two numbers either.
+    #[error("not a capacity (a number from 1 to 16777215, or a range such as 10..1000)")]
+    NotCapacity,
+    /// An end of the range is no number from 1 on.
+    #[error("not a range (two numbers from 1 to 16777215, as 10..1000)")]
+    NotRange,
+    /// The range ends below its beginning.
+    #[error("range whose ends are the wrong way round")]
+    ReversedRange,
+    /// No policy has this name.
+    #[error("unknown policy (--help names them)")]
+    UnknownPolicy,
+    /// The policy is named twice.
+    #[error("policy named twice")]
+    RepeatedPolicy,
+    /// The option is given twice.
+    #[error("option given twice")]
+    RepeatedOption,
+    /// Another form is asked for before.
+    #[error("a second form beside another one")]
+    SecondForm,
+    /// No names come after it.
+    #[error("no names of policies after it")]
+    NoPolicies,
+}
 
 /// Why a simulation gave no result, or not all of it.
 ///
@@ -12,14 +50,19 @@ use thiserror::Error;
 ///
 /// ```
 /// let refused = parse_options(rt.alloc(), &[]); // without a capacity
-/// assert_eq!(rt; refused.err(), Some(SimulationError::Usage));
+/// assert_eq!(rt; refused.err(), Some(SimulationError::NoCapacity));
 /// ```
-#[derive(Debug, Clone, Copy, PartialEq, Eq, Error)]
+#[derive(Debug, Drop, PartialEq, Eq, Error)]
 pub enum SimulationError {
-    /// An argument is neither an option nor a number from 1 on, there is no capacity, or there are
-    /// two forms of output or two lists of policies, or a policy is unknown.
-    #[error("usage: clock2q-simulate [--csv | --svg] [--policies NAMES] CAPACITY.. < trace (--help tells more)")]
-    Usage,
+    /// An argument is wrong: which one, and why.
+    #[error("clock2q-simulate: {1}: {0}")]
+    Argument(Fault, String),
+    /// An argument is not in UTF-8.
+    #[error("clock2q-simulate: an argument is not in UTF-8")]
+    NotText,
+    /// No argument is a capacity.
+    #[error("clock2q-simulate: no capacity (--help tells what to write)")]
+    NoCapacity,
     /// A capacity is above [`MAX_CAPACITY`](clock2q_cache::MAX_CAPACITY).
     #[error("capacity refused")]
     Capacity,
@@ -43,9 +86,27 @@ impl SimulationError {
         ensures status { result ≡ status_of self.now }
     {
         match self {
-            SimulationError::Usage => 2,
+            SimulationError::Argument(..)
+            | SimulationError::NotText
+            | SimulationError::NoCapacity => 2,
             SimulationError::Memory | SimulationError::Capacity => 3,
             SimulationError::Read | SimulationError::Write => 4,
+        }
+    }
+
+    /// Returns what it comes to that the arguments can't be had: `Memory`, or `NotText`.
+    pub fn of_arguments(error: &io::Error) -> SimulationError {
+        match error.kind() {
+            io::ErrorKind::OutOfMemory => SimulationError::Memory,
+            _ => SimulationError::NotText,
+        }
+    }
+
+    // Returns the complaint about an argument, or `Memory` if its text can't be kept.
+    pub(crate) fn of_argument(alloc: Global, fault: Fault, argument: &str) -> SimulationError {
+        match String::from_str(alloc, argument) {
+            Ok(argument) => SimulationError::Argument(fault, argument),
+            Err(_) => SimulationError::Memory,
         }
     }
 

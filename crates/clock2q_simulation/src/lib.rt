@@ -3,6 +3,7 @@
 #![tactic(auto)]
 
 mod axis;
+mod capacities;
 mod clock;
 mod error;
 mod options;
@@ -17,7 +18,7 @@ mod texts;
 mod trace;
 
 pub use clock::clock2q_hits;
-pub use error::SimulationError;
+pub use error::{Fault, SimulationError};
 pub use options::{Format, HELP, Options, parse_options};
 pub use policy::{Policy, policy_hits};
 pub use progress::Progress;

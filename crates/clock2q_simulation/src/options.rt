@@ -3,7 +3,8 @@ ghost use Rattle.std.specs.List.{All};
 ghost use Rattle.std.specs.NonZero.{non_zero_usize_get};
 ghost use Rattle.std.specs.Prelude.{◌<◌, ◌≤◌, IfOk, length};
 
-use crate::error::SimulationError;
+use crate::capacities::capacities_of;
+use crate::error::{Fault, SimulationError};
 use crate::policy::Policy;
 use clock2q_cache::MAX_CAPACITY;
 use std::alloc::{AllocError, Global};
@@ -56,7 +57,8 @@ accesses hit with Clock2Q+ and with other policies.
 A trace is a list of accesses, a key a line, in the order in which they were
 made: the names of the files, blocks or pages that were asked for. A key is a
 line of any bytes. A capacity is how many keys a cache holds, from 1 to
-16777215; several of them give a row each.
+16777215; several of them give a row each. A range such as 10..1000 stands for
+its ends and for the numbers 1, 2, 5, 10, 20, 50 and so on between them.
 
     printf 'a\\nb\\na\\nc\\nb\\nd\\na\\nb\\n' | ./clock2q-simulate 2 3
     ./clock2q-simulate --svg --policies clock2q,lru,opt 9 50 <trace >hits.svg
@@ -74,15 +76,16 @@ memory ran out; 4 where reading or writing failed. The first start proves and
 builds the program, which takes minutes.
 ";
 
-/// Reads arguments: capacities, at most one option that asks for a form, and `--policies` at most
-/// once, with the names of policies after it.
+/// Reads arguments: capacities and ranges of them, at most one option that asks for a form, and
+/// `--policies` at most once, with the names of policies after it.
 ///
 /// # Errors
 ///
-/// `Usage` where an argument is neither, where there is no capacity, or where an option is
-/// repeated or contradicts another one, or names no policy;
-/// `Capacity` where a capacity is above `MAX_CAPACITY`; `Memory` where the list of capacities can't
-/// be had. The arguments are read in order, and the first bad one ends the call with its error.
+/// `Argument` where an argument is none of these, is repeated, or contradicts an earlier one; then
+/// it holds the argument, or the name of the policy that is wrong. `Capacity` where a capacity or
+/// an end of a range is above `MAX_CAPACITY`; `NoCapacity` where there is none; `Memory` where a
+/// request for memory is refused. The arguments are read in order, and the first bad one ends the
+/// call with its error.
 ///
 /// # Cost
 ///
@@ -96,28 +99,27 @@ pub fn parse_options(alloc: Global, arguments: &[String]) -> Result<Options, Sim
     let mut is_list = false;
     let mut capacities = Vec::new(alloc);
     for argument in arguments {
+        let argument = argument.as_str();
         if is_list {
-            policies = Some(policies_of(alloc, argument.as_str())?);
+            policies = Some(policies_of(alloc, argument)?);
             is_list = false;
-            continue;
-        }
-        if argument.as_str() == "--policies" {
+        } else if argument == "--policies" {
             if policies.is_some() {
-                return Err(SimulationError::Usage);
+                return Err(SimulationError::of_argument(alloc, Fault::RepeatedOption, argument));
             }
             is_list = true;
-            continue;
-        }
-        match format_of(argument.as_str()) {
-            Some(_) if format.is_some() => return Err(SimulationError::Usage),
-            Some(asked) => format = Some(asked),
-            None => capacities
-                .push(capacity_of(argument.as_str())?)
-                .map_err(AllocError::from)?,
+        } else if let Some(asked) = format_of(argument) {
+            format = Some(only_format(alloc, format, asked, argument)?);
+        } else {
+            let more = capacities_of(alloc, argument)?;
+            capacities.extend_from_slice(&more)?;
         }
     }
-    if is_list || capacities.is_empty() {
-        return Err(SimulationError::Usage);
+    if is_list {
+        return Err(SimulationError::of_argument(alloc, Fault::NoPolicies, "--policies"));
+    }
+    if capacities.is_empty() {
+        return Err(SimulationError::NoCapacity);
     }
     Ok(Options {
         format: format.unwrap_or(Format::Table),
@@ -133,12 +135,13 @@ pub fn parse_options(alloc: Global, arguments: &[String]) -> Result<Options, Sim
 fn policies_of(alloc: Global, names: &str) -> Result<Vec<Policy>, SimulationError> {
     let mut policies: Vec<Policy> = Vec::new(alloc);
     for name in names.split(',') {
-        match Policy::named(name) {
-            Some(policy) if !policies.contains(&policy) => {
-                policies.push(policy).map_err(AllocError::from)?;
-            }
-            _ => return Err(SimulationError::Usage),
+        let Some(policy) = Policy::named(name) else {
+            return Err(SimulationError::of_argument(alloc, Fault::UnknownPolicy, name));
+        };
+        if policies.contains(&policy) {
+            return Err(SimulationError::of_argument(alloc, Fault::RepeatedPolicy, name));
         }
+        policies.push(policy).map_err(AllocError::from)?;
     }
     Ok(policies)
 }
@@ -152,18 +155,18 @@ fn format_of(argument: &str) -> Option<Format> {
     }
 }
 
-// Returns the capacity that digits write. One that is too large for a number is too large for a
-// cache.
-fn capacity_of(argument: &str) -> Result<NonZeroUsize, SimulationError>
-    ensures within { IfOk result (λ capacity. non_zero_usize_get capacity ≤ MAX_CAPACITY) }
-{
-    let digits = argument.as_bytes();
-    if digits.is_empty() || !digits.iter().all(|byte| byte.is_ascii_digit()) {
-        return Err(SimulationError::Usage);
+// Returns the form that an option asks for, if none was asked for before.
+fn only_format(
+    alloc: Global,
+    earlier: Option<Format>,
+    asked: Format,
+    argument: &str,
+) -> Result<Format, SimulationError> {
+    match earlier {
+        None => Ok(asked),
+        Some(format) if format == asked => {
+            Err(SimulationError::of_argument(alloc, Fault::RepeatedOption, argument))
+        }
+        Some(_) => Err(SimulationError::of_argument(alloc, Fault::SecondForm, argument)),
     }
-    let value = argument.parse::<usize>().unwrap_or(usize::MAX);
-    if value > MAX_CAPACITY {
-        return Err(SimulationError::Capacity);
-    }
-    NonZeroUsize::new(value).ok_or(SimulationError::Usage)
 }

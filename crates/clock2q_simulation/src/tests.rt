@@ -70,27 +70,75 @@ fn hits_of_each_policy(rt: HostRuntime) -> Result<(), Fail> {
     Ok(())
 }
 
+// Returns what is said of a line of refused arguments, and the status.
+fn complaint_of(alloc: Global, line: &str) -> Result<(String, u8), Fail> {
+    match options_of(alloc, line) {
+        Ok(_) => Err(Fail::from("not refused")),
+        Err(refusal) => Ok((format!(in alloc; "{refusal}")?, refusal.status())),
+    }
+}
+
+#[test]
+fn refused_capacities(rt: HostRuntime) -> Result<(), Fail> {
+    let capacity = "not a capacity (a number from 1 to 16777215, or a range such as 10..1000)";
+    let range = "not a range (two numbers from 1 to 16777215, as 10..1000)";
+    let cases = [
+        ("0", capacity),
+        ("+5", capacity),
+        ("ten", capacity),
+        ("..", range),
+        ("1..", range),
+        ("a..9", range),
+        ("0..9", range),
+        ("1..2..3", range),
+        ("9..8", "range whose ends are the wrong way round"),
+    ];
+    for (word, wanted) in cases {
+        let (text, status) = complaint_of(rt.alloc(), word)?;
+        let wanted = format!(in rt.alloc(); "clock2q-simulate: {word}: {wanted}")?;
+        assert_eq!(rt; text.as_str(), wanted.as_str());
+        assert_eq!(rt; status, 2);
+    }
+    for line in ["5 16777216", "1..16777216", "99999999999999999999999"] {
+        let (text, status) = complaint_of(rt.alloc(), line)?;
+        assert_eq!(rt; text.as_str(), "capacity refused");
+        assert_eq!(rt; status, 3);
+    }
+    Ok(())
+}
+
+#[test]
+fn refused_options(rt: HostRuntime) -> Result<(), Fail> {
+    let cases = [
+        ("", "no capacity (--help tells what to write)"),
+        ("--csv", "no capacity (--help tells what to write)"),
+        ("--csv --svg 5", "--svg: a second form beside another one"),
+        ("--csv 5 --csv", "--csv: option given twice"),
+        ("--helpless 5", "--helpless: unknown option"),
+        ("-5", "-5: unknown option"),
+        ("5 --policies", "--policies: no names of policies after it"),
+        (
+            "5 --policies lru,new",
+            "new: unknown policy (--help names them)",
+        ),
+        ("5 --policies lru,", ": unknown policy (--help names them)"),
+        ("5 --policies lru,opt,lru", "lru: policy named twice"),
+        (
+            "--policies lru --policies opt",
+            "--policies: option given twice",
+        ),
+    ];
+    for (line, wanted) in cases {
+        let (text, status) = complaint_of(rt.alloc(), line)?;
+        let wanted = format!(in rt.alloc(); "clock2q-simulate: {wanted}")?;
+        assert_eq!(rt; text.as_str(), wanted.as_str());
+        assert_eq!(rt; status, 2);
+    }
+    Ok(())
+}
+
 #[test]
 fn arguments(rt: HostRuntime) -> Result<(), Fail> {
-    let refused = [
-        ("", SimulationError::Usage),
-        ("0", SimulationError::Usage),
-        ("+5", SimulationError::Usage),
-        ("5 x", SimulationError::Usage),
-        ("--csv", SimulationError::Usage),
-        ("--csv --svg 5", SimulationError::Usage),
-        ("--helpless 5", SimulationError::Usage),
-        ("5 --policies", SimulationError::Usage),
-        ("5 --policies lru,second", SimulationError::Usage),
-        ("5 --policies lru,lru", SimulationError::Usage),
-        ("5 --policies lru --policies opt", SimulationError::Usage),
-        ("5 16777216", SimulationError::Capacity),
-        ("99999999999999999999999", SimulationError::Capacity),
-    ];
-    for (line, refusal) in refused {
-        let options = options_of(rt.alloc(), line);
-        assert_eq!(rt; options.err(), Some(refusal), "{line}");
-    }
     let options = options_of(rt.alloc(), "10 --svg 007 10 16777215")?;
     assert_eq!(rt; options.format, Format::Svg);
     let capacities: Vec<usize> = options
@@ -99,6 +147,37 @@ fn arguments(rt: HostRuntime) -> Result<(), Fail> {
         .map(|capacity| capacity.get())
         .collect(rt.alloc())?;
     assert_eq!(rt; capacities.as_slice(), [10, 7, 10, MAX_CAPACITY].as_slice());
+    Ok(())
+}
+
+#[test]
+fn ranges(rt: HostRuntime) -> Result<(), Fail> {
+    let cases: [(&str, &[usize]); 6] = [
+        ("1..1", &[1]),
+        ("1..2", &[1, 2]),
+        ("3..40", &[3, 5, 10, 20, 40]),
+        (
+            "10..1000000",
+            &[
+                10, 20, 50, 100, 200, 500, 1_000, 2_000, 5_000, 10_000, 20_000, 50_000, 100_000,
+                200_000, 500_000, 1_000_000,
+            ],
+        ),
+        (
+            "4999999..16777215",
+            &[4_999_999, 5_000_000, 10_000_000, MAX_CAPACITY],
+        ),
+        ("7 1..3 2", &[7, 1, 2, 3, 2]),
+    ];
+    for (line, wanted) in cases {
+        let options = options_of(rt.alloc(), line)?;
+        let capacities: Vec<usize> = options
+            .capacities
+            .iter()
+            .map(|capacity| capacity.get())
+            .collect(rt.alloc())?;
+        assert_eq!(rt; capacities.as_slice(), wanted, "{line}");
+    }
     Ok(())
 }
 

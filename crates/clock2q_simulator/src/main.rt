@@ -18,7 +18,7 @@ fn main(rt: HostRuntime) -> ExitCode {
 }
 
 fn run(rt: &HostRuntime) -> Result<(), SimulationError> {
-    let arguments = env::args(rt).map_err(|_| SimulationError::Usage)?;
+    let arguments = env::args(rt).map_err(|error| SimulationError::of_arguments(&error))?;
     let arguments: Vec<String> = arguments.skip(1).collect(rt.alloc())?;
     if arguments.iter().any(|argument| is_help(argument.as_str())) {
         let written = rt.stdout().write_all(HELP.as_bytes());
