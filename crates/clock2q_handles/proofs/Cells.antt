@@ -2,11 +2,12 @@
 use Rattle.std.proofs.Common.{◌≡◌, ℕ, zero, suc, ◌+◌, ◌-◌, ◌%◌, ◌<◌, List, [], ◌∷◌, length, get_or, take, ◌++◌, refl, sym, ap, ◌∙◌, subst, arith, Some, None, IfSome}
 use Rattle.std.proofs.Math.ListN.{set, replicate}
 use Rattle.std.proofs.Math.Nat.{sub-zero, mod-eq_of_lt}
-use Rattle.std.proofs.Math.Seq.{take-append_seam}
+use Rattle.std.proofs.Math.Seq.{take-append_seam, set-get_or}
 use Rattle.std.proofs.lemmas.Nat.{and_mask}
 use Rattle.std.specs.Int.Bits.{bit_and}
 use Rattle.clock2q_handles.specs.Layout.{slot_at}
 use Rattle.clock2q_handles.specs.Slots.{Mark, told, cell, mark_of, cells, SlotsValue, slots_value, IsSlotCount}
+use Rattle.clock2q_handles.specs.Readers.{ReaderValue, reader_value}
 use Rattle.clock2q_handles.specs.declared.metadata.Metadata.{Metadata}
 
 -- a mask of a slot count is a remainder
@@ -38,6 +39,9 @@ module _ {H : Type 0} where
   -- there is a word of metadata for each slot that contracts see
   pub words : (ms : List Metadata) (vs : List H) {w : ℕ} {s : SlotsValue H} → length vs ≡ length ms → slots_value (cells ms vs) w ≡ s → length ms ≡ length s.slots
   words ms vs as_many is = sym (length-cells ms vs as_many) ∙ ap (λ t. length t.slots) is
+
+  pub read_words : (ms : List Metadata) (vs : List H) {r h : ℕ} {s : ReaderValue H} → length vs ≡ length ms → reader_value (cells ms vs) r h ≡ s → length ms ≡ length s.slots
+  read_words ms vs as_many is = sym (length-cells ms vs as_many) ∙ ap (λ t. length t.slots) is
 
   -- what stands in a slot, read off the two vectors
   pub get_or-cells : (ms : List Metadata) (vs : List H) (n : ℕ) (m : Metadata) (v : H) → length vs ≡ length ms
@@ -110,6 +114,14 @@ module _ {H : Type 0} where
   mark_read_or ms (v ∷ vs) k z same within =
       sym (mark_of-cell (told (get_or ms k z)) (get_or (v ∷ vs) k v))
       ∙ ap mark_of (sym (get_or-cells ms (v ∷ vs) k z v same within) ∙ ap (λ j. get_or (cells ms (v ∷ vs)) j None) (at_slot ms (v ∷ vs) k same within))
+
+module _ {H : Type 0} where
+  -- a handle that is written alone
+  pub relabelled_cells : (ms : List Metadata) (vs : List H) (n : ℕ) (v : H) → length vs ≡ length ms → n < length ms
+      → cells ms (set vs n v) ≡ set (cells ms vs) n (cell (mark_of (slot_at (cells ms vs) n)) v)
+  relabelled_cells ms vs n v same within =
+      let z : Metadata = record { word = 0 } in
+      ap (λ x. cells x (set vs n v)) (sym (set-get_or ms n z)) ∙ set-cells ms vs n (get_or ms n z) v same ∙ ap (λ m. set (cells ms vs) n (cell m v)) (mark_read_or ms vs n z same within)
 
 -- a vector whose slice was written has what the slice has
 pub kept_whole : {X : Type 0} (xs ys : List X) (n : ℕ) → length xs ≡ n → take n (xs ++ ys) ≡ xs

@@ -1,6 +1,9 @@
 pub mod Cells
 pub mod Changes
 pub mod Finding
+pub mod Positions
+pub mod Relabelling
+pub mod Vacating
 pub mod SlotCounts
 pub mod Gaps
 pub mod Groups

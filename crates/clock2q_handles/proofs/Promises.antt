@@ -1,6 +1,6 @@
 -- What users of a table rely on over single insertions: few entries are never refused, and taking an entry out again restores the slots.
 use Rattle.std.proofs.Common.{◌≡◌, ℕ, suc, ◌+◌, ◌^◌, ◌<◌, refl, sym, ap, ◌∙◌, subst, arith, Bool, true, List, length, Option}
-use Rattle.std.specs.Prelude.{Result, Ok, Err, IsOk, OnOk, OnErr}
+use Rattle.std.specs.Prelude.{Result, Ok, Err, IsOk, OnOk, OnErr, IfOk, IfErr}
 use Rattle.clock2q_handles.specs.Homes.{total, capacity, with_handle, top, removed, IsNew}
 use Rattle.clock2q_handles.specs.Layout.{Placed, layout, homes_of, IsTidy, IsTooLong}
 use Rattle.clock2q_handles.specs.TableStep.{TableValue}
@@ -23,6 +23,15 @@ ok_where_no_error (Err e) err none = absurd (none err)
 pub on_ok : {T E P Q : Type 0} (r : Result T E) → (P → Q) → OnOk r P → OnOk r Q
 on_ok (Ok x) gives p = gives p
 on_ok (Err e) gives p = p
+
+-- what follows of the answer where a call answered `Ok`, and of the error where it did not
+pub if_ok : {T E : Type 0} {P Q : T → Type 0} (r : Result T E) → ((x : T) → P x → Q x) → IfOk r P → IfOk r Q
+if_ok (Ok x) gives p = gives x p
+if_ok (Err e) gives p = tt
+
+pub if_err : {T E : Type 0} {P Q : E → Type 0} (r : Result T E) → ((e : E) → P e → Q e) → IfErr r P → IfErr r Q
+if_err (Ok x) gives p = tt
+if_err (Err e) gives p = gives e p
 
 -- a call that answered `Ok` answered no error
 pub no_error : {T E : Type 0} (r : Result T E) (e : E) → IsOk r → r ≡ Err e → ⊥

@@ -107,6 +107,17 @@ module _ {E : Type 0} where
   list_any-at test [] e ys passes = ap (λ b. b || list_any test ys) passes
   list_any-at test (x ∷ xs) e ys passes = ap (λ b. test x || b) (list_any-at test xs e ys passes) ∙ or_true (test x)
 
+module _ {E : Type 0} (x : ℕ) (others slots : List (Option (Placed E))) (g n w : ℕ) (e : E) (at : g ≡ x % length others)
+    (closes : Closes (slot_at others) (slot_at slots) (length others) g n w e) (same : length slots ≡ length others) where
+  -- a gap that was closed is one that can be opened again
+  pub closed-moved : IsMovedOn (slot_at slots) (slot_at others) (length slots) x n w e
+  closed-moved = subst (λ m. IsMovedOn (slot_at slots) (slot_at others) m x n w e) (sym same)
+      (opens-moved slots others (length others) g x n w e same refl at closes.opens
+      (λ j from upto. entry_off (slot_at slots (g + j)) (slot_at others (g + suc j)) (closes.occupied (suc j) upto) (closes.opens.moved j from upto)))
+
+  pub closed-end : reach (slot_at others (x + suc w)) ≤ 1
+  closed-end = omega (arith, closes.ends, ap reach (past_home others (length others) g x refl at (suc w)))
+
 module _ {H : Type 0} (eq : H → H → Bool) (x : ℕ) (v : H) (others slots : List (Option (Placed (ℕ × H)))) (g n w len : ℕ) (table : IsTable others len)
     (at : g ≡ x % length others) (within : n < length others) (found : Finds (is_entry_of eq x v) (slot_at others) g n)
     (closes : Closes (slot_at others) (slot_at slots) (length others) g n w found.entry) (same : length slots ≡ length others) where
@@ -114,12 +125,10 @@ module _ {H : Type 0} (eq : H → H → Bool) (x : ℕ) (v : H) (others slots : 
   past = past_home others (length others) g x refl at
 
   moved : IsMovedOn (slot_at slots) (slot_at others) (length slots) x n w found.entry
-  moved = subst (λ m. IsMovedOn (slot_at slots) (slot_at others) m x n w found.entry) (sym same)
-      (opens-moved slots others (length others) g x n w found.entry same refl at closes.opens
-      (λ j from upto. entry_off (slot_at slots (g + j)) (slot_at others (g + suc j)) (closes.occupied (suc j) upto) (closes.opens.moved j from upto)))
+  moved = closed-moved x others slots g n w found.entry at closes same
 
   near : reach (slot_at others (x + suc w)) ≤ 1
-  near = omega (arith, closes.ends, ap reach (past (suc w)))
+  near = closed-end x others slots g n w found.entry at closes same
 
   lists : removed eq (homes_of others) x v ≡ with_list (homes_of others) x (list_without others x n)
   lists = removed-found eq others x n v found.entry within (sym (past n) ∙ found.here)

@@ -3,7 +3,7 @@ use Rattle.std.proofs.Common.{◌≡◌, ℕ, ◌%◌, Bool, ap, ◌∙◌, subs
 use Rattle.std.specs.Bool.{OnTrue}
 use Rattle.std.specs.Fn.{Mut}
 use Rattle.clock2q_handles.specs.Candidates.{EndsAt}
-use Rattle.clock2q_handles.specs.Found.{TakesOut}
+use Rattle.clock2q_handles.specs.Found.{FindsAt, TakesOut, TakesOutAt}
 use Rattle.clock2q_handles.specs.Layout.{Placed}
 use Rattle.clock2q_handles.specs.Moves.{MayMove, Moves}
 use Rattle.clock2q_handles.specs.Shifts.{PutsIn}
@@ -26,6 +26,14 @@ module _ {E : Type 0} where
   takes_out_along test {old = old} {old' = old'} {new = new} {new' = new'} x {b = b} {b' = b'} {a = a} {a' = a'} takes o n f g =
       subst (λ s. TakesOut test s new' (x % length s) b' a') o (subst (λ s. TakesOut test old s (x % length old) b' a') n
       (subst (λ k. TakesOut test old new (x % length old) k a') f (subst (λ k. TakesOut test old new (x % length old) b k) g takes)))
+
+  pub takes_at_along : {old old' new new' : List (Option (Placed E))} (n : ℕ) {b b' a a' : ℕ}
+      → TakesOutAt old new n b a → old ≡ old' → new ≡ new' → b ≡ b' → a ≡ a' → TakesOutAt old' new' n b' a'
+  takes_at_along {old = old} {old' = old'} {new = new} {new' = new'} n {b = b} {b' = b'} {a = a} {a' = a'} takes o m f g =
+      subst (λ s. TakesOutAt s new' n b' a') o (subst (λ s. TakesOutAt old s n b' a') m (subst (λ k. TakesOutAt old new n k a') f (subst (λ k. TakesOutAt old new n b k) g takes)))
+
+  pub finds_along : (test : E → Bool) {old old' : List (Option (Placed E))} (x n : ℕ) → FindsAt test old (x % length old) n → old ≡ old' → FindsAt test old' (x % length old') n
+  finds_along test x n found o = subst (λ s. FindsAt test s (x % length s) n) o found
 
   pub takes_along : (r : Bool) (test : E → Bool) {old old' new new' : List (Option (Placed E))} (x a : ℕ) {b b' : ℕ}
       → OnTrue r (TakesOut test old new (x % length old) b a) → old ≡ old' → new ≡ new' → b ≡ b' → OnTrue r (TakesOut test old' new' (x % length old') b' a)

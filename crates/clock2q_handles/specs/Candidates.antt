@@ -8,21 +8,24 @@ use Rattle.clock2q_handles.specs.Shifts.{HasCome}
 use Rattle.clock2q_handles.specs.Layout.{Placed, placed, slot_at, reach, met, homes_of, walk, IsTidy}
 use mathlib.Core.Path.{refl}
 
--- what contracts see of a lookup: the handles that are left to yield, how many slots it has read, and how many it has still to read
+-- what contracts see of a lookup: the handles that are left to yield, how many slots it has read, how many it has still to read, and how many handles it has read
 pub record CandidatesValue (H : Type 0) : Type 0 where
   pub left : List H
   pub reads : ℕ
   pub unread : ℕ
+  pub handles : ℕ
 
-abbrev pub candidates_value : {H : Type 0} → List H → ℕ → ℕ → CandidatesValue H
-candidates_value left reads unread = record { left = left; reads = reads; unread = unread }
+abbrev pub candidates_value : {H : Type 0} → List H → ℕ → ℕ → ℕ → CandidatesValue H
+candidates_value left reads unread handles = record { left = left; reads = reads; unread = unread; handles = handles }
 
 abbrev pub candidates_code : {H : Type 0} → Coded H → Coded (CandidatesValue H)
-candidates_code {H} h = code_by (List H × (ℕ × ℕ)) (coded× (coded_list h) (coded× coded_ℕ coded_ℕ)) (λ c. (c.left, (c.reads, c.unread))) (λ p. candidates_value p.0 p.1.0 p.1.1) (λ _. refl)
+candidates_code {H} h =
+    code_by (List H × (ℕ × (ℕ × ℕ))) (coded× (coded_list h) (coded× coded_ℕ (coded× coded_ℕ coded_ℕ))) (λ c. (c.left, (c.reads, (c.unread, c.handles))))
+    (λ p. candidates_value p.0 p.1.0 p.1.1.0 p.1.1.1) (λ _. refl)
 
--- a call yields the first handle that is left; what is read and still to be read stays the same in sum, and at the end nothing is left to read
+-- a call yields the first handle that is left; what is read and still to be read stays the same in sum, of slots and of handles, and at the end nothing is left to read
 abbrev pub YieldsCandidate : {H : Type 0} → CandidatesValue H → Option H → CandidatesValue H → Type 0
-YieldsCandidate s r t = YieldsFirst (λ c. c.left) s r t × (t.reads + t.unread ≡ s.reads + s.unread) × IfNone r (t.unread ≡ 0)
+YieldsCandidate s r t = YieldsFirst (λ c. c.left) s r t × (t.reads + t.unread ≡ s.reads + s.unread) × IfNone r (t.unread ≡ 0) × (t.handles + length t.left ≡ s.handles + length s.left)
 
 module _ {H : Type 0} where
   -- the entries of x's home with its fingerprint in the slots from d past it on
@@ -80,6 +83,12 @@ module _ {H : Type 0} where
   pub record EndsAt (slots : List (Option (Placed (ℕ × H)))) (x : ℕ) (wanted : Mark) (n : ℕ) : Type 0 where
     pub walk : IsWalkFor slots x wanted n
     pub stop : reach (slot_at slots n) < mark_reach wanted
+
+  -- an entry of the home of x with its fingerprint and the handle v stands in slot n
+  pub record IsFoundAt (slots : List (Option (Placed (ℕ × H)))) (x : ℕ) (v : H) (n : ℕ) : Type 0 where
+    pub distance : ℕ
+    pub come : HasCome slots (x % length slots) distance n
+    pub here : slot_at slots n ≡ Some (placed distance (top x, v))
 
   -- n slots past the home g of x stands its next candidate from d on
   pub record IsNextCandidate (slots : List (Option (Placed (ℕ × H)))) (g x d n : ℕ) : Type 0 where

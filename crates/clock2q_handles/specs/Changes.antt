@@ -1,7 +1,7 @@
 -- What a call that changes a table leaves, and how many slots it writes.
-use Rattle.std.specs.Prelude.{◌≡◌, ℕ, ◌+◌, ◌≤◌, Bool, List, Result, MatchResult}
-use Rattle.clock2q_handles.specs.Homes.{with_handle, removed, count, IsNew}
-use Rattle.clock2q_handles.specs.Layout.{layout, spill_of, IsTooLong, IsBestPlaced}
+use Rattle.std.specs.Prelude.{◌≡◌, ℕ, ◌+◌, ◌^◌, ◌<◌, ◌≤◌, Bool, List, Result, MatchResult, IsOk, OnOk, OnErr}
+use Rattle.clock2q_handles.specs.Homes.{with_handle, removed, count, total, IsNew}
+use Rattle.clock2q_handles.specs.Layout.{layout, run, spill_of, IsTooLong, IsBestPlaced}
 use Rattle.clock2q_handles.specs.TableStep.{TableValue}
 use Rattle.clock2q_handles.specs.declared.error.TableError.{TableError}
 use Rattle.clock2q_handles.specs.declared.error.TableError.TheVariants.{RunTooLong}
@@ -23,6 +23,15 @@ module _ {H : Type 0} where
   pub record IsLaidOut (t : TableValue H) : Type 0 where
     pub laid : t.slots ≡ layout t.homes
     pub best : IsBestPlaced t.homes
+
+  -- v is put in under x below capacity, or refused because a run would be too long, which takes 2^24 entries and changes nothing
+  pub record Inserts (eq : H → H → Bool) (x : ℕ) (v : H) (result : Result (Unit {0}) TableError) (old new : TableValue H) : Type 0 where
+    pub put : PutIn old.homes x v result new.homes
+    pub refused : OnErr result (new ≡ old)
+    pub few : total old.homes + 1 < 2 ^ 24 → IsOk result
+    pub writes : WritesAtMost (run old.slots x + 1) old new
+    pub restores : OnOk result (Restores eq x v old new)
+    pub laid : IsLaidOut new
 
   -- the entries of no home reach further past it than they did
   abbrev pub IsNearer : List (List (ℕ × H)) → List (List (ℕ × H)) → Type 0

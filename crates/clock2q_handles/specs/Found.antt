@@ -2,7 +2,7 @@
 use Rattle.std.specs.Prelude.{◌≡◌, ℕ, ◌+◌, ◌%◌, ◌<◌, Bool, true, false, List, length, Option, Some}
 use Rattle.std.specs.List.{list_any}
 use Rattle.clock2q_handles.specs.Layout.{Placed, placed, slot_at, reach, met}
-use Rattle.clock2q_handles.specs.Shifts.{Closes}
+use Rattle.clock2q_handles.specs.Shifts.{Closes, HasCome}
 
 -- n slots past h stands an entry of home h that passes the test, and none nearer to h does
 pub record Finds {E : Type 0} (test : E → Bool) (A : ℕ → Option (Placed E)) (h n : ℕ) : Type 0 where
@@ -27,4 +27,10 @@ pub record TakesOut {E : Type 0} (test : E → Bool) (old new : List (Option (Pl
   pub finds : Finds test (slot_at old) h distance
   pub closes : Closes (slot_at old) (slot_at new) (length old) h distance vacancy finds.entry
   pub written : after + distance ≡ before + vacancy + 1
+  pub len : length new ≡ length old
+
+-- the entry in slot s was taken out, and what followed it moved back, in one write a slot
+pub record TakesOutAt {E : Type 0} (old new : List (Option (Placed E))) (s before after : ℕ) : Type 0 where
+  pub closes : (h n : ℕ) (e : E) → HasCome old h n s → slot_at old (h + n) ≡ Some (placed n e)
+      → (v : ℕ) × Closes (slot_at old) (slot_at new) (length old) h n v e × (after + n ≡ before + v + 1)
   pub len : length new ≡ length old

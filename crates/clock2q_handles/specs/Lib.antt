@@ -2,11 +2,13 @@ pub mod Homes
 pub mod Layout
 pub mod TableStep
 pub mod Slots
+pub mod Readers
 pub mod Views
 pub mod Table
 pub mod Changes
 pub mod Shifts
 pub mod Found
+pub mod Positions
 pub mod Rehash
 pub mod Moves
 pub mod Offers

@@ -1,5 +1,5 @@
 -- Candidates offered to a closure, up to the first that it accepts.
-use Rattle.std.specs.Prelude.{◌≡◌, ℕ, Bool, true, false, List, [], ◌∷◌, Option, Some, None, Result, Ok, MatchBool, MatchResult}
+use Rattle.std.specs.Prelude.{◌≡◌, ℕ, Bool, true, false, List, [], ◌∷◌, Option, Some, None, Result, Ok, Err, MatchBool, MatchResult}
 use Rattle.std.specs.Fn.{Called, Takes, Mut}
 use Rattle.clock2q_handles.specs.Homes.{candidates, with_handle}
 use Rattle.clock2q_handles.specs.Layout.{IsTooLong}
@@ -10,6 +10,11 @@ use Rattle.clock2q_handles.specs.declared.error.TableError.TheVariants.{RunTooLo
 abbrev pub Offers : {F H : Type 0} → Mut F (H × Unit {0}) Bool → F → List H → Option H → F → Type 0
 Offers g f [] found f' = (found ≡ None) × (f' ≡ f)
 Offers {F} g f (h ∷ hs) found f' = (b : Bool) × (next : F) × Called g f (h, tt) b next × MatchBool b ((found ≡ Some h) × (f' ≡ next)) (Offers g next hs found f')
+
+-- the handle that a search found
+abbrev pub handle_in : {H P G : Type 0} → Result (H × P) G → Option H
+handle_in (Ok r) = Some r.0
+handle_in (Err _) = None
 
 -- f may be called on the first of the handles, and where it rejects one, on the next
 abbrev pub TakesInTurn : {F H : Type 0} → Mut F (H × Unit {0}) Bool → F → List H → Type 0

@@ -4,9 +4,10 @@ ghost use Rattle.clock2q_handles.specs.Layout.{slot_at};
 ghost use Rattle.clock2q_handles.specs.Slots.{sought, mark_of};
 ghost use Rattle.std.specs.Prelude.{◌≡◌, ◌+◌, ◌<◌, [], IsSome, length};
 
+use crate::gap::Gap;
 use crate::metadata::Wanted;
 use crate::slots::{Reader, Slots};
-use std::alloc::{Allocator, Global};
+use std::alloc::Allocator;
 use std::marker::Model;
 
 /// An iterator over the candidates of a hash, in the order of their slots. It reads one word of
@@ -23,13 +24,13 @@ use std::marker::Model;
 /// }
 /// ```
 #[derive(Drop)]
-pub struct Candidates<'a, H: Copy + Eq + Default, A: Allocator = Global> {
-    reader: Reader<'a, H, A>,
+pub struct Candidates<'a, H: Copy + Eq + Default> {
+    reader: Reader<'a, H>,
     slot: usize,
     wanted: Wanted,
 }
 
-impl<'a, H: Copy + Eq + Default, A: Allocator> Model for Candidates<'a, H, A> {
+impl<'a, H: Copy + Eq + Default> Model for Candidates<'a, H> {
     ghost use Rattle.clock2q_handles.specs.Candidates.{CandidatesValue, candidates_code, candidates_value, left_at, unread_at, IsLookup};
     ghost use Rattle.clock2q_handles.specs.Slots.{sought};
 
@@ -37,41 +38,42 @@ impl<'a, H: Copy + Eq + Default, A: Allocator> Model for Candidates<'a, H, A> {
 
     ghost coded = { candidates_code H.code };
 
-    ghost view = { λ c. candidates_value (left_at c.reader.slots.now.slots (sought c.wanted) c.slot) c.reader.reads.total (unread_at c.reader.slots.now.slots (sought c.wanted) c.slot) };
+    ghost view = { λ c. candidates_value (left_at c.reader.slots (sought c.wanted) c.slot) c.reader.reads (unread_at c.reader.slots (sought c.wanted) c.slot) c.reader.handles };
 
-    ghost invariant = { λ c. IsLookup c.reader.slots.now.slots (sought c.wanted) c.slot };
+    ghost invariant = { λ c. IsLookup c.reader.slots (sought c.wanted) c.slot };
 }
 
-impl<'a, H: Copy + Eq + Default, A: Allocator> Candidates<'a, H, A> {
+impl<'a, H: Copy + Eq + Default> Candidates<'a, H> {
     ghost use Rattle.clock2q_handles.specs.Candidates.{candidates_value, left_from, unread_from};
     ghost use Rattle.clock2q_handles.specs.Layout.{reach, IsTidy};
     ghost use Rattle.std.specs.Prelude.{ℕ, ◌≤◌};
 
     /// Returns a lookup that has read nothing yet. If there are no slots, it yields nothing.
-    pub(super) fn new(slots: &'a Slots<H, A>, hash: u64) -> Candidates<'a, H, A>
+    pub(super) fn new<A: Allocator>(slots: &'a Slots<H, A>, hash: u64) -> Candidates<'a, H>
         requires tidy { IsTidy slots.now.slots }
         requires near { (k : ℕ) → reach (slot_at slots.now.slots k) ≤ 16777215 }
-        ensures { result ≡ candidates_value (left_from slots.now.slots hash 0) 0 (unread_from slots.now.slots hash 0) }
+        ensures { result ≡ candidates_value (left_from slots.now.slots hash 0) 0 (unread_from slots.now.slots hash 0) 0 }
     {
         let wanted = if slots.count() == 0 {
             Wanted::nothing()
         } else {
             Wanted::new(hash)
         };
+        let reader = Reader::new(slots);
+        let slot = reader.home(hash);
         Candidates {
-            reader: Reader::new(slots),
-            slot: slots.home(hash),
+            reader,
+            slot,
             wanted,
         }
     }
 }
 
-impl<'a, H: Copy + Default, A: Allocator> Reader<'a, H, A> {
-    ghost use Rattle.clock2q_handles.specs.Candidates.{IsWalkFor, EndsAt, left_from, unread_from};
+impl<'a, H: Copy + Default> Reader<'a, H> {
+    ghost use Rattle.clock2q_handles.specs.Candidates.{IsWalkFor, EndsAt, IsFoundAt, left_from, unread_from};
     ghost use Rattle.clock2q_handles.specs.Layout.{reach, IsTidy};
-    ghost use Rattle.clock2q_handles.specs.Offers.{Offers, MayBeOffered};
+    ghost use Rattle.clock2q_handles.specs.Offers.{Offers, MayBeOffered, handle_in};
     ghost use Rattle.std.specs.Prelude.{ℕ, ◌≤◌, IfOk, IfErr};
-    ghost use Rattle.std.specs.Result.{result_ok};
 
     /// Takes a walk on to its next candidate, and returns the candidate's slot, or else the slot
     /// where the walk ends. Beside it stands what the walk looks for there.
@@ -81,20 +83,21 @@ impl<'a, H: Copy + Default, A: Allocator> Reader<'a, H, A> {
         mut slot: usize,
         mut wanted: Wanted,
     ) -> Result<(usize, Wanted), (usize, Wanted)>
-        requires lookup { IsLookup self.old.slots.now.slots (sought wanted) slot }
+        requires lookup { IsLookup self.old.slots (sought wanted) slot }
         requires some { IsSome (sought wanted) }
         ensures same { self.new.slots ≡ self.old.slots }
-        ensures lookup { IfOk result (λ next. IsLookup self.old.slots.now.slots (sought next.1) next.0) }
-        ensures within { IfOk result (λ next. next.0 < length self.old.slots.now.slots) }
+        ensures lookup { IfOk result (λ next. IsLookup self.old.slots (sought next.1) next.0) }
+        ensures within { IfOk result (λ next. next.0 < length self.old.slots) }
         ensures some { IfOk result (λ next. IsSome (sought next.1)) }
-        ensures found { IfOk result (λ next. mark_of (slot_at self.old.slots.now.slots next.0) ≡ sought next.1) }
-        ensures left { IfOk result (λ next. left_at self.old.slots.now.slots (sought wanted) slot ≡ left_at self.old.slots.now.slots (sought next.1) next.0) }
-        ensures read { IfOk result (λ next. self.new.reads.total + unread_at self.old.slots.now.slots (sought next.1) next.0 ≡ self.old.reads.total + unread_at self.old.slots.now.slots (sought wanted) slot + 1) }
-        ensures reads { self.old.reads.total < self.new.reads.total }
-        ensures none { IfErr result (λ _. left_at self.old.slots.now.slots (sought wanted) slot ≡ []) }
-        ensures read_all { IfErr result (λ _. self.new.reads.total ≡ self.old.reads.total + unread_at self.old.slots.now.slots (sought wanted) slot) }
-        ensures walks { (x : ℕ) → IsWalkFor self.old.slots.now.slots x (sought wanted) slot → IfOk result (λ next. IsWalkFor self.old.slots.now.slots x (sought next.1) next.0) }
-        ensures ends { (x : ℕ) → IsWalkFor self.old.slots.now.slots x (sought wanted) slot → IfErr result (λ end. EndsAt self.old.slots.now.slots x (sought end.1) end.0) }
+        ensures found { IfOk result (λ next. mark_of (slot_at self.old.slots next.0) ≡ sought next.1) }
+        ensures left { IfOk result (λ next. left_at self.old.slots (sought wanted) slot ≡ left_at self.old.slots (sought next.1) next.0) }
+        ensures read { IfOk result (λ next. self.new.reads + unread_at self.old.slots (sought next.1) next.0 ≡ self.old.reads + unread_at self.old.slots (sought wanted) slot + 1) }
+        ensures reads { self.old.reads < self.new.reads }
+        ensures handles { self.new.handles ≡ self.old.handles }
+        ensures none { IfErr result (λ _. left_at self.old.slots (sought wanted) slot ≡ []) }
+        ensures read_all { IfErr result (λ _. self.new.reads ≡ self.old.reads + unread_at self.old.slots (sought wanted) slot) }
+        ensures walks { (x : ℕ) → IsWalkFor self.old.slots x (sought wanted) slot → IfOk result (λ next. IsWalkFor self.old.slots x (sought next.1) next.0) }
+        ensures ends { (x : ℕ) → IsWalkFor self.old.slots x (sought wanted) slot → IfErr result (λ end. EndsAt self.old.slots x (sought end.1) end.0) }
     {
         loop {
             let metadata = self.read(slot);
@@ -110,33 +113,35 @@ impl<'a, H: Copy + Default, A: Allocator> Reader<'a, H, A> {
     }
 
     /// Calls `matches` on the candidates of `hash`, up to the first that it accepts. Returns that
-    /// candidate, or else the slot where the walk ends and what it looks for there.
+    /// candidate and its slot, or else where the walk ends.
     #[inline(always)]
     pub(super) fn offer<F: FnMut(H) -> bool>(
         &mut self,
         hash: u64,
         matches: &mut F,
-    ) -> Result<H, (usize, Wanted)>
-        requires tidy { IsTidy self.old.slots.now.slots }
-        requires near { (k : ℕ) → reach (slot_at self.old.slots.now.slots k) ≤ 16777215 }
-        requires some { 0 < length self.old.slots.now.slots }
-        requires callable { MayBeOffered F.FnMut matches.old (left_from self.old.slots.now.slots hash 0) }
-        ensures offers { Offers F.FnMut matches.old (left_from self.old.slots.now.slots hash 0) (result_ok result) matches.new }
+    ) -> Result<(H, usize), Gap>
+        requires tidy { IsTidy self.old.slots }
+        requires near { (k : ℕ) → reach (slot_at self.old.slots k) ≤ 16777215 }
+        requires some { 0 < length self.old.slots }
+        requires callable { MayBeOffered F.FnMut matches.old (left_from self.old.slots hash 0) }
+        ensures offers { Offers F.FnMut matches.old (left_from self.old.slots hash 0) (handle_in result) matches.new }
+        ensures at { IfOk result (λ found. IsFoundAt self.old.slots hash found.0 found.1) }
         ensures same { self.new.slots ≡ self.old.slots }
-        ensures ends { IfErr result (λ end. EndsAt self.old.slots.now.slots hash (sought end.1) end.0) }
-        ensures reads { self.old.reads.total < self.new.reads.total }
-        ensures read { self.new.reads.total ≤ self.old.reads.total + unread_from self.old.slots.now.slots hash 0 }
-        ensures read_all { IfErr result (λ _. self.new.reads.total ≡ self.old.reads.total + unread_from self.old.slots.now.slots hash 0) }
+        ensures ends { IfErr result (λ gap. EndsAt self.old.slots hash gap.mark gap.position) }
+        ensures reads { self.old.reads < self.new.reads }
+        ensures read { self.new.reads ≤ self.old.reads + unread_from self.old.slots hash 0 }
+        ensures handles { self.new.handles ≤ self.old.handles + length (left_from self.old.slots hash 0) }
+        ensures read_all { IfErr result (λ _. self.new.reads ≡ self.old.reads + unread_from self.old.slots hash 0) }
     {
         let mut slot = self.home(hash);
         let mut wanted = Wanted::new(hash);
         loop {
             match self.candidate(slot, wanted) {
-                Err(end) => return Err(end),
+                Err(end) => return Err(Gap::new(end.0, end.1)),
                 Ok((here, found)) => {
                     let handle = self.handle(here);
                     if matches(handle) {
-                        return Ok(handle);
+                        return Ok((handle, here));
                     }
                     slot = self.after(here);
                     wanted = found.next();
@@ -146,7 +151,7 @@ impl<'a, H: Copy + Default, A: Allocator> Reader<'a, H, A> {
     }
 }
 
-impl<'a, H: Copy + Eq + Default, A: Allocator> Iterator for Candidates<'a, H, A> {
+impl<'a, H: Copy + Eq + Default> Iterator for Candidates<'a, H> {
     type Item = H;
 
     ghost use Rattle.clock2q_handles.specs.Candidates.{YieldsCandidate};

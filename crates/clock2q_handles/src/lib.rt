@@ -43,6 +43,7 @@
 
 mod candidates;
 mod error;
+mod gap;
 mod metadata;
 mod partitions;
 mod runs;
@@ -52,5 +53,6 @@ mod updates;
 
 pub use candidates::Candidates;
 pub use error::TableError;
+pub use gap::Gap;
 pub use partitions::partition;
 pub use table::Table;

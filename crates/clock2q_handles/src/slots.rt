@@ -11,7 +11,9 @@ ghost use Rattle.std.specs.List.{list_any};
 ghost use Rattle.std.specs.Prelude.{false, ◌≡◌, ◌+◌, ◌%◌, ◌^◌, ◌<◌, ◌≤◌, [], ℕ, None, IfOk, IfSome, length, replicate, set};
 
 mod clearing;
+mod counted;
 mod reader;
+mod relabelling;
 mod removal;
 mod view;
 
@@ -119,30 +121,6 @@ impl<H: Copy + Default, A: Allocator> Slots<H, A> {
     {
         let mask = self.count().wrapping_sub(1);
         hash as usize & mask
-    }
-
-    /// Returns the slot after another: slot 0 after the last.
-    fn after(&self, slot: usize) -> usize
-        requires { slot < length self.now.slots }
-        ensures after { result ≡ (slot + 1) % length self.now.slots }
-        ensures within { result < length self.now.slots }
-    {
-        let mask = self.count() - 1;
-        (slot + 1) & mask
-    }
-
-    fn metadata_at(&self, slot: usize) -> Metadata
-        requires { slot < length self.now.slots }
-        ensures { told result ≡ mark_of (slot_at self.now.slots slot) }
-    {
-        self.metadata[slot]
-    }
-
-    fn handle_at(&self, slot: usize) -> H
-        requires { slot < length self.now.slots }
-        ensures { IfSome (slot_at self.now.slots slot) (λ p. result ≡ p.entry.1) }
-    {
-        self.handles[slot]
     }
 
     /// Inserts an entry into slots of which no entry is too far past its home to move on.

@@ -46,7 +46,7 @@ impl<'a, H: Copy + Default> SlotsMut<'a, H> {
 
     /// Returns the slot of the first candidate of `hash` that equals `handle`, where there is one.
     #[inline(always)]
-    fn find_held(&self, hash: u64, handle: H) -> usize
+    pub(super) fn find_held(&self, hash: u64, handle: H) -> usize
     where
         H: PartialEq,
         requires view { IsView self.now }
@@ -87,7 +87,7 @@ impl<'a, H: Copy + Default> SlotsMut<'a, H> {
     /// Removes the entry in a slot. The entries after it move back by one slot, up to an empty slot
     /// or an entry at its home.
     #[inline(always)]
-    fn take_out(&mut self, slot: usize)
+    pub(super) fn take_out(&mut self, slot: usize)
         requires view { IsView self.old }
         requires tidy { IsTidy (shown self.old) }
         requires within { slot < length (shown self.old) }

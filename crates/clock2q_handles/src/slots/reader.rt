@@ -4,65 +4,84 @@ ghost use Rattle.std.specs.Prelude.{◌≡◌, ◌+◌, ◌%◌, ◌<◌, IfSome
 
 use crate::metadata::Metadata;
 use crate::slots::Slots;
-use clock2q_count::Count;
+use crate::slots::counted::Counted;
 use std::alloc::Allocator;
+use std::marker::Model;
 
-/// A table's slots, as a lookup sees them. It has no other way to their metadata than
-/// [read](Reader::read), which counts each slot that it reads.
+/// A table's slots, as a lookup sees them: both vectors, each read of which is counted, and the
+/// number of slots less one.
 #[derive(Drop)]
-pub struct Reader<'a, H, A: Allocator> {
-    slots: &'a Slots<H, A>,
-    reads: Count,
+pub struct Reader<'a, H> {
+    metadata: Counted<'a, Metadata>,
+    handles: Counted<'a, H>,
+    mask: usize,
 }
 
-impl<'a, H: Copy + Default, A: Allocator> Reader<'a, H, A> {
+impl<'a, H> Model for Reader<'a, H> {
+    ghost use Rattle.clock2q_handles.specs.Readers.{ReaderValue, reader_code, reader_value, IsReader};
+    ghost use Rattle.clock2q_handles.specs.Slots.{cells};
+
+    ghost Value = { ReaderValue H };
+
+    ghost coded = { reader_code H.code };
+
+    ghost view = { λ r. reader_value (cells r.metadata.items.now r.handles.items.now) r.metadata.reads.total r.handles.reads.total };
+
+    ghost invariant = { λ r. IsReader r.metadata.items.now r.handles.items.now r.mask };
+}
+
+impl<'a, H: Copy + Default> Reader<'a, H> {
+    ghost use Rattle.clock2q_handles.specs.Readers.{reader_value};
     ghost use Rattle.clock2q_handles.specs.Slots.{told, mark_of};
 
     /// Returns a reader that has read nothing yet.
-    pub(crate) fn new(slots: &'a Slots<H, A>) -> Reader<'a, H, A>
-        ensures slots { result.slots.now ≡ slots.now }
-        ensures reads { result.reads.total ≡ 0 }
+    pub(crate) fn new<A: Allocator>(slots: &'a Slots<H, A>) -> Reader<'a, H>
+        ensures { result ≡ reader_value slots.now.slots 0 0 }
     {
         Reader {
-            slots,
-            reads: Count::new(),
+            metadata: Counted::new(slots.metadata.as_slice()),
+            handles: Counted::new(slots.handles.as_slice()),
+            mask: slots.count().wrapping_sub(1),
         }
     }
 
-    /// Returns the home slot of a hash.
+    /// Returns the home slot of a hash, if there are slots.
     pub(crate) fn home(&self, hash: u64) -> usize
-        requires { 0 < length self.now.slots.now.slots }
-        ensures home { result ≡ hash % length self.now.slots.now.slots }
-        ensures within { result < length self.now.slots.now.slots }
+        ensures home { 0 < length self.now.slots → result ≡ hash % length self.now.slots }
+        ensures within { 0 < length self.now.slots → result < length self.now.slots }
     {
-        self.slots.home(hash)
+        hash as usize & self.mask
     }
 
     /// Reads the metadata of a slot.
     pub(crate) fn read(&mut self, slot: usize) -> Metadata
-        requires { slot < length self.old.slots.now.slots }
-        ensures told { told result ≡ mark_of (slot_at self.old.slots.now.slots slot) }
+        requires { slot < length self.old.slots }
+        ensures told { told result ≡ mark_of (slot_at self.old.slots slot) }
         ensures same { self.new.slots ≡ self.old.slots }
-        ensures counted { self.new.reads.total ≡ self.old.reads.total + 1 }
+        ensures counted { self.new.reads ≡ self.old.reads + 1 }
+        ensures handles { self.new.handles ≡ self.old.handles }
     {
-        self.reads.tick();
-        self.slots.metadata_at(slot)
+        self.metadata.read(slot)
     }
 
-    /// Returns the handle of an entry that was found.
-    pub(crate) fn handle(&self, slot: usize) -> H
-        requires { slot < length self.now.slots.now.slots }
-        ensures { IfSome (slot_at self.now.slots.now.slots slot) (λ p. result ≡ p.entry.1) }
+    /// Reads the handle of an entry that was found.
+    pub(crate) fn handle(&mut self, slot: usize) -> H
+        requires { slot < length self.old.slots }
+        ensures handle { IfSome (slot_at self.old.slots slot) (λ p. result ≡ p.entry.1) }
+        ensures same { self.new.slots ≡ self.old.slots }
+        ensures counted { self.new.handles ≡ self.old.handles + 1 }
+        ensures reads { self.new.reads ≡ self.old.reads }
     {
-        self.slots.handle_at(slot)
+        self.handles.read(slot)
     }
 
     /// Returns the slot after another: slot 0 after the last.
     pub(crate) fn after(&self, slot: usize) -> usize
-        requires { slot < length self.now.slots.now.slots }
-        ensures after { result ≡ (slot + 1) % length self.now.slots.now.slots }
-        ensures within { result < length self.now.slots.now.slots }
+        requires { slot < length self.now.slots }
+        ensures after { result ≡ (slot + 1) % length self.now.slots }
+        ensures within { result < length self.now.slots }
     {
-        self.slots.after(slot)
+        let mask = self.mask;
+        (slot + 1) & mask
     }
 }

@@ -1,11 +1,11 @@
 //! Entries removed from the slots.
-ghost use Rattle.clock2q_handles.specs.Found.{TakesOut};
+ghost use Rattle.clock2q_handles.specs.Found.{TakesOut, TakesOutAt};
 ghost use Rattle.clock2q_handles.specs.Homes.{is_entry_of, listed};
 ghost use Rattle.clock2q_handles.specs.Layout.{IsTidy, slot_at, reach, homes_of};
 ghost use Rattle.clock2q_handles.specs.Slots.{cells, IsSlotCount};
 ghost use Rattle.std.specs.Bool.{OnTrue, OnFalse};
 ghost use Rattle.std.specs.List.{list_any};
-ghost use Rattle.std.specs.Prelude.{true, false, ◌≡◌, ◌%◌, ◌≤◌, ℕ, length};
+ghost use Rattle.std.specs.Prelude.{true, false, ◌≡◌, ◌%◌, ◌<◌, ◌≤◌, ℕ, length};
 
 use crate::metadata::Metadata;
 use crate::slots::{Slots, SlotsMut};
@@ -52,6 +52,45 @@ impl<H: Copy + Default, A: Allocator> Slots<H, A> {
             handle,
         );
     }
+}
+
+impl<H: Copy + Default, A: Allocator> Slots<H, A> {
+    /// Removes the entry in a slot.
+    #[inline(always)]
+    pub(crate) fn remove_at(&mut self, slot: usize)
+        requires tidy { IsTidy self.old.slots }
+        requires within { slot < length self.old.slots }
+        requires occupied { 0 < reach (slot_at self.old.slots slot) }
+        ensures taken { TakesOutAt self.old.slots self.new.slots slot self.old.writes self.new.writes }
+    {
+        remove_at_from(
+            self.metadata.as_mut_slice(),
+            self.handles.as_mut_slice(),
+            &mut self.writes,
+            slot,
+        );
+    }
+}
+
+/// Removes the entry in a slot over a view of both vectors.
+#[inline(always)]
+fn remove_at_from<H: Copy + Default>(
+    metadata: &mut [Metadata],
+    handles: &mut [H],
+    writes: &mut Count,
+    slot: usize,
+)
+    requires same { length handles.old ≡ length metadata.old }
+    requires slot_count { IsSlotCount (length metadata.old) }
+    requires tidy { IsTidy (cells metadata.old handles.old) }
+    requires within { slot < length (cells metadata.old handles.old) }
+    requires occupied { 0 < reach (slot_at (cells metadata.old handles.old) slot) }
+    ensures taken { TakesOutAt (cells metadata.old handles.old) (cells metadata.new handles.new) slot writes.old.total writes.new.total }
+    ensures as_many { length handles.new ≡ length metadata.new }
+    ensures len { length metadata.new ≡ length metadata.old }
+{
+    let mut slots = SlotsMut::new(metadata, handles, writes);
+    slots.take_out(slot);
 }
 
 /// Removes an entry over a view of both vectors.

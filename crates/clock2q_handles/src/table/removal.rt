@@ -2,6 +2,7 @@
 ghost use Rattle.clock2q_handles.specs.Changes.{WritesAtMost, IsLaidOut};
 ghost use Rattle.clock2q_handles.specs.Homes.{listed, removed, is_entry_of};
 ghost use Rattle.clock2q_handles.specs.Layout.{run, walk};
+ghost use Rattle.clock2q_handles.specs.Positions.{StandsAt, IsTaken, without_entry};
 ghost use Rattle.std.specs.Bool.{OnFalse};
 ghost use Rattle.std.specs.List.{list_any};
 ghost use Rattle.std.specs.Prelude.{true, ◌≡◌, ◌≤◌, ◌+◌, ℕ};
@@ -46,6 +47,22 @@ impl<H: Copy + Eq + Default, A: Allocator> Table<H, A> {
         ensures shorter { (x : ℕ) → walk self.new.homes x ≤ walk self.old.homes x }
     {
         self.slots.remove_held(hash, handle);
+        self.len -= 1;
+    }
+
+    /// Removes the entry at a position, which a [search](Table::search) told.
+    ///
+    /// # Cost
+    ///
+    /// That of [remove](Table::remove), without the walk to the entry.
+    pub fn remove_at(&mut self, position: usize)
+        requires held { IsTaken self.old.homes position }
+        ensures removed { (x i : ℕ) (e : ℕ × H) → StandsAt self.old.homes x i e position → self.new.homes ≡ without_entry self.old.homes x i }
+        ensures writes { (x i : ℕ) (e : ℕ × H) → StandsAt self.old.homes x i e position → WritesAtMost (run self.old.slots x) self.old self.new }
+        ensures laid { IsLaidOut self.new }
+        ensures shorter { (x : ℕ) → walk self.new.homes x ≤ walk self.old.homes x }
+    {
+        self.slots.remove_at(position);
         self.len -= 1;
     }
 }

@@ -200,7 +200,7 @@ impl<K: Eq, V, A: Allocator> Keys<K, V, A> {
     }
 
     /// Returns the first of `places` whose key equals `key`, and counts each question.
-    pub fn find<B: Allocator>(&mut self, places: Candidates<'_, u32, B>, key: &K) -> Option<u32>
+    pub fn find(&mut self, places: Candidates<'_, u32>, key: &K) -> Option<u32>
         requires used { AllByRecursion (λ place. place < length self.old.entries) places.left }
         ensures found { result ≡ find (is_key_at K.eq key.now self.old.entries) places.entry.left }
         ensures counted { self.new ≡ record self.old { questions = self.old.questions + questions_of (is_key_at K.eq key.now self.old.entries) places.entry.left } }
@@ -210,9 +210,9 @@ impl<K: Eq, V, A: Allocator> Keys<K, V, A> {
 
     /// Returns the first of `places` whose key equals `key`. The questions are counted in `asked`
     /// instead.
-    pub fn find_untold<B: Allocator>(
+    pub fn find_untold(
         &self,
-        places: Candidates<'_, u32, B>,
+        places: Candidates<'_, u32>,
         key: &K,
         asked: &mut Count,
     ) -> Option<u32>
@@ -225,9 +225,9 @@ impl<K: Eq, V, A: Allocator> Keys<K, V, A> {
 }
 
 // Returns the first of `places` whose key equals `key`.
-fn first_with<K: Eq, V, A: Allocator, B: Allocator>(
+fn first_with<K: Eq, V, A: Allocator>(
     cells: &Cells<K, V, A>,
-    mut places: Candidates<'_, u32, B>,
+    mut places: Candidates<'_, u32>,
     key: &K,
     asked: &mut Count,
 ) -> Option<u32>

@@ -3,7 +3,9 @@ use Rattle.clock2q_handles.specs.Homes.{total, capacity, candidates}
 use Rattle.clock2q_handles.specs.Layout.{homes_of}
 use Rattle.clock2q_handles.specs.Changes.{IsLaidOut}
 use Rattle.clock2q_handles.specs.Offers.{Offers, MayBeOffered}
-use Rattle.clock2q_handles.specs.Candidates.{left_from}
+use Rattle.clock2q_handles.specs.Candidates.{left_from, EndsAt}
+use Rattle.clock2q_handles.specs.Positions.{gap_of}
+use Rattle.clock2q_handles.proofs.Positions.{ends_gap}
 use Rattle.clock2q_handles.proofs.TidyLayout.{length-homes_of}
 use Rattle.clock2q_handles.proofs.Steps.{table-laid}
 use Rattle.clock2q_handles.proofs.Yields.{left_at_start}
@@ -12,24 +14,31 @@ use Rattle.clock2q_handles.proofs.table.Table.find_or_put.Goals.{After-new-reade
 use Rattle.clock2q_handles.proofs.table.Table.find_or_put.Goals as goal
 
 -- the candidates, as a walk meets them
-list : (g : Over) (c : After-new-reader g) → left_from c.new-reader.result.slots.now.slots c.args.hash 0 ≡ candidates c.args.self.now.homes c.args.hash
-list g c = ap (λ s. left_from s.slots c.args.hash 0) c.new-reader.ensures.slots ∙ left_at_start c.self.inside.slots.slots c.args.hash ∙ ap (λ t. candidates t.homes c.args.hash) c.self.view_is
+list : (g : Over) (c : After-new-reader g) → left_from c.new-reader.result.slots c.args.hash 0 ≡ candidates c.args.self.now.homes c.args.hash
+list g c = ap (λ r. left_from r.slots c.args.hash 0) c.new-reader.ensures ∙ left_at_start c.self.inside.slots.slots c.args.hash ∙ ap (λ t. candidates t.homes c.args.hash) c.self.view_is
 
 -- there are slots, since there is room
 pub offer-requires-clause-some : goal.offer-requires-clause-some
 offer-requires-clause-some g c =
     let slots = c.self.inside.slots.slots in
     let room : total (homes_of slots) < capacity (length (homes_of slots)) = subst (λ t. total t.homes < capacity (length t.homes)) (sym c.self.view_is) c.requires.room in
-    omega (arith, room, length-homes_of slots, ap (λ s. length s.slots) c.new-reader.ensures.slots)
+    omega (arith, room, length-homes_of slots, ap (λ r. length r.slots) c.new-reader.ensures)
 
 pub offer-requires-clause-callable : goal.offer-requires-clause-callable
 offer-requires-clause-callable g c =
     subst (λ hs. MayBeOffered g.M.FnMut c.args.matches.now hs) (sym (list g (goal.at.offer-requires-clause-callable g c).After-new-reader)) c.requires.callable
 
+pub insert_at-requires-clause-gap : goal.insert_at-requires-clause-gap
+insert_at-requires-clause-gap g c =
+    let slots = c.self.inside.slots.slots in
+    let room : total (homes_of slots) < capacity (length (homes_of slots)) = subst (λ t. total t.homes < capacity (length t.homes)) (sym c.self.view_is) c.requires.room in
+    ends_gap slots c.self.invariant.tidy (omega (arith, room, length-homes_of slots)) c.args.hash c.in-Err.gap.position c.in-Err.gap.mark
+    (subst (λ r. EndsAt r.slots c.args.hash c.in-Err.gap.mark c.in-Err.gap.position) c.new-reader.ensures c.in-Err.ensures.ends) ∙ ap (λ t. gap_of t.homes c.args.hash) c.self.view_is
+
 pub returns-in-Ok-clause-settles : goal.returns-in-Ok-clause-settles
 returns-in-Ok-clause-settles g c =
     let met = list g (goal.at.returns-in-Ok-clause-settles g c).After-new-reader in
-    (Some c.in-Ok.found, subst (λ hs. Offers g.M.FnMut c.args.matches.now hs (Some c.in-Ok.found) c.offer.new.matches) met c.in-Ok.ensures.offers, (refl, refl))
+    (Some c.in-Ok.found.0, subst (λ hs. Offers g.M.FnMut c.args.matches.now hs (Some c.in-Ok.found.0) c.offer.new.matches) met c.in-Ok.ensures.offers, (refl, refl))
 
 pub returns-in-Ok-clause-laid : goal.returns-in-Ok-clause-laid
 returns-in-Ok-clause-laid g c = subst IsLaidOut c.self.view_is (table-laid c.self.inside.slots.slots c.self.inside.len c.self.invariant c.self.inside.slots.writes)

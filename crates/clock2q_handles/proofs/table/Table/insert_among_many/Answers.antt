@@ -11,15 +11,20 @@ end-distance-requires-clause-home g c =
     let room : total (homes_of slots) < capacity (length (homes_of slots)) = subst (λ t. total t.homes < capacity (length t.homes)) (sym c.self.view_is) c.requires.room in
     c.home-home.ensures.within (omega (arith, room, length-homes_of slots))
 
-pub returns-clause-few : goal.returns-clause-few
-returns-clause-few g c few =
-    ok_where_no_error c.place.result (put_err c.args.self.now.homes c.place.new.self.homes c.args.hash c.args.handle c.place.result c.place.ensures.put)
-    (few_fit c.args.self.now.homes c.args.hash c.args.handle c.requires.room few)
-
-pub returns-clause-restores : goal.returns-clause-restores
-returns-clause-restores g c =
+pub returns : goal.returns
+returns g c =
     let slots = c.self.inside.slots.slots in
-    on_ok c.place.result (λ is fresh.
-    restored_by g.H.PartialEq.eq slots c.args.self.now.homes c.place.new.self.homes c.args.hash c.args.handle
-    (ap (λ t. t.homes) c.self.view_is) c.self.invariant.tidy c.requires.room (g.met.H.Eq.laws.refl c.args.handle) is fresh
-    ∙ ap (λ t. t.slots) c.self.view_is) (put_ok c.args.self.now.homes c.place.new.self.homes c.args.hash c.args.handle c.place.result c.place.ensures.put)
+    let homes = c.args.self.now.homes in
+    let after = c.place.new.self.homes in
+    record {
+      put = c.place.ensures.put;
+      refused = c.place.ensures.refused;
+      few = λ few.
+          ok_where_no_error c.place.result (put_err homes after c.args.hash c.args.handle c.place.result c.place.ensures.put) (few_fit homes c.args.hash c.args.handle c.requires.room few);
+      writes = c.place.ensures.writes;
+      restores = on_ok c.place.result (λ is fresh.
+          restored_by g.H.PartialEq.eq slots homes after c.args.hash c.args.handle
+          (ap (λ t. t.homes) c.self.view_is) c.self.invariant.tidy c.requires.room (g.met.H.Eq.laws.refl c.args.handle) is fresh
+          ∙ ap (λ t. t.slots) c.self.view_is) (put_ok homes after c.args.hash c.args.handle c.place.result c.place.ensures.put);
+      laid = c.place.ensures.laid;
+    }

@@ -10,12 +10,12 @@ use Rattle.clock2q_handles.proofs.slots.reader.Reader.candidate.Goals.{After-is,
 use Rattle.clock2q_handles.proofs.slots.reader.Reader.candidate.Goals as goal
 
 -- the slot that was read
-here : (g : Over) (c : After-is g) → told c.read-metadata.result ≡ mark_of (slot_at c.args.self.now.slots.now.slots c.loop-metadata.slot)
-here g c = subst (λ s. told c.read-metadata.result ≡ mark_of (slot_at s.now.slots c.loop-metadata.slot)) c.loop-metadata.invariant.same c.read-metadata.ensures.told
+here : (g : Over) (c : After-is g) → told c.read-metadata.result ≡ mark_of (slot_at c.args.self.now.slots c.loop-metadata.slot)
+here g c = subst (λ s. told c.read-metadata.result ≡ mark_of (slot_at s c.loop-metadata.slot)) c.loop-metadata.invariant.same c.read-metadata.ensures.told
 
 pub returns-then-ends_walk_for-clause-none : goal.returns-then-ends_walk_for-clause-none
 returns-then-ends_walk_for-clause-none g c =
-    let slots = c.args.self.now.slots.now.slots in
+    let slots = c.args.self.now.slots in
     let l = c.loop-metadata.invariant in
     let mark = here g (goal.at.returns-then-ends_walk_for-clause-none g c).After-is in
     l.left ∙ (lookup_ends slots (sought c.loop-metadata.wanted) c.loop-metadata.slot l.some l.lookup
@@ -23,7 +23,7 @@ returns-then-ends_walk_for-clause-none g c =
 
 pub returns-then-ends_walk_for-clause-read_all : goal.returns-then-ends_walk_for-clause-read_all
 returns-then-ends_walk_for-clause-read_all g c =
-    let slots = c.args.self.now.slots.now.slots in
+    let slots = c.args.self.now.slots in
     let l = c.loop-metadata.invariant in
     let mark = here g (goal.at.returns-then-ends_walk_for-clause-read_all g c).After-is in
     let end =
@@ -33,17 +33,17 @@ returns-then-ends_walk_for-clause-read_all g c =
 
 pub returns-then-ends_walk_for-clause-ends : goal.returns-then-ends_walk_for-clause-ends
 returns-then-ends_walk_for-clause-ends g c x walk =
-    let slots = c.args.self.now.slots.now.slots in
+    let slots = c.args.self.now.slots in
     let mark = here g (goal.at.returns-then-ends_walk_for-clause-ends g c).After-is in
     record {
       walk = c.loop-metadata.invariant.walks x walk;
       stop = omega (arith, reach_told _ (slot_at slots c.loop-metadata.slot) mark, c.ends_walk_for.ensures.0 c.if-ends_walk_for.true);
     }
 
-on : (g : Over) (c : After-after-slot g) → told c.read-metadata.result ≡ mark_of (slot_at c.args.self.now.slots.now.slots c.loop-metadata.slot)
-    → mark_reach (sought c.loop-metadata.wanted) ≤ reach (slot_at c.args.self.now.slots.now.slots c.loop-metadata.slot)
+on : (g : Over) (c : After-after-slot g) → told c.read-metadata.result ≡ mark_of (slot_at c.args.self.now.slots c.loop-metadata.slot)
+    → mark_reach (sought c.loop-metadata.wanted) ≤ reach (slot_at c.args.self.now.slots c.loop-metadata.slot)
 on g c mark =
-    goes_on c.args.self.now.slots.now.slots c.ends_walk_for.result (sought c.loop-metadata.wanted)
+    goes_on c.args.self.now.slots c.ends_walk_for.result (sought c.loop-metadata.wanted)
     (told c.read-metadata.result) c.loop-metadata.slot c.ends_walk_for.ensures c.if-ends_walk_for.false mark
 
 pub next-wanted-requires-clause-room : goal.next-wanted-requires-clause-room
@@ -52,13 +52,13 @@ next-wanted-requires-clause-room g c =
     omega (arith, on g before.After-after-slot (here g before.After-is), c.loop-metadata.invariant.lookup.near c.loop-metadata.slot)
 
 -- the walk goes on to the next slot
-gone : (g : Over) (c : After-after-slot g) (mark : told c.read-metadata.result ≡ mark_of (slot_at c.args.self.now.slots.now.slots c.loop-metadata.slot)) (wanted : Wanted)
+gone : (g : Over) (c : After-after-slot g) (mark : told c.read-metadata.result ≡ mark_of (slot_at c.args.self.now.slots c.loop-metadata.slot)) (wanted : Wanted)
     → sought wanted ≡ mark_on (sought c.loop-metadata.wanted)
-    → HasStepped c.args.self.now.slots.now.slots (sought c.loop-metadata.wanted) (sought wanted) c.loop-metadata.slot c.after-slot.result
+    → HasStepped c.args.self.now.slots (sought c.loop-metadata.wanted) (sought wanted) c.loop-metadata.slot c.after-slot.result
 gone g c mark wanted is =
     let l = c.loop-metadata.invariant in
-    lookup_steps c.args.self.now.slots.now.slots (sought c.loop-metadata.wanted) (sought wanted) c.loop-metadata.slot c.after-slot.result l.some is
-    (c.after-slot.ensures.after ∙ ap (λ s. (c.loop-metadata.slot + 1) % length s.now.slots) (c.read-metadata.ensures.same ∙ l.same)) l.lookup (on g c mark)
+    lookup_steps c.args.self.now.slots (sought c.loop-metadata.wanted) (sought wanted) c.loop-metadata.slot c.after-slot.result l.some is
+    (c.after-slot.ensures.after ∙ ap (λ s. (c.loop-metadata.slot + 1) % length s) (c.read-metadata.ensures.same ∙ l.same)) l.lookup (on g c mark)
 
 pub loop-metadata-smaller : goal.loop-metadata-smaller
 loop-metadata-smaller g c =
@@ -76,9 +76,10 @@ loop-metadata-preserved g c =
       lookup = next.lookup;
       some = next.some;
       walks =
-          λ x walk. walks_on c.args.self.now.slots.now.slots l.lookup.tidy x (sought c.loop-metadata.wanted) (sought c.next-wanted.result)
+          λ x walk. walks_on c.args.self.now.slots l.lookup.tidy x (sought c.loop-metadata.wanted) (sought c.next-wanted.result)
           c.loop-metadata.slot c.after-slot.result (l.walks x walk) (on g before.After-after-slot mark) c.next-wanted.ensures
-          (c.after-slot.ensures.after ∙ ap (λ s. (c.loop-metadata.slot + 1) % length s.now.slots) (c.read-metadata.ensures.same ∙ l.same));
+          (c.after-slot.ensures.after ∙ ap (λ s. (c.loop-metadata.slot + 1) % length s) (c.read-metadata.ensures.same ∙ l.same));
+      handles = c.read-metadata.ensures.handles ∙ l.handles;
       reads = omega (arith, l.reads, c.read-metadata.ensures.counted);
       left = l.left ∙ next.skips (λ e. refused c.is.result c.is.ensures c.if-is.false (mark ∙ e));
       read = omega (arith, l.read, next.read, c.read-metadata.ensures.counted);

@@ -4,28 +4,30 @@ use Rattle.std.specs.Prelude.{IsSome}
 use Rattle.clock2q_handles.specs.Candidates.{left_at, left_from, unread_at, IsLookup, IsWalkFor, EndsAt}
 use Rattle.clock2q_handles.specs.Layout.{slot_at}
 use Rattle.clock2q_handles.specs.Offers.{Offers, TakesInTurn}
-use Rattle.clock2q_handles.specs.Slots.{sought, mark_on}
+use Rattle.clock2q_handles.specs.Slots.{sought, mark_of, mark_on}
 use Rattle.clock2q_handles.proofs.Carrying.{walks_begin, walks_on}
 use Rattle.clock2q_handles.proofs.Cursors.{HasStepped, HasFound, has_found, begins_whole, lookup_begins}
+use Rattle.clock2q_handles.proofs.Finding.{candidate}
 use Rattle.clock2q_handles.proofs.slots.reader.Reader.offer.Given.{Over}
 use Rattle.clock2q_handles.proofs.slots.reader.Reader.offer.Goals.{After-handle-handle, After-next-wanted}
 use Rattle.clock2q_handles.proofs.slots.reader.Reader.offer.Goals as goal
 
 pub loop-end-init : goal.loop-end-init
 loop-end-init g c =
-    let slots = c.args.self.now.slots.now.slots in
+    let slots = c.args.self.now.slots in
     let x = c.args.hash in
     let n = c.home-slot.result in
-    let whole = begins_whole slots x n c.requires.tidy c.requires.near c.requires.some c.home-slot.ensures.home in
+    let whole = begins_whole slots x n c.requires.tidy c.requires.near c.requires.some (c.home-slot.ensures.home c.requires.some) in
     let at = sym c.new-wanted.ensures in
     let left : left_from slots x 0 ≡ left_at slots (sought c.new-wanted.result) n = sym whole.0 ∙ ap (λ s. left_at slots s n) at in
     record {
       same = refl;
-      lookup = subst (λ s. IsLookup slots s n) at (lookup_begins slots x n c.requires.tidy c.requires.near c.requires.some c.home-slot.ensures.home);
+      lookup = subst (λ s. IsLookup slots s n) at (lookup_begins slots x n c.requires.tidy c.requires.near c.requires.some (c.home-slot.ensures.home c.requires.some));
       some = subst IsSome at refl;
-      walk = walks_begin slots c.requires.tidy x (sought c.new-wanted.result) n c.requires.some c.home-slot.ensures.home c.new-wanted.ensures;
+      walk = walks_begin slots c.requires.tidy x (sought c.new-wanted.result) n c.requires.some (c.home-slot.ensures.home c.requires.some) c.new-wanted.ensures;
       reads = omega arith;
-      read = ap (λ s. c.args.self.now.reads.total + unread_at slots s n) c.new-wanted.ensures ∙ ap (λ k. c.args.self.now.reads.total + k) whole.1;
+      read = ap (λ s. c.args.self.now.reads + unread_at slots s n) c.new-wanted.ensures ∙ ap (λ k. c.args.self.now.reads + k) whole.1;
+      handles = ap (λ hs. c.args.self.now.handles + length hs) (sym left);
       callable = subst (λ hs. TakesInTurn g.F.FnMut c.args.matches.now hs) left c.requires.callable.in_turn;
       offers = λ found last given. subst (λ hs. Offers g.F.FnMut c.args.matches.now hs found last) (sym left) given;
     }
@@ -33,24 +35,41 @@ loop-end-init g c =
 pub returns-in-Err-clause-ends : goal.returns-in-Err-clause-ends
 returns-in-Err-clause-ends g c =
     let l = c.loop-end.invariant in
-    subst (λ s. EndsAt s.now.slots c.args.hash (sought c.in-Err.end.1) c.in-Err.end.0) l.same
-    (c.in-Err.ensures.ends c.args.hash (subst (λ s. IsWalkFor s.now.slots c.args.hash (sought c.loop-end.wanted) c.loop-end.slot) (sym l.same) l.walk))
+    subst (λ e. EndsAt c.args.self.now.slots c.args.hash e.mark e.position) (sym c.new.ensures) (subst (λ s. EndsAt s c.args.hash (sought c.in-Err.end.1) c.in-Err.end.0) l.same
+    (c.in-Err.ensures.ends c.args.hash (subst (λ s. IsWalkFor s c.args.hash (sought c.loop-end.wanted) c.loop-end.slot) (sym l.same) l.walk)))
 
 -- the candidate that was found
 found : (g : Over) (c : After-handle-handle g)
-    → HasFound c.args.self.now.slots.now.slots (sought c.loop-end.wanted) (sought c.in-Ok.found)
-    c.loop-end.slot c.in-Ok.here c.handle-handle.result c.loop-end.self.reads.total c.candidate.new.self.reads.total
+    → HasFound c.args.self.now.slots (sought c.loop-end.wanted) (sought c.in-Ok.found)
+    c.loop-end.slot c.in-Ok.here c.handle-handle.result c.loop-end.self.reads c.candidate.new.self.reads
 found g c =
     let is = c.in-Ok.ensures in
-    let handle = subst (λ s. IfSome (slot_at s.now.slots c.in-Ok.here) (λ p. c.handle-handle.result ≡ p.entry.1)) c.candidate.ensures.same c.handle-handle.ensures in
-    subst (λ s. HasFound s.now.slots (sought c.loop-end.wanted) (sought c.in-Ok.found)
-    c.loop-end.slot c.in-Ok.here c.handle-handle.result c.loop-end.self.reads.total c.candidate.new.self.reads.total) c.loop-end.invariant.same
-    (has_found c.loop-end.self.slots.now.slots _ _ _ _ c.handle-handle.result _ _ is.lookup is.some is.found is.left handle is.read)
+    let handle = subst (λ s. IfSome (slot_at s c.in-Ok.here) (λ p. c.handle-handle.result ≡ p.entry.1)) c.candidate.ensures.same c.handle-handle.ensures.handle in
+    subst (λ s. HasFound s (sought c.loop-end.wanted) (sought c.in-Ok.found)
+    c.loop-end.slot c.in-Ok.here c.handle-handle.result c.loop-end.self.reads c.candidate.new.self.reads) c.loop-end.invariant.same
+    (has_found c.loop-end.self.slots _ _ _ _ c.handle-handle.result _ _ is.lookup is.some is.found is.left handle is.read)
+
+-- the walk came to it
+came : (g : Over) (c : After-handle-handle g) → IsWalkFor c.args.self.now.slots c.args.hash (sought c.in-Ok.found) c.in-Ok.here
+came g c =
+    let l = c.loop-end.invariant in
+    subst (λ s. IsWalkFor s c.args.hash (sought c.in-Ok.found) c.in-Ok.here) l.same
+    (c.in-Ok.ensures.walks c.args.hash (subst (λ s. IsWalkFor s c.args.hash (sought c.loop-end.wanted) c.loop-end.slot) (sym l.same) l.walk))
+
+pub returns-then-matches-clause-at : goal.returns-then-matches-clause-at
+returns-then-matches-clause-at g c =
+    let slots = c.args.self.now.slots in
+    let l = c.loop-end.invariant in
+    let r = c.handle-handle.result in
+    let walk = came g (goal.at.returns-then-matches-clause-at g c).After-handle-handle in
+    let mark = subst (λ s. mark_of (slot_at s c.in-Ok.here) ≡ sought c.in-Ok.found) l.same c.in-Ok.ensures.found in
+    let handle = subst (λ s. IfSome (slot_at s c.in-Ok.here) (λ p. r ≡ p.entry.1)) (c.candidate.ensures.same ∙ l.same) c.handle-handle.ensures.handle in
+    record { distance = walk.distance; come = walk.come; here = candidate c.args.hash (sought c.in-Ok.found) (slot_at slots c.in-Ok.here) walk.distance r (sym mark) walk.mark handle }
 
 -- it is the first that is left
-first : (g : Over) (c : After-handle-handle g) → left_at c.args.self.now.slots.now.slots (sought c.loop-end.wanted) c.loop-end.slot
-    ≡ c.handle-handle.result ∷ left_at c.args.self.now.slots.now.slots (mark_on (sought c.in-Ok.found)) ((c.in-Ok.here + 1) % length c.args.self.now.slots.now.slots)
-first g c = ((found g c).on (mark_on (sought c.in-Ok.found)) ((c.in-Ok.here + 1) % length c.args.self.now.slots.now.slots) refl refl).1
+first : (g : Over) (c : After-handle-handle g) → left_at c.args.self.now.slots (sought c.loop-end.wanted) c.loop-end.slot
+    ≡ c.handle-handle.result ∷ left_at c.args.self.now.slots (mark_on (sought c.in-Ok.found)) ((c.in-Ok.here + 1) % length c.args.self.now.slots)
+first g c = ((found g c).on (mark_on (sought c.in-Ok.found)) ((c.in-Ok.here + 1) % length c.args.self.now.slots) refl refl).1
 
 pub matches-requires : goal.matches-requires
 matches-requires g c =
@@ -67,19 +86,29 @@ returns-then-matches-clause-offers g c =
 pub returns-then-matches-clause-read : goal.returns-then-matches-clause-read
 returns-then-matches-clause-read g c =
     let here = found g (goal.at.returns-then-matches-clause-read g c).After-handle-handle in
-    let step = (here.on (mark_on (sought c.in-Ok.found)) ((c.in-Ok.here + 1) % length c.args.self.now.slots.now.slots) refl refl).0 in
-    omega (arith, c.loop-end.invariant.read, here.read, step.read)
+    let step = (here.on (mark_on (sought c.in-Ok.found)) ((c.in-Ok.here + 1) % length c.args.self.now.slots) refl refl).0 in
+    omega (arith, c.loop-end.invariant.read, here.read, step.read, c.handle-handle.ensures.reads)
+
+pub returns-then-matches-clause-handles : goal.returns-then-matches-clause-handles
+returns-then-matches-clause-handles g c =
+    omega (
+      arith,
+      c.loop-end.invariant.handles,
+      c.candidate.ensures.handles,
+      c.handle-handle.ensures.counted,
+      ap length (first g (goal.at.returns-then-matches-clause-handles g c).After-handle-handle),
+    )
 
 -- the walk goes on to the next slot
 on : (g : Over) (c : After-next-wanted g)
-    → HasFound c.args.self.now.slots.now.slots (sought c.loop-end.wanted) (sought c.in-Ok.found)
-    c.loop-end.slot c.in-Ok.here c.handle-handle.result c.loop-end.self.reads.total c.candidate.new.self.reads.total
-    → HasStepped c.args.self.now.slots.now.slots (sought c.in-Ok.found) (sought c.next-wanted.result) c.in-Ok.here c.after-slot.result
-    × (left_at c.args.self.now.slots.now.slots (sought c.loop-end.wanted) c.loop-end.slot
-    ≡ c.handle-handle.result ∷ left_at c.args.self.now.slots.now.slots (sought c.next-wanted.result) c.after-slot.result)
+    → HasFound c.args.self.now.slots (sought c.loop-end.wanted) (sought c.in-Ok.found)
+    c.loop-end.slot c.in-Ok.here c.handle-handle.result c.loop-end.self.reads c.candidate.new.self.reads
+    → HasStepped c.args.self.now.slots (sought c.in-Ok.found) (sought c.next-wanted.result) c.in-Ok.here c.after-slot.result
+    × (left_at c.args.self.now.slots (sought c.loop-end.wanted) c.loop-end.slot
+    ≡ c.handle-handle.result ∷ left_at c.args.self.now.slots (sought c.next-wanted.result) c.after-slot.result)
 on g c here =
     here.on (sought c.next-wanted.result) c.after-slot.result c.next-wanted.ensures (c.after-slot.ensures.after
-    ∙ ap (λ s. (c.in-Ok.here + 1) % length s.now.slots) (c.candidate.ensures.same ∙ c.loop-end.invariant.same))
+    ∙ ap (λ s. (c.in-Ok.here + 1) % length s) (c.handle-handle.ensures.same ∙ c.candidate.ensures.same ∙ c.loop-end.invariant.same))
 
 pub loop-end-smaller : goal.loop-end-smaller
 loop-end-smaller g c =
@@ -88,7 +117,7 @@ loop-end-smaller g c =
 
 pub loop-end-preserved : goal.loop-end-preserved
 loop-end-preserved g c =
-    let slots = c.args.self.now.slots.now.slots in
+    let slots = c.args.self.now.slots in
     let l = c.loop-end.invariant in
     let here = found g (goal.at.loop-end-preserved g c).After-handle-handle in
     let next = on g c here in
@@ -96,16 +125,16 @@ loop-end-preserved g c =
     let f = c.matches.new.self in
     let rest = left_at slots (sought c.next-wanted.result) c.after-slot.result in
     let called = subst (λ b. Called g.F.FnMut c.loop-end.matches (r, tt) b f) c.if-matches.false c.matches.ensures in
-    let walk = subst (λ s. IsWalkFor s.now.slots c.args.hash (sought c.in-Ok.found) c.in-Ok.here) l.same
-    (c.in-Ok.ensures.walks c.args.hash (subst (λ s. IsWalkFor s.now.slots c.args.hash (sought c.loop-end.wanted) c.loop-end.slot) (sym l.same) l.walk)) in
+    let walk = came g (goal.at.loop-end-preserved g c).After-handle-handle in
     record {
-      same = c.candidate.ensures.same ∙ l.same;
+      same = c.handle-handle.ensures.same ∙ c.candidate.ensures.same ∙ l.same;
       lookup = next.0.lookup;
       some = next.0.some;
       walk = walks_on slots c.requires.tidy c.args.hash (sought c.in-Ok.found) (sought c.next-wanted.result) c.in-Ok.here c.after-slot.result walk here.far c.next-wanted.ensures
-          (c.after-slot.ensures.after ∙ ap (λ s. (c.in-Ok.here + 1) % length s.now.slots) (c.candidate.ensures.same ∙ l.same));
-      reads = omega (arith, l.reads, c.candidate.ensures.reads);
-      read = omega (arith, l.read, here.read, next.0.read);
+          (c.after-slot.ensures.after ∙ ap (λ s. (c.in-Ok.here + 1) % length s) (c.handle-handle.ensures.same ∙ c.candidate.ensures.same ∙ l.same));
+      reads = omega (arith, l.reads, c.candidate.ensures.reads, c.handle-handle.ensures.reads);
+      read = omega (arith, l.read, here.read, next.0.read, c.handle-handle.ensures.reads);
+      handles = omega (arith, l.handles, ap length next.1, c.candidate.ensures.handles, c.handle-handle.ensures.counted);
       callable = (subst (λ hs. TakesInTurn g.F.FnMut c.loop-end.matches hs) next.1 l.callable).1 f called;
       offers = λ found last given. l.offers found last (subst (λ hs. Offers g.F.FnMut c.loop-end.matches hs found last) (sym next.1) (false, f, called, given));
     }

@@ -1,4 +1,4 @@
-use Rattle.std.proofs.Common.{◌≡◌, ◌+◌, ◌≤◌, Option}
+use Rattle.std.proofs.Common.{◌≡◌, ◌+◌, ◌≤◌, Option, length}
 use Rattle.std.specs.Prelude.{IsSome}
 use Rattle.clock2q_handles.specs.Candidates.{left_at, left_from, unread_at, unread_from, IsLookup, IsWalkFor}
 use Rattle.clock2q_handles.specs.Offers.{Offers, TakesInTurn}
@@ -8,15 +8,16 @@ use Rattle.clock2q_handles.proofs.slots.reader.Reader.offer.Given as goal
 abbrev pub invariant-loop-end : goal.invariant-loop-end
 invariant-loop-end g l = record {
   same : l.self.slots ≡ l.initial.self.slots;
-  lookup : IsLookup l.initial.self.slots.now.slots (sought l.wanted) l.slot;
+  lookup : IsLookup l.initial.self.slots (sought l.wanted) l.slot;
   some : IsSome (sought l.wanted);
-  walk : IsWalkFor l.initial.self.slots.now.slots l.hash (sought l.wanted) l.slot;
-  reads : l.initial.self.reads.total ≤ l.self.reads.total;
-  read : l.self.reads.total + unread_at l.initial.self.slots.now.slots (sought l.wanted) l.slot ≡ l.initial.self.reads.total + unread_from l.initial.self.slots.now.slots l.hash 0;
-  callable : TakesInTurn g.F.FnMut l.matches (left_at l.initial.self.slots.now.slots (sought l.wanted) l.slot);
-  offers : (found : Option g.row.H.Denot) (last : g.row.F.Denot) → Offers g.F.FnMut l.matches (left_at l.initial.self.slots.now.slots (sought l.wanted) l.slot) found last
-      → Offers g.F.FnMut l.initial.matches (left_from l.initial.self.slots.now.slots l.hash 0) found last;
+  walk : IsWalkFor l.initial.self.slots l.hash (sought l.wanted) l.slot;
+  reads : l.initial.self.reads ≤ l.self.reads;
+  read : l.self.reads + unread_at l.initial.self.slots (sought l.wanted) l.slot ≡ l.initial.self.reads + unread_from l.initial.self.slots l.hash 0;
+  handles : l.self.handles + length (left_at l.initial.self.slots (sought l.wanted) l.slot) ≡ l.initial.self.handles + length (left_from l.initial.self.slots l.hash 0);
+  callable : TakesInTurn g.F.FnMut l.matches (left_at l.initial.self.slots (sought l.wanted) l.slot);
+  offers : (found : Option g.row.H.Denot) (last : g.row.F.Denot) → Offers g.F.FnMut l.matches (left_at l.initial.self.slots (sought l.wanted) l.slot) found last
+      → Offers g.F.FnMut l.initial.matches (left_from l.initial.self.slots l.hash 0) found last;
 }
 
 abbrev pub decreases-loop-end : goal.decreases-loop-end
-decreases-loop-end g l = unread_at l.initial.self.slots.now.slots (sought l.wanted) l.slot
+decreases-loop-end g l = unread_at l.initial.self.slots (sought l.wanted) l.slot

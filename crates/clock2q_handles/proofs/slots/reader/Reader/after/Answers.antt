@@ -1,0 +1,19 @@
+use Rattle.std.proofs.Common.{◌≡◌, ◌+◌, ◌-◌, ◌%◌, length, bit_and, ap, ◌∙◌, arith}
+use Rattle.std.proofs.lemmas.Nat.{mod_below}
+use Rattle.clock2q_handles.proofs.Cells.{read_words, slot_mask}
+use Rattle.clock2q_handles.proofs.slots.reader.Reader.after.Goals as goal
+
+pub overflow_add-result : goal.overflow_add-result
+overflow_add-result g c = omega (arith, c.requires, read_words c.self.inside.metadata.items.now c.self.inside.handles.items.now c.self.invariant.same c.self.view_is, c.self.invariant.small)
+
+pub returns-clause-after : goal.returns-clause-after
+returns-clause-after g c =
+    let len = read_words c.self.inside.metadata.items.now c.self.inside.handles.items.now c.self.invariant.same c.self.view_is in
+    let mask : c.self.inside.mask ≡ length c.self.inside.metadata.items.now - 1 = omega (arith, c.self.invariant.mask_of (omega (arith, c.requires, len))) in
+    ap (bit_and (c.args.slot + 1)) mask ∙ slot_mask (c.args.slot + 1) (length c.self.inside.metadata.items.now) c.self.invariant.slot_count (omega (arith, c.requires, len))
+    ∙ ap (λ m. (c.args.slot + 1) % m) len
+
+pub returns-clause-within : goal.returns-clause-within
+returns-clause-within g c =
+    let below = mod_below (c.args.slot + 1) (length c.args.self.now.slots) (omega (arith, c.requires)) in
+    omega (arith, returns-clause-after g c, below)

@@ -1,0 +1,45 @@
+use Rattle.std.proofs.Common.{◌≡◌, ◌<◌, ℕ, length, ap, sym, ◌∙◌, subst, arith}
+use Rattle.clock2q_handles.specs.Candidates.{left_from, EndsAt, IsFoundAt}
+use Rattle.clock2q_handles.specs.Homes.{top, candidates}
+use Rattle.clock2q_handles.specs.Offers.{Offers, MayBeOffered, handle_in}
+use Rattle.clock2q_handles.specs.Positions.{StandsAt, gap_of}
+use Rattle.clock2q_handles.proofs.TidyLayout.{length-homes_of}
+use Rattle.clock2q_handles.proofs.Yields.{left_at_start}
+use Rattle.clock2q_handles.proofs.Promises.{if_ok, if_err}
+use Rattle.clock2q_handles.proofs.Positions.{found_stands, ends_gap}
+use Rattle.clock2q_handles.proofs.table.Table.search.Given.{Over}
+use Rattle.clock2q_handles.proofs.table.Table.search.Goals.{After-new-reader}
+use Rattle.clock2q_handles.proofs.table.Table.search.Goals as goal
+
+-- the candidates, as a walk meets them
+list : (g : Over) (c : After-new-reader g) → left_from c.new-reader.result.slots c.args.hash 0 ≡ candidates c.args.self.now.homes c.args.hash
+list g c = ap (λ r. left_from r.slots c.args.hash 0) c.new-reader.ensures ∙ left_at_start c.self.inside.slots.slots c.args.hash ∙ ap (λ t. candidates t.homes c.args.hash) c.self.view_is
+
+some : (g : Over) (c : After-new-reader g) → 0 < length c.self.inside.slots.slots
+some g c = omega (arith, c.requires.slots, length-homes_of c.self.inside.slots.slots, ap (λ t. length t.homes) c.self.view_is)
+
+pub offer-requires-clause-some : goal.offer-requires-clause-some
+offer-requires-clause-some g c = omega (arith, some g (goal.at.offer-requires-clause-some g c).After-new-reader, ap (λ r. length r.slots) c.new-reader.ensures)
+
+pub offer-requires-clause-callable : goal.offer-requires-clause-callable
+offer-requires-clause-callable g c = subst (λ hs. MayBeOffered g.M.FnMut c.args.matches hs) (sym (list g (goal.at.offer-requires-clause-callable g c).After-new-reader)) c.requires.callable
+
+pub returns-clause-offers : goal.returns-clause-offers
+returns-clause-offers g c =
+    (_, subst (λ hs. Offers g.M.FnMut c.args.matches hs (handle_in c.offer.result) c.offer.new.matches) (list g (goal.at.returns-clause-offers g c).After-new-reader) c.offer.ensures.offers)
+
+pub returns-clause-found : goal.returns-clause-found
+returns-clause-found g c =
+    let slots = c.self.inside.slots.slots in
+    let there = some g (goal.at.returns-clause-found g c).After-new-reader in
+    if_ok c.offer.result (λ r at.
+    subst (λ t. (i : ℕ) × StandsAt t.homes c.args.hash i (top c.args.hash, r.0) r.1) c.self.view_is
+    (found_stands slots c.self.invariant.tidy there c.args.hash r.1 r.0 (subst (λ u. IsFoundAt u.slots c.args.hash r.0 r.1) c.new-reader.ensures at))) c.offer.ensures.at
+
+pub returns-clause-gap : goal.returns-clause-gap
+returns-clause-gap g c =
+    let slots = c.self.inside.slots.slots in
+    let there = some g (goal.at.returns-clause-gap g c).After-new-reader in
+    if_err c.offer.result (λ e ends.
+    ends_gap slots c.self.invariant.tidy there c.args.hash e.position e.mark (subst (λ u. EndsAt u.slots c.args.hash e.mark e.position) c.new-reader.ensures ends)
+    ∙ ap (λ t. gap_of t.homes c.args.hash) c.self.view_is) c.offer.ensures.ends

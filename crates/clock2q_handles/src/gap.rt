@@ -1,0 +1,56 @@
+//! Where lookups end that find nothing.
+use crate::metadata::Wanted;
+use std::marker::Model;
+
+/// The slot of a table where a lookup ended that found nothing, and where an entry of its hash
+/// would be inserted.
+///
+/// # Example
+///
+/// ```
+/// match table.search(hash, |number| keys[number] == key) {
+///     Ok((number, position)) => table.remove_at(position),
+///     Err(gap) => table.insert_at(gap, hash, keys.len())?,
+/// }
+/// ```
+#[derive(Drop)]
+pub struct Gap {
+    slot: usize,
+    wanted: Wanted,
+}
+
+impl Model for Gap {
+    ghost use Rattle.clock2q_handles.specs.Positions.{GapValue, gap_value, gap_code};
+    ghost use Rattle.clock2q_handles.specs.Slots.{sought};
+
+    ghost Value = { GapValue };
+
+    ghost coded = { gap_code };
+
+    ghost view = { λ g. gap_value g.slot (sought g.wanted) };
+}
+
+impl Gap {
+    ghost use Rattle.clock2q_handles.specs.Positions.{gap_value};
+    ghost use Rattle.clock2q_handles.specs.Slots.{sought};
+    ghost use Rattle.std.specs.Prelude.{◌≡◌};
+
+    pub(super) fn new(slot: usize, wanted: Wanted) -> Gap
+        ensures { result ≡ gap_value slot (sought wanted) }
+    {
+        Gap { slot, wanted }
+    }
+
+    pub(super) fn slot(&self) -> usize
+        ensures { result ≡ self.now.position }
+    {
+        self.slot
+    }
+
+    /// Returns what the lookup looked for in the slot.
+    pub(super) fn wanted(&self) -> Wanted
+        ensures { sought result ≡ self.now.mark }
+    {
+        self.wanted
+    }
+}

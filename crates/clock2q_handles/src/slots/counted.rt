@@ -1,0 +1,36 @@
+//! A slice that is read element by element, and counted.
+ghost use Rattle.std.specs.Prelude.{◌≡◌, ◌+◌, ◌<◌, length, get_or};
+
+use clock2q_count::Count;
+
+/// One of the vectors of a table's slots. There is no other way to its elements than
+/// [read](Counted::read), which counts each.
+#[derive(Drop)]
+pub struct Counted<'a, T> {
+    items: &'a [T],
+    reads: Count,
+}
+
+impl<'a, T: Copy> Counted<'a, T> {
+    /// Returns a slice of which nothing was read yet.
+    pub(crate) fn new(items: &'a [T]) -> Counted<'a, T>
+        ensures items { result.items.now ≡ items.now }
+        ensures reads { result.reads.total ≡ 0 }
+    {
+        Counted {
+            items,
+            reads: Count::new(),
+        }
+    }
+
+    /// Reads an element.
+    pub(crate) fn read(&mut self, index: usize) -> T
+        requires { index < length self.old.items.now }
+        ensures read { result ≡ get_or self.old.items.now index result }
+        ensures same { self.new.items ≡ self.old.items }
+        ensures counted { self.new.reads.total ≡ self.old.reads.total + 1 }
+    {
+        self.reads.tick();
+        self.items[index]
+    }
+}

@@ -1,0 +1,250 @@
+//! Entries put into a table.
+ghost use Rattle.clock2q_handles.specs.Changes.{PutIn, WritesAtMost, Restores, IsLaidOut};
+ghost use Rattle.clock2q_handles.specs.Homes.{candidates, total};
+ghost use Rattle.clock2q_handles.specs.Layout.{run};
+ghost use Rattle.clock2q_handles.specs.Offers.{FindsOrPuts, MayBeOffered};
+ghost use Rattle.clock2q_handles.specs.Positions.{gap_of};
+ghost use Rattle.clock2q_handles.specs.TableStep.{IsBelowCapacity};
+ghost use Rattle.std.specs.Prelude.{false, ◌≡◌, ◌≢◌, Err, ◌%◌, ◌^◌, ◌<◌, ◌≤◌, ◌+◌, ℕ, IsTrue, IsOk, OnOk, OnErr, IfOk, length};
+
+use crate::error::TableError;
+use crate::gap::Gap;
+use crate::metadata::MAX_DISPLACEMENT;
+use crate::slots::Reader;
+use crate::table::Table;
+use std::alloc::Allocator;
+
+impl<H: Copy + Eq + Default, A: Allocator + Copy> Table<H, A> {
+    ghost use Rattle.clock2q_handles.specs.Changes.{IsNearer};
+    ghost use Rattle.clock2q_handles.specs.Rehash.{HashesKnown, AsksHeld, AfterGrowth};
+    ghost use Rattle.clock2q_handles.specs.TableStep.{IsFull};
+
+    /// Inserts `handle` under `hash`, last among the entries of its home. Handles and hashes may
+    /// repeat.
+    ///
+    /// A full table first grows to twice the slots. Then, and only then, it calls `rehash` once on
+    /// each held handle, in the order of the slots, for the hash that the handle was inserted
+    /// under.
+    ///
+    /// # Errors
+    ///
+    /// - `Memory` if the table is full and there is no memory to grow. The table is unchanged.
+    /// - `RunTooLong` if an entry would stand more than 2^24 - 2 slots past its home, which takes
+    ///   2^24 entries. Nothing is inserted, but a table that was full has grown.
+    ///
+    /// # Cost
+    ///
+    /// Below capacity it writes the slots from the new entry's to the end of its run. A growth is
+    /// linear in the number of slots.
+    #[inline(always)]
+    pub fn insert<F: FnMut(H) -> u64>(
+        &mut self,
+        hash: u64,
+        handle: H,
+        mut rehash: F,
+    ) -> Result<(), TableError>
+        requires rehash { IsFull self.old.homes → HashesKnown F.FnMut rehash self.old.homes }
+        ensures put { result ≢ Err TableError.Memory → AfterGrowth F.FnMut rehash self.old.homes (λ homes. PutIn homes hash handle result self.new.homes) }
+        ensures memory { result ≡ Err TableError.Memory → IsFull self.old.homes × (self.new ≡ self.old) }
+        ensures few { total self.old.homes + 1 < 2 ^ 24 → result ≢ Err TableError.RunTooLong }
+        ensures asks { result ≢ Err TableError.Memory → IsFull self.old.homes → (last : F) × AsksHeld F.FnMut rehash self.old.homes last }
+        ensures writes { IsBelowCapacity self.old.homes → WritesAtMost (run self.old.slots hash + 1) self.old self.new }
+        ensures restores { IsBelowCapacity self.old.homes → OnOk result (Restores H.PartialEq.eq hash handle self.old self.new) }
+        ensures laid { IsLaidOut self.new }
+        ensures nearer { AfterGrowth F.FnMut rehash self.old.homes (IsNearer self.old.homes) }
+        ensures counted { self.old.writes ≤ self.new.writes }
+    {
+        self.insert_asking(hash, handle, &mut rehash)
+    }
+
+    /// Inserts an entry, and asks `rehash` where the table grows for it.
+    #[inline(always)]
+    fn insert_asking<F: FnMut(H) -> u64>(
+        &mut self,
+        hash: u64,
+        handle: H,
+        rehash: &mut F,
+    ) -> Result<(), TableError>
+        requires rehash { IsFull self.old.homes → HashesKnown F.FnMut rehash.old self.old.homes }
+        ensures put { result ≢ Err TableError.Memory → AfterGrowth F.FnMut rehash.old self.old.homes (λ homes. PutIn homes hash handle result self.new.homes) }
+        ensures memory { result ≡ Err TableError.Memory → IsFull self.old.homes × (self.new ≡ self.old) }
+        ensures few { total self.old.homes + 1 < 2 ^ 24 → result ≢ Err TableError.RunTooLong }
+        ensures asks { result ≢ Err TableError.Memory → IsFull self.old.homes → AsksHeld F.FnMut rehash.old self.old.homes rehash.new }
+        ensures unasked { result ≡ Err TableError.Memory → rehash.new ≡ rehash.old }
+        ensures quiet { IsBelowCapacity self.old.homes → rehash.new ≡ rehash.old }
+        ensures writes { IsBelowCapacity self.old.homes → WritesAtMost (run self.old.slots hash + 1) self.old self.new }
+        ensures restores { IsBelowCapacity self.old.homes → OnOk result (Restores H.PartialEq.eq hash handle self.old self.new) }
+        ensures laid { IsLaidOut self.new }
+        ensures nearer { AfterGrowth F.FnMut rehash.old self.old.homes (IsNearer self.old.homes) }
+        ensures counted { self.old.writes ≤ self.new.writes }
+    {
+        self.make_room(rehash)?;
+        self.insert_within_capacity(hash, handle)
+    }
+
+    /// Returns the first candidate of `hash` that `matches` accepts, and false. If it accepts none,
+    /// inserts `handle` under `hash` as [insert](Table::insert) does, and returns it and true.
+    ///
+    /// A full table grows first, whether or not a candidate is accepted. Then `matches` is called
+    /// on the candidates in order, up to the first that it accepts.
+    ///
+    /// # Errors
+    ///
+    /// Those of [insert](Table::insert). `RunTooLong` comes only if no candidate was accepted.
+    ///
+    /// # Cost
+    ///
+    /// That of [get](Table::get), and that of [insert](Table::insert) if no candidate is accepted
+    /// or the table is full.
+    pub fn find_or_insert<M: FnMut(H) -> bool, F: FnMut(H) -> u64>(
+        &mut self,
+        hash: u64,
+        mut matches: M,
+        handle: H,
+        mut rehash: F,
+    ) -> Result<(H, bool), TableError>
+        requires rehash { IsFull self.old.homes → HashesKnown F.FnMut rehash self.old.homes }
+        requires callable { AfterGrowth F.FnMut rehash self.old.homes (λ homes. MayBeOffered M.FnMut matches (candidates homes hash)) }
+        ensures settles { result ≢ Err TableError.Memory → (last : M) × AfterGrowth F.FnMut rehash self.old.homes (λ homes. FindsOrPuts M.FnMut matches homes hash handle result self.new.homes last) }
+        ensures memory { result ≡ Err TableError.Memory → IsFull self.old.homes × (self.new ≡ self.old) }
+        ensures few { total self.old.homes + 1 < 2 ^ 24 → result ≢ Err TableError.RunTooLong }
+        ensures asks { result ≢ Err TableError.Memory → IsFull self.old.homes → (last : F) × AsksHeld F.FnMut rehash self.old.homes last }
+        ensures writes { IsBelowCapacity self.old.homes → WritesAtMost (run self.old.slots hash + 1) self.old self.new }
+        ensures laid { IsLaidOut self.new }
+        ensures nearer { AfterGrowth F.FnMut rehash self.old.homes (IsNearer self.old.homes) }
+        ensures found { IsBelowCapacity self.old.homes → IfOk result (λ r. r.1 ≡ false → self.new ≡ self.old) }
+        ensures counted { self.old.writes ≤ self.new.writes }
+        ensures restores { IsBelowCapacity self.old.homes → IfOk result (λ r. IsTrue r.1 → Restores H.PartialEq.eq hash handle self.old self.new) }
+    {
+        self.make_room(&mut rehash)?;
+        self.find_or_put(hash, &mut matches, handle)
+    }
+}
+
+impl<H: Copy + Eq + Default, A: Allocator> Table<H, A> {
+    ghost use Rattle.clock2q_handles.specs.Changes.{Inserts};
+    ghost use Rattle.clock2q_handles.specs.Layout.{slot_at, reach};
+
+    /// Inserts `handle` under `hash`, last among the entries of its home, in a table that is below
+    /// [capacity](Table::capacity). It takes no memory, and asks for no hash of a held handle. A
+    /// table from [with_capacity](Table::with_capacity) takes all its entries this way.
+    ///
+    /// # Errors
+    ///
+    /// `RunTooLong` if an entry would stand more than 2^24 - 2 slots past its home, which takes
+    /// 2^24 entries. The table is unchanged.
+    ///
+    /// # Cost
+    ///
+    /// It writes the slots from the new entry's to the end of its run.
+    #[inline(always)]
+    pub fn insert_within_capacity(&mut self, hash: u64, handle: H) -> Result<(), TableError>
+        requires room { IsBelowCapacity self.old.homes }
+        ensures put { PutIn self.old.homes hash handle result self.new.homes }
+        ensures refused { OnErr result (self.new ≡ self.old) }
+        ensures few { total self.old.homes + 1 < 2 ^ 24 → IsOk result }
+        ensures writes { WritesAtMost (run self.old.slots hash + 1) self.old self.new }
+        ensures restores { OnOk result (Restores H.PartialEq.eq hash handle self.old self.new) }
+        ensures laid { IsLaidOut self.new }
+    {
+        if self.len > MAX_DISPLACEMENT {
+            return self.insert_among_many(hash, handle);
+        }
+        self.slots.put(hash, handle);
+        self.len += 1;
+        Ok(())
+    }
+
+    /// Inserts an entry in a table of so many that a run may become too long.
+    #[inline(always)]
+    fn insert_among_many(&mut self, hash: u64, handle: H) -> Result<(), TableError>
+        requires room { IsBelowCapacity self.old.homes }
+        ensures { Inserts H.PartialEq.eq hash handle result self.old self.new }
+    {
+        let home = self.slots.home(hash);
+        let distance = self.slots.end(home);
+        self.place(home, distance, hash, handle)
+    }
+
+    /// Returns the first candidate that is accepted, or inserts the handle where none is.
+    fn find_or_put<M: FnMut(H) -> bool>(
+        &mut self,
+        hash: u64,
+        matches: &mut M,
+        handle: H,
+    ) -> Result<(H, bool), TableError>
+        requires room { IsBelowCapacity self.old.homes }
+        requires callable { MayBeOffered M.FnMut matches.old (candidates self.old.homes hash) }
+        ensures settles { FindsOrPuts M.FnMut matches.old self.old.homes hash handle result self.new.homes matches.new }
+        ensures found { IfOk result (λ r. r.1 ≡ false → self.new ≡ self.old) }
+        ensures only { result ≢ Err TableError.Memory }
+        ensures few { total self.old.homes + 1 < 2 ^ 24 → IsOk result }
+        ensures writes { WritesAtMost (run self.old.slots hash + 1) self.old self.new }
+        ensures restores { IfOk result (λ r. IsTrue r.1 → Restores H.PartialEq.eq hash handle self.old self.new) }
+        ensures laid { IsLaidOut self.new }
+    {
+        let mut reader = Reader::new(&self.slots);
+        match reader.offer(hash, matches) {
+            Ok(found) => Ok((found.0, false)),
+            Err(gap) => match self.insert_at(gap, hash, handle) {
+                Ok(()) => Ok((handle, true)),
+                Err(refusal) => Err(refusal),
+            },
+        }
+    }
+
+    /// Inserts `handle` under `hash` as [insert_within_capacity](Table::insert_within_capacity)
+    /// does, at the gap where a [search](Table::search) for `hash` ended. The lists of no home may
+    /// have become longer or shorter since then; relabelling leaves a gap as it is.
+    ///
+    /// # Errors
+    ///
+    /// Those of [insert_within_capacity](Table::insert_within_capacity).
+    ///
+    /// # Cost
+    ///
+    /// It writes the slots from the gap to the end of its run, and doesn't read those before it.
+    #[inline(always)]
+    pub fn insert_at(&mut self, gap: Gap, hash: u64, handle: H) -> Result<(), TableError>
+        requires room { IsBelowCapacity self.old.homes }
+        requires gap { gap ≡ gap_of self.old.homes hash }
+        ensures put { PutIn self.old.homes hash handle result self.new.homes }
+        ensures refused { OnErr result (self.new ≡ self.old) }
+        ensures few { total self.old.homes + 1 < 2 ^ 24 → IsOk result }
+        ensures writes { WritesAtMost (run self.old.slots hash + 1) self.old self.new }
+        ensures restores { OnOk result (Restores H.PartialEq.eq hash handle self.old self.new) }
+        ensures laid { IsLaidOut self.new }
+    {
+        if self.len <= MAX_DISPLACEMENT {
+            self.slots.put_at(gap.slot(), gap.wanted(), handle);
+            self.len += 1;
+            return Ok(());
+        }
+        self.insert_among_many(hash, handle)
+    }
+
+    /// Inserts an entry where the walk for it ended.
+    fn place(
+        &mut self,
+        home: usize,
+        distance: usize,
+        hash: u64,
+        handle: H,
+    ) -> Result<(), TableError>
+        requires room { IsBelowCapacity self.old.homes }
+        requires home { home ≡ hash % length self.old.slots }
+        requires within { distance < length self.old.slots }
+        requires passed { (j : ℕ) → j < distance → j < reach (slot_at self.old.slots (home + j)) }
+        requires stop { reach (slot_at self.old.slots (home + distance)) ≤ distance }
+        ensures put { PutIn self.old.homes hash handle result self.new.homes }
+        ensures refused { OnErr result (self.new ≡ self.old) }
+        ensures writes { WritesAtMost (run self.old.slots hash + 1) self.old self.new }
+        ensures laid { IsLaidOut self.new }
+    {
+        if !self.slots.put_in(home, distance, hash, handle) {
+            return Err(TableError::RunTooLong);
+        }
+        self.len += 1;
+        Ok(())
+    }
+}

@@ -1,0 +1,33 @@
+//! Candidates found with their positions.
+ghost use Rattle.clock2q_handles.specs.Homes.{top, candidates};
+ghost use Rattle.clock2q_handles.specs.Offers.{Offers, MayBeOffered, handle_in};
+ghost use Rattle.clock2q_handles.specs.Positions.{StandsAt, gap_of};
+ghost use Rattle.std.specs.Prelude.{◌≡◌, ◌<◌, ℕ, IfOk, IfErr, length};
+
+use crate::gap::Gap;
+use crate::slots::Reader;
+use crate::table::Table;
+use std::alloc::Allocator;
+
+impl<H: Copy + Eq + Default, A: Allocator> Table<H, A> {
+    /// Returns the first candidate of `hash` that `matches` accepts, with its position, which is
+    /// its slot. If it accepts none, returns the gap where an entry of `hash` would be inserted.
+    ///
+    /// A position is that of the same entry until an entry is inserted or removed, or the table
+    /// grows.
+    ///
+    /// # Cost
+    ///
+    /// That of [get](Table::get).
+    #[inline(always)]
+    pub fn search<M: FnMut(H) -> bool>(&self, hash: u64, mut matches: M) -> Result<(H, usize), Gap>
+        requires slots { 0 < length self.now.homes }
+        requires callable { MayBeOffered M.FnMut matches (candidates self.now.homes hash) }
+        ensures offers { (last : M) × Offers M.FnMut matches (candidates self.now.homes hash) (handle_in result) last }
+        ensures found { IfOk result (λ found. (i : ℕ) × StandsAt self.now.homes hash i (top hash, found.0) found.1) }
+        ensures gap { IfErr result (λ gap. gap ≡ gap_of self.now.homes hash) }
+    {
+        let mut reader = Reader::new(&self.slots);
+        reader.offer(hash, &mut matches)
+    }
+}
