@@ -7,6 +7,7 @@ pub mod Filled
 pub mod Finding
 pub mod Indexed
 pub mod Insertions
+pub mod Makers
 pub mod Making
 pub mod Places
 pub mod Renewed

@@ -9,3 +9,4 @@ pub mod CacheLends
 pub mod Charged
 pub mod Closures
 pub mod Insertions
+pub mod Makers

@@ -3,6 +3,7 @@ ghost use Rattle.std.specs.Prelude.{◌≡◌, ◌+◌, ◌-◌, ◌^◌, ◌≤
 ghost use Rattle.std.specs.List.{range_with_len};
 ghost use Rattle.clock2q_cache.specs.Closures.{FillsUp};
 ghost use Rattle.clock2q_cache.specs.Hashes.{hash_of};
+ghost use Rattle.clock2q_cache.specs.Makers.{TakesTimes};
 
 use crate::hashes::hash_of;
 use clock2q_queues::keys::Keys;
@@ -16,7 +17,7 @@ pub(crate) fn fill<K: Hash + Default, V, S: BuildHasher, A: Allocator, F: FnMut(
     many: usize,
     mut make: F,
 )
-    requires callable { F.IsAlwaysCallable make }
+    requires callable { TakesTimes F.FnMut (many - length keys.old.entries) make }
     requires within { length keys.old.entries ≤ many }
     requires room { many ≤ keys.old.room }
     ensures filled { (last : F) × FillsUp F.FnMut make (λ k. hash_of S.BuildHasher S.Hasher.Hasher hasher.now (K.hash_input k)) many keys.old.entries keys.new.entries last }

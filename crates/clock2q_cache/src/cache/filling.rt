@@ -9,6 +9,7 @@ impl<K: Hash + Eq + Default, V, S: BuildHasher, A: Allocator> Cache<K, V, S, A> 
     ghost use Rattle.clock2q_machine.specs.Calls.{Prefill};
     ghost use Rattle.clock2q_cache.specs.Closures.{Prefills};
     ghost use Rattle.clock2q_cache.specs.Costs.{Costs};
+    ghost use Rattle.clock2q_cache.specs.Makers.{MayMake};
 
     /// Gives each slot that has no value yet one that `make` returns, in ascending order of slots.
     /// No key becomes resident: these slots are free, and new keys take them from the lowest on.
@@ -19,7 +20,7 @@ impl<K: Hash + Eq + Default, V, S: BuildHasher, A: Allocator> Cache<K, V, S, A> 
     ///
     /// One call of `make` and one hash of the default key for each such slot.
     pub fn prefill<F: FnMut() -> V>(&mut self, make: F)
-        requires { F.IsAlwaysCallable make }
+        requires callable { MayMake F.FnMut make self.old.machine }
         ensures made { Prefills F.FnMut make self.old.machine self.new.machine }
         ensures hasher { self.new.hasher ≡ self.old.hasher }
         ensures costs { (values : List V) → Costs K.Hash S.BuildHasher S.Hasher.Hasher (Prefill values) self.old self.new }

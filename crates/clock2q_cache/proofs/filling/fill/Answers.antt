@@ -1,13 +1,15 @@
 -- One entry more, with the next value.
-use Rattle.std.proofs.Common.{of_calls, ◌≡◌, ◌+◌, arith, refl, sym, ap, ◌∙◌, subst}
+use Rattle.std.proofs.Common.{◌≡◌, ◌+◌, ◌-◌, arith, refl, sym, ap, ◌∙◌, subst}
 use Rattle.clock2q_queues.specs.Keys.{KeyPlaces}
 use Rattle.clock2q_cache.specs.Closures.{FillsUp}
 use Rattle.clock2q_cache.specs.Hashes.{hash_of}
+use Rattle.clock2q_cache.specs.Makers.{TakesTimes}
 use Rattle.clock2q_cache.proofs.Filled.{FillsUp-none, FillsUp-more, FillsUp-length}
+use Rattle.clock2q_cache.proofs.Makers.{next_call}
 use Rattle.clock2q_cache.proofs.filling.fill.Goals as goal
 
 pub loop-init : goal.loop-init
-loop-init g c = ((λ h. h), FillsUp-none c.len-counter.ensures.len, refl, refl)
+loop-init g c = (subst (λ n. TakesTimes g.F.FnMut (c.args.many - n) c.args.make) (sym c.len-counter.ensures.len) c.requires.callable, FillsUp-none c.len-counter.ensures.len, refl, refl)
 
 pub push-requires : goal.push-requires
 push-requires g c =
@@ -15,14 +17,14 @@ push-requires g c =
     record { room = omega (arith, c.loop-test.true, c.requires.room, FillsUp-length i.1, i.2) }
 
 pub make-requires : goal.make-requires
-make-requires g c = search of_calls
+make-requires g c = (next_call g.F.FnMut c.args.many c.loop.counter c.loop.make c.loop-test.true c.loop.invariant.0).0
 
 pub loop-preserved : goal.loop-preserved
 loop-preserved g c =
     let i = c.loop.invariant in
     let more = FillsUp-more i.1 c.hash_of-hash.ensures c.make.ensures in
     let pushed = ap (λ (z : KeyPlaces _ _). z.entries) c.push.ensures.pushed in (
-      (λ a. search of_calls parts 8),
+      (next_call g.F.FnMut c.args.many c.loop.counter c.loop.make c.loop-test.true i.0).1 c.make.result c.make.new.self c.make.ensures,
       subst (λ z. FillsUp g.F.FnMut c.args.make (λ k. hash_of g.S.BuildHasher g.S.Hasher.Hasher c.args.hasher.now (g.K.Hash.hash_input k))
           (c.loop.counter + 1) c.args.keys.now.entries z c.make.new.self) (sym pushed) more,
       ap (λ (z : KeyPlaces _ _). z.room) c.push.ensures.pushed ∙ i.2,

@@ -1,10 +1,10 @@
-use Rattle.std.proofs.Common.{◌≡◌}
-use denote.Param.Always.{always_mut}
+use Rattle.std.proofs.Common.{◌≡◌, ◌-◌}
 use Rattle.clock2q_cache.specs.Closures.{FillsUp}
 use Rattle.clock2q_cache.specs.Hashes.{hash_of}
+use Rattle.clock2q_cache.specs.Makers.{TakesTimes}
 use Rattle.clock2q_cache.proofs.filling.fill.Given as goal
 
 abbrev pub invariant-loop : goal.invariant-loop
-invariant-loop g l = (always_mut g.F.FnMut l.initial.make → always_mut g.F.FnMut l.make)
+invariant-loop g l = TakesTimes g.F.FnMut (l.many - l.counter) l.make
     × FillsUp g.F.FnMut l.initial.make (λ k. hash_of g.S.BuildHasher g.S.Hasher.Hasher l.hasher (g.K.Hash.hash_input k)) l.counter l.initial.keys.entries l.keys.entries l.make
     × (l.keys.room ≡ l.initial.keys.room) × (l.keys.questions ≡ l.initial.keys.questions)

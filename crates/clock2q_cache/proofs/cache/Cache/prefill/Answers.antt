@@ -1,12 +1,23 @@
 -- The slots that were never made are made and free.
-use Rattle.std.proofs.Common.{◌-◌, ◌++◌, length, map, reverse, ap, ◌∙◌, subst}
+use Rattle.std.proofs.Common.{◌≡◌, ◌-◌, ◌++◌, length, map, reverse, arith, ap, sym, ◌∙◌, subst}
 use Rattle.std.specs.List.{range_with_len}
 use Rattle.clock2q_cache.specs.Closures.{Prefills}
 use Rattle.clock2q_cache.specs.CacheState.{CacheState}
 use Rattle.clock2q_cache.specs.CacheFields.{machine_of}
 use Rattle.clock2q_cache.proofs.Filled.{made-count, machine-prefilled, kept-prefilled}
 use Rattle.clock2q_cache.proofs.Spent.{made-spends, prefill-costs}
+use Rattle.clock2q_cache.proofs.Stored.{length-values}
+use Rattle.clock2q_cache.specs.Makers.{TakesTimes}
 use Rattle.clock2q_cache.proofs.cache.Cache.prefill.Goals as goal
+
+pub fill-requires-clause-callable : goal.fill-requires-clause-callable
+fill-requires-clause-callable g c =
+    let i = c.self.inside in
+    let m = machine_of i.shares i.queues i.keys.entries i.history.entries i.free.items in
+    let takes : TakesTimes g.F.FnMut (m.shares.capacity - length m.values) c.args.make =
+    subst (λ (z : CacheState _ _ _). TakesTimes g.F.FnMut (z.machine.shares.capacity - length z.machine.values) c.args.make) (sym c.self.view_is) c.requires.callable.in_turn in
+    let left : m.shares.capacity - length m.values ≡ c.capacity-capacity.result - length i.keys.entries = omega (arith, c.capacity-capacity.ensures, length-values i.keys.entries) in
+    subst (λ n. TakesTimes g.F.FnMut n c.args.make) left takes
 
 pub invariant_of-self : goal.invariant_of-self
 invariant_of-self g c =

@@ -1,0 +1,28 @@
+-- A closure may be called so often in turn where what it needs lasts through its calls.
+use Rattle.std.proofs.Common.{◌≡◌, ℕ, zero, suc, ◌+◌, ◌-◌, ◌<◌, [], ◌∷◌, length, refl, subst, arith}
+use Rattle.std.specs.Fn.{Mut, Called, Takes}
+use denote.Param.Always.{always_mut, mut_next}
+use Rattle.clock2q_machine.specs.Machine.{Machine}
+use Rattle.clock2q_cache.specs.Makers.{TakesTimes, MayMake}
+
+module _ {F V : Type 0} (g : Mut F Unit V) where
+  times_by : (I : F → Type 0) (takes : (f : F) → I f → Takes g f tt) (keeps : (f : F) (value : V) (next : F) → I f → Called g f tt value next → I next)
+      (n : ℕ) (f : F) → I f → TakesTimes g n f
+  times_by I takes keeps zero f i = tt
+  times_by I takes keeps (suc n) f i = (takes f i, λ value next called. times_by I takes keeps n next (keeps f value next i called))
+
+  -- so it may make the values of the slots that were never made
+  pub made_by : {K : Type 0} (I : F → Type 0) (m : Machine K V) (takes : (f : F) → I f → Takes g f tt) (keeps : (f : F) (value : V) (next : F) → I f → Called g f tt value next → I next)
+      (f : F) → I f → MayMake g f m
+  made_by I m takes keeps f i = record { in_turn = times_by I takes keeps (m.shares.capacity - length m.values) f i }
+
+  -- and so may one that may always be called
+  pub made_always : {K : Type 0} (m : Machine K V) (f : F) → always_mut g f → MayMake g f m
+  made_always m f always = made_by (always_mut g) m (λ f may. (may.at (tt ∷ [])).0) (λ f value next may called. mut_next g f tt value next next called refl may) f always
+
+  -- where calls are left, one may be made, and then as many as are left after it
+  pub next_call : (many counter : ℕ) (f : F) → counter < many → TakesTimes g (many - counter) f
+      → Takes g f tt × ((value : V) (next : F) → Called g f tt value next → TakesTimes g (many - (counter + 1)) next)
+  next_call many counter f less takes =
+      let one_more : many - counter ≡ suc (many - (counter + 1)) = omega (arith, less) in
+      subst (λ n. TakesTimes g n f) one_more takes
