@@ -61,6 +61,17 @@ typedef struct {
     bool has_last;
 } clock2q_place;
 
+/* Where memory comes from. `take` returns null, or a block of `size` bytes that is aligned as a
+ * pointer is, and `give_back` gets what `take` returned. Neither of them calls this library. */
+typedef struct {
+    void *(*take)(size_t size);
+    void (*give_back)(void *block);
+} clock2q_memory;
+
+/* Has the caches that this thread makes from now on take their memory there, or from malloc again
+ * where `memory` is null. What a cache took goes back where it came from, whoever frees it. */
+void clock2q_use_memory(const clock2q_memory *memory);
+
 /* Makes a cache for `capacity` keys. Needs none there. Takes time and memory in proportion to the
  * capacity, some 38 bytes a key, in at most twelve requests. */
 uint32_t clock2q_new(clock2q *cache, size_t capacity);

@@ -21,9 +21,14 @@ if [ -z "${CLOCK2Q_ARCHIVES:-}" ]; then
     CLOCK2Q_ARCHIVES="$crate/out/libclock2q_c.a $(dirname "$(rt doc)")/c/liblibc_c.a"
 fi
 
-# One archive: the proved code, and the kit's calls of malloc, realloc and free.
+# One archive: the proved code, and the kit's calls of malloc, realloc and free, led to memory.c.
 cd "$work"
 for archive in $CLOCK2Q_ARCHIVES; do ar x "$archive"; done
+for object in ./*.o; do
+    objcopy --redefine-sym malloc=clock2q_memory_taken --redefine-sym realloc=clock2q_memory_resized \
+        --redefine-sym free=clock2q_memory_given_back "$object"
+done
+$CC -std=c11 -O2 -Wall -Wextra -Werror -fPIC -I"$here" -c "$here/memory.c" -o clock2q_memory.o
 ar rcs libclock2q.a ./*.o
 
 cat >exports <<'MAP'

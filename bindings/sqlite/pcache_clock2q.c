@@ -8,8 +8,9 @@
  * the longest time leaves. A page without a slot takes one when it's unpinned. So a cache has more
  * pages than cache_size only while all of them are pinned.
  *
- * The index begins small, and is made anew at twice the size as the cache fills. Pages and tables
- * are memory of SQLite's allocator; the index, some 38 bytes a page, is memory of malloc.
+ * The index begins small, and is made anew at twice the size as the cache fills. All memory is of
+ * SQLite's allocator. What a cache can do without is asked for as benign: the page of a fetch that
+ * may fail, a longer table, and an index.
  *
  * SQLite calls the methods of a cache under a mutex of the connection's, from one thread after
  * another. That is allowed: nothing in a cache is bound to a thread. */
@@ -53,17 +54,40 @@ struct cache {
     size_t capacity;  /* of the index, or 0 if there is none */
 };
 
-/* SQLite's own, where the program that this is compiled into offers them: what is refused between
- * them is no error, since the cache does without. */
+/* SQLite's own, where the program that this is compiled into offers them, as SQLite's test program
+ * does: they tell a test's allocator that what it refuses between them is no error. Elsewhere they
+ * are missing, and nobody asks. */
 __attribute__((weak)) void sqlite3BeginBenignMalloc(void);
 __attribute__((weak)) void sqlite3EndBenignMalloc(void);
 
+static void begin_benign(void) {
+    if (sqlite3BeginBenignMalloc != NULL) sqlite3BeginBenignMalloc();
+}
+
+static void end_benign(void) {
+    if (sqlite3EndBenignMalloc != NULL) sqlite3EndBenignMalloc();
+}
+
 static void *allocated(size_t size, bool is_benign) {
-    is_benign = is_benign && sqlite3BeginBenignMalloc != NULL && sqlite3EndBenignMalloc != NULL;
-    if (is_benign) sqlite3BeginBenignMalloc();
+    if (is_benign) begin_benign();
     void *block = sqlite3_malloc64(size);
-    if (is_benign) sqlite3EndBenignMalloc();
+    if (is_benign) end_benign();
     return block;
+}
+
+static void *taken_of_sqlite(size_t size) {
+    return sqlite3_malloc64(size);
+}
+
+/* Makes an index in SQLite's memory. Returns false without memory. */
+static bool is_index_made(clock2q *index, size_t capacity) {
+    const clock2q_memory memory = {taken_of_sqlite, sqlite3_free};
+    begin_benign();
+    clock2q_use_memory(&memory);
+    bool is_made = clock2q_new(index, capacity) == CLOCK2Q_DONE;
+    clock2q_use_memory(NULL);
+    end_benign();
+    return is_made;
 }
 
 /* The idle pages. */
@@ -186,7 +210,7 @@ static void make_index(struct cache *cache, size_t capacity) {
     clock2q index = CLOCK2Q_NONE;
     struct page **at = allocated(capacity * sizeof *at, true);
     if (at == NULL) return;
-    if (clock2q_new(&index, capacity) != CLOCK2Q_DONE) {
+    if (!is_index_made(&index, capacity)) {
         sqlite3_free(at);
         return;
     }

@@ -66,9 +66,35 @@ static void no_memory(void) {
     must(blocks == 0, "all memory is given back");
 }
 
+static long own_taken, own_given_back;
+
+static void *own_take(size_t size) {
+    own_taken++;
+    return __real_malloc(size);
+}
+
+static void own_give_back(void *block) {
+    own_given_back++;
+    __real_free(block);
+}
+
+static void own_memory(void) {
+    const clock2q_memory memory = {own_take, own_give_back};
+    clock2q cache = CLOCK2Q_NONE;
+    left = 0;
+    clock2q_use_memory(&memory);
+    must(clock2q_new(&cache, 100) == CLOCK2Q_DONE, "no memory of malloc is asked for");
+    clock2q_use_memory(NULL);
+    must(own_taken > 0 && own_given_back == 0, "a cache in the program's memory");
+    clock2q_free(&cache);
+    must(own_given_back == own_taken, "memory goes back where it came from");
+    must(clock2q_new(&cache, 100) == CLOCK2Q_NO_MEMORY, "malloc's memory again");
+}
+
 int main(void) {
     bad_numbers();
     no_memory();
+    own_memory();
     left = -1;
     return failed;
 }
