@@ -10,7 +10,7 @@ use Rattle.clock2q_policies.proofs.Stamping.{without-absent, absent-taken, once,
 length-taken : (n : ℕ) (held : List ℕ) → n ≤ length held → length (take n held) ≡ n
 length-taken n held within = omega (arith, length-take n held)
 
-module _ (capacity : ℕ) (trace : List ℕ) (at : ℕ) (old : Residents) (holding : IsHolding capacity trace at old) (before : at < length trace) where
+module _ {A : Type 0} (capacity : ℕ) (trace : List ℕ) (at : ℕ) (old : Residents A) (holding : IsHolding capacity trace at old) (before : at < length trace) where
   abbrev key : ℕ
   key = get_or trace at 0
 
@@ -66,7 +66,7 @@ module _ (capacity : ℕ) (trace : List ℕ) (at : ℕ) (old : Residents) (holdi
       long-full : length (held_at trace stamps left (at + 1)) ≡ capacity
       long-full = omega (arith, holding.counted, ap length list-full, length-taken (length held - 1) held (omega arith), full, some)
 
-  module _ (new : Residents) (items : new.stamps.items ≡ stamps) where
+  module _ (new : Residents A) (items : new.stamps.items ≡ stamps) where
     list : (left : ℕ) → new.left ≡ left → held_by trace (at + 1) new ≡ held_at trace stamps left (at + 1)
     list left is = ap (λ s. held_at trace s new.left (at + 1)) items ∙ ap (λ l. held_at trace stamps l (at + 1)) is
 

@@ -2,7 +2,7 @@
 
 use crate::lists::Lists;
 use crate::replayed::Replayed;
-use std::alloc::{AllocError, Global};
+use std::alloc::{AllocError, Allocator};
 use std::num::nearest_usize_to_f64;
 
 // Residents that came once, and those that came again.
@@ -19,22 +19,24 @@ const LEFT_AGAIN: u8 = 3;
 /// keys that came again have lists of their own, each with a list of those that left it. A key that
 /// comes again after it left makes room for its list at the other's cost.
 #[derive(Drop)]
-pub(crate) struct Arc {
+pub(crate) struct Arc<A: Allocator> {
     capacity: usize,
-    lists: Lists,
+    lists: Lists<A>,
     // How many of the residents should have come once.
     target: f64,
 }
 
-impl Arc {
-    pub(crate) fn new(alloc: Global, capacity: usize, keys: u32) -> Result<Arc, AllocError> {
+impl<A: Allocator + Copy> Arc<A> {
+    pub(crate) fn new(alloc: A, capacity: usize, keys: u32) -> Result<Arc<A>, AllocError> {
         Ok(Arc {
             capacity,
             lists: Lists::new(alloc, keys)?,
             target: 0.0,
         })
     }
+}
 
+impl<A: Allocator> Arc<A> {
     fn size(&self, list: u8) -> f64 {
         nearest_usize_to_f64(self.lists.len(list))
     }
@@ -98,7 +100,7 @@ impl Arc {
     }
 }
 
-impl Replayed for Arc {
+impl<A: Allocator> Replayed for Arc<A> {
     fn access(&mut self, key: u32) -> bool {
         let is_hit = self.lists.has(ONCE, key) || self.lists.has(AGAIN, key);
         if is_hit {

@@ -3,7 +3,7 @@
 use crate::lists::Lists;
 use crate::marks::Marks;
 use crate::replayed::Replayed;
-use std::alloc::{AllocError, Global};
+use std::alloc::{AllocError, Allocator};
 
 const RESIDENT: u8 = 0;
 
@@ -11,21 +11,23 @@ const RESIDENT: u8 = 0;
 /// the order in which they came, clears the mark of each that was hit, and evicts the first one
 /// without a mark.
 #[derive(Drop)]
-pub(crate) struct Clock {
+pub(crate) struct Clock<A: Allocator> {
     capacity: usize,
-    residents: Lists,
-    hit: Marks,
+    residents: Lists<A>,
+    hit: Marks<A>,
 }
 
-impl Clock {
-    pub(crate) fn new(alloc: Global, capacity: usize, keys: u32) -> Result<Clock, AllocError> {
+impl<A: Allocator + Copy> Clock<A> {
+    pub(crate) fn new(alloc: A, capacity: usize, keys: u32) -> Result<Clock<A>, AllocError> {
         Ok(Clock {
             capacity,
             residents: Lists::new(alloc, keys)?,
             hit: Marks::new(alloc, keys)?,
         })
     }
+}
 
+impl<A: Allocator> Clock<A> {
     // The key under the hand is the oldest, and one that the hand passes becomes the newest.
     fn evict(&mut self) {
         for _ in 0..=self.residents.len(RESIDENT) {
@@ -42,7 +44,7 @@ impl Clock {
     }
 }
 
-impl Replayed for Clock {
+impl<A: Allocator> Replayed for Clock<A> {
     fn access(&mut self, key: u32) -> bool {
         if self.residents.has(RESIDENT, key) {
             self.hit.set(key, 1);

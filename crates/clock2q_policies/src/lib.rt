@@ -1,7 +1,7 @@
 //! Policies of caches, replayed over keys that are numbers: how many accesses of a trace hit.
 //!
 //! The hits of [`plain_hits`] are proved to be those of a list. Of the others it is proved that each
-//! call is safe and returns; their hits are tested, against lists but for ARC.
+//! call is safe and returns; their hits are tested, against lists.
 #![tactic(auto)]
 
 mod arc;
@@ -9,6 +9,7 @@ mod clock;
 mod lists;
 mod marks;
 mod optimal;
+mod places;
 mod plain;
 mod replayed;
 mod s3_fifo;

@@ -1,6 +1,6 @@
 //! Lists of keys that are numbers.
 
-use std::alloc::{AllocError, Global};
+use std::alloc::{AllocError, Allocator};
 
 // The list of a key that stands in none.
 const NONE: u8 = u8::MAX;
@@ -10,18 +10,18 @@ const LISTS: usize = 4;
 
 /// Lists with a newest and an oldest key. Each key stands in at most one of them.
 #[derive(Drop)]
-pub(crate) struct Lists {
+pub(crate) struct Lists<A: Allocator> {
     // Of each key, and then of each list as a whole, which closes it to a ring.
-    newer: Vec<u32>,
-    older: Vec<u32>,
-    lists: Vec<u8>,
+    newer: Vec<u32, A>,
+    older: Vec<u32, A>,
+    lists: Vec<u8, A>,
     lengths: [usize; LISTS],
     keys: u32,
 }
 
-impl Lists {
+impl<A: Allocator + Copy> Lists<A> {
     /// Returns empty lists for keys below `keys`.
-    pub(crate) fn new(alloc: Global, keys: u32) -> Result<Lists, AllocError> {
+    pub(crate) fn new(alloc: A, keys: u32) -> Result<Lists<A>, AllocError> {
         let nodes = (keys as usize).saturating_add(LISTS);
         let mut lists = Lists {
             newer: vec![in alloc; 0; nodes]?,
@@ -36,7 +36,9 @@ impl Lists {
         }
         Ok(lists)
     }
+}
 
+impl<A: Allocator> Lists<A> {
     /// Returns how many keys a list has.
     pub(crate) fn len(&self, list: u8) -> usize {
         self.lengths.get(usize::from(list)).copied().unwrap_or(0)

@@ -1,15 +1,15 @@
 //! A small number beside each key.
 
-use std::alloc::{AllocError, Global};
+use std::alloc::{AllocError, Allocator};
 
 /// What is marked of each key: at first 0.
 #[derive(Drop)]
-pub(crate) struct Marks {
-    marks: Vec<u8>,
+pub(crate) struct Marks<A: Allocator> {
+    marks: Vec<u8, A>,
 }
 
-impl Marks {
-    pub(crate) fn new(alloc: Global, keys: u32) -> Result<Marks, AllocError> {
+impl<A: Allocator> Marks<A> {
+    pub(crate) fn new(alloc: A, keys: u32) -> Result<Marks<A>, AllocError> {
         Ok(Marks {
             marks: vec![in alloc; 0; keys as usize]?,
         })

@@ -1,87 +1,45 @@
 //! The most that any policy could hit.
 
-use std::alloc::{AllocError, Global};
+use crate::places::Places;
+use std::alloc::{AllocError, Allocator};
 use std::num::NonZeroUsize;
 
-// The next access of each resident, as leaves of a tree whose inner nodes have the larger of two.
-// 0 stands for a key that isn't resident.
+// Room for keys that stay from one access to the next. One place of the cache is always the key's
+// that is asked for, so the others are as many as the capacity less one.
 #[derive(Drop)]
-struct Latest {
-    nodes: Vec<u32>,
-    leaves: usize,
+struct Rooms<A: Allocator> {
+    // Where each stay that is over ended; its room is free from there on.
+    ended: Places<A>,
+    // How many rooms have had no stay yet.
+    unused: usize,
 }
 
-impl Latest {
-    fn new(alloc: Global, keys: u32) -> Result<Latest, AllocError> {
-        let leaves = (keys as usize).max(1);
-        Ok(Latest {
-            nodes: vec![in alloc; 0; leaves.saturating_mul(2)]?,
-            leaves,
-        })
-    }
-
-    fn node(&self, node: usize) -> u32 {
-        self.nodes.get(node).copied().unwrap_or(0)
-    }
-
-    fn of(&self, key: u32) -> u32 {
-        self.node(self.leaves.saturating_add(key as usize))
-    }
-
-    fn set(&mut self, key: u32, next: u32) {
-        let mut node = self.leaves.saturating_add(key as usize);
-        if let Some(leaf) = self.nodes.get_mut(node) {
-            *leaf = next;
+impl<A: Allocator> Rooms<A> {
+    // Gives a key that was asked for at `from` and is again at `to` a room for the accesses between
+    // them, if one is free so long: the one that became free last, so that those that became free
+    // earlier are left for stays that began earlier.
+    fn keep(&mut self, from: usize, to: usize) -> bool {
+        let last_between = to.saturating_sub(1);
+        if last_between == from {
+            return true;
         }
-        for _ in 0..usize::BITS {
-            node /= 2;
-            let left = node.saturating_mul(2);
-            let larger = self.node(left).max(self.node(left.saturating_add(1)));
-            if let Some(inner) = self.nodes.get_mut(node) {
-                *inner = larger;
+        if !self.ended.take_last(from) {
+            if self.unused == 0 {
+                return false;
             }
-            if node <= 1 {
-                return;
-            }
+            self.unused = self.unused.saturating_sub(1);
         }
-    }
-
-    // Returns the resident whose next access is the last of all.
-    fn last(&self) -> u32 {
-        let most = self.node(1);
-        let mut node = 1usize;
-        for _ in 0..usize::BITS {
-            if node >= self.leaves {
-                break;
-            }
-            let left = node.saturating_mul(2);
-            node = if self.node(left) == most {
-                left
-            } else {
-                left.saturating_add(1)
-            };
-        }
-        u32::try_from(node.saturating_sub(self.leaves)).unwrap_or(u32::MAX)
+        self.ended.insert(last_between);
+        true
     }
 }
 
-// Returns one more than the place of the next access to the key of each place, and `u32::MAX` where
-// there is none.
-fn next_accesses(alloc: Global, trace: &[u32], keys: u32) -> Result<Vec<u32>, AllocError> {
-    let mut next = vec![in alloc; u32::MAX; trace.len()]?;
-    let mut seen = vec![in alloc; u32::MAX; keys as usize]?;
-    for (place, key) in trace.iter().enumerate().rev() {
-        if let (Some(next), Some(seen)) = (next.get_mut(place), seen.get_mut(*key as usize)) {
-            *next = *seen;
-            *seen = u32::try_from(place.saturating_add(1)).unwrap_or(u32::MAX);
-        }
-    }
-    Ok(next)
-}
-
-/// Returns how many accesses of a trace hit in a new cache that evicts the key whose next access is
-/// farthest off, of 'A Study of Replacement Algorithms for a Virtual-Storage Computer' (1966). No
-/// policy that takes in each key that it misses hits more. The keys are numbers below `keys`.
+/// Returns the most accesses of a trace that can hit in a new cache that takes in each key which it
+/// misses: as many as hit where the key leaves whose next access is farthest off, of 'A Study of
+/// Replacement Algorithms for a Virtual-Storage Computer' (1966). The keys are numbers below `keys`.
+///
+/// They are counted as stays: an access hits where its key stayed from its access before. Stays are
+/// taken in the order of their ends, each that still finds room, which takes as many as can be.
 ///
 /// # Errors
 ///
@@ -89,26 +47,28 @@ fn next_accesses(alloc: Global, trace: &[u32], keys: u32) -> Result<Vec<u32>, Al
 ///
 /// # Cost
 ///
-/// Time in proportion to the trace times the logarithm of `keys`; 4 bytes an access and 12 a key.
-pub fn optimal_hits(
-    alloc: Global,
+/// Time in proportion to the trace and to `keys`; a bit an access and 8 bytes a key.
+pub fn optimal_hits<A: Allocator + Copy>(
+    alloc: A,
     capacity: NonZeroUsize,
     trace: &[u32],
     keys: u32,
 ) -> Result<usize, AllocError> {
-    let next = next_accesses(alloc, trace, keys)?;
-    let mut residents = Latest::new(alloc, keys)?;
-    let mut room = capacity.get();
+    // one more than the place of each key's last access, and 0 where there was none
+    let mut last = vec![in alloc; 0usize; keys as usize]?;
+    let mut rooms = Rooms {
+        ended: Places::new(alloc, trace.len())?,
+        unused: capacity.get().saturating_sub(1),
+    };
     let mut hits = 0usize;
-    for (key, next) in trace.iter().zip(next.iter()) {
-        if residents.of(*key) != 0 {
+    for (place, key) in trace.iter().enumerate() {
+        let Some(last) = last.get_mut(*key as usize) else {
+            continue;
+        };
+        if *last > 0 && rooms.keep(last.saturating_sub(1), place) {
             hits = hits.saturating_add(1);
-        } else if room > 0 {
-            room = room.saturating_sub(1);
-        } else {
-            residents.set(residents.last(), 0);
         }
-        residents.set(*key, *next);
+        *last = place.saturating_add(1);
     }
     Ok(hits)
 }

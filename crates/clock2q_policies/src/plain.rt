@@ -5,7 +5,7 @@ ghost use Rattle.clock2q_policies.specs.Policies.{is_in, after_hit, brought, pla
 ghost use Rattle.clock2q_policies.specs.Stamps.{held_at, AreKnown};
 ghost use Rattle.clock2q_policies.specs.Residents.{held_by, IsHolding};
 
-use std::alloc::{AllocError, Global};
+use std::alloc::{AllocError, Allocator};
 use std::num::NonZeroUsize;
 
 /// What a hit changes in a cache that evicts the last key of a list.
@@ -20,22 +20,24 @@ use std::num::NonZeroUsize;
 /// ```
 #[derive(Clone, Copy, Debug, PartialEq, Eq)]
 pub enum PlainPolicy {
-    /// A hit moves the key to the front of the list.
+    /// A hit moves the key to the front of the list, as in 'Evaluation Techniques for Storage
+    /// Hierarchies' (1970).
     LeastRecentlyUsed,
-    /// A hit changes nothing.
+    /// A hit changes nothing, as in 'A Study of Replacement Algorithms for a Virtual-Storage
+    /// Computer' (1966).
     FirstInFirstOut,
 }
 
 // The keys that a plain cache holds. A key's stamp is one more than the place of the trace at which
 // it was last put in front; it is held while its stamp is above `left`.
 #[derive(Drop)]
-struct Residents {
-    stamps: Vec<usize>,
+struct Residents<A: Allocator> {
+    stamps: Vec<usize, A>,
     left: usize,
     count: usize,
 }
 
-impl Residents {
+impl<A: Allocator> Residents<A> {
     // Tells whether the key at a place of the trace is held, and makes what the policy makes of it.
     fn access(
         &mut self,
@@ -123,8 +125,8 @@ fn after_oldest(trace: &[u32], stamps: &[usize], left: usize, at: usize) -> usiz
 ///
 /// Time in proportion to the trace and to `keys`, whatever the capacity. One request for memory, in
 /// proportion to `keys`.
-pub fn plain_hits(
-    alloc: Global,
+pub fn plain_hits<A: Allocator>(
+    alloc: A,
     policy: PlainPolicy,
     capacity: NonZeroUsize,
     trace: &[u32],

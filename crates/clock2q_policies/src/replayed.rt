@@ -4,7 +4,7 @@ use crate::arc::Arc;
 use crate::clock::Clock;
 use crate::s3_fifo::S3Fifo;
 use crate::sieve::Sieve;
-use std::alloc::{AllocError, Global};
+use std::alloc::{AllocError, Allocator};
 use std::num::NonZeroUsize;
 
 /// A cache of keys that are numbers.
@@ -36,8 +36,8 @@ where
 /// # Cost
 ///
 /// Time in proportion to the trace and to `keys`, and 10 bytes a key, whatever the capacity.
-pub fn clock_hits(
-    alloc: Global,
+pub fn clock_hits<A: Allocator + Copy>(
+    alloc: A,
     capacity: NonZeroUsize,
     trace: &[u32],
     keys: u32,
@@ -55,8 +55,8 @@ pub fn clock_hits(
 /// # Cost
 ///
 /// Time in proportion to the trace and to `keys`, and 10 bytes a key, whatever the capacity.
-pub fn sieve_hits(
-    alloc: Global,
+pub fn sieve_hits<A: Allocator + Copy>(
+    alloc: A,
     capacity: NonZeroUsize,
     trace: &[u32],
     keys: u32,
@@ -74,8 +74,8 @@ pub fn sieve_hits(
 /// # Cost
 ///
 /// Time in proportion to the trace and to `keys`, and 10 bytes a key, whatever the capacity.
-pub fn s3_fifo_hits(
-    alloc: Global,
+pub fn s3_fifo_hits<A: Allocator + Copy>(
+    alloc: A,
     capacity: NonZeroUsize,
     trace: &[u32],
     keys: u32,
@@ -93,8 +93,8 @@ pub fn s3_fifo_hits(
 /// # Cost
 ///
 /// Time in proportion to the trace and to `keys`, and 9 bytes a key, whatever the capacity.
-pub fn arc_hits(
-    alloc: Global,
+pub fn arc_hits<A: Allocator + Copy>(
+    alloc: A,
     capacity: NonZeroUsize,
     trace: &[u32],
     keys: u32,

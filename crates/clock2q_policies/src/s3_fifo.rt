@@ -3,7 +3,7 @@
 use crate::lists::Lists;
 use crate::marks::Marks;
 use crate::replayed::Replayed;
-use std::alloc::{AllocError, Global};
+use std::alloc::{AllocError, Allocator};
 
 const SMALL: u8 = 0;
 
@@ -19,16 +19,16 @@ const MOST: u8 = 3;
 /// queue for new keys. One that was hit more than once there goes on to the main queue; of another
 /// one only the key is remembered, and it comes into the main queue if it comes again.
 #[derive(Drop)]
-pub(crate) struct S3Fifo {
+pub(crate) struct S3Fifo<A: Allocator> {
     capacity: usize,
     small: usize,
     main: usize,
-    queues: Lists,
-    hits: Marks,
+    queues: Lists<A>,
+    hits: Marks<A>,
 }
 
-impl S3Fifo {
-    pub(crate) fn new(alloc: Global, capacity: usize, keys: u32) -> Result<S3Fifo, AllocError> {
+impl<A: Allocator + Copy> S3Fifo<A> {
+    pub(crate) fn new(alloc: A, capacity: usize, keys: u32) -> Result<S3Fifo<A>, AllocError> {
         let small = (capacity / 10).max(1);
         Ok(S3Fifo {
             capacity,
@@ -38,7 +38,9 @@ impl S3Fifo {
             hits: Marks::new(alloc, keys)?,
         })
     }
+}
 
+impl<A: Allocator> S3Fifo<A> {
     fn len(&self) -> usize {
         self.queues.len(SMALL).saturating_add(self.queues.len(MAIN))
     }
@@ -95,7 +97,7 @@ impl S3Fifo {
     }
 }
 
-impl Replayed for S3Fifo {
+impl<A: Allocator> Replayed for S3Fifo<A> {
     fn access(&mut self, key: u32) -> bool {
         if self.queues.has(SMALL, key) || self.queues.has(MAIN, key) {
             let hits = self.hits.get(key).saturating_add(1);

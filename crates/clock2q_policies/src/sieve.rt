@@ -3,7 +3,7 @@
 use crate::lists::Lists;
 use crate::marks::Marks;
 use crate::replayed::Replayed;
-use std::alloc::{AllocError, Global};
+use std::alloc::{AllocError, Allocator};
 
 const RESIDENT: u8 = 0;
 
@@ -11,15 +11,15 @@ const RESIDENT: u8 = 0;
 /// (2024): the hand goes from the oldest key towards the newest, clears the mark of each that was
 /// hit, and evicts the first one without a mark. No key is moved.
 #[derive(Drop)]
-pub(crate) struct Sieve {
+pub(crate) struct Sieve<A: Allocator> {
     capacity: usize,
-    residents: Lists,
-    hit: Marks,
+    residents: Lists<A>,
+    hit: Marks<A>,
     hand: Option<u32>,
 }
 
-impl Sieve {
-    pub(crate) fn new(alloc: Global, capacity: usize, keys: u32) -> Result<Sieve, AllocError> {
+impl<A: Allocator + Copy> Sieve<A> {
+    pub(crate) fn new(alloc: A, capacity: usize, keys: u32) -> Result<Sieve<A>, AllocError> {
         Ok(Sieve {
             capacity,
             residents: Lists::new(alloc, keys)?,
@@ -27,7 +27,9 @@ impl Sieve {
             hand: None,
         })
     }
+}
 
+impl<A: Allocator> Sieve<A> {
     fn evict(&mut self) {
         for _ in 0..=self.residents.len(RESIDENT) {
             let Some(key) = self.hand.or(self.residents.oldest(RESIDENT)) else {
@@ -43,7 +45,7 @@ impl Sieve {
     }
 }
 
-impl Replayed for Sieve {
+impl<A: Allocator> Replayed for Sieve<A> {
     fn access(&mut self, key: u32) -> bool {
         if self.residents.has(RESIDENT, key) {
             self.hit.set(key, 1);

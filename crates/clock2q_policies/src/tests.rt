@@ -2,21 +2,21 @@
 use crate::{arc_hits, clock_hits, optimal_hits, s3_fifo_hits, sieve_hits};
 use std::alloc::{AllocError, Global};
 use std::collections::VecDeque;
-use std::num::NonZeroUsize;
+use std::num::{NonZeroUsize, nearest_usize_to_f64};
 use std::test::Fail;
 
 const KEYS: u32 = 40;
 
-// Returns a trace of 600 accesses: by chance, then skewed, then a loop.
-fn trace_of(alloc: Global, seed: u64) -> Result<Vec<u32>, AllocError> {
+// Returns a trace: a third by chance, a third skewed, and the rest a loop.
+fn trace_of(alloc: Global, seed: u64, length: u32) -> Result<Vec<u32>, AllocError> {
     let mut state = seed;
     let mut trace = Vec::new(alloc);
-    for i in 0..600u32 {
+    for i in 0..length {
         state = state
             .wrapping_mul(6364136223846793005)
             .wrapping_add(1442695040888963407);
         let chance = (state >> 33) % u64::from(KEYS);
-        let key = match i / 200 {
+        let key = match i / (length / 3).max(1) {
             0 => chance,
             1 => chance * ((state >> 17) % 40) / 40,
             _ => u64::from(i % 23),
@@ -182,11 +182,116 @@ fn s3_fifo_model(alloc: Global, room: usize, trace: &[u32]) -> Result<usize, All
     Ok(hits)
 }
 
+// The lists of ARC, as its authors' figure has them: residents that came once and again, and keys
+// that left each.
+#[derive(Drop)]
+struct Four {
+    once: Queue,
+    again: Queue,
+    left_once: Queue,
+    left_again: Queue,
+    target: f64,
+}
+
+// Takes a key out of a queue, and returns true if it was there.
+fn taken(queue: &mut Queue, key: u32) -> bool {
+    match queue.iter().position(|(other, _)| *other == key) {
+        Some(place) => queue.remove(place).is_some(),
+        None => false,
+    }
+}
+
+fn length(queue: &Queue) -> f64 {
+    nearest_usize_to_f64(queue.len())
+}
+
+impl Four {
+    fn replace(&mut self, came_from_again: bool) -> Result<(), AllocError> {
+        let once = length(&self.once);
+        let is_once = once >= 1.0
+            && (once > self.target || (came_from_again && once == self.target));
+        let oldest = if is_once {
+            self.once.pop_front()
+        } else {
+            self.again.pop_front()
+        };
+        match oldest {
+            Some((key, _)) if is_once => push(&mut self.left_once, key, 0),
+            Some((key, _)) => push(&mut self.left_again, key, 0),
+            None => Ok(()),
+        }
+    }
+
+    // A key that left one of the lists comes again.
+    fn come_back(&mut self, room: usize, key: u32) -> Result<bool, AllocError> {
+        let (once, again) = (length(&self.left_once), length(&self.left_again));
+        let was_again = if taken(&mut self.left_once, key) {
+            let most = nearest_usize_to_f64(room);
+            self.target = (self.target + (again / once).max(1.0)).min(most);
+            false
+        } else if taken(&mut self.left_again, key) {
+            self.target = (self.target - (once / again).max(1.0)).max(0.0);
+            true
+        } else {
+            return Ok(false);
+        };
+        self.replace(was_again)?;
+        push(&mut self.again, key, 0)?;
+        Ok(true)
+    }
+
+    fn access(&mut self, room: usize, key: u32) -> Result<bool, AllocError> {
+        if taken(&mut self.once, key) || taken(&mut self.again, key) {
+            push(&mut self.again, key, 0)?;
+            return Ok(true);
+        }
+        if self.come_back(room, key)? {
+            return Ok(false);
+        }
+        let known_once = self.once.len().saturating_add(self.left_once.len());
+        let known_again = self.again.len().saturating_add(self.left_again.len());
+        let known = known_once.saturating_add(known_again);
+        if known_once == room && self.left_once.is_empty() {
+            let _ = self.once.pop_front();
+        } else if known_once == room {
+            let _ = self.left_once.pop_front();
+            self.replace(false)?;
+        } else if known >= room {
+            if known == room.saturating_mul(2) {
+                let _ = self.left_again.pop_front();
+            }
+            self.replace(false)?;
+        }
+        push(&mut self.once, key, 0)?;
+        Ok(false)
+    }
+}
+
+fn arc_model(alloc: Global, room: usize, trace: &[u32]) -> Result<usize, AllocError> {
+    let mut lists = Four {
+        once: VecDeque::new(alloc),
+        again: VecDeque::new(alloc),
+        left_once: VecDeque::new(alloc),
+        left_again: VecDeque::new(alloc),
+        target: 0.0,
+    };
+    let mut hits = 0usize;
+    for key in trace {
+        if lists.access(room, *key)? {
+            hits = hits.saturating_add(1);
+        }
+    }
+    Ok(hits)
+}
+
 // Returns where the resident stands that the rest of a trace needs last.
 fn farthest(held: &Queue, rest: &[u32]) -> usize {
     let mut farthest = (0, 0);
     for (i, (other, _)) in held.iter().enumerate() {
-        let next = rest.iter().position(|key| *key == *other).unwrap_or(1000);
+        let next = rest
+            .iter()
+            .position(|key| *key == *other)
+            .unwrap_or(usize::MAX);
         if next >= farthest.0 {
             farthest = (next, i);
         }
@@ -216,7 +321,7 @@ fn optimal_model(alloc: Global, room: usize, trace: &[u32]) -> Result<usize, All
 fn hits_are_those_of_lists(rt: HostRuntime) -> Result<(), Fail> {
     let alloc = rt.alloc();
     for seed in 1..4 {
-        let trace = trace_of(alloc, seed)?;
+        let trace = trace_of(alloc, seed, 600)?;
         for room in [1usize, 2, 3, 7, 10, 20, 22, 30, 41] {
             let capacity = NonZeroUsize::new(room).ok_or("not zero")?;
             let clock = clock_hits(alloc, capacity, &trace, KEYS)?;
@@ -231,15 +336,25 @@ fn hits_are_those_of_lists(rt: HostRuntime) -> Result<(), Fail> {
             );
             let optimal = optimal_hits(alloc, capacity, &trace, KEYS)?;
             assert_eq!(rt; optimal, optimal_model(alloc, room, &trace)?, "OPT {room}");
-            for hits in [
-                clock,
-                sieve,
-                s3_fifo,
-                arc_hits(alloc, capacity, &trace, KEYS)?,
-            ] {
+            let arc = arc_hits(alloc, capacity, &trace, KEYS)?;
+            assert_eq!(rt; arc, arc_model(alloc, room, &trace)?, "ARC {room}");
+            for hits in [clock, sieve, s3_fifo, arc] {
                 assert!(rt; hits <= optimal, "{room}");
             }
         }
+    }
+    Ok(())
+}
+
+// So long a trace has places whose words are on three levels.
+#[test]
+fn optimal_hits_of_a_long_trace(rt: HostRuntime) -> Result<(), Fail> {
+    let alloc = rt.alloc();
+    let trace = trace_of(alloc, 4, 9000)?;
+    for room in [1usize, 2, 5, 20] {
+        let capacity = NonZeroUsize::new(room).ok_or("not zero")?;
+        let optimal = optimal_hits(alloc, capacity, &trace, KEYS)?;
+        assert_eq!(rt; optimal, optimal_model(alloc, room, &trace)?, "{room}");
     }
     Ok(())
 }

@@ -5,7 +5,7 @@ use Rattle.clock2q_policies.proofs.plain.Residents.bring.Goals.{then-self-get, e
 use Rattle.clock2q_policies.proofs.plain.Residents.bring.Goals as goal
 
 pub returns-clause-held : goal.returns-clause-held
-returns-clause-held c = elim c.if-self-get.branch [
+returns-clause-held g c = elim c.if-self-get.branch [
   | then-self-get w ↦
       let front = subst (λ stamps. held_at c.args.trace.now stamps w.after_oldest-self.result c.args.at ≡ take (length (held_at c.args.trace.now stamps c.args.self.now.left c.args.at) - 1) (held_at c.args.trace.now stamps c.args.self.now.left c.args.at)) w.deref.ensures.value w.after_oldest-self.ensures.front in
       rw w.self-is (came-full _ _ _ c.args.self.now c.requires.holding c.requires.at c.requires.absent _ w.after_oldest-self.ensures.within (omega arith) (omega arith) front)
@@ -13,7 +13,7 @@ returns-clause-held c = elim c.if-self-get.branch [
 ]
 
 pub returns-clause-holding : goal.returns-clause-holding
-returns-clause-holding c = elim c.if-self-get.branch [
+returns-clause-holding g c = elim c.if-self-get.branch [
   | then-self-get w ↦
       let front = subst (λ stamps. held_at c.args.trace.now stamps w.after_oldest-self.result c.args.at ≡ take (length (held_at c.args.trace.now stamps c.args.self.now.left c.args.at) - 1) (held_at c.args.trace.now stamps c.args.self.now.left c.args.at)) w.deref.ensures.value w.after_oldest-self.ensures.front in
       rw w.self-is (holds-full _ _ _ c.args.self.now c.requires.holding c.requires.at _ refl w.after_oldest-self.ensures.within refl c.requires.absent (omega arith) (omega arith) front)
