@@ -1,9 +1,9 @@
 //! Large caches whose keys hash alike, in part or in full, beside plain lists.
 
-use crate::draws::Draws;
-use crate::hashers::Spread;
 use crate::steps::Step;
 use crate::tested::{Place, Tested};
+use clock2q_refusing::Draws;
+use clock2q_refusing::Spread;
 use std::alloc::Global;
 use std::process::Abort;
 use std::test::Fail;

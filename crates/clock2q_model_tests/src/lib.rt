@@ -3,17 +3,9 @@
 #![tactic(auto)]
 
 #[cfg(test)]
-mod asked;
-#[cfg(test)]
 mod called;
 #[cfg(test)]
 mod crowded;
-#[cfg(test)]
-mod draws;
-#[cfg(test)]
-mod drops;
-#[cfg(test)]
-mod hashers;
 #[cfg(test)]
 mod model;
 #[cfg(test)]
@@ -22,8 +14,6 @@ mod seeded;
 mod states;
 #[cfg(test)]
 mod steps;
-#[cfg(test)]
-mod tagged;
 #[cfg(test)]
 mod tested;
 #[cfg(test)]

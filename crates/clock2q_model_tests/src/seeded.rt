@@ -1,10 +1,10 @@
 //! Lists of steps from seeds, each reply and what it leaves compared with plain lists.
 
-use crate::draws::Draws;
 use crate::model::Policy;
 use crate::steps::Step;
 use crate::tested::{Place, Tested};
 use clock2q_cache::DefaultHashBuilder;
+use clock2q_refusing::Draws;
 use std::alloc::Global;
 use std::process::Abort;
 use std::test::Fail;

@@ -85,6 +85,16 @@ const MAIN_ALONE: &str =
 const ONE_KEY: &str =
     "Cache { len: 1, capacity: 2, small: 1, small_capacity: 1, main: 0, main_capacity: 1, ghost: 0, ghost_capacity: 1 }";
 
+impl State {
+    /// Returns the Debug text of the cache.
+    fn text(&self) -> &'static str {
+        match self.remembered {
+            Some(_) => FULL_WITH_HISTORY,
+            None => FULL,
+        }
+    }
+}
+
 /// A step has the reply worked out.
 fn replies(
     rt: &impl Abort,
@@ -146,22 +156,33 @@ fn leave_main(
     tested.shows(rt, MAIN_ALONE, place)
 }
 
+/// Each key stands where the state says.
+fn stands(
+    rt: &impl Abort,
+    tested: &mut Usual,
+    state: &State,
+    place: Place,
+) -> Result<(), Fail> {
+    residents_stand(rt, tested, state, place)?;
+    leave_main(rt, tested, state, place)
+}
+
+/// The step of a state, after so many others, leaves what the state says.
+fn leaves(rt: &impl Abort, alloc: Global, before: usize, state: &State) -> Result<(), Fail> {
+    let place = Place {
+        list: 0,
+        number: before as u64,
+    };
+    let mut tested = cache_after(rt, alloc, before, place)?;
+    replies(rt, &mut tested, state.step, state.reply, place)?;
+    tested.shows(rt, state.text(), place)?;
+    stands(rt, &mut tested, state, place)
+}
+
 #[test]
 fn state_by_state(rt: HostRuntime) -> Result<(), Fail> {
     for (before, state) in STATES.iter().enumerate() {
-        let place = Place {
-            list: 0,
-            number: before as u64,
-        };
-        let mut tested = cache_after(&rt, rt.alloc(), before, place)?;
-        replies(&rt, &mut tested, state.step, state.reply, place)?;
-        let shown = match state.remembered {
-            Some(_) => FULL_WITH_HISTORY,
-            None => FULL,
-        };
-        tested.shows(&rt, shown, place)?;
-        residents_stand(&rt, &mut tested, state, place)?;
-        leave_main(&rt, &mut tested, state, place)?;
+        leaves(&rt, rt.alloc(), before, state)?;
     }
     Ok(())
 }

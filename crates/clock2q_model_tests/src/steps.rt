@@ -1,7 +1,7 @@
 //! Calls of a cache as small values, and what they reply.
 
-use crate::draws::Draws;
 use crate::model::Model;
+use clock2q_refusing::Draws;
 
 /// A call of a cache whose keys and values are numbers.
 #[derive(Clone, Copy, Debug)]

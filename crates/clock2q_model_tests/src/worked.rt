@@ -1,9 +1,9 @@
 //! Runs worked out by hand, under hashers that spread the keys well and badly.
 
-use crate::hashers::Spread;
 use crate::steps::{Reply, Step};
 use crate::tested::{Place, Tested};
 use clock2q_cache::DefaultHashBuilder;
+use clock2q_refusing::Spread;
 use std::alloc::Global;
 use std::hash::BuildHasher;
 use std::process::Abort;
@@ -428,17 +428,27 @@ fn replies_are_worked<S: BuildHasher + Drop>(
     tested.residents_are_same(rt, place)
 }
 
-/// Puts the keys that a run begins with, and hits some.
-fn begin<S: BuildHasher + Drop>(
+/// Puts the keys from one to another, each with itself as its value.
+fn put_all<S: BuildHasher + Drop>(
     rt: &impl Abort,
     tested: &mut Tested<S>,
-    run: &Run,
+    (first, end): (u64, u64),
     place: Place,
 ) -> Result<(), Fail> {
-    for key in run.puts.0..run.puts.1 {
+    for key in first..end {
         tested.step(rt, Step::Put(key, key), place)?;
     }
-    for key in run.hits.0..run.hits.1 {
+    Ok(())
+}
+
+/// Hits the keys from one to another.
+fn hit_all<S: BuildHasher + Drop>(
+    rt: &impl Abort,
+    tested: &mut Tested<S>,
+    (first, end): (u64, u64),
+    place: Place,
+) -> Result<(), Fail> {
+    for key in first..end {
         tested.step(rt, Step::Get(key), place)?;
     }
     Ok(())
@@ -457,7 +467,8 @@ fn runs_reply<S: BuildHasher + Copy + Drop>(
             number: number as u64,
         };
         let mut tested = Tested::usual(alloc, run.capacity, hasher)?;
-        begin(rt, &mut tested, run, place)?;
+        put_all(rt, &mut tested, run.puts, place)?;
+        hit_all(rt, &mut tested, run.hits, place)?;
         replies_are_worked(rt, &mut tested, run, place)?;
     }
     Ok(())

@@ -6,12 +6,4 @@ mod caches;
 #[cfg(test)]
 mod closures;
 #[cfg(test)]
-mod draws;
-#[cfg(test)]
-mod plain_table;
-#[cfg(test)]
 mod policies;
-#[cfg(test)]
-mod table_commands;
-#[cfg(test)]
-mod table_lists;

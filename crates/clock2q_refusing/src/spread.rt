@@ -4,16 +4,23 @@ ghost use Rattle.std.specs.Int.{w64, from_le_bytes};
 
 use std::hash::{BuildHasher, Hasher};
 
-/// Hashes a number to so many times itself and a fixed number more.
+/// Hashes a number to `times` itself and `more`, without the bits past 64. With 0 `times` all numbers
+/// have one hash.
+///
+/// # Example
+///
+/// ```
+/// let one_hash_for_all = Spread { times: 0, more: 7 };
+/// ```
 #[derive(Clone, Copy, Debug)]
-pub(crate) struct Spread {
-    pub(crate) times: u64,
-    pub(crate) more: u64,
+pub struct Spread {
+    pub times: u64,
+    pub more: u64,
 }
 
-/// A hasher of that kind, with the number that was written last.
+/// The hasher that [`Spread`] makes. It hashes the number that was written last.
 #[derive(Clone, Copy)]
-pub(crate) struct Spreading {
+pub struct Spreading {
     spread: Spread,
     number: u64,
 }

@@ -5,8 +5,8 @@ ghost use Rattle.std.specs.Ordering.{on};
 ghost use Rattle.std.specs.Prelude.{nat_eq};
 ghost use Rattle.std.proofs.Common.{rules};
 
-use crate::hashers::Spread;
 use clock2q_cache::Cache;
+use clock2q_refusing::Spread;
 use std::cell::Cell;
 use std::hash::{Hash, Hasher};
 use std::num::NonZeroUsize;

@@ -4,10 +4,10 @@
 //! with those that found no room before the end; the plain lists only count these.
 ghost use Rattle.std.specs.Prelude.{◌≡◌};
 
-use crate::draws::Draws;
 use crate::plain_table::PlainTable;
-use clock2q::command::{TableCommand, TableReply, run_table};
-use clock2q::handles::{Table, TableError};
+use clock2q_handles::{Table, TableError};
+use clock2q_refusing::Draws;
+use clock2q_table_commands::{TableCommand, TableReply, run_table};
 use std::alloc::{AllocError, Allocator, Global};
 use std::process::Abort;
 use std::test::Fail;

@@ -1,8 +1,8 @@
 //! Lists of commands to handle tables.
 ghost use Rattle.std.specs.Prelude.{◌≡◌, ◌+◌, ◌*◌, ◌%◌};
 
-use clock2q::command::{TableCommand, TableReply, run_table};
-use clock2q::handles::{Table, TableError};
+use clock2q_handles::{Table, TableError};
+use clock2q_table_commands::{TableCommand, TableReply, run_table};
 use std::alloc::{AllocError, Allocator, Global};
 use std::test::Fail;
 

@@ -1,8 +1,8 @@
 //! A handle table as plain lists: the handles of each home, in the order in which they came there.
 //! Each handle is its own hash.
 
-use clock2q::command::{TableCommand, TableReply};
-use clock2q::handles::TableError;
+use clock2q_handles::TableError;
+use clock2q_table_commands::{TableCommand, TableReply};
 use std::alloc::{AllocError, Global};
 
 /// The lists of a table.
