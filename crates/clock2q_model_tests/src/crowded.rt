@@ -2,8 +2,7 @@
 
 use crate::steps::Step;
 use crate::tested::{Place, Tested};
-use clock2q_refusing::Draws;
-use clock2q_refusing::Spread;
+use clock2q_refusing::{Draws, Spread};
 use std::alloc::Global;
 use std::process::Abort;
 use std::test::Fail;

@@ -157,12 +157,7 @@ fn leave_main(
 }
 
 /// Each key stands where the state says.
-fn stands(
-    rt: &impl Abort,
-    tested: &mut Usual,
-    state: &State,
-    place: Place,
-) -> Result<(), Fail> {
+fn stands(rt: &impl Abort, tested: &mut Usual, state: &State, place: Place) -> Result<(), Fail> {
     residents_stand(rt, tested, state, place)?;
     leave_main(rt, tested, state, place)
 }
