@@ -4,6 +4,7 @@ ghost use Rattle.std.specs.Prelude.{◌≡◌, ◌+◌, ◌*◌, ◌%◌};
 use clock2q_handles::{Table, TableError};
 use clock2q_table_commands::{TableCommand, TableReply, run_table};
 use std::alloc::{AllocError, Allocator, Global};
+use std::cell::Cell;
 use std::test::Fail;
 
 const EVEN: u64 = 0xAB00_0000_0000_000F;
@@ -89,5 +90,45 @@ fn worked_run(rt: HostRuntime) -> Result<(), Fail> {
 fn nothing_to_run(rt: HostRuntime) -> Result<(), Fail> {
     let replies = replies_of(rt.alloc(), 0, &[])?;
     assert!(rt; replies.is_empty());
+    Ok(())
+}
+
+// How often a run asks for a handle's hash, on a table with as many slots as twelve entries take.
+fn hashes_of(alloc: Global, commands: &[TableCommand<u64>]) -> Result<u64, TableError> {
+    let asked = Cell::new(0u64);
+    let mut table = Table::with_capacity(alloc, 12)?;
+    let counted = |handle: u64|
+        ensures { result ≡ EVEN + handle % 2 * 16 }
+    {
+        asked.set(asked.get().saturating_add(1));
+        hash_of(handle)
+    };
+    let _ = run_table(alloc, &mut table, counted, commands)?;
+    Ok(asked.get())
+}
+
+// The handle that comes is asked about, and where a table grows, each handle that it holds.
+#[test]
+fn hashes_asked_for(rt: HostRuntime) -> Result<(), Fail> {
+    let alloc = rt.alloc();
+    let mut commands: Vec<TableCommand<u64>> = Vec::new(alloc);
+    for handle in 0..12u64 {
+        commands.push(TableCommand::Insert(handle))?;
+    }
+    assert_eq!(rt; hashes_of(alloc, &commands)?, 12);
+    for (command, more) in [
+        (TableCommand::Get(EVEN), 0),
+        (TableCommand::Remove(EVEN, 0), 0),
+        (TableCommand::Reserve(1), 0),
+        (TableCommand::Find(2, vec![in alloc; 4]?), 1),
+        (TableCommand::Insert(0), 1),
+        (TableCommand::Reserve(1), 12),
+        (TableCommand::Find(12, vec![in alloc; 11]?), 1),
+        (TableCommand::Reserve(usize::MAX), 0),
+    ] {
+        let before = hashes_of(alloc, &commands)?;
+        commands.push(command)?;
+        assert_eq!(rt; hashes_of(alloc, &commands)?.wrapping_sub(before), more);
+    }
     Ok(())
 }
