@@ -143,15 +143,27 @@ class Checks:
             run.terminate()
 
 
+def field_at_end(text):
+    """Returns the field of the outermost record that is open where the text ends, or None."""
+    fields = []
+    for found in re.finditer(r"\}|([{;])(?:\s*(\w+) =)?", text):
+        if found[0] == "}":
+            fields = fields[:-1]
+        elif found[1] == "{":
+            fields.append(found[2])
+        elif fields:
+            fields[-1] = found[2] or fields[-1]
+    return next((it for it in fields if it), None)
+
+
 def clause_of(goal, before):
-    """Returns the clause that a goal belongs to. An answer may be a record of several: then the field that stands last before the error tells it."""
+    """Returns the clause that a goal belongs to. An answer may be a record of several: then the field in which the error stands tells it."""
     if found := re.search(r"clause-(\w+?)(?:-\d+)?$", goal):
         return found[1]
     if goal.startswith("invariant_of"):
         return "invariant"
     if goal.startswith("returns"):
-        fields = re.findall(r"(?:\{|;)\s*(\w+) =", before.rpartition(f"\n{goal} ")[2])
-        return fields[-1] if fields else ALL
+        return field_at_end(before.rpartition(f"\n{goal} ")[2]) or ALL
     return goal
 
 
