@@ -1,5 +1,7 @@
 //! The calls that find a key's slot, give it one, and take it away.
 ghost use Rattle.clock2q_c.specs.Handle.{machine_in};
+ghost use Rattle.clock2q_cache.specs.Costs.{Costs};
+ghost use Rattle.clock2q_machine.specs.Calls.{Clear, Get, GetAt, Put, Remove};
 ghost use Rattle.clock2q_machine.specs.Machine.{cleared, hit, removed};
 ghost use Rattle.clock2q_machine.specs.Steps.{hit_at, put};
 ghost use Rattle.clock2q_pages.specs.Pages.{last_in, resident_frame};
@@ -8,8 +10,10 @@ ghost use Rattle.std.specs.Prelude.{◌≡◌, ◌<◌, ◌↔◌, eqb, Some, Is
 
 use crate::handle::{Handle, put_back, taken};
 use crate::held::Held;
+use clock2q_cache::DefaultHashBuilder;
 use clock2q_pages::{find, frame_of, is_in};
 use std::alloc::Global;
+use std::hash::{BuildHasher, FoldHasher, Hash, Hasher};
 
 /// Where a key is, and which key entered that slot last before.
 #[repr(C)]
@@ -36,6 +40,7 @@ pub extern "C" fn clock2q_enter(alloc: Global, handle: &mut Handle, key: usize, 
     ensures which { IfSome (machine_in handle.old.cache) (λ m. place.new.last ≡ unwrap_or (last_in m place.new.slot) 0) }
     ensures within { IfSome (machine_in handle.old.cache) (λ m. place.new.slot < m.shares.capacity) }
     ensures machine { machine_in handle.new.cache ≡ option_map (put (eqb key) key (Some key)) (machine_in handle.old.cache) }
+    ensures costs { IfSome handle.old.cache (λ o. IfSome handle.new.cache (λ n. Costs ⟦<usize as Hash>⟧ ⟦<DefaultHashBuilder as BuildHasher>⟧ ⟦<FoldHasher as Hasher>⟧ (Put key (Some key)) o.cache n.cache)) }
     ensures holds { IsSome handle.new.cache }
 {
     let mut cache = taken(alloc, handle);
@@ -51,6 +56,7 @@ fn enter(held: &mut Held, key: usize, place: &mut Place)
     ensures which { place.new.last ≡ unwrap_or (last_in held.old.cache.machine place.new.slot) 0 }
     ensures within { place.new.slot < held.old.cache.machine.shares.capacity }
     ensures machine { held.new.cache.machine ≡ put (eqb key) key (Some key) held.old.cache.machine }
+    ensures costs { Costs ⟦<usize as Hash>⟧ ⟦<DefaultHashBuilder as BuildHasher>⟧ ⟦<FoldHasher as Hasher>⟧ (Put key (Some key)) held.old.cache held.new.cache }
 {
     let (slot, last) = frame_of(&mut held.cache, key);
     place.slot = slot;
@@ -75,6 +81,7 @@ pub extern "C" fn clock2q_find(
     ensures resident { IfSome (machine_in handle.old.cache) (λ m. IsTrue result ↔ IsSome (resident_frame m key)) }
     ensures slot { IfSome (machine_in handle.old.cache) (λ m. slot.new ≡ unwrap_or (resident_frame m key) slot.old) }
     ensures machine { machine_in handle.new.cache ≡ option_map (hit (eqb key)) (machine_in handle.old.cache) }
+    ensures costs { IfSome handle.old.cache (λ o. IfSome handle.new.cache (λ n. Costs ⟦<usize as Hash>⟧ ⟦<DefaultHashBuilder as BuildHasher>⟧ ⟦<FoldHasher as Hasher>⟧ (Get key) o.cache n.cache)) }
     ensures holds { IsSome handle.new.cache }
 {
     let mut cache = taken(alloc, handle);
@@ -99,6 +106,7 @@ pub extern "C" fn clock2q_at(alloc: Global, handle: &mut Handle, slot: usize, ke
     requires { IsSome handle.old.cache }
     ensures resident { IfSome (machine_in handle.old.cache) (λ m. IsTrue result ↔ (resident_frame m key ≡ Some slot)) }
     ensures machine { machine_in handle.new.cache ≡ option_map (hit_at slot (eqb key)) (machine_in handle.old.cache) }
+    ensures costs { IfSome handle.old.cache (λ o. IfSome handle.new.cache (λ n. Costs ⟦<usize as Hash>⟧ ⟦<DefaultHashBuilder as BuildHasher>⟧ ⟦<FoldHasher as Hasher>⟧ (GetAt slot key) o.cache n.cache)) }
     ensures holds { IsSome handle.new.cache }
 {
     let mut cache = taken(alloc, handle);
@@ -118,6 +126,7 @@ pub extern "C" fn clock2q_remove(alloc: Global, handle: &mut Handle, key: usize)
     requires { IsSome handle.old.cache }
     ensures found { IfSome (machine_in handle.old.cache) (λ m. IsTrue result ↔ IsSome (resident_frame m key)) }
     ensures machine { machine_in handle.new.cache ≡ option_map (removed (eqb key)) (machine_in handle.old.cache) }
+    ensures costs { IfSome handle.old.cache (λ o. IfSome handle.new.cache (λ n. Costs ⟦<usize as Hash>⟧ ⟦<DefaultHashBuilder as BuildHasher>⟧ ⟦<FoldHasher as Hasher>⟧ (Remove key) o.cache n.cache)) }
     ensures holds { IsSome handle.new.cache }
 {
     let mut cache = taken(alloc, handle);
@@ -135,6 +144,7 @@ pub extern "C" fn clock2q_remove(alloc: Global, handle: &mut Handle, key: usize)
 pub extern "C" fn clock2q_clear(alloc: Global, handle: &mut Handle)
     requires { IsSome handle.old.cache }
     ensures machine { machine_in handle.new.cache ≡ option_map cleared (machine_in handle.old.cache) }
+    ensures costs { IfSome handle.old.cache (λ o. IfSome handle.new.cache (λ n. Costs ⟦<usize as Hash>⟧ ⟦<DefaultHashBuilder as BuildHasher>⟧ ⟦<FoldHasher as Hasher>⟧ Clear o.cache n.cache)) }
     ensures holds { IsSome handle.new.cache }
 {
     let mut cache = taken(alloc, handle);

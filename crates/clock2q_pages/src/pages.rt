@@ -1,11 +1,13 @@
 //! The frames of a page cache.
+ghost use Rattle.clock2q_cache.specs.Costs.{Costs};
+ghost use Rattle.clock2q_machine.specs.Calls.{Get, GetAt, Put};
 ghost use Rattle.clock2q_machine.specs.Machine.{hit};
 ghost use Rattle.clock2q_machine.specs.Steps.{hit_at, put};
 ghost use Rattle.clock2q_pages.specs.Pages.{IsLoaded, last_in, resident_frame};
 ghost use Rattle.std.specs.Prelude.{eqb, ◌≡◌, ◌≢◌, ◌<◌, ◌↔◌, ℕ, Some, IsTrue};
 
 use clock2q_cache::Cache;
-use std::hash::BuildHasher;
+use std::hash::{BuildHasher, Hash};
 
 /// Returns the frame of a page, the slot of its number, and the page that got the frame last. A page
 /// that has none gets a free one, or that of a page that has to leave; one that has a frame keeps
@@ -27,6 +29,7 @@ pub fn frame_of<S: BuildHasher>(
     ensures keeps { (other frame : ℕ) → frame ≢ result.0 → IsLoaded pages.new.machine other frame → IsLoaded pages.old.machine other frame }
     ensures machine { pages.new.machine ≡ put (eqb page) page (Some page) pages.old.machine }
     ensures shares { pages.new.machine.shares ≡ pages.old.machine.shares }
+    ensures costs { Costs ⟦<usize as Hash>⟧ S.BuildHasher S.Hasher.Hasher (Put page (Some page)) pages.old pages.new }
 {
     let _ = pages.len(); // whose contract says that the cache is whole
     let (frame, held) = pages.get_or_insert_mut(page, || None);
@@ -47,6 +50,7 @@ pub fn is_in<S: BuildHasher>(
     ensures stay { (other : ℕ) → resident_frame pages.new.machine other ≡ resident_frame pages.old.machine other }
     ensures values { pages.new.machine.values ≡ pages.old.machine.values }
     ensures shares { pages.new.machine.shares ≡ pages.old.machine.shares }
+    ensures costs { Costs ⟦<usize as Hash>⟧ S.BuildHasher S.Hasher.Hasher (GetAt frame page) pages.old pages.new }
 {
     let _ = pages.len();
     pages.get_at(frame, &page).is_some()
@@ -60,6 +64,7 @@ pub fn find<S: BuildHasher>(
 ) -> Option<usize>
     ensures frame { result ≡ resident_frame pages.old.machine page }
     ensures machine { pages.new.machine ≡ hit (eqb page) pages.old.machine }
+    ensures costs { Costs ⟦<usize as Hash>⟧ S.BuildHasher S.Hasher.Hasher (Get page) pages.old pages.new }
 {
     pages.slot(&page)
 }

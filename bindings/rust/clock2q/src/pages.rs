@@ -26,8 +26,10 @@ impl Place {
 
 /// Gives keys slots, numbers below its capacity, and chooses which key loses its slot to a new one.
 ///
-/// It is neither `Send` nor `Sync`: the calls that only ask write to the handle too, and no Rust
-/// check sees into the library. A caller who hands it over by a lock of its own may wrap it.
+/// It is neither `Send` nor `Sync`. The calls that only ask write to the handle too, so no two
+/// threads may use it at once. Handing it over is allowed, since nothing in a cache is bound to a
+/// thread, but the compiler can't see that through calls of C: who does so wraps it in a type that
+/// says `Send`.
 ///
 /// ```
 /// use clock2q::PageCache;
