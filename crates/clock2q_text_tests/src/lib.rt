@@ -1,9 +1,12 @@
-//! Tests of texts of commands, over `serve` and over devices that fail. Each table has its expected values
+//! Tests of texts of commands, over `serve`, over devices that fail and over hashers that
+//! spread keys badly. Each table has its expected values
 //! from worked examples.
 #![tactic(auto)]
 
 #[cfg(test)]
 mod devices;
+#[cfg(test)]
+mod hashers;
 #[cfg(test)]
 mod text_edges;
 #[cfg(test)]

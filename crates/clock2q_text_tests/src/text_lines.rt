@@ -6,10 +6,10 @@ use std::test::Fail;
 
 // A first line, how many keys from which one on are put with themselves as values, and then commands
 // and what they are answered. `;` stands for a line end. Each key that is put is a new one.
-type Row = (&'static str, u64, u64, &'static str, &'static str);
+pub(crate) type Row = (&'static str, u64, u64, &'static str, &'static str);
 
 // Evictions, promotions, histories, and slots that are used again.
-const RUNS: [Row; 22] = [
+pub(crate) const RUNS: [Row; 22] = [
     (
         "new 1",
         0,
@@ -239,7 +239,7 @@ const HINTS: [Row; 3] = [
 ];
 
 // The text of a row, and what it is answered.
-fn row_texts(alloc: Global, row: Row) -> Result<(String, String), AllocError> {
+pub(crate) fn row_texts(alloc: Global, row: Row) -> Result<(String, String), AllocError> {
     let (first, from, count, commands, replies) = row;
     let mut text = lines(alloc, first)?;
     let mut want = lines(alloc, "ok")?;
