@@ -91,7 +91,7 @@ fn main() {
     let start = Instant::now();
     let removed = remove_all(&mut table, &hashes, &order);
     let taken = start.elapsed();
-    eprintln!("insertion {inserted:?}, look-up {found:?}, removal {taken:?}");
+    eprintln!("insertion {inserted:?}, lookup {found:?}, removal {taken:?}");
     println!(
         "table of {entries}: sum of handles {sum}, removed {removed}, left {}",
         table.len()

@@ -43,7 +43,7 @@ fn measure_table(rt: &HostRuntime, entries: usize) -> Result<(), BenchError> {
     let start = Instant::now(rt)?;
     let removed = tables::remove_all(&mut table, &hashes, &order);
     let taken = start.elapsed(rt)?;
-    let _ = eprintln!(rt; "insertion {inserted:?}, look-up {found:?}, removal {taken:?}");
+    let _ = eprintln!(rt; "insertion {inserted:?}, lookup {found:?}, removal {taken:?}");
     println!(rt;
         "table of {entries}: sum of handles {sum}, removed {removed}, left {}",
         table.len()

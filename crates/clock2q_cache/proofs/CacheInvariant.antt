@@ -5,7 +5,7 @@ use Rattle.std.specs.Cmp.{IsEquivalence}
 use Rattle.std.specs.List.{last_or, AllByRecursion}
 use Rattle.clock2q_handles.specs.Homes.{total, capacity, with_handle}
 use Rattle.clock2q_machine.specs.Ages.{Age}
-use Rattle.clock2q_queues.specs.declared.keys.cells.Entry.{Entry}
+use Rattle.clock2q_queues.specs.declared.keys.store.Entry.{Entry}
 use Rattle.clock2q_queues.specs.Rings.{has, AllApart}
 use Rattle.clock2q_queues.specs.Keys.{KeyPlaces, entry, written, key_at}
 use Rattle.clock2q_queues.specs.Small.{admitted}

@@ -6,7 +6,7 @@ use Rattle.std.specs.List.{FoldsTo, AllByRecursion, range_with_len}
 use Rattle.std.proofs.lemmas.Bool.{cases_Bool}
 use Rattle.std.proofs.lemmas.List.{append-nil, append_assoc, map-append, reverse-append, reverse-reverse}
 use Rattle.clock2q_queues.proofs.Booleans.{or_true}
-use Rattle.clock2q_queues.specs.declared.keys.cells.Entry.{Entry}
+use Rattle.clock2q_queues.specs.declared.keys.store.Entry.{Entry}
 use Rattle.clock2q_queues.specs.Rings.{has, AllBelow}
 use Rattle.clock2q_queues.specs.Indexes.{IsIndex, is_named, is_alike}
 use Rattle.clock2q_queues.specs.Keys.{KeyPlaces, entry, hash_at, key_at}

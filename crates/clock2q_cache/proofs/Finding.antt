@@ -1,4 +1,4 @@
--- What a look-up through the index finds is the machine's slot of the key, and what a hit there makes of the machine.
+-- What a lookup through the index finds is the machine's slot of the key, and what a hit there makes of the machine.
 use Rattle.std.proofs.Common.{◌≡◌, ℕ, zero, suc, ◌+◌, ◌<◌, ◌≤◌, ◌⊎◌, Bool, true, false, ◌&&◌, cond, eqb, Option, Some, None, slice_get, List, [], ◌∷◌, ◌++◌, map, length, inl, inr, refl, sym, ap, ◌∙◌, subst, arith, eqb-true}
 use Rattle.std.specs.Prelude.{IfSome}
 use Rattle.std.specs.Cmp.{IsEquivalence}
@@ -9,7 +9,7 @@ use Rattle.std.proofs.lemmas.List.Sums.{sum_by-cons}
 use Rattle.clock2q_handles.specs.Homes.{candidates}
 use Rattle.clock2q_queues.proofs.Booleans.{or_true}
 use Rattle.clock2q_machine.specs.Ages.{Age}
-use Rattle.clock2q_queues.specs.declared.keys.cells.Entry.{Entry}
+use Rattle.clock2q_queues.specs.declared.keys.store.Entry.{Entry}
 use Rattle.clock2q_queues.specs.Rings.{has}
 use Rattle.clock2q_queues.specs.Keys.{KeyPlaces, key_at, hashed_at, entries_of, is_key_at}
 use Rattle.clock2q_queues.specs.Indexes.{AllDistinct, HasHash}
@@ -23,7 +23,7 @@ use Rattle.clock2q_queues.specs.History.{Remembered}
 use Rattle.clock2q_queues.proofs.Rings.{has-append, has_first, has_later, below_of}
 use Rattle.clock2q_queues.proofs.Indexes.{candidate_there}
 use Rattle.clock2q_queues.proofs.Entries.{same_place}
-use Rattle.clock2q_queues.proofs.Lookups.{look-up, found_there, not_found}
+use Rattle.clock2q_queues.proofs.Lookups.{lookup, found_there, not_found}
 use Rattle.clock2q_machine.specs.Shares.{Shares}
 use Rattle.clock2q_machine.specs.Entries as machine
 use Rattle.clock2q_machine.specs.Entries.{SmallEntry, MainEntry}
@@ -213,10 +213,10 @@ module _ {K V : Type 0} {eq : K → K → Bool} {hash : K → ℕ} {shares : Sha
         q.small (map (λ (e : MainEntry K). (e.key, e.slot)) m.main) (slots_of q.main) (small_have laws kept)
         (main-found (key_at keys.entries) (eq key) (is_key_at eq key keys.entries) (key-tells keys.entries eq key) q.main (main_have laws kept))
 
-    -- what a look-up finds
+    -- what a lookup finds
     pub found : ((x y : K) → eq x y ≡ true → hash x ≡ hash y) → (hsh : ℕ) → hsh ≡ hash key → find (is_key_at eq key keys.entries) (candidates index hsh) ≡ slot_of (eq key) m
     found respects hsh is = ap (λ z. find (is_key_at eq key keys.entries) (candidates index z)) is
-        ∙ look-up eq (hash key) key index keys.entries (places_of q) kept.stored.indexed (hashes-same eq hash key keys.entries (places_of q) respects kept.stored.hashed) laws distinct ∙ sym slot-among
+        ∙ lookup eq (hash key) key index keys.entries (places_of q) kept.stored.indexed (hashes-same eq hash key keys.entries (places_of q) respects kept.stored.hashed) laws distinct ∙ sym slot-among
 
     -- a slot that is found is a resident's
     pub found-there : (slot : ℕ) → slot_of (eq key) m ≡ Some slot → (has slot (places_of q) ≡ true) × (is_key_at eq key keys.entries slot ≡ true)

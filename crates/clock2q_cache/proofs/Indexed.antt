@@ -6,7 +6,7 @@ use Rattle.std.proofs.lemmas.Bool.{cases_Bool}
 use Rattle.std.proofs.lemmas.List.{length-map}
 use Rattle.std.specs.Cmp.{IsEquivalence}
 use Rattle.clock2q_machine.specs.Ages.{Age}
-use Rattle.clock2q_queues.specs.declared.keys.cells.Entry.{Entry}
+use Rattle.clock2q_queues.specs.declared.keys.store.Entry.{Entry}
 use Rattle.clock2q_queues.specs.Rings.{has, AllBelow}
 use Rattle.clock2q_queues.specs.Keys.{KeyPlaces, key_at, hash_at, hashed_at, entries_of}
 use Rattle.clock2q_queues.specs.Indexes.{IsIndex, is_named, is_alike}

@@ -7,7 +7,7 @@ use Rattle.std.proofs.lemmas.Bool.{cases_Bool}
 use Rattle.std.proofs.lemmas.List.Sums.{sum_by-cons, sum_by-append}
 use Rattle.clock2q_handles.specs.Homes.{capacity, with_handle, removed}
 use Rattle.clock2q_machine.specs.Ages.{Age, is_promoted}
-use Rattle.clock2q_queues.specs.declared.keys.cells.Entry.{Entry}
+use Rattle.clock2q_queues.specs.declared.keys.store.Entry.{Entry}
 use Rattle.clock2q_queues.specs.Rings.{has, AllApart}
 use Rattle.clock2q_queues.specs.Keys.{KeyPlaces, entry, written, hash_at, key_at}
 use Rattle.clock2q_queues.specs.Indexes.{IsIndex}

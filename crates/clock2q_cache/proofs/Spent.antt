@@ -21,7 +21,7 @@ use Rattle.clock2q_machine.proofs.Clock.{clock_bounded}
 use Rattle.clock2q_machine.proofs.Residents.{hit-absent}
 
 module _ {K V : Type 0} (q : QueueState) (h : Remembered K) (keys : KeyPlaces K V) where
-  -- a look-up asks at most as many keys as there are places to look at
+  -- a lookup asks at most as many keys as there are places to look at
   pub asked-spends : (keys' : KeyPlaces K V) (test : ℕ → Bool) (places all : List ℕ) → places ≡ all
       → keys' ≡ record keys { questions = keys.questions + questions_of test places } → Spends 0 0 (length all) (counts_of q h keys) (counts_of q h keys')
   asked-spends keys' test places all same is = record {
@@ -79,7 +79,7 @@ module _ {K V S H : Type 0} (key : HashMembers K) (build : builder.Ghosts S H) (
       → Spends 0 (9 * length old.machine.values) 0 old.counts new.counts → Costs key build hash (Retain bits) old new
   retain-costs bits asked old new is spent = costs-unlooked (Retain bits) old new refl (omega (arith, ap set_bits is, clock_bounded key.eq (Retain asked) old.machine)) spent
 
-  -- a look-up under the key's hash asks no more than a call with the key may
+  -- a lookup under the key's hash asks no more than a call with the key may
   found-spends : (k : K) (x : ℕ) (old : CacheState K V S) (new : Counts) → x ≡ hash_of build hash old.hasher (key.hash_input k) → Spends 0 0 (length (candidates old.residents x)) old.counts new
       → Spends 0 0 (most_questions key build hash (Get k) old) old.counts new
   found-spends k x old new same spent = record {
@@ -88,7 +88,7 @@ module _ {K V S H : Type 0} (key : HashMembers K) (build : builder.Ghosts S H) (
     questions = (spent.questions.0, omega (arith, spent.questions.1, ap (λ y. length (candidates old.residents y)) same));
   }
 
-  -- a look-up that finds no resident
+  -- a lookup that finds no resident
   pub missed-becomes : (k : K) (x : ℕ) (old new : CacheState K V S) → x ≡ hash_of build hash old.hasher (key.hash_input k) → slot_of (key.eq k) old.machine ≡ None
       → new ≡ record old { counts = new.counts } → Spends 0 0 (length (candidates old.residents x)) old.counts new.counts
       → Becomes key build hash (Get k) (hit (key.eq k) old.machine) old new
@@ -100,7 +100,7 @@ module _ {K V S H : Type 0} (key : HashMembers K) (build : builder.Ghosts S H) (
       → Becomes key build hash (Get k) (hit (key.eq k) old.machine) old new → Becomes key build hash (Get k) old.machine old new
   unhit-becomes k old new absent missed = subst (λ m. Becomes key build hash (Get k) m old new) (hit-absent (key.eq k) old.machine absent) missed
 
-  -- a look-up that finds one, which is hit
+  -- a lookup that finds one, which is hit
   pub hit-becomes : (k : K) (x : ℕ) (old found new : CacheState K V S) → x ≡ hash_of build hash old.hasher (key.hash_input k)
       → found ≡ record old { counts = found.counts } → Spends 0 0 (length (candidates old.residents x)) old.counts found.counts
       → new ≡ record found { machine = new.machine } → new.machine ≡ hit (key.eq k) found.machine
@@ -110,7 +110,7 @@ module _ {K V S H : Type 0} (key : HashMembers K) (build : builder.Ghosts S H) (
       let c = ap (λ (z : CacheState K V S). z.counts) after_hit in
       (m, ap (λ (z : CacheState K V S). z.hasher) after_hit ∙ ap (λ (z : CacheState K V S). z.hasher) kept, costs-of (Get k) old new m (rw c (found-spends k x old found.counts same spent)))
 
-  -- a look-up that finds a resident, which leaves
+  -- a lookup that finds a resident, which leaves
   pub remove-costs : (k : K) (x slot : ℕ) (old found new : CacheState K V S) → x ≡ hash_of build hash old.hasher (key.hash_input k) → Some slot ≡ slot_of (key.eq k) old.machine
       → found ≡ record old { counts = found.counts } → Spends 0 0 (length (candidates old.residents x)) old.counts found.counts
       → new.machine ≡ vacated slot found.machine → Spends 0 8 0 found.counts new.counts

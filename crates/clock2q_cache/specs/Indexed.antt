@@ -12,7 +12,7 @@ use Rattle.clock2q_machine.specs.Shares.{history_share}
 use Rattle.clock2q_cache.specs.CacheState.{CacheState}
 use Rattle.clock2q_cache.specs.Hashes.{hash_of}
 
--- a look-up of a hash finds the places of the keys whose hash is like it, each once, and there are as many entries as keys
+-- a lookup of a hash finds the places of the keys whose hash is like it, each once, and there are as many entries as keys
 pub record HasPlaces {K : Type 0} (hash : K → ℕ) (index : List (List (ℕ × ℕ))) (keys : List (K × ℕ)) : Type 0 where
   pub found : (x place : ℕ) → has place (candidates index x) ≡ list_any (λ e. (place == e.1) && is_alike index x (hash e.0)) keys
   pub once : (x : ℕ) → AllApart (candidates index x)

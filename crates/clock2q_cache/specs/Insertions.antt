@@ -3,7 +3,7 @@ use Rattle.std.specs.Prelude.{◌≡◌, ℕ, Bool, not, ◌&&◌, ◌==◌, if�
 use Rattle.std.specs.List.{last_or}
 use Rattle.clock2q_machine.specs.Shares.{main_share}
 use Rattle.clock2q_machine.specs.Entries.{inspections}
-use Rattle.clock2q_queues.specs.declared.keys.cells.Entry.{Entry}
+use Rattle.clock2q_queues.specs.declared.keys.store.Entry.{Entry}
 use Rattle.clock2q_queues.specs.Keys.{entry, written}
 use Rattle.clock2q_machine.specs.Machine.{Machine, Placement, vacancy, into_main, into_small, stored}
 use Rattle.clock2q_machine.specs.Bounds.{goes_on}

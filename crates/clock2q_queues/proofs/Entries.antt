@@ -4,7 +4,7 @@ use Rattle.std.specs.List.{cons_option, AllByRecursion}
 use Rattle.std.specs.Cmp.{IsEquivalence}
 use Rattle.std.proofs.lemmas.Option.{slice_get_within}
 use Rattle.std.proofs.lemmas.Bool.{both_ways, or_cases, eq-eqb, eqb-true}
-use Rattle.clock2q_queues.specs.declared.keys.cells.Entry.{Entry}
+use Rattle.clock2q_queues.specs.declared.keys.store.Entry.{Entry}
 use Rattle.clock2q_queues.specs.Rings.{has, AllBelow}
 use Rattle.clock2q_queues.specs.Keys.{entry, written, with_key, with_value, hash_at, hashed_at, entries_of, is_key_at}
 use Rattle.clock2q_queues.specs.Indexes.{has_key, AllDistinct}

@@ -4,7 +4,7 @@ use Rattle.std.specs.List.{cons_option, find}
 use Rattle.std.specs.Cmp.{IsEquivalence}
 use Rattle.std.proofs.lemmas.Bool.{both_ways, cases_Bool, eqb-true}
 use Rattle.clock2q_handles.specs.Homes.{candidates, removed}
-use Rattle.clock2q_queues.specs.declared.keys.cells.Entry.{Entry}
+use Rattle.clock2q_queues.specs.declared.keys.store.Entry.{Entry}
 use Rattle.clock2q_queues.specs.Rings.{has, without, AllBelow}
 use Rattle.clock2q_queues.specs.Order.{PlaceOrder, IsWholeOrder, used}
 use Rattle.clock2q_queues.specs.Keys.{KeyPlaces, hashed_at, entries_of, is_key_at}
@@ -17,7 +17,7 @@ use Rattle.clock2q_queues.proofs.Entries.{key_there, any_entry, same_place, hash
 use Rattle.clock2q_queues.proofs.Histories.{shown-as}
 use Rattle.clock2q_queues.proofs.Indexes.{length-taken, IsIndex-removed}
 use Rattle.clock2q_queues.proofs.Booleans.{or_parts, or_neither}
-use Rattle.clock2q_queues.proofs.Lookups.{found_there, not_found, look-up, hash_there}
+use Rattle.clock2q_queues.proofs.Lookups.{found_there, not_found, lookup, hash_there}
 
 module _ {K : Type 0} (eq : K → K → Bool) where
   -- whether an entry, if there is one, has this key
@@ -107,7 +107,7 @@ module _ {K V : Type 0} (eq : K → K → Bool) where
   module _ (laws : IsEquivalence eq) (hash : ℕ) (key : K) (index : List (List (ℕ × ℕ))) (order : PlaceOrder) (keys : KeyPlaces K V) (h : IsHistory eq index order keys)
       (hashed : HasHash eq hash key (entries_of keys.entries order.places)) where
     looked : find (is_key_at eq key keys.entries) (candidates index hash) ≡ find (is_key_at eq key keys.entries) order.places
-    looked = look-up eq hash key index keys.entries order.places h.indexed hashed laws h.distinct
+    looked = lookup eq hash key index keys.entries order.places h.indexed hashed laws h.distinct
 
     placed : place_of (eq key) (map (λ (e : ℕ × K). e.1) (entries_of keys.entries order.places)) order.places ≡ find (is_key_at eq key keys.entries) (candidates index hash)
     placed = place_beside key keys.entries (used order) order.places (omega (arith, h.as_many)) (AllBelow-left (used order) order.places order.free h.whole.below) ∙ sym looked

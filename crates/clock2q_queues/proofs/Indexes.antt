@@ -9,7 +9,7 @@ use Rattle.clock2q_handles.specs.Homes.{top, home, no_entries, capacity, listed,
 use Rattle.clock2q_queues.specs.Keys.{hash_at}
 use Rattle.clock2q_handles.specs.TableStep.{fit, doubled_until, made_for}
 use Rattle.clock2q_queues.specs.Indexes.{IsIndex, is_alike, is_named, index_room}
-use Rattle.clock2q_queues.specs.declared.keys.cells.Entry.{Entry}
+use Rattle.clock2q_queues.specs.declared.keys.store.Entry.{Entry}
 use Rattle.clock2q_queues.proofs.Booleans.{and_parts, and_true, and_false, and_swap, or_true, or_false, or_neither}
 use Rattle.clock2q_queues.proofs.Entries.{hash_in}
 use Rattle.clock2q_queues.proofs.Rings.{eqb_self, has_first, has_later, has-append, differs, AllApart-append, without_absent, has-without_test}
@@ -241,7 +241,7 @@ module _ {K V : Type 0} where
     counted = i.counted;
   }
 
-  -- what a look-up yields is a place of the list that has a key
+  -- what a lookup yields is a place of the list that has a key
   pub candidate_there : (index : List (List (ℕ × ℕ))) (keys : List (Entry K V)) (places : List ℕ) (x t : ℕ)
       → IsIndex index keys places → has t (candidates index x) ≡ true → (has t places ≡ true) × (t < length keys)
   candidate_there index keys places x t i h =

@@ -1,10 +1,10 @@
--- What a look-up of a key through an index finds, and how often it asks.
+-- What a lookup of a key through an index finds, and how often it asks.
 use Rattle.std.proofs.Common.{◌≡◌, ℕ, suc, ◌+◌, ◌<◌, ◌≤◌, Bool, true, false, eqb, Option, Some, None, List, [], ◌∷◌, length, inl, inr, refl, sym, ap, ◌∙◌, subst, arith}
 use Rattle.std.specs.List.{find, AllByRecursion}
 use Rattle.std.specs.Cmp.{IsEquivalence}
 use Rattle.std.proofs.lemmas.Bool.{both_ways, cases_Bool, or_cases, eqb-true}
 use Rattle.clock2q_handles.specs.Homes.{candidates}
-use Rattle.clock2q_queues.specs.declared.keys.cells.Entry.{Entry}
+use Rattle.clock2q_queues.specs.declared.keys.store.Entry.{Entry}
 use Rattle.clock2q_queues.specs.Rings.{has}
 use Rattle.clock2q_queues.specs.Keys.{hash_at, entries_of, is_key_at, questions_of}
 use Rattle.clock2q_queues.specs.Indexes.{IsIndex, AllDistinct, HasHash, is_named}
@@ -71,8 +71,8 @@ module _ {K V : Type 0} (eq : K → K → Bool) (hash : ℕ) (key : K) (index : 
       i.listed hash t ∙ rw (g, named) refl
 
   -- the first candidate that has the key is the place of the list that has it, or there is none
-  pub look-up : IsEquivalence eq → AllDistinct eq (entries_of keys places) → find (is_key_at eq key keys) (candidates index hash) ≡ find (is_key_at eq key keys) places
-  look-up laws distinct = find-same (is_key_at eq key keys) (candidates index hash) places
+  pub lookup : IsEquivalence eq → AllDistinct eq (entries_of keys places) → find (is_key_at eq key keys) (candidates index hash) ≡ find (is_key_at eq key keys) places
+  lookup laws distinct = find-same (is_key_at eq key keys) (candidates index hash) places
       (λ t h. (candidate_there index keys places hash t i h).0) candidate
       (λ t u g h k l. same_place eq laws key keys places distinct t u g h k l)
 

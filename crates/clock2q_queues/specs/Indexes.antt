@@ -3,7 +3,7 @@ use Rattle.std.specs.Prelude.{◌≡◌, ℕ, ◌+◌, ◌*◌, ◌/◌, nat_le,
 use Rattle.std.specs.List.{list_any, AllByRecursion}
 use Rattle.clock2q_queues.specs.Rings.{has, AllApart}
 use Rattle.clock2q_handles.specs.Homes.{top, home, candidates, total}
-use Rattle.clock2q_queues.specs.declared.keys.cells.Entry.{Entry}
+use Rattle.clock2q_queues.specs.declared.keys.store.Entry.{Entry}
 use Rattle.clock2q_queues.specs.Keys.{hash_at}
 
 -- how many entries an index is made for where at most so many stand in it: twice as many in a small index, half as many again in a large one

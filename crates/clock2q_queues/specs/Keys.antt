@@ -2,7 +2,7 @@
 use Rattle.std.specs.Prelude.{ℕ, zero, suc, Bool, false, cond, List, [], ◌∷◌, slice_get, slice_set, Option, Some, None}
 use Rattle.std.specs.List.{filter_map}
 use Rattle.std.specs.Coded.{Coded, code_by, coded×, coded_ℕ, coded_list}
-use Rattle.clock2q_queues.specs.declared.keys.cells.Entry.{Entry}
+use Rattle.clock2q_queues.specs.declared.keys.store.Entry.{Entry}
 use mathlib.Core.Path.{refl}
 
 abbrev pub entry : {K V : Type 0} → ℕ → K → V → Entry K V
@@ -12,17 +12,17 @@ abbrev pub entry_code : {K V : Type 0} → Coded K → Coded V → Coded (Entry 
 entry_code {K} {V} k v = code_by (ℕ × (K × V)) (coded× coded_ℕ (coded× k v)) (λ e. (e.hash, (e.key, e.value))) (λ p. entry p.0 p.1.0 p.1.1) (λ _. refl)
 
 -- the entries by place, how many there is room for, and how often a key was written
-pub record CellState (K V : Type 0) : Type 0 where
+pub record StoreState (K V : Type 0) : Type 0 where
   pub entries : List (Entry K V)
   pub room : ℕ
   pub writes : ℕ
 
-abbrev pub cell_state : {K V : Type 0} → List (Entry K V) → ℕ → ℕ → CellState K V
-cell_state entries room writes = record { entries = entries; room = room; writes = writes }
+abbrev pub store_state : {K V : Type 0} → List (Entry K V) → ℕ → ℕ → StoreState K V
+store_state entries room writes = record { entries = entries; room = room; writes = writes }
 
-abbrev pub cells_code : {K V : Type 0} → Coded K → Coded V → Coded (CellState K V)
-cells_code {K} {V} k v =
-    code_by (List (Entry K V) × (ℕ × ℕ)) (coded× (coded_list (entry_code k v)) (coded× coded_ℕ coded_ℕ)) (λ c. (c.entries, (c.room, c.writes))) (λ p. cell_state p.0 p.1.0 p.1.1) (λ _. refl)
+abbrev pub store_code : {K V : Type 0} → Coded K → Coded V → Coded (StoreState K V)
+store_code {K} {V} k v =
+    code_by (List (Entry K V) × (ℕ × ℕ)) (coded× (coded_list (entry_code k v)) (coded× coded_ℕ coded_ℕ)) (λ c. (c.entries, (c.room, c.writes))) (λ p. store_state p.0 p.1.0 p.1.1) (λ _. refl)
 
 -- the same, and how often a key was asked about
 pub record KeyPlaces (K V : Type 0) : Type 0 where

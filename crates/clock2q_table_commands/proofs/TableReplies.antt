@@ -39,7 +39,7 @@ module _ {H : Type 0} (A : Type 0) (eq : H → H → Bool) (key : H → ℕ) whe
       let p = subst (λ h. PutIn (grown key old) h v (Err RunTooLong) new) is (put (λ e. absurd (cc))) in
       (p.1, p.2)
 
-  -- a look-up with insertion under the hash of a handle
+  -- a lookup with insertion under the hash of a handle
   Finds-settled : (old new : List (List (ℕ × H))) (v : H) (accepted : List H) (found : Option H) (result : Result (H × Bool) TableError) → found ≡ first_accepted eq accepted (candidates (grown key old) (key v)) → Settles (grown key old) (key v) v found result new → Finds {A = A} eq key v accepted old (told_found result) new
   Finds-settled old new v accepted (Some c) result is s = subst (λ r. Finds {A = A} eq key v accepted old (told_found r) new) (sym s.0) (sym is, s.1)
   Finds-settled old new v accepted None (Ok r) is s = subst (λ r. Finds {A = A} eq key v accepted old (told_found (Ok r)) new) (sym s.0) (sym is, refl, (s.1, λ long. s.2 (subst IsTooLong s.1 long)))
@@ -72,7 +72,7 @@ module _ {H : Type 0} (A : Type 0) (eq : H → H → Bool) (key : H → ℕ) whe
   Reserves-reserved g f old new n (Err Memory) ok err past size memory only gives = (ap (λ t. t.homes) err, memory refl)
   Reserves-reserved g f old new n (Err RunTooLong) ok err past size memory only gives = absurd (only refl)
 
--- the handles that a look-up yields up to its end are those that it has left
+-- the handles that a lookup yields up to its end are those that it has left
 pub left-drained : {H : Type 0} (handles : List H) (lookup : CandidatesValue H) → DrainsIf YieldsCandidate (Unit {0}) lookup handles → handles ≡ lookup.left
 left-drained [] lookup d = sym (ap (λ (l : CandidatesValue _). l.left) d.1 ∙ (d.2 tt).1.0.0)
 left-drained (h ∷ hs) lookup d = ap (λ hs. h ∷ hs) (left-drained hs d.1.0 (d.0, d.1.2, d.2)) ∙ sym d.1.1.0

@@ -22,7 +22,7 @@ abbrev pub told : {H L : Type 0} → Result (Unit {0}) TableError → TableReply
 told (Ok done) = Done
 told (Err refusal) = Refused refusal
 
--- what a look-up with insertion answers, as a reply
+-- what a lookup with insertion answers, as a reply
 abbrev pub told_found : {H L : Type 0} → Result (H × Bool) TableError → TableReply H L
 told_found (Ok found) = Found found.0 found.1
 told_found (Err refusal) = Refused refusal

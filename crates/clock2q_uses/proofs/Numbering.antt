@@ -89,7 +89,7 @@ module _ (keys : List ℕ) (homes : List (List (ℕ × ℕ))) (key : ℕ) (some 
     apart,
   )
 
--- what a look-up that inserts a key where it finds none leaves
+-- what a lookup that inserts a key where it finds none leaves
 module _ (keys : List ℕ) (homes : List (List (ℕ × ℕ))) (key : ℕ) (is : IsInterned keys homes) where
   abbrev grew : List (List (ℕ × ℕ))
   grew = grown (hash_at keys) homes

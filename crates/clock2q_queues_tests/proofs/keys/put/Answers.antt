@@ -5,7 +5,7 @@ use Rattle.std.proofs.lemmas.List.{length-append}
 use Rattle.clock2q_handles.specs.Homes.{with_handle}
 use Rattle.clock2q_handles.specs.Changes.{PutIn}
 use Rattle.clock2q_handles.specs.declared.error.TableError.{TableError}
-use Rattle.clock2q_queues.specs.declared.keys.cells.Entry.{Entry}
+use Rattle.clock2q_queues.specs.declared.keys.store.Entry.{Entry}
 use Rattle.clock2q_queues.specs.Rings.{has, AllBelow}
 use Rattle.clock2q_queues.specs.Keys.{KeyPlaces, entry, written}
 use Rattle.clock2q_queues.specs.Indexes.{IsIndex}

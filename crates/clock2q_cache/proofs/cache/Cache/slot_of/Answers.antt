@@ -1,4 +1,4 @@
--- What the look-up through the index finds is the slot of the resident.
+-- What the lookup through the index finds is the slot of the resident.
 use Rattle.std.proofs.Common.{◌<◌, length, ap, sym, ◌∙◌, subst}
 use Rattle.std.specs.List.{find, AllByRecursion}
 use Rattle.clock2q_queues.specs.Keys.{is_key_at}

@@ -5,10 +5,10 @@ ghost use Rattle.std.specs.Borrow.{sem};
 ghost use Rattle.clock2q_queues.specs.Indexes.{index_room};
 ghost use Rattle.clock2q_queues.specs.Keys.{is_key_at, questions_of};
 
-mod cells;
+mod store;
 
-use cells::Cells;
-pub use cells::Entry;
+use store::Store;
+pub use store::Entry;
 use clock2q_count::Count;
 use clock2q_handles::{Candidates, Table};
 use std::alloc::{AllocError, Allocator, Global};
@@ -49,7 +49,7 @@ pub fn index_room(limit: usize) -> usize
 /// ```
 #[derive(Drop)]
 pub struct Keys<K, V, A: Allocator = Global> {
-    cells: Cells<K, V, A>,
+    store: Store<K, V, A>,
     questions: Count,
 }
 
@@ -60,7 +60,7 @@ impl<K, V, A: Allocator> Model for Keys<K, V, A> {
 
     ghost coded = { keys_code K.code V.code };
 
-    ghost view = { λ k. key_places k.cells.entries k.cells.room k.cells.writes k.questions.total };
+    ghost view = { λ k. key_places k.store.entries k.store.room k.store.writes k.questions.total };
 }
 
 impl<K, V, A: Allocator> Keys<K, V, A> {
@@ -77,7 +77,7 @@ impl<K, V, A: Allocator> Keys<K, V, A> {
         ensures made { IfOk result (λ k. k ≡ key_places [] room 0 0) }
     {
         Ok(Keys {
-            cells: Cells::new(alloc, room)?,
+            store: Store::new(alloc, room)?,
             questions: Count::new(),
         })
     }
@@ -86,7 +86,7 @@ impl<K, V, A: Allocator> Keys<K, V, A> {
     pub fn len(&self) -> usize
         ensures len { result ≡ length self.now.entries }
     {
-        self.cells.len()
+        self.store.len()
     }
 
     /// Returns the hash of the key at a place.
@@ -94,7 +94,7 @@ impl<K, V, A: Allocator> Keys<K, V, A> {
         requires used { place < length self.now.entries }
         ensures hash { hash_at self.now.entries place ≡ Some result }
     {
-        self.cells.hash(place)
+        self.store.hash(place)
     }
 
     /// Returns the key at a place. What the caller then does with it is not counted.
@@ -102,7 +102,7 @@ impl<K, V, A: Allocator> Keys<K, V, A> {
         requires used { place < length self.now.entries }
         ensures key { key_at self.now.entries place ≡ Some result.now }
     {
-        self.cells.key(place)
+        self.store.key(place)
     }
 
     /// Returns the value at a place.
@@ -110,7 +110,7 @@ impl<K, V, A: Allocator> Keys<K, V, A> {
         requires used { place < length self.now.entries }
         ensures value { value_at self.now.entries place ≡ Some result.now }
     {
-        self.cells.value(place)
+        self.store.value(place)
     }
 
     /// Returns the value at a place, to read or to change.
@@ -119,7 +119,7 @@ impl<K, V, A: Allocator> Keys<K, V, A> {
         ensures* writes_back { sem 𝓛 (LendsValueAt K.row V.row A.row A.Allocator self.entry place result) }
         ensures value { value_at self.old.entries place ≡ Some result.now }
     {
-        self.cells.value_mut(place)
+        self.store.value_mut(place)
     }
 
     /// Replaces the value at a place, and returns the old one.
@@ -128,7 +128,7 @@ impl<K, V, A: Allocator> Keys<K, V, A> {
         ensures old { value_at self.old.entries place ≡ Some result }
         ensures replaced { self.new ≡ record self.old { entries = with_value place value self.old.entries } }
     {
-        self.cells.replace_value(place, value)
+        self.store.replace_value(place, value)
     }
 
     /// Writes a key to the next place.
@@ -136,7 +136,7 @@ impl<K, V, A: Allocator> Keys<K, V, A> {
         requires room { length self.old.entries < self.old.room }
         ensures pushed { self.new ≡ record self.old { entries = self.old.entries ++ entry hash key value ∷ []; writes = self.old.writes + 1 } }
     {
-        self.cells.push(hash, key, value);
+        self.store.push(hash, key, value);
     }
 
     /// Replaces the key and the hash at a place, and returns the old ones. The value stays.
@@ -146,7 +146,7 @@ impl<K, V, A: Allocator> Keys<K, V, A> {
         ensures key { key_at self.old.entries place ≡ Some result.1 }
         ensures replaced { self.new ≡ record self.old { entries = with_key place hash key self.old.entries; writes = self.old.writes + 1 } }
     {
-        self.cells.replace(place, hash, key)
+        self.store.replace(place, hash, key)
     }
 
     /// Writes a key and a value to a place: to the next one, or over the key and value of one that
@@ -174,7 +174,7 @@ impl<K, V, A: Allocator> Keys<K, V, A> {
         V: Drop,
         ensures cleared { self.new ≡ record self.old { entries = [] } }
     {
-        self.cells.clear();
+        self.store.clear();
     }
 }
 
@@ -196,7 +196,7 @@ impl<K: Eq, V, A: Allocator> Keys<K, V, A> {
         ensures value { result ≡ is_key_at K.eq key.now self.old.entries place }
         ensures counted { self.new ≡ record self.old { questions = self.old.questions + 1 } }
     {
-        self.cells.is(place, key, &mut self.questions)
+        self.store.is(place, key, &mut self.questions)
     }
 
     /// Returns the first of `places` whose key equals `key`, and counts each question.
@@ -205,7 +205,7 @@ impl<K: Eq, V, A: Allocator> Keys<K, V, A> {
         ensures found { result ≡ find (is_key_at K.eq key.now self.old.entries) places.entry.left }
         ensures counted { self.new ≡ record self.old { questions = self.old.questions + questions_of (is_key_at K.eq key.now self.old.entries) places.entry.left } }
     {
-        first_with(&self.cells, places, key, &mut self.questions)
+        first_with(&self.store, places, key, &mut self.questions)
     }
 
     /// Returns the first of `places` whose key equals `key`. The questions are counted in `asked`
@@ -220,23 +220,23 @@ impl<K: Eq, V, A: Allocator> Keys<K, V, A> {
         ensures found { result ≡ find (is_key_at K.eq key.now self.now.entries) places.entry.left }
         ensures counted { asked.new.total ≡ asked.old.total + questions_of (is_key_at K.eq key.now self.now.entries) places.entry.left }
     {
-        first_with(&self.cells, places, key, asked)
+        first_with(&self.store, places, key, asked)
     }
 }
 
 // Returns the first of `places` whose key equals `key`.
 fn first_with<K: Eq, V, A: Allocator>(
-    cells: &Cells<K, V, A>,
+    store: &Store<K, V, A>,
     mut places: Candidates<'_, u32>,
     key: &K,
     asked: &mut Count,
 ) -> Option<u32>
-    requires used { AllByRecursion (λ place. place < length cells.now.entries) places.left }
-    ensures found { result ≡ find (is_key_at K.eq key.now cells.now.entries) places.entry.left }
-    ensures counted { asked.new.total ≡ asked.old.total + questions_of (is_key_at K.eq key.now cells.now.entries) places.entry.left }
+    requires used { AllByRecursion (λ place. place < length store.now.entries) places.left }
+    ensures found { result ≡ find (is_key_at K.eq key.now store.now.entries) places.entry.left }
+    ensures counted { asked.new.total ≡ asked.old.total + questions_of (is_key_at K.eq key.now store.now.entries) places.entry.left }
 {
     while let Some(place) = places.next() {
-        if cells.is(place, key, asked) {
+        if store.is(place, key, asked) {
             return Some(place);
         }
     }

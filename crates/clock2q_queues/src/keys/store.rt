@@ -17,31 +17,31 @@ pub struct Entry<K, V> {
 
 /// Entries by place.
 #[derive(Drop)]
-pub struct Cells<K, V, A: Allocator> {
+pub struct Store<K, V, A: Allocator> {
     entries: Vec<Entry<K, V>, A>,
     writes: Count,
 }
 
-impl<K, V, A: Allocator> Model for Cells<K, V, A> {
+impl<K, V, A: Allocator> Model for Store<K, V, A> {
     ghost use Rattle.std.specs.Prelude.{vec_capacity};
-    ghost use Rattle.clock2q_queues.specs.Keys.{CellState, cells_code, cell_state};
+    ghost use Rattle.clock2q_queues.specs.Keys.{StoreState, store_code, store_state};
 
-    ghost Value = { CellState K V };
+    ghost Value = { StoreState K V };
 
-    ghost coded = { cells_code K.code V.code };
+    ghost coded = { store_code K.code V.code };
 
-    ghost view = { λ c. cell_state c.entries.items (vec_capacity c.entries) c.writes.total };
+    ghost view = { λ c. store_state c.entries.items (vec_capacity c.entries) c.writes.total };
 }
 
-impl<K, V, A: Allocator> Cells<K, V, A> {
-    ghost use Rattle.clock2q_queues.specs.Keys.{cell_state, hash_at, key_at, value_at, entry, with_key, with_value};
+impl<K, V, A: Allocator> Store<K, V, A> {
+    ghost use Rattle.clock2q_queues.specs.Keys.{store_state, hash_at, key_at, value_at, entry, with_key, with_value};
     ghost use Rattle.clock2q_queues.specs.KeysLends.{LendsValue};
 
     /// Returns room for `room` entries, and no entry yet.
     pub fn new(alloc: A, room: usize) -> Result<Self, AllocError>
-        ensures made { IfOk result (λ c. c ≡ cell_state [] room 0) }
+        ensures made { IfOk result (λ c. c ≡ store_state [] room 0) }
     {
-        Ok(Cells {
+        Ok(Store {
             entries: Vec::with_capacity(alloc, room)?,
             writes: Count::new(),
         })
@@ -99,7 +99,7 @@ impl<K, V, A: Allocator> Cells<K, V, A> {
     /// Adds an entry at the next place.
     pub fn push(&mut self, hash: u64, key: K, value: V)
         requires room { length self.old.entries < self.old.room }
-        ensures pushed { self.new ≡ cell_state (self.old.entries ++ entry hash key value ∷ []) self.old.room (self.old.writes + 1) }
+        ensures pushed { self.new ≡ store_state (self.old.entries ++ entry hash key value ∷ []) self.old.room (self.old.writes + 1) }
     {
         self.writes.tick();
         self.entries.push_reserved(Entry { hash, key, value });
@@ -110,7 +110,7 @@ impl<K, V, A: Allocator> Cells<K, V, A> {
         requires used { place < length self.old.entries }
         ensures hash { hash_at self.old.entries place ≡ Some result.0 }
         ensures key { key_at self.old.entries place ≡ Some result.1 }
-        ensures replaced { self.new ≡ cell_state (with_key place hash key self.old.entries) self.old.room (self.old.writes + 1) }
+        ensures replaced { self.new ≡ store_state (with_key place hash key self.old.entries) self.old.room (self.old.writes + 1) }
     {
         self.writes.tick();
         let entry = &mut self.entries[place as usize];
@@ -124,13 +124,13 @@ impl<K, V, A: Allocator> Cells<K, V, A> {
     where
         K: Drop,
         V: Drop,
-        ensures cleared { self.new ≡ cell_state [] self.old.room self.old.writes }
+        ensures cleared { self.new ≡ store_state [] self.old.room self.old.writes }
     {
         self.entries.clear();
     }
 }
 
-impl<K: Eq, V, A: Allocator> Cells<K, V, A> {
+impl<K: Eq, V, A: Allocator> Store<K, V, A> {
     ghost use Rattle.clock2q_queues.specs.Keys.{is_key_at};
 
     /// Returns whether `key` equals the key at a place, and counts the question.
