@@ -4,7 +4,7 @@ use Rattle.std.specs.Coded.{Coded, code_by, coded×, coded_ℕ, coded_list}
 use Rattle.clock2q_queues.specs.History.{Places, places_code}
 use Rattle.clock2q_machine.specs.Machine.{Machine, machine_code}
 
--- how often the hand looked, a link was accessed, and a key was asked about
+-- how often the hand inspected, a link was accessed, and a key was asked about
 pub record Counts : Type 0 where
   pub inspections : ℕ
   pub accesses : ℕ

@@ -1,4 +1,4 @@
--- What a call costs a cache: looks of the hand, accesses of links, questions to keys.
+-- What a call costs a cache: inspections of the hand, accesses of links, questions to keys.
 use Rattle.std.specs.Prelude.{◌≡◌, ℕ, ◌+◌, ◌*◌, ◌≤◌, Bool, if◌then◌else◌, Some, is_some, length}
 use Rattle.std.specs.declared.hash.Hasher as hasher
 use Rattle.std.specs.declared.hash.BuildHasher as builder
@@ -11,13 +11,13 @@ use Rattle.clock2q_machine.specs.Bounds.{set_bits, inspections_for, inspections_
 use Rattle.clock2q_cache.specs.CacheState.{CacheState, Counts}
 use Rattle.clock2q_cache.specs.Hashes.{hash_of}
 
--- the hand looked so many times, and at most so many links were accessed and keys asked about
+-- the hand made so many inspections, and at most so many links were accessed and keys asked about
 pub record Spends (inspected links keys : ℕ) (old new : Counts) : Type 0 where
   pub inspections : new.inspections ≡ old.inspections + inspected
   pub accesses : Rises 0 links old.accesses new.accesses
   pub questions : Rises 0 keys old.questions new.questions
 
--- how often links may be accessed where a key is wanted: never if it is resident, else 36 times beside the hand's looks
+-- how often links may be accessed where a key is wanted: never if it is resident, else 36 times beside the hand's inspections
 abbrev pub accesses_for : {K V : Type 0} → (K → Bool) → Machine K V → ℕ
 accesses_for is m = if is_some (slot_of is m) then 0 else inspections_for is m + 36
 
@@ -50,7 +50,7 @@ module _ {K V S H : Type 0} (key : HashMembers K) (build : builder.Ghosts S H) (
   most_questions (Remove k) c = alike k c
   most_questions other c = 0
 
-  -- it spent no more than it may, and each look was paid for: by Main's victim, or by a bit of Main that was set before or by the call
+  -- it spent no more than it may, and each inspection was paid for: by Main's victim, or by a bit of Main that was set before or by the call
   pub record Costs (call : Call K V) (old new : CacheState K V S) : Type 0 where
     pub counts : Spends (inspections_of key.eq call old.machine) (most_accesses key.eq call old.machine) (most_questions call old) old.counts new.counts
     pub clock : new.counts.inspections + set_bits new.machine ≤ old.counts.inspections + main_victims key.eq call old.machine + settings key.eq call old.machine + set_bits old.machine

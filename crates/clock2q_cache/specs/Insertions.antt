@@ -1,4 +1,4 @@
--- Where a key that is not known is inserted: how often the hand looks, and the value that its slot has then. No public clause cites this file.
+-- Where a key that is not known is inserted: how often the hand inspects, and the value that its slot has then. No public clause cites this file.
 use Rattle.std.specs.Prelude.{◌≡◌, ℕ, Bool, not, ◌&&◌, ◌==◌, if◌then◌else◌, nat_lt, List, map, length, slice_get, Option, Some, None, is_some}
 use Rattle.std.specs.List.{last_or}
 use Rattle.clock2q_machine.specs.Shares.{main_share}
@@ -39,7 +39,7 @@ module _ {K V : Type 0} where
   abbrev pub placed : Bool → K → Machine K V → Placement K V
   placed main key m = if main then into_main key m else into_small key m
 
-  -- how often the hand looks then
+  -- how often the hand inspects then
   abbrev pub placed_inspections : Bool → Machine K V → ℕ
   placed_inspections main m = if main then main_inspections m else small_inspections m
 

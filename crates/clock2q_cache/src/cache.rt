@@ -122,7 +122,7 @@ impl<K: Hash + Eq, V, S: BuildHasher, A: Allocator> Cache<K, V, S, A> {
     ///
     /// # Cost
     ///
-    /// One hash of the key, and at most one comparison with each candidate among the residents.
+    /// One hash of the key, and at most one question to each candidate among the residents.
     pub fn contains(&self, key: &K) -> bool
         ensures resident { IsTrue result ↔ IsSome (slot_of (K.eq key.now) self.now.machine) }
     {
@@ -183,7 +183,7 @@ impl<K: Hash + Eq, V, S: BuildHasher, A: Allocator> Cache<K, V, S, A> {
     ///
     /// # Cost
     ///
-    /// No hash, at most one comparison, with the key at that slot, and at most one access to a
+    /// No hash, at most one question, with the key at that slot, and at most one access to a
     /// link.
     pub fn get_at(&mut self, slot: usize, key: &K) -> Option<&V>
         ensures* machine { sem 𝓛 (LeavesMachine K.row V.row S.row A.row S.Hasher.row K.Hash S.BuildHasher S.Hasher.Hasher A.Allocator self.entry (GetAt slot key.now) (hit_at slot (K.eq key.now) self.old.machine)) }
@@ -330,7 +330,7 @@ impl<K: Hash + Eq + Drop, V: Drop, S: BuildHasher, A: Allocator> Cache<K, V, S, 
     ///
     /// # Cost
     ///
-    /// One hash of the key, and at most one comparison with each candidate among the residents and
+    /// One hash of the key, and at most one question to each candidate among the residents and
     /// in the history. No link is accessed if the key is resident; else there are at most 36
     /// accesses to links more than inspections by the hand.
     pub fn put(&mut self, key: K, value: V) -> Option<V>

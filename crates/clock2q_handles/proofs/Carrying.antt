@@ -5,7 +5,7 @@ use Rattle.std.proofs.lemmas.Nat.{mod_below}
 use Rattle.std.proofs.Math.Nat.{mod-eq_of_lt, mod-mod, add-mod_right}
 use Rattle.clock2q_handles.specs.Candidates.{IsWalkFor}
 use Rattle.clock2q_handles.specs.Homes.{top}
-use Rattle.clock2q_handles.specs.Layout.{Placed, placed, slot_at, reach, IsTidy}
+use Rattle.clock2q_handles.specs.Layout.{Placed, placed, slot_at, reach, IsTidy, AreNear}
 use Rattle.clock2q_handles.specs.Shifts.{Opens, Closes, HasCome, IsVacancy, moved_on}
 use Rattle.clock2q_handles.specs.Slots.{Mark, cell, mark_of, mark_on, mark_back, mark_reach}
 use Rattle.clock2q_handles.proofs.Periods.{lap, lap-lt, lap-same, rem-same}
@@ -387,7 +387,7 @@ module _ {H : Type 0} (slots : List (Option (Placed (ℕ × H)))) (tidy : IsTidy
 
   -- and has room for that
   pub looks_room : (d s : ℕ) (b : Bool) (wanted mark : Mark) → IsTrue b ↔ (mark_reach mark < mark_reach wanted) → b ≡ false
-      → mark ≡ mark_of (slot_at slots s) → ((n : ℕ) → reach (slot_at slots n) ≤ 16777215) → mark_reach wanted ≤ 16777215
+      → mark ≡ mark_of (slot_at slots s) → AreNear slots → mark_reach wanted ≤ 16777215
   looks_room d s b wanted mark test off told near = omega (arith, goes_on slots b wanted mark s test off told, near s)
 
   -- a walk that is ended there

@@ -5,7 +5,7 @@ use Rattle.std.proofs.lemmas.Bool.{cases_lt}
 use Rattle.std.proofs.lemmas.Nat.{mod_below}
 use Rattle.std.proofs.Math.Nat.{add-mod_right}
 use Rattle.clock2q_handles.specs.Homes.{top}
-use Rattle.clock2q_handles.specs.Layout.{Placed, slot_at, reach, met, homes_of, walk, IsTidy}
+use Rattle.clock2q_handles.specs.Layout.{Placed, slot_at, reach, met, homes_of, walk, IsTidy, AreNear}
 use Rattle.clock2q_handles.specs.Candidates.{left_from, unread_from, home_back, left_at, unread_at, IsOnWalk, IsLookup}
 use Rattle.clock2q_handles.specs.Slots.{Mark, mark_of, mark_on, mark_reach}
 use Rattle.clock2q_handles.proofs.Periods.{rem-same}
@@ -148,11 +148,11 @@ module _ {H : Type 0} (slots : List (Option (Placed (ℕ × H)))) where
   lookup_steps s s' n n' some is at lookup far = subst (λ t. HasStepped slots s t n n') (sym is) (stepped s s' n n' some is at lookup far)
 
   -- a lookup that looks for nothing
-  pub lookup_rests : (n : ℕ) → IsTidy slots → ((k : ℕ) → reach (slot_at slots k) ≤ 16777215) → IsLookup slots None n
+  pub lookup_rests : (n : ℕ) → IsTidy slots → AreNear slots → IsLookup slots None n
   lookup_rests n tidy near = record { tidy = tidy; near = near; walk = tt }
 
   -- a lookup that has read nothing yet, in slots that are there
-  pub lookup_begins : (x n : ℕ) → IsTidy slots → ((k : ℕ) → reach (slot_at slots k) ≤ 16777215) → 0 < length slots → n ≡ x % length slots → IsLookup slots (Some (0, top x)) n
+  pub lookup_begins : (x n : ℕ) → IsTidy slots → AreNear slots → 0 < length slots → n ≡ x % length slots → IsLookup slots (Some (0, top x)) n
   lookup_begins x n tidy near some at = record {
     tidy = tidy;
     near = near;
@@ -166,7 +166,7 @@ module _ {H : Type 0} (slots : List (Option (Placed (ℕ × H)))) where
   }
 
   -- has all of it left
-  pub begins_whole : (x n : ℕ) → IsTidy slots → ((k : ℕ) → reach (slot_at slots k) ≤ 16777215) → 0 < length slots → n ≡ x % length slots
+  pub begins_whole : (x n : ℕ) → IsTidy slots → AreNear slots → 0 < length slots → n ≡ x % length slots
       → (left_at slots (Some (0, top x)) n ≡ left_from slots x 0) × (unread_at slots (Some (0, top x)) n ≡ unread_from slots x 0)
   unfolding lookup_begins
   begins_whole x n tidy near some at =

@@ -5,7 +5,7 @@ use Rattle.std.specs.Coded.{Coded, code_by, coded×, coded_ℕ, coded_list}
 use Rattle.clock2q_handles.specs.Homes.{top}
 use Rattle.clock2q_handles.specs.Slots.{Mark, mark_reach}
 use Rattle.clock2q_handles.specs.Shifts.{HasCome}
-use Rattle.clock2q_handles.specs.Layout.{Placed, placed, slot_at, reach, met, homes_of, walk, IsTidy}
+use Rattle.clock2q_handles.specs.Layout.{Placed, placed, slot_at, reach, met, homes_of, walk, IsTidy, AreNear}
 use mathlib.Core.Path.{refl}
 
 -- what contracts see of a lookup: the handles that are left to yield, how many slots it has read, how many it has still to read, and how many handles it has read
@@ -70,7 +70,7 @@ module _ {H : Type 0} where
   -- what a lookup keeps: the slots are tidy, and where it looks for something, it is on a walk
   pub record IsLookup (slots : List (Option (Placed (ℕ × H)))) (wanted : Mark) (n : ℕ) : Type 0 where
     pub tidy : IsTidy slots
-    pub near : (k : ℕ) → reach (slot_at slots k) ≤ 16777215
+    pub near : AreNear slots
     pub walk : LooksFor slots wanted n
 
   -- a walk for x has come to slot n, and looks for the mark there

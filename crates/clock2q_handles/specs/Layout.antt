@@ -92,6 +92,14 @@ abbrev pub reach : {E : Type 0} → Option (Placed E) → ℕ
 reach None = 0
 reach (Some s) = suc s.displacement
 
+-- the longest reach that a slot's metadata can tell
+abbrev pub longest_reach : ℕ
+longest_reach = 16777215
+
+-- no entry stands further past its home than a slot's metadata can tell
+abbrev pub AreNear : {E : Type 0} → List (Option (Placed E)) → Type 0
+AreNear slots = (n : ℕ) → reach (slot_at slots n) ≤ longest_reach
+
 -- Robin Hood order: no entry stands further past its home than the slot before it allows
 pub record IsOrdered {E : Type 0} (A : ℕ → Option (Placed E)) : Type 0 where
   pub next : (n : ℕ) → reach (A (suc n)) ≤ suc (reach (A n))

@@ -1,7 +1,7 @@
 -- What holds of every table.
 use Rattle.std.specs.Prelude.{◌≡◌, ℕ, ◌≤◌, List, length, Option}
 use Rattle.clock2q_handles.specs.Homes.{total, capacity}
-use Rattle.clock2q_handles.specs.Layout.{Placed, layout, homes_of, slot_at, reach, IsTidy, IsTooLong}
+use Rattle.clock2q_handles.specs.Layout.{Placed, layout, homes_of, IsTidy, IsTooLong, AreNear}
 use Rattle.clock2q_handles.specs.TableStep.{TableValue}
 use Rattle.clock2q_handles.specs.Slots.{IsSlotCount}
 
@@ -10,7 +10,7 @@ pub record IsTable {H : Type 0} (slots : List (Option (Placed (ℕ × H)))) (len
   pub tidy : IsTidy slots
   pub counted : len ≡ total (homes_of slots)
   pub slot_count : IsSlotCount (length slots)
-  pub near : (n : ℕ) → reach (slot_at slots n) ≤ 16777215
+  pub near : AreNear slots
 
 -- what callers may rely on of every table: its slots are the layout of its lists, they are a power of two or none, a quarter of them is empty, and no run is too long
 pub record IsWhole {H : Type 0} (t : TableValue H) : Type 0 where

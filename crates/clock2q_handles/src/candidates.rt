@@ -45,13 +45,13 @@ impl<'a, H: Copy + Eq + Default> Model for Candidates<'a, H> {
 
 impl<'a, H: Copy + Eq + Default> Candidates<'a, H> {
     ghost use Rattle.clock2q_handles.specs.Candidates.{candidates_value, left_from, unread_from};
-    ghost use Rattle.clock2q_handles.specs.Layout.{reach, IsTidy};
+    ghost use Rattle.clock2q_handles.specs.Layout.{reach, IsTidy, AreNear};
     ghost use Rattle.std.specs.Prelude.{ℕ, ◌≤◌};
 
     /// Returns a lookup that has read nothing yet. If there are no slots, it yields nothing.
     pub(super) fn new<A: Allocator>(slots: &'a Slots<H, A>, hash: u64) -> Candidates<'a, H>
         requires tidy { IsTidy slots.now.slots }
-        requires near { (k : ℕ) → reach (slot_at slots.now.slots k) ≤ 16777215 }
+        requires near { AreNear slots.now.slots }
         ensures { result ≡ candidates_value (left_from slots.now.slots hash 0) 0 (unread_from slots.now.slots hash 0) 0 }
     {
         let wanted = if slots.count() == 0 {
@@ -71,7 +71,7 @@ impl<'a, H: Copy + Eq + Default> Candidates<'a, H> {
 
 impl<'a, H: Copy + Default> Reader<'a, H> {
     ghost use Rattle.clock2q_handles.specs.Candidates.{IsWalkFor, EndsAt, IsFoundAt, left_from, unread_from};
-    ghost use Rattle.clock2q_handles.specs.Layout.{reach, IsTidy};
+    ghost use Rattle.clock2q_handles.specs.Layout.{reach, IsTidy, AreNear};
     ghost use Rattle.clock2q_handles.specs.Offers.{Offers, MayBeOffered, handle_in};
     ghost use Rattle.std.specs.Prelude.{ℕ, ◌≤◌, IfOk, IfErr};
 
@@ -121,7 +121,7 @@ impl<'a, H: Copy + Default> Reader<'a, H> {
         matches: &mut F,
     ) -> Result<(H, usize), Gap>
         requires tidy { IsTidy self.old.slots }
-        requires near { (k : ℕ) → reach (slot_at self.old.slots k) ≤ 16777215 }
+        requires near { AreNear self.old.slots }
         requires some { 0 < length self.old.slots }
         requires callable { MayBeOffered F.FnMut matches.old (left_from self.old.slots hash 0) }
         ensures offers { Offers F.FnMut matches.old (left_from self.old.slots hash 0) (handle_in result) matches.new }

@@ -44,7 +44,7 @@ impl Metadata {
         self.word < UNIT
     }
 
-    /// Returns whether a walk that is `distance` slots past its home ends here: the slot is empty,
+    /// Returns true if a walk that is `distance` slots past its home ends here: the slot is empty,
     /// or its entry is nearer to its own home.
     pub(super) fn ends_walk(self, distance: usize) -> bool
         ensures { IsTrue result ↔ (mark_reach (told self) ≤ distance) }
@@ -52,14 +52,14 @@ impl Metadata {
         (self.word / UNIT) as usize <= distance
     }
 
-    /// Returns whether a walk that looks for `wanted` in this slot ends here.
+    /// Returns true if a walk that looks for `wanted` in this slot ends here.
     pub(super) fn ends_walk_for(self, wanted: Wanted) -> bool
         ensures { IsTrue result ↔ (mark_reach (told self) < mark_reach (sought wanted)) }
     {
         u64::from(self.word) < wanted.word / WANTED_UNIT * WANTED_UNIT
     }
 
-    /// Returns whether the slot's entry is of the kind that is looked for.
+    /// Returns true if the slot's entry is of the kind that is looked for.
     pub(super) fn is(self, wanted: Wanted) -> bool
         requires { IsSome (sought wanted) }
         ensures { IsTrue result ↔ (told self ≡ sought wanted) }
@@ -67,14 +67,14 @@ impl Metadata {
         u64::from(self.word) == wanted.word
     }
 
-    /// Returns whether the entry may move on by one slot.
+    /// Returns true if the entry may move on by one slot.
     pub(super) fn can_move_on(self) -> bool
         ensures { IsTrue result ↔ (mark_reach (told self) ≤ MAX_DISPLACEMENT) }
     {
         (self.word / UNIT) as usize <= MAX_DISPLACEMENT
     }
 
-    /// Returns whether there is an entry, and it isn't at its home.
+    /// Returns true if there is an entry, and it isn't at its home.
     pub(super) fn can_move_back(self) -> bool
         ensures { IsTrue result ↔ (1 < mark_reach (told self)) }
     {

@@ -11,7 +11,7 @@ ghost use Rattle.std.specs.List.{list_any};
 ghost use Rattle.std.specs.Prelude.{false, ◌≡◌, ◌+◌, ◌%◌, ◌^◌, ◌<◌, ◌≤◌, [], ℕ, None, IfOk, IfSome, length, replicate, set};
 
 mod clearing;
-mod counted;
+mod counted_slice;
 mod reader;
 mod relabelling;
 mod removal;

@@ -108,7 +108,7 @@ impl<H: Copy + Eq + Default, A: Allocator> Table<H, A> {
         self.len
     }
 
-    /// Returns whether the table has no entry.
+    /// Returns true if the table has no entry.
     pub fn is_empty(&self) -> bool
         ensures empty { IsTrue result ↔ (total self.now.homes ≡ 0) }
     {

@@ -2,7 +2,7 @@
 ghost use Rattle.clock2q_handles.specs.Candidates.{EndsAt};
 ghost use Rattle.clock2q_handles.specs.Found.{FindsAt, TakesOut};
 ghost use Rattle.clock2q_handles.specs.Homes.{top, is_entry_of, listed};
-ghost use Rattle.clock2q_handles.specs.Layout.{IsTidy, reach, slot_at, placed, homes_of};
+ghost use Rattle.clock2q_handles.specs.Layout.{IsTidy, reach, slot_at, placed, homes_of, AreNear};
 ghost use Rattle.clock2q_handles.specs.Moves.{MayMove, Moves};
 ghost use Rattle.clock2q_handles.specs.Shifts.{Opens, Closes, HasCome, IsVacancy, PutsIn};
 ghost use Rattle.clock2q_handles.specs.Slots.{cells, told, sought};
@@ -22,7 +22,7 @@ impl<'a, H: Copy + Default> SlotsMut<'a, H> {
         H: PartialEq,
         requires view { IsView self.now }
         requires tidy { IsTidy (shown self.now) }
-        requires near { (n : ℕ) → reach (slot_at (shown self.now) n) ≤ 16777215 }
+        requires near { AreNear (shown self.now) }
         ensures found { IfSome result (FindsAt (is_entry_of H.PartialEq.eq hash handle) (shown self.now) (hash % length (shown self.now))) }
         ensures none { IfNone result (list_any (is_entry_of H.PartialEq.eq hash handle) (listed (homes_of (shown self.now)) (hash % length (shown self.now))) ≡ false) }
     {
@@ -51,7 +51,7 @@ impl<'a, H: Copy + Default> SlotsMut<'a, H> {
         H: PartialEq,
         requires view { IsView self.now }
         requires tidy { IsTidy (shown self.now) }
-        requires near { (n : ℕ) → reach (slot_at (shown self.now) n) ≤ 16777215 }
+        requires near { AreNear (shown self.now) }
         requires held { list_any (is_entry_of H.PartialEq.eq hash handle) (listed (homes_of (shown self.now)) (hash % length (shown self.now))) ≡ true }
         ensures found { FindsAt (is_entry_of H.PartialEq.eq hash handle) (shown self.now) (hash % length (shown self.now)) result }
     {
@@ -74,7 +74,7 @@ impl<'a, H: Copy + Default> SlotsMut<'a, H> {
         H: PartialEq,
         requires view { IsView self.old }
         requires tidy { IsTidy (shown self.old) }
-        requires near { (n : ℕ) → reach (slot_at (shown self.old) n) ≤ 16777215 }
+        requires near { AreNear (shown self.old) }
         requires held { list_any (is_entry_of H.PartialEq.eq hash handle) (listed (homes_of (shown self.old)) (hash % length (shown self.old))) ≡ true }
         ensures same { IsSameView self.old self.new }
         ensures view { IsView self.new }
@@ -121,7 +121,7 @@ impl<'a, H: Copy + Default> SlotsMut<'a, H> {
         H: PartialEq,
         requires view { IsView self.old }
         requires tidy { IsTidy (shown self.old) }
-        requires near { (n : ℕ) → reach (slot_at (shown self.old) n) ≤ 16777215 }
+        requires near { AreNear (shown self.old) }
         ensures same { IsSameView self.old self.new }
         ensures view { IsView self.new }
         ensures taken { OnTrue result (TakesOut (is_entry_of H.PartialEq.eq hash handle) (shown self.old) (shown self.new) (hash % length (shown self.old)) self.old.writes.now.total self.new.writes.now.total) }
@@ -140,7 +140,7 @@ impl<'a, H: Copy + Default> SlotsMut<'a, H> {
     fn end(&self, hash: u64) -> (usize, Wanted)
         requires view { IsView self.now }
         requires tidy { IsTidy (shown self.now) }
-        requires near { (n : ℕ) → reach (slot_at (shown self.now) n) ≤ 16777215 }
+        requires near { AreNear (shown self.now) }
         requires some { 0 < length (shown self.now) }
         ensures end { EndsAt (shown self.now) hash (sought result.1) result.0 }
     {

@@ -1,4 +1,4 @@
--- How often the hand looks at an entry of Main, and the numbers that bound it: Main's victims, the bits of Main that hits set, and those that are set.
+-- How often the hand inspects an entry of Main, and the numbers that bound it: Main's victims, the bits of Main that hits set, and those that are set.
 use Rattle.std.specs.Prelude.{◌≡◌, ℕ, ◌+◌, ◌≤◌, Bool, true, false, not, ◌&&◌, ◌==◌, if◌then◌else◌, List, [], ◌∷◌, length, Option, Some, None, is_some}
 use Rattle.std.specs.List.{count_by, list_any, last_or}
 use Rattle.clock2q_machine.specs.Ages.{is_promoted}
@@ -26,7 +26,7 @@ module _ {K V : Type 0} where
   abbrev pub takes_victim : (K → Bool) → Machine K V → Bool
   takes_victim is m = if goes_to_main (list_any is m.history) m then length m.main == main_share m.shares else not (is_some (vacancy m)) && goes_on (last_or None m.small)
 
-  -- how many victims Main has, and how often the hand looks, where the key is wanted: none and never if it is resident
+  -- how many victims Main has, and how often the hand inspects, where the key is wanted: none and never if it is resident
   abbrev pub victims_for : (K → Bool) → Machine K V → ℕ
   victims_for is m = if is_some (slot_of is m) then 0 else (if takes_victim is m then 1 else 0)
 
@@ -53,7 +53,7 @@ module _ {K V : Type 0} where
   takes_out Capacity = false
 
   module _ (eq : K → K → Bool) where
-    -- how often the hand looks at an entry in a call
+    -- how often the hand inspects an entry in a call
     abbrev pub inspections_of : Call K V → Machine K V → ℕ
     inspections_of (Put key value) m = inspections_for (eq key) m
     inspections_of (Get key) m = 0
@@ -117,11 +117,11 @@ module _ {K V : Type 0} where
     summed number [] m = 0
     summed number (call ∷ calls) m = number call m + summed number calls (after eq call m)
 
-    -- a look is paid for by a victim, or by a bit that was set: exactly where the call takes nothing out
+    -- an inspection is paid for by a victim, or by a bit that was set: exactly where the call takes nothing out
     abbrev pub IsPaid : Call K V → Machine K V → Type 0
     IsPaid call m = inspections_of call m + set_bits (after eq call m) ≡ main_victims call m + settings call m + set_bits m
 
-    -- and there are no more looks than that in any call
+    -- and there are no more inspections than that in any call
     abbrev pub IsClockBounded : Call K V → Machine K V → Type 0
     IsClockBounded call m = inspections_of call m + set_bits (after eq call m) ≤ main_victims call m + settings call m + set_bits m
 

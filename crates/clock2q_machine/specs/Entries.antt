@@ -35,7 +35,7 @@ module _ {K : Type 0} where
   abbrev pub small_admitted : ℕ → K → ℕ → List (SmallEntry K) → List (SmallEntry K)
   small_admitted window key slot small = record { key = key; slot = slot; age = Young 0 } ∷ map (λ e. with_age e (grown window e.age)) small
 
-  -- how many entries the hand passes, how often it looks, and Main from its victim
+  -- how many entries the hand passes, how often it inspects, and Main from its victim
   abbrev pub set_front : List (MainEntry K) → ℕ
   set_front main = hand.set_front (λ e. e.bit) main
 

@@ -7,7 +7,7 @@ module _ {E : Type 0} (bit : E → Bool) where
   abbrev pub set_front : List E → ℕ
   set_front ring = prefix_len bit ring
 
-  -- the hand looks at each entry that it passes, and at the victim
+  -- the hand inspects each entry that it passes, and at the victim
   abbrev pub inspections : List E → ℕ
   inspections ring = set_front ring + 1
 

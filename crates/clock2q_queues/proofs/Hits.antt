@@ -2,7 +2,7 @@
 use Rattle.std.proofs.Common.{◌≡◌, ◌⊎◌, ℕ, ◌<◌, Bool, true, cond, eqb, List, [], ◌∷◌, length, map, inl, inr, refl, sym, ap, ◌∙◌, subst}
 use Rattle.std.proofs.lemmas.Bool.{cases_Bool}
 use Rattle.clock2q_machine.specs.Ages.{touched}
-use Rattle.clock2q_queues.specs.Cells.{Counted, HitBits, bit_in}
+use Rattle.clock2q_queues.specs.Cells.{CellsState, HitBits, bit_in}
 use Rattle.clock2q_queues.specs.declared.links.Record.{Record}
 use Rattle.clock2q_queues.specs.declared.links.Mark.{Mark}
 use Rattle.clock2q_queues.specs.declared.links.Mark.TheVariants.{Free, Young, Old, Main}
@@ -68,7 +68,7 @@ module _ (l : LinkState) (small : Small) (main : MainRing) (q : AreQueues l smal
   pub after_hit : (new : LinkState) → SetsBit slot true l new
       → Becomes new small main (record (queues_shown l small main) { small = small_hit_at slot (small_entries l small); main = main_hit_at slot (main_entries l main) })
   after_hit new s =
-      let e : new ≡ record l { bits = new.bits } = ap (λ (r : Counted Record). record new { records = r }) s.records ∙ ap (λ w. record l { window = w; bits = new.bits }) s.window in
+      let e : new ≡ record l { bits = new.bits } = ap (λ (r : CellsState Record). record new { records = r }) s.records ∙ ap (λ w. record l { window = w; bits = new.bits }) s.window in
       subst (λ z. Becomes z small main (record (queues_shown l small main) { small = small_hit_at slot (small_entries l small); main = main_hit_at slot (main_entries l main) })) (sym e)
       (hit_bits new.bits s.bits s.inspections)
 

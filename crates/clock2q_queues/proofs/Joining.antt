@@ -11,7 +11,7 @@ use Rattle.clock2q_machine.proofs.Whole.{last_some}
 use Rattle.clock2q_queues.specs.declared.links.Record.{Record}
 use Rattle.clock2q_queues.specs.declared.links.Mark.{Mark}
 use Rattle.clock2q_queues.specs.Rings.{has, without, AllApart, AllBelow, Joins, IsRing}
-use Rattle.clock2q_queues.specs.Cells.{Counted, written}
+use Rattle.clock2q_queues.specs.Cells.{CellsState, written}
 use Rattle.clock2q_queues.specs.Links.{IsLinked, IsQueue, Attaches, Detaches, slots_from, record_at, next_at, previous_at, standing_at, vacant}
 use Rattle.clock2q_queues.proofs.Rings.{eqb_self, eqb_swap, has-append, has_first, has_later, differs, AllApart-append, AllApart-left, AllApart-right, apart_from, AllApart-turned, AllBelow-append, AllBelow-left, AllBelow-right, below_of, parted, IsRing-kept, IsRing-put, IsRing-taken, IsRing-turned, before_end, Joins_parts, around-ring, without-parted}
 use Rattle.clock2q_queues.proofs.Booleans.{or_left, or_right, or_parts, or_neither}
@@ -134,7 +134,7 @@ pub record Inserts (slot : ℕ) (standing : Mark) (ss : List ℕ) (old new : Lis
   pub as_many : length new ≡ length old
 
 -- into a queue with slots, just before its first one
-Inserts-attached : (old new : Counted Record) (first : ℕ) (ss : List ℕ) (slot : ℕ) (standing : Mark)
+Inserts-attached : (old new : CellsState Record) (first : ℕ) (ss : List ℕ) (slot : ℕ) (standing : Mark)
     → IsLinked old.items (first ∷ ss) → has slot (first ∷ ss) ≡ false → slot < length old.items → Attaches slot first standing old new
     → Inserts slot standing (first ∷ ss) old.items new.items
 Inserts-attached old new first ss slot standing k absent b a =
@@ -175,7 +175,7 @@ Inserts-alone rs slot standing b =
     }
 
 -- the first slot of a queue, as its owner holds it, decides how a slot is put in
-pub Inserts-before : (old new : Counted Record) (ss : List ℕ) (slot : ℕ) (standing : Mark) (first : ℕ)
+pub Inserts-before : (old new : CellsState Record) (ss : List ℕ) (slot : ℕ) (standing : Mark) (first : ℕ)
     → IsLinked old.items ss → Some first ≡ slice_get ss 0 → has slot ss ≡ false → slot < length old.items → Attaches slot first standing old new
     → Inserts slot standing ss old.items new.items
 Inserts-before old new [] slot standing first k e absent b a = absurd (cc)
@@ -183,10 +183,10 @@ Inserts-before old new (s ∷ ss) slot standing first k e absent b a =
     let q : first ≡ s = cc in
     Inserts-attached old new s ss slot standing k absent b (subst (λ z. Attaches slot z standing old new) q a)
 
-pub Inserts-first : (old new : Counted Record) (ss : List ℕ) (slot : ℕ) (standing : Mark)
+pub Inserts-first : (old new : CellsState Record) (ss : List ℕ) (slot : ℕ) (standing : Mark)
     → None ≡ slice_get ss 0 → slot < length old.items → new ≡ written slot (record { previous = slot; next = slot; standing = standing }) old
     → Inserts slot standing ss old.items new.items
-Inserts-first old new [] slot standing e b n = subst (λ (z : Counted Record). Inserts slot standing [] old.items z.items) (sym n) (Inserts-alone old.items slot standing b)
+Inserts-first old new [] slot standing e b n = subst (λ (z : CellsState Record). Inserts slot standing [] old.items z.items) (sym n) (Inserts-alone old.items slot standing b)
 Inserts-first old new (s ∷ ss) slot standing e b n = absurd (cc)
 
 -- Taking a slot out
@@ -199,7 +199,7 @@ pub record Removes (slot : ℕ) (ss : List ℕ) (old new : List Record) : Type 0
   pub freed : record_at new slot ≡ vacant
   pub as_many : length new ≡ length old
 
-pub Removes-detached : (old new : Counted Record) (ss : List ℕ) (slot : ℕ)
+pub Removes-detached : (old new : CellsState Record) (ss : List ℕ) (slot : ℕ)
     → IsLinked old.items ss → has slot ss ≡ true → Detaches slot old new → Removes slot ss old.items new.items
 Removes-detached old new ss slot k h d =
     let rs = old.items in

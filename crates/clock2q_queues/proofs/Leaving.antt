@@ -9,7 +9,7 @@ use Rattle.clock2q_queues.specs.declared.links.Record.{Record}
 use Rattle.clock2q_queues.specs.declared.links.Mark.{Mark}
 use Rattle.clock2q_queues.specs.declared.links.Mark.TheVariants.{Free, Young, Old, Main}
 use Rattle.clock2q_queues.specs.declared.small.Small.{Small}
-use Rattle.clock2q_queues.specs.Cells.{Counted, HitBits, bit_in}
+use Rattle.clock2q_queues.specs.Cells.{CellsState, HitBits, bit_in}
 use Rattle.clock2q_queues.specs.Rings.{has, without}
 use Rattle.clock2q_queues.specs.Links.{LinkState, IsLinked, IsSameBut, Detaches, record_at, next_at, previous_at, standing_at, bit_at, place_at}
 use Rattle.clock2q_queues.specs.Ends.{place_freed, end_after}
@@ -98,7 +98,7 @@ module _ (slot : ℕ) (old : LinkState) (small : Small) (mid new : LinkState) (m
   removed = Removes-detached old.records mid.records (small_slots old small) slot m.queue.linked h d
 
   records_now : new.records.items ≡ mid.records.items
-  records_now = ap (λ (l : LinkState). l.records.items) e ∙ ap (λ (r : Counted Record). r.items) (records-freed standing mid)
+  records_now = ap (λ (l : LinkState). l.records.items) e ∙ ap (λ (r : CellsState Record). r.items) (records-freed standing mid)
 
   places_mid : mid.window.items ≡ old.window.items
   places_mid = ap (λ (l : LinkState). l.window.items) rest

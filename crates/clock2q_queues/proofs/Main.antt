@@ -6,7 +6,7 @@ use Rattle.std.proofs.lemmas.List.{map-append, length_push}
 use Rattle.clock2q_queues.specs.declared.links.Record.{Record}
 use Rattle.clock2q_queues.specs.declared.main_ring.MainRing.{MainRing}
 use Rattle.clock2q_queues.specs.declared.links.Mark.TheVariants.{Free, Main}
-use Rattle.clock2q_queues.specs.Cells.{Counted, written}
+use Rattle.clock2q_queues.specs.Cells.{CellsState, written}
 use Rattle.clock2q_queues.specs.Rings.{has, without}
 use Rattle.clock2q_queues.specs.Links.{LinkState, IsSameBut, SetsBit, Attaches, Detaches, previous_at, record_at, standing_at, bit_at}
 use Rattle.clock2q_queues.specs.MainRing.{IsMain, IsMainRing, main_slots, main_entries}
@@ -91,7 +91,7 @@ pub hand_fits : (old mid : LinkState) (main : MainRing) (hand : ℕ) → IsMainR
     → (hand < length mid.records.items) × (previous_at mid.records.items hand < length mid.records.items)
 hand_fits old mid main hand m e h =
     let f = neighbours_fit old.records.items (main_slots old main) hand m.queue.linked (first_in (main_slots old main) hand (sym h ∙ m.queue.starts)) in
-    subst (λ (z : Counted Record). (hand < length z.items) × (previous_at z.items hand < length z.items)) (sym e) (f.0, f.2)
+    subst (λ (z : CellsState Record). (hand < length z.items) × (previous_at z.items hand < length z.items)) (sym e) (f.0, f.2)
 
 -- a slot was removed from Main
 pub record UnlinksMain (slot : ℕ) (old : LinkState) (main : MainRing) (new : LinkState) (main' : MainRing) : Type 0 where

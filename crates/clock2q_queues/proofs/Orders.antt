@@ -8,7 +8,7 @@ use Rattle.clock2q_queues.specs.declared.links.Record.{Record}
 use Rattle.clock2q_queues.specs.declared.links.Mark.TheVariants.{Free}
 use Rattle.clock2q_queues.specs.declared.history.order.Chain.{Chain}
 use Rattle.clock2q_queues.specs.Rings.{has, without, AllApart, AllBelow, around}
-use Rattle.clock2q_queues.specs.Cells.{Counted, accessed, written}
+use Rattle.clock2q_queues.specs.Cells.{CellsState, accessed, written}
 use Rattle.clock2q_queues.specs.Links.{IsLinked, Attaches, Detaches, slots_from, record_at, next_at, previous_at, vacant}
 use Rattle.clock2q_queues.specs.Order.{PlaceOrder, IsOrderOf, IsOrder, IsWholeOrder, free_places, order_shown, place_for}
 use Rattle.clock2q_queues.proofs.Records.{changed}
@@ -108,11 +108,11 @@ IsOrder-from {rs} {newest} {len} {chain} {ps} {fs} o =
     subst (λ z. IsOrderOf rs newest len chain z (free_places rs chain)) (sym (slots_from-is rs newest len ps o.queue))
     (subst (λ z. IsOrderOf rs newest len chain ps z) (sym o.chained) o)
 
-pub IsWholeOrder-from : (l : Counted Record) (newest : Option ℕ) (len : ℕ) (chain : Chain) → IsOrder l.items newest len chain → IsWholeOrder (order_shown l newest len chain)
+pub IsWholeOrder-from : (l : CellsState Record) (newest : Option ℕ) (len : ℕ) (chain : Chain) → IsOrder l.items newest len chain → IsWholeOrder (order_shown l newest len chain)
 IsWholeOrder-from l newest len chain o = record { apart = o.apart; below = o.below; within = o.within; countable = o.queue.countable }
 
 -- what is shown of these places and those
-pub order_shown-is : (l : Counted Record) {newest : Option ℕ} {len : ℕ} {chain : Chain} {ps fs : List ℕ} → IsOrderOf l.items newest len chain ps fs
+pub order_shown-is : (l : CellsState Record) {newest : Option ℕ} {len : ℕ} {chain : Chain} {ps fs : List ℕ} → IsOrderOf l.items newest len chain ps fs
     → order_shown l newest len chain ≡ record { places = ps; free = fs; limit = length l.items; accesses = l.accesses }
 order_shown-is l {newest} {len} {chain} {ps} {fs} o =
     ap (λ z. record { places = z; free = free_places l.items chain; limit = length l.items; accesses = l.accesses }) (slots_from-is l.items newest len ps o.queue)
@@ -120,11 +120,11 @@ order_shown-is l {newest} {len} {chain} {ps} {fs} o =
 
 -- The chain
 
-pub chain-put : (old new : Counted Record) (chain : Chain) (place : ℕ) (r : Record) → new ≡ written place r old
+pub chain-put : (old new : CellsState Record) (chain : Chain) (place : ℕ) (r : Record) → new ≡ written place r old
     → r.next ≡ chain.head → place < length old.items → has place (free_places old.items chain) ≡ false
     → free_places new.items (record { head = place; len = chain.len + 1 }) ≡ place ∷ free_places old.items chain
 chain-put old new chain place r e next fits absent =
-    let nexts = (λ (t : ℕ). ap (λ (z : Counted Record). next_at z.items t) e ∙ changed (λ p. p.next) old.items place r vacant t fits) in
+    let nexts = (λ (t : ℕ). ap (λ (z : CellsState Record). next_at z.items t) e ∙ changed (λ p. p.next) old.items place r vacant t fits) in
     let to_head : next_at new.items place ≡ chain.head = nexts place ∙ rw (eqb_self place) next in
     let n : chain.len + 1 ≡ suc chain.len = omega arith in
     let other = (λ (t : ℕ) (h : has t (free_places old.items chain) ≡ true).
@@ -137,7 +137,7 @@ chain-put old new chain place r e next fits absent =
     ∙ ap (λ z. place ∷ around (next_at new.items) z chain.len) to_head
     ∙ ap (λ zs. place ∷ zs) (around-kept (next_at old.items) (next_at new.items) chain.head chain.len other)
 
-pub head_fits : (l : Counted Record) (newest : Option ℕ) (len : ℕ) (chain : Chain) → IsOrder l.items newest len chain → 0 < chain.len → chain.head < length l.items
+pub head_fits : (l : CellsState Record) (newest : Option ℕ) (len : ℕ) (chain : Chain) → IsOrder l.items newest len chain → 0 < chain.len → chain.head < length l.items
 head_fits l newest len chain o some =
     let ps = slots_from l.items newest len in
     let fs = free_places l.items chain in
@@ -146,7 +146,7 @@ head_fits l newest len chain o some =
     subst (λ z. has chain.head (around (next_at l.items) chain.head z) ≡ true) (sym n) (has_first chain.head (around (next_at l.items) (next_at l.items chain.head) (chain.len - 1))) in
     omega (arith, below_of (length ps + length fs) fs (AllBelow-right (length ps + length fs) ps fs o.below) chain.head h, o.within)
 
-module _ (l : Counted Record) (newest : Option ℕ) (len : ℕ) (chain : Chain) (o : IsOrder l.items newest len chain) where
+module _ (l : CellsState Record) (newest : Option ℕ) (len : ℕ) (chain : Chain) (o : IsOrder l.items newest len chain) where
   abbrev pub places_now : List ℕ
   places_now = slots_from l.items newest len
 
@@ -171,7 +171,7 @@ module _ (l : Counted Record) (newest : Option ℕ) (len : ℕ) (chain : Chain) 
       chosen_from [] = refl
       chosen_from (f ∷ fs) = refl
 
-  module _ (mid : Counted Record) (chain' : Chain) (slots : mid.items ≡ l.items) (rest : free_places mid.items chain' ≡ drop 1 free_now) where
+  module _ (mid : CellsState Record) (chain' : Chain) (slots : mid.items ≡ l.items) (rest : free_places mid.items chain' ≡ drop 1 free_now) where
     linked_mid : IsLinked mid.items places_now
     linked_mid = subst (λ (z : List Record). IsLinked z places_now) (sym slots) o.queue.linked
 
@@ -180,7 +180,7 @@ module _ (l : Counted Record) (newest : Option ℕ) (len : ℕ) (chain : Chain) 
         let f = neighbours_fit mid.items places_now first linked_mid (first_in places_now first (sym e ∙ o.queue.starts)) in
         (f.0, f.2)
 
-    pub Pushes : (new : Counted Record) (place : ℕ) → place ≡ place_for (length places_now) free_now → length places_now < length l.items → Inserts place Free places_now mid.items new.items
+    pub Pushes : (new : CellsState Record) (place : ℕ) → place ≡ place_for (length places_now) free_now → length places_now < length l.items → Inserts place Free places_now mid.items new.items
         → IsOrderOf new.items (Some place) (len + 1) chain' (place ∷ places_now) (drop 1 free_now)
     Pushes new place e h i =
         let as_many : length new.items ≡ length l.items = i.as_many ∙ ap (λ (z : List Record). length z) slots in
@@ -201,14 +201,14 @@ module _ (l : Counted Record) (newest : Option ℕ) (len : ℕ) (chain : Chain) 
           within = rw as_many n.within;
         }
 
-    pub Pushes-attached : (new : Counted Record) (place first : ℕ) → place ≡ place_for (length places_now) free_now
+    pub Pushes-attached : (new : CellsState Record) (place first : ℕ) → place ≡ place_for (length places_now) free_now
         → length places_now < length l.items → newest ≡ Some first → Attaches place first Free mid new
         → IsOrderOf new.items (Some place) (len + 1) chain' (place ∷ places_now) (drop 1 free_now)
     Pushes-attached new place first e h is a =
         let n : FitsNext (length l.items) place places_now free_now = subst (λ z. FitsNext (length l.items) z places_now free_now) (sym e) (next_fits h) in
         Pushes new place e h (Inserts-before mid new places_now place Free first linked_mid (sym is ∙ o.queue.starts) n.absent (rw slots n.fits) a)
 
-    pub Pushes-alone : (new : Counted Record) (place : ℕ) → place ≡ place_for (length places_now) free_now → length places_now < length l.items → newest ≡ None
+    pub Pushes-alone : (new : CellsState Record) (place : ℕ) → place ≡ place_for (length places_now) free_now → length places_now < length l.items → newest ≡ None
         → new ≡ written place (record { previous = place; next = place; standing = Free }) mid
         → IsOrderOf new.items (Some place) (len + 1) chain' (place ∷ places_now) (drop 1 free_now)
     Pushes-alone new place e h is w =
@@ -218,7 +218,7 @@ module _ (l : Counted Record) (newest : Option ℕ) (len : ℕ) (chain : Chain) 
   -- The last place moved to the front
 
   -- the order ends in this place, which now stands first
-  pub record Reuses (new : Counted Record) (oldest : ℕ) : Type 0 where
+  pub record Reuses (new : CellsState Record) (oldest : ℕ) : Type 0 where
     pub oldest_was : last_or None places_now ≡ Some oldest
     pub order : IsOrderOf new.items (Some oldest) len chain (oldest ∷ take (length places_now - 1) places_now) free_now
 
@@ -232,7 +232,7 @@ module _ (l : Counted Record) (newest : Option ℕ) (len : ℕ) (chain : Chain) 
   ends_in [] x e = absurd (cc)
   ends_in (s ∷ ss) x e = split_last ss s x e
 
-  pub reuses : (new : Counted Record) (first oldest : ℕ) → new ≡ accessed l → newest ≡ Some first → oldest ≡ previous_at l.items first → Reuses new oldest
+  pub reuses : (new : CellsState Record) (first oldest : ℕ) → new ≡ accessed l → newest ≡ Some first → oldest ≡ previous_at l.items first → Reuses new oldest
   reuses new first oldest w is e =
       let was : last_or None places_now ≡ Some oldest = last_of first places_now o.queue.linked (sym is ∙ o.queue.starts) ∙ ap (λ z. Some z) (sym e) in
       let p = ends_in places_now oldest was in
@@ -245,7 +245,7 @@ module _ (l : Counted Record) (newest : Option ℕ) (len : ℕ) (chain : Chain) 
       record {
         oldest_was = was;
         order = subst (λ z. IsOrderOf new.items (Some oldest) len chain (oldest ∷ z) free_now) (sym front)
-            (subst (λ (z : Counted Record). IsOrderOf z.items (Some oldest) len chain (oldest ∷ xs) free_now) (sym w) (record {
+            (subst (λ (z : CellsState Record). IsOrderOf z.items (Some oldest) len chain (oldest ∷ xs) free_now) (sym w) (record {
               queue = record { linked = linked; starts = refl; counted = o.queue.counted ∙ count; countable = o.queue.countable };
               chained = refl;
               apart = apart-turned places_now (oldest ∷ xs) free_now linked.apart same o.apart;
@@ -260,7 +260,7 @@ module _ (l : Counted Record) (newest : Option ℕ) (len : ℕ) (chain : Chain) 
     pub place_fits : (place < length l.items) × (next_at l.items place < length l.items) × (previous_at l.items place < length l.items)
     place_fits = neighbours_fit l.items places_now place o.queue.linked there
 
-    module _ (mid : Counted Record) (d : Detaches place l mid) where
+    module _ (mid : CellsState Record) (d : Detaches place l mid) where
       removed : Removes place places_now l.items mid.items
       removed = Removes-detached l mid places_now place o.queue.linked there d
 
@@ -276,15 +276,15 @@ module _ (l : Counted Record) (newest : Option ℕ) (len : ℕ) (chain : Chain) 
           let some : 0 < length places_now = omega (arith, length-without place places_now o.queue.linked.apart there) in
           omega (arith, some, o.within, chain_counted, o.queue.countable)
 
-      pub Unlinks : (new : Counted Record) (r : Record) (newest' : Option ℕ) (chain' : Chain) → new ≡ written place r mid → free_places new.items chain' ≡ place ∷ free_places mid.items chain
+      pub Unlinks : (new : CellsState Record) (r : Record) (newest' : Option ℕ) (chain' : Chain) → new ≡ written place r mid → free_places new.items chain' ≡ place ∷ free_places mid.items chain
           → newest' ≡ slice_get (without place places_now) 0 → IsOrderOf new.items newest' (len - 1) chain' (without place places_now) (place ∷ free_now)
       Unlinks new r newest' chain' w c starts =
-          let as_many : length new.items ≡ length l.items = ap (λ (z : Counted Record). length z.items) w ∙ length-set mid.items place r ∙ removed.as_many in
+          let as_many : length new.items ≡ length l.items = ap (λ (z : CellsState Record). length z.items) w ∙ length-set mid.items place r ∙ removed.as_many in
           let fits : place < length mid.items = rw removed.as_many place_fits.0 in
           let count = length-without place places_now o.queue.linked.apart there in
           let total : length places_now + length free_now ≡ length (without place places_now) + length (place ∷ free_now) = omega (arith, count) in
           let records : (t : ℕ) → has t (without place places_now) ≡ true → record_at new.items t ≡ record_at mid.items t = (λ t h.
-          ap (λ (z : Counted Record). record_at z.items t) w ∙ changed (λ p. p) mid.items place r vacant t fits ∙ rw ((has-without t place places_now h).1) refl) in
+          ap (λ (z : CellsState Record). record_at z.items t) w ∙ changed (λ p. p) mid.items place r vacant t fits ∙ rw ((has-without t place places_now h).1) refl) in
           let apart =
           AllApart-append (without place places_now) (place ∷ free_now) removed.linked.apart (apart_from places_now free_now o.apart place there, AllApart-right places_now free_now o.apart)
           (λ t h. let g = has-without t place places_now h in or_neither (eqb t place) (has t free_now) g.1 (apart_from places_now free_now o.apart t g.0)) in
@@ -306,9 +306,9 @@ module _ (l : Counted Record) (newest : Option ℕ) (len : ℕ) (chain : Chain) 
           }
 
 -- what a place removed makes of the counts
-pub unlinked_counts : (l mid new : Counted Record) (place : ℕ) (r : Record) (ps fs : List ℕ) → Detaches place l mid → new ≡ written place r mid
+pub unlinked_counts : (l mid new : CellsState Record) (place : ℕ) (r : Record) (ps fs : List ℕ) → Detaches place l mid → new ≡ written place r mid
     → ◌≡◌ {A = PlaceOrder} (record { places = ps; free = fs; limit = length new.items; accesses = new.accesses }) (record { places = ps; free = fs; limit = length l.items; accesses = l.accesses + 7 })
 unlinked_counts l mid new place r ps fs d w =
-    let n : length new.items ≡ length l.items = ap (λ (z : Counted Record). length z.items) w ∙ length-set mid.items place r ∙ d.as_many in
-    let a : new.accesses ≡ l.accesses + 7 = let b = ap (λ (z : Counted Record). z.accesses) w in let e = d.accesses in omega arith in
+    let n : length new.items ≡ length l.items = ap (λ (z : CellsState Record). length z.items) w ∙ length-set mid.items place r ∙ d.as_many in
+    let a : new.accesses ≡ l.accesses + 7 = let b = ap (λ (z : CellsState Record). z.accesses) w in let e = d.accesses in omega arith in
     ap (λ z. record { places = ps; free = fs; limit = z; accesses = new.accesses }) n ∙ ap (λ z. record { places = ps; free = fs; limit = length l.items; accesses = z }) a

@@ -4,7 +4,7 @@ use Rattle.std.specs.List.{filter}
 use Rattle.std.proofs.lemmas.Bool.{eqb-true, both_ways, cases_Bool}
 use Rattle.std.proofs.lemmas.List.{length-replicate}
 use Rattle.clock2q_machine.specs.Ages.{Age, grown}
-use Rattle.clock2q_queues.specs.Cells.{Counted, accessed, counted}
+use Rattle.clock2q_queues.specs.Cells.{CellsState, accessed, cells_state}
 use Rattle.clock2q_queues.specs.declared.links.Record.{Record}
 use Rattle.clock2q_queues.specs.declared.links.Mark.TheVariants.{Free}
 use Rattle.clock2q_queues.specs.declared.main_ring.MainRing.{MainRing}
@@ -93,7 +93,7 @@ module _ (l : LinkState) (small : Small) (main : MainRing) (q : AreQueues l smal
   main_changed new main' entries w m e n p = record {
     queues = w;
     is = queues_equal (queues_shown new small main') (record (queues_shown l small main) { main = entries; accesses = accesses_of new; inspections = new.bits.inspections })
-        m e n (ap (λ (z : Counted (Option ℕ)). length z.items) p) refl refl;
+        m e n (ap (λ (z : CellsState (Option ℕ)). length z.items) p) refl refl;
   }
 
   pub after_admission : (new : LinkState) (small' : Small) (slot window : ℕ) → has slot (main_slots l main) ≡ false → IsSmallQueue new small'
@@ -118,7 +118,7 @@ module _ (l : LinkState) (small : Small) (main : MainRing) (q : AreQueues l smal
       → main_entries new main' ≡ main_entries l main ++ (slot, false) ∷ [] → IsSameBut (slot ∷ main_slots l main) l new → new.window ≡ l.window
       → Becomes new small main' (record (queues_shown l small main) { main = main_entries l main ++ (slot, false) ∷ []; accesses = accesses_of new; inspections = new.bits.inspections })
   after_append new main' slot n w e s p =
-      let k = KeepsSmall-from l small new (slot ∷ main_slots l main) q.small s (ap (λ (z : Counted (Option ℕ)). z.items) p) (clear_of_small slot n) in
+      let k = KeepsSmall-from l small new (slot ∷ main_slots l main) q.small s (ap (λ (z : CellsState (Option ℕ)). z.items) p) (clear_of_small slot n) in
       let slots : main_slots new main' ≡ main_slots l main ++ slot ∷ [] =
       sym (main_slots-of new main') ∙ ap (λ (z : List (ℕ × Bool)). slots_of z) e
       ∙ slots_of-append (main_entries l main) ((slot, false) ∷ []) ∙ ap (λ zs. zs ++ slot ∷ []) (main_slots-of l main) in
@@ -157,7 +157,7 @@ module _ (l : LinkState) (small : Small) (main : MainRing) (q : AreQueues l smal
       → main_entries new main' ≡ filter (λ e. not (eqb e.0 slot)) (main_entries l main) → IsSameBut (main_slots l main) l new → new.window ≡ l.window
       → Becomes new small main' (record (queues_shown l small main) { main = without_slot slot (main_entries l main); accesses = accesses_of new; inspections = new.bits.inspections })
   after_main_left new main' slot w f e s p =
-      let k = KeepsSmall-from l small new (main_slots l main) q.small s (ap (λ (z : Counted (Option ℕ)). z.items) p) (small_apart l small main q.small q.main) in
+      let k = KeepsSmall-from l small new (main_slots l main) q.small s (ap (λ (z : CellsState (Option ℕ)). z.items) p) (small_apart l small main q.small q.main) in
       let slots : main_slots new main' ≡ without slot (main_slots l main) =
       sym (main_slots-of new main') ∙ ap (λ (z : List (ℕ × Bool)). slots_of z) e ∙ slots_of-filter slot (main_entries l main) ∙ ap (λ z. without slot z) (main_slots-of l main) in
       let queues : AreQueues new small main' = record {
@@ -177,7 +177,7 @@ module _ (l : LinkState) (small : Small) (main : MainRing) (q : AreQueues l smal
       → IsSameBut (main_slots l main) l new → new.window ≡ l.window
       → Becomes new small main' (record (queues_shown l small main) { main = from_victim (main_entries l main); accesses = accesses_of new; inspections = new.bits.inspections })
   after_choice new main' w e s p =
-      let k = KeepsSmall-from l small new (main_slots l main) q.small s (ap (λ (z : Counted (Option ℕ)). z.items) p) (small_apart l small main q.small q.main) in
+      let k = KeepsSmall-from l small new (main_slots l main) q.small s (ap (λ (z : CellsState (Option ℕ)). z.items) p) (small_apart l small main q.small q.main) in
       let still = (λ (t : ℕ) (h : has t (main_slots new main') ≡ false).
       let gone : has t (slots_of (from_victim (main_entries l main))) ≡ false = ap (λ (z : List (ℕ × Bool)). has t (slots_of z)) (sym e) ∙ ap (λ z. has t z) (main_slots-of new main') ∙ h in
       sym (ap (λ z. has t z) (main_slots-of l main)) ∙ members-chosen (main_entries l main) t gone) in
@@ -189,7 +189,7 @@ module _ (l : LinkState) (small : Small) (main : MainRing) (q : AreQueues l smal
       main_changed new main' (from_victim (main_entries l main)) queues k.entries e s.as_many p
 
   -- accesses were counted
-  pub after_counting : (new : LinkState) (more : ℕ) → new ≡ record l { records = counted l.records.items (l.records.accesses + more) }
+  pub after_counting : (new : LinkState) (more : ℕ) → new ≡ record l { records = cells_state l.records.items (l.records.accesses + more) }
       → Becomes new small main (record (queues_shown l small main) { accesses = accesses_of l + more })
   after_counting new more e =
       let s : IsSameBut [] l new = subst (λ z. IsSameBut [] l z) (sym e) (record { others = λ t h. refl; as_many = refl }) in

@@ -10,7 +10,7 @@ use Rattle.clock2q_queues.specs.declared.links.Mark.TheVariants.{Free, Young, Ol
 use Rattle.clock2q_queues.specs.declared.small.Small.{Small}
 use Rattle.clock2q_queues.specs.Rings.{has, AllBelow}
 use Rattle.clock2q_queues.specs.declared.links.Record.{Record}
-use Rattle.clock2q_queues.specs.Cells.{Counted, written}
+use Rattle.clock2q_queues.specs.Cells.{CellsState, written}
 use Rattle.clock2q_queues.specs.Links.{LinkState, IsBlank, IsLinked, IsSameBut, Attaches, record_at, next_at, previous_at, standing_at, bit_at, place_at}
 use Rattle.clock2q_queues.specs.Small.{IsSmall, IsSmallQueue, IsInSmall, GrowsOld, small_slots, small_entries, admissions_since, next_cursor, age_of, age_at, admitted, is_there}
 use Rattle.clock2q_queues.proofs.Records.{changed}
@@ -276,7 +276,7 @@ module _ (slot : ℕ) (old : LinkState) (small : Small) (mid aged : LinkState) (
   records_aged = ap (λ (l : LinkState). l.records) e
 
   pub slots_aged : length aged.records.items ≡ length old.records.items
-  slots_aged = ap (λ (r : Counted Record). length r.items) records_aged ∙ o.as_many
+  slots_aged = ap (λ (r : CellsState Record). length r.items) records_aged ∙ o.as_many
 
   pub window_aged : length aged.window.items ≡ length old.window.items
   window_aged = ap (λ (l : LinkState). length l.window.items) e ∙ length-set mid.window.items small.cursor (Some slot) ∙ ap (λ (z : List (Option ℕ)). length z) o.places
@@ -286,7 +286,7 @@ module _ (slot : ℕ) (old : LinkState) (small : Small) (mid aged : LinkState) (
   first_fits newest h =
       let k = linked_still old mid (small_slots old small) small.cursor m.queue.linked o in
       let f = neighbours_fit mid.records.items (small_slots old small) newest k (first_in (small_slots old small) newest (sym h ∙ m.queue.starts)) in
-      subst (λ (z : Counted Record). (newest < length z.items) × (previous_at z.items newest < length z.items)) (sym records_aged) (f.0, f.2)
+      subst (λ (z : CellsState Record). (newest < length z.items) × (previous_at z.items newest < length z.items)) (sym records_aged) (f.0, f.2)
 
   module _ (new : LinkState) (small' : Small) (b : slot < length old.records.items) (absent : has slot (small_slots old small) ≡ false) (w : 0 < length old.window.items)
       (rest : new ≡ record aged { records = new.records }) (n : small'.newest ≡ Some slot)
@@ -296,7 +296,7 @@ module _ (slot : ℕ) (old : LinkState) (small : Small) (mid aged : LinkState) (
     Admits-attached newest h a d =
         let k = linked_still old mid (small_slots old small) small.cursor m.queue.linked o in
         let s = sym h ∙ m.queue.starts in
-        let a' : Attaches slot newest (Young small.cursor) mid.records new.records = subst (λ (z : Counted Record). Attaches slot newest (Young small.cursor) z new.records) records_aged a in
+        let a' : Attaches slot newest (Young small.cursor) mid.records new.records = subst (λ (z : CellsState Record). Attaches slot newest (Young small.cursor) z new.records) records_aged a in
         Admits-from slot old small mid aged new small' m b absent w o e
         (Inserts-before mid.records new.records (small_slots old small) slot (Young small.cursor) newest k s absent (rw o.as_many b) a') rest
         n (d ∙ m.ends ∙ last_behind (small_slots old small) slot newest s) c r

@@ -4,25 +4,25 @@ use Rattle.std.specs.Coded.{Coded, code_by, coded×, coded_ℕ, coded_list}
 use mathlib.Core.Path.{refl}
 
 -- items by number, and how often one was read or written
-pub record Counted (T : Type 0) : Type 0 where
+pub record CellsState (T : Type 0) : Type 0 where
   pub items : List T
   pub accesses : ℕ
 
-abbrev pub counted : {T : Type 0} → List T → ℕ → Counted T
-counted items accesses = record { items = items; accesses = accesses }
+abbrev pub cells_state : {T : Type 0} → List T → ℕ → CellsState T
+cells_state items accesses = record { items = items; accesses = accesses }
 
-abbrev pub counted_code : {T : Type 0} → Coded T → Coded (Counted T)
-counted_code {T} t = code_by (List T × ℕ) (coded× (coded_list t) coded_ℕ) (λ c. (c.items, c.accesses)) (λ q. counted q.0 q.1) (λ _. refl)
+abbrev pub cells_code : {T : Type 0} → Coded T → Coded (CellsState T)
+cells_code {T} t = code_by (List T × ℕ) (coded× (coded_list t) coded_ℕ) (λ c. (c.items, c.accesses)) (λ q. cells_state q.0 q.1) (λ _. refl)
 
 -- one was read
-abbrev pub accessed : {T : Type 0} → Counted T → Counted T
-accessed c = counted c.items (c.accesses + 1)
+abbrev pub accessed : {T : Type 0} → CellsState T → CellsState T
+accessed c = cells_state c.items (c.accesses + 1)
 
 -- one was written
-abbrev pub written : {T : Type 0} → ℕ → T → Counted T → Counted T
-written at item c = counted (slice_set c.items at item) (c.accesses + 1)
+abbrev pub written : {T : Type 0} → ℕ → T → CellsState T → CellsState T
+written at item c = cells_state (slice_set c.items at item) (c.accesses + 1)
 
--- a hit bit for each slot, and how often the hand looked at one
+-- a hit bit for each slot, and how often the hand inspected one
 pub record HitBits : Type 0 where
   pub items : List Bool
   pub inspections : ℕ
@@ -34,7 +34,7 @@ hit_bits items inspections = record { items = items; inspections = inspections }
 abbrev pub bit_in : List Bool → ℕ → Bool
 bit_in bits slot = slice_index_or bits slot false
 
--- the hand looked at one
+-- the hand inspected one
 abbrev pub inspected : HitBits → HitBits
 inspected b = hit_bits b.items (b.inspections + 1)
 

@@ -1,6 +1,6 @@
 -- What the links hold, and what becomes of it.
 use Rattle.std.specs.Prelude.{◌≡◌, ℕ, ◌+◌, ◌^◌, ◌<◌, ◌==◌, Bool, true, false, List, [], length, Option, Some, None, slice_get, slice_index_or, replicate, if◌then◌else◌}
-use Rattle.clock2q_queues.specs.Cells.{Counted, HitBits, counted, hit_bits, written, bit_in}
+use Rattle.clock2q_queues.specs.Cells.{CellsState, HitBits, cells_state, hit_bits, written, bit_in}
 use Rattle.clock2q_queues.specs.Rings.{has, AllApart, AllBelow, IsRing, around}
 use Rattle.clock2q_queues.specs.declared.links.Record.{Record}
 use Rattle.clock2q_queues.specs.declared.links.Mark.{Mark}
@@ -24,13 +24,13 @@ previous_at rs slot = (record_at rs slot).previous
 abbrev pub standing_at : List Record → ℕ → Mark
 standing_at rs slot = (record_at rs slot).standing
 
-abbrev pub with_next : ℕ → ℕ → Counted Record → Counted Record
+abbrev pub with_next : ℕ → ℕ → CellsState Record → CellsState Record
 with_next slot next rs = written slot (record (record_at rs.items slot) { next = next }) rs
 
-abbrev pub with_previous : ℕ → ℕ → Counted Record → Counted Record
+abbrev pub with_previous : ℕ → ℕ → CellsState Record → CellsState Record
 with_previous slot previous rs = written slot (record (record_at rs.items slot) { previous = previous }) rs
 
-abbrev pub with_standing : ℕ → Mark → Counted Record → Counted Record
+abbrev pub with_standing : ℕ → Mark → CellsState Record → CellsState Record
 with_standing slot standing rs = written slot (record (record_at rs.items slot) { standing = standing }) rs
 
 -- these slots stand in a ring, each once
@@ -52,7 +52,7 @@ slots_from rs None count = []
 slots_from rs (Some first) count = around (next_at rs) first count
 
 -- a slot was put just before another
-pub record Attaches (slot before : ℕ) (standing : Mark) (old new : Counted Record) : Type 0 where
+pub record Attaches (slot before : ℕ) (standing : Mark) (old new : CellsState Record) : Type 0 where
   pub nexts : (t : ℕ) → next_at new.items t ≡ (if t == previous_at old.items before then slot else (if t == slot then before else next_at old.items t))
   pub previouses : (t : ℕ) → previous_at new.items t ≡ (if t == before then slot else (if t == slot then previous_at old.items before else previous_at old.items t))
   pub standings : (t : ℕ) → standing_at new.items t ≡ (if t == slot then standing else standing_at old.items t)
@@ -60,7 +60,7 @@ pub record Attaches (slot before : ℕ) (standing : Mark) (old new : Counted Rec
   pub accesses : new.accesses ≡ old.accesses + 6
 
 -- a slot was taken from between its neighbours, and now stands nowhere
-pub record Detaches (slot : ℕ) (old new : Counted Record) : Type 0 where
+pub record Detaches (slot : ℕ) (old new : CellsState Record) : Type 0 where
   pub nexts : (t : ℕ) → (t == slot) ≡ false → next_at new.items t ≡ (if t == previous_at old.items slot then next_at old.items slot else next_at old.items t)
   pub previouses : (t : ℕ) → (t == slot) ≡ false → previous_at new.items t ≡ (if t == next_at old.items slot then previous_at old.items slot else previous_at old.items t)
   pub standings : (t : ℕ) → (t == slot) ≡ false → standing_at new.items t ≡ standing_at old.items t
@@ -72,8 +72,8 @@ pub record Detaches (slot : ℕ) (old new : Counted Record) : Type 0 where
 
 -- the records by slot, the window's places, and the hit bits by slot
 pub record LinkState : Type 0 where
-  pub records : Counted Record
-  pub window : Counted (Option ℕ)
+  pub records : CellsState Record
+  pub window : CellsState (Option ℕ)
   pub bits : HitBits
 
 -- how often a record or a place was read or written
@@ -92,7 +92,7 @@ slot_at l slot = (record_at l.records.items slot, bit_at l slot)
 
 -- nothing was done yet: no slot stands anywhere, no bit is set, and no place is taken
 abbrev pub fresh : ℕ → ℕ → LinkState
-fresh slots window = record { records = counted (replicate slots vacant) 0; window = counted (replicate window None) 0; bits = hit_bits (replicate slots false) 0 }
+fresh slots window = record { records = cells_state (replicate slots vacant) 0; window = cells_state (replicate window None) 0; bits = hit_bits (replicate slots false) 0 }
 
 -- a slot's bit is this one, and nothing else changed
 pub record SetsBit (slot : ℕ) (bit : Bool) (old new : LinkState) : Type 0 where

@@ -23,7 +23,7 @@ pub record IsMain (l : LinkState) (main : MainRing) (slots : List ℕ) : Type 0 
 abbrev pub IsMainRing : LinkState → MainRing → Type 0
 IsMainRing l main = IsMain l main (main_slots l main)
 
--- how many slots the hand passes, how often it looks, and Main from its victim
+-- how many slots the hand passes, how often it inspects, and Main from its victim
 abbrev pub set_front : List (ℕ × Bool) → ℕ
 set_front main = hand.set_front (λ e. e.1) main
 

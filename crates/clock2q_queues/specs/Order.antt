@@ -1,6 +1,6 @@
 -- The places of the history in the order of their keys, and the chain of the free ones.
 use Rattle.std.specs.Prelude.{◌≡◌, ℕ, ◌+◌, ◌^◌, ◌<◌, ◌≤◌, List, [], ◌∷◌, ◌++◌, length, Option}
-use Rattle.clock2q_queues.specs.Cells.{Counted}
+use Rattle.clock2q_queues.specs.Cells.{CellsState}
 use Rattle.clock2q_queues.specs.Rings.{AllApart, AllBelow, around}
 use Rattle.clock2q_queues.specs.declared.links.Record.{Record}
 use Rattle.clock2q_queues.specs.Links.{IsQueue, slots_from, next_at}
@@ -46,7 +46,7 @@ abbrev pub IsOrder : List Record → Option ℕ → ℕ → Chain → Type 0
 IsOrder rs newest len chain = IsOrderOf rs newest len chain (slots_from rs newest len) (free_places rs chain)
 
 -- the order and the chain, as the records hold them
-abbrev pub order_shown : Counted Record → Option ℕ → ℕ → Chain → PlaceOrder
+abbrev pub order_shown : CellsState Record → Option ℕ → ℕ → Chain → PlaceOrder
 order_shown rs newest len chain = record { places = slots_from rs.items newest len; free = free_places rs.items chain; limit = length rs.items; accesses = rs.accesses }
 
 -- what callers may rely on: no place stands twice, each was used, and no more were used than there are

@@ -34,8 +34,8 @@ pub fn index_room(limit: usize) -> usize
 /// A key at each place, with its hash and a value. Places are numbered from 0, in the order in
 /// which they are first used.
 ///
-/// One function compares keys, and counts each comparison as a question. Two functions write keys,
-/// and count each write.
+/// One function compares keys, and counts each question. Two functions write keys, and count each
+/// write.
 ///
 /// # Example
 ///
@@ -190,7 +190,7 @@ impl<K: Eq, V, A: Allocator> Keys<K, V, A> {
         self.questions.raise(&());
     }
 
-    /// Returns whether `key` equals the key at a place, and counts the question.
+    /// Returns true if `key` equals the key at a place, and counts the question.
     pub fn is(&mut self, place: u32, key: &K) -> bool
         requires used { place < length self.old.entries }
         ensures value { result ≡ is_key_at K.eq key.now self.old.entries place }

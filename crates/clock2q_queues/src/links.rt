@@ -1,7 +1,7 @@
 //! What the queues stand on: the link records and the hit bits by slot number, and the places of
 //! Small's window.
 ghost use Rattle.std.specs.Prelude.{◌≡◌, ℕ, ◌+◌, ◌^◌, ◌<◌, ◌&&◌, length, IfOk, replicate, None, false, if◌then◌else◌, ◌==◌};
-ghost use Rattle.clock2q_queues.specs.Cells.{Counted, counted, accessed, written};
+ghost use Rattle.clock2q_queues.specs.Cells.{CellsState, cells_state, accessed, written};
 ghost use Rattle.clock2q_queues.specs.Links.{LinkState, vacant, is_old, Attaches, Detaches, SetsBit, fresh, record_at, next_at, previous_at, with_next, with_previous, with_standing, standing_at, bit_at, place_at};
 
 mod cells;
@@ -149,7 +149,7 @@ impl<A: Allocator> Links<A> {
     /// Raises the count of accesses by as many as the proof of the call picks.
     pub fn charge(&mut self)
         ghost more: { ℕ }
-        ensures { self.new ≡ record self.old { records = counted self.old.records.items (self.old.records.accesses + more) } }
+        ensures { self.new ≡ record self.old { records = cells_state self.old.records.items (self.old.records.accesses + more) } }
     {
         self.records.charge();
     }
@@ -227,7 +227,7 @@ impl<A: Allocator> Links<A> {
         self.bits.set(slot, bit);
     }
 
-    /// Returns whether a slot's bit was set, and clears it: the hand's inspection of a slot.
+    /// Returns true if a slot's bit was set, and clears it: the hand's inspection of a slot.
     pub fn inspect(&mut self, slot: u32) -> bool
         requires { slot < length self.old.records.items }
         ensures value { result ≡ bit_at self.old slot }

@@ -116,7 +116,7 @@ impl<A: Allocator> Queues<A> {
         self.small.tail()
     }
 
-    /// Returns whether the oldest slot of Small goes on to Main instead of leaving: it is old, and
+    /// Returns true if the oldest slot of Small goes on to Main instead of leaving: it is old, and
     /// its bit is set.
     pub fn tail_is_promoted(&mut self) -> bool
         ensures value { result ≡ tail_promoted (last_or None self.old.small) }

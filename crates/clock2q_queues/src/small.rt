@@ -129,7 +129,7 @@ impl Small {
         self.oldest = end_after(self.oldest, slot, self.len, was.previous);
     }
 
-    /// Returns whether a slot goes on to Main instead of leaving: it is old, and its bit is set.
+    /// Returns true if a slot goes on to Main instead of leaving: it is old, and its bit is set.
     pub fn is_promoted<A: Allocator>(&self, links: &mut Links<A>, slot: u32) -> bool
         requires slot_in { slot < length links.old.records.items }
         requires in_small { IsInSmall (standing_at links.old.records.items slot) }

@@ -101,7 +101,7 @@ impl<K: Hash + Eq + Drop, V: Drop, S: BuildHasher, A: Allocator> Cache<K, V, S, 
     /// # Cost
     ///
     /// That of [`put`](Cache::put), and that of `make` if it is called. Contracts don't see what
-    /// the call spent: its counts of comparisons and of accesses to links are raised to the bounds.
+    /// the call spent: its counts of questions and of accesses to links are raised to the bounds.
     pub fn get_or_insert_mut<F: FnOnce() -> V>(&mut self, key: K, make: F) -> (usize, &mut V)
         requires { slice_get self.old.machine.values (slotted_at (slot_of (K.eq key) self.old.machine) (K.eq key) key self.old.machine) ≡ None → F.pre make }
         ensures* writes_back { sem 𝓛 (LendsTaken K.row V.row S.row A.row S.Hasher.row K.Hash S.BuildHasher S.Hasher.Hasher A.Allocator self.entry key result.1) }

@@ -21,7 +21,7 @@ impl<K: Hash + Eq, V, S: BuildHasher, A: Allocator> Cache<K, V, S, A> {
     ///
     /// # Cost
     ///
-    /// One hash of the key, and at most one comparison with each candidate. At most eight accesses
+    /// One hash of the key, and at most one question to each candidate. At most eight accesses
     /// to links, and no inspection by the hand.
     pub fn remove(&mut self, key: &K) -> bool
         ensures found { IsTrue result ↔ IsSome (slot_of (K.eq key.now) self.old.machine) }

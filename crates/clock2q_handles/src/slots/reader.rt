@@ -4,7 +4,7 @@ ghost use Rattle.std.specs.Prelude.{◌≡◌, ◌+◌, ◌%◌, ◌<◌, IfSome
 
 use crate::metadata::Metadata;
 use crate::slots::Slots;
-use crate::slots::counted::Counted;
+use crate::slots::counted_slice::CountedSlice;
 use std::alloc::Allocator;
 use std::marker::Model;
 
@@ -12,8 +12,8 @@ use std::marker::Model;
 /// number of slots less one.
 #[derive(Drop)]
 pub struct Reader<'a, H> {
-    metadata: Counted<'a, Metadata>,
-    handles: Counted<'a, H>,
+    metadata: CountedSlice<'a, Metadata>,
+    handles: CountedSlice<'a, H>,
     mask: usize,
 }
 
@@ -39,8 +39,8 @@ impl<'a, H: Copy + Default> Reader<'a, H> {
         ensures { result ≡ reader_value slots.now.slots 0 0 }
     {
         Reader {
-            metadata: Counted::new(slots.metadata.as_slice()),
-            handles: Counted::new(slots.handles.as_slice()),
+            metadata: CountedSlice::new(slots.metadata.as_slice()),
+            handles: CountedSlice::new(slots.handles.as_slice()),
             mask: slots.count().wrapping_sub(1),
         }
     }

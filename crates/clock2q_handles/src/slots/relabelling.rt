@@ -1,7 +1,7 @@
 //! Handles written over.
 ghost use Rattle.clock2q_handles.specs.Found.{FindsAt};
 ghost use Rattle.clock2q_handles.specs.Homes.{is_entry_of, listed};
-ghost use Rattle.clock2q_handles.specs.Layout.{IsTidy, slot_at, reach, homes_of};
+ghost use Rattle.clock2q_handles.specs.Layout.{IsTidy, slot_at, reach, homes_of, AreNear};
 ghost use Rattle.clock2q_handles.specs.Slots.{cell, cells, mark_of, slots_value, IsSlotCount};
 ghost use Rattle.std.specs.List.{list_any};
 ghost use Rattle.std.specs.Prelude.{true, ◌≡◌, ◌+◌, ◌%◌, ◌<◌, ◌≤◌, ℕ, length, set};
@@ -30,7 +30,7 @@ impl<H: Copy + Default, A: Allocator> Slots<H, A> {
     where
         H: PartialEq,
         requires tidy { IsTidy self.old.slots }
-        requires near { (n : ℕ) → reach (slot_at self.old.slots n) ≤ 16777215 }
+        requires near { AreNear self.old.slots }
         requires held { list_any (is_entry_of H.PartialEq.eq hash handle) (listed (homes_of self.old.slots) (hash % length self.old.slots)) ≡ true }
         ensures found { FindsAt (is_entry_of H.PartialEq.eq hash handle) self.old.slots (hash % length self.old.slots) result }
         ensures kept { self.new ≡ self.old }
@@ -57,7 +57,7 @@ fn find_held_in<H: Copy + Default + PartialEq>(
     requires same { length handles.old ≡ length metadata.old }
     requires slot_count { IsSlotCount (length metadata.old) }
     requires tidy { IsTidy (cells metadata.old handles.old) }
-    requires near { (n : ℕ) → reach (slot_at (cells metadata.old handles.old) n) ≤ 16777215 }
+    requires near { AreNear (cells metadata.old handles.old) }
     requires held { list_any (is_entry_of H.PartialEq.eq hash handle) (listed (homes_of (cells metadata.old handles.old)) (hash % length (cells metadata.old handles.old))) ≡ true }
     ensures found { FindsAt (is_entry_of H.PartialEq.eq hash handle) (cells metadata.old handles.old) (hash % length (cells metadata.old handles.old)) result }
     ensures kept { (metadata.new ≡ metadata.old) × (handles.new ≡ handles.old) × (writes.new ≡ writes.old) }

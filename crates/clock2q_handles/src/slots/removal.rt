@@ -1,7 +1,7 @@
 //! Entries removed from the slots.
 ghost use Rattle.clock2q_handles.specs.Found.{TakesOut, TakesOutAt};
 ghost use Rattle.clock2q_handles.specs.Homes.{is_entry_of, listed};
-ghost use Rattle.clock2q_handles.specs.Layout.{IsTidy, slot_at, reach, homes_of};
+ghost use Rattle.clock2q_handles.specs.Layout.{IsTidy, slot_at, reach, homes_of, AreNear};
 ghost use Rattle.clock2q_handles.specs.Slots.{cells, IsSlotCount};
 ghost use Rattle.std.specs.Bool.{OnTrue, OnFalse};
 ghost use Rattle.std.specs.List.{list_any};
@@ -20,7 +20,7 @@ impl<H: Copy + Default, A: Allocator> Slots<H, A> {
     where
         H: PartialEq,
         requires tidy { IsTidy self.old.slots }
-        requires near { (n : ℕ) → reach (slot_at self.old.slots n) ≤ 16777215 }
+        requires near { AreNear self.old.slots }
         ensures taken { OnTrue result (TakesOut (is_entry_of H.PartialEq.eq hash handle) self.old.slots self.new.slots (hash % length self.old.slots) self.old.writes self.new.writes) }
         ensures none { OnFalse result (list_any (is_entry_of H.PartialEq.eq hash handle) (listed (homes_of self.old.slots) (hash % length self.old.slots)) ≡ false) }
         ensures kept { OnFalse result (self.new ≡ self.old) }
@@ -40,7 +40,7 @@ impl<H: Copy + Default, A: Allocator> Slots<H, A> {
     where
         H: PartialEq,
         requires tidy { IsTidy self.old.slots }
-        requires near { (n : ℕ) → reach (slot_at self.old.slots n) ≤ 16777215 }
+        requires near { AreNear self.old.slots }
         requires held { list_any (is_entry_of H.PartialEq.eq hash handle) (listed (homes_of self.old.slots) (hash % length self.old.slots)) ≡ true }
         ensures taken { TakesOut (is_entry_of H.PartialEq.eq hash handle) self.old.slots self.new.slots (hash % length self.old.slots) self.old.writes self.new.writes }
     {
@@ -105,7 +105,7 @@ fn remove_from<H: Copy + Default + PartialEq>(
     requires same { length handles.old ≡ length metadata.old }
     requires slot_count { IsSlotCount (length metadata.old) }
     requires tidy { IsTidy (cells metadata.old handles.old) }
-    requires near { (n : ℕ) → reach (slot_at (cells metadata.old handles.old) n) ≤ 16777215 }
+    requires near { AreNear (cells metadata.old handles.old) }
     ensures taken { OnTrue result (TakesOut (is_entry_of H.PartialEq.eq hash handle) (cells metadata.old handles.old) (cells metadata.new handles.new) (hash % length (cells metadata.old handles.old)) writes.old.total writes.new.total) }
     ensures none { OnFalse result (list_any (is_entry_of H.PartialEq.eq hash handle) (listed (homes_of (cells metadata.old handles.old)) (hash % length (cells metadata.old handles.old))) ≡ false) }
     ensures kept { OnFalse result ((metadata.new ≡ metadata.old) × (handles.new ≡ handles.old) × (writes.new ≡ writes.old)) }
@@ -128,7 +128,7 @@ fn remove_held_from<H: Copy + Default + PartialEq>(
     requires same { length handles.old ≡ length metadata.old }
     requires slot_count { IsSlotCount (length metadata.old) }
     requires tidy { IsTidy (cells metadata.old handles.old) }
-    requires near { (n : ℕ) → reach (slot_at (cells metadata.old handles.old) n) ≤ 16777215 }
+    requires near { AreNear (cells metadata.old handles.old) }
     requires held { list_any (is_entry_of H.PartialEq.eq hash handle) (listed (homes_of (cells metadata.old handles.old)) (hash % length (cells metadata.old handles.old))) ≡ true }
     ensures taken { TakesOut (is_entry_of H.PartialEq.eq hash handle) (cells metadata.old handles.old) (cells metadata.new handles.new) (hash % length (cells metadata.old handles.old)) writes.old.total writes.new.total }
     ensures as_many { length handles.new ≡ length metadata.new }

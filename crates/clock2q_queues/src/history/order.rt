@@ -1,7 +1,7 @@
 //! The order of the history's places, and the chain of the free places.
 ghost use Rattle.std.specs.Prelude.{◌≡◌, ℕ, ◌+◌, ◌-◌, ◌^◌, ◌<◌, true, false, List, [], ◌∷◌, take, drop, length, slice_get, Some, None, IfOk};
 ghost use Rattle.std.specs.List.{last_or};
-ghost use Rattle.clock2q_queues.specs.Cells.{Counted, Rises, written};
+ghost use Rattle.clock2q_queues.specs.Cells.{CellsState, Rises, written};
 ghost use Rattle.clock2q_queues.specs.Rings.{has, without};
 ghost use Rattle.clock2q_queues.specs.Order.{free_places};
 

@@ -133,7 +133,7 @@ impl<K, V, A: Allocator> Store<K, V, A> {
 impl<K: Eq, V, A: Allocator> Store<K, V, A> {
     ghost use Rattle.clock2q_queues.specs.Keys.{is_key_at};
 
-    /// Returns whether `key` equals the key at a place, and counts the question.
+    /// Returns true if `key` equals the key at a place, and counts the question.
     pub fn is(&self, place: u32, key: &K, asked: &mut Count) -> bool
         requires used { place < length self.now.entries }
         ensures value { result ≡ is_key_at K.eq key.now self.now.entries place }

@@ -1,7 +1,7 @@
 //! The vectors that the links stand on. Only these accessors reach what the vectors hold, and each
 //! read or write of a cell, and each inspection of a bit by the hand, raises a count.
 ghost use Rattle.std.specs.Prelude.{◌≡◌, ℕ, ◌+◌, ◌<◌, ◌&&◌, false, length, replicate, slice_index_or};
-ghost use Rattle.clock2q_queues.specs.Cells.{counted, accessed, written};
+ghost use Rattle.clock2q_queues.specs.Cells.{cells_state, accessed, written};
 
 use crate::links::{Mark, Record};
 use clock2q_count::Count;
@@ -16,19 +16,19 @@ pub struct Cells<T: Copy, A: Allocator = Global> {
 }
 
 impl<T: Copy, A: Allocator> Model for Cells<T, A> {
-    ghost use Rattle.clock2q_queues.specs.Cells.{Counted, counted, counted_code};
+    ghost use Rattle.clock2q_queues.specs.Cells.{CellsState, cells_state, cells_code};
 
-    ghost Value = { Counted T };
+    ghost Value = { CellsState T };
 
-    ghost coded = { counted_code T.code };
+    ghost coded = { cells_code T.code };
 
-    ghost view = { λ c. counted c.items.items c.accesses.total };
+    ghost view = { λ c. cells_state c.items.items c.accesses.total };
 }
 
 impl<T: Copy, A: Allocator> Cells<T, A> {
     /// Returns cells that hold these items, none of which was read or written yet.
     pub fn new(items: Vec<T, A>) -> Self
-        ensures { result ≡ counted items.items 0 }
+        ensures { result ≡ cells_state items.items 0 }
     {
         Cells {
             items,
@@ -65,7 +65,7 @@ impl<T: Copy, A: Allocator> Cells<T, A> {
     /// Raises the count of accesses by as many as the proof of the call picks.
     pub fn charge(&mut self)
         ghost more: { ℕ }
-        ensures { self.new ≡ counted self.old.items (self.old.accesses + more) }
+        ensures { self.new ≡ cells_state self.old.items (self.old.accesses + more) }
     {
         self.accesses.raise(&());
     }
@@ -127,7 +127,7 @@ impl<A: Allocator> Bits<A> {
         self.bits[slot as usize] = bit;
     }
 
-    /// Returns whether a slot's bit was set, and clears it: the hand's inspection of a slot.
+    /// Returns true if a slot's bit was set, and clears it: the hand's inspection of a slot.
     pub fn inspect(&mut self, slot: u32) -> bool
         requires { slot < length self.old.items }
         ensures value { result ≡ bit_in self.old.items slot }

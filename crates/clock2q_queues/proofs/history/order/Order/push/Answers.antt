@@ -1,7 +1,7 @@
 use Rattle.std.proofs.Common.{◌≡◌, ◌+◌, ◌<◌, ◌∷◌, List, Some, length, drop, ap, sym, subst, ◌∙◌}
 use Rattle.std.proofs.lemmas.List.{length-set}
 use Rattle.std.specs.Option.{unwrap_or}
-use Rattle.clock2q_queues.specs.Cells.{Counted}
+use Rattle.clock2q_queues.specs.Cells.{CellsState}
 use Rattle.clock2q_queues.specs.declared.links.Record.{Record}
 use Rattle.clock2q_queues.specs.Links.{slots_from}
 use Rattle.clock2q_queues.specs.Order.{PlaceOrder, IsOrderOf, free_places}
@@ -80,7 +80,7 @@ returns-clause-order g c =
     ] in
     let as_many : length c.match-self.self-inside.records.items ≡ length i.records.items =
     elim c.match-self.branch [
-      | in-None w ↦ rw w.self-inside-is (ap (λ (z : Counted Record). length z.items) w.write.ensures
+      | in-None w ↦ rw w.self-inside-is (ap (λ (z : CellsState Record). length z.items) w.write.ensures
           ∙ length-set c.take.new.records.items place _ ∙ ap (λ (z : List Record). length z) c.take.ensures.items)
       | in-Some w ↦ rw w.self-inside-is (w.attach.ensures.as_many ∙ ap (λ (z : List Record). length z) c.take.ensures.items)
     ] in

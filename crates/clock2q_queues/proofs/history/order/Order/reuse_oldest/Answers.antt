@@ -1,6 +1,6 @@
 use Rattle.std.proofs.Common.{◌∷◌, ◌-◌, None, length, take, ap, sym, ◌∙◌}
 use Rattle.std.specs.List.{last_or}
-use Rattle.clock2q_queues.specs.Cells.{Counted}
+use Rattle.clock2q_queues.specs.Cells.{CellsState}
 use Rattle.clock2q_queues.specs.Links.{vacant}
 use Rattle.clock2q_queues.specs.declared.links.Record.{Record}
 use Rattle.clock2q_queues.specs.Order.{PlaceOrder, order_shown}
@@ -27,6 +27,6 @@ returns g c =
       whole = IsWholeOrder-from _ _ _ _ (IsOrder-from r.order);
       oldest = ap (λ (z : PlaceOrder). last_or None z.places) (sym c.self.view_is) ∙ r.oldest_was;
       order = rw (← c.self.view_is) (order_shown-is _ r.order
-          ∙ ap (λ (z : Counted Record). record { places = oldest ∷ take (length q.places - 1) q.places; free = q.free; limit = length z.items; accesses = z.accesses })
+          ∙ ap (λ (z : CellsState Record). record { places = oldest ∷ take (length q.places - 1) q.places; free = q.free; limit = length z.items; accesses = z.accesses })
           c.read-oldest.ensures.counted);
     }

@@ -4,20 +4,20 @@ ghost use Rattle.std.specs.Prelude.{◌≡◌, ◌+◌, ◌<◌, length, get_or}
 use clock2q_count::Count;
 
 /// One of the vectors of a table's slots. There is no other way to its elements than
-/// [read](Counted::read), which counts each.
+/// [read](CountedSlice::read), which counts each.
 #[derive(Drop)]
-pub struct Counted<'a, T> {
+pub struct CountedSlice<'a, T> {
     items: &'a [T],
     reads: Count,
 }
 
-impl<'a, T: Copy> Counted<'a, T> {
+impl<'a, T: Copy> CountedSlice<'a, T> {
     /// Returns a slice of which nothing was read yet.
-    pub(crate) fn new(items: &'a [T]) -> Counted<'a, T>
+    pub(crate) fn new(items: &'a [T]) -> CountedSlice<'a, T>
         ensures items { result.items.now ≡ items.now }
         ensures reads { result.reads.total ≡ 0 }
     {
-        Counted {
+        CountedSlice {
             items,
             reads: Count::new(),
         }
