@@ -21,6 +21,10 @@ module _ {M H : Type 0} (m : Mut M (H × Unit {0}) Bool) where
   always_offered [] f always = tt
   always_offered (h ∷ hs) f always = ((always.at ((h, tt) ∷ [])).0, λ next called. always_offered hs next (mut_next m f (h, tt) false next next called refl always))
 
+  -- a closure that may always be called may be offered any handles, as those of a search
+  pub offered_any : (hs : List H) (f : M) → always_mut m f → MayBeOffered m f hs
+  offered_any hs f always = record { in_turn = always_offered hs f always }
+
   module _ (I : M → Type 0) (allowed : H → Type 0) (takes : (f : M) (h : H) → I f → allowed h → Takes m f (h, tt))
       (keeps : (f : M) (h : H) (next : M) → I f → allowed h → Called m f (h, tt) false next → I next) where
     -- where what a closure needs lasts through its rejections, it may be offered handles that it takes
@@ -31,7 +35,7 @@ module _ {M H : Type 0} (m : Mut M (H × Unit {0}) Bool) where
   module _ {F : Type 0} (g : Mut F (H × Unit {0}) ℕ) (rehash : F) (homes : List (List (ℕ × H))) (x : ℕ) (f : M) where
     -- a closure that may always be called may be offered the candidates
     pub offered_always : always_mut m f → AfterGrowth g rehash homes (λ hs. MayBeOffered m f (candidates hs x))
-    offered_always always key gives = record { in_turn = always_offered (candidates _ x) f always }
+    offered_always always key gives = offered_any (candidates _ x) f always
 
     -- and one that may be called on every held handle
     pub offered_held : TakesHeld homes f → AfterGrowth g rehash homes (λ hs. MayBeOffered m f (candidates hs x))

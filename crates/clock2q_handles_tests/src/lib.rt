@@ -10,6 +10,8 @@ mod partitions;
 #[cfg(test)]
 mod plain;
 #[cfg(test)]
+mod positions;
+#[cfg(test)]
 mod refusals;
 #[cfg(test)]
 mod seeded;

@@ -1,9 +1,9 @@
 //! Lists of calls from seeds, each call's reply and what it leaves compared with plain lists.
-ghost use Rattle.std.specs.Prelude.{◌<◌};
 
 use crate::hashed::{Handle, Hashed, Seen};
 use crate::plain::Plain;
 use crate::walks::yields;
+use clock2q_refusing::Draws;
 use std::alloc::{AllocError, Global};
 use std::process::Abort;
 use std::test::Fail;
@@ -15,10 +15,10 @@ const CALLS: u64 = 500;
 /// A bit of a hash that no small table reads.
 const UNREAD: u32 = 40;
 
-/// Numbers that follow from a seed: a sum that grows by an odd step, its bits mixed.
+/// Calls drawn from a seed.
 #[derive(Drop)]
-struct Draws {
-    sum: u64,
+struct DrawnCalls {
+    draws: Draws,
     /// How many homes near the end of the slots the hashes have.
     homes: u64,
 }
@@ -36,38 +36,24 @@ enum Call {
     IsEmpty,
 }
 
-impl Draws {
-    fn next(&mut self) -> u64 {
-        self.sum = self.sum.wrapping_add(0x9E37_79B9_7F4A_7C15);
-        let mixed = (self.sum ^ (self.sum >> 30)).wrapping_mul(0xBF58_476D_1CE4_E5B9);
-        let mixed = (mixed ^ (mixed >> 27)).wrapping_mul(0x94D0_49BB_1331_11EB);
-        mixed ^ (mixed >> 31)
-    }
-
-    /// A number below the bound, or 0.
-    fn below(&mut self, bound: u64) -> u64
-        ensures { 0 < bound → result < bound }
-    {
-        self.next().checked_rem(bound).unwrap_or(0)
-    }
-
+impl DrawnCalls {
     /// A hash of one of three fingerprints. Half of the hashes have one of the homes just before
     /// and after the end of the slots, however many there are; the others do up to some count of
     /// slots, and have another home in larger tables.
     fn hash(&mut self) -> u64 {
-        let top = self.below(3) * 0x7F << 56;
-        let unread = self.below(2) << UNREAD;
-        let home = self.below(self.homes).wrapping_sub(self.homes / 2) & 0xFFFF;
-        let leaving = match self.below(2) {
+        let top = self.draws.below(3) * 0x7F << 56;
+        let unread = self.draws.below(2) << UNREAD;
+        let home = self.draws.below(self.homes).wrapping_sub(self.homes / 2) & 0xFFFF;
+        let leaving = match self.draws.below(2) {
             0 => 0,
-            _ => 16 << self.below(6),
+            _ => 16 << self.draws.below(6),
         };
         top | unread | (home ^ leaving)
     }
 
     /// An entry that is held, or now and then one that is not.
     fn held(&mut self, number: u64, plain: &Plain) -> Handle {
-        let place = self.below((plain.len() as u64).saturating_add(2));
+        let place = self.draws.below((plain.len() as u64).saturating_add(2));
         match plain.entry(place as usize) {
             Some(handle) => handle,
             None => Handle {
@@ -79,7 +65,7 @@ impl Draws {
 
     /// A handle to put in: mostly a new one.
     fn handle(&mut self, number: u64, plain: &Plain) -> Handle {
-        match self.below(8) {
+        match self.draws.below(8) {
             0 => self.held(number, plain),
             _ => Handle {
                 hash: self.hash(),
@@ -92,23 +78,23 @@ impl Draws {
     /// mostly take them out.
     fn call(&mut self, number: u64, plain: &Plain) -> Call {
         let additions = if number < CALLS / 2 { 10 } else { 4 };
-        match self.below(20) {
+        match self.draws.below(20) {
             kind if kind < additions && kind % 2 == 0 => Call::Insert(self.handle(number, plain)),
             kind if kind < additions => {
                 let accepted = self.held(number, plain);
-                let hash = match self.below(2) {
+                let hash = match self.draws.below(2) {
                     0 => self.hash(),
-                    _ => accepted.hash ^ (self.below(2) << UNREAD),
+                    _ => accepted.hash ^ (self.draws.below(2) << UNREAD),
                 };
                 Call::FindOrInsert(Handle { hash, number }, accepted.number)
             }
             0..=12 => {
                 let handle = self.held(number, plain);
-                Call::Remove(handle.hash ^ (self.below(2) << UNREAD), handle)
+                Call::Remove(handle.hash ^ (self.draws.below(2) << UNREAD), handle)
             }
             13 | 14 => Call::Get(self.hash()),
-            15 => Call::Reserve(self.below(8) as usize),
-            16 => Call::Reserve(usize::MAX - self.below(2) as usize),
+            15 => Call::Reserve(self.draws.below(8) as usize),
+            16 => Call::Reserve(usize::MAX - self.draws.below(2) as usize),
             17 => Call::Len,
             18 => Call::Capacity,
             _ => Call::IsEmpty,
@@ -194,8 +180,8 @@ impl Pair {
 #[test]
 fn plain_lists(rt: HostRuntime) -> Result<(), Fail> {
     for seed in 0..LISTS {
-        let mut draws = Draws {
-            sum: seed,
+        let mut draws = DrawnCalls {
+            draws: Draws::new(seed),
             homes: 1 << (seed % 4),
         };
         let mut pair = Pair::with_capacity(rt.alloc(), (seed % 3 * 10) as usize)?;
