@@ -16,9 +16,7 @@ use Rattle.clock2q_queues.specs.Indexes.{AllDistinct, HasHash}
 use Rattle.clock2q_queues.specs.Small.{small_hit_at}
 use Rattle.clock2q_queues.specs.MainRing.{main_hit_at}
 use Rattle.std.specs.Bool.{then_some}
-use Rattle.clock2q_queues.specs.Queues.{QueueState, slots_of, IsStanding}
-use Rattle.clock2q_queues.specs.declared.queues.Standing.{Standing}
-use Rattle.clock2q_queues.specs.declared.queues.Standing.TheVariants.{Free, Small, Main}
+use Rattle.clock2q_queues.specs.Queues.{QueueState, slots_of}
 use Rattle.clock2q_queues.specs.History.{Remembered}
 use Rattle.clock2q_queues.proofs.Rings.{has-append, has_first, has_later, below_of}
 use Rattle.clock2q_queues.proofs.Indexes.{candidate_there}
@@ -168,14 +166,6 @@ hashes-same {K} {V} eq hash key entries (p ∷ ps) respects a = of (hashes-same 
 -- a resident's slot stands in one of the queues
 pub either-queue : (q : QueueState) (slot : ℕ) → has slot (places_of q) ≡ true → (has slot (slots_of q.small) ≡ true) ⊎ (has slot (slots_of q.main) ≡ true)
 either-queue q slot there = or_cases (has slot (slots_of q.small)) (has slot (slots_of q.main)) (sym (has-append slot (slots_of q.small) (slots_of q.main)) ∙ there)
-
-pub standing-there : (q : QueueState) (slot : ℕ) (r : Standing) → (r ≡ Small) ⊎ (r ≡ Main) → IsStanding r slot q → has slot (places_of q) ≡ true
-standing-there q slot Free some at = elim some [ inl e ↦ cc | inr e ↦ cc ]
-standing-there q slot Small some at = has-append slot (slots_of q.small) (slots_of q.main) ∙ rw at.0 refl
-standing-there q slot Main some at = has-append slot (slots_of q.small) (slots_of q.main) ∙ rw (at.0, at.1) refl
-
-pub standing-nowhere : (q : QueueState) (slot : ℕ) → IsStanding Free slot q → has slot (places_of q) ≡ false
-standing-nowhere q slot at = has-append slot (slots_of q.small) (slots_of q.main) ∙ rw (at.0, at.1) refl
 
 slots-small_hit : (slot : ℕ) (es : List (ℕ × Age)) → slots_of (small_hit_at slot es) ≡ slots_of es
 slots-small_hit slot [] = refl

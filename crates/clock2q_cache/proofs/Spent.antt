@@ -43,19 +43,15 @@ module _ {K V : Type 0} (q : QueueState) (h : Remembered K) (keys : KeyPlaces K 
   pub made-spends : (keys' : KeyPlaces K V) → keys'.questions ≡ keys.questions → Spends 0 0 0 (counts_of q h keys) (counts_of q h keys')
   made-spends keys' same = record { inspections = omega arith; accesses = (omega arith, omega arith); questions = (omega (arith, same), omega (arith, same)) }
 
--- one slot more of all: its resident is asked about, and stays or leaves
-pub slot-stays : (slot : ℕ) (a b c : Counts) → Spends 0 (9 * slot) 0 a b → Spends 0 1 0 b c → Spends 0 (9 * (slot + 1)) 0 a c
-slot-stays slot a b c before asked = record {
-  inspections = omega (arith, before.inspections, asked.inspections);
-  accesses = (omega (arith, before.accesses.0, asked.accesses.0), omega (arith, before.accesses.1, asked.accesses.1));
-  questions = (omega (arith, before.questions.0, asked.questions.0), omega (arith, before.questions.1, asked.questions.1));
-}
+-- one slot more of all: its resident stays or leaves
+pub slot-stays : (slot : ℕ) (a b : Counts) → Spends 0 (8 * slot) 0 a b → Spends 0 (8 * (slot + 1)) 0 a b
+slot-stays slot a b before = record { inspections = before.inspections; accesses = (before.accesses.0, omega (arith, before.accesses.1)); questions = before.questions }
 
-pub slot-leaves : (slot : ℕ) (a b c d : Counts) → Spends 0 (9 * slot) 0 a b → Spends 0 1 0 b c → Spends 0 8 0 c d → Spends 0 (9 * (slot + 1)) 0 a d
-slot-leaves slot a b c d before asked left = record {
-  inspections = omega (arith, before.inspections, asked.inspections, left.inspections);
-  accesses = (omega (arith, before.accesses.0, asked.accesses.0, left.accesses.0), omega (arith, before.accesses.1, asked.accesses.1, left.accesses.1));
-  questions = (omega (arith, before.questions.0, asked.questions.0, left.questions.0), omega (arith, before.questions.1, asked.questions.1, left.questions.1));
+pub slot-leaves : (slot : ℕ) (a b c : Counts) → Spends 0 (8 * slot) 0 a b → Spends 0 8 0 b c → Spends 0 (8 * (slot + 1)) 0 a c
+slot-leaves slot a b c before left = record {
+  inspections = omega (arith, before.inspections, left.inspections);
+  accesses = (omega (arith, before.accesses.0, left.accesses.0), omega (arith, before.accesses.1, left.accesses.1));
+  questions = (omega (arith, before.questions.0, left.questions.0), omega (arith, before.questions.1, left.questions.1));
 }
 
 module _ {K V S H : Type 0} (key : HashMembers K) (build : builder.Ghosts S H) (hash : hasher.Ghosts H) where
@@ -76,7 +72,7 @@ module _ {K V S H : Type 0} (key : HashMembers K) (build : builder.Ghosts S H) (
   prefill-costs values made old new is spent = costs-unlooked (Prefill values) old new refl (omega (arith, ap set_bits is)) spent
 
   pub retain-costs : (bits asked : List Bool) (old new : CacheState K V S) → new.machine ≡ retained asked old.machine
-      → Spends 0 (9 * length old.machine.values) 0 old.counts new.counts → Costs key build hash (Retain bits) old new
+      → Spends 0 (8 * length old.machine.values) 0 old.counts new.counts → Costs key build hash (Retain bits) old new
   retain-costs bits asked old new is spent = costs-unlooked (Retain bits) old new refl (omega (arith, ap set_bits is, clock_bounded key.eq (Retain asked) old.machine)) spent
 
   -- a lookup under the key's hash asks no more than a call with the key may
@@ -143,7 +139,7 @@ module _ {K V S H : Type 0} (key : HashMembers K) (build : builder.Ghosts S H) (
 
   -- the same at a slot
   pub missed_at-becomes : (slot : ℕ) (k : K) (old new : CacheState K V S) → None ≡ then_some (is_at slot (slot_of (key.eq k) old.machine)) slot
-      → new ≡ record old { counts = new.counts } → Spends 0 1 1 old.counts new.counts
+      → new ≡ record old { counts = new.counts } → Spends 0 0 1 old.counts new.counts
       → Becomes key build hash (GetAt slot k) (hit_at slot (key.eq k) old.machine) old new
   missed_at-becomes slot k old new absent kept spent =
       let other = none-some (is_at slot (slot_of (key.eq k) old.machine)) slot absent in
@@ -151,7 +147,7 @@ module _ {K V S H : Type 0} (key : HashMembers K) (build : builder.Ghosts S H) (
       (m, ap (λ (z : CacheState K V S). z.hasher) kept, costs-of (GetAt slot k) old new m spent)
 
   pub hit_at-becomes : (slot resident : ℕ) (k : K) (old found new : CacheState K V S) → Some resident ≡ then_some (is_at slot (slot_of (key.eq k) old.machine)) slot
-      → found ≡ record old { counts = found.counts } → Spends 0 1 1 old.counts found.counts
+      → found ≡ record old { counts = found.counts } → Spends 0 0 1 old.counts found.counts
       → new ≡ record found { machine = new.machine } → new.machine ≡ hit (key.eq k) found.machine
       → Becomes key build hash (GetAt slot k) (hit_at slot (key.eq k) old.machine) old new
   hit_at-becomes slot resident k old found new at kept spent after_hit is =

@@ -8,11 +8,9 @@ use Rattle.std.proofs.lemmas.Bool.{cases_Bool, both_ways}
 use Rattle.std.proofs.lemmas.List.Sums.{sum_by-append}
 use Rattle.clock2q_handles.specs.Homes.{removed}
 use Rattle.clock2q_machine.specs.Ages.{Age}
-use Rattle.clock2q_queues.specs.declared.queues.Standing.{Standing}
-use Rattle.clock2q_queues.specs.declared.queues.Standing.TheVariants as standing
 use Rattle.clock2q_queues.specs.Rings.{has, without}
 use Rattle.clock2q_queues.specs.Keys.{KeyPlaces, hash_at, key_at}
-use Rattle.clock2q_queues.specs.Queues.{QueueState, slots_of, without_slot, IsStanding}
+use Rattle.clock2q_queues.specs.Queues.{QueueState, slots_of, without_slot}
 use Rattle.clock2q_queues.specs.History.{Remembered}
 use Rattle.clock2q_queues.proofs.Rings.{has-append, has_first, eqb_swap, below_of}
 use Rattle.clock2q_queues.proofs.Indexes.{length-taken}
@@ -29,17 +27,6 @@ use Rattle.clock2q_machine.proofs.MachineInvariant.{whole-vacated}
 
 some_same : {X : Type 0} (x y : X) → Some x ≡ Some y → x ≡ y
 some_same x y e = cc
-
--- where a slot stands nowhere
-abbrev pub is_free : Standing → Bool
-is_free standing.Free = true
-is_free standing.Small = false
-is_free standing.Main = false
-
-pub not-free : (s : Standing) → (s ≡ standing.Free → ⊥) → is_free s ≡ false
-not-free standing.Free n = absurd (n refl)
-not-free standing.Small n = refl
-not-free standing.Main n = refl
 
 -- Lists
 
@@ -148,14 +135,6 @@ module _ {K V : Type 0} {eq : K → K → Bool} {hash : K → ℕ} {shares : Sha
       of : (b : Bool) → has t (places_of q) ≡ b → is_some {T = K × ℕ} (if b then option_map (λ k. (k, t)) (key_at keys.entries t) else None) ≡ b
       of false g = refl
       of true g = let k = have_keys keys.entries (places_of q) kept.stored.made t g in ap (λ z. is_some {T = K × ℕ} (option_map (λ (k : K). (k, t)) z)) k.1
-
-  pub standing-some : (t : ℕ) (s : Standing) (free : Bool) → IsStanding s t q → free ≡ is_free s → not free ≡ is_some (resident_at m t)
-  standing-some t s free stands is = of s stands is ∙ sym (has-append t (slots_of q.small) (slots_of q.main)) ∙ sym (resident-some t)
-    where
-      of : (s : Standing) → IsStanding s t q → free ≡ is_free s → not free ≡ (has t (slots_of q.small) || has t (slots_of q.main))
-      of standing.Free st e = rw (e, st.0, st.1) refl
-      of standing.Small st e = rw (e, st.0) refl
-      of standing.Main st e = rw (e, st.0, st.1) refl
 
   module _ (slot : ℕ) (there : IsSome (resident_at m slot)) where
     pub stands : has slot (places_of q) ≡ true

@@ -27,9 +27,8 @@ most_accesses eq (Put key value) m = accesses_for (eq key) m
 most_accesses eq (With key value) m = accesses_for (eq key) m
 most_accesses eq (Try key (Some value)) m = accesses_for (eq key) m
 most_accesses eq (SlotFor key value) m = accesses_for (eq key) m
-most_accesses eq (GetAt slot key) m = 1
 most_accesses eq (Remove key) m = 8
-most_accesses eq (Retain bits) m = 9 * length m.values
+most_accesses eq (Retain bits) m = 8 * length m.values
 most_accesses eq Clear m = m.shares.capacity + m.shares.window
 most_accesses eq other m = 0
 

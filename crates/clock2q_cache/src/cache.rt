@@ -14,7 +14,7 @@ use clock2q_count::Count;
 use clock2q_handles::Table;
 use clock2q_queues::history::History;
 use clock2q_queues::keys::Keys;
-use clock2q_queues::queues::{Queues, Standing};
+use clock2q_queues::queues::Queues;
 use std::alloc::{Allocator, Global};
 use std::hash::{BuildHasher, BuildHasherDefault, FoldHasher, Hash};
 use std::marker::Model;
@@ -183,8 +183,7 @@ impl<K: Hash + Eq, V, S: BuildHasher, A: Allocator> Cache<K, V, S, A> {
     ///
     /// # Cost
     ///
-    /// No hash, at most one question, with the key at that slot, and at most one access to a
-    /// link.
+    /// No hash, at most one question, to the key at that slot, and no access to a link.
     pub fn get_at(&mut self, slot: usize, key: &K) -> Option<&V>
         ensures* machine { sem 𝓛 (LeavesMachine K.row V.row S.row A.row S.Hasher.row K.Hash S.BuildHasher S.Hasher.Hasher A.Allocator self.entry (GetAt slot key.now) (hit_at slot (K.eq key.now) self.old.machine)) }
         ensures value { option_copied result ≡ value_at slot (K.eq key.now) self.old.machine }
@@ -227,16 +226,16 @@ impl<K: Hash + Eq, V, S: BuildHasher, A: Allocator> Cache<K, V, S, A> {
         ensures made { IfSome result (λ found. found < length self.old.machine.values) }
         ensures machine { self.new.machine ≡ self.old.machine }
         ensures kept { self.new ≡ record self.old { counts = self.new.counts } }
-        ensures counts { Spends 0 1 1 self.old.counts self.new.counts }
+        ensures counts { Spends 0 0 1 self.old.counts self.new.counts }
     {
         if slot >= self.keys.len() {
             return None;
         }
         let slot = slot as u32;
-        match self.queues.standing(slot) {
-            Standing::Free => None,
-            Standing::Small | Standing::Main => self.keys.is(slot, key).then_some(slot),
+        if !self.queues.is_resident(slot) {
+            return None;
         }
+        self.keys.is(slot, key).then_some(slot)
     }
 
     /// Returns the hash of a key.

@@ -1,5 +1,6 @@
 pub mod Booleans
 pub mod Entries
+pub mod Flagged
 pub mod Forgetting
 pub mod Hand
 pub mod Hashed

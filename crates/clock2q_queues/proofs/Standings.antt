@@ -1,5 +1,5 @@
 -- What a slot's record tells of the queue that it stands in, and of Small's oldest slot.
-use Rattle.std.proofs.Common.{◌≡◌, ◌⊎◌, ℕ, ◌<◌, ◌≢◌, Bool, true, false, Some, None, length, inl, inr, sym, ap, ◌∙◌, subst}
+use Rattle.std.proofs.Common.{◌≡◌, ◌⊎◌, ℕ, ◌<◌, ◌≢◌, Bool, true, false, ◌||◌, ◌++◌, Some, None, length, inl, inr, refl, sym, ap, ◌∙◌, subst}
 use Rattle.std.specs.List.{last_or}
 use Rattle.std.proofs.lemmas.Bool.{cases_Bool}
 use Rattle.clock2q_machine.specs.Ages.{is_promoted}
@@ -9,11 +9,13 @@ use Rattle.clock2q_queues.specs.declared.queues.Standing.TheVariants as standing
 use Rattle.clock2q_queues.specs.declared.main_ring.MainRing.{MainRing}
 use Rattle.clock2q_queues.specs.declared.small.Small.{Small}
 use Rattle.clock2q_queues.specs.Rings.{has}
+use Rattle.clock2q_queues.specs.Flags.{is_queued}
 use Rattle.clock2q_queues.specs.Links.{LinkState, standing_at}
 use Rattle.clock2q_queues.specs.MainRing.{main_slots, main_entries}
 use Rattle.clock2q_queues.specs.Small.{IsInSmall, small_slots, small_entries, age_at}
 use Rattle.clock2q_queues.specs.Queues.{AreQueues, IsStanding, queues_shown, slots_of, tail_promoted}
 use Rattle.clock2q_queues.proofs.Joining.{in_bounds}
+use Rattle.clock2q_queues.proofs.Rings.{has-append}
 use Rattle.clock2q_queues.proofs.Sharing.{small_slots-of, main_slots-of}
 use Rattle.clock2q_queues.proofs.SlotLists.{tail_among, tail_entry, no_entry}
 
@@ -55,6 +57,16 @@ module _ (l : LinkState) (small : Small) (main : MainRing) (q : AreQueues l smal
       let n : mark ≢ Main = λ h. elim o [ inl y ↦ let p = y.1 in cc | inr y ↦ cc ] in
       let f : mark ≢ Free = λ h. elim o [ inl y ↦ let p = y.1 in cc | inr y ↦ cc ] in
       (of_small (is_in_small n f), of_main (not_in_main n))
+
+  -- a slot whose record says so stands in one of the queues
+  pub stands_anywhere : is_queued mark ≡ has slot (slots_of (small_entries l small) ++ slots_of (main_entries l main))
+  stands_anywhere = of mark refl ∙ sym (has-append slot (slots_of (small_entries l small)) (slots_of (main_entries l main)))
+    where
+      of : (m : Mark) → m ≡ mark → is_queued m ≡ (has slot (slots_of (small_entries l small)) || has slot (slots_of (main_entries l main)))
+      of Free e = let at = stands_free e in rw (at.0, at.1) refl
+      of (Young place) e = let at = stands_small (Young place) e (inl (place, refl)) in rw at.0 refl
+      of Old e = let at = stands_small Old e (inr refl) in rw at.0 refl
+      of Main e = let at = stands_main e in rw (at.0, at.1) refl
 
 -- Small's oldest slot
 

@@ -1,6 +1,7 @@
 pub mod Cells
 pub mod Ends
 pub mod Links
+pub mod Flags
 pub mod MainRing
 pub mod Rings
 pub mod Small

@@ -2,9 +2,11 @@
 //! Small's window.
 ghost use Rattle.std.specs.Prelude.{◌≡◌, ℕ, ◌+◌, ◌^◌, ◌<◌, ◌&&◌, length, IfOk, replicate, None, false, if◌then◌else◌, ◌==◌};
 ghost use Rattle.clock2q_queues.specs.Cells.{CellsState, cells_state, accessed, written};
+ghost use Rattle.clock2q_queues.specs.Flags.{is_queued};
 ghost use Rattle.clock2q_queues.specs.Links.{LinkState, vacant, is_old, Attaches, Detaches, SetsBit, fresh, record_at, next_at, previous_at, with_next, with_previous, with_standing, standing_at, bit_at, place_at};
 
 mod cells;
+mod flags;
 
 use cells::Bits;
 pub use cells::Cells;
@@ -22,6 +24,18 @@ pub enum Mark {
     Old,
     /// In Main.
     Main,
+}
+
+impl Mark {
+    /// Returns true if the slot stands in a queue.
+    fn is_queued(self) -> bool
+        ensures { result ≡ is_queued self }
+    {
+        match self {
+            Mark::Free => false,
+            Mark::Young(_) | Mark::Old | Mark::Main => true,
+        }
+    }
 }
 
 /// The neighbours of a slot in its queue, and where it stands.
@@ -112,14 +126,14 @@ pub struct Links<A: Allocator = Global> {
 }
 
 impl<A: Allocator> Model for Links<A> {
-    ghost use Rattle.std.specs.Prelude.{◌≡◌, ◌<◌, ◌^◌, length};
+    ghost use Rattle.clock2q_queues.specs.Flags.{AreLinks};
     ghost use Rattle.clock2q_queues.specs.Links.{LinkState};
 
     ghost Value = { LinkState };
 
-    ghost view = { λ a. record { records = a.records; window = a.window; bits = a.bits } };
+    ghost view = { λ a. record { records = a.records; window = a.window; bits = a.bits.bits } };
 
-    ghost invariant = { λ a. (length a.bits.items ≡ length a.records.items) × (length a.window.items < 2 ^ 32) };
+    ghost invariant = { λ a. AreLinks a.records.items a.bits a.window.items };
 }
 
 impl<A: Allocator> Links<A> {
@@ -131,11 +145,11 @@ impl<A: Allocator> Links<A> {
     {
         let records = Vec::from_elem(alloc.clone()?, VACANT, slots as usize)?;
         let places = Vec::from_elem(alloc.clone()?, None, window as usize)?;
-        let bits = Vec::from_elem(alloc, false, slots as usize)?;
+        let bits = Bits::new(alloc, slots)?;
         Ok(Links {
             records: Cells::new(records),
             window: Cells::new(places),
-            bits: Bits::new(bits),
+            bits,
         })
     }
 
@@ -168,6 +182,7 @@ impl<A: Allocator> Links<A> {
         requires { slot < length self.old.records.items }
         ensures { self.new ≡ record self.old { records = written slot content self.old.records } }
     {
+        self.bits.set_standing(slot, content.standing.is_queued());
         self.records.write(slot, content);
     }
 
@@ -176,6 +191,7 @@ impl<A: Allocator> Links<A> {
         requires { slot < length self.old.records.items }
         ensures { self.new ≡ record self.old { records = accessed (with_standing slot standing self.old.records) } }
     {
+        self.bits.set_standing(slot, standing.is_queued());
         self.records.set_standing(slot, standing);
     }
 
@@ -187,6 +203,7 @@ impl<A: Allocator> Links<A> {
         ensures attached { Attaches slot before standing self.old.records self.new.records }
         ensures rest { self.new ≡ record self.old { records = self.new.records } }
     {
+        self.bits.set_standing(slot, standing.is_queued());
         self.records.attach(slot, before, standing);
     }
 
@@ -199,6 +216,7 @@ impl<A: Allocator> Links<A> {
         ensures value { result ≡ record_at self.old.records.items slot }
         ensures rest { self.new ≡ record self.old { records = self.new.records } }
     {
+        self.bits.set_standing(slot, false);
         self.records.detach(slot)
     }
 
@@ -217,6 +235,14 @@ impl<A: Allocator> Links<A> {
         ensures { self.new ≡ record self.old { window = written place occupant self.old.window } }
     {
         self.window.write(place, occupant);
+    }
+
+    /// Returns true if a slot stands in a queue. It reads the byte of the slot's bit, and no record.
+    pub fn is_standing(&self, slot: u32) -> bool
+        requires { slot < length self.now.records.items }
+        ensures { result ≡ is_queued (standing_at self.now.records.items slot) }
+    {
+        self.bits.is_standing(slot)
     }
 
     /// Sets or clears the hit bit of a slot.
@@ -247,15 +273,16 @@ impl<A: Allocator> Links<A> {
         self.bits.is_old_hit(&mut self.records, slot)
     }
 
-    /// Resets every record and every place to what the constructor makes.
+    /// Resets every record, every place and every bit to what the constructor makes.
     pub fn reset(&mut self)
         ensures records { self.new.records.items ≡ replicate (length self.old.records.items) vacant }
         ensures places { self.new.window.items ≡ replicate (length self.old.window.items) None }
-        ensures bits { self.new.bits ≡ self.old.bits }
+        ensures inspections { self.new.bits.inspections ≡ self.old.bits.inspections }
         ensures records_counted { self.new.records.accesses ≡ self.old.records.accesses + length self.old.records.items }
         ensures places_counted { self.new.window.accesses ≡ self.old.window.accesses + length self.old.window.items }
     {
         self.records.fill(VACANT);
         self.window.fill(None);
+        self.bits.clear();
     }
 }

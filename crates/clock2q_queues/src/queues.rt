@@ -165,6 +165,14 @@ impl<A: Allocator> Queues<A> {
         }
     }
 
+    /// Returns true if a slot stands in a queue. It accesses no link.
+    pub fn is_resident(&self, slot: u32) -> bool
+        requires slot_in { slot < self.now.slots }
+        ensures resident { result ≡ has slot (slots_of self.now.small ++ slots_of self.now.main) }
+    {
+        self.links.is_standing(slot)
+    }
+
     // Moves the hand on to the slot that Main gives up next, and leaves the slot in Main. The hand
     // passes each slot whose bit is set, and clears the bit; the cost is linear in those.
     fn select(&mut self) -> u32

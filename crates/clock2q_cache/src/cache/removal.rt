@@ -1,7 +1,6 @@
 //! Removal of residents: of one by its key, and of those that a closure rejects.
 use crate::cache::Cache;
 use crate::vacancies::free_slot;
-use clock2q_queues::queues::Standing;
 use std::alloc::Allocator;
 use std::hash::{BuildHasher, Hash};
 
@@ -45,8 +44,7 @@ impl<K: Hash + Eq, V, S: BuildHasher, A: Allocator> Cache<K, V, S, A> {
     ///
     /// # Cost
     ///
-    /// At most one access to a link for each slot that has a value, and eight more for each
-    /// resident that is removed. No key is hashed.
+    /// At most eight accesses to links for each resident that is removed. No key is hashed.
     pub fn retain<F: FnMut(&K, &V) -> bool>(&mut self, mut keep: F)
         requires callable { MayBeAsked F.FnMut keep self.old.machine }
         ensures retained { Retains F.FnMut keep self.old.machine self.new.machine }
@@ -71,14 +69,11 @@ impl<K: Hash + Eq, V, S: BuildHasher, A: Allocator> Cache<K, V, S, A> {
     }
 
     /// Returns true if a slot has a resident.
-    fn is_resident(&mut self, slot: u32) -> bool
-        requires { slot < length self.old.machine.values }
-        ensures resident { result ≡ is_some (resident_at self.old.machine slot) }
-        ensures machine { self.new.machine ≡ self.old.machine }
-        ensures hasher { self.new.hasher ≡ self.old.hasher }
-        ensures counts { Spends 0 1 0 self.old.counts self.new.counts }
+    fn is_resident(&self, slot: u32) -> bool
+        requires { slot < length self.now.machine.values }
+        ensures { result ≡ is_some (resident_at self.now.machine slot) }
     {
-        !matches!(self.queues.standing(slot), Standing::Free)
+        self.queues.is_resident(slot)
     }
 
     /// Returns the key of the resident at a slot.

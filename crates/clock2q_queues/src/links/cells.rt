@@ -1,11 +1,12 @@
 //! The vectors that the links stand on. Only these accessors reach what the vectors hold, and each
 //! read or write of a cell, and each inspection of a bit by the hand, raises a count.
-ghost use Rattle.std.specs.Prelude.{◌≡◌, ℕ, ◌+◌, ◌<◌, ◌&&◌, false, length, replicate, slice_index_or};
+ghost use Rattle.std.specs.Prelude.{◌≡◌, ℕ, ◌+◌, ◌<◌, ◌&&◌, false, IfOk, length, replicate, slice_index_or, slice_set};
 ghost use Rattle.clock2q_queues.specs.Cells.{cells_state, accessed, written};
 
+use crate::links::flags::Flags;
 use crate::links::{Mark, Record};
 use clock2q_count::Count;
-use std::alloc::{Allocator, Global};
+use std::alloc::{AllocError, Allocator, Global};
 use std::marker::Model;
 
 /// Items by number, with the number of times that one was read or written.
@@ -90,65 +91,96 @@ fn overwrite<T: Copy>(items: &mut [T], item: T, accesses: &mut Count)
     }
 }
 
-/// The hit bits by slot, with the number of inspections that the hand made.
+/// The hit bits by slot, and whether each slot stands in a queue, with the number of inspections
+/// that the hand made.
 #[derive(Drop)]
 pub struct Bits<A: Allocator = Global> {
-    bits: Vec<bool, A>,
+    flags: Vec<Flags, A>,
     inspections: Count,
 }
 
 impl<A: Allocator> Model for Bits<A> {
-    ghost use Rattle.clock2q_queues.specs.Cells.{HitBits, hit_bits};
+    ghost use Rattle.clock2q_queues.specs.Flags.{FlagState, flags_shown};
 
-    ghost Value = { HitBits };
+    ghost Value = { FlagState };
 
-    ghost view = { λ b. hit_bits b.bits.items b.inspections.total };
+    ghost view = { λ b. flags_shown b.flags.items b.inspections.total };
 }
 
 impl<A: Allocator> Bits<A> {
     ghost use Rattle.clock2q_queues.specs.Cells.{hit_bits, bit_in, inspected, with_bit};
+    ghost use Rattle.clock2q_queues.specs.Flags.{flag_state, standing_in};
     ghost use Rattle.clock2q_queues.specs.Links.{vacant, is_old};
 
-    /// Returns bits of which the hand has inspected none yet.
-    pub fn new(bits: Vec<bool, A>) -> Self
-        ensures { result ≡ hit_bits bits.items 0 }
+    /// Returns clear bits for `slots` slots that stand nowhere. The hand has inspected none yet.
+    pub fn new(alloc: A, slots: u32) -> Result<Self, AllocError>
+        ensures made { IfOk result (λ b. b ≡ flag_state (hit_bits (replicate slots false) 0) (replicate slots false)) }
     {
-        Bits {
-            bits,
+        Ok(Bits {
+            flags: Vec::from_elem(alloc, Flags::clear(), slots as usize)?,
             inspections: Count::new(),
-        }
+        })
+    }
+
+    /// Returns true if a slot stands in a queue.
+    pub fn is_standing(&self, slot: u32) -> bool
+        requires { slot < length self.now.bits.items }
+        ensures { result ≡ standing_in self.now.standing slot }
+    {
+        self.flags[slot as usize].is_standing()
+    }
+
+    /// Tells that a slot stands in a queue, or in none.
+    pub fn set_standing(&mut self, slot: u32, standing: bool)
+        requires { slot < length self.old.bits.items }
+        ensures bits { self.new.bits ≡ self.old.bits }
+        ensures standing { self.new.standing ≡ slice_set self.old.standing slot standing }
+    {
+        let flags = self.flags[slot as usize];
+        self.flags[slot as usize] = flags.with_standing(standing);
     }
 
     /// Sets or clears the bit of a slot.
     pub fn set(&mut self, slot: u32, bit: bool)
-        requires { slot < length self.old.items }
-        ensures { self.new ≡ with_bit slot bit self.old }
+        requires { slot < length self.old.bits.items }
+        ensures bits { self.new.bits ≡ with_bit slot bit self.old.bits }
+        ensures standing { self.new.standing ≡ self.old.standing }
     {
-        self.bits[slot as usize] = bit;
+        let flags = self.flags[slot as usize];
+        self.flags[slot as usize] = flags.with_bit(bit);
     }
 
     /// Returns true if a slot's bit was set, and clears it: the hand's inspection of a slot.
     pub fn inspect(&mut self, slot: u32) -> bool
-        requires { slot < length self.old.items }
-        ensures value { result ≡ bit_in self.old.items slot }
-        ensures counted { self.new ≡ inspected (with_bit slot false self.old) }
+        requires { slot < length self.old.bits.items }
+        ensures value { result ≡ bit_in self.old.bits.items slot }
+        ensures counted { self.new.bits ≡ inspected (with_bit slot false self.old.bits) }
+        ensures standing { self.new.standing ≡ self.old.standing }
     {
         self.inspections.tick();
-        let was_set = self.bits[slot as usize];
-        self.bits[slot as usize] = false;
+        let flags = self.flags[slot as usize];
+        let was_set = flags.is_set();
+        self.flags[slot as usize] = flags.with_bit(false);
         was_set
     }
 
     /// Reads a slot's record, and returns whether the slot is old and its bit set.
     pub fn is_old_hit<B: Allocator>(&self, records: &mut Cells<Record, B>, slot: u32) -> bool
         requires slot_in { slot < length records.old.items }
-        requires bit_in { slot < length self.now.items }
-        ensures value { result ≡ (is_old (slice_index_or records.old.items slot vacant).standing && bit_in self.now.items slot) }
+        requires bit_in { slot < length self.now.bits.items }
+        ensures value { result ≡ (is_old (slice_index_or records.old.items slot vacant).standing && bit_in self.now.bits.items slot) }
         ensures counted { records.new ≡ accessed records.old }
     {
         match records.read(slot).standing {
-            Mark::Old => self.bits[slot as usize],
+            Mark::Old => self.flags[slot as usize].is_set(),
             _ => false,
         }
+    }
+
+    /// Clears every bit, and tells that no slot stands in a queue.
+    pub fn clear(&mut self)
+        ensures { self.new ≡ flag_state (hit_bits (replicate (length self.old.bits.items) false) self.old.bits.inspections) (replicate (length self.old.bits.items) false) }
+    {
+        self.flags.fill(Flags::clear());
     }
 }

@@ -4,7 +4,7 @@ use Rattle.std.specs.Prelude.{is_some}
 use Rattle.std.specs.Fn.{Called}
 use Rattle.clock2q_cache.specs.CacheState.{CacheState}
 use Rattle.clock2q_cache.specs.Costs.{Spends}
-use Rattle.clock2q_machine.specs.Machine.{Machine, resident_at}
+use Rattle.clock2q_machine.specs.Machine.{resident_at}
 use Rattle.clock2q_cache.proofs.Retained.{RetainsBelow, retains-none, retains-past, retains-asks, retains-kept, retains-refused, retains-all}
 use Rattle.clock2q_cache.proofs.Spent.{slot-stays, slot-leaves, retain-costs}
 use Rattle.clock2q_cache.proofs.cache.Cache.retain.Goals.{then-is_resident+then-not-stays, then-is_resident+else-not-stays, else-is_resident}
@@ -17,50 +17,46 @@ pub is_resident-requires : goal.is_resident-requires
 is_resident-requires g c = omega (arith, c.loop-slot-test.true, c.made-slot-end.ensures, ap (λ (z : List _). length z) c.loop-slot.invariant.0.values)
 
 pub value-requires : goal.value-requires
-value-requires g c = omega (arith, c.loop-slot-test.true, c.made-slot-end.ensures, ap (λ (z : List _). length z) c.loop-slot.invariant.0.values, ap (λ (z : Machine _ _). length z.values) c.is_resident.ensures.machine)
+value-requires g c = omega (arith, c.loop-slot-test.true, c.made-slot-end.ensures, ap (λ (z : List _). length z) c.loop-slot.invariant.0.values)
 
 pub keep-stays-requires : goal.keep-stays-requires
 keep-stays-requires g c =
-    let same = c.is_resident.ensures.machine in
-    let h = subst (λ z. RetainsBelow g.F.FnMut c.args.keep c.args.self.now.machine c.loop-slot.slot c.loop-slot.keep z) (sym same) c.loop-slot.invariant.0 in
+    let h = c.loop-slot.invariant.0 in
     let made : c.loop-slot.slot < length c.args.self.now.machine.values = omega (arith, c.loop-slot-test.true, c.made-slot-end.ensures) in
-    retains-asks g.F.FnMut c.args.keep c.args.self.now.machine c.loop-slot.slot c.loop-slot.keep c.is_resident.new.self.machine h made c.key.result c.value.result c.key.ensures c.value.ensures
+    retains-asks g.F.FnMut c.args.keep c.args.self.now.machine c.loop-slot.slot c.loop-slot.keep c.loop-slot.self.machine h made c.key.result c.value.result c.key.ensures c.value.ensures
 
 pub loop-slot-preserved : goal.loop-slot-preserved
 loop-slot-preserved g c =
-    let r = c.loop-slot.invariant.0 in
-    let same = c.is_resident.ensures.machine in
-    let h = subst (λ z. RetainsBelow g.F.FnMut c.args.keep c.args.self.now.machine c.loop-slot.slot c.loop-slot.keep z) (sym same) r in
-    let hashes = c.is_resident.ensures.hasher ∙ c.loop-slot.invariant.1 in
+    let h = c.loop-slot.invariant.0 in
+    let hashes = c.loop-slot.invariant.1 in
     let spent = c.loop-slot.invariant.2 in
-    let asked = c.is_resident.ensures.counts in
     let made : c.loop-slot.slot < length c.args.self.now.machine.values = omega (arith, c.loop-slot-test.true, c.made-slot-end.ensures) in
     elim c.if-is_resident.branch [
       | then-is_resident+then-not-stays w ↦ (
         subst (λ z. RetainsBelow g.F.FnMut c.args.keep c.args.self.now.machine (c.loop-slot.slot + 1) z c.if-is_resident.self.machine) (sym w.keep-is)
             (subst (λ z. RetainsBelow g.F.FnMut c.args.keep c.args.self.now.machine (c.loop-slot.slot + 1) w.keep-stays.new.self z) (sym (ap (λ (z : CacheState _ _ _). z.machine) w.self-is ∙ w.vacate.ensures.machine))
-            (retains-refused g.F.FnMut c.args.keep c.args.self.now.machine c.loop-slot.slot c.loop-slot.keep c.is_resident.new.self.machine h made w.key.result w.value.result w.key.ensures w.value.ensures w.keep-stays.new.self
+            (retains-refused g.F.FnMut c.args.keep c.args.self.now.machine c.loop-slot.slot c.loop-slot.keep c.loop-slot.self.machine h made w.key.result w.value.result w.key.ensures w.value.ensures w.keep-stays.new.self
             (subst (λ b. Called g.F.FnMut c.loop-slot.keep (w.key.result, (w.value.result, tt)) b w.keep-stays.new.self) w.if-not-stays.true w.keep-stays.ensures))),
         ap (λ (z : CacheState _ _ _). z.hasher) w.self-is ∙ w.vacate.ensures.hasher ∙ hashes,
-        subst (λ (z : CacheState _ _ _). Spends 0 (9 * (c.loop-slot.slot + 1)) 0 c.args.self.now.counts z.counts)
-            (sym w.self-is) (slot-leaves c.loop-slot.slot _ _ _ _ spent asked w.vacate.ensures.counts),
+        subst (λ (z : CacheState _ _ _). Spends 0 (8 * (c.loop-slot.slot + 1)) 0 c.args.self.now.counts z.counts)
+            (sym w.self-is) (slot-leaves c.loop-slot.slot _ _ _ spent w.vacate.ensures.counts),
       )
       | then-is_resident+else-not-stays w ↦ (
         subst (λ z. RetainsBelow g.F.FnMut c.args.keep c.args.self.now.machine (c.loop-slot.slot + 1) z c.if-is_resident.self.machine) (sym w.keep-is)
             (subst (λ z. RetainsBelow g.F.FnMut c.args.keep c.args.self.now.machine (c.loop-slot.slot + 1) w.keep-stays.new.self z) (sym (ap (λ (z : CacheState _ _ _). z.machine) w.self-is))
-            (retains-kept g.F.FnMut c.args.keep c.args.self.now.machine c.loop-slot.slot c.loop-slot.keep c.is_resident.new.self.machine h made w.key.result w.value.result w.key.ensures w.value.ensures w.keep-stays.new.self
+            (retains-kept g.F.FnMut c.args.keep c.args.self.now.machine c.loop-slot.slot c.loop-slot.keep c.loop-slot.self.machine h made w.key.result w.value.result w.key.ensures w.value.ensures w.keep-stays.new.self
             (subst (λ b. Called g.F.FnMut c.loop-slot.keep (w.key.result, (w.value.result, tt)) b w.keep-stays.new.self) w.if-not-stays.false w.keep-stays.ensures))),
         ap (λ (z : CacheState _ _ _). z.hasher) w.self-is ∙ hashes,
-        subst (λ (z : CacheState _ _ _). Spends 0 (9 * (c.loop-slot.slot + 1)) 0 c.args.self.now.counts z.counts) (sym w.self-is) (slot-stays c.loop-slot.slot _ _ _ spent asked),
+        subst (λ (z : CacheState _ _ _). Spends 0 (8 * (c.loop-slot.slot + 1)) 0 c.args.self.now.counts z.counts) (sym w.self-is) (slot-stays c.loop-slot.slot _ _ spent),
       )
       | else-is_resident w ↦ (
         subst (λ z. RetainsBelow g.F.FnMut c.args.keep c.args.self.now.machine (c.loop-slot.slot + 1) z c.if-is_resident.self.machine) (sym w.keep-is)
             (subst (λ z. RetainsBelow g.F.FnMut c.args.keep c.args.self.now.machine (c.loop-slot.slot + 1) c.loop-slot.keep z) (sym (ap (λ (z : CacheState _ _ _). z.machine) w.self-is))
-            (retains-past g.F.FnMut c.args.keep c.args.self.now.machine c.loop-slot.slot c.loop-slot.keep c.is_resident.new.self.machine h made
-            (none-there (resident_at c.is_resident.new.self.machine c.loop-slot.slot)
-            (sym (ap (λ (z : Machine _ _). is_some (resident_at z c.loop-slot.slot)) (sym same)) ∙ sym c.is_resident.ensures.resident ∙ w.if-is_resident.false)))),
+            (retains-past g.F.FnMut c.args.keep c.args.self.now.machine c.loop-slot.slot c.loop-slot.keep c.loop-slot.self.machine h made
+            (none-there (resident_at c.loop-slot.self.machine c.loop-slot.slot)
+            (sym c.is_resident.ensures ∙ w.if-is_resident.false)))),
         ap (λ (z : CacheState _ _ _). z.hasher) w.self-is ∙ hashes,
-        subst (λ (z : CacheState _ _ _). Spends 0 (9 * (c.loop-slot.slot + 1)) 0 c.args.self.now.counts z.counts) (sym w.self-is) (slot-stays c.loop-slot.slot _ _ _ spent asked),
+        subst (λ (z : CacheState _ _ _). Spends 0 (8 * (c.loop-slot.slot + 1)) 0 c.args.self.now.counts z.counts) (sym w.self-is) (slot-stays c.loop-slot.slot _ _ spent),
       )
     ]
   where
@@ -75,5 +71,5 @@ returns g c =
     record {
       retained = r;
       hasher = c.loop-slot.invariant.1;
-      costs = λ bits. retain-costs (record { eq = g.K.PartialEq.eq; hash_input = g.K.Hash.hash_input }) g.S.BuildHasher g.S.Hasher.Hasher bits r.bits c.args.self.now c.loop-slot.self r.becomes (subst (λ n. Spends 0 (9 * n) 0 c.args.self.now.counts c.loop-slot.self.counts) all c.loop-slot.invariant.2);
+      costs = λ bits. retain-costs (record { eq = g.K.PartialEq.eq; hash_input = g.K.Hash.hash_input }) g.S.BuildHasher g.S.Hasher.Hasher bits r.bits c.args.self.now c.loop-slot.self r.becomes (subst (λ n. Spends 0 (8 * n) 0 c.args.self.now.counts c.loop-slot.self.counts) all c.loop-slot.invariant.2);
     }

@@ -6,4 +6,4 @@ use Rattle.clock2q_cache.proofs.cache.Cache.retain.Given as goal
 abbrev pub invariant-loop-slot : goal.invariant-loop-slot
 invariant-loop-slot g l = RetainsBelow g.F.FnMut l.initial.keep l.initial.self.machine l.slot l.keep l.self.machine
     × (l.self.hasher ≡ l.initial.self.hasher)
-    × Spends 0 (9 * l.slot) 0 l.initial.self.counts l.self.counts
+    × Spends 0 (8 * l.slot) 0 l.initial.self.counts l.self.counts

@@ -1,0 +1,61 @@
+-- The flags of the slots say what the records say, after a write to both.
+use Rattle.std.proofs.Common.{◌≡◌, ℕ, zero, suc, ◌<◌, ◌∷◌, cond, eqb, Bool, false, List, length, map, get_or, set, replicate, inl, inr, refl, sym, ap, ◌∙◌, subst}
+use Rattle.std.proofs.Math.Seq.{map-set_same}
+use Rattle.std.proofs.lemmas.List.{map-set}
+use Rattle.std.proofs.lemmas.Bool.{cases_Bool, eqb-true}
+use Rattle.clock2q_queues.specs.declared.links.Record.{Record}
+use Rattle.clock2q_queues.specs.declared.links.Mark.{Mark}
+use Rattle.clock2q_queues.specs.declared.links.Mark.TheVariants.{Free}
+use Rattle.clock2q_queues.specs.declared.links.flags.Flags.{Flags}
+use Rattle.clock2q_queues.specs.Cells.{CellsState, hit_bits}
+use Rattle.clock2q_queues.specs.Links.{vacant, record_at, standing_at, Detaches}
+use Rattle.clock2q_queues.specs.Flags.{is_queued, standing_in, is_set, is_standing, flags_shown, flag_state}
+use Rattle.clock2q_queues.proofs.Records.{changed, get_or-same}
+
+-- one slot's flag and mark were written
+pub agree-changed : (standing : List Bool) (old new : List Record) (slot : ℕ) (mark : Mark) → slot < length standing
+    → ((t : ℕ) → standing_in standing t ≡ is_queued (standing_at old t))
+    → ((t : ℕ) → standing_at new t ≡ cond (eqb t slot) mark (standing_at old t))
+    → (t : ℕ) → standing_in (set standing slot (is_queued mark)) t ≡ is_queued (standing_at new t)
+agree-changed standing old new slot mark h agree marks t =
+    changed (λ (b : Bool). b) standing slot (is_queued mark) false t h
+    ∙ elim (cases_Bool (eqb t slot)) [
+      | inl e ↦ rw e (ap is_queued (sym (marks t ∙ rw e refl)))
+      | inr e ↦ rw e (agree t ∙ ap is_queued (sym (marks t ∙ rw e refl)))
+    ]
+
+-- the marks after a record was written
+pub marks-written : (rs : List Record) (slot : ℕ) (content : Record) → slot < length rs
+    → (t : ℕ) → standing_at (set rs slot content) t ≡ cond (eqb t slot) content.standing (standing_at rs t)
+marks-written rs slot content h t = changed (λ (r : Record). r.standing) rs slot content vacant t h
+
+-- the marks after a slot was taken from between its neighbours
+pub marks-detached : (slot : ℕ) (old new : CellsState Record) → Detaches slot old new
+    → (t : ℕ) → standing_at new.items t ≡ cond (eqb t slot) Free (standing_at old.items t)
+marks-detached slot old new d t = elim (cases_Bool (eqb t slot)) [
+  | inl e ↦ rw e (ap (λ (r : Record). r.standing) (subst (λ z. record_at new.items z ≡ vacant) (sym (eqb-true t slot e)) d.freed))
+  | inr e ↦ rw e (d.standings t e)
+]
+
+-- no slot stands anywhere
+pub agree-blank : (m n : ℕ) (t : ℕ) → standing_in (replicate m false) t ≡ is_queued (standing_at (replicate n vacant) t)
+agree-blank m n t = get_or-same m t false ∙ sym (ap (λ (r : Record). is_queued r.standing) (get_or-same n t vacant))
+
+-- What is told of the bytes
+
+-- a byte was written that tells this
+pub told-set : (says : Flags → Bool) (flags : List Flags) (slot : ℕ) (f : Flags) (b : Bool) → says f ≡ b → map says (set flags slot f) ≡ set (map says flags) slot b
+told-set says flags slot f b e = map-set says flags slot f ∙ ap (λ z. set (map says flags) slot z) e
+
+-- a byte was written that tells what the one before told
+pub told-kept : (says : Flags → Bool) (flags : List Flags) (slot : ℕ) (was f : Flags) → was ≡ get_or flags slot was → says f ≡ says was → map says (set flags slot f) ≡ map says flags
+told-kept says flags slot was f at e = map-set_same says flags slot f was (e ∙ ap says at)
+
+told-same : (says : Flags → Bool) (n : ℕ) (f : Flags) → map says (replicate n f) ≡ replicate n (says f)
+told-same says zero f = refl
+told-same says (suc n) f = ap (λ z. says f ∷ z) (told-same says n f)
+
+-- each byte tells nothing
+pub told-clear : (n inspections : ℕ) (f : Flags) → is_set f ≡ false → is_standing f ≡ false
+    → flags_shown (replicate n f) inspections ≡ flag_state (hit_bits (replicate n false) inspections) (replicate n false)
+told-clear n inspections f bit standing = rw (told-same is_set n f, told-same is_standing n f, bit, standing) refl

@@ -1,0 +1,58 @@
+//! What is kept of a slot in one byte: its hit bit, and whether it stands in a queue.
+ghost use Rattle.std.specs.Prelude.{◌≡◌, false};
+
+/// The byte of a slot that stands in a queue, with a clear bit. The hit bit is the lowest one.
+const STANDING: u8 = 2;
+
+/// A slot's hit bit, and whether the slot stands in a queue.
+#[derive(Clone, Copy)]
+pub struct Flags {
+    byte: u8,
+}
+
+impl Flags {
+    ghost use Rattle.clock2q_queues.specs.Flags.{is_set, is_standing};
+
+    /// Returns the flags of a slot that stands nowhere, with a clear bit.
+    pub fn clear() -> Self
+        ensures bit { is_set result ≡ false }
+        ensures standing { is_standing result ≡ false }
+    {
+        Flags { byte: 0 }
+    }
+
+    /// Returns true if the bit is set.
+    pub fn is_set(self) -> bool
+        ensures { result ≡ is_set self }
+    {
+        self.byte % 2 == 1
+    }
+
+    /// Returns true if the slot stands in a queue.
+    pub fn is_standing(self) -> bool
+        ensures { result ≡ is_standing self }
+    {
+        self.byte >= STANDING
+    }
+
+    /// Returns the flags with the bit set or clear.
+    pub fn with_bit(self, bit: bool) -> Self
+        ensures bit { is_set result ≡ bit }
+        ensures standing { is_standing result ≡ is_standing self }
+    {
+        Flags {
+            byte: self.byte / 2 * 2 + u8::from(bit),
+        }
+    }
+
+    /// Returns the flags of a slot that stands in a queue, or in none.
+    pub fn with_standing(self, standing: bool) -> Self
+        ensures bit { is_set result ≡ is_set self }
+        ensures standing { is_standing result ≡ standing }
+    {
+        let above = if standing { STANDING } else { 0 };
+        Flags {
+            byte: above + self.byte % 2,
+        }
+    }
+}
