@@ -7,12 +7,12 @@ ghost use Rattle.clock2q_queues.specs.Keys.{is_key_at, questions_of};
 
 mod store;
 
-use store::Store;
-pub use store::Entry;
 use clock2q_count::Count;
 use clock2q_handles::{Candidates, Table};
 use std::alloc::{AllocError, Allocator, Global};
 use std::marker::Model;
+pub use store::Entry;
+use store::Store;
 
 /// The most places for which an index has room for twice as many. Its slots then take 256 KB.
 const SMALL_INDEX: usize = 12_288;
