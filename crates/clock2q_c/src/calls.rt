@@ -60,8 +60,16 @@ fn enter(held: &mut Held, key: usize, place: &mut Place)
 {
     let (slot, last) = frame_of(&mut held.cache, key);
     place.slot = slot;
-    place.last = last.unwrap_or(0);
-    place.has_last = last.is_some();
+    match last {
+        Some(last) => {
+            place.last = last;
+            place.has_last = true;
+        }
+        None => {
+            place.last = 0;
+            place.has_last = false;
+        }
+    }
 }
 
 /// Returns true and writes the slot of a key that has one, with a hit. Else returns false and
