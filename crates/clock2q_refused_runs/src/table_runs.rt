@@ -5,6 +5,9 @@ use clock2q_command::{TableCommand, TableReply, run_table};
 use clock2q_handles::{Table, TableError};
 use clock2q_refusing::Refusing;
 use std::alloc::{Allocator, Global};
+use std::test::Fail;
+
+type Command<'a> = TableCommand<u64, Vec<u64, &'a Refusing<Global>>>;
 
 // A handle is its own hash.
 fn hash_of(handle: u64) -> u64
@@ -60,7 +63,7 @@ fn replied<A: Allocator>(replies: &[TableReply<u64, Vec<u64, A>>]) -> Option<(bo
 // The requests are: the table's two vectors, the list of replies, the two vectors of the larger
 // table, and the list of a lookup.
 fn run_all(alloc: &Refusing<Global>) -> Result<Option<(bool, bool)>, TableError> {
-    let commands: [TableCommand<u64, Vec<u64, &Refusing<Global>>>; 4] = [
+    let commands: [Command<'_>; 4] = [
         TableCommand::Insert(0),
         TableCommand::Reserve(20),
         TableCommand::Get(0),
@@ -141,35 +144,43 @@ fn told_by<A: Allocator>(reply: &TableReply<u64, Vec<u64, A>>) -> Told {
     }
 }
 
-// What three replies tell.
+// What the last three replies tell.
 fn told_of_three<A: Allocator>(replies: &[TableReply<u64, Vec<u64, A>>]) -> [Told; 3] {
     match replies {
-        [first, second, third] => [told_by(first), told_by(second), told_by(third)],
+        [.., first, second, third] => [told_by(first), told_by(second), told_by(third)],
         _ => [Told::Other; 3],
     }
 }
 
-// A table made for no entries has no slots, and is full. So the first insertion asks for the two
-// vectors of its slots, after the list of replies was asked for. Where it is refused, the table is
-// full still, and the next one asks. The list of a lookup comes last; it isn't asked for where
-// there is nothing to look up.
-fn insert_then_find(alloc: &Refusing<Global>) -> Result<[Told; 3], TableError> {
-    let commands: [TableCommand<u64, Vec<u64, &Refusing<Global>>>; 3] = [
+// An insertion, a find that accepts nothing, and a lookup.
+fn insert_first(alloc: &Refusing<Global>) -> [Command<'_>; 3] {
+    [
         TableCommand::Insert(0),
         TableCommand::Find(1, Vec::new(alloc)),
         TableCommand::Get(1),
-    ];
-    let replies = replies_of(alloc, 0, &commands)?;
-    Ok(told_of_three(&replies))
+    ]
 }
 
-fn find_then_insert(alloc: &Refusing<Global>) -> Result<[Told; 3], TableError> {
-    let commands: [TableCommand<u64, Vec<u64, &Refusing<Global>>>; 3] = [
+// The same with the find first.
+fn find_first(alloc: &Refusing<Global>) -> [Command<'_>; 3] {
+    [
         TableCommand::Find(1, Vec::new(alloc)),
         TableCommand::Insert(0),
         TableCommand::Get(1),
-    ];
-    let replies = replies_of(alloc, 0, &commands)?;
+    ]
+}
+
+// What the last three commands are told by a table that is full when they come. Its slots for so
+// many entries are asked for first, if there are any, and then the list of replies. The first of the
+// three asks for the two vectors of more slots. Where it is refused, the table is full still, and
+// the next one asks. The list of the lookup comes last; it isn't asked for where there is nothing to
+// look up.
+fn last_told<'a>(
+    alloc: &'a Refusing<Global>,
+    entries: usize,
+    commands: &[Command<'a>],
+) -> Result<[Told; 3], TableError> {
+    let replies = replies_of(alloc, entries, commands)?;
     Ok(told_of_three(&replies))
 }
 
@@ -184,7 +195,11 @@ fn insertion_and_all_later_refused(rt: HostRuntime) {
         (4, Ok([Told::Inserted, Told::New, Told::Held])),
     ] {
         alloc.refuse_after(granted);
-        assert_eq!(rt; insert_then_find(&alloc), wanted, "{granted} granted");
+        assert_eq!(rt;
+            last_told(&alloc, 0, &insert_first(&alloc)),
+            wanted,
+            "{granted} granted"
+        );
         assert_eq!(rt; alloc.held(), 0, "{granted} granted");
     }
 }
@@ -199,7 +214,11 @@ fn insertion_alone_refused(rt: HostRuntime) {
         (3, Ok([Told::Inserted, Told::New, Told::Held])),
     ] {
         alloc.refuse_one_after(granted);
-        assert_eq!(rt; insert_then_find(&alloc), wanted, "{granted} granted");
+        assert_eq!(rt;
+            last_told(&alloc, 0, &insert_first(&alloc)),
+            wanted,
+            "{granted} granted"
+        );
         assert_eq!(rt; alloc.held(), 0, "{granted} granted");
     }
 }
@@ -215,7 +234,11 @@ fn find_and_all_later_refused(rt: HostRuntime) {
         (4, Ok([Told::New, Told::Inserted, Told::Held])),
     ] {
         alloc.refuse_after(granted);
-        assert_eq!(rt; find_then_insert(&alloc), wanted, "{granted} granted");
+        assert_eq!(rt;
+            last_told(&alloc, 0, &find_first(&alloc)),
+            wanted,
+            "{granted} granted"
+        );
         assert_eq!(rt; alloc.held(), 0, "{granted} granted");
     }
 }
@@ -230,7 +253,101 @@ fn find_alone_refused(rt: HostRuntime) {
         (3, Ok([Told::New, Told::Inserted, Told::Held])),
     ] {
         alloc.refuse_one_after(granted);
-        assert_eq!(rt; find_then_insert(&alloc), wanted, "{granted} granted");
+        assert_eq!(rt;
+            last_told(&alloc, 0, &find_first(&alloc)),
+            wanted,
+            "{granted} granted"
+        );
         assert_eq!(rt; alloc.held(), 0, "{granted} granted");
     }
+}
+
+// Twelve insertions, and then three commands.
+fn after_twelve<'a>(alloc: Global, three: [Command<'a>; 3]) -> Result<Vec<Command<'a>>, Fail> {
+    let mut commands = Vec::new(alloc);
+    for handle in 2..14 {
+        commands.push(TableCommand::Insert(handle))?;
+    }
+    for command in three {
+        commands.push(command)?;
+    }
+    Ok(commands)
+}
+
+const BOTH_REFUSED: [Told; 3] = [Told::Refused, Told::Refused, Told::Absent];
+
+// A table made for twelve entries is full of them.
+#[test]
+fn growths_and_all_later_refused(rt: HostRuntime) -> Result<(), Fail> {
+    let alloc = Refusing::new(rt.alloc());
+    let inserting = after_twelve(rt.alloc(), insert_first(&alloc))?;
+    let finding = after_twelve(rt.alloc(), find_first(&alloc))?;
+    for (granted, inserted, found) in [
+        (3, BOTH_REFUSED, BOTH_REFUSED),
+        (4, BOTH_REFUSED, BOTH_REFUSED),
+        (
+            5,
+            [Told::Inserted, Told::New, Told::Refused],
+            [Told::New, Told::Inserted, Told::Refused],
+        ),
+        (
+            6,
+            [Told::Inserted, Told::New, Told::Held],
+            [Told::New, Told::Inserted, Told::Held],
+        ),
+    ] {
+        alloc.refuse_after(granted);
+        assert_eq!(rt;
+            last_told(&alloc, 12, &inserting),
+            Ok(inserted),
+            "{granted} granted"
+        );
+        alloc.refuse_after(granted);
+        assert_eq!(rt;
+            last_told(&alloc, 12, &finding),
+            Ok(found),
+            "{granted} granted"
+        );
+        assert_eq!(rt; alloc.held(), 0, "{granted} granted");
+    }
+    Ok(())
+}
+
+#[test]
+fn growths_alone_refused(rt: HostRuntime) -> Result<(), Fail> {
+    let alloc = Refusing::new(rt.alloc());
+    let inserting = after_twelve(rt.alloc(), insert_first(&alloc))?;
+    let finding = after_twelve(rt.alloc(), find_first(&alloc))?;
+    for (granted, inserted, found) in [
+        (
+            3,
+            [Told::Refused, Told::New, Told::Held],
+            [Told::Refused, Told::Inserted, Told::Absent],
+        ),
+        (
+            4,
+            [Told::Refused, Told::New, Told::Held],
+            [Told::Refused, Told::Inserted, Told::Absent],
+        ),
+        (
+            5,
+            [Told::Inserted, Told::New, Told::Held],
+            [Told::New, Told::Inserted, Told::Held],
+        ),
+    ] {
+        alloc.refuse_one_after(granted);
+        assert_eq!(rt;
+            last_told(&alloc, 12, &inserting),
+            Ok(inserted),
+            "{granted} granted"
+        );
+        alloc.refuse_one_after(granted);
+        assert_eq!(rt;
+            last_told(&alloc, 12, &finding),
+            Ok(found),
+            "{granted} granted"
+        );
+        assert_eq!(rt; alloc.held(), 0, "{granted} granted");
+    }
+    Ok(())
 }
