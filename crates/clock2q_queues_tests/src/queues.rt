@@ -283,6 +283,8 @@ fn compare(rt: &impl Abort, queues: &mut Queues, lists: &Lists)
 {
     for slot in 0..SLOTS {
         assert_eq!(rt; queues.standing(slot), lists.standing(slot));
+        let stands = lists.standing(slot) != Standing::Free;
+        assert_eq!(rt; queues.is_resident(slot), stands);
     }
     assert_eq!(rt; queues.small_len(), lists.small.len());
     assert_eq!(rt; queues.main_len(), lists.main.len());
