@@ -7,7 +7,7 @@ use Rattle.clock2q_pages.specs.Pages.{IsLoaded}
 use Rattle.clock2q_uses.specs.Pages.{AreLoaded}
 
 module _ {T : Type 0} where
-  set_there : (frames : List T) (slot : ℕ) (content : T) → slot < length frames → slice_get (slice_set frames slot content) slot ≡ Some content
+  pub set_there : (frames : List T) (slot : ℕ) (content : T) → slot < length frames → slice_get (slice_set frames slot content) slot ≡ Some content
   set_there [] slot content made = absurd (omega arith)
   set_there (f ∷ frames) zero content made = refl
   set_there (f ∷ frames) (suc slot) content made = set_there frames slot content (omega arith)
