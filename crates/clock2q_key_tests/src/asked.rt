@@ -1,85 +1,108 @@
-//! Keys that count how often they are compared: a lookup asks those alone that hash alike.
-ghost use Rattle.std.specs.Cmp.Rules.{comparing, hashing};
-ghost use Rattle.std.specs.Hash as fed;
-ghost use Rattle.std.specs.Ordering.{on};
-ghost use Rattle.std.specs.Prelude.{nat_eq};
-ghost use Rattle.std.proofs.Common.{rules};
+//! How many keys each call compares, and how often it hashes one.
 
+use crate::calls::{ALIKE, APART, CHANGES, Call, Counting, LOOKUPS, make, two_of_three};
+use crate::counted::Counts;
 use clock2q_cache::Cache;
 use clock2q_refusing::Spread;
-use std::cell::Cell;
-use std::hash::{Hash, Hasher};
+use std::alloc::Global;
 use std::num::NonZeroUsize;
 use std::process::Abort;
 use std::test::Fail;
 
-/// A key that counts in a place that all of a test share.
-#[derive(Clone, Copy)]
-struct Asked<'a> {
-    id: u64,
-    asked: &'a Cell<u64>,
-}
-
-impl PartialEq for Asked<'_> {
-    ghost eq = { on (λ key. key.id) nat_eq };
-
-    ghost laws = { Prim.search (comparing, rules) };
-
-    fn eq(&self, other: &Self) -> bool {
-        self.asked.set(self.asked.get().saturating_add(1));
-        self.id == other.id
-    }
-}
-
-impl Eq for Asked<'_> {
-    ghost laws = { Prim.search (comparing, rules) };
-}
-
-impl Hash for Asked<'_> {
-    ghost hash_input = { λ key. fed.u64 key.id };
-
-    ghost respects_eq = { Prim.search (hashing, rules) };
-
-    fn hash<H: Hasher>(&self, state: &mut H) {
-        state.write_u64(self.id);
-    }
-}
-
-type Asking<'a> = Cache<Asked<'a>, u64, Spread>;
-
 /// Puts the keys from the first on, below the end.
-fn fill<'a>(cache: &mut Asking<'a>, asked: &'a Cell<u64>, first: u64, end: u64) {
+fn fill<'a>(cache: &mut Counting<'a>, counts: &'a Counts, first: u64, end: u64) {
     for id in first..end {
-        let _ = cache.put(Asked { id, asked }, id);
+        let _ = cache.put(counts.key(id), id);
     }
-    asked.set(0);
-}
-
-/// A lookup of the key asks so many.
-fn peeks<'a>(rt: &impl Abort, cache: &Asking<'a>, asked: &'a Cell<u64>, id: u64, count: u64) {
-    let before = asked.get();
-    let found = cache.peek(&Asked { id, asked }).copied();
-    assert_eq!(rt; found, (count > 0).then_some(id), "{id}");
-    assert_eq!(rt; asked.get().wrapping_sub(before), count, "{id}");
-}
-
-/// The key isn't resident; to forget it asks so many.
-fn forgets<'a>(rt: &impl Abort, cache: &mut Asking<'a>, asked: &'a Cell<u64>, id: u64, count: u64) {
-    let before = asked.get();
-    assert!(rt; !cache.remove(&Asked { id, asked }), "{id}");
-    assert_eq!(rt; asked.get().wrapping_sub(before), count, "{id}");
+    let _ = counts.asked_and_hashed();
 }
 
 #[test]
 fn only_keys_that_hash_alike_are_asked(rt: HostRuntime) -> Result<(), Fail> {
-    let asked = Cell::new(0);
+    let counts = Counts::new();
     let capacity = NonZeroUsize::new(20).ok_or("not zero")?;
-    let mut cache = Cache::with_hasher(rt.alloc(), capacity, Spread { times: 1, more: 0 })?;
-    fill(&mut cache, &asked, 1, 21);
-    peeks(&rt, &cache, &asked, 20, 1);
-    peeks(&rt, &cache, &asked, 21, 0);
-    fill(&mut cache, &asked, 21, 25);
-    forgets(&rt, &mut cache, &asked, 25, 0);
-    forgets(&rt, &mut cache, &asked, 22, 1);
+    let mut cache = Cache::with_hasher(rt.alloc(), capacity, APART)?;
+    fill(&mut cache, &counts, 1, 21);
+    for (id, questions) in [(20, 1), (21, 0)] {
+        assert_eq!(rt;
+            cache.peek(&counts.key(id)).is_some(),
+            questions > 0,
+            "{id}"
+        );
+        assert_eq!(rt; counts.asked_and_hashed(), (questions, 1), "{id}");
+    }
+    fill(&mut cache, &counts, 21, 25);
+    for (id, questions) in [(25, 0), (22, 1)] {
+        assert!(rt; !cache.remove(&counts.key(id)), "{id}");
+        assert_eq!(rt; counts.asked_and_hashed(), (questions, 1), "{id}");
+    }
+    Ok(())
+}
+
+/// Each call asks so many of a cache that [`two_of_three`] makes, and hashes its key once: the ids
+/// are those of a resident, of a remembered key and of an unknown one.
+fn each_asks(
+    rt: &impl Abort,
+    alloc: Global,
+    spread: Spread,
+    calls: &[Call],
+    wanted: [(u64, u64); 3],
+) -> Result<(), Fail> {
+    for call in calls {
+        for (id, questions) in wanted {
+            let counts = Counts::new();
+            let mut cache = two_of_three(alloc, spread, &counts)?;
+            let _ = counts.asked_and_hashed();
+            make(&mut cache, *call, counts.key(id));
+            assert_eq!(rt; counts.asked_and_hashed(), (questions, 1), "{call:?} {id}");
+        }
+    }
+    Ok(())
+}
+
+#[test]
+fn keys_apart_are_not_asked(rt: HostRuntime) -> Result<(), Fail> {
+    each_asks(&rt, rt.alloc(), APART, &LOOKUPS, [(3, 1), (1, 0), (4, 0)])?;
+    each_asks(&rt, rt.alloc(), APART, &CHANGES, [(3, 1), (1, 1), (4, 0)])
+}
+
+// All residents before a key are asked, and no history where it is resident or only looked up.
+#[test]
+fn keys_alike_are_asked_once(rt: HostRuntime) -> Result<(), Fail> {
+    each_asks(&rt, rt.alloc(), ALIKE, &LOOKUPS, [(3, 2), (1, 2), (4, 2)])?;
+    each_asks(&rt, rt.alloc(), ALIKE, &CHANGES, [(3, 2), (1, 3), (4, 3)])
+}
+
+// The key at the slot is asked, if it is resident, and none is hashed.
+#[test]
+fn a_hint_asks_one_key_and_hashes_none(rt: HostRuntime) -> Result<(), Fail> {
+    let counts = Counts::new();
+    let mut cache = two_of_three(rt.alloc(), ALIKE, &counts)?;
+    assert!(rt; cache.remove(&counts.key(2)));
+    let _ = counts.asked_and_hashed();
+    for (slot, id, questions) in [
+        (0, 3, 1),
+        (0, 1, 1),
+        (1, 2, 0),
+        (2, 3, 0),
+        (usize::MAX, 3, 0),
+    ] {
+        let found = cache.get_at(slot, &counts.key(id)).is_some();
+        assert_eq!(rt; found, slot == 0 && id == 3, "{slot} {id}");
+        assert_eq!(rt; counts.asked_and_hashed(), (questions, 0), "{slot} {id}");
+    }
+    Ok(())
+}
+
+#[test]
+fn calls_without_a_key_ask_and_hash_none(rt: HostRuntime) -> Result<(), Fail> {
+    let counts = Counts::new();
+    let mut cache = two_of_three(rt.alloc(), ALIKE, &counts)?;
+    let _ = counts.asked_and_hashed();
+    cache.retain(|_, value| *value == 3);
+    assert_eq!(rt; cache.len(), 1);
+    cache.clear();
+    assert_eq!(rt; cache.len(), 0);
+    assert_eq!(rt; counts.asked_and_hashed(), (0, 0));
     Ok(())
 }

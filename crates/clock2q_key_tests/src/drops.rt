@@ -41,6 +41,9 @@ fn each_value_is_dropped_once(rt: HostRuntime) -> Result<(), Fail> {
     }
     cache.clear();
     assert_eq!(rt; drops.get(), 4);
+    put(&rt, &mut cache, &drops, 4, 4);
+    drop(cache);
+    assert_eq!(rt; drops.get(), 5);
     Ok(())
 }
 

@@ -1,0 +1,63 @@
+//! When keys are dropped: each of them once.
+
+use crate::calls::{APART, CHANGES, Call, Counting, LOOKUPS, make, two_of_three};
+use crate::counted::Counts;
+use std::process::Abort;
+use std::test::Fail;
+
+/// So many keys were dropped, and so many are left.
+fn dropped(rt: &impl Abort, counts: &Counts, wanted: (u64, u64)) {
+    assert_eq!(rt; counts.dropped_and_left(), wanted);
+}
+
+// The history has one place, so a second key that Small evicts drops the first.
+#[test]
+fn a_key_is_dropped_where_it_is_replaced(rt: HostRuntime) -> Result<(), Fail> {
+    let counts = Counts::new();
+    let mut cache = two_of_three(rt.alloc(), APART, &counts)?;
+    dropped(&rt, &counts, (0, 3));
+    let _ = cache.put(counts.key(3), 30);
+    dropped(&rt, &counts, (1, 3));
+    let _ = cache.put(counts.key(4), 4);
+    dropped(&rt, &counts, (2, 3));
+    cache.clear();
+    dropped(&rt, &counts, (5, 0));
+    Ok(())
+}
+
+// The key that is asked about is dropped, and the stored one when another takes its slot.
+#[test]
+fn a_removed_key_stays_in_its_slot(rt: HostRuntime) -> Result<(), Fail> {
+    let counts = Counts::new();
+    let mut cache = two_of_three(rt.alloc(), APART, &counts)?;
+    assert!(rt; cache.remove(&counts.key(3)));
+    dropped(&rt, &counts, (1, 3));
+    let _ = cache.put(counts.key(4), 4);
+    dropped(&rt, &counts, (2, 3));
+    Ok(())
+}
+
+/// Makes a call of each kind with each of five keys.
+fn call_all<'a>(cache: &mut Counting<'a>, counts: &'a Counts) {
+    for id in 1..6 {
+        for call in LOOKUPS {
+            make(cache, call, counts.key(id));
+        }
+        for call in CHANGES {
+            make(cache, call, counts.key(id));
+            make(cache, Call::Put, counts.key(7));
+        }
+    }
+}
+
+// Three keys are made for the cache, and nineteen for the calls with each id.
+#[test]
+fn no_key_outlives_its_cache(rt: HostRuntime) -> Result<(), Fail> {
+    let counts = Counts::new();
+    let mut cache = two_of_three(rt.alloc(), APART, &counts)?;
+    call_all(&mut cache, &counts);
+    cache.retain(|_, value| *value > 0);
+    drop(cache);
+    dropped(&rt, &counts, (98, 0));
+    Ok(())
+}
