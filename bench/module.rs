@@ -96,8 +96,12 @@ fn main() {
         "table of {entries}: sum of handles {sum}, removed {removed}, left {}",
         table.len()
     );
-    for (capacity, spread) in [(10_000, 17), (100_000, 20)] {
-        let accesses = 2_000_000;
+    for (capacity, accesses, spread) in [
+        (1_000, 2_000_000, 13),
+        (10_000, 2_000_000, 17),
+        (100_000, 2_000_000, 20),
+        (1_000_000, 10_000_000, 23),
+    ] {
         let keys = trace(accesses, spread);
         let mut cache = Cache::new(NonZeroUsize::new(capacity).unwrap());
         let start = Instant::now();

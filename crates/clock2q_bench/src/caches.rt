@@ -3,12 +3,16 @@ ghost use Rattle.std.specs.Prelude.{◌<◌, ◌≤◌};
 
 use crate::hashing::Multiplying;
 use crate::mixing::mix;
-use clock2q::Cache;
+use clock2q_cache::{Cache, CacheError};
 use std::alloc::{AllocError, Global};
 use std::hash::BuildHasherDefault;
+use std::num::NonZeroUsize;
 
 /// What makes the hashers of a measured cache.
 pub(crate) type Hashers = BuildHasherDefault<Multiplying>;
+
+/// A measured cache.
+pub(crate) type Measured = Cache<u64, u64, Hashers>;
 
 /// What a run over a trace comes to: how many keys were resident, and the sum of their values,
 /// modulo 2^64.
@@ -38,7 +42,7 @@ pub(crate) fn trace(alloc: Global, length: usize, spread: u64) -> Result<Vec<u64
 
 /// Looks each key up, and puts those that aren't resident, each with its place in the trace.
 #[inline(never)]
-pub(crate) fn access_all(cache: &mut Cache<u64, u64, Hashers>, keys: &[u64]) -> Hits {
+pub(crate) fn access_all(cache: &mut Measured, keys: &[u64]) -> Hits {
     let mut hits = Hits { count: 0, sum: 0 };
     for place in 0..keys.len() {
         let key = keys[place];
@@ -50,4 +54,61 @@ pub(crate) fn access_all(cache: &mut Cache<u64, u64, Hashers>, keys: &[u64]) -> 
         }
     }
     hits
+}
+
+/// Keys with the slots at which they are resident.
+#[derive(Drop)]
+pub(crate) struct Hints {
+    pub(crate) slots: Vec<usize>,
+    pub(crate) keys: Vec<u64>,
+}
+
+/// Returns each access of a trace whose key is resident, with the key's slot.
+pub(crate) fn hints_for(
+    alloc: Global,
+    cache: &mut Measured,
+    keys: &[u64],
+) -> Result<Hints, AllocError> {
+    let mut hints = Hints {
+        slots: Vec::new(alloc),
+        keys: Vec::new(alloc),
+    };
+    for key in keys {
+        if let Some(slot) = cache.slot(key) {
+            hints.slots.push(slot)?;
+            hints.keys.push(*key)?;
+        }
+    }
+    Ok(hints)
+}
+
+/// Looks each key up at its slot, and returns the sum of the values, modulo 2^64.
+#[inline(never)]
+pub(crate) fn hint_all(cache: &mut Measured, slots: &[usize], keys: &[u64]) -> u64 {
+    let mut sum: u64 = 0;
+    for place in 0..slots.len().min(keys.len()) {
+        if let Some(value) = cache.get_at(slots[place], &keys[place]) {
+            sum = sum.wrapping_add(*value);
+        }
+    }
+    sum
+}
+
+/// Puts so many keys into a cache.
+pub(crate) fn put_first(cache: &mut Measured, keys: &[u64], count: usize) {
+    for place in 0..count.min(keys.len()) {
+        cache.put(keys[place], place as u64);
+    }
+}
+
+/// Clears a cache.
+#[inline(never)]
+pub(crate) fn clear(cache: &mut Measured) {
+    cache.clear();
+}
+
+/// Makes a cache.
+#[inline(never)]
+pub(crate) fn make(alloc: Global, capacity: NonZeroUsize) -> Result<Measured, CacheError> {
+    Cache::with_hasher(alloc, capacity, BuildHasherDefault::new())
 }

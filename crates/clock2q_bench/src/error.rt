@@ -1,7 +1,7 @@
 //! Why a measurement ended early.
 
-use clock2q::CacheError;
-use clock2q::handles::TableError;
+use clock2q_cache::CacheError;
+use clock2q_handles::TableError;
 use std::alloc::AllocError;
 use std::io;
 use thiserror::Error;

@@ -3,7 +3,7 @@
 ghost use Rattle.clock2q_bench.specs.Places.{HoldsPlaces};
 ghost use Rattle.std.specs.Prelude.{◌≡◌, ◌<◌, [], IfOk, length, All};
 
-use clock2q::handles::{Table, TableError};
+use clock2q_handles::{Table, TableError};
 use std::alloc::{AllocError, Global};
 
 /// Returns the handles below `count` in the order of lookups and removals.
