@@ -1,4 +1,9 @@
+pub mod Amounts
+pub mod ChosenShares
 pub mod MachineHits
+pub mod Reading
+pub mod Rows
+pub mod Sending
+pub mod Simulated
 pub mod SimulationError
 pub mod Trace
-pub mod Rows

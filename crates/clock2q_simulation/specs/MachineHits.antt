@@ -1,7 +1,7 @@
 -- What Clock2Q+ makes of a trace, as its machine has it.
 use Rattle.std.specs.Prelude.{ℕ, Bool, ◌==◌, List, is_some}
 use Rattle.clock2q_machine.specs.Machine.{Machine, value_of, empty}
-use Rattle.clock2q_machine.specs.Shares.{usual_shares}
+use Rattle.clock2q_machine.specs.Shares.{Shares}
 use Rattle.clock2q_machine.specs.Steps.{put}
 use Rattle.clock2q_policies.specs.Policies.{hits}
 
@@ -12,5 +12,5 @@ machine_holds key m = is_some (value_of (λ held. key == held) m)
 abbrev pub machine_after : ℕ → Machine ℕ (Unit {0}) → Machine ℕ (Unit {0})
 machine_after key m = put (λ held. key == held) key tt m
 
-abbrev pub machine_hits : ℕ → List ℕ → ℕ
-machine_hits capacity trace = hits machine_holds machine_after trace (empty (usual_shares capacity))
+abbrev pub machine_hits : Shares → List ℕ → ℕ
+machine_hits shares trace = hits machine_holds machine_after trace (empty shares)

@@ -1,18 +1,39 @@
 -- What comes of a trace in a new cache of each policy.
-use Rattle.std.specs.Prelude.{◌≡◌, ℕ, List}
+use Rattle.std.specs.Prelude.{◌≡◌, ℕ, List, Option, length, map}
+use Rattle.std.specs.List.{All}
+use Rattle.std.specs.NonZero.{non_zero_usize_get}
 use Rattle.clock2q_policies.specs.declared.plain.PlainPolicy.TheVariants as plain
 use Rattle.clock2q_policies.specs.Policies.{plain_hits}
 use Rattle.clock2q_simulation.specs.declared.policy.Policy.{Policy}
 use Rattle.clock2q_simulation.specs.declared.policy.Policy.TheVariants.{Clock2Q, Sieve, S3Fifo, LeastRecentlyUsed, Optimal, FirstInFirstOut, Clock, Arc}
+use Rattle.clock2q_simulation.specs.declared.row.Row.{Row}
+use Rattle.clock2q_simulation.specs.declared.shares.ChosenShares.{ChosenShares}
+use Rattle.clock2q_simulation.specs.declared.amount.Amount.{Amount}
+use Rattle.clock2q_simulation.specs.Amounts.{keys_of}
+use Rattle.clock2q_simulation.specs.ChosenShares.{shares_for}
+use Rattle.clock2q_simulation.specs.Trace.{Numbered}
 use Rattle.clock2q_simulation.specs.MachineHits.{machine_hits}
 
--- hits are those of the policy's definition; a policy that has none is only tested
-abbrev pub AreHits : Policy → List ℕ → ℕ → ℕ → Type 0
-AreHits Clock2Q numbers room hits = hits ≡ machine_hits room numbers
-AreHits LeastRecentlyUsed numbers room hits = hits ≡ plain_hits plain.LeastRecentlyUsed room numbers
-AreHits FirstInFirstOut numbers room hits = hits ≡ plain_hits plain.FirstInFirstOut room numbers
-AreHits Sieve numbers room hits = Unit {0}
-AreHits S3Fifo numbers room hits = Unit {0}
-AreHits Optimal numbers room hits = Unit {0}
-AreHits Clock numbers room hits = Unit {0}
-AreHits Arc numbers room hits = Unit {0}
+module _ (shares : Option ChosenShares) (numbers : List ℕ) (room : ℕ) where
+  -- hits are those of the policy's definition; a policy that has none is only tested
+  abbrev pub AreHits : Policy → ℕ → Type 0
+  AreHits Clock2Q hits = hits ≡ machine_hits (shares_for shares room) numbers
+  AreHits LeastRecentlyUsed hits = hits ≡ plain_hits plain.LeastRecentlyUsed room numbers
+  AreHits FirstInFirstOut hits = hits ≡ plain_hits plain.FirstInFirstOut room numbers
+  AreHits Sieve hits = Unit {0}
+  AreHits S3Fifo hits = Unit {0}
+  AreHits Optimal hits = Unit {0}
+  AreHits Clock hits = Unit {0}
+  AreHits Arc hits = Unit {0}
+
+-- a row has a policy's hits for each policy, in order
+pub record IsRow {A : Type 0} (compared : List Policy) (shares : Option ChosenShares) (numbers : List ℕ) (room : ℕ) (row : Row A) : Type 0 where
+  pub capacity : non_zero_usize_get row.capacity ≡ room
+  pub accesses : row.accesses ≡ length numbers
+  pub policies : map (λ h. h.policy) row.hits.items ≡ compared
+  pub hits : All (λ h. AreHits shares numbers room h.policy h.hits) row.hits.items
+
+-- there is a row for each capacity that was asked for, in order, of as many keys as it is for the trace
+pub record AreRows {A : Type 0} (compared : List Policy) (shares : Option ChosenShares) (trace : Numbered) (asked : List Amount) (rows : List (Row A)) : Type 0 where
+  pub capacities : map (λ row. non_zero_usize_get row.capacity) rows ≡ map (λ amount. keys_of amount trace.different) asked
+  pub each : All (λ row. IsRow compared shares trace.numbers (non_zero_usize_get row.capacity) row) rows

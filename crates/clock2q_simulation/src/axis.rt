@@ -1,7 +1,7 @@
 //! The horizontal axis of a picture: which capacity stands where, and which are named.
 ghost use Rattle.std.specs.Prelude.{◌<◌};
 
-use std::alloc::{AllocError, Global};
+use std::alloc::{AllocError, Allocator};
 use std::num::nearest_usize_to_f64;
 
 // The round numbers up to the largest capacity.
@@ -52,7 +52,7 @@ impl Axis {
     }
 
     /// Returns the capacities to be named: round ones, or the only one.
-    pub(crate) fn ticks(&self, alloc: Global) -> Result<Vec<usize>, AllocError> {
+    pub(crate) fn ticks<A: Allocator + Copy>(&self, alloc: A) -> Result<Vec<usize, A>, AllocError> {
         if self.low >= self.high {
             return Ok(vec![in alloc; self.low]?);
         }
@@ -67,7 +67,11 @@ impl Axis {
     }
 
     // Returns every n-th round number on the axis.
-    fn round(&self, alloc: Global, every: usize) -> Result<Vec<usize>, AllocError>
+    fn round<A: Allocator + Copy>(
+        &self,
+        alloc: A,
+        every: usize,
+    ) -> Result<Vec<usize, A>, AllocError>
         requires every { 0 < every }
     {
         let mut ticks = Vec::new(alloc);
@@ -93,7 +97,11 @@ impl Axis {
     }
 
     // Returns the multiples of a step on the axis.
-    fn multiples(&self, alloc: Global, step: usize) -> Result<Vec<usize>, AllocError>
+    fn multiples<A: Allocator + Copy>(
+        &self,
+        alloc: A,
+        step: usize,
+    ) -> Result<Vec<usize, A>, AllocError>
         requires step { 0 < step }
     {
         let mut ticks = Vec::new(alloc);

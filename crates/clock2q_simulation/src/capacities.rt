@@ -1,12 +1,12 @@
 //! The capacities that an argument stands for.
 ghost use Rattle.std.specs.List.{All};
-ghost use Rattle.std.specs.NonZero.{non_zero_usize_get};
-ghost use Rattle.std.specs.Prelude.{◌≤◌, IfOk};
+ghost use Rattle.std.specs.Prelude.{◌≡◌, ◌≤◌, IfOk};
+ghost use Rattle.clock2q_simulation.specs.Amounts.{IsCapacity, amount, asked_by, capacity_in, range};
 
+use crate::amount::{Amount, Unit};
 use crate::error::{Fault, SimulationError};
 use clock2q_cache::MAX_CAPACITY;
-use std::alloc::{AllocError, Global};
-use std::num::NonZeroUsize;
+use std::alloc::{AllocError, Allocator};
 
 // The numbers 1, 2 and 5 times a power of ten that are capacities.
 const ROUND_NUMBERS: [usize; 22] = [
@@ -14,77 +14,87 @@ const ROUND_NUMBERS: [usize; 22] = [
     200_000, 500_000, 1_000_000, 2_000_000, 5_000_000, 10_000_000,
 ];
 
-/// Returns the capacities that an argument stands for: a number alone, or those of a range, as
-/// `10..1000`.
+/// Returns the capacities that an argument stands for: an amount alone, or those of a range, as
+/// `10..1000` or `1%..50%`. `place` is the argument's among the others.
 ///
 /// # Errors
 ///
-/// `Argument` where it is neither; `Capacity` where a number in it is above `MAX_CAPACITY`;
-/// `Memory` where a request for memory is refused.
-pub fn capacities_of(alloc: Global, argument: &str) -> Result<Vec<NonZeroUsize>, SimulationError>
-    ensures within { IfOk result (λ capacities. All (λ capacity. non_zero_usize_get capacity ≤ MAX_CAPACITY) capacities.items) }
+/// `Argument` where it is neither; `Capacity` where a number of keys in it is above
+/// `MAX_CAPACITY`; `Memory` where a request for memory is refused.
+pub fn capacities_of<A: Allocator>(
+    alloc: A,
+    argument: &str,
+    place: usize,
+) -> Result<Vec<Amount, A>, SimulationError>
+    ensures asked { IfOk result (λ capacities. capacities.items ≡ asked_by argument.now) }
+    ensures within { IfOk result (λ capacities. All IsCapacity capacities.items) }
 {
-    if argument.starts_with('-') {
-        return Err(SimulationError::of_argument(alloc, Fault::UnknownOption, argument));
-    }
-    let Some((first, last)) = argument.split_once("..") else {
-        let capacity = capacity_of(alloc, argument, argument, Fault::NotCapacity)?;
-        return Ok(range_of(alloc, capacity, capacity)?);
+    let Some((first, rest)) = argument.split_once('.') else {
+        let capacity = capacity_of(argument, Fault::NotCapacity, place)?;
+        return Ok(Vec::from_slice(alloc, &[capacity])?);
     };
-    let first = capacity_of(alloc, first, argument, Fault::NotRange)?;
-    let last = capacity_of(alloc, last, argument, Fault::NotRange)?;
-    if last.get() < first.get() {
-        return Err(SimulationError::of_argument(alloc, Fault::ReversedRange, argument));
+    let Some(last) = rest.strip_prefix('.') else {
+        return Err(SimulationError::Argument(Fault::NotRange, place));
+    };
+    let first = capacity_of(first, Fault::NotRange, place)?;
+    let last = capacity_of(last, Fault::NotRange, place)?;
+    if last.unit != first.unit {
+        return Err(SimulationError::Argument(Fault::NotRange, place));
     }
-    Ok(range_of(alloc, first, last)?)
+    if last.number < first.number {
+        return Err(SimulationError::Argument(Fault::ReversedRange, place));
+    }
+    Ok(range_of(alloc, first, last.number, &ROUND_NUMBERS)?)
 }
 
 // Returns the ends of a range and the round numbers between them, ascending.
-fn range_of(
-    alloc: Global,
-    first: NonZeroUsize,
-    last: NonZeroUsize,
-) -> Result<Vec<NonZeroUsize>, AllocError>
-    requires order { non_zero_usize_get first ≤ non_zero_usize_get last }
-    ensures from { IfOk result (λ capacities. All (λ capacity. non_zero_usize_get first ≤ non_zero_usize_get capacity) capacities.items) }
-    ensures to { IfOk result (λ capacities. All (λ capacity. non_zero_usize_get capacity ≤ non_zero_usize_get last) capacities.items) }
+fn range_of<A: Allocator>(
+    alloc: A,
+    first: Amount,
+    last: usize,
+    round_numbers: &[usize],
+) -> Result<Vec<Amount, A>, AllocError>
+    requires first { IsCapacity first }
+    requires last { IsCapacity (amount first.unit last) }
+    ensures range { IfOk result (λ capacities. capacities.items ≡ range round_numbers.now first last) }
+    ensures within { IfOk result (λ capacities. All IsCapacity capacities.items) }
 {
     let mut capacities = Vec::new(alloc);
     capacities.push(first).map_err(AllocError::from)?;
-    for round in ROUND_NUMBERS {
-        let Some(capacity) = NonZeroUsize::new(round) else {
-            continue;
-        };
-        if first.get() < capacity.get() && capacity.get() < last.get() {
-            capacities.push(capacity).map_err(AllocError::from)?;
+    for number in round_numbers {
+        let number = *number;
+        if first.number < number && number < last {
+            capacities
+                .push(Amount {
+                    number,
+                    unit: first.unit,
+                })
+                .map_err(AllocError::from)?;
         }
     }
-    if first.get() < last.get() {
-        capacities.push(last).map_err(AllocError::from)?;
+    if first.number < last {
+        capacities
+            .push(Amount {
+                number: last,
+                unit: first.unit,
+            })
+            .map_err(AllocError::from)?;
     }
     Ok(capacities)
 }
 
-// Returns the capacity that digits write. One that is too large for a number is too large for a
-// cache. `argument` is what they stand in.
-fn capacity_of(
-    alloc: Global,
-    digits: &str,
-    argument: &str,
-    fault: Fault,
-) -> Result<NonZeroUsize, SimulationError>
-    ensures within { IfOk result (λ capacity. non_zero_usize_get capacity ≤ MAX_CAPACITY) }
+// Returns the capacity that a word writes. `fault` is what is wrong where it writes none.
+fn capacity_of(word: &str, fault: Fault, place: usize) -> Result<Amount, SimulationError>
+    ensures asked { IfOk result (λ capacity. capacity ≡ capacity_in word.now) }
+    ensures within { IfOk result IsCapacity }
 {
-    let bytes = digits.as_bytes();
-    if bytes.is_empty() || !bytes.iter().all(|byte| byte.is_ascii_digit()) {
-        return Err(SimulationError::of_argument(alloc, fault, argument));
-    }
-    let value = digits.parse::<usize>().unwrap_or(usize::MAX);
-    if value > MAX_CAPACITY {
-        return Err(SimulationError::Capacity);
-    }
-    match NonZeroUsize::new(value) {
-        Some(capacity) => Ok(capacity),
-        None => Err(SimulationError::of_argument(alloc, fault, argument)),
+    let Some(capacity) = Amount::written(word) else {
+        return Err(SimulationError::Argument(fault, place));
+    };
+    match capacity.unit {
+        Unit::Keys if capacity.number > MAX_CAPACITY => Err(SimulationError::Capacity),
+        Unit::Percent if capacity.number > 100 => Err(SimulationError::Argument(fault, place)),
+        _ if capacity.number == 0 => Err(SimulationError::Argument(fault, place)),
+        _ => Ok(capacity),
     }
 }

@@ -1,34 +1,39 @@
 //! Clock2Q+ on a trace.
-ghost use Rattle.std.specs.Prelude.{◌≡◌, ◌≢◌, ◌<◌, ◌↔◌, Err, IfOk, IsErrOf};
+ghost use Rattle.std.specs.Prelude.{◌≡◌, ◌<◌, ◌≤◌, ◌↔◌, IfOk, IsErrOf};
 ghost use Rattle.std.specs.NonZero.{non_zero_usize_get};
+ghost use Rattle.clock2q_machine.specs.Machine.{empty};
+ghost use Rattle.clock2q_machine.specs.Policies.{IsPolicy};
+ghost use Rattle.clock2q_simulation.specs.ChosenShares.{shares_for};
 ghost use Rattle.clock2q_simulation.specs.MachineHits.{machine_hits};
 
-use clock2q_cache::{Cache, CacheError, MAX_CAPACITY};
-use std::alloc::Global;
+use crate::shares::ChosenShares;
+use clock2q_cache::{Cache, CacheError, DefaultHashBuilder, MAX_CAPACITY};
+use std::alloc::Allocator;
 use std::num::NonZeroUsize;
 
-/// Returns how many keys of a trace are hits in a new cache of the usual shares: how many are
-/// resident as they come.
+/// Returns how many keys of a trace are hits in a new cache of chosen shares, or of the usual ones:
+/// how many are resident as they come.
 ///
 /// # Errors
 ///
-/// `Capacity` where the capacity is above `MAX_CAPACITY`, and `Memory` where a request for memory
-/// is refused.
+/// `Capacity` where the capacity is above `MAX_CAPACITY`; else `Policy` where the shares don't fit
+/// together; `Memory` where a request for memory is refused.
 ///
 /// # Cost
 ///
 /// That of [`Cache::new`](clock2q_cache::Cache::new), and that of
 /// [`Cache::put`](clock2q_cache::Cache::put) for each key.
-pub fn clock2q_hits(
-    alloc: Global,
+pub fn clock2q_hits<A: Allocator + Copy>(
+    alloc: A,
     capacity: NonZeroUsize,
+    shares: Option<ChosenShares>,
     trace: &[u32],
 ) -> Result<usize, CacheError>
-    ensures hits { IfOk result (λ hits. hits ≡ machine_hits (non_zero_usize_get capacity) trace.now) }
+    ensures hits { IfOk result (λ hits. hits ≡ machine_hits (shares_for shares (non_zero_usize_get capacity)) trace.now) }
     ensures capacity { IsErrOf result CacheError.Capacity ↔ (MAX_CAPACITY < non_zero_usize_get capacity) }
-    ensures policy { result ≢ Err CacheError.Policy }
+    ensures policy { IsErrOf result CacheError.Policy → ¬ IsPolicy (shares_for shares (non_zero_usize_get capacity)) }
 {
-    let mut cache = Cache::new(alloc, capacity)?;
+    let mut cache = new_cache(alloc, capacity, shares)?;
     let mut hits = 0;
     for key in trace {
         if cache.put(*key, ()).is_some() {
@@ -36,4 +41,24 @@ pub fn clock2q_hits(
         }
     }
     Ok(hits)
+}
+
+// Returns an empty cache of chosen shares, or of the usual ones.
+fn new_cache<A: Allocator + Copy>(
+    alloc: A,
+    capacity: NonZeroUsize,
+    shares: Option<ChosenShares>,
+) -> Result<Cache<u32, (), DefaultHashBuilder, A>, CacheError>
+    ensures made { IfOk result (λ cache. cache.machine ≡ empty (shares_for shares (non_zero_usize_get capacity))) }
+    ensures capacity { IsErrOf result CacheError.Capacity ↔ (MAX_CAPACITY < non_zero_usize_get capacity) }
+    ensures policy { IsErrOf result CacheError.Policy → ¬ IsPolicy (shares_for shares (non_zero_usize_get capacity)) }
+{
+    let Some(shares) = shares else {
+        return Cache::new(alloc, capacity);
+    };
+    if capacity.get() > MAX_CAPACITY {
+        return Err(CacheError::Capacity);
+    }
+    let (small, window) = (shares.small(capacity.get()), shares.window(capacity.get()));
+    Cache::with_policy(alloc, capacity, small, window, DefaultHashBuilder::new())
 }

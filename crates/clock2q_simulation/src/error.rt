@@ -2,8 +2,8 @@
 ghost use Rattle.std.specs.Prelude.{◌≡◌};
 
 use clock2q_cache::CacheError;
-use std::alloc::{AllocError, Global};
-use std::io;
+use std::alloc::AllocError;
+use std::{fmt, io};
 use thiserror::Error;
 
 /// What is wrong with an argument.
@@ -18,30 +18,33 @@ pub enum Fault {
     /// It begins with a dash, and no option is named so.
     #[error("unknown option")]
     UnknownOption,
-    /// It is no number from 1 on, and has no dots between two numbers either.
-    #[error("not a capacity (a number from 1 to 16777215, or a range such as 10..1000)")]
+    /// It is no amount from 1 on, and has no dots between two amounts either.
+    #[error("not a capacity (keys from 1 to 16777215, or 1% to 100%, or a range as 10..1000)")]
     NotCapacity,
-    /// An end of the range is no number from 1 on.
-    #[error("not a range (two numbers from 1 to 16777215, as 10..1000)")]
+    /// An end of the range is no amount from 1 on, or only one of them is a percentage.
+    #[error("not a range (of keys from 1 to 16777215, as 10..1000, or of percents, as 1%..50%)")]
     NotRange,
     /// The range ends below its beginning.
     #[error("range whose ends are the wrong way round")]
     ReversedRange,
-    /// No policy has this name.
+    /// A name in it is that of no policy.
     #[error("unknown policy (--help names them)")]
     UnknownPolicy,
-    /// The policy is named twice.
+    /// A name stands in it twice.
     #[error("policy named twice")]
     RepeatedPolicy,
+    /// It has no two shares.
+    #[error("not shares (small and window, as small=20%,window=50% or small=30,window=10)")]
+    NotShares,
     /// The option is given twice.
     #[error("option given twice")]
     RepeatedOption,
     /// Another form is asked for before.
     #[error("a second form beside another one")]
     SecondForm,
-    /// No names come after it.
-    #[error("no names of policies after it")]
-    NoPolicies,
+    /// It needs an argument after it.
+    #[error("nothing after it")]
+    NoValue,
 }
 
 /// Why a simulation gave no result, or not all of it.
@@ -52,17 +55,23 @@ pub enum Fault {
 /// let refused = parse_options(rt.alloc(), &[]); // without a capacity
 /// assert_eq!(rt; refused.err(), Some(SimulationError::NoCapacity));
 /// ```
-#[derive(Debug, Drop, PartialEq, Eq, Error)]
+#[derive(Debug, Clone, Copy, PartialEq, Eq, Error)]
 pub enum SimulationError {
-    /// An argument is wrong: which one, and why.
-    #[error("clock2q-simulate: {1}: {0}")]
-    Argument(Fault, String),
+    /// An argument is wrong: why, and its place among the others, from 0 on.
+    #[error("argument {1}: {0}")]
+    Argument(Fault, usize),
     /// An argument is not in UTF-8.
     #[error("clock2q-simulate: an argument is not in UTF-8")]
     NotText,
     /// No argument is a capacity.
     #[error("clock2q-simulate: no capacity (--help tells what to write)")]
     NoCapacity,
+    /// Shares are chosen for Clock2Q+, and it isn't among the policies.
+    #[error("clock2q-simulate: --policy: shares of clock2q, which --policies leaves out")]
+    UnusedShares,
+    /// The chosen shares don't fit together in a cache of this capacity.
+    #[error("clock2q-simulate: --policy: shares that don't fit a capacity of {0}")]
+    Shares(usize),
     /// A capacity is above [`MAX_CAPACITY`](clock2q_cache::MAX_CAPACITY).
     #[error("capacity refused")]
     Capacity,
@@ -78,7 +87,7 @@ pub enum SimulationError {
 }
 
 impl SimulationError {
-    ghost use Rattle.clock2q_simulation.specs.SimulationError.{status_of};
+    ghost use Rattle.clock2q_simulation.specs.SimulationError.{status_of, of_cache};
 
     /// Returns the status with which the program ends: 2 for its arguments, 3 where a capacity is
     /// too large or memory is refused, 4 where reading or writing failed.
@@ -88,7 +97,9 @@ impl SimulationError {
         match self {
             SimulationError::Argument(..)
             | SimulationError::NotText
-            | SimulationError::NoCapacity => 2,
+            | SimulationError::NoCapacity
+            | SimulationError::UnusedShares
+            | SimulationError::Shares(_) => 2,
             SimulationError::Memory | SimulationError::Capacity => 3,
             SimulationError::Read | SimulationError::Write => 4,
         }
@@ -102,19 +113,14 @@ impl SimulationError {
         }
     }
 
-    // Returns the complaint about an argument, or `Memory` if its text can't be kept.
-    pub(crate) fn of_argument(alloc: Global, fault: Fault, argument: &str) -> SimulationError {
-        match String::from_str(alloc, argument) {
-            Ok(argument) => SimulationError::Argument(fault, argument),
-            Err(_) => SimulationError::Memory,
-        }
-    }
-
-    // Returns what a failed read comes to.
-    pub(crate) fn of_read(error: &io::Error) -> SimulationError {
-        match error.kind() {
-            io::ErrorKind::OutOfMemory => SimulationError::Memory,
-            _ => SimulationError::Read,
+    // Returns what a cache's refusal comes to, where the cache has this capacity.
+    pub(crate) fn of_cache(error: CacheError, capacity: usize) -> SimulationError
+        ensures { result ≡ of_cache error capacity }
+    {
+        match error {
+            CacheError::Capacity => SimulationError::Capacity,
+            CacheError::Memory => SimulationError::Memory,
+            CacheError::Policy => SimulationError::Shares(capacity),
         }
     }
 }
@@ -127,15 +133,31 @@ impl From<AllocError> for SimulationError {
     }
 }
 
-impl From<CacheError> for SimulationError {
-    ghost use Rattle.clock2q_simulation.specs.SimulationError.{of_cache};
+/// A refusal with the arguments of the program: the line that is said of it.
+///
+/// # Example
+///
+/// ```
+/// if let Err(refusal) = parse_options(rt.alloc(), &arguments) {
+///     eprintln!(rt; "{}", Complaint { refusal, arguments: &arguments })?;
+/// }
+/// ```
+#[derive(Drop)]
+pub struct Complaint<'a> {
+    /// What is refused.
+    pub refusal: SimulationError,
+    /// The arguments, of which it may tell one.
+    pub arguments: &'a [String],
+}
 
-    fn from(error: CacheError) -> SimulationError
-        ensures { result ≡ of_cache error }
-    {
-        match error {
-            CacheError::Capacity => SimulationError::Capacity,
-            CacheError::Memory | CacheError::Policy => SimulationError::Memory,
+impl fmt::Display for Complaint<'_> {
+    fn fmt<W: fmt::Write>(&self, f: &mut fmt::Formatter<W>) -> fmt::Result {
+        match self.refusal {
+            SimulationError::Argument(fault, place) => {
+                let argument = self.arguments.get(place).map_or("", |word| word.as_str());
+                write!(f, "clock2q-simulate: {argument}: {fault}")
+            }
+            refusal => write!(f, "{refusal}"),
         }
     }
 }

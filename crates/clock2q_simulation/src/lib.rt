@@ -2,6 +2,7 @@
 //! commas or as a picture.
 #![tactic(auto)]
 
+mod amount;
 mod axis;
 mod capacities;
 mod clock;
@@ -10,18 +11,23 @@ mod options;
 mod picture;
 mod policy;
 mod progress;
+mod reading;
 mod row;
+mod sending;
+mod shares;
 mod simulation;
-#[cfg(test)]
-mod tests;
 mod texts;
 mod trace;
 
+pub use amount::{Amount, Unit};
 pub use clock::clock2q_hits;
-pub use error::{Fault, SimulationError};
+pub use error::{Complaint, Fault, SimulationError};
 pub use options::{Format, HELP, Options, parse_options};
 pub use policy::{Policy, policy_hits};
 pub use progress::Progress;
+pub use reading::read_trace;
 pub use row::{Hits, Row, replay};
-pub use simulation::simulate;
-pub use trace::{Trace, read_trace};
+pub use sending::send;
+pub use shares::ChosenShares;
+pub use simulation::{rows_of, simulate};
+pub use trace::Trace;

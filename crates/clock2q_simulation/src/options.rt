@@ -1,14 +1,14 @@
 //! The arguments of the program.
 ghost use Rattle.std.specs.List.{All};
-ghost use Rattle.std.specs.NonZero.{non_zero_usize_get};
-ghost use Rattle.std.specs.Prelude.{◌<◌, ◌≤◌, IfOk, length};
+ghost use Rattle.std.specs.Prelude.{◌≡◌, ◌<◌, [], ◌∷◌, ◌++◌, ℕ, false, is_some, IfOk, OnOk, List, length, map, string_bytes};
+ghost use Rattle.clock2q_simulation.specs.Amounts.{IsCapacity, asked_from, asked_by, is_option, takes_value};
 
+use crate::amount::Amount;
 use crate::capacities::capacities_of;
 use crate::error::{Fault, SimulationError};
 use crate::policy::Policy;
-use clock2q_cache::MAX_CAPACITY;
-use std::alloc::{AllocError, Global};
-use std::num::NonZeroUsize;
+use crate::shares::ChosenShares;
+use std::alloc::{AllocError, Allocator};
 
 /// The form of the result.
 ///
@@ -38,18 +38,22 @@ pub enum Format {
 /// assert_eq!(rt; options.capacities.len(), 2);
 /// ```
 #[derive(Drop)]
-pub struct Options {
+pub struct Options<A: Allocator> {
     /// The form of the result.
     pub format: Format,
-    /// The capacities to simulate, in their order.
-    pub capacities: Vec<NonZeroUsize>,
+    /// The capacities to simulate, in their order. A percentage is one of the trace's different
+    /// keys.
+    pub capacities: Vec<Amount, A>,
     /// The policies to compare, in their order.
-    pub policies: Vec<Policy>,
+    pub policies: Vec<Policy, A>,
+    /// The shares of Clock2Q+, where they aren't the usual ones.
+    pub shares: Option<ChosenShares>,
 }
 
 /// What the program says of itself.
 pub const HELP: &str = "\
-usage: ./clock2q-simulate [--csv | --svg] [--policies NAMES] CAPACITY.. < TRACE
+usage: ./clock2q-simulate [--csv | --svg] [--policies NAMES] [--policy SHARES]
+                          CAPACITY.. < TRACE
 
 Replays a trace in a cache of each capacity, and tells which part of its
 accesses hit with Clock2Q+ and with other policies.
@@ -57,10 +61,11 @@ accesses hit with Clock2Q+ and with other policies.
 A trace is a list of accesses, a key a line, in the order in which they were
 made: the names of the files, blocks or pages that were asked for. A key is a
 line of any bytes. A capacity is how many keys a cache holds, from 1 to
-16777215; several of them give a row each. A range such as 10..1000 stands for
-its ends and for the numbers 1, 2, 5, 10, 20, 50 and so on between them.
+16777215, or a part of the trace's different keys, as 10%; several of them give
+a row each. A range such as 10..1000 or 1%..50% stands for its ends and for the
+numbers 1, 2, 5, 10, 20, 50 and so on between them.
 
-    printf 'a\\nb\\na\\nc\\nb\\nd\\na\\nb\\n' | ./clock2q-simulate 2 3
+    printf 'a\\nb\\na\\nc\\nb\\nd\\na\\nb\\n' | ./clock2q-simulate 2 75%
     ./clock2q-simulate --svg --policies clock2q,lru,opt 9 50 <trace >hits.svg
 
   --csv             prints the rows with commas
@@ -69,6 +74,9 @@ its ends and for the numbers 1, 2, 5, 10, 20, 50 and so on between them.
                     s3fifo, lru, opt, fifo, clock and arc; without it the first
                     five. opt is the most that a policy hits that keeps each key
                     that it misses
+  --policy SHARES   gives Clock2Q+ other shares than small=10%,window=50%: that
+                    of its small queue in the capacity, and that of its window
+                    in the queue, each in percent or as a number of keys
   -h, --help        prints this text
 
 Status: 0; 2 where an argument is wrong; 3 where a capacity is too large or
@@ -76,70 +84,183 @@ memory ran out; 4 where reading or writing failed. The first start proves and
 builds the program, which takes minutes.
 ";
 
-/// Reads arguments: capacities and ranges of them, at most one option that asks for a form, and
-/// `--policies` at most once, with the names of policies after it.
+/// Reads arguments: capacities and ranges of them, at most one option that asks for a form, and at
+/// most once each `--policies` with the names of policies after it and `--policy` with shares.
 ///
 /// # Errors
 ///
-/// `Argument` where an argument is none of these, is repeated, or contradicts an earlier one; then
-/// it holds the argument, or the name of the policy that is wrong. `Capacity` where a capacity or
-/// an end of a range is above `MAX_CAPACITY`; `NoCapacity` where there is none; `Memory` where a
-/// request for memory is refused. The arguments are read in order, and the first bad one ends the
-/// call with its error.
+/// `Argument` where an argument is none of these, is repeated, or contradicts an earlier one: what
+/// is wrong, and its place. `Capacity` where a capacity or an end of a range is above
+/// `MAX_CAPACITY` keys; `NoCapacity` where there is none; `UnusedShares` where there are shares, and
+/// policies without Clock2Q+; `Memory` where a request for memory is refused. The arguments are
+/// read in order, and the first bad one ends the call with its error.
 ///
 /// # Cost
 ///
 /// Time in proportion to the bytes of the arguments.
-pub fn parse_options(alloc: Global, arguments: &[String]) -> Result<Options, SimulationError>
+pub fn parse_options<A: Allocator + Copy>(
+    alloc: A,
+    arguments: &[String],
+) -> Result<Options<A>, SimulationError>
     ensures some { IfOk result (λ options. 0 < length options.capacities.items) }
-    ensures within { IfOk result (λ options. All (λ capacity. non_zero_usize_get capacity ≤ MAX_CAPACITY) options.capacities.items) }
+    ensures within { IfOk result (λ options. All IsCapacity options.capacities.items) }
+    ensures asked { IfOk result (λ options. options.capacities.items ≡ asked_from false (map string_bytes arguments.now)) }
 {
-    let mut format = None;
-    let mut policies = None;
-    let mut is_list = false;
-    let mut capacities = Vec::new(alloc);
-    for argument in arguments {
-        let argument = argument.as_str();
-        if is_list {
-            policies = Some(policies_of(alloc, argument)?);
-            is_list = false;
-        } else if argument == "--policies" {
-            if policies.is_some() {
-                return Err(SimulationError::of_argument(alloc, Fault::RepeatedOption, argument));
-            }
-            is_list = true;
-        } else if let Some(asked) = format_of(argument) {
-            format = Some(only_format(alloc, format, asked, argument)?);
-        } else {
-            let more = capacities_of(alloc, argument)?;
-            capacities.extend_from_slice(&more)?;
+    let mut asked = Asked::new(alloc);
+    for (place, argument) in arguments.iter().enumerate() {
+        asked.take(alloc, argument.as_str(), place)?;
+    }
+    if asked.awaited.is_some() {
+        let last = arguments.len().saturating_sub(1);
+        return Err(SimulationError::Argument(Fault::NoValue, last));
+    }
+    asked.finish(alloc)
+}
+
+// An option that takes the argument after it.
+#[derive(Clone, Copy, Debug, PartialEq, Eq)]
+enum Valued {
+    Policies,
+    Shares,
+}
+
+// What the arguments so far ask for.
+#[derive(Drop)]
+struct Asked<A: Allocator> {
+    format: Option<Format>,
+    policies: Option<Vec<Policy, A>>,
+    shares: Option<ChosenShares>,
+    capacities: Vec<Amount, A>,
+    // The option whose value comes next.
+    awaited: Option<Valued>,
+}
+
+impl<A: Allocator + Copy> Asked<A> {
+    fn new(alloc: A) -> Asked<A>
+        ensures capacities { result.capacities.items ≡ [] }
+        ensures awaited { is_some result.awaited ≡ false }
+    {
+        Asked {
+            format: None,
+            policies: None,
+            shares: None,
+            capacities: Vec::new(alloc),
+            awaited: None,
         }
     }
-    if is_list {
-        return Err(SimulationError::of_argument(alloc, Fault::NoPolicies, "--policies"));
+
+    // Takes the argument that comes next.
+    fn take(&mut self, alloc: A, argument: &str, place: usize) -> Result<(), SimulationError>
+        requires within { All IsCapacity self.old.capacities.items }
+        ensures within { OnOk result (All IsCapacity self.new.capacities.items) }
+        ensures asked { OnOk result ((rest : List (List ℕ)) → self.new.capacities.items ++ asked_from (is_some self.new.awaited) rest ≡ self.old.capacities.items ++ asked_from (is_some self.old.awaited) (argument.now ∷ rest)) }
+    {
+        if let Some(option) = self.awaited {
+            return self.take_value(alloc, option, argument, place);
+        }
+        if argument.starts_with('-') {
+            return self.take_option(argument, place);
+        }
+        let more = capacities_of(alloc, argument, place)?;
+        self.capacities.extend_from_slice(&more)?;
+        Ok(())
     }
-    if capacities.is_empty() {
-        return Err(SimulationError::NoCapacity);
+
+    // Takes the value of an option.
+    fn take_value(
+        &mut self,
+        alloc: A,
+        option: Valued,
+        value: &str,
+        place: usize,
+    ) -> Result<(), SimulationError>
+        ensures capacities { self.new.capacities ≡ self.old.capacities }
+        ensures awaited { OnOk result (is_some self.new.awaited ≡ false) }
+    {
+        match option {
+            Valued::Policies => self.policies = Some(policies_of(alloc, value, place)?),
+            Valued::Shares => {
+                let Some(shares) = ChosenShares::written(value) else {
+                    return Err(SimulationError::Argument(Fault::NotShares, place));
+                };
+                self.shares = Some(shares);
+            }
+        }
+        self.awaited = None;
+        Ok(())
     }
-    Ok(Options {
-        format: format.unwrap_or(Format::Table),
-        capacities,
-        policies: match policies {
+
+    // Takes an option, without the value that it may have.
+    fn take_option(&mut self, option: &str, place: usize) -> Result<(), SimulationError>
+        ensures capacities { self.new.capacities ≡ self.old.capacities }
+        ensures awaited { OnOk result (is_some self.new.awaited ≡ takes_value option.now) }
+    {
+        let is_repeated = if option == "--policies" {
+            self.awaited = Some(Valued::Policies);
+            self.policies.is_some()
+        } else if option == "--policy" {
+            self.awaited = Some(Valued::Shares);
+            self.shares.is_some()
+        } else {
+            let Some(format) = format_of(option) else {
+                return Err(SimulationError::Argument(Fault::UnknownOption, place));
+            };
+            if self.format.is_some_and(|earlier| earlier != format) {
+                return Err(SimulationError::Argument(Fault::SecondForm, place));
+            }
+            self.awaited = None;
+            self.format.replace(format).is_some()
+        };
+        if is_repeated {
+            return Err(SimulationError::Argument(Fault::RepeatedOption, place));
+        }
+        Ok(())
+    }
+
+    // Returns what all arguments ask for.
+    fn finish(self, alloc: A) -> Result<Options<A>, SimulationError>
+        ensures some { IfOk result (λ options. 0 < length options.capacities.items) }
+        ensures asked { IfOk result (λ options. options.capacities ≡ self.capacities) }
+    {
+        let Asked {
+            format,
+            policies,
+            shares,
+            capacities,
+            awaited: _,
+        } = self;
+        if capacities.is_empty() {
+            return Err(SimulationError::NoCapacity);
+        }
+        let policies = match policies {
             Some(policies) => policies,
             None => Vec::from_slice(alloc, &Policy::SHOWN)?,
-        },
-    })
+        };
+        if shares.is_some() && !policies.contains(&Policy::Clock2Q) {
+            return Err(SimulationError::UnusedShares);
+        }
+        Ok(Options {
+            format: format.unwrap_or(Format::Table),
+            capacities,
+            policies,
+            shares,
+        })
+    }
 }
 
 // Returns the policies that names with commas between them choose.
-fn policies_of(alloc: Global, names: &str) -> Result<Vec<Policy>, SimulationError> {
-    let mut policies: Vec<Policy> = Vec::new(alloc);
+fn policies_of<A: Allocator>(
+    alloc: A,
+    names: &str,
+    place: usize,
+) -> Result<Vec<Policy, A>, SimulationError> {
+    let mut policies = Vec::new(alloc);
     for name in names.split(',') {
         let Some(policy) = Policy::named(name) else {
-            return Err(SimulationError::of_argument(alloc, Fault::UnknownPolicy, name));
+            return Err(SimulationError::Argument(Fault::UnknownPolicy, place));
         };
         if policies.contains(&policy) {
-            return Err(SimulationError::of_argument(alloc, Fault::RepeatedPolicy, name));
+            return Err(SimulationError::Argument(Fault::RepeatedPolicy, place));
         }
         policies.push(policy).map_err(AllocError::from)?;
     }
@@ -147,26 +268,10 @@ fn policies_of(alloc: Global, names: &str) -> Result<Vec<Policy>, SimulationErro
 }
 
 // Returns the form that an option asks for.
-fn format_of(argument: &str) -> Option<Format> {
-    match argument {
+fn format_of(option: &str) -> Option<Format> {
+    match option {
         "--csv" => Some(Format::Csv),
         "--svg" => Some(Format::Svg),
         _ => None,
-    }
-}
-
-// Returns the form that an option asks for, if none was asked for before.
-fn only_format(
-    alloc: Global,
-    earlier: Option<Format>,
-    asked: Format,
-    argument: &str,
-) -> Result<Format, SimulationError> {
-    match earlier {
-        None => Ok(asked),
-        Some(format) if format == asked => {
-            Err(SimulationError::of_argument(alloc, Fault::RepeatedOption, argument))
-        }
-        Some(_) => Err(SimulationError::of_argument(alloc, Fault::SecondForm, argument)),
     }
 }

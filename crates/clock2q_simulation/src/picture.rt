@@ -4,7 +4,7 @@ ghost use Rattle.std.specs.Prelude.{◌<◌};
 use crate::axis::Axis;
 use crate::policy::Policy;
 use crate::row::Row;
-use std::alloc::{AllocError, Global};
+use std::alloc::{AllocError, Allocator};
 use std::fmt::Write;
 use std::num::nearest_usize_to_f64;
 
@@ -60,7 +60,7 @@ struct Frame {
 
 impl Frame {
     // Returns a frame with room for rows.
-    fn new(rows: &[Row]) -> Frame {
+    fn new<A: Allocator + Copy>(rows: &[Row<A>]) -> Frame {
         let low = rows.iter().map(|row| row.capacity.get()).min().unwrap_or(1);
         let high = rows.iter().map(|row| row.capacity.get()).max().unwrap_or(1);
         Frame {
@@ -92,7 +92,7 @@ impl Frame {
 }
 
 // Returns the highest ratio of the rows in percent, rounded up to a multiple of ten.
-fn top_of(rows: &[Row]) -> u32 {
+fn top_of<A: Allocator + Copy>(rows: &[Row<A>]) -> u32 {
     let mut most = 0.0;
     for row in rows {
         for hits in row.hits.iter() {
@@ -109,7 +109,7 @@ fn top_of(rows: &[Row]) -> u32 {
 
 // Returns the lowest ratio of the rows in percent, rounded down to a multiple of ten, where all lie
 // above a half, and else 0.
-fn floor_of(rows: &[Row]) -> u32 {
+fn floor_of<A: Allocator + Copy>(rows: &[Row<A>]) -> u32 {
     let mut least = 1.0;
     for row in rows {
         for hits in row.hits.iter() {
@@ -125,11 +125,11 @@ fn floor_of(rows: &[Row]) -> u32 {
 }
 
 /// Returns the hit ratio of each policy over the capacities, as an SVG text.
-pub(crate) fn picture(
-    alloc: Global,
+pub(crate) fn picture<A: Allocator + Copy>(
+    alloc: A,
     policies: &[Policy],
-    rows: &[Row],
-) -> Result<String, AllocError> {
+    rows: &[Row<A>],
+) -> Result<String<A>, AllocError> {
     let mut order = Vec::with_capacity(alloc, rows.len())?;
     for row in rows {
         order.push(row)?;
@@ -150,7 +150,10 @@ pub(crate) fn picture(
 }
 
 // Writes what the picture shows.
-fn write_title(text: &mut String, rows: &[Row]) -> Result<(), AllocError> {
+fn write_title<A: Allocator + Copy>(
+    text: &mut String<A>,
+    rows: &[Row<A>],
+) -> Result<(), AllocError> {
     let accesses = rows.first().map_or(0, |row| row.accesses);
     writeln!(
         text,
@@ -159,7 +162,10 @@ fn write_title(text: &mut String, rows: &[Row]) -> Result<(), AllocError> {
 }
 
 // Writes the vertical axis, with lines across the picture.
-fn write_ratios(text: &mut String, frame: &Frame) -> Result<(), AllocError> {
+fn write_ratios<A: Allocator + Copy>(
+    text: &mut String<A>,
+    frame: &Frame,
+) -> Result<(), AllocError> {
     for percent in (frame.floor..=frame.top).step_by(frame.step()) {
         write_ratio(text, frame.y(f64::from(percent)), percent)?;
     }
@@ -175,7 +181,11 @@ fn write_ratios(text: &mut String, frame: &Frame) -> Result<(), AllocError> {
 }
 
 // Writes a ratio of the axis, and its line.
-fn write_ratio(text: &mut String, y: f64, percent: u32) -> Result<(), AllocError> {
+fn write_ratio<A: Allocator + Copy>(
+    text: &mut String<A>,
+    y: f64,
+    percent: u32,
+) -> Result<(), AllocError> {
     let baseline = y + 4.5;
     writeln!(
         text,
@@ -188,7 +198,11 @@ fn write_ratio(text: &mut String, y: f64, percent: u32) -> Result<(), AllocError
 }
 
 // Writes the horizontal axis, with a mark at each capacity that is named.
-fn write_capacities(alloc: Global, text: &mut String, frame: &Frame) -> Result<(), AllocError> {
+fn write_capacities<A: Allocator + Copy>(
+    alloc: A,
+    text: &mut String<A>,
+    frame: &Frame,
+) -> Result<(), AllocError> {
     writeln!(
         text,
         "<path d=\"M {LEFT:.0} {TOP:.0} V {BOTTOM:.0} H {RIGHT:.0}\" fill=\"none\" stroke=\"black\"/>"
@@ -228,7 +242,7 @@ fn short(capacity: usize) -> (usize, &'static str) {
 }
 
 // Returns the hit ratio of a policy in percent.
-fn percent_of(row: &Row, policy: Policy) -> f64 {
+fn percent_of<A: Allocator + Copy>(row: &Row<A>, policy: Policy) -> f64 {
     for hits in row.hits.iter() {
         if hits.policy == policy {
             return row.ratio(hits.hits) * 100.0;
@@ -238,10 +252,10 @@ fn percent_of(row: &Row, policy: Policy) -> f64 {
 }
 
 // Writes a curve through the points of its policy.
-fn write_curve(
-    text: &mut String,
+fn write_curve<A: Allocator + Copy>(
+    text: &mut String<A>,
     frame: &Frame,
-    rows: &[&Row],
+    rows: &[&Row<A>],
     policy: Policy,
 ) -> Result<(), AllocError> {
     write!(text, "<polyline fill=\"none\" ")?;
@@ -256,10 +270,10 @@ fn write_curve(
 }
 
 // Writes a ring round each point of a policy.
-fn write_rings(
-    text: &mut String,
+fn write_rings<A: Allocator + Copy>(
+    text: &mut String<A>,
     frame: &Frame,
-    rows: &[&Row],
+    rows: &[&Row<A>],
     policy: Policy,
 ) -> Result<(), AllocError> {
     for row in rows {
@@ -269,7 +283,12 @@ fn write_rings(
     Ok(())
 }
 
-fn write_ring(text: &mut String, x: f64, y: f64, policy: Policy) -> Result<(), AllocError> {
+fn write_ring<A: Allocator + Copy>(
+    text: &mut String<A>,
+    x: f64,
+    y: f64,
+    policy: Policy,
+) -> Result<(), AllocError> {
     let pen = pen_of(policy);
     let (radius, colour) = (pen.radius, pen.colour);
     writeln!(
@@ -279,7 +298,7 @@ fn write_ring(text: &mut String, x: f64, y: f64, policy: Policy) -> Result<(), A
 }
 
 // Writes how a curve's line is drawn.
-fn write_pen(text: &mut String, policy: Policy) -> Result<(), AllocError> {
+fn write_pen<A: Allocator + Copy>(text: &mut String<A>, policy: Policy) -> Result<(), AllocError> {
     let pen = pen_of(policy);
     let (colour, dashes) = (pen.colour, pen.dashes);
     write!(
@@ -289,7 +308,11 @@ fn write_pen(text: &mut String, policy: Policy) -> Result<(), AllocError> {
 }
 
 // Writes a curve's name beside a piece of its line with a ring: four in a line, and two lines.
-fn write_legend(text: &mut String, place: usize, policy: Policy) -> Result<(), AllocError> {
+fn write_legend<A: Allocator + Copy>(
+    text: &mut String<A>,
+    place: usize,
+    policy: Policy,
+) -> Result<(), AllocError> {
     let left = LEFT + nearest_usize_to_f64(place % 4) * 150.0;
     let middle = if place < 4 { 50.0 } else { 70.0 };
     let name = policy.heading();

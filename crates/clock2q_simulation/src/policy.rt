@@ -5,11 +5,12 @@ ghost use Rattle.clock2q_simulation.specs.Rows.{AreHits};
 
 use crate::clock::clock2q_hits;
 use crate::error::SimulationError;
+use crate::shares::ChosenShares;
 use crate::trace::Trace;
 use clock2q_policies::{
     PlainPolicy, arc_hits, clock_hits, optimal_hits, plain_hits, s3_fifo_hits, sieve_hits,
 };
-use std::alloc::Global;
+use std::alloc::Allocator;
 use std::num::NonZeroUsize;
 
 /// Which key a cache evicts.
@@ -99,31 +100,37 @@ impl Policy {
     }
 }
 
-/// Returns how many keys of a trace are hits in a new cache of a policy.
+/// Returns how many keys of a trace are hits in a new cache of a policy. Clock2Q+ has the chosen
+/// shares, or the usual ones.
 ///
 /// # Errors
 ///
-/// `Capacity` where the policy is Clock2Q+ and the capacity is above `MAX_CAPACITY`, and `Memory`
-/// where a request for memory is refused or the trace has 2^32 different keys.
+/// `Capacity` where the policy is Clock2Q+ and the capacity is above `MAX_CAPACITY`, `Shares` where
+/// its shares don't fit together, and `Memory` where a request for memory is refused or the trace
+/// has 2^32 different keys.
 ///
 /// # Cost
 ///
 /// That of the policy's function in `clock2q_policies`, or of [`clock2q_hits`]. The memory is given
 /// back before the call returns.
-pub fn policy_hits(
-    alloc: Global,
+pub fn policy_hits<A: Allocator + Copy>(
+    alloc: A,
     policy: Policy,
     capacity: NonZeroUsize,
-    trace: &Trace,
+    shares: Option<ChosenShares>,
+    trace: &Trace<A>,
 ) -> Result<usize, SimulationError>
-    ensures hits { IfOk result (AreHits policy trace.now.numbers (non_zero_usize_get capacity)) }
+    ensures hits { IfOk result (AreHits shares trace.now.numbers (non_zero_usize_get capacity) policy) }
 {
     let numbers = trace.numbers();
     let Ok(keys) = u32::try_from(trace.key_count()) else {
         return Err(SimulationError::Memory);
     };
     let hits = match policy {
-        Policy::Clock2Q => clock2q_hits(alloc, capacity, numbers)?,
+        Policy::Clock2Q => match clock2q_hits(alloc, capacity, shares, numbers) {
+            Ok(hits) => hits,
+            Err(error) => return Err(SimulationError::of_cache(error, capacity.get())),
+        },
         Policy::Sieve => sieve_hits(alloc, capacity, numbers, keys)?,
         Policy::S3Fifo => s3_fifo_hits(alloc, capacity, numbers, keys)?,
         Policy::LeastRecentlyUsed => {

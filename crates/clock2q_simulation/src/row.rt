@@ -1,13 +1,13 @@
 //! What comes of one capacity.
-ghost use Rattle.std.specs.Prelude.{◌≡◌, IfOk, length, map};
-ghost use Rattle.std.specs.List.{All};
+ghost use Rattle.std.specs.Prelude.{◌≡◌, IfOk};
 ghost use Rattle.std.specs.NonZero.{non_zero_usize_get};
-ghost use Rattle.clock2q_simulation.specs.Rows.{AreHits};
+ghost use Rattle.clock2q_simulation.specs.Rows.{AreHits, IsRow};
 
 use crate::error::SimulationError;
 use crate::policy::{Policy, policy_hits};
+use crate::shares::ChosenShares;
 use crate::trace::Trace;
-use std::alloc::{AllocError, Global};
+use std::alloc::{AllocError, Allocator};
 use std::num::{NonZeroUsize, nearest_usize_to_f64};
 
 /// How many accesses hit with a policy.
@@ -15,7 +15,7 @@ use std::num::{NonZeroUsize, nearest_usize_to_f64};
 /// # Example
 ///
 /// ```
-/// let row = replay(rt.alloc(), two, &[Policy::FirstInFirstOut], &trace)?;
+/// let row = replay(rt.alloc(), two, &[Policy::FirstInFirstOut], None, &trace)?;
 /// assert_eq!(rt; row.hits[0].hits, 2);
 /// ```
 #[derive(Clone, Copy, Debug, PartialEq, Eq)]
@@ -32,21 +32,21 @@ pub struct Hits {
 ///
 /// ```
 /// let input = b"a\nb\na\nc\nb\nd\na\nb\n".as_slice();
-/// let trace = read_trace(rt.alloc(), input, &mut progress)?;
-/// let row = replay(rt.alloc(), two, &[Policy::FirstInFirstOut], &trace)?; // in a cache for two keys
+/// let trace = read_trace(rt.alloc(), &mut Device::new(input), &mut progress)?;
+/// let row = replay(rt.alloc(), two, &[Policy::FirstInFirstOut], None, &trace)?; // in a cache for two keys
 /// assert_eq!(rt; row.ratio(row.hits[0].hits), 0.25);
 /// ```
-#[derive(Debug, Drop)]
-pub struct Row {
+#[derive(Drop)]
+pub struct Row<A: Allocator> {
     /// How many keys each cache can hold.
     pub capacity: NonZeroUsize,
     /// How many keys the trace has.
     pub accesses: usize,
     /// The hits with each policy.
-    pub hits: Vec<Hits>,
+    pub hits: Vec<Hits, A>,
 }
 
-impl Row {
+impl<A: Allocator> Row<A> {
     /// Returns the hit ratio: `hits` divided by the number of accesses, or 0 for an empty trace.
     pub fn ratio(&self, hits: usize) -> f64 {
         if self.accesses == 0 {
@@ -56,7 +56,8 @@ impl Row {
     }
 }
 
-/// Replays a trace in a new cache of each policy, in the order of the policies.
+/// Replays a trace in a new cache of each policy, in the order of the policies. Clock2Q+ has the
+/// chosen shares, or the usual ones.
 ///
 /// # Errors
 ///
@@ -65,20 +66,18 @@ impl Row {
 /// # Cost
 ///
 /// That of [`policy_hits`] for each policy.
-pub fn replay(
-    alloc: Global,
+pub fn replay<A: Allocator + Copy>(
+    alloc: A,
     capacity: NonZeroUsize,
     policies: &[Policy],
-    trace: &Trace,
-) -> Result<Row, SimulationError>
-    ensures capacity { IfOk result (λ row. non_zero_usize_get row.capacity ≡ non_zero_usize_get capacity) }
-    ensures accesses { IfOk result (λ row. row.accesses ≡ length trace.now.numbers) }
-    ensures policies { IfOk result (λ row. map (λ h. h.policy) row.hits.items ≡ policies.now) }
-    ensures hits { IfOk result (λ row. All (λ h. AreHits h.policy trace.now.numbers (non_zero_usize_get capacity) h.hits) row.hits.items) }
+    shares: Option<ChosenShares>,
+    trace: &Trace<A>,
+) -> Result<Row<A>, SimulationError>
+    ensures row { IfOk result (IsRow policies.now shares trace.now.numbers (non_zero_usize_get capacity)) }
 {
     let mut hits = Vec::new(alloc);
     for policy in policies {
-        hits.push(hits_in(alloc, *policy, capacity, trace)?)
+        hits.push(hits_in(alloc, *policy, capacity, shares, trace)?)
             .map_err(AllocError::from)?;
     }
     Ok(Row {
@@ -88,15 +87,16 @@ pub fn replay(
     })
 }
 
-fn hits_in(
-    alloc: Global,
+fn hits_in<A: Allocator + Copy>(
+    alloc: A,
     policy: Policy,
     capacity: NonZeroUsize,
-    trace: &Trace,
+    shares: Option<ChosenShares>,
+    trace: &Trace<A>,
 ) -> Result<Hits, SimulationError>
     ensures policy { IfOk result (λ h. h.policy ≡ policy) }
-    ensures hits { IfOk result (λ h. AreHits h.policy trace.now.numbers (non_zero_usize_get capacity) h.hits) }
+    ensures hits { IfOk result (λ h. AreHits shares trace.now.numbers (non_zero_usize_get capacity) h.policy h.hits) }
 {
-    let hits = policy_hits(alloc, policy, capacity, trace)?;
+    let hits = policy_hits(alloc, policy, capacity, shares, trace)?;
     Ok(Hits { policy, hits })
 }

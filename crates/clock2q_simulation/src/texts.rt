@@ -2,12 +2,16 @@
 
 use crate::policy::Policy;
 use crate::row::Row;
-use std::alloc::{AllocError, Global};
+use std::alloc::{AllocError, Allocator};
 use std::fmt::Write;
 
 /// Returns the hit ratios in columns, in percent, below the number of accesses and a line of
 /// headings.
-pub fn table_text(alloc: Global, policies: &[Policy], rows: &[Row]) -> Result<String, AllocError> {
+pub fn table_text<A: Allocator>(
+    alloc: A,
+    policies: &[Policy],
+    rows: &[Row<A>],
+) -> Result<String<A>, AllocError> {
     let mut text = String::new(alloc);
     let accesses = rows.first().map_or(0, |row| row.accesses);
     writeln!(text, "{accesses} accesses, hits in percent")?;
@@ -29,7 +33,11 @@ pub fn table_text(alloc: Global, policies: &[Policy], rows: &[Row]) -> Result<St
 }
 
 /// Returns the rows with commas, below a line of names.
-pub fn csv_text(alloc: Global, policies: &[Policy], rows: &[Row]) -> Result<String, AllocError> {
+pub fn csv_text<A: Allocator>(
+    alloc: A,
+    policies: &[Policy],
+    rows: &[Row<A>],
+) -> Result<String<A>, AllocError> {
     let mut text = String::from_str(alloc, "capacity,accesses")?;
     for policy in policies {
         let name = policy.name();

@@ -1,11 +1,11 @@
--- Each capacity so far lies between the ends.
-use Rattle.std.proofs.Common.{◌≤◌}
-use Rattle.std.specs.List.{All}
-use Rattle.std.specs.NonZero.{non_zero_usize_get}
+-- The capacities so far are the first end and the numbers so far that lie between the ends.
+use Rattle.std.proofs.Common.{◌≡◌, ◌&&◌, ltb, ◌∷◌, map, take}
+use Rattle.std.specs.List.{All, filter}
+use Rattle.clock2q_simulation.specs.Amounts.{IsCapacity, amount}
 use Rattle.clock2q_simulation.proofs.capacities.range_of.Given as goal
 
-abbrev pub invariant-loop-round : goal.invariant-loop-round
-invariant-loop-round l = record {
-  from : All (λ capacity. non_zero_usize_get l.fn.first ≤ non_zero_usize_get capacity) l.capacities.items;
-  to : All (λ capacity. non_zero_usize_get capacity ≤ non_zero_usize_get l.fn.last) l.capacities.items;
+abbrev pub invariant-loop-number : goal.invariant-loop-number
+invariant-loop-number g l = record {
+  range : l.capacities.items ≡ map (amount l.fn.first.unit) (l.fn.first.number ∷ filter (λ n. ltb l.fn.first.number n && ltb n l.fn.last) (take l.number-index l.round_numbers));
+  within : All IsCapacity l.capacities.items;
 }

@@ -6,7 +6,7 @@ use Rattle.clock2q_simulation.proofs.clock.clock2q_hits.Goals.{then-is_some, els
 use Rattle.clock2q_simulation.proofs.clock.clock2q_hits.Goals as goal
 
 pub loop-key-preserved : goal.loop-key-preserved
-loop-key-preserved c =
+loop-key-preserved g c =
     let holds : machine_holds (get_or c.args.trace.now c.loop-key.key-index 0) c.loop-key.cache.machine ≡ c.is_some.result = sym (c.is_some.ensures ∙ ap is_some c.put.ensures.value) in
     let more : c.if-is_some.hits ≡ c.loop-key.hits + cond (machine_holds (get_or c.args.trace.now c.loop-key.key-index 0) c.loop-key.cache.machine) 1 0 = elim c.if-is_some.branch [
       | then-is_some w ↦ rw (holds ∙ w.if-is_some.true) (omega arith)

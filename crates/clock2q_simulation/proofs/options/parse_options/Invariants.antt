@@ -1,8 +1,13 @@
--- Each capacity so far is within the limit.
-use Rattle.std.proofs.Common.{◌≤◌}
+-- The capacities so far and those that the rest asks for are all that are asked for.
+use Rattle.std.proofs.Common.{◌≡◌, ◌++◌, false, map, drop}
 use Rattle.std.specs.List.{All}
-use Rattle.std.specs.NonZero.{non_zero_usize_get}
+use Rattle.std.specs.Option.{is_some}
+use Rattle.std.specs.String.{string_bytes}
+use Rattle.clock2q_simulation.specs.Amounts.{IsCapacity, asked_from}
 use Rattle.clock2q_simulation.proofs.options.parse_options.Given as goal
 
-abbrev pub invariant-loop-argument : goal.invariant-loop-argument
-invariant-loop-argument l = All (λ capacity. non_zero_usize_get capacity ≤ 16777215) l.capacities.items
+abbrev pub invariant-loop-place : goal.invariant-loop-place
+invariant-loop-place g l = record {
+  within : All IsCapacity l.asked.capacities.items;
+  asked : l.asked.capacities.items ++ asked_from (is_some l.asked.awaited) (drop l.place (map string_bytes l.arguments)) ≡ asked_from false (map string_bytes l.arguments);
+}

@@ -1,0 +1,5 @@
+mod Amounts
+mod LineByLine
+mod Numbering
+mod Sent
+mod Zipped

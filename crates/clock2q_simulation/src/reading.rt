@@ -1,0 +1,98 @@
+//! A trace read from a source, a key a line.
+ghost use Rattle.std.specs.Prelude.{◌≡◌, ◌++◌, IfOk, OnOk};
+ghost use Rattle.clock2q_text.specs.Text.{lines_of};
+ghost use Rattle.clock2q_simulation.specs.Reading.{ReadsTrace, HasNoEnd, Takes};
+
+use crate::error::SimulationError;
+use crate::progress::Progress;
+use crate::trace::Trace;
+use clock2q_text::Source;
+use std::alloc::{AllocError, Allocator};
+use std::io::Write;
+
+// The number of bytes that are asked for at a time.
+const BLOCK: usize = 65536;
+
+// The keys so far, and the beginning of one whose line has not ended yet.
+#[derive(Drop)]
+struct Lines<A: Allocator> {
+    trace: Trace<A>,
+    line: Vec<u8, A>,
+}
+
+impl<A: Allocator + Copy> Lines<A> {
+    // Takes the bytes that come next.
+    fn take(&mut self, alloc: A, bytes: &[u8]) -> Result<(), AllocError>
+        requires unended { HasNoEnd self.old.line.items }
+        ensures taken { OnOk result (Takes self.old.trace.keys self.old.line.items bytes.now self.new.trace.keys self.new.line.items) }
+    {
+        for byte in bytes {
+            if *byte == b'\n' {
+                self.trace.push(alloc, &self.line)?;
+                self.line.clear();
+            } else {
+                match self.line.push(*byte) {
+                    Ok(()) => {}
+                    Err(_) => return Err(AllocError),
+                }
+            }
+        }
+        Ok(())
+    }
+
+    // Ends the last line, which may lack its end.
+    fn finish(self, alloc: A) -> Result<Trace<A>, AllocError>
+        requires unended { HasNoEnd self.line.items }
+        ensures keys { IfOk result (λ trace. trace.keys ≡ self.trace.keys ++ lines_of self.line.items) }
+    {
+        let Lines { mut trace, line } = self;
+        if !line.is_empty() {
+            trace.push(alloc, &line)?;
+        }
+        Ok(trace)
+    }
+}
+
+/// Reads a trace to its end: a key a line. A line ends with the byte 10, which the last one may
+/// lack. No failed read is tried again.
+///
+/// # Errors
+///
+/// `Read` where a read fails, and `Memory` where a request for memory is refused. What was read is
+/// dropped then.
+///
+/// # Cost
+///
+/// That of [`Trace::push`] for each line. Memory in proportion to the number of lines and to the
+/// bytes of the different keys.
+pub fn read_trace<R: Source, W: Write, A: Allocator + Copy>(
+    alloc: A,
+    reader: &mut R,
+    progress: &mut Progress<W>,
+) -> Result<Trace<A>, SimulationError>
+    ensures { ReadsTrace (R.given reader.old) (R.given reader.new) (R.remaining reader.old) (R.remaining reader.new) (λ trace. trace.keys) result }
+{
+    let mut lines = Lines {
+        trace: Trace::new(alloc),
+        line: Vec::new(alloc),
+    };
+    let mut block = [0u8; BLOCK];
+    for _ in 0..u64::MAX {
+        let Ok(count) = reader.read(&mut block) else {
+            return Err(SimulationError::Read);
+        };
+        if count == 0 {
+            return match lines.finish(alloc) {
+                Ok(trace) => Ok(trace),
+                Err(_) => Err(SimulationError::Memory),
+            };
+        }
+        match lines.take(alloc, &block[..count]) {
+            Ok(()) => {}
+            Err(_) => return Err(SimulationError::Memory),
+        }
+        progress.read(lines.trace.numbers().len());
+    }
+    // so many bytes leave no memory for their keys
+    Err(SimulationError::Memory)
+}

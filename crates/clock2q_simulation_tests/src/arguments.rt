@@ -1,0 +1,231 @@
+//! The program's arguments.
+
+use clock2q_cache::MAX_CAPACITY;
+use clock2q_simulation::{
+    Amount, Complaint, Format, Options, Policy, SimulationError, Unit, parse_options,
+};
+use std::alloc::Global;
+use std::test::Fail;
+
+// Returns the words of a line.
+pub(crate) fn words_of(alloc: Global, line: &str) -> Result<Vec<String>, Fail> {
+    let mut words = Vec::new(alloc);
+    for word in line.split_whitespace() {
+        words.push(String::from_str(alloc, word)?)?;
+    }
+    Ok(words)
+}
+
+// Parses the words of a line.
+pub(crate) fn options_of(alloc: Global, line: &str) -> Result<Options<Global>, Fail> {
+    let words = words_of(alloc, line)?;
+    match parse_options(alloc, &words) {
+        Ok(options) => Ok(options),
+        Err(refusal) => Err(Fail::from(refusal)),
+    }
+}
+
+// Returns what is said of a line of refused arguments, and the status.
+fn complaint_of(alloc: Global, line: &str) -> Result<(String, u8), Fail> {
+    let words = words_of(alloc, line)?;
+    let Err(refusal) = parse_options(alloc, &words) else {
+        return Err(Fail::from("not refused"));
+    };
+    let complaint = Complaint {
+        refusal,
+        arguments: &words,
+    };
+    Ok((format!(in alloc; "{complaint}")?, refusal.status()))
+}
+
+#[test]
+fn refused_capacities(rt: HostRuntime) -> Result<(), Fail> {
+    let capacity =
+        "not a capacity (keys from 1 to 16777215, or 1% to 100%, or a range as 10..1000)";
+    let range = "not a range (of keys from 1 to 16777215, as 10..1000, or of percents, as 1%..50%)";
+    let cases = [
+        ("0", capacity),
+        ("+5", capacity),
+        ("ten", capacity),
+        ("%", capacity),
+        ("0%", capacity),
+        ("101%", capacity),
+        ("5%%", capacity),
+        ("..", range),
+        ("1.5", range),
+        ("1.5%", range),
+        ("1..", range),
+        ("a..9", range),
+        ("0..9", range),
+        ("1..2..3", range),
+        ("1...3", range),
+        ("1..50%", range),
+        ("1%..101%", range),
+        ("9..8", "range whose ends are the wrong way round"),
+        ("9%..8%", "range whose ends are the wrong way round"),
+    ];
+    for (word, wanted) in cases {
+        let (text, status) = complaint_of(rt.alloc(), word)?;
+        let wanted = format!(in rt.alloc(); "clock2q-simulate: {word}: {wanted}")?;
+        assert_eq!(rt; text.as_str(), wanted.as_str());
+        assert_eq!(rt; status, 2);
+    }
+    for line in ["5 16777216", "1..16777216", "99999999999999999999999"] {
+        let (text, status) = complaint_of(rt.alloc(), line)?;
+        assert_eq!(rt; text.as_str(), "capacity refused");
+        assert_eq!(rt; status, 3);
+    }
+    Ok(())
+}
+
+#[test]
+fn refused_options(rt: HostRuntime) -> Result<(), Fail> {
+    let shares = "not shares (small and window, as small=20%,window=50% or small=30,window=10)";
+    let cases = [
+        ("", "no capacity (--help tells what to write)"),
+        ("--csv", "no capacity (--help tells what to write)"),
+        ("--csv --svg 5", "--svg: a second form beside another one"),
+        ("--csv 5 --csv", "--csv: option given twice"),
+        ("--helpless 5", "--helpless: unknown option"),
+        ("-5", "-5: unknown option"),
+        ("5 --policies", "--policies: nothing after it"),
+        ("5 --policy", "--policy: nothing after it"),
+        (
+            "5 --policies lru,new",
+            "lru,new: unknown policy (--help names them)",
+        ),
+        (
+            "5 --policies lru,",
+            "lru,: unknown policy (--help names them)",
+        ),
+        (
+            "5 --policies lru,opt,lru",
+            "lru,opt,lru: policy named twice",
+        ),
+        (
+            "--policies lru --policies opt",
+            "--policies: option given twice",
+        ),
+        (
+            "--policy small=1,window=1 --policy small=1,window=1 5",
+            "--policy: option given twice",
+        ),
+        (
+            "--policy small=1,window=1 --policies lru 5",
+            "--policy: shares of clock2q, which --policies leaves out",
+        ),
+    ];
+    for (line, wanted) in cases {
+        let (text, status) = complaint_of(rt.alloc(), line)?;
+        let wanted = format!(in rt.alloc(); "clock2q-simulate: {wanted}")?;
+        assert_eq!(rt; text.as_str(), wanted.as_str());
+        assert_eq!(rt; status, 2);
+    }
+    for word in [
+        "5",
+        "small=1",
+        "small=1,small=1",
+        "small=1,window=1,",
+        "small=,window=1",
+        "small=1,window=0%",
+        "small=101%,window=1",
+        "window=x,small=1",
+        "--csv",
+    ] {
+        let line = format!(in rt.alloc(); "5 --policy {word}")?;
+        let (text, status) = complaint_of(rt.alloc(), &line)?;
+        let wanted = format!(in rt.alloc(); "clock2q-simulate: {word}: {shares}")?;
+        assert_eq!(rt; text.as_str(), wanted.as_str());
+        assert_eq!(rt; status, 2);
+    }
+    Ok(())
+}
+
+#[test]
+fn accepted(rt: HostRuntime) -> Result<(), Fail> {
+    let line = "10 --svg 007 --policy window=3,small=20% 10 16777215 --policies opt,clock2q";
+    let options = options_of(rt.alloc(), line)?;
+    assert_eq!(rt; options.format, Format::Svg);
+    assert_eq!(rt;
+        options.policies.as_slice(),
+        [Policy::Optimal, Policy::Clock2Q].as_slice()
+    );
+    let shares = options.shares.ok_or("no shares")?;
+    assert_eq!(rt; (shares.small(40), shares.window(40)), (8, 3));
+    assert_eq!(rt;
+        numbers_of(&options, Unit::Keys)?.as_slice(),
+        [10, 7, 10, MAX_CAPACITY].as_slice()
+    );
+    Ok(())
+}
+
+// Returns the numbers of the capacities, which are all of one unit.
+fn numbers_of(options: &Options<Global>, unit: Unit) -> Result<Vec<usize>, Fail> {
+    let capacities = options.capacities.as_slice();
+    let mut numbers = Vec::new(*options.capacities.allocator());
+    for Amount { number, unit: of } in capacities.iter().copied() {
+        if of != unit {
+            return Err(Fail::from("another unit"));
+        }
+        numbers.push(number)?;
+    }
+    Ok(numbers)
+}
+
+#[test]
+fn ranges(rt: HostRuntime) -> Result<(), Fail> {
+    let cases: [(&str, &[usize]); 7] = [
+        ("1..1", &[1]),
+        ("1..2", &[1, 2]),
+        ("2..5", &[2, 5]),
+        ("3..40", &[3, 5, 10, 20, 40]),
+        (
+            "10..1000000",
+            &[
+                10, 20, 50, 100, 200, 500, 1_000, 2_000, 5_000, 10_000, 20_000, 50_000, 100_000,
+                200_000, 500_000, 1_000_000,
+            ],
+        ),
+        (
+            "4999999..16777215",
+            &[4_999_999, 5_000_000, 10_000_000, MAX_CAPACITY],
+        ),
+        ("7 1..3 2", &[7, 1, 2, 3, 2]),
+    ];
+    for (line, wanted) in cases {
+        let options = options_of(rt.alloc(), line)?;
+        assert_eq!(rt;
+            numbers_of(&options, Unit::Keys)?.as_slice(),
+            wanted,
+            "{line}"
+        );
+    }
+    let options = options_of(rt.alloc(), "3%..30% 1% 100%")?;
+    let wanted = [3, 5, 10, 20, 30, 1, 100];
+    assert_eq!(rt;
+        numbers_of(&options, Unit::Percent)?.as_slice(),
+        wanted.as_slice()
+    );
+    Ok(())
+}
+
+// A percentage is rounded down, to one key at least.
+#[test]
+fn amounts(rt: HostRuntime) {
+    for (word, keys, wanted) in [
+        ("10%", 250, 25),
+        ("1%", 199, 1),
+        ("1%", 0, 1),
+        ("100%", 65_537, 65_537),
+        ("50%", 5, 2),
+        ("7", 5, 7),
+    ] {
+        let amount = Amount::written(word);
+        assert_eq!(rt;
+            amount.map(|amount| amount.of(keys)),
+            Some(wanted),
+            "{word}"
+        );
+    }
+    assert_eq!(rt; SimulationError::Shares(1).status(), 2);
+}

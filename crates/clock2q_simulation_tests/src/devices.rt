@@ -1,0 +1,193 @@
+//! Traces from readers and texts to writers that fail at one of their calls.
+
+use crate::arguments::options_of;
+use clock2q_simulation::{Progress, SimulationError, simulate};
+use clock2q_text::Device;
+use std::alloc::Global;
+use std::io::{Error, ErrorKind, Read, Result as IoResult, Write};
+use std::test::Fail;
+
+const TRACE: &[u8] = b"a\nbb\na\n\nbb\n";
+
+// Each form, and what is written of the trace.
+const TEXTS: [(&str, &str); 2] = [
+    (
+        "2 --policies lru",
+        "5 accesses, hits in percent\ncapacity      LRU\n       2    20.00\n",
+    ),
+    (
+        "2 --csv --policies lru",
+        "capacity,accesses,lru_hits,lru_ratio\n2,5,1,0.2000\n",
+    ),
+];
+
+// A reader or writer that moves a few bytes at a time and fails at its call of a number, from 0.
+#[derive(Drop)]
+struct Failing<'a> {
+    left: &'a [u8],
+    taken: Vec<u8>,
+    step: usize,
+    fails_at: usize,
+    kind: ErrorKind,
+    calls: usize,
+}
+
+impl Failing<'_> {
+    fn call(&mut self) -> IoResult<()> {
+        let call = self.calls;
+        self.calls = call.saturating_add(1);
+        if call == self.fails_at {
+            return Err(Error::from(self.kind));
+        }
+        Ok(())
+    }
+}
+
+impl Read for Failing<'_> {
+    fn read(&mut self, buf: &mut [u8]) -> IoResult<usize> {
+        self.call()?;
+        let count = self.step.min(self.left.len()).min(buf.len());
+        let (given, left) = self.left.split_at(count);
+        buf[..count].copy_from_slice(given);
+        self.left = left;
+        Ok(count)
+    }
+}
+
+impl Write for Failing<'_> {
+    fn write(&mut self, buf: &[u8]) -> IoResult<usize> {
+        self.call()?;
+        let count = self.step.min(buf.len());
+        self.taken.extend_from_slice(&buf[..count])?;
+        Ok(count)
+    }
+
+    fn flush(&mut self) -> IoResult<()> {
+        self.call()
+    }
+}
+
+const KINDS: [ErrorKind; 4] = [
+    ErrorKind::BrokenPipe,
+    ErrorKind::Interrupted,
+    ErrorKind::WouldBlock,
+    ErrorKind::OutOfMemory,
+];
+
+// Where the devices fail, and how many bytes they move at a time.
+#[derive(Clone, Copy)]
+struct Plan {
+    step: usize,
+    reads: usize,
+    writes: usize,
+    kind: ErrorKind,
+}
+
+// What came of a simulation: its result, the calls of both devices, and what was written.
+#[derive(Drop)]
+struct Ended {
+    result: Result<(), SimulationError>,
+    reads: usize,
+    writes: usize,
+    text: Vec<u8>,
+}
+
+fn run_with(alloc: Global, line: &str, plan: Plan) -> Result<Ended, Fail> {
+    let options = options_of(alloc, line)?;
+    let mut reader = Device::new(Failing {
+        left: TRACE,
+        taken: Vec::new(alloc),
+        step: plan.step,
+        fails_at: plan.reads,
+        kind: plan.kind,
+        calls: 0,
+    });
+    let mut writer = Device::new(Failing {
+        left: b"",
+        taken: Vec::new(alloc),
+        step: plan.step,
+        fails_at: plan.writes,
+        kind: plan.kind,
+        calls: 0,
+    });
+    let mut progress = Progress::new(Vec::new(alloc), false);
+    let result = simulate(alloc, &options, &mut reader, &mut writer, &mut progress);
+    let writer = writer.into_inner();
+    Ok(Ended {
+        result,
+        reads: reader.into_inner().calls,
+        writes: writer.calls,
+        text: writer.taken,
+    })
+}
+
+// How many calls it takes to move so many bytes.
+fn calls_for(bytes: usize, step: usize) -> usize {
+    bytes.div_ceil(step.max(1))
+}
+
+#[test]
+fn failing_reads(rt: HostRuntime) -> Result<(), Fail> {
+    for (line, _) in TEXTS {
+        for step in [1, 3, 100] {
+            for kind in KINDS {
+                for reads in 0..=calls_for(TRACE.len(), step) {
+                    let plan = Plan {
+                        step,
+                        reads,
+                        writes: usize::MAX,
+                        kind,
+                    };
+                    let ended = run_with(rt.alloc(), line, plan)?;
+                    assert_eq!(rt; ended.result, Err(SimulationError::Read));
+                    assert_eq!(rt; (ended.reads, ended.writes), (reads.saturating_add(1), 0));
+                }
+            }
+        }
+    }
+    assert_eq!(rt; SimulationError::Read.status(), 4);
+    Ok(())
+}
+
+// The last call of the writer is the flush.
+#[test]
+fn failing_writes(rt: HostRuntime) -> Result<(), Fail> {
+    for (line, text) in TEXTS {
+        for step in [1, 7, 1000] {
+            let calls = calls_for(text.len(), step);
+            for kind in KINDS {
+                for writes in 0..=calls {
+                    let plan = Plan {
+                        step,
+                        reads: usize::MAX,
+                        writes,
+                        kind,
+                    };
+                    let ended = run_with(rt.alloc(), line, plan)?;
+                    assert_eq!(rt; ended.result, Err(SimulationError::Write));
+                    assert_eq!(rt; ended.writes, writes.saturating_add(1));
+                    let taken = text.len().min(writes.saturating_mul(step));
+                    assert_eq!(rt; ended.text.as_slice(), &text.as_bytes()[..taken]);
+                }
+            }
+        }
+    }
+    assert_eq!(rt; SimulationError::Write.status(), 4);
+    Ok(())
+}
+
+#[test]
+fn nothing_fails(rt: HostRuntime) -> Result<(), Fail> {
+    for (line, text) in TEXTS {
+        let plan = Plan {
+            step: 2,
+            reads: usize::MAX,
+            writes: usize::MAX,
+            kind: ErrorKind::Other,
+        };
+        let ended = run_with(rt.alloc(), line, plan)?;
+        assert_eq!(rt; ended.result, Ok(()));
+        assert_eq!(rt; ended.text.as_slice(), text.as_bytes());
+    }
+    Ok(())
+}

@@ -1,0 +1,83 @@
+//! The hits of the policies whose hits are worked out by hand.
+
+use crate::numbers::trace_of;
+use clock2q_simulation::{ChosenShares, Policy, SimulationError, replay};
+use std::num::NonZeroUsize;
+use std::test::Fail;
+
+#[test]
+fn hits_of_each_policy(rt: HostRuntime) -> Result<(), Fail> {
+    let trace = trace_of(rt.alloc(), b"a\nb\na\nc\nb\nd\na\nb\n")?;
+    let policies = [
+        Policy::Clock2Q,
+        Policy::LeastRecentlyUsed,
+        Policy::FirstInFirstOut,
+    ];
+    for (capacity, wanted) in [
+        (1, [0, 0, 0]),
+        (2, [3, 1, 2]),
+        (3, [3, 3, 2]),
+        (4, [4, 4, 4]),
+    ] {
+        let capacity = NonZeroUsize::new(capacity).ok_or("not zero")?;
+        let row = replay(rt.alloc(), capacity, &policies, None, &trace)?;
+        assert_eq!(rt; row.capacity, capacity);
+        assert_eq!(rt; row.accesses, 8);
+        let hits: Vec<usize> = row.hits.iter().map(|hits| hits.hits).collect(rt.alloc())?;
+        assert_eq!(rt; hits.as_slice(), wanted.as_slice());
+    }
+    Ok(())
+}
+
+// In a cache for four keys: with no slots of Small the first hit of `a` lets it stay when the hand
+// comes, with three it stays in Small's history, and is hit no more.
+#[test]
+fn hits_of_chosen_shares(rt: HostRuntime) -> Result<(), Fail> {
+    let trace = trace_of(rt.alloc(), b"a\nb\nc\nd\na\ne\na\n")?;
+    let capacity = NonZeroUsize::new(4).ok_or("not zero")?;
+    for (shares, wanted) in [("small=0,window=0", 2), ("window=3,small=3", 1)] {
+        let shares = ChosenShares::written(shares).ok_or("no shares")?;
+        let row = replay(
+            rt.alloc(),
+            capacity,
+            &[Policy::Clock2Q],
+            Some(shares),
+            &trace,
+        )?;
+        assert_eq!(rt; row.hits.first().map(|hits| hits.hits), Some(wanted));
+    }
+    Ok(())
+}
+
+#[test]
+fn usual_shares_written(rt: HostRuntime) -> Result<(), Fail> {
+    let trace = trace_of(rt.alloc(), b"a\nb\na\nc\nb\nd\na\nb\n")?;
+    let usual = ChosenShares::written("small=1,window=1").ok_or("no shares")?;
+    for capacity in 2..5 {
+        let capacity = NonZeroUsize::new(capacity).ok_or("not zero")?;
+        let policies = [Policy::Clock2Q];
+        let chosen = replay(rt.alloc(), capacity, &policies, Some(usual), &trace)?;
+        let row = replay(rt.alloc(), capacity, &policies, None, &trace)?;
+        assert_eq!(rt; chosen.hits.as_slice(), row.hits.as_slice());
+    }
+    Ok(())
+}
+
+#[test]
+fn shares_that_do_not_fit(rt: HostRuntime) -> Result<(), Fail> {
+    let trace = trace_of(rt.alloc(), b"a\n")?;
+    for (shares, capacity) in [
+        ("small=4,window=1", 4),
+        ("small=2,window=3", 4),
+        ("small=0,window=1", 4),
+        ("small=1,window=0", 4),
+        ("small=100%,window=1%", 4),
+        ("small=10%,window=50%", 1),
+    ] {
+        let shares = ChosenShares::written(shares).ok_or("no shares")?;
+        let room = NonZeroUsize::new(capacity).ok_or("not zero")?;
+        let refused = replay(rt.alloc(), room, &[Policy::Clock2Q], Some(shares), &trace);
+        assert_eq!(rt; refused.err(), Some(SimulationError::Shares(capacity)));
+    }
+    Ok(())
+}

@@ -1,0 +1,67 @@
+//! The numbers of a trace's keys.
+
+use clock2q_simulation::{Progress, SimulationError, Trace, read_trace};
+use clock2q_text::Device;
+use std::alloc::Global;
+use std::test::Fail;
+
+// Reads a trace from bytes.
+pub(crate) fn trace_of(alloc: Global, input: &[u8]) -> Result<Trace<Global>, SimulationError> {
+    let mut progress = Progress::new(Vec::new(alloc), false);
+    read_trace(alloc, &mut Device::new(input), &mut progress)
+}
+
+#[test]
+fn keys_have_numbers(rt: HostRuntime) -> Result<(), Fail> {
+    let cases: [(&[u8], &[u32]); 9] = [
+        (b"", &[]),
+        (b"a", &[0]),
+        (b"a\n", &[0]),
+        (b"\n", &[0]),
+        (b"\n\n", &[0, 0]),
+        (b"a\n\n\na", &[0, 1, 1, 0]),
+        (b"b\na\nb\nab\na\n", &[0, 1, 0, 2, 1]),
+        (b"\0\xff\n\0\n\0\xff\n\xff\n", &[0, 1, 0, 2]),
+        (b"a\r\na\n", &[0, 1]),
+    ];
+    for (input, numbers) in cases {
+        let trace = trace_of(rt.alloc(), input)?;
+        assert_eq!(rt; trace.numbers(), numbers);
+    }
+    Ok(())
+}
+
+#[test]
+fn long_keys_differ_in_their_last_byte(rt: HostRuntime) -> Result<(), Fail> {
+    let mut input = vec![in rt.alloc(); b'k'; 100_000]?;
+    input.push(b'\n')?;
+    for _ in 0..100_000 {
+        input.push(b'k')?;
+    }
+    input.extend_from_slice(b"k\n")?;
+    let trace = trace_of(rt.alloc(), &input)?;
+    assert_eq!(rt; trace.numbers(), [0, 1].as_slice());
+    Ok(())
+}
+
+// One more than the numbers of 16 bits, each twice: first ascending, then descending.
+#[test]
+fn many_keys(rt: HostRuntime) -> Result<(), Fail> {
+    let mut input = Vec::new(rt.alloc());
+    for key in (0..65_537u32).chain((0..65_537).rev()) {
+        let line = format!(in rt.alloc(); "{key}\n")?;
+        input.extend_from_slice(line.as_bytes())?;
+    }
+    let trace = trace_of(rt.alloc(), &input)?;
+    assert_eq!(rt; trace.key_count(), 65_537);
+    assert_eq!(rt; trace.numbers().len(), 131_074);
+    for (place, number) in trace.numbers().iter().enumerate() {
+        let wanted = if place < 65_537 {
+            place
+        } else {
+            131_073 - place
+        };
+        assert_eq!(rt; *number as usize, wanted, "at {place}");
+    }
+    Ok(())
+}

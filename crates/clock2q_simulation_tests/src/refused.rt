@@ -1,0 +1,51 @@
+//! Requests for memory refused in turn, from the arguments to the text.
+
+use crate::arguments::words_of;
+use clock2q_refusing::{Refusing, Tried, try_in_turn};
+use clock2q_simulation::{Progress, SimulationError, parse_options, simulate};
+use clock2q_text::Device;
+use std::alloc::{Allocator, Global};
+use std::test::Fail;
+
+const TRACE: &[u8] = b"a\nb\na\nc\nb\nd\na\nb\n";
+
+// Returns how many bytes are written. Where a request is refused, none are.
+fn written<A: Allocator + Copy>(
+    alloc: A,
+    out: Global,
+    words: &[String],
+) -> Result<usize, SimulationError> {
+    let options = parse_options(alloc, words)?;
+    let mut writer = Device::new(Vec::new(out));
+    let mut progress = Progress::new(Vec::new(out), false);
+    let outcome = simulate(
+        alloc,
+        &options,
+        &mut Device::new(TRACE),
+        &mut writer,
+        &mut progress,
+    );
+    let bytes = writer.into_inner().len();
+    match outcome {
+        Err(refusal) if bytes == 0 => Err(refusal),
+        _ => Ok(bytes),
+    }
+}
+
+// Each form with all policies, over capacities of each kind.
+#[test]
+fn each_request(rt: HostRuntime) -> Result<(), Fail> {
+    let asked = "2 2..3 50%..100% --policies clock2q,sieve,s3fifo,lru,opt,fifo,clock,arc \
+         --policy small=1,window=100%";
+    for form in ["", "--csv", "--svg"] {
+        let line = format!(in rt.alloc(); "{form} {asked}")?;
+        let words = words_of(rt.alloc(), &line)?;
+        let alloc = Refusing::new(rt.alloc());
+        let tried = try_in_turn(&alloc, true, SimulationError::Memory, || {
+            Ok(written(&alloc, rt.alloc(), &words)? > 0)
+        });
+        assert!(rt; matches!(tried, Tried::Done(_)), "{line}: {tried:?}");
+    }
+    assert_eq!(rt; SimulationError::Memory.status(), 3);
+    Ok(())
+}
