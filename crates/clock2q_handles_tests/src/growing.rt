@@ -73,9 +73,9 @@ fn two_hashes(rt: HostRuntime) -> Result<(), Fail> {
     Ok(())
 }
 
-// In 32 slots the even handles follow home 15, and the odd ones home 31, from which they wrap. The
-// part of the old run that had wrapped comes first at each home. A second growth asks in the order
-// of these slots.
+/// In 32 slots the even handles follow home 15, and the odd ones home 31, from which they wrap. The
+/// part of the old run that had wrapped comes first at each home. A second growth asks in the order
+/// of these slots.
 #[test]
 fn two_hashes_apart(rt: HostRuntime) -> Result<(), Fail> {
     let asked = Seen::new();

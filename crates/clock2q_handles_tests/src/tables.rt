@@ -67,7 +67,7 @@ fn figure(rt: HostRuntime) -> Result<(), Fail> {
     Ok(())
 }
 
-// Homes near the end of the slots, whose entries stand at their beginning too.
+/// Homes near the end of the slots, whose entries stand at their beginning too.
 #[test]
 fn wrapped(rt: HostRuntime) -> Result<(), Fail> {
     let mut table: Table<usize> = Table::with_capacity(rt.alloc(), 12)?;

@@ -10,7 +10,7 @@ fn dropped(rt: &impl Abort, counts: &Counts, wanted: (u64, u64)) {
     assert_eq!(rt; counts.dropped_and_left(), wanted);
 }
 
-// The history has one place, so a second key that Small evicts drops the first.
+/// The history has one place, so a second key that Small evicts drops the first.
 #[test]
 fn a_key_is_dropped_where_it_is_replaced(rt: HostRuntime) -> Result<(), Fail> {
     let counts = Counts::new();
@@ -25,7 +25,7 @@ fn a_key_is_dropped_where_it_is_replaced(rt: HostRuntime) -> Result<(), Fail> {
     Ok(())
 }
 
-// The key that is asked about is dropped, and the stored one when another takes its slot.
+/// The key that is asked about is dropped, and the stored one when another takes its slot.
 #[test]
 fn a_removed_key_stays_in_its_slot(rt: HostRuntime) -> Result<(), Fail> {
     let counts = Counts::new();
@@ -50,7 +50,7 @@ fn call_all<'a>(cache: &mut Counting<'a>, counts: &'a Counts) {
     }
 }
 
-// Three keys are made for the cache, and nineteen for the calls with each id.
+/// Three keys are made for the cache, and nineteen for the calls with each id.
 #[test]
 fn no_key_outlives_its_cache(rt: HostRuntime) -> Result<(), Fail> {
     let counts = Counts::new();

@@ -49,7 +49,7 @@ fn lookups_ask_no_more(rt: HostRuntime) -> Result<(), Fail> {
     Ok(())
 }
 
-// A key that comes in is the second under a hash that all have.
+/// A key that comes in is the second under a hash that all have.
 #[test]
 fn insertions_ask_no_more(rt: HostRuntime) -> Result<(), Fail> {
     for (id, apart, alike) in [(3, 5, 10), (1, 5, 11), (4, 4, 11)] {

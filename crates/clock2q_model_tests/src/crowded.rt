@@ -52,8 +52,8 @@ fn one_hash_for_all(rt: HostRuntime) -> Result<(), Fail> {
     agrees(&rt, rt.alloc(), 2_000, Spread { times: 0, more: 0 })
 }
 
-// Hashes that differ in their lowest bits alone, in the highest, or in bits between, which no table
-// of that size reads.
+/// Hashes that differ in their lowest bits alone, in the highest, or in bits between, which no table
+/// of that size reads.
 #[test]
 fn hashes_that_differ_little(rt: HostRuntime) -> Result<(), Fail> {
     for bit in [0u32, 56, 12, 28] {

@@ -479,7 +479,7 @@ fn usual_hasher(rt: HostRuntime) -> Result<(), Fail> {
     runs_reply(&rt, rt.alloc(), DefaultHashBuilder::new(), 0)
 }
 
-// Hashers that answer one number for all keys, and one that answers the key.
+/// Hashers that answer one number for all keys, and one that answers the key.
 #[test]
 fn bad_hashers(rt: HostRuntime) -> Result<(), Fail> {
     for (times, more) in [(0, 0), (0, 0xAB00_0000_0000_000F), (0, u64::MAX), (1, 0)] {

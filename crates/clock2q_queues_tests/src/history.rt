@@ -14,7 +14,7 @@ fn mixed(x: u64) -> u64 {
     (y ^ (y >> 29)).wrapping_mul(0xBF58_476D_1CE4_E5B9)
 }
 
-// Discards a key. A key's hash is its remainder.
+/// Discards a key. A key's hash is its remainder.
 fn forget(history: &mut History<u64>, key: u64, hashes: u64) -> bool
     requires some { 0 < hashes }
     requires hashed { AllByRecursion (λ e. e.0 ≡ e.1 % hashes) history.old.entries }
@@ -24,7 +24,7 @@ fn forget(history: &mut History<u64>, key: u64, hashes: u64) -> bool
     history.discard(key % hashes, &key)
 }
 
-// Discards a key, tells whether it was there, and pushes it.
+/// Discards a key, tells whether it was there, and pushes it.
 fn renew(history: &mut History<u64>, key: u64, hashes: u64) -> bool
     requires some { 0 < hashes }
     requires hashed { AllByRecursion (λ e. e.0 ≡ e.1 % hashes) history.old.entries }
@@ -35,8 +35,8 @@ fn renew(history: &mut History<u64>, key: u64, hashes: u64) -> bool
     known
 }
 
-// One call in 97 clears the history, one of three others discards the key, and the rest renew it.
-// Tells whether the key was there, where it was asked.
+/// One call in 97 clears the history, one of three others discards the key, and the rest renew it.
+/// Tells whether the key was there, where it was asked.
 fn call(history: &mut History<u64>, key: u64, hashes: u64, drawn: u64) -> Option<bool>
     requires some { 0 < hashes }
     requires hashed { AllByRecursion (λ e. e.0 ≡ e.1 % hashes) history.old.entries }

@@ -9,7 +9,7 @@ use clock2q_handles::Table;
 use clock2q_queues::keys::{Keys, index_room};
 use std::test::Fail;
 
-// Writes a value through the reference that is lent.
+/// Writes a value through the reference that is lent.
 fn set_value(keys: &mut Keys<u64, u64>, place: u32, value: u64)
     requires used { place < length keys.old.entries }
     ensures set { keys.new ≡ record keys.old { entries = with_value place value keys.old.entries } }
@@ -41,7 +41,7 @@ fn two_keys(rt: HostRuntime) -> Result<(), Fail> {
     Ok(())
 }
 
-// Pushes a key, and inserts its place into an index of all keys.
+/// Pushes a key, and inserts its place into an index of all keys.
 fn put(keys: &mut Keys<u64, ()>, index: &mut Table<u32>, hash: u64, key: u64)
     requires room { length keys.old.entries < keys.old.room }
     requires short { keys.old.room < 2 ^ 24 }
@@ -57,7 +57,7 @@ fn put(keys: &mut Keys<u64, ()>, index: &mut Table<u32>, hash: u64, key: u64)
     let _ = index.insert_within_capacity(hash, place);
 }
 
-// Looks a key up through an index of all keys, told and untold.
+/// Looks a key up through an index of all keys, told and untold.
 fn place_of(keys: &mut Keys<u64, ()>, index: &Table<u32>, hash: u64, key: u64) -> Option<u32>
     requires indexed { (places : List ℕ) × IsIndex index.now.homes keys.old.entries places }
     ensures has { IfSome result (λ place. is_key_at nat_eq key keys.old.entries place ≡ true) }

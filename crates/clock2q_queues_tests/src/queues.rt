@@ -10,7 +10,7 @@ use std::test::Fail;
 
 const SLOTS: u32 = 12;
 
-// Admits a slot that stands nowhere.
+/// Admits a slot that stands nowhere.
 fn admit(rt: &impl Abort, queues: &mut Queues, slot: u32)
     requires slot_in { slot < queues.old.slots }
     requires window { 0 < queues.old.window }
@@ -23,7 +23,7 @@ fn admit(rt: &impl Abort, queues: &mut Queues, slot: u32)
     }
 }
 
-// Puts a slot that stands nowhere into Main.
+/// Puts a slot that stands nowhere into Main.
 fn append(rt: &impl Abort, queues: &mut Queues, slot: u32)
     requires slot_in { slot < queues.old.slots }
     ensures slots { queues.new.slots ≡ queues.old.slots }
@@ -35,7 +35,7 @@ fn append(rt: &impl Abort, queues: &mut Queues, slot: u32)
     }
 }
 
-// Hits a slot that stands in a queue.
+/// Hits a slot that stands in a queue.
 fn hit(rt: &impl Abort, queues: &mut Queues, slot: u32)
     requires slot_in { slot < queues.old.slots }
     ensures slots { queues.new.slots ≡ queues.old.slots }
@@ -48,7 +48,7 @@ fn hit(rt: &impl Abort, queues: &mut Queues, slot: u32)
     }
 }
 
-// Admits the slots from 0 to 3 to a window of two, and slot 3 once more after it left.
+/// Admits the slots from 0 to 3 to a window of two, and slot 3 once more after it left.
 fn admit_again(queues: &mut Queues)
     requires slots { queues.old.slots ≡ 4 }
     requires window { queues.old.window ≡ 2 }
@@ -67,8 +67,8 @@ fn admit_again(queues: &mut Queues)
     queues.admit(3);
 }
 
-// Slot 2 is old by the second admission of slot 3, though only one slot stands before it: a hit on
-// it counts, and it goes on to Main.
+/// Slot 2 is old by the second admission of slot 3, though only one slot stands before it: a hit on
+/// it counts, and it goes on to Main.
 #[test]
 fn admissions_count_after_a_removal(rt: HostRuntime) -> Result<(), Fail> {
     let mut queues = Queues::new(rt.alloc(), 4, 2)?;
@@ -87,8 +87,8 @@ fn admissions_count_after_a_removal(rt: HostRuntime) -> Result<(), Fail> {
     Ok(())
 }
 
-// Slot 3 leaves once more and is admitted, and so is slot 0. The places of those that left were
-// emptied, so slot 3 is still young, and a hit on it counts for nothing.
+/// Slot 3 leaves once more and is admitted, and so is slot 0. The places of those that left were
+/// emptied, so slot 3 is still young, and a hit on it counts for nothing.
 fn empty_places(queues: &mut Queues)
     requires slots { queues.old.slots ≡ 4 }
     requires window { queues.old.window ≡ 2 }
@@ -118,7 +118,7 @@ fn an_emptied_place_makes_no_slot_old(rt: HostRuntime) -> Result<(), Fail> {
     Ok(())
 }
 
-// Puts the slots from 2 to 19 into Main, and hits each.
+/// Puts the slots from 2 to 19 into Main, and hits each.
 fn fill_main(queues: &mut Queues)
     requires slots { queues.old.slots ≡ 20 }
     requires small { queues.old.small ≡ [] }
@@ -133,7 +133,7 @@ fn fill_main(queues: &mut Queues)
     }
 }
 
-// All 18 bits are set: the hand passes them all, and its 19th inspection finds the first one clear.
+/// All 18 bits are set: the hand passes them all, and its 19th inspection finds the first one clear.
 fn go_round(queues: &mut Queues) -> u32
     requires slots { queues.old.slots ≡ 20 }
     requires small { queues.old.small ≡ [] }
@@ -171,7 +171,7 @@ fn the_hand_comes_round(rt: HostRuntime) -> Result<(), Fail> {
     Ok(())
 }
 
-// One slot in Main whose bit is set: two inspections, and it is given up.
+/// One slot in Main whose bit is set: two inspections, and it is given up.
 fn look_twice(queues: &mut Queues) -> u32
     requires slots { queues.old.slots ≡ 1 }
     requires small { queues.old.small ≡ [] }
@@ -206,7 +206,7 @@ struct Entry {
     bit: bool,
 }
 
-// The two queues as plain lists, Small oldest first. An age that has reached the window is old.
+/// The two queues as plain lists, Small oldest first. An age that has reached the window is old.
 #[derive(Drop)]
 struct Lists {
     small: Vec<Entry>,
@@ -275,7 +275,7 @@ impl Lists {
     }
 }
 
-// Each slot stands where the lists have it.
+/// Each slot stands where the lists have it.
 fn compare(rt: &impl Abort, queues: &mut Queues, lists: &Lists)
     requires { queues.old.slots ≡ 12 }
     ensures slots { queues.new.slots ≡ 12 }
@@ -296,8 +296,8 @@ fn compare(rt: &impl Abort, queues: &mut Queues, lists: &Lists)
     assert!(rt; queues.tail_is_promoted() == promoted);
 }
 
-// One step of a run: an admission in place of Small's tail where Small is full, a slot put into
-// Main, a slot that leaves, a hit, or Main's victim going.
+/// One step of a run: an admission in place of Small's tail where Small is full, a slot put into
+/// Main, a slot that leaves, a hit, or Main's victim going.
 fn step(
     rt: &impl Abort,
     queues: &mut Queues,

@@ -7,7 +7,7 @@ use std::alloc::Allocator;
 use std::num::NonZeroUsize;
 use std::test::Fail;
 
-// Returns the capacity of a new cache.
+/// Returns the capacity of a new cache.
 fn by_new<A: Allocator + Copy>(alloc: A, capacity: NonZeroUsize) -> Result<usize, CacheError> {
     let cache: Cache<u64, u64, DefaultHashBuilder, A> = Cache::new(alloc, capacity)?;
     Ok(cache.capacity())
@@ -37,7 +37,7 @@ fn square(key: &u64) -> u64 {
     key.wrapping_mul(*key)
 }
 
-// Returns the capacity of a new memo.
+/// Returns the capacity of a new memo.
 fn memo_by_new<A: Allocator + Copy>(alloc: A, capacity: NonZeroUsize) -> Result<usize, CacheError> {
     let memo = Memo::new(alloc, capacity, square)?;
     Ok(memo.capacity())
@@ -52,9 +52,9 @@ fn memo_by_hasher<A: Allocator + Copy>(
     Ok(memo.capacity())
 }
 
-// A cache asks for eleven vectors: two of each index; the records, places and bits of Small and
-// Main; the records and keys of the history; the residents' keys and values; the free slots. One
-// that keeps no history asks for none of the history's four.
+/// A cache asks for eleven vectors: two of each index; the records, places and bits of Small and
+/// Main; the records and keys of the history; the residents' keys and values; the free slots. One
+/// that keeps no history asks for none of the history's four.
 const REQUESTS: [(usize, u64); 3] = [(20, 11), (2, 11), (1, 6)];
 
 #[test]
@@ -143,7 +143,7 @@ fn memo_with_hasher(rt: HostRuntime) -> Result<(), Fail> {
     Ok(())
 }
 
-// A capacity or shares that can't be had are refused before any memory is asked for.
+/// A capacity or shares that can't be had are refused before any memory is asked for.
 #[test]
 fn nothing_asked_before(rt: HostRuntime) -> Result<(), Fail> {
     let alloc = Refusing::new(rt.alloc());

@@ -15,7 +15,7 @@ fn new_cache<A: Allocator + Copy>(
     Cache::new(alloc, capacity)
 }
 
-// Puts so many new keys, each with itself as its value, and tells whether each is resident then.
+/// Puts so many new keys, each with itself as its value, and tells whether each is resident then.
 fn put_all<A: Allocator>(cache: &mut Cache<u64, u64, DefaultHashBuilder, A>, keys: u64) -> bool {
     let mut are_resident = true;
     for key in 0..keys {
@@ -24,8 +24,8 @@ fn put_all<A: Allocator>(cache: &mut Cache<u64, u64, DefaultHashBuilder, A>, key
     are_resident
 }
 
-// Puts two keys again that were evicted. One comes from the history, the other is forgotten; as
-// that one enters, a key that was hit before goes on to Main.
+/// Puts two keys again that were evicted. One comes from the history, the other is forgotten; as
+/// that one enters, a key that was hit before goes on to Main.
 fn put_evicted<A: Allocator>(
     cache: &mut Cache<u64, u64, DefaultHashBuilder, A>,
 ) -> (Option<u64>, bool, Option<u64>) {
@@ -35,14 +35,14 @@ fn put_evicted<A: Allocator>(
     (first, is_hit, second)
 }
 
-// Takes two residents out, one at a time.
+/// Takes two residents out, one at a time.
 fn remove_two<A: Allocator>(cache: &mut Cache<u64, u64, DefaultHashBuilder, A>) -> (bool, bool) {
     let first = cache.remove(&1);
     let second = cache.remove(&2);
     (first, second)
 }
 
-// Makes all slots, and returns how many were made.
+/// Makes all slots, and returns how many were made.
 fn fill<A: Allocator>(cache: &mut Cache<u64, u64, DefaultHashBuilder, A>) -> u64 {
     let mut made = 0u64;
     cache.prefill(|| {
@@ -52,7 +52,7 @@ fn fill<A: Allocator>(cache: &mut Cache<u64, u64, DefaultHashBuilder, A>) -> u64
     made
 }
 
-// Lends the value at the slot of a key, and returns both.
+/// Lends the value at the slot of a key, and returns both.
 fn lend<A: Allocator>(
     cache: &mut Cache<u64, u64, DefaultHashBuilder, A>,
     key: u64,
@@ -61,7 +61,7 @@ fn lend<A: Allocator>(
     (slot, *value)
 }
 
-// Inserts a key by each of the calls that are handed a closure, and returns both values.
+/// Inserts a key by each of the calls that are handed a closure, and returns both values.
 fn fetch_two<A: Allocator>(
     cache: &mut Cache<u64, u64, DefaultHashBuilder, A>,
 ) -> Result<(u64, u64), CacheError> {
@@ -70,7 +70,7 @@ fn fetch_two<A: Allocator>(
     Ok((first, second))
 }
 
-// Keeps one resident, forgets it too, and returns how many there were.
+/// Keeps one resident, forgets it too, and returns how many there were.
 fn empty<A: Allocator>(cache: &mut Cache<u64, u64, DefaultHashBuilder, A>) -> (usize, usize) {
     cache.retain(|key, _| *key == 10);
     let kept = cache.len();
@@ -92,7 +92,7 @@ fn puts(rt: HostRuntime) -> Result<(), Fail> {
     Ok(())
 }
 
-// The slots that are taken out and made beforehand are used again, each with its value.
+/// The slots that are taken out and made beforehand are used again, each with its value.
 #[test]
 fn slots(rt: HostRuntime) -> Result<(), Fail> {
     let alloc = Refusing::new(rt.alloc());
@@ -130,7 +130,7 @@ fn closures(rt: HostRuntime) -> Result<(), Fail> {
     Ok(())
 }
 
-// Gets a value of a function by both lookups, the one that records a hit last.
+/// Gets a value of a function by both lookups, the one that records a hit last.
 fn recall_twice<A: Allocator, F: Fn(&u64) -> u64>(
     memo: &mut Memo<u64, u64, F, DefaultHashBuilder, A>,
     key: u64,

@@ -7,7 +7,7 @@ use std::alloc::{Allocator, Global};
 use std::num::NonZeroUsize;
 use std::test::Fail;
 
-// A cache of four keys, of which two were hit.
+/// A cache of four keys, of which two were hit.
 fn new_cache<A: Allocator + Copy>(
     alloc: A,
 ) -> Result<Cache<u64, u64, DefaultHashBuilder, A>, CacheError> {
@@ -21,7 +21,7 @@ fn new_cache<A: Allocator + Copy>(
     Ok(cache)
 }
 
-// Replies of a run on such a cache. One that had run before would leave other keys.
+/// Replies of a run on such a cache. One that had run before would leave other keys.
 const REPLIES: [Reply<u64>; 9] = [
     Reply::Value(None),
     Reply::Value(None),
@@ -34,7 +34,7 @@ const REPLIES: [Reply<u64>; 9] = [
     Reply::Number(4),
 ];
 
-// Makes a list of commands and runs it, and tells whether the replies are those.
+/// Makes a list of commands and runs it, and tells whether the replies are those.
 fn replies_as_wanted<'a>(
     alloc: &'a Refusing<Global>,
     cache: &mut Cache<u64, u64, DefaultHashBuilder, &'a Refusing<Global>>,
@@ -56,7 +56,7 @@ fn replies_as_wanted<'a>(
     Ok(replies.as_slice() == REPLIES.as_slice())
 }
 
-// The list of commands and the list of replies are asked for.
+/// The list of commands and the list of replies are asked for.
 #[test]
 fn a_list_of_commands(rt: HostRuntime) -> Result<(), Fail> {
     let alloc = Refusing::new(rt.alloc());

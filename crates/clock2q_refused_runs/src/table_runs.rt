@@ -9,14 +9,14 @@ use std::test::Fail;
 
 type Command<'a> = TableCommand<u64, Vec<u64, &'a Refusing<Global>>>;
 
-// A handle is its own hash.
+/// A handle is its own hash.
 fn hash_of(handle: u64) -> u64
     ensures { result ≡ handle }
 {
     handle
 }
 
-// What a new table replies to commands.
+/// What a new table replies to commands.
 fn replies_of<A: Allocator + Copy>(
     alloc: A,
     entries: usize,
@@ -26,7 +26,7 @@ fn replies_of<A: Allocator + Copy>(
     run_table(alloc, &mut table, hash_of, commands)
 }
 
-// Whether room was made; `None` where the reply is neither that nor a refusal for want of memory.
+/// Whether room was made; `None` where the reply is neither that nor a refusal for want of memory.
 fn is_done<L>(reply: &TableReply<u64, L>) -> Option<bool> {
     match reply {
         TableReply::Done => Some(true),
@@ -35,7 +35,7 @@ fn is_done<L>(reply: &TableReply<u64, L>) -> Option<bool> {
     }
 }
 
-// Whether the handle 0 alone was found; `None` where the reply is neither that nor such a refusal.
+/// Whether the handle 0 alone was found; `None` where the reply is neither that nor such a refusal.
 fn is_found<A: Allocator>(reply: &TableReply<u64, Vec<u64, A>>) -> Option<bool> {
     match reply {
         TableReply::Handles(handles) if handles.as_slice() == [0].as_slice() => Some(true),
@@ -44,8 +44,8 @@ fn is_found<A: Allocator>(reply: &TableReply<u64, Vec<u64, A>>) -> Option<bool> 
     }
 }
 
-// Whether room was made and the handle found, of an insertion, a growth, a lookup and a removal.
-// `None` where a reply is none that it should be.
+/// Whether room was made and the handle found, of an insertion, a growth, a lookup and a removal.
+/// `None` where a reply is none that it should be.
 fn replied<A: Allocator>(replies: &[TableReply<u64, Vec<u64, A>>]) -> Option<(bool, bool)> {
     let [inserted, reserved, got, removed] = replies else {
         return None;
@@ -60,8 +60,8 @@ fn replied<A: Allocator>(replies: &[TableReply<u64, Vec<u64, A>>]) -> Option<(bo
     Some((is_done(reserved)?, is_found(got)?))
 }
 
-// The requests are: the table's two vectors, the list of replies, the two vectors of the larger
-// table, and the list of a lookup.
+/// The requests are: the table's two vectors, the list of replies, the two vectors of the larger
+/// table, and the list of a lookup.
 fn run_all(alloc: &Refusing<Global>) -> Result<Option<(bool, bool)>, TableError> {
     let commands: [Command<'_>; 4] = [
         TableCommand::Insert(0),
@@ -73,7 +73,7 @@ fn run_all(alloc: &Refusing<Global>) -> Result<Option<(bool, bool)>, TableError>
     Ok(replied(&replies))
 }
 
-// Where a request and all later ones are refused, so are the commands that come later.
+/// Where a request and all later ones are refused, so are the commands that come later.
 #[test]
 fn all_later_refused(rt: HostRuntime) {
     let alloc = Refusing::new(rt.alloc());
@@ -98,8 +98,8 @@ fn all_later_refused(rt: HostRuntime) {
     }
 }
 
-// Where a request alone is refused, the run goes on with what it has. The list of a lookup is
-// asked for again, with less room.
+/// Where a request alone is refused, the run goes on with what it has. The list of a lookup is
+/// asked for again, with less room.
 #[test]
 fn one_refused(rt: HostRuntime) {
     let alloc = Refusing::new(rt.alloc());
@@ -119,7 +119,7 @@ fn one_refused(rt: HostRuntime) {
     }
 }
 
-// What a reply tells of a run in which 1 is the only handle that is looked up.
+/// What a reply tells of a run in which 1 is the only handle that is looked up.
 #[derive(Clone, Copy, Debug, PartialEq)]
 enum Told {
     Inserted,
@@ -144,7 +144,7 @@ fn told_by<A: Allocator>(reply: &TableReply<u64, Vec<u64, A>>) -> Told {
     }
 }
 
-// What the last three replies tell.
+/// What the last three replies tell.
 fn told_of_three<A: Allocator>(replies: &[TableReply<u64, Vec<u64, A>>]) -> [Told; 3] {
     match replies {
         [.., first, second, third] => [told_by(first), told_by(second), told_by(third)],
@@ -152,7 +152,7 @@ fn told_of_three<A: Allocator>(replies: &[TableReply<u64, Vec<u64, A>>]) -> [Tol
     }
 }
 
-// An insertion, a find that accepts nothing, and a lookup.
+/// An insertion, a find that accepts nothing, and a lookup.
 fn insert_first(alloc: &Refusing<Global>) -> [Command<'_>; 3] {
     [
         TableCommand::Insert(0),
@@ -161,7 +161,7 @@ fn insert_first(alloc: &Refusing<Global>) -> [Command<'_>; 3] {
     ]
 }
 
-// The same with the find first.
+/// The same with the find first.
 fn find_first(alloc: &Refusing<Global>) -> [Command<'_>; 3] {
     [
         TableCommand::Find(1, Vec::new(alloc)),
@@ -170,11 +170,11 @@ fn find_first(alloc: &Refusing<Global>) -> [Command<'_>; 3] {
     ]
 }
 
-// What the last three commands are told by a table that is full when they come. Its slots for so
-// many entries are asked for first, if there are any, and then the list of replies. The first of the
-// three asks for the two vectors of more slots. Where it is refused, the table is full still, and
-// the next one asks. The list of the lookup comes last; it isn't asked for where there is nothing to
-// look up.
+/// What the last three commands are told by a table that is full when they come. Its slots for so
+/// many entries are asked for first, if there are any, and then the list of replies. The first of the
+/// three asks for the two vectors of more slots. Where it is refused, the table is full still, and
+/// the next one asks. The list of the lookup comes last; it isn't asked for where there is nothing to
+/// look up.
 fn last_told<'a>(
     alloc: &'a Refusing<Global>,
     entries: usize,
@@ -262,7 +262,7 @@ fn find_alone_refused(rt: HostRuntime) {
     }
 }
 
-// Twelve insertions, and then three commands.
+/// Twelve insertions, and then three commands.
 fn after_twelve<'a>(alloc: Global, three: [Command<'a>; 3]) -> Result<Vec<Command<'a>>, Fail> {
     let mut commands = Vec::new(alloc);
     for handle in 2..14 {
@@ -276,7 +276,7 @@ fn after_twelve<'a>(alloc: Global, three: [Command<'a>; 3]) -> Result<Vec<Comman
 
 const BOTH_REFUSED: [Told; 3] = [Told::Refused, Told::Refused, Told::Absent];
 
-// A table made for twelve entries is full of them.
+/// A table made for twelve entries is full of them.
 #[test]
 fn growths_and_all_later_refused(rt: HostRuntime) -> Result<(), Fail> {
     let alloc = Refusing::new(rt.alloc());

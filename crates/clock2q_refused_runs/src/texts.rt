@@ -5,7 +5,7 @@ use clock2q_refusing::{Refusing, Tried, try_in_turn};
 use std::alloc::{Allocator, Global};
 use std::test::Fail;
 
-// A line of each command, and what they are answered.
+/// A line of each command, and what they are answered.
 const EVERY_COMMAND: (&str, &str) = (
     "new 3\nslot 1 10\nput 1 10\nget 1\npeek 1\ncontains 1\nget_at 0 1\nset 1 11\nwith 2 20\ntry 3 30\n\
      try 4 fail\nlen\nis_empty\ncapacity\nretain 101\nremove 1\nclear\nprefill 5 6\nlen\n",
@@ -13,11 +13,11 @@ const EVERY_COMMAND: (&str, &str) = (
      failed\n3\nfalse\n3\nok\ntrue\nok\nok\n0\n",
 );
 
-// Shares that the first line chooses.
+/// Shares that the first line chooses.
 const CHOSEN_SHARES: (&str, &str) = ("new 4 2 1\nput 1 10\nget 1\n", "ok\nnone\nsome 10\n");
 
-// Tells whether a text is answered like this. Where it is refused, nothing was written, or it
-// isn't answered like this.
+/// Tells whether a text is answered like this. Where it is refused, nothing was written, or it
+/// isn't answered like this.
 fn is_answered<A: Allocator>(
     alloc: A,
     out: Global,

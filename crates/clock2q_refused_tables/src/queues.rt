@@ -9,10 +9,10 @@ use clock2q_refusing::Refusing;
 use std::alloc::Global;
 use std::test::Fail;
 
-// More requests than any of the constructors makes.
+/// More requests than any of the constructors makes.
 const MANY: u64 = 100;
 
-// The records, the window's places and the hit bits.
+/// The records, the window's places and the hit bits.
 #[test]
 fn queues(rt: HostRuntime) -> Result<(), Fail> {
     let alloc = Refusing::new(rt.alloc());
@@ -36,7 +36,7 @@ fn queues(rt: HostRuntime) -> Result<(), Fail> {
     Ok(())
 }
 
-// The two vectors of the index, the records of the order, and the keys.
+/// The two vectors of the index, the records of the order, and the keys.
 #[test]
 fn histories(rt: HostRuntime) -> Result<(), Fail> {
     let alloc = Refusing::new(rt.alloc());
@@ -60,7 +60,7 @@ fn histories(rt: HostRuntime) -> Result<(), Fail> {
     Ok(())
 }
 
-// Slot 0 goes through Small and Main, and is given up.
+/// Slot 0 goes through Small and Main, and is given up.
 fn pass_through(queues: &mut Queues<&Refusing<Global>>)
     requires slots { queues.old.slots ≡ 4 }
     requires window { queues.old.window ≡ 2 }
@@ -97,7 +97,7 @@ fn queues_ask_for_nothing_more(rt: HostRuntime) -> Result<(), Fail> {
     Ok(())
 }
 
-// Discards a key. A key's hash is its remainder by 3.
+/// Discards a key. A key's hash is its remainder by 3.
 fn forget(history: &mut History<u64, &Refusing<Global>>, key: u64) -> bool
     requires { AllByRecursion (λ e. e.0 ≡ e.1 % 3) history.old.entries }
     ensures hashed { AllByRecursion (λ e. e.0 ≡ e.1 % 3) history.new.entries }
@@ -106,7 +106,7 @@ fn forget(history: &mut History<u64, &Refusing<Global>>, key: u64) -> bool
     history.discard(key % 3, &key)
 }
 
-// Discards a key, tells whether it was there, and pushes it.
+/// Discards a key, tells whether it was there, and pushes it.
 fn renew(history: &mut History<u64, &Refusing<Global>>, key: u64) -> bool
     requires { AllByRecursion (λ e. e.0 ≡ e.1 % 3) history.old.entries }
     ensures { AllByRecursion (λ e. e.0 ≡ e.1 % 3) history.new.entries }
@@ -116,7 +116,7 @@ fn renew(history: &mut History<u64, &Refusing<Global>>, key: u64) -> bool
     known
 }
 
-// More keys than fit, of which each has the hash of others.
+/// More keys than fit, of which each has the hash of others.
 #[test]
 fn histories_ask_for_nothing_more(rt: HostRuntime) -> Result<(), Fail> {
     let alloc = Refusing::new(rt.alloc());

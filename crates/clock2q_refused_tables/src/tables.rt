@@ -11,15 +11,15 @@ use std::test::Fail;
 
 type RefusedTable<'a> = Table<u64, &'a Refusing<Global>>;
 
-// More turns than any of the calls needs.
+/// More turns than any of the calls needs.
 const MANY: u64 = 100;
 
-// Slots take two requests, one for their metadata and one for their handles. Each is refused in two
-// turns, and the call of the next turn succeeds.
+/// Slots take two requests, one for their metadata and one for their handles. Each is refused in two
+/// turns, and the call of the next turn succeeds.
 const REFUSED_TURNS: u64 = 4;
 
-// Refuses a request of the next call: in the turns 0 and 1 its first, in 2 and 3 its second, and so
-// on. In an even turn that one alone is refused, and in an odd one all later ones are too.
+/// Refuses a request of the next call: in the turns 0 and 1 its first, in 2 and 3 its second, and so
+/// on. In an even turn that one alone is refused, and in an odd one all later ones are too.
 fn refuse_in(turn: u64, alloc: &Refusing<Global>) {
     if turn % 2 == 0 {
         alloc.refuse_one_after(turn / 2);
@@ -50,7 +50,7 @@ fn constructions(rt: HostRuntime) -> Result<(), Fail> {
     Ok(())
 }
 
-// A table without slots asks for nothing, and neither do lookups and removals in it.
+/// A table without slots asks for nothing, and neither do lookups and removals in it.
 #[test]
 fn no_slots(rt: HostRuntime) -> Result<(), Fail> {
     let alloc = Refusing::new(rt.alloc());
@@ -63,7 +63,7 @@ fn no_slots(rt: HostRuntime) -> Result<(), Fail> {
     Ok(())
 }
 
-// Insertions that the table has room for.
+/// Insertions that the table has room for.
 fn insert_two(rt: &impl Abort, table: &mut RefusedTable<'_>) -> Result<(), TableError> {
     assert!(rt; table.len() < table.capacity());
     table.insert(5, 5, |_| 0)?;
@@ -71,13 +71,13 @@ fn insert_two(rt: &impl Abort, table: &mut RefusedTable<'_>) -> Result<(), Table
     table.insert_within_capacity(6, 6)
 }
 
-// A lookup that takes any handle under the hash, or inserts one.
+/// A lookup that takes any handle under the hash, or inserts one.
 fn find_any(rt: &impl Abort, table: &mut RefusedTable<'_>) -> Result<(u64, bool), TableError> {
     assert!(rt; table.len() < table.capacity());
     table.find_or_insert(7, |_| true, 7, |_| 0)
 }
 
-// Room that is there, a lookup to its end, and a removal.
+/// Room that is there, a lookup to its end, and a removal.
 fn read_and_remove(rt: &impl Abort, table: &mut RefusedTable<'_>) -> Result<(), TableError> {
     assert!(rt; table.len() == 3 && table.capacity() == 12);
     table.reserve(9, |_| 0)?;
@@ -87,7 +87,7 @@ fn read_and_remove(rt: &impl Abort, table: &mut RefusedTable<'_>) -> Result<(), 
     Ok(())
 }
 
-// Calls that a table has room for.
+/// Calls that a table has room for.
 #[test]
 fn no_requests(rt: HostRuntime) -> Result<(), Fail> {
     let alloc = Refusing::new(rt.alloc());
@@ -103,7 +103,7 @@ fn no_requests(rt: HostRuntime) -> Result<(), Fail> {
     Ok(())
 }
 
-// A table with as many handles as it takes before it grows.
+/// A table with as many handles as it takes before it grows.
 fn full<'a>(rt: &impl Abort, alloc: &'a Refusing<Global>) -> Result<RefusedTable<'a>, TableError>
     ensures { IfOk result (λ table. IsHashOf (λ handle. handle) table.homes) }
 {

@@ -21,7 +21,7 @@ fn main(rt: HostRuntime) -> Result<(), ScaleError> {
     run_cache(&rt, 1_000_000, 10_000_000, 23)
 }
 
-// Prints what a run on plain lists comes to.
+/// Prints what a run on plain lists comes to.
 fn run_lists(
     rt: &HostRuntime,
     capacity: usize,
@@ -36,7 +36,7 @@ fn run_lists(
     print(rt, "lists", capacity, accesses, hits)
 }
 
-// Prints what a run on a cache comes to.
+/// Prints what a run on a cache comes to.
 fn run_cache(
     rt: &HostRuntime,
     capacity: usize,

@@ -2,7 +2,7 @@
 
 use std::alloc::{AllocError, Global};
 
-// A resident. One of Small is young until the window's number of keys came after it.
+/// A resident. One of Small is young until the window's number of keys came after it.
 #[derive(Clone, Copy)]
 struct Entry {
     key: u64,
@@ -33,7 +33,7 @@ impl Lists {
         }
     }
 
-    // How many keys Small has room for.
+    /// How many keys Small has room for.
     fn small_share(&self) -> usize {
         if self.capacity == 1 {
             0
@@ -42,7 +42,7 @@ impl Lists {
         }
     }
 
-    // Whether an entry of Small is old: whether half of Small's share, rounded up, came after it.
+    /// Whether an entry of Small is old: whether half of Small's share, rounded up, came after it.
     fn is_old(&self, entry: &Entry) -> bool {
         self.admissions.wrapping_sub(entry.admitted) >= self.small_share().div_ceil(2)
     }
@@ -89,7 +89,7 @@ impl Lists {
         Ok(())
     }
 
-    // Takes a key out of the history, and tells whether it was there.
+    /// Takes a key out of the history, and tells whether it was there.
     fn forget(&mut self, key: u64) -> bool {
         let place = self.history.iter().position(|known| *known == key);
         if let Some(place) = place {
@@ -98,7 +98,7 @@ impl Lists {
         place.is_some()
     }
 
-    // Takes out the first entry from the hand on that wasn't hit, and clears the bits before it.
+    /// Takes out the first entry from the hand on that wasn't hit, and clears the bits before it.
     fn evict_from_main(&mut self) {
         let hits = self.main.iter().take_while(|entry| entry.is_hit).count();
         let passed = hits.min(self.main.len());
@@ -111,7 +111,7 @@ impl Lists {
         }
     }
 
-    // Puts a key at the end of Main, the last that the hand comes to.
+    /// Puts a key at the end of Main, the last that the hand comes to.
     fn push_main(&mut self, key: u64, value: u64) -> Result<(), AllocError> {
         self.main.push(Entry {
             key,
@@ -122,8 +122,8 @@ impl Lists {
         Ok(())
     }
 
-    // Takes the oldest entry of Small out: to Main in the place of another where it was hit, else
-    // its key goes to the history.
+    /// Takes the oldest entry of Small out: to Main in the place of another where it was hit, else
+    /// its key goes to the history.
     fn make_room(&mut self) -> Result<(), AllocError> {
         if self.small.is_empty() {
             return Ok(());

@@ -30,7 +30,7 @@ impl Stream {
     }
 }
 
-// Spreads a number over 64 bits: the last step of splitmix64.
+/// Spreads a number over 64 bits: the last step of splitmix64.
 fn mix(number: u64) -> u64 {
     let once = (number ^ number >> 30).wrapping_mul(0xBF58_476D_1CE4_E5B9);
     let twice = (once ^ once >> 27).wrapping_mul(0x94D0_49BB_1331_11EB);

@@ -11,15 +11,15 @@ const EVEN: u64 = 0xAB00_0000_0000_000F;
 
 const ODD: u64 = 0xAB00_0000_0000_001F;
 
-// A hash of a handle: one for the even handles, and one for the odd, which agree in a table of 16
-// slots.
+/// A hash of a handle: one for the even handles, and one for the odd, which agree in a table of 16
+/// slots.
 fn hash_of(handle: u64) -> u64
     ensures { result ≡ EVEN + handle % 2 * 16 }
 {
     EVEN + handle % 2 * 16
 }
 
-// What a new table replies to commands.
+/// What a new table replies to commands.
 fn replies_of<A: Allocator + Copy>(
     alloc: A,
     entries: usize,
@@ -29,7 +29,7 @@ fn replies_of<A: Allocator + Copy>(
     run_table(alloc, &mut table, hash_of, commands)
 }
 
-// Commands to a table that holds the handles from 0 to 11, each with its reply.
+/// Commands to a table that holds the handles from 0 to 11, each with its reply.
 fn worked_replies(alloc: Global) -> Result<[(TableCommand<u64>, TableReply<u64>); 10], AllocError> {
     Ok([
         (
@@ -93,7 +93,7 @@ fn nothing_to_run(rt: HostRuntime) -> Result<(), Fail> {
     Ok(())
 }
 
-// How often a run asks for a handle's hash, on a table with as many slots as twelve entries take.
+/// How often a run asks for a handle's hash, on a table with as many slots as twelve entries take.
 fn hashes_of(alloc: Global, commands: &[TableCommand<u64>]) -> Result<u64, TableError> {
     let asked = Cell::new(0u64);
     let mut table = Table::with_capacity(alloc, 12)?;
@@ -107,7 +107,7 @@ fn hashes_of(alloc: Global, commands: &[TableCommand<u64>]) -> Result<u64, Table
     Ok(asked.get())
 }
 
-// The handle that comes is asked about, and where a table grows, each handle that it holds.
+/// The handle that comes is asked about, and where a table grows, each handle that it holds.
 #[test]
 fn hashes_asked_for(rt: HostRuntime) -> Result<(), Fail> {
     let alloc = rt.alloc();

@@ -10,7 +10,7 @@ use std::test::Fail;
 
 type Numbers = Cache<u64, u64, DefaultHashBuilder>;
 
-// Keeps every other resident, and returns the keys that were asked about, as the digits of a number.
+/// Keeps every other resident, and returns the keys that were asked about, as the digits of a number.
 fn keep_every_other(cache: &mut Numbers) -> u64 {
     let mut asked = 0u64;
     let mut keep = false;
@@ -22,7 +22,7 @@ fn keep_every_other(cache: &mut Numbers) -> u64 {
     asked
 }
 
-// Each resident is asked about once, by its slot upwards, and one that was taken out no more.
+/// Each resident is asked about once, by its slot upwards, and one that was taken out no more.
 #[test]
 fn kept(rt: HostRuntime) -> Result<(), Fail> {
     let capacity = NonZeroUsize::new(5).ok_or("not zero")?;
@@ -37,7 +37,7 @@ fn kept(rt: HostRuntime) -> Result<(), Fail> {
     Ok(())
 }
 
-// Makes the slots that were never made, and returns how many those were.
+/// Makes the slots that were never made, and returns how many those were.
 fn filled(cache: &mut Numbers) -> u64 {
     let mut made = 0u64;
     cache.prefill(|| {
@@ -62,7 +62,7 @@ fn made(rt: HostRuntime) -> Result<(), Fail> {
     Ok(())
 }
 
-// Fetches the value of a key, and returns it with how often its closure was called.
+/// Fetches the value of a key, and returns it with how often its closure was called.
 fn fetched(cache: &mut Numbers, key: u64) -> (u64, u64) {
     let mut calls = 0u64;
     let value = *cache.get_or_insert_with(key, || {
@@ -72,7 +72,7 @@ fn fetched(cache: &mut Numbers, key: u64) -> (u64, u64) {
     (value, calls)
 }
 
-// Lends the value of a key's slot, and returns it with how often its closure was called.
+/// Lends the value of a key's slot, and returns it with how often its closure was called.
 fn lent(cache: &mut Numbers, key: u64) -> (u64, u64) {
     let mut calls = 0u64;
     let (_, value) = cache.get_or_insert_mut(key, || {
@@ -82,7 +82,7 @@ fn lent(cache: &mut Numbers, key: u64) -> (u64, u64) {
     (*value, calls)
 }
 
-// No closure is called for a resident key, and that for a slot only where a slot is made.
+/// No closure is called for a resident key, and that for a slot only where a slot is made.
 #[test]
 fn called(rt: HostRuntime) -> Result<(), Fail> {
     let capacity = NonZeroUsize::new(2).ok_or("not zero")?;
@@ -100,7 +100,7 @@ fn called(rt: HostRuntime) -> Result<(), Fail> {
     Ok(())
 }
 
-// Handles under one hash.
+/// Handles under one hash.
 fn handles(rt: &impl Abort, alloc: Global, count: u64) -> Result<Table<u64>, TableError> {
     let mut table = Table::with_capacity(alloc, 12)?;
     for handle in 0..count {
@@ -110,7 +110,7 @@ fn handles(rt: &impl Abort, alloc: Global, count: u64) -> Result<Table<u64>, Tab
     Ok(table)
 }
 
-// Takes the candidate that is offered second, whichever it is, and returns how many were offered too.
+/// Takes the candidate that is offered second, whichever it is, and returns how many were offered too.
 fn take_second(rt: &impl Abort, table: &mut Table<u64>) -> Result<(u64, bool, u64), TableError> {
     assert!(rt; table.len() < table.capacity());
     let offered = Cell::new(0u64);

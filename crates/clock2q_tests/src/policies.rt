@@ -6,8 +6,8 @@ use std::alloc::Global;
 use std::num::NonZeroUsize;
 use std::test::Fail;
 
-// Puts four keys, hits the first and puts a fifth. Returns what is replied about two keys then, and
-// about the fifth at a slot.
+/// Puts four keys, hits the first and puts a fifth. Returns what is replied about two keys then, and
+/// about the fifth at a slot.
 fn replies_of(
     alloc: Global,
     cache: &mut Cache<u64, u64, DefaultHashBuilder>,
@@ -40,7 +40,7 @@ const REPLIES: [Reply<u64>; 9] = [
     Reply::Value(Some(5)),
 ];
 
-// With a window of 1 the hit on key 1 counts, and it goes on to Main; with one of 2 it is too young.
+/// With a window of 1 the hit on key 1 counts, and it goes on to Main; with one of 2 it is too young.
 #[test]
 fn chosen_shares(rt: HostRuntime) -> Result<(), Fail> {
     let capacity = NonZeroUsize::new(4).ok_or("not zero")?;

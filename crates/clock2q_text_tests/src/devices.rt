@@ -6,7 +6,7 @@ use std::alloc::{AllocError, Global};
 use std::io::{Error, ErrorKind, Read, Result as IoResult, Write};
 use std::test::Fail;
 
-// How a device fails: by an error, by moving no byte though some are left, or at a flush.
+/// How a device fails: by an error, by moving no byte though some are left, or at a flush.
 #[derive(Clone, Copy, Debug, PartialEq)]
 enum Fault {
     Error(ErrorKind),
@@ -14,8 +14,8 @@ enum Fault {
     NoFlush(ErrorKind),
 }
 
-// What a device does at a call: it moves up to so many bytes at a time, and fails at its call
-// number `fails_at`, from 0, or at a flush.
+/// What a device does at a call: it moves up to so many bytes at a time, and fails at its call
+/// number `fails_at`, from 0, or at a flush.
 #[derive(Clone, Copy)]
 struct Plan {
     step: usize,
@@ -24,7 +24,7 @@ struct Plan {
 }
 
 impl Plan {
-    // How many of the bytes are moved at this call.
+    /// How many of the bytes are moved at this call.
     fn moved(&self, call: usize, bytes: usize) -> IoResult<usize> {
         if call == self.fails_at {
             match self.fault {
@@ -87,7 +87,7 @@ const TEXT: &[u8] = b"new 2\nput 1 10\nget 1\n";
 
 const REPLIES: &[u8] = b"ok\nnone\nsome 10\n";
 
-// Each kind of error that there is.
+/// Each kind of error that there is.
 const KINDS: [ErrorKind; 42] = [
     ErrorKind::NotFound,
     ErrorKind::PermissionDenied,
@@ -133,7 +133,7 @@ const KINDS: [ErrorKind; 42] = [
     ErrorKind::Uncategorized,
 ];
 
-// What `serve` answers to a text from such a reader, what it writes, and how often it reads.
+/// What `serve` answers to a text from such a reader, what it writes, and how often it reads.
 fn read(alloc: Global, text: &[u8], plan: Plan) -> (Result<(), ServeError>, Vec<u8>, usize) {
     let mut reader = Device::new(Reader {
         left: text,
@@ -145,7 +145,7 @@ fn read(alloc: Global, text: &[u8], plan: Plan) -> (Result<(), ServeError>, Vec<
     (outcome, writer.into_inner(), reader.into_inner().calls)
 }
 
-// What `serve` answers where TEXT's replies go to such a writer, and what became of the writer.
+/// What `serve` answers where TEXT's replies go to such a writer, and what became of the writer.
 fn written(alloc: Global, plan: Plan) -> (Result<(), ServeError>, Writer) {
     let mut reader = Device::new(TEXT);
     let mut writer = Device::new(Writer {
@@ -158,7 +158,7 @@ fn written(alloc: Global, plan: Plan) -> (Result<(), ServeError>, Writer) {
     (outcome, writer.into_inner())
 }
 
-// The plan of the first read that isn't told as it should be: at once, with nothing written.
+/// The plan of the first read that isn't told as it should be: at once, with nothing written.
 fn other_read(alloc: Global, text: &[u8], step: usize, reads: usize) -> Option<(usize, ErrorKind)> {
     for kind in KINDS {
         for fails_at in 0..reads {
@@ -178,7 +178,7 @@ fn other_read(alloc: Global, text: &[u8], step: usize, reads: usize) -> Option<(
     None
 }
 
-// The 21 bytes of a text are given in 21, 6 or 1 calls, and one more says that none is left.
+/// The 21 bytes of a text are given in 21, 6 or 1 calls, and one more says that none is left.
 #[test]
 fn failing_reads(rt: HostRuntime) {
     for text in [TEXT, b"bogus\nnew 2\nput 1 10\n".as_slice()] {
@@ -188,7 +188,7 @@ fn failing_reads(rt: HostRuntime) {
     }
 }
 
-// A read of no byte is the end. What comes after it isn't read, and what came before is all.
+/// A read of no byte is the end. What comes after it isn't read, and what came before is all.
 #[test]
 fn ending_reads(rt: HostRuntime) {
     for fails_at in 0..22 {
@@ -205,8 +205,8 @@ fn ending_reads(rt: HostRuntime) {
     }
 }
 
-// The first call of so many at which a failing write isn't told as it should be: at once, after a
-// beginning of the text, and without a flush.
+/// The first call of so many at which a failing write isn't told as it should be: at once, after a
+/// beginning of the text, and without a flush.
 fn other_write(alloc: Global, step: usize, writes: usize, fault: Fault) -> Option<usize> {
     for fails_at in 0..writes {
         let plan = Plan {
@@ -225,7 +225,7 @@ fn other_write(alloc: Global, step: usize, writes: usize, fault: Fault) -> Optio
     None
 }
 
-// The 16 bytes of the replies are taken in 16, 4 or 1 calls.
+/// The 16 bytes of the replies are taken in 16, 4 or 1 calls.
 const WRITES: [(usize, usize); 3] = [(1, 16), (5, 4), (100, 1)];
 
 #[test]
@@ -240,7 +240,7 @@ fn failing_writes(rt: HostRuntime) {
     }
 }
 
-// A writer that fails after so many calls is called so often, and flushed once.
+/// A writer that fails after so many calls is called so often, and flushed once.
 fn is_whole(writer: &Writer, writes: usize) -> bool {
     writer.taken.as_slice() == REPLIES && writer.calls == writes && writer.flushes == 1
 }
@@ -275,7 +275,7 @@ fn failing_flushes(rt: HostRuntime) {
     }
 }
 
-// A device answers what it wraps, and any error as its own.
+/// A device answers what it wraps, and any error as its own.
 #[test]
 fn devices(rt: HostRuntime) -> Result<(), Fail> {
     let mut block = [0u8; 4];
@@ -291,7 +291,7 @@ fn devices(rt: HostRuntime) -> Result<(), Fail> {
     Ok(())
 }
 
-// After a failure a device goes on where it stood. Each of its calls makes one call.
+/// After a failure a device goes on where it stood. Each of its calls makes one call.
 #[test]
 fn failing_sources(rt: HostRuntime) {
     for kind in KINDS {
@@ -312,8 +312,8 @@ fn failing_sources(rt: HostRuntime) {
     }
 }
 
-// What a device answers to two writes and a flush, where the second write or the flush fails, and
-// what it wraps then.
+/// What a device answers to two writes and a flush, where the second write or the flush fails, and
+/// what it wraps then.
 fn sent(
     alloc: Global,
     fault: Fault,

@@ -8,7 +8,7 @@ use clock2q_text::{Script, parse, reply_text};
 use std::alloc::Global;
 use std::test::Fail;
 
-// What the commands of a text are answered by a cache with a hasher, as a text.
+/// What the commands of a text are answered by a cache with a hasher, as a text.
 fn answered_under(alloc: Global, text: &[u8], spread: Spread) -> Result<Vec<u8>, Fail> {
     let script = parse(alloc, text)?;
     let Script {
@@ -21,7 +21,7 @@ fn answered_under(alloc: Global, text: &[u8], spread: Spread) -> Result<Vec<u8>,
     Ok(reply_text(alloc, &replies)?)
 }
 
-// One number for all keys, and each key's own number.
+/// One number for all keys, and each key's own number.
 #[test]
 fn bad_hashers(rt: HostRuntime) -> Result<(), Fail> {
     for (times, more) in [(0, 0), (0, 0xAB00_0000_0000_000F), (0, u64::MAX), (1, 0)] {

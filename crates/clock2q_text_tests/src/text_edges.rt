@@ -5,7 +5,7 @@ use clock2q_command::ServeError;
 use std::alloc::{AllocError, Global};
 use std::test::Fail;
 
-// Lines that are bad wherever they stand after the first one.
+/// Lines that are bad wherever they stand after the first one.
 const BAD_LINES: [&[u8]; 85] = [
     b" len",
     b"len ",
@@ -94,7 +94,7 @@ const BAD_LINES: [&[u8]; 85] = [
     b"bogus",
 ];
 
-// Lines that make no cache.
+/// Lines that make no cache.
 const BAD_FIRST_LINES: [&[u8]; 13] = [
     b"new 2 1",
     b"new 0 0 0",
@@ -111,8 +111,8 @@ const BAD_FIRST_LINES: [&[u8]; 13] = [
     b"new 2 1 1\r",
 ];
 
-// What `serve` answers to a line between two others, if it isn't that the line of this number is bad,
-// with nothing written.
+/// What `serve` answers to a line between two others, if it isn't that the line of this number is bad,
+/// with nothing written.
 fn other_answer(
     alloc: Global,
     before: &[u8],

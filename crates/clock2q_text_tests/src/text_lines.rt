@@ -4,11 +4,11 @@ use crate::texts::{lines, served};
 use std::alloc::{AllocError, Global};
 use std::test::Fail;
 
-// A first line, how many keys from which one on are put with themselves as values, and then commands
-// and what they are answered. `;` stands for a line end. Each key that is put is a new one.
+/// A first line, how many keys from which one on are put with themselves as values, and then commands
+/// and what they are answered. `;` stands for a line end. Each key that is put is a new one.
 pub(crate) type Row = (&'static str, u64, u64, &'static str, &'static str);
 
-// Evictions, promotions, histories, and slots that are used again.
+/// Evictions, promotions, histories, and slots that are used again.
 pub(crate) const RUNS: [Row; 22] = [
     (
         "new 1",
@@ -163,7 +163,7 @@ pub(crate) const RUNS: [Row; 22] = [
     ),
 ];
 
-// Shares that the first line chooses.
+/// Shares that the first line chooses.
 const CHOSEN_SHARES: [Row; 4] = [
     (
         "new 4 2 1",
@@ -189,7 +189,7 @@ const CHOSEN_SHARES: [Row; 4] = [
     ("new 1 0 0", 0, 0, "", ""),
 ];
 
-// A line of each command and each form of a reply.
+/// A line of each command and each form of a reply.
 const EVERY_COMMAND: [Row; 2] = [
     (
         "new 2",
@@ -212,7 +212,7 @@ const EVERY_COMMAND: [Row; 2] = [
     ),
 ];
 
-// Slots that were never made, that hold no key, or that hold another one by now.
+/// Slots that were never made, that hold no key, or that hold another one by now.
 const HINTS: [Row; 3] = [
     (
         "new 4",
@@ -238,7 +238,7 @@ const HINTS: [Row; 3] = [
     ),
 ];
 
-// The text of a row, and what it is answered.
+/// The text of a row, and what it is answered.
 pub(crate) fn row_texts(alloc: Global, row: Row) -> Result<(String, String), AllocError> {
     let (first, from, count, commands, replies) = row;
     let mut text = lines(alloc, first)?;
@@ -254,7 +254,7 @@ pub(crate) fn row_texts(alloc: Global, row: Row) -> Result<(String, String), All
     Ok((text, want))
 }
 
-// The first row that is answered otherwise than it should be.
+/// The first row that is answered otherwise than it should be.
 fn other_answer(alloc: Global, rows: &[Row]) -> Result<Option<&'static str>, AllocError> {
     for row in rows {
         let (text, want) = row_texts(alloc, *row)?;

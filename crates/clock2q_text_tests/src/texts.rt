@@ -4,7 +4,7 @@ use clock2q_command::{Device, ServeError, serve};
 use std::alloc::{AllocError, Global};
 use std::test::Fail;
 
-// What `serve` answers to a text, and what it writes.
+/// What `serve` answers to a text, and what it writes.
 pub(crate) fn served(alloc: Global, text: &[u8]) -> (Result<(), ServeError>, Vec<u8>) {
     let mut reader = Device::new(text);
     let mut writer = Device::new(Vec::new(alloc));
@@ -12,7 +12,7 @@ pub(crate) fn served(alloc: Global, text: &[u8]) -> (Result<(), ServeError>, Vec
     (outcome, writer.into_inner())
 }
 
-// A text from a row in which `;` stands for a line end.
+/// A text from a row in which `;` stands for a line end.
 pub(crate) fn lines(alloc: Global, row: &str) -> Result<String, AllocError> {
     let mut text = String::new(alloc);
     for line in row.split(';') {
@@ -22,7 +22,7 @@ pub(crate) fn lines(alloc: Global, row: &str) -> Result<String, AllocError> {
     Ok(text)
 }
 
-// Commands, and what they are answered. `;` stands for a line end.
+/// Commands, and what they are answered. `;` stands for a line end.
 const ANSWERED: [(&str, &str); 11] = [
     (
         "new 2; put 1 10; put 1 11; get 1; len",
@@ -82,7 +82,7 @@ fn answered(rt: HostRuntime) -> Result<(), Fail> {
     Ok(())
 }
 
-// More lines than one block of the input holds.
+/// More lines than one block of the input holds.
 #[test]
 fn many_lines(rt: HostRuntime) -> Result<(), Fail> {
     let mut text = String::from_str(rt.alloc(), "new 2\nput 1 10\n")?;
@@ -101,7 +101,7 @@ fn many_lines(rt: HostRuntime) -> Result<(), Fail> {
     Ok(())
 }
 
-// Texts, and the number of the first line that isn't a command in its place.
+/// Texts, and the number of the first line that isn't a command in its place.
 const BAD_LINES: [(&[u8], usize); 64] = [
     (b"", 1),
     (b"\n", 1),
@@ -179,7 +179,7 @@ fn bad_lines(rt: HostRuntime) -> Result<(), Fail> {
     Ok(())
 }
 
-// Refused texts, the line that says why, and the status.
+/// Refused texts, the line that says why, and the status.
 const REFUSED: [(&[u8], &str, u8); 17] = [
     (b"", "line 1: bad command", 2),
     (b"new 0", "line 1: bad command", 2),
@@ -220,7 +220,7 @@ fn refused(rt: HostRuntime) -> Result<(), Fail> {
     Ok(())
 }
 
-// The line and the status of each refusal.
+/// The line and the status of each refusal.
 #[test]
 fn told(rt: HostRuntime) -> Result<(), Fail> {
     let rows = [
