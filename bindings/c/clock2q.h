@@ -14,6 +14,9 @@
  *
  * All memory is taken when a cache is made: no later call takes any, and none fails.
  *
+ * Keys are hashed with a fixed seed, so whoever chooses them can choose ones that collide, which
+ * makes calls slow. Where strangers do, pass keys that a secret has scrambled.
+ *
  * What you owe, since no proof reaches across this border:
  * - A `clock2q` begins as CLOCK2Q_NONE. While there is a cache in it, it isn't copied, moved, read
  *   or written, but by the calls below.
