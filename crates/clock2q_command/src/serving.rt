@@ -12,7 +12,7 @@ use clock2q_text::{
 use std::alloc::Allocator;
 use std::num::NonZeroUsize;
 
-// Makes the cache that a first line asks for.
+/// Makes the cache that a first line asks for.
 fn new_cache<A: Allocator>(
     alloc: &A,
     capacity: NonZeroUsize,
@@ -29,7 +29,7 @@ fn new_cache<A: Allocator>(
     }
 }
 
-// Returns a cache's refusal as that of the program.
+/// Returns a cache's refusal as that of the program.
 fn refusal(error: CacheError) -> ServeError
     ensures { result ≡ refusal_of error }
 {
@@ -40,7 +40,7 @@ fn refusal(error: CacheError) -> ServeError
     }
 }
 
-// Returns the text of a new cache's replies to a script.
+/// Returns the text of a new cache's replies to a script.
 fn reply_to<'a, A: Allocator>(
     alloc: &'a A,
     script: Script<&'a A>,
@@ -64,7 +64,7 @@ fn reply_to<'a, A: Allocator>(
     Ok(reply_text(alloc, &replies)?)
 }
 
-// Returns the text of the replies to all that a source gives.
+/// Returns the text of the replies to all that a source gives.
 fn answer<'a, R: Source, A: Allocator>(
     alloc: &'a A,
     reader: &mut R,
@@ -77,7 +77,7 @@ fn answer<'a, R: Source, A: Allocator>(
     reply_to(alloc, script)
 }
 
-// Writes a whole text and sends it on.
+/// Writes a whole text and sends it on.
 fn send<W: Sink>(writer: &mut W, text: &[u8]) -> Result<(), ServeError>
     ensures { Sends (W.taken writer.old) (W.taken writer.new)
         (W.contents writer.old) (W.contents writer.new) text.now result }

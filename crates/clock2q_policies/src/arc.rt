@@ -5,12 +5,12 @@ use crate::replayed::Replayed;
 use std::alloc::{AllocError, Allocator};
 use std::num::nearest_usize_to_f64;
 
-// Residents that came once, and those that came again.
+/// Residents that came once, and those that came again.
 const ONCE: u8 = 0;
 
 const AGAIN: u8 = 1;
 
-// Keys that left each of them.
+/// Keys that left each of them.
 const LEFT_ONCE: u8 = 2;
 
 const LEFT_AGAIN: u8 = 3;
@@ -41,7 +41,7 @@ impl<A: Allocator> Arc<A> {
         nearest_usize_to_f64(self.lists.len(list))
     }
 
-    // Moves the oldest key of one of the lists of residents to those that left it.
+    /// Moves the oldest key of one of the lists of residents to those that left it.
     fn replace(&mut self, key: u32) {
         let once = self.size(ONCE);
         let is_above = once > self.target
@@ -62,7 +62,7 @@ impl<A: Allocator> Arc<A> {
         }
     }
 
-    // Moves the target for a key that comes again after it left.
+    /// Moves the target for a key that comes again after it left.
     fn adapt(&mut self, key: u32) {
         let (once, again) = (self.size(LEFT_ONCE), self.size(LEFT_AGAIN));
         if self.lists.has(LEFT_ONCE, key) {
@@ -74,7 +74,7 @@ impl<A: Allocator> Arc<A> {
         }
     }
 
-    // Makes room for a key that is new to all four lists.
+    /// Makes room for a key that is new to all four lists.
     fn make_room(&mut self, key: u32) {
         let once = self.lists.len(ONCE);
         let known_once = once.saturating_add(self.lists.len(LEFT_ONCE));

@@ -28,7 +28,7 @@ impl<A: Allocator + Copy> Clock<A> {
 }
 
 impl<A: Allocator> Clock<A> {
-    // The key under the hand is the oldest, and one that the hand passes becomes the newest.
+    /// The key under the hand is the oldest, and one that the hand passes becomes the newest.
     fn evict(&mut self) {
         for _ in 0..=self.residents.len(RESIDENT) {
             let Some(key) = self.residents.oldest(RESIDENT) else {

@@ -2,10 +2,10 @@
 
 use std::alloc::{AllocError, Allocator};
 
-// The list of a key that stands in none.
+/// The list of a key that stands in none.
 const NONE: u8 = u8::MAX;
 
-// How many lists there are at most.
+/// How many lists there are at most.
 const LISTS: usize = 4;
 
 /// Lists with a newest and an oldest key. Each key stands in at most one of them.
@@ -88,12 +88,12 @@ impl<A: Allocator> Lists<A> {
         }
     }
 
-    // Returns the node that closes a list to a ring.
+    /// Returns the node that closes a list to a ring.
     fn ring(&self, list: u8) -> u32 {
         self.keys.saturating_add(u32::from(list))
     }
 
-    // Makes a node the next one after another.
+    /// Makes a node the next one after another.
     fn join(&mut self, older: u32, newer: u32) {
         if let Some(next) = self.newer.get_mut(older as usize) {
             *next = newer;

@@ -4,8 +4,8 @@ use crate::places::Places;
 use std::alloc::{AllocError, Allocator};
 use std::num::NonZeroUsize;
 
-// Room for keys that stay from one access to the next. One place of the cache is always the key's
-// that is asked for, so the others are as many as the capacity less one.
+/// Room for keys that stay from one access to the next. One place of the cache is always the key's
+/// that is asked for, so the others are as many as the capacity less one.
 #[derive(Drop)]
 struct Rooms<A: Allocator> {
     // Where each stay that is over ended; its room is free from there on.
@@ -15,9 +15,9 @@ struct Rooms<A: Allocator> {
 }
 
 impl<A: Allocator> Rooms<A> {
-    // Gives a key that was asked for at `from` and is again at `to` a room for the accesses between
-    // them, if one is free so long: the one that became free last, so that those that became free
-    // earlier are left for stays that began earlier.
+    /// Gives a key that was asked for at `from` and is again at `to` a room for the accesses between
+    /// them, if one is free so long: the one that became free last, so that those that became free
+    /// earlier are left for stays that began earlier.
     fn keep(&mut self, from: usize, to: usize) -> bool {
         let last_between = to.saturating_sub(1);
         if last_between == from {

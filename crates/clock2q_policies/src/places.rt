@@ -2,10 +2,10 @@
 
 use std::alloc::{AllocError, Allocator};
 
-// How many bits a word has.
+/// How many bits a word has.
 const BITS: usize = 64;
 
-// Levels of words: 64 to the eleventh power is more than any number.
+/// Levels of words: 64 to the eleventh power is more than any number.
 const LEVELS: usize = 11;
 
 /// Places of a trace. Each bit of the lowest level is a place, and each bit of a level above tells
@@ -64,7 +64,7 @@ impl<A: Allocator> Places<A> {
         true
     }
 
-    // Returns the last place that isn't after `place`.
+    /// Returns the last place that isn't after `place`.
     fn last(&self, place: usize) -> Option<usize> {
         let mut bit = place.saturating_add(1);
         for level in 0..LEVELS {
@@ -77,7 +77,7 @@ impl<A: Allocator> Places<A> {
         None
     }
 
-    // Returns the last place below a bit of a level.
+    /// Returns the last place below a bit of a level.
     fn last_below(&self, level: usize, bit: usize) -> usize {
         let mut bit = bit;
         for below in (0..level).rev() {
@@ -102,12 +102,12 @@ impl<A: Allocator> Places<A> {
     }
 }
 
-// Returns the word with one bit.
+/// Returns the word with one bit.
 fn mask(bit: usize) -> u64 {
     1 << (bit % BITS)
 }
 
-// Returns the last bit that is set in a word, among the bits of its level.
+/// Returns the last bit that is set in a word, among the bits of its level.
 fn last_bit(place: usize, word: u64) -> usize {
     let last = word.checked_ilog2().unwrap_or(0);
     place.saturating_mul(BITS).saturating_add(last as usize)

@@ -28,8 +28,8 @@ pub enum PlainPolicy {
     FirstInFirstOut,
 }
 
-// The keys that a plain cache holds. A key's stamp is one more than the place of the trace at which
-// it was last put in front; it is held while its stamp is above `left`.
+/// The keys that a plain cache holds. A key's stamp is one more than the place of the trace at which
+/// it was last put in front; it is held while its stamp is above `left`.
 #[derive(Drop)]
 struct Residents<A: Allocator> {
     stamps: Vec<usize, A>,
@@ -38,7 +38,7 @@ struct Residents<A: Allocator> {
 }
 
 impl<A: Allocator> Residents<A> {
-    // Tells whether the key at a place of the trace is held, and makes what the policy makes of it.
+    /// Tells whether the key at a place of the trace is held, and makes what the policy makes of it.
     fn access(
         &mut self,
         policy: PlainPolicy,
@@ -63,7 +63,7 @@ impl<A: Allocator> Residents<A> {
         is_hit
     }
 
-    // Moves a held key to the front, where the policy does so.
+    /// Moves a held key to the front, where the policy does so.
     fn hit(&mut self, policy: PlainPolicy, capacity: NonZeroUsize, trace: &[u32], at: usize)
         requires at { at < length trace.now }
         requires holding { IsHolding (non_zero_usize_get capacity) trace.now at self.old }
@@ -78,7 +78,7 @@ impl<A: Allocator> Residents<A> {
         }
     }
 
-    // Puts a key that isn't held in front. Where there is no room the oldest key leaves.
+    /// Puts a key that isn't held in front. Where there is no room the oldest key leaves.
     fn bring(&mut self, capacity: NonZeroUsize, trace: &[u32], at: usize)
         requires at { at < length trace.now }
         requires holding { IsHolding (non_zero_usize_get capacity) trace.now at self.old }
@@ -96,7 +96,7 @@ impl<A: Allocator> Residents<A> {
     }
 }
 
-// Returns where the list begins once its oldest key has left.
+/// Returns where the list begins once its oldest key has left.
 fn after_oldest(trace: &[u32], stamps: &[usize], left: usize, at: usize) -> usize
     requires left { left ≤ at }
     requires at { at ≤ length trace.now }

@@ -9,10 +9,10 @@ const SMALL: u8 = 0;
 
 const MAIN: u8 = 1;
 
-// Keys that left the small queue.
+/// Keys that left the small queue.
 const GHOST: u8 = 2;
 
-// The most hits that are counted of a key.
+/// The most hits that are counted of a key.
 const MOST: u8 = 3;
 
 /// S3-FIFO, of 'FIFO Queues are All You Need for Cache Eviction' (2023): a tenth of the room is a
@@ -86,7 +86,7 @@ impl<A: Allocator> S3Fifo<A> {
         }
     }
 
-    // Remembers as many keys as the main queue has room for.
+    /// Remembers as many keys as the main queue has room for.
     fn remember(&mut self, key: u32) {
         self.queues.put(GHOST, key);
         if self.queues.len(GHOST) > self.main {

@@ -7,7 +7,7 @@ use std::test::Fail;
 
 const KEYS: u32 = 40;
 
-// Returns a trace: a third by chance, a third skewed, and the rest a loop.
+/// Returns a trace: a third by chance, a third skewed, and the rest a loop.
 fn trace_of(alloc: Global, seed: u64, length: u32) -> Result<Vec<u32>, AllocError> {
     let mut state = seed;
     let mut trace = Vec::new(alloc);
@@ -28,14 +28,14 @@ fn trace_of(alloc: Global, seed: u64, length: u32) -> Result<Vec<u32>, AllocErro
     Ok(trace)
 }
 
-// Keys, oldest first, each with a mark.
+/// Keys, oldest first, each with a mark.
 type Queue = VecDeque<(u32, u8)>;
 
 fn push(queue: &mut Queue, key: u32, mark: u8) -> Result<(), AllocError> {
     queue.push_back((key, mark)).map_err(AllocError::from)
 }
 
-// Marks a key that is there.
+/// Marks a key that is there.
 fn marked(queue: &mut Queue, key: u32, most: u8) -> bool {
     for (other, mark) in queue.iter_mut() {
         if *other == key {
@@ -46,7 +46,7 @@ fn marked(queue: &mut Queue, key: u32, most: u8) -> bool {
     false
 }
 
-// Takes the first key without a mark. The others before it go to the end, with a mark less.
+/// Takes the first key without a mark. The others before it go to the end, with a mark less.
 fn evict_unmarked(queue: &mut Queue) -> Result<(), AllocError> {
     for _ in 0..1000 {
         match queue.pop_front() {
@@ -73,7 +73,7 @@ fn clock_model(alloc: Global, room: usize, trace: &[u32]) -> Result<usize, Alloc
     Ok(hits)
 }
 
-// Returns where the hand stands once it has taken a key.
+/// Returns where the hand stands once it has taken a key.
 fn sieve_evict(queue: &mut Queue, hand: usize) -> usize {
     let mut hand = hand;
     for _ in 0..1000 {
@@ -107,7 +107,7 @@ fn sieve_model(alloc: Global, room: usize, trace: &[u32]) -> Result<usize, Alloc
     Ok(hits)
 }
 
-// The queues of S3-FIFO.
+/// The queues of S3-FIFO.
 #[derive(Drop)]
 struct Three {
     small: Queue,
@@ -116,7 +116,7 @@ struct Three {
 }
 
 impl Three {
-    // Evicts a key of the small queue where it has its tenth and not all its keys move on.
+    /// Evicts a key of the small queue where it has its tenth and not all its keys move on.
     fn evict(&mut self, room: usize) -> Result<(), AllocError> {
         let tenth = (room / 10).max(1);
         let rest = room.saturating_sub(tenth);
@@ -182,8 +182,8 @@ fn s3_fifo_model(alloc: Global, room: usize, trace: &[u32]) -> Result<usize, All
     Ok(hits)
 }
 
-// The lists of ARC, as its authors' figure has them: residents that came once and again, and keys
-// that left each.
+/// The lists of ARC, as its authors' figure has them: residents that came once and again, and keys
+/// that left each.
 #[derive(Drop)]
 struct Four {
     once: Queue,
@@ -193,7 +193,7 @@ struct Four {
     target: f64,
 }
 
-// Takes a key out of a queue, and returns true if it was there.
+/// Takes a key out of a queue, and returns true if it was there.
 fn taken(queue: &mut Queue, key: u32) -> bool {
     match queue.iter().position(|(other, _)| *other == key) {
         Some(place) => queue.remove(place).is_some(),
@@ -222,7 +222,7 @@ impl Four {
         }
     }
 
-    // A key that left one of the lists comes again.
+    /// A key that left one of the lists comes again.
     fn come_back(&mut self, room: usize, key: u32) -> Result<bool, AllocError> {
         let (once, again) = (length(&self.left_once), length(&self.left_again));
         let was_again = if taken(&mut self.left_once, key) {
@@ -284,7 +284,7 @@ fn arc_model(alloc: Global, room: usize, trace: &[u32]) -> Result<usize, AllocEr
     Ok(hits)
 }
 
-// Returns where the resident stands that the rest of a trace needs last.
+/// Returns where the resident stands that the rest of a trace needs last.
 fn farthest(held: &Queue, rest: &[u32]) -> usize {
     let mut farthest = (0, 0);
     for (i, (other, _)) in held.iter().enumerate() {
@@ -346,7 +346,7 @@ fn hits_are_those_of_lists(rt: HostRuntime) -> Result<(), Fail> {
     Ok(())
 }
 
-// So long a trace has places whose words are on three levels.
+/// So long a trace has places whose words are on three levels.
 #[test]
 fn optimal_hits_of_a_long_trace(rt: HostRuntime) -> Result<(), Fail> {
     let alloc = rt.alloc();
@@ -359,8 +359,8 @@ fn optimal_hits_of_a_long_trace(rt: HostRuntime) -> Result<(), Fail> {
     Ok(())
 }
 
-// Worked out by hand: 0 and 1 come again, so a scan of 2, 3, 4 takes the room of keys that came
-// once; 2 comes again after it left.
+/// Worked out by hand: 0 and 1 come again, so a scan of 2, 3, 4 takes the room of keys that came
+/// once; 2 comes again after it left.
 #[test]
 fn arc_keeps_what_came_again(rt: HostRuntime) -> Result<(), Fail> {
     let capacity = NonZeroUsize::new(3).ok_or("not zero")?;

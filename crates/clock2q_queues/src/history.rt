@@ -139,8 +139,8 @@ impl<K: Eq, A: Allocator> History<K, A> {
     }
 }
 
-// Moves a place to the front for a new key. If every place has a key, it is that of the oldest key,
-// which is removed from the index.
+/// Moves a place to the front for a new key. If every place has a key, it is that of the oldest key,
+/// which is removed from the index.
 fn make_place<K, V, A: Allocator>(
     index: &mut Table<u32, A>,
     order: &mut Order<A>,

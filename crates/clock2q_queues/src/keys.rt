@@ -224,7 +224,7 @@ impl<K: Eq, V, A: Allocator> Keys<K, V, A> {
     }
 }
 
-// Returns the first of `places` whose key equals `key`.
+/// Returns the first of `places` whose key equals `key`.
 fn first_with<K: Eq, V, A: Allocator>(
     store: &Store<K, V, A>,
     mut places: Candidates<'_, u32>,

@@ -173,8 +173,8 @@ impl<A: Allocator> Queues<A> {
         self.links.is_standing(slot)
     }
 
-    // Moves the hand on to the slot that Main gives up next, and leaves the slot in Main. The hand
-    // passes each slot whose bit is set, and clears the bit; the cost is linear in those.
+    /// Moves the hand on to the slot that Main gives up next, and leaves the slot in Main. The hand
+    /// passes each slot whose bit is set, and clears the bit; the cost is linear in those.
     fn select(&mut self) -> u32
         requires some { 0 < length self.old.main }
         ensures victim { slice_get self.new.main 0 ≡ Some (result, false) }
@@ -185,7 +185,7 @@ impl<A: Allocator> Queues<A> {
         self.main.select(&mut self.links)
     }
 
-    // Removes a slot from Small.
+    /// Removes a slot from Small.
     fn leave_small(&mut self, slot: u32)
         requires resident { has slot (slots_of self.old.small) ≡ true }
         ensures queues { self.new ≡ record self.old { small = without_slot slot self.old.small; accesses = self.new.accesses } }
@@ -194,7 +194,7 @@ impl<A: Allocator> Queues<A> {
         self.small.unlink(&mut self.links, slot);
     }
 
-    // Removes a slot from Main. If the hand stood there, it moves on.
+    /// Removes a slot from Main. If the hand stood there, it moves on.
     fn leave_main(&mut self, slot: u32)
         requires resident { has slot (slots_of self.old.main) ≡ true }
         ensures queues { self.new ≡ record self.old { main = without_slot slot self.old.main; accesses = self.old.accesses + 6 } }

@@ -50,7 +50,7 @@ impl Small {
         self.oldest
     }
 
-    // Makes old, with a clear bit, the slot whose place is used next.
+    /// Makes old, with a clear bit, the slot whose place is used next.
     fn free_place<A: Allocator>(&self, links: &mut Links<A>)
         requires whole { IsSmallQueue links.old self.now }
         requires window { 0 < length links.old.window.items }
@@ -63,7 +63,7 @@ impl Small {
         }
     }
 
-    // Returns the place after the cursor's.
+    /// Returns the place after the cursor's.
     fn next_place(&self, window: u32) -> u32
         requires { self.now.cursor < window }
         ensures { result ≡ next_cursor window self.now.cursor }
@@ -148,7 +148,7 @@ impl Small {
     }
 }
 
-// Empties the place of a slot that was young.
+/// Empties the place of a slot that was young.
 fn leave_place<A: Allocator>(links: &mut Links<A>, standing: Mark)
     requires { (place : ℕ) → standing ≡ Mark.Young place → place < length links.old.window.items }
     ensures { links.new ≡ place_freed standing links.old }
@@ -158,8 +158,8 @@ fn leave_place<A: Allocator>(links: &mut Links<A>, standing: Mark)
     }
 }
 
-// Returns an end of the queue after a slot left it. If that slot stood at this end, the end is now
-// its neighbour, or `None` if no slot is left.
+/// Returns an end of the queue after a slot left it. If that slot stood at this end, the end is now
+/// its neighbour, or `None` if no slot is left.
 fn end_after(end: Option<u32>, slot: u32, others: usize, neighbour: u32) -> Option<u32>
     ensures { result ≡ end_after end slot others neighbour }
 {

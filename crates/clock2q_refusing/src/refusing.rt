@@ -4,15 +4,15 @@
 use std::alloc::{AllocError, Allocator};
 use std::cell::Cell;
 
-// The numbers of the first and the last request that are refused. The first one made is number 1.
+/// The numbers of the first and the last request that are refused. The first one made is number 1.
 #[derive(Clone, Copy)]
 struct Refused {
     first: u64,
     last: u64,
 }
 
-// How many requests were made, which are refused, if any is, and how many bytes were granted and
-// given back.
+/// How many requests were made, which are refused, if any is, and how many bytes were granted and
+/// given back.
 #[derive(Drop)]
 struct Requests {
     made: Cell<u64>,
@@ -31,7 +31,7 @@ impl Requests {
         }
     }
 
-    // Counts a request for `size` bytes, and returns whether it is refused.
+    /// Counts a request for `size` bytes, and returns whether it is refused.
     fn refuses(&self, size: usize) -> bool {
         let made = self.made.get().saturating_add(1);
         self.made.set(made);
@@ -44,7 +44,7 @@ impl Requests {
         is_refused
     }
 
-    // Counts `size` bytes that are given back.
+    /// Counts `size` bytes that are given back.
     fn give_back(&self, size: usize) {
         add(&self.given_back, size);
     }
@@ -104,8 +104,8 @@ impl<A: Allocator> Refusing<A> {
         self.refuse(granted, 0);
     }
 
-    // Grants so many requests more, refuses the next one and so many after it, and returns the
-    // number of the last that is granted before them.
+    /// Grants so many requests more, refuses the next one and so many after it, and returns the
+    /// number of the last that is granted before them.
     pub(crate) fn refuse(&self, granted: u64, further: u64) -> u64 {
         let before = self.requests().saturating_add(granted);
         let first = before.saturating_add(1);

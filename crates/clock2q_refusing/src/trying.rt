@@ -3,7 +3,7 @@
 use crate::refusing::Refusing;
 use std::alloc::Allocator;
 
-// More requests than any of the tested calls makes.
+/// More requests than any of the tested calls makes.
 const MANY: u64 = 1000;
 
 /// What a call came to whose requests for memory were refused in turn.

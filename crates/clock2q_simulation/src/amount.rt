@@ -64,7 +64,7 @@ impl Amount {
     }
 }
 
-// Returns the number that digits write, or the largest where it has more than 64 bits.
+/// Returns the number that digits write, or the largest where it has more than 64 bits.
 fn number_of(digits: &[u8]) -> Option<usize>
     ensures number { result ≡ number_in digits.now }
 {

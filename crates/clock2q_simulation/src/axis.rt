@@ -4,13 +4,13 @@ ghost use Rattle.std.specs.Prelude.{◌<◌};
 use std::alloc::{AllocError, Allocator};
 use std::num::nearest_usize_to_f64;
 
-// The round numbers up to the largest capacity.
+/// The round numbers up to the largest capacity.
 const ROUND: [usize; 23] = [
     1, 2, 5, 10, 20, 50, 100, 200, 500, 1_000, 2_000, 5_000, 10_000, 20_000, 50_000, 100_000,
     200_000, 500_000, 1_000_000, 2_000_000, 5_000_000, 10_000_000, 20_000_000,
 ];
 
-// How many capacities are named at most.
+/// How many capacities are named at most.
 const NAMED: usize = 10;
 
 /// The capacities from `low` to `high`, evenly spaced or by their logarithms.
@@ -42,7 +42,7 @@ impl Axis {
         (self.measure(capacity) - low) / (self.measure(self.high) - low)
     }
 
-    // Returns how far from 0 a capacity stands.
+    /// Returns how far from 0 a capacity stands.
     fn measure(&self, capacity: usize) -> f64 {
         if self.is_logarithmic {
             logarithm(capacity)
@@ -66,7 +66,7 @@ impl Axis {
         self.round(alloc, 3)
     }
 
-    // Returns every n-th round number on the axis.
+    /// Returns every n-th round number on the axis.
     fn round<A: Allocator + Copy>(
         &self,
         alloc: A,
@@ -83,7 +83,7 @@ impl Axis {
         Ok(ticks)
     }
 
-    // Returns the smallest round number that divides the axis into few enough parts.
+    /// Returns the smallest round number that divides the axis into few enough parts.
     fn step(&self) -> usize
         ensures positive { 0 < result }
     {
@@ -96,7 +96,7 @@ impl Axis {
             .max(1)
     }
 
-    // Returns the multiples of a step on the axis.
+    /// Returns the multiples of a step on the axis.
     fn multiples<A: Allocator + Copy>(
         &self,
         alloc: A,
@@ -117,7 +117,7 @@ impl Axis {
     }
 }
 
-// Returns the logarithm of a number from 1 on to the base 2, to some four places.
+/// Returns the logarithm of a number from 1 on to the base 2, to some four places.
 fn logarithm(value: usize) -> f64 {
     let whole = value.max(1).ilog2();
     let mut rest = nearest_usize_to_f64(value.max(1)) / nearest_usize_to_f64(1 << whole);

@@ -8,7 +8,7 @@ use crate::error::{Fault, SimulationError};
 use clock2q_cache::MAX_CAPACITY;
 use std::alloc::{AllocError, Allocator};
 
-// The numbers 1, 2 and 5 times a power of ten that are capacities.
+/// The numbers 1, 2 and 5 times a power of ten that are capacities.
 const ROUND_NUMBERS: [usize; 22] = [
     1, 2, 5, 10, 20, 50, 100, 200, 500, 1_000, 2_000, 5_000, 10_000, 20_000, 50_000, 100_000,
     200_000, 500_000, 1_000_000, 2_000_000, 5_000_000, 10_000_000,
@@ -47,7 +47,7 @@ pub fn capacities_of<A: Allocator>(
     Ok(range_of(alloc, first, last.number, &ROUND_NUMBERS)?)
 }
 
-// Returns the ends of a range and the round numbers between them, ascending.
+/// Returns the ends of a range and the round numbers between them, ascending.
 fn range_of<A: Allocator>(
     alloc: A,
     first: Amount,
@@ -83,7 +83,7 @@ fn range_of<A: Allocator>(
     Ok(capacities)
 }
 
-// Returns the capacity that a word writes. `fault` is what is wrong where it writes none.
+/// Returns the capacity that a word writes. `fault` is what is wrong where it writes none.
 fn capacity_of(word: &str, fault: Fault, place: usize) -> Result<Amount, SimulationError>
     ensures asked { IfOk result (λ capacity. capacity ≡ capacity_in word.now) }
     ensures within { IfOk result IsCapacity }

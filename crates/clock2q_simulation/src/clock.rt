@@ -43,7 +43,7 @@ pub fn clock2q_hits<A: Allocator + Copy>(
     Ok(hits)
 }
 
-// Returns an empty cache of chosen shares, or of the usual ones.
+/// Returns an empty cache of chosen shares, or of the usual ones.
 fn new_cache<A: Allocator + Copy>(
     alloc: A,
     capacity: NonZeroUsize,

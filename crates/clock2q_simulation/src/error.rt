@@ -113,7 +113,7 @@ impl SimulationError {
         }
     }
 
-    // Returns what a cache's refusal comes to, where the cache has this capacity.
+    /// Returns what a cache's refusal comes to, where the cache has this capacity.
     pub(crate) fn of_cache(error: CacheError, capacity: usize) -> SimulationError
         ensures { result ≡ of_cache error capacity }
     {

@@ -117,14 +117,14 @@ pub fn parse_options<A: Allocator + Copy>(
     asked.finish(alloc)
 }
 
-// An option that takes the argument after it.
+/// An option that takes the argument after it.
 #[derive(Clone, Copy, Debug, PartialEq, Eq)]
 enum Valued {
     Policies,
     Shares,
 }
 
-// What the arguments so far ask for.
+/// What the arguments so far ask for.
 #[derive(Drop)]
 struct Asked<A: Allocator> {
     format: Option<Format>,
@@ -149,7 +149,7 @@ impl<A: Allocator + Copy> Asked<A> {
         }
     }
 
-    // Takes the argument that comes next.
+    /// Takes the argument that comes next.
     fn take(&mut self, alloc: A, argument: &str, place: usize) -> Result<(), SimulationError>
         requires within { All IsCapacity self.old.capacities.items }
         ensures within { OnOk result (All IsCapacity self.new.capacities.items) }
@@ -166,7 +166,7 @@ impl<A: Allocator + Copy> Asked<A> {
         Ok(())
     }
 
-    // Takes the value of an option.
+    /// Takes the value of an option.
     fn take_value(
         &mut self,
         alloc: A,
@@ -190,7 +190,7 @@ impl<A: Allocator + Copy> Asked<A> {
         Ok(())
     }
 
-    // Takes an option, without the value that it may have.
+    /// Takes an option, without the value that it may have.
     fn take_option(&mut self, option: &str, place: usize) -> Result<(), SimulationError>
         ensures capacities { self.new.capacities ≡ self.old.capacities }
         ensures awaited { OnOk result (is_some self.new.awaited ≡ takes_value option.now) }
@@ -217,7 +217,7 @@ impl<A: Allocator + Copy> Asked<A> {
         Ok(())
     }
 
-    // Returns what all arguments ask for.
+    /// Returns what all arguments ask for.
     fn finish(self, alloc: A) -> Result<Options<A>, SimulationError>
         ensures some { IfOk result (λ options. 0 < length options.capacities.items) }
         ensures asked { IfOk result (λ options. options.capacities ≡ self.capacities) }
@@ -248,7 +248,7 @@ impl<A: Allocator + Copy> Asked<A> {
     }
 }
 
-// Returns the policies that names with commas between them choose.
+/// Returns the policies that names with commas between them choose.
 fn policies_of<A: Allocator>(
     alloc: A,
     names: &str,
@@ -267,7 +267,7 @@ fn policies_of<A: Allocator>(
     Ok(policies)
 }
 
-// Returns the form that an option asks for.
+/// Returns the form that an option asks for.
 fn format_of(option: &str) -> Option<Format> {
     match option {
         "--csv" => Some(Format::Csv),

@@ -8,7 +8,7 @@ use std::alloc::{AllocError, Allocator};
 use std::fmt::Write;
 use std::num::nearest_usize_to_f64;
 
-// The frame of the curves, in the units of the picture.
+/// The frame of the curves, in the units of the picture.
 const LEFT: f64 = 80.0;
 
 const RIGHT: f64 = 690.0;
@@ -22,7 +22,7 @@ const HEAD: &str =
 <rect width=\"720\" height=\"480\" fill=\"white\"/>
 ";
 
-// How the curve of a policy is drawn. The colours are told apart by people with colour blindness.
+/// How the curve of a policy is drawn. The colours are told apart by people with colour blindness.
 #[derive(Drop)]
 struct Pen {
     colour: &'static str,
@@ -50,7 +50,7 @@ fn pen_of(policy: Policy) -> Pen {
     }
 }
 
-// Where capacities and ratios stand. The vertical axis goes from `floor` to `top` percent.
+/// Where capacities and ratios stand. The vertical axis goes from `floor` to `top` percent.
 #[derive(Drop)]
 struct Frame {
     axis: Axis,
@@ -59,7 +59,7 @@ struct Frame {
 }
 
 impl Frame {
-    // Returns a frame with room for rows.
+    /// Returns a frame with room for rows.
     fn new<A: Allocator + Copy>(rows: &[Row<A>]) -> Frame {
         let low = rows.iter().map(|row| row.capacity.get()).min().unwrap_or(1);
         let high = rows.iter().map(|row| row.capacity.get()).max().unwrap_or(1);
@@ -79,7 +79,7 @@ impl Frame {
         BOTTOM - (percent - floor) / (f64::from(self.top) - floor) * (BOTTOM - TOP)
     }
 
-    // Returns how many percent there are from one line across the picture to the next.
+    /// Returns how many percent there are from one line across the picture to the next.
     fn step(&self) -> usize
         ensures positive { 0 < result }
     {
@@ -91,7 +91,7 @@ impl Frame {
     }
 }
 
-// Returns the highest ratio of the rows in percent, rounded up to a multiple of ten.
+/// Returns the highest ratio of the rows in percent, rounded up to a multiple of ten.
 fn top_of<A: Allocator + Copy>(rows: &[Row<A>]) -> u32 {
     let mut most = 0.0;
     for row in rows {
@@ -107,8 +107,8 @@ fn top_of<A: Allocator + Copy>(rows: &[Row<A>]) -> u32 {
     100
 }
 
-// Returns the lowest ratio of the rows in percent, rounded down to a multiple of ten, where all lie
-// above a half, and else 0.
+/// Returns the lowest ratio of the rows in percent, rounded down to a multiple of ten, where all lie
+/// above a half, and else 0.
 fn floor_of<A: Allocator + Copy>(rows: &[Row<A>]) -> u32 {
     let mut least = 1.0;
     for row in rows {
@@ -149,7 +149,7 @@ pub(crate) fn picture<A: Allocator + Copy>(
     Ok(text)
 }
 
-// Writes what the picture shows.
+/// Writes what the picture shows.
 fn write_title<A: Allocator + Copy>(
     text: &mut String<A>,
     rows: &[Row<A>],
@@ -161,7 +161,7 @@ fn write_title<A: Allocator + Copy>(
     )
 }
 
-// Writes the vertical axis, with lines across the picture.
+/// Writes the vertical axis, with lines across the picture.
 fn write_ratios<A: Allocator + Copy>(
     text: &mut String<A>,
     frame: &Frame,
@@ -180,7 +180,7 @@ fn write_ratios<A: Allocator + Copy>(
     )
 }
 
-// Writes a ratio of the axis, and its line.
+/// Writes a ratio of the axis, and its line.
 fn write_ratio<A: Allocator + Copy>(
     text: &mut String<A>,
     y: f64,
@@ -197,7 +197,7 @@ fn write_ratio<A: Allocator + Copy>(
     )
 }
 
-// Writes the horizontal axis, with a mark at each capacity that is named.
+/// Writes the horizontal axis, with a mark at each capacity that is named.
 fn write_capacities<A: Allocator + Copy>(
     alloc: A,
     text: &mut String<A>,
@@ -230,7 +230,7 @@ fn write_capacities<A: Allocator + Copy>(
     )
 }
 
-// Returns a capacity in thousands or millions, where it is so many, and their letter.
+/// Returns a capacity in thousands or millions, where it is so many, and their letter.
 fn short(capacity: usize) -> (usize, &'static str) {
     if capacity >= 1_000_000 && capacity % 1_000_000 == 0 {
         (capacity / 1_000_000, "M")
@@ -241,7 +241,7 @@ fn short(capacity: usize) -> (usize, &'static str) {
     }
 }
 
-// Returns the hit ratio of a policy in percent.
+/// Returns the hit ratio of a policy in percent.
 fn percent_of<A: Allocator + Copy>(row: &Row<A>, policy: Policy) -> f64 {
     for hits in row.hits.iter() {
         if hits.policy == policy {
@@ -251,7 +251,7 @@ fn percent_of<A: Allocator + Copy>(row: &Row<A>, policy: Policy) -> f64 {
     0.0
 }
 
-// Writes a curve through the points of its policy.
+/// Writes a curve through the points of its policy.
 fn write_curve<A: Allocator + Copy>(
     text: &mut String<A>,
     frame: &Frame,
@@ -269,7 +269,7 @@ fn write_curve<A: Allocator + Copy>(
     writeln!(text, "\"/>")
 }
 
-// Writes a ring round each point of a policy.
+/// Writes a ring round each point of a policy.
 fn write_rings<A: Allocator + Copy>(
     text: &mut String<A>,
     frame: &Frame,
@@ -297,7 +297,7 @@ fn write_ring<A: Allocator + Copy>(
     )
 }
 
-// Writes how a curve's line is drawn.
+/// Writes how a curve's line is drawn.
 fn write_pen<A: Allocator + Copy>(text: &mut String<A>, policy: Policy) -> Result<(), AllocError> {
     let pen = pen_of(policy);
     let (colour, dashes) = (pen.colour, pen.dashes);
@@ -307,7 +307,7 @@ fn write_pen<A: Allocator + Copy>(text: &mut String<A>, policy: Policy) -> Resul
     )
 }
 
-// Writes a curve's name beside a piece of its line with a ring: four in a line, and two lines.
+/// Writes a curve's name beside a piece of its line with a ring: four in a line, and two lines.
 fn write_legend<A: Allocator + Copy>(
     text: &mut String<A>,
     place: usize,

@@ -2,7 +2,7 @@
 
 use std::io::Write;
 
-// How many keys are read between two lines, and from how many on the capacities are told.
+/// How many keys are read between two lines, and from how many on the capacities are told.
 const MILLION: usize = 1_000_000;
 
 /// The progress lines of a long simulation: one for each million keys that are read, and one for
@@ -33,7 +33,7 @@ impl<W: Write> Progress<W> {
         }
     }
 
-    // Tells now and then how many keys were read.
+    /// Tells now and then how many keys were read.
     pub(crate) fn read(&mut self, keys: usize) {
         let millions = keys / MILLION;
         if self.is_shown && millions > self.told {
@@ -45,7 +45,7 @@ impl<W: Write> Progress<W> {
         }
     }
 
-    // Tells which capacity of a long trace comes next.
+    /// Tells which capacity of a long trace comes next.
     pub(crate) fn replay(&mut self, keys: usize, capacity: usize) {
         if self.is_shown && keys >= MILLION {
             let _ = writeln!(self.writer, "clock2q-simulate: capacity {capacity}");

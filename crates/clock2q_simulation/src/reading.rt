@@ -10,10 +10,10 @@ use clock2q_text::Source;
 use std::alloc::{AllocError, Allocator};
 use std::io::Write;
 
-// The number of bytes that are asked for at a time.
+/// The number of bytes that are asked for at a time.
 const BLOCK: usize = 65536;
 
-// The keys so far, and the beginning of one whose line has not ended yet.
+/// The keys so far, and the beginning of one whose line has not ended yet.
 #[derive(Drop)]
 struct Lines<A: Allocator> {
     trace: Trace<A>,
@@ -21,7 +21,7 @@ struct Lines<A: Allocator> {
 }
 
 impl<A: Allocator + Copy> Lines<A> {
-    // Takes the bytes that come next.
+    /// Takes the bytes that come next.
     fn take(&mut self, alloc: A, bytes: &[u8]) -> Result<(), AllocError>
         requires unended { HasNoEnd self.old.line.items }
         ensures taken { OnOk result (Takes self.old.trace.keys self.old.line.items bytes.now self.new.trace.keys self.new.line.items) }
@@ -40,7 +40,7 @@ impl<A: Allocator + Copy> Lines<A> {
         Ok(())
     }
 
-    // Ends the last line, which may lack its end.
+    /// Ends the last line, which may lack its end.
     fn finish(self, alloc: A) -> Result<Trace<A>, AllocError>
         requires unended { HasNoEnd self.line.items }
         ensures keys { IfOk result (λ trace. trace.keys ≡ self.trace.keys ++ lines_of self.line.items) }

@@ -51,7 +51,7 @@ impl ChosenShares {
     }
 }
 
-// Returns the amount that a word writes after a name. A percentage is from 1 to 100.
+/// Returns the amount that a word writes after a name. A percentage is from 1 to 100.
 fn share_named(word: &str, name: &str) -> Option<Amount> {
     let share = Amount::written(word.strip_prefix(name)?)?;
     match share.unit {

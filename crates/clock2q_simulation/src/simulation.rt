@@ -90,7 +90,7 @@ pub fn rows_of<P: Write, A: Allocator + Copy>(
     Ok(rows)
 }
 
-// Returns how many keys a capacity is, for a trace.
+/// Returns how many keys a capacity is, for a trace.
 fn keys_in<A: Allocator + Copy>(
     capacity: Amount,
     trace: &Trace<A>,
@@ -103,7 +103,7 @@ fn keys_in<A: Allocator + Copy>(
     }
 }
 
-// Returns the rows in the form that is asked for.
+/// Returns the rows in the form that is asked for.
 fn text_of<P: Write, A: Allocator + Copy>(
     alloc: A,
     options: &Options<A>,

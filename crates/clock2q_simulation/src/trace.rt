@@ -10,7 +10,7 @@ use std::alloc::{AllocError, Allocator};
 use std::collections::HashMap;
 use std::marker::Model;
 
-// The keys of a trace, as a type for contracts alone: no value of it is ever made.
+/// The keys of a trace, as a type for contracts alone: no value of it is ever made.
 #[derive(Drop)]
 struct Keys;
 
@@ -22,7 +22,7 @@ impl Model for Keys {
     ghost view = { λ _. [] };
 }
 
-// The numbers of the different keys.
+/// The numbers of the different keys.
 type Known<A> = HashMap<Vec<u8, A>, u32, DefaultHashBuilder, A>;
 
 /// Keys in the order in which they come, each told by a number: equal keys by the same one, and
@@ -108,7 +108,7 @@ impl<A: Allocator + Copy> Trace<A> {
     }
 }
 
-// Returns the number of a key. One that has none gets the next.
+/// Returns the number of a key. One that has none gets the next.
 fn number_of<A: Allocator + Copy>(
     alloc: A,
     known: &mut Known<A>,

@@ -7,7 +7,7 @@ use clock2q_simulation::{
 use std::alloc::Global;
 use std::test::Fail;
 
-// Returns the words of a line.
+/// Returns the words of a line.
 pub(crate) fn words_of(alloc: Global, line: &str) -> Result<Vec<String>, Fail> {
     let mut words = Vec::new(alloc);
     for word in line.split_whitespace() {
@@ -16,7 +16,7 @@ pub(crate) fn words_of(alloc: Global, line: &str) -> Result<Vec<String>, Fail> {
     Ok(words)
 }
 
-// Parses the words of a line.
+/// Parses the words of a line.
 pub(crate) fn options_of(alloc: Global, line: &str) -> Result<Options<Global>, Fail> {
     let words = words_of(alloc, line)?;
     match parse_options(alloc, &words) {
@@ -25,7 +25,7 @@ pub(crate) fn options_of(alloc: Global, line: &str) -> Result<Options<Global>, F
     }
 }
 
-// Returns what is said of a line of refused arguments, and the status.
+/// Returns what is said of a line of refused arguments, and the status.
 fn complaint_of(alloc: Global, line: &str) -> Result<(String, u8), Fail> {
     let words = words_of(alloc, line)?;
     let Err(refusal) = parse_options(alloc, &words) else {
@@ -159,7 +159,7 @@ fn accepted(rt: HostRuntime) -> Result<(), Fail> {
     Ok(())
 }
 
-// Returns the numbers of the capacities, which are all of one unit.
+/// Returns the numbers of the capacities, which are all of one unit.
 fn numbers_of(options: &Options<Global>, unit: Unit) -> Result<Vec<usize>, Fail> {
     let capacities = options.capacities.as_slice();
     let mut numbers = Vec::new(*options.capacities.allocator());
@@ -209,7 +209,7 @@ fn ranges(rt: HostRuntime) -> Result<(), Fail> {
     Ok(())
 }
 
-// A percentage is rounded down, to one key at least.
+/// A percentage is rounded down, to one key at least.
 #[test]
 fn amounts(rt: HostRuntime) {
     for (word, keys, wanted) in [

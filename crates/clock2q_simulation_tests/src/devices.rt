@@ -9,7 +9,7 @@ use std::test::Fail;
 
 const TRACE: &[u8] = b"a\nbb\na\n\nbb\n";
 
-// Each form, and what is written of the trace.
+/// Each form, and what is written of the trace.
 const TEXTS: [(&str, &str); 2] = [
     (
         "2 --policies lru",
@@ -21,7 +21,7 @@ const TEXTS: [(&str, &str); 2] = [
     ),
 ];
 
-// A reader or writer that moves a few bytes at a time and fails at its call of a number, from 0.
+/// A reader or writer that moves a few bytes at a time and fails at its call of a number, from 0.
 #[derive(Drop)]
 struct Failing<'a> {
     left: &'a [u8],
@@ -74,7 +74,7 @@ const KINDS: [ErrorKind; 4] = [
     ErrorKind::OutOfMemory,
 ];
 
-// Where the devices fail, and how many bytes they move at a time.
+/// Where the devices fail, and how many bytes they move at a time.
 #[derive(Clone, Copy)]
 struct Plan {
     step: usize,
@@ -83,7 +83,7 @@ struct Plan {
     kind: ErrorKind,
 }
 
-// What came of a simulation: its result, the calls of both devices, and what was written.
+/// What came of a simulation: its result, the calls of both devices, and what was written.
 #[derive(Drop)]
 struct Ended {
     result: Result<(), SimulationError>,
@@ -121,7 +121,7 @@ fn run_with(alloc: Global, line: &str, plan: Plan) -> Result<Ended, Fail> {
     })
 }
 
-// How many calls it takes to move so many bytes.
+/// How many calls it takes to move so many bytes.
 fn calls_for(bytes: usize, step: usize) -> usize {
     bytes.div_ceil(step.max(1))
 }
@@ -149,7 +149,7 @@ fn failing_reads(rt: HostRuntime) -> Result<(), Fail> {
     Ok(())
 }
 
-// The last call of the writer is the flush.
+/// The last call of the writer is the flush.
 #[test]
 fn failing_writes(rt: HostRuntime) -> Result<(), Fail> {
     for (line, text) in TEXTS {

@@ -29,8 +29,8 @@ fn hits_of_each_policy(rt: HostRuntime) -> Result<(), Fail> {
     Ok(())
 }
 
-// In a cache for four keys: with no slots of Small the first hit of `a` lets it stay when the hand
-// comes, with three it stays in Small's history, and is hit no more.
+/// In a cache for four keys: with no slots of Small the first hit of `a` lets it stay when the hand
+/// comes, with three it stays in Small's history, and is hit no more.
 #[test]
 fn hits_of_chosen_shares(rt: HostRuntime) -> Result<(), Fail> {
     let trace = trace_of(rt.alloc(), b"a\nb\nc\nd\na\ne\na\n")?;

@@ -5,7 +5,7 @@ use clock2q_text::Device;
 use std::alloc::Global;
 use std::test::Fail;
 
-// Reads a trace from bytes.
+/// Reads a trace from bytes.
 pub(crate) fn trace_of(alloc: Global, input: &[u8]) -> Result<Trace<Global>, SimulationError> {
     let mut progress = Progress::new(Vec::new(alloc), false);
     read_trace(alloc, &mut Device::new(input), &mut progress)
@@ -44,7 +44,7 @@ fn long_keys_differ_in_their_last_byte(rt: HostRuntime) -> Result<(), Fail> {
     Ok(())
 }
 
-// One more than the numbers of 16 bits, each twice: first ascending, then descending.
+/// One more than the numbers of 16 bits, each twice: first ascending, then descending.
 #[test]
 fn many_keys(rt: HostRuntime) -> Result<(), Fail> {
     let mut input = Vec::new(rt.alloc());

@@ -9,7 +9,7 @@ use std::test::Fail;
 
 const TRACE: &[u8] = b"a\nb\na\nc\nb\nd\na\nb\n";
 
-// Returns how many bytes are written. Where a request is refused, none are.
+/// Returns how many bytes are written. Where a request is refused, none are.
 fn written<A: Allocator + Copy>(
     alloc: A,
     out: Global,
@@ -32,7 +32,7 @@ fn written<A: Allocator + Copy>(
     }
 }
 
-// Each form with all policies, over capacities of each kind.
+/// Each form with all policies, over capacities of each kind.
 #[test]
 fn each_request(rt: HostRuntime) -> Result<(), Fail> {
     let asked = "2 2..3 50%..100% --policies clock2q,sieve,s3fifo,lru,opt,fifo,clock,arc \

@@ -6,7 +6,7 @@ use clock2q_text::Device;
 use std::alloc::Global;
 use std::test::Fail;
 
-// Returns what a simulation writes.
+/// Returns what a simulation writes.
 fn written(alloc: Global, line: &str, input: &[u8]) -> Result<Vec<u8>, Fail> {
     let options = options_of(alloc, line)?;
     let mut output = Device::new(Vec::new(alloc));
@@ -45,7 +45,7 @@ capacity,accesses,clock2q_hits,clock2q_ratio,lru_hits,lru_ratio,fifo_hits,fifo_r
     Ok(())
 }
 
-// Two of three and one of three, which have no last digit.
+/// Two of three and one of three, which have no last digit.
 #[test]
 fn rounded_ratios(rt: HostRuntime) -> Result<(), Fail> {
     let table = "3 accesses, hits in percent
@@ -63,7 +63,7 @@ capacity      LRU
     Ok(())
 }
 
-// More than ten capacities, one of them three times, in the order of the arguments.
+/// More than ten capacities, one of them three times, in the order of the arguments.
 #[test]
 fn many_capacities(rt: HostRuntime) -> Result<(), Fail> {
     let lines = "\

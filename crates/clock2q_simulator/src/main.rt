@@ -29,7 +29,7 @@ fn main(rt: HostRuntime) -> ExitCode {
     ExitCode::from(refusal.status())
 }
 
-// Returns the arguments without the program's name.
+/// Returns the arguments without the program's name.
 fn arguments_of(rt: &HostRuntime) -> Result<Vec<String>, SimulationError> {
     let arguments = env::args(rt).map_err(|error| SimulationError::of_arguments(&error))?;
     Ok(arguments.skip(1).collect(rt.alloc())?)

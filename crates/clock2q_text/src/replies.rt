@@ -6,7 +6,7 @@ ghost use Rattle.clock2q_text.specs.Text.{answer_line, output_of};
 use crate::commands::Reply;
 use std::alloc::{AllocError, Allocator};
 
-// Adds a number in decimal, and the byte that stands after it.
+/// Adds a number in decimal, and the byte that stands after it.
 fn push_number<A: Allocator>(text: &mut Vec<u8, A>, number: u64, end: u8) -> Result<(), AllocError>
     ensures { OnOk result (text.new.items ≡ text.old.items ++ decimal number ++ end ∷ []) }
 {
@@ -22,7 +22,7 @@ fn push_number<A: Allocator>(text: &mut Vec<u8, A>, number: u64, end: u8) -> Res
     text.extend_from_slice(&bytes[start..])
 }
 
-// Adds a reply and its line end.
+/// Adds a reply and its line end.
 fn push_reply<A: Allocator>(text: &mut Vec<u8, A>, reply: Reply<u64>) -> Result<(), AllocError>
     ensures { OnOk result (text.new.items ≡ text.old.items ++ answer_line (answer_of reply)) }
 {

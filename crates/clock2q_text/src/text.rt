@@ -47,7 +47,7 @@ pub fn parse<A: Allocator + Copy>(alloc: A, text: &[u8]) -> Result<Script<A>, Se
     })
 }
 
-// Returns the first line, and the text after its end.
+/// Returns the first line, and the text after its end.
 fn cut_line(text: &[u8]) -> Option<(&[u8], &[u8])>
     ensures lines { lines_of text.now ≡ first_and_others result }
     ensures shorter { IfSome result (λ found. length found.1.now < length text.now) }
@@ -59,7 +59,7 @@ fn cut_line(text: &[u8]) -> Option<(&[u8], &[u8])>
     Some((line, rest.unwrap_or(&[])))
 }
 
-// Returns the capacity in the first line, and the shares if the line has them.
+/// Returns the capacity in the first line, and the shares if the line has them.
 fn shares_of(line: &[u8]) -> Option<(NonZeroUsize, Option<ChosenShares>)>
     ensures { option_map (λ shares. shares_value shares.0 shares.1) result ≡ shares_in (words_of line.now) }
 {
@@ -80,7 +80,7 @@ fn shares_of(line: &[u8]) -> Option<(NonZeroUsize, Option<ChosenShares>)>
     Some((capacity, Some(chosen)))
 }
 
-// Returns the commands of the lines from line 2 on.
+/// Returns the commands of the lines from line 2 on.
 fn commands_of<A: Allocator + Copy>(
     alloc: A,
     text: &[u8],

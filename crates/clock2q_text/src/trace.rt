@@ -5,7 +5,7 @@ ghost use Rattle.clock2q_text.specs.Ports.{Traffic, no_traffic, traffic_after};
 use clock2q_count::Told;
 use std::marker::Model;
 
-// What one call did at a device.
+/// What one call did at a device.
 #[derive(Drop)]
 pub(super) struct Turn<'a> {
     pub(super) bytes: &'a [u8],
@@ -14,14 +14,14 @@ pub(super) struct Turn<'a> {
 }
 
 impl Turn<'_> {
-    // It returned an error.
+    /// It returned an error.
     pub(super) const FAILED: Turn<'static> = Turn {
         bytes: &[],
         stopped: false,
         failed: true,
     };
 
-    // It moved no bytes, and came to a stop.
+    /// It moved no bytes, and came to a stop.
     pub(super) const STOPPED: Turn<'static> = Turn {
         bytes: &[],
         stopped: true,
@@ -29,7 +29,7 @@ impl Turn<'_> {
     };
 }
 
-// What has gone through a device, as a type for contracts alone: no value of it is ever made.
+/// What has gone through a device, as a type for contracts alone: no value of it is ever made.
 #[derive(Drop)]
 pub(super) struct Passing;
 
@@ -39,7 +39,7 @@ impl Model for Passing {
     ghost view = { λ _. no_traffic };
 }
 
-// What all calls did at a device. It takes no memory, and no code can read it.
+/// What all calls did at a device. It takes no memory, and no code can read it.
 #[derive(Drop)]
 pub(super) struct Trace {
     pub(super) traffic: Told<Passing>,

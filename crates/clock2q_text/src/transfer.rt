@@ -7,7 +7,7 @@ use crate::ports::{Sink, Source};
 use crate::serve_error::ServeError;
 use std::alloc::Allocator;
 
-// The number of bytes that are asked for at a time.
+/// The number of bytes that are asked for at a time.
 const BLOCK: usize = 65536;
 
 /// Returns all that a source has left. No failed read is tried again.

@@ -17,7 +17,7 @@ struct Chain {
 }
 
 impl Chain {
-    // Removes the head of the chain and returns it, if there is one.
+    /// Removes the head of the chain and returns it, if there is one.
     fn take<A: Allocator>(&mut self, records: &mut Cells<Record, A>) -> Option<u32>
         requires { 0 < self.old.len → self.old.head < length records.old.items }
         ensures taken { result ≡ slice_get (free_places records.old.items self.old) 0 }
@@ -34,7 +34,7 @@ impl Chain {
         Some(place)
     }
 
-    // Makes a place that stands nowhere the new head of the chain.
+    /// Makes a place that stands nowhere the new head of the chain.
     fn put<A: Allocator>(&mut self, records: &mut Cells<Record, A>, place: u32)
         requires place_in { place < length records.old.items }
         requires absent { has place (free_places records.old.items self.old) ≡ false }

@@ -7,7 +7,7 @@ ghost use Rattle.clock2q_text.specs.Parsing.{Spells};
 use crate::text::words::number;
 use std::alloc::{AllocError, Allocator};
 
-// Returns the bit that a byte stands for.
+/// Returns the bit that a byte stands for.
 fn bit_of(byte: u8) -> Option<bool>
     ensures { result ≡ bit_of byte }
 {

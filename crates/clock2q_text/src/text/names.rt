@@ -27,7 +27,7 @@ pub(super) fn command_of<A: Allocator>(
     }
 }
 
-// Returns the command of a name that stands alone.
+/// Returns the command of a name that stands alone.
 fn named_alone<A: Allocator>(name: &[u8]) -> Option<Command<u64, u64, A>>
     ensures { option_map call_of result ≡ lone_call name.now [] }
 {
@@ -44,7 +44,7 @@ fn named_alone<A: Allocator>(name: &[u8]) -> Option<Command<u64, u64, A>>
     }
 }
 
-// Returns the command of a name with one number or two.
+/// Returns the command of a name with one number or two.
 fn named_with_numbers<A: Allocator>(name: &[u8], words: &[u8]) -> Option<Command<u64, u64, A>>
     ensures { option_map call_of result ≡ numbers_call name.now (words_of words.now) }
 {
@@ -73,7 +73,7 @@ fn named_with_numbers<A: Allocator>(name: &[u8], words: &[u8]) -> Option<Command
     }
 }
 
-// Returns the command of a name with a list.
+/// Returns the command of a name with a list.
 fn named_with_list<A: Allocator>(
     alloc: A,
     name: &[u8],

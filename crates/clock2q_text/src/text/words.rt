@@ -5,7 +5,7 @@ ghost use Rattle.std.specs.Option.{option_map};
 ghost use Rattle.clock2q_text.specs.Text.{words_of, number_of, tried_of, with_one, with_two};
 ghost use Rattle.clock2q_text.specs.Cut.{parts_after, words_after, number_first};
 
-// Returns the place of the first separator.
+/// Returns the place of the first separator.
 fn place(bytes: &[u8], separator: u8) -> Option<usize>
     ensures { result ≡ position (λ b. b == separator) bytes.now }
 {
