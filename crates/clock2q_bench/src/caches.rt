@@ -40,9 +40,16 @@ pub(crate) fn trace(alloc: Global, length: usize, spread: u64) -> Result<Vec<u64
     Ok(keys)
 }
 
-/// Looks each key up, and puts those that aren't resident, each with its place in the trace.
+/// Makes the accesses that are measured.
 #[inline(never)]
 pub(crate) fn access_all(cache: &mut Measured, keys: &[u64]) -> Hits {
+    access(cache, keys)
+}
+
+/// Looks each key up, and puts those that aren't resident, each with its place in the trace. It is the
+/// one caller of `get` and `put` here, so that both are inlined as in a program that calls them once.
+#[inline(never)]
+fn access(cache: &mut Measured, keys: &[u64]) -> Hits {
     let mut hits = Hits { count: 0, sum: 0 };
     for place in 0..keys.len() {
         let key = keys[place];
@@ -94,11 +101,9 @@ pub(crate) fn hint_all(cache: &mut Measured, slots: &[usize], keys: &[u64]) -> u
     sum
 }
 
-/// Puts so many keys into a cache.
-pub(crate) fn put_first(cache: &mut Measured, keys: &[u64], count: usize) {
-    for place in 0..count.min(keys.len()) {
-        cache.put(keys[place], place as u64);
-    }
+/// Brings the first `count` keys of a trace into a cache.
+pub(crate) fn bring_first(cache: &mut Measured, keys: &[u64], count: usize) {
+    access(cache, &keys[..count.min(keys.len())]);
 }
 
 /// Clears a cache.

@@ -103,7 +103,7 @@ fn measure_clearing(
         let made = caches::make(rt.alloc(), size)?;
         making = making.saturating_add(start.elapsed(rt)?);
         drop(made);
-        caches::put_first(cache, keys, size.get());
+        caches::bring_first(cache, keys, size.get());
         let start = Instant::now(rt)?;
         caches::clear(cache);
         clearing = clearing.saturating_add(start.elapsed(rt)?);
