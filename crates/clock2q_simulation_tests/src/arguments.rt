@@ -80,7 +80,6 @@ fn refused_capacities(rt: HostRuntime) -> Result<(), Fail> {
 
 #[test]
 fn refused_options(rt: HostRuntime) -> Result<(), Fail> {
-    let shares = "not shares (small and window, as small=20%,window=50% or small=30,window=10)";
     let cases = [
         ("", "no capacity (--help tells what to write)"),
         ("--csv", "no capacity (--help tells what to write)"),
@@ -121,6 +120,12 @@ fn refused_options(rt: HostRuntime) -> Result<(), Fail> {
         assert_eq!(rt; text.as_str(), wanted.as_str());
         assert_eq!(rt; status, 2);
     }
+    Ok(())
+}
+
+#[test]
+fn refused_shares(rt: HostRuntime) -> Result<(), Fail> {
+    let shares = "not shares (small and window, as small=20%,window=50% or small=30,window=10)";
     for word in [
         "5",
         "small=1",
