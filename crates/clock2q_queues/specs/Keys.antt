@@ -11,20 +11,7 @@ entry hash key value = record { hash = hash; key = key; value = value }
 abbrev pub entry_code : {K V : Type 0} → Coded K → Coded V → Coded (Entry K V)
 entry_code {K} {V} k v = code_by (ℕ × (K × V)) (coded× coded_ℕ (coded× k v)) (λ e. (e.hash, (e.key, e.value))) (λ p. entry p.0 p.1.0 p.1.1) (λ _. refl)
 
--- the entries by place, how many there is room for, and how often a key was written
-pub record StoreState (K V : Type 0) : Type 0 where
-  pub entries : List (Entry K V)
-  pub room : ℕ
-  pub writes : ℕ
-
-abbrev pub store_state : {K V : Type 0} → List (Entry K V) → ℕ → ℕ → StoreState K V
-store_state entries room writes = record { entries = entries; room = room; writes = writes }
-
-abbrev pub store_code : {K V : Type 0} → Coded K → Coded V → Coded (StoreState K V)
-store_code {K} {V} k v =
-    code_by (List (Entry K V) × (ℕ × ℕ)) (coded× (coded_list (entry_code k v)) (coded× coded_ℕ coded_ℕ)) (λ c. (c.entries, (c.room, c.writes))) (λ p. store_state p.0 p.1.0 p.1.1) (λ _. refl)
-
--- the same, and how often a key was asked about
+-- the entries by place, how many there is room for, how often a key was written, and how often one was asked about
 pub record KeyPlaces (K V : Type 0) : Type 0 where
   pub entries : List (Entry K V)
   pub room : ℕ

@@ -2,15 +2,10 @@
 use Rattle.std.specs.Prelude.{ℕ}
 use Rattle.std.specs.Borrow.{Lends, MutBor, Fml, RattleType}
 use Rattle.std.specs.declared.alloc.Allocator as alloc
-use Rattle.clock2q_queues.specs.Keys.{StoreState, KeyPlaces, with_value}
-use Rattle.clock2q_queues.specs.contracts.keys.store.Store.{the_row}
-use Rattle.clock2q_queues.specs.contracts.keys.Keys.{the_row as keys_row}
+use Rattle.clock2q_queues.specs.Keys.{KeyPlaces, with_value}
+use Rattle.clock2q_queues.specs.contracts.keys.store.Keys.{the_row}
 
 module _ (K V A : RattleType) (heap : alloc.Ghosts A.Denot) where
   -- the value at that place is what the caller leaves there, and nothing else changes
-  abbrev pub LendsValue : MutBor (StoreState K.Denot V.Denot) → ℕ → MutBor V.Denot → Fml
-  LendsValue c place r = Lends (the_row K V A heap) V c r (λ w. record c.now { entries = with_value place w c.now.entries })
-
-  -- the same of all the keys
   abbrev pub LendsValueAt : MutBor (KeyPlaces K.Denot V.Denot) → ℕ → MutBor V.Denot → Fml
-  LendsValueAt k place r = Lends (keys_row K V A heap) V k r (λ w. record k.now { entries = with_value place w k.now.entries })
+  LendsValueAt k place r = Lends (the_row K V A heap) V k r (λ w. record k.now { entries = with_value place w k.now.entries })

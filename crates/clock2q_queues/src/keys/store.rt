@@ -1,9 +1,9 @@
-//! The entries themselves, and every count of what is done to them.
-ghost use Rattle.std.specs.Prelude.{◌≡◌, ℕ, ◌+◌, ◌<◌, ◌≤◌, [], ◌∷◌, ◌++◌, length, Some, IfOk};
+//! The keys themselves, and every count of what is done to them.
+ghost use Rattle.std.specs.Prelude.{◌≡◌, ℕ, ◌+◌, ◌<◌, [], ◌∷◌, ◌++◌, length, Some, IfOk};
 ghost use Rattle.std.specs.Borrow.{sem};
 
 use clock2q_count::Count;
-use std::alloc::{AllocError, Allocator};
+use std::alloc::{AllocError, Allocator, Global};
 use std::marker::Model;
 use std::mem;
 
@@ -15,39 +15,61 @@ pub struct Entry<K, V> {
     pub value: V,
 }
 
-/// Entries by place.
+/// A key at each place, with its hash and a value. Places are numbered from 0, in the order in
+/// which they are first used.
+///
+/// One function compares keys, and counts each question. Two functions write keys, and count each
+/// write.
+///
+/// # Example
+///
+/// ```
+/// let mut keys: Keys<u64, u64> = Keys::new(rt.alloc(), 2)?;
+/// keys.push(7, 70, 700);
+/// assert!(rt; keys.is(0, &70));
+/// assert_eq!(rt; keys.replace(0, 9, 90), (7, 70));
+/// assert_eq!(rt; *keys.key(0), 90);
+/// assert_eq!(rt; *keys.value(0), 700);
+/// ```
 #[derive(Drop)]
-pub struct Store<K, V, A: Allocator> {
+pub struct Keys<K, V, A: Allocator = Global> {
     entries: Vec<Entry<K, V>, A>,
     writes: Count,
+    questions: Count,
 }
 
-impl<K, V, A: Allocator> Model for Store<K, V, A> {
+impl<K, V, A: Allocator> Model for Keys<K, V, A> {
     ghost use Rattle.std.specs.Prelude.{vec_capacity};
-    ghost use Rattle.clock2q_queues.specs.Keys.{StoreState, store_code, store_state};
+    ghost use Rattle.clock2q_queues.specs.Keys.{KeyPlaces, keys_code, key_places};
 
-    ghost Value = { StoreState K V };
+    ghost Value = { KeyPlaces K V };
 
-    ghost coded = { store_code K.code V.code };
+    ghost coded = { keys_code K.code V.code };
 
-    ghost view = { λ c. store_state c.entries.items (vec_capacity c.entries) c.writes.total };
+    ghost view = { λ k. key_places k.entries.items (vec_capacity k.entries) k.writes.total k.questions.total };
 }
 
-impl<K, V, A: Allocator> Store<K, V, A> {
-    ghost use Rattle.clock2q_queues.specs.Keys.{store_state, hash_at, key_at, value_at, entry, with_key, with_value};
-    ghost use Rattle.clock2q_queues.specs.KeysLends.{LendsValue};
+impl<K, V, A: Allocator> Keys<K, V, A> {
+    ghost use Rattle.clock2q_queues.specs.Keys.{key_places, entry, hash_at, key_at, value_at, with_key, with_value, written};
+    ghost use Rattle.clock2q_queues.specs.KeysLends.{LendsValueAt};
 
-    /// Returns room for `room` entries, and no entry yet.
+    /// Returns room for `room` keys, and no key yet. It takes all the memory that the places will
+    /// ever need.
+    ///
+    /// # Errors
+    ///
+    /// `AllocError` if the request for memory is refused.
     pub fn new(alloc: A, room: usize) -> Result<Self, AllocError>
-        ensures made { IfOk result (λ c. c ≡ store_state [] room 0) }
+        ensures made { IfOk result (λ k. k ≡ key_places [] room 0 0) }
     {
-        Ok(Store {
+        Ok(Keys {
             entries: Vec::with_capacity(alloc, room)?,
             writes: Count::new(),
+            questions: Count::new(),
         })
     }
 
-    /// Returns how many places have an entry.
+    /// Returns how many places have a key.
     pub fn len(&self) -> usize
         ensures len { result ≡ length self.now.entries }
     {
@@ -62,7 +84,7 @@ impl<K, V, A: Allocator> Store<K, V, A> {
         self.entries[place as usize].hash
     }
 
-    /// Returns the key at a place.
+    /// Returns the key at a place. What the caller then does with it is not counted.
     pub fn key(&self, place: u32) -> &K
         requires used { place < length self.now.entries }
         ensures key { key_at self.now.entries place ≡ Some result.now }
@@ -81,7 +103,7 @@ impl<K, V, A: Allocator> Store<K, V, A> {
     /// Returns the value at a place, to read or to change.
     pub fn value_mut(&mut self, place: u32) -> &mut V
         requires used { place < length self.old.entries }
-        ensures* writes_back { sem 𝓛 (LendsValue K.row V.row A.row A.Allocator self.entry place result) }
+        ensures* writes_back { sem 𝓛 (LendsValueAt K.row V.row A.row A.Allocator self.entry place result) }
         ensures value { value_at self.old.entries place ≡ Some result.now }
     {
         &mut self.entries[place as usize].value
@@ -96,10 +118,10 @@ impl<K, V, A: Allocator> Store<K, V, A> {
         mem::replace(&mut self.entries[place as usize].value, value)
     }
 
-    /// Adds an entry at the next place.
+    /// Writes a key to the next place.
     pub fn push(&mut self, hash: u64, key: K, value: V)
         requires room { length self.old.entries < self.old.room }
-        ensures pushed { self.new ≡ store_state (self.old.entries ++ entry hash key value ∷ []) self.old.room (self.old.writes + 1) }
+        ensures pushed { self.new ≡ record self.old { entries = self.old.entries ++ entry hash key value ∷ []; writes = self.old.writes + 1 } }
     {
         self.writes.tick();
         self.entries.push_reserved(Entry { hash, key, value });
@@ -110,7 +132,7 @@ impl<K, V, A: Allocator> Store<K, V, A> {
         requires used { place < length self.old.entries }
         ensures hash { hash_at self.old.entries place ≡ Some result.0 }
         ensures key { key_at self.old.entries place ≡ Some result.1 }
-        ensures replaced { self.new ≡ store_state (with_key place hash key self.old.entries) self.old.room (self.old.writes + 1) }
+        ensures replaced { self.new ≡ record self.old { entries = with_key place hash key self.old.entries; writes = self.old.writes + 1 } }
     {
         self.writes.tick();
         let entry = &mut self.entries[place as usize];
@@ -119,27 +141,43 @@ impl<K, V, A: Allocator> Store<K, V, A> {
         (old_hash, old_key)
     }
 
-    /// Removes every entry.
+    /// Drops every key and value. No place has a key then.
     pub fn clear(&mut self)
     where
         K: Drop,
         V: Drop,
-        ensures cleared { self.new ≡ store_state [] self.old.room self.old.writes }
+        ensures cleared { self.new ≡ record self.old { entries = [] } }
     {
         self.entries.clear();
     }
 }
 
-impl<K: Eq, V, A: Allocator> Store<K, V, A> {
+impl<K: Eq, V, A: Allocator> Keys<K, V, A> {
     ghost use Rattle.clock2q_queues.specs.Keys.{is_key_at};
 
-    /// Returns true if `key` equals the key at a place, and counts the question.
-    pub fn is(&self, place: u32, key: &K, asked: &mut Count) -> bool
+    /// Returns true if `key` equals the key at a place, and counts the question in `asked`.
+    pub fn is_untold(&self, place: u32, key: &K, asked: &mut Count) -> bool
         requires used { place < length self.now.entries }
         ensures value { result ≡ is_key_at K.eq key.now self.now.entries place }
         ensures counted { asked.new.total ≡ asked.old.total + 1 }
     {
         asked.tick();
         *key == self.entries[place as usize].key
+    }
+
+    /// Adds questions that were counted elsewhere.
+    pub fn add_questions(&mut self, asked: &Count)
+        ensures added { self.new ≡ record self.old { questions = self.old.questions + asked.now.total } }
+    {
+        self.questions.raise(asked);
+    }
+
+    /// Raises the count of questions by as many as the proof of the call picks. A caller that has
+    /// to say the count exactly brings it to its bound with this.
+    pub fn charge(&mut self)
+        ghost more: { ℕ }
+        ensures charged { self.new ≡ record self.old { questions = self.old.questions + more } }
+    {
+        self.questions.raise(&());
     }
 }

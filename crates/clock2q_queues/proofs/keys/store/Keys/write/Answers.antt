@@ -1,7 +1,7 @@
 use Rattle.std.proofs.Common.{ap, sym, ◌∙◌, ◌+◌, arith}
 use Rattle.clock2q_queues.specs.Keys.{KeyPlaces, entry, key_places, with_value}
 use Rattle.clock2q_queues.proofs.Entries.{written-replaced, written-push}
-use Rattle.clock2q_queues.proofs.keys.Keys.write.Goals as goal
+use Rattle.clock2q_queues.proofs.keys.store.Keys.write.Goals as goal
 
 pub returns-then-place-len : goal.returns-then-place-len
 returns-then-place-len g c = record {

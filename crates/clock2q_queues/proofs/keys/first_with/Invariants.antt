@@ -1,7 +1,0 @@
-use Rattle.std.proofs.Common.{length}
-use Rattle.clock2q_queues.specs.Keys.{is_key_at}
-use Rattle.clock2q_queues.proofs.Lookups.{Asked}
-use Rattle.clock2q_queues.proofs.keys.first_with.Given as goal
-
-abbrev pub invariant-loop-place : goal.invariant-loop-place
-invariant-loop-place g l = Asked (is_key_at g.K.PartialEq.eq l.fn.key l.fn.store.entries) l.fn.asked.total (length l.fn.store.entries) l.fn.places.left l.asked.total l.places.left
