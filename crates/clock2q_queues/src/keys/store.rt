@@ -50,7 +50,7 @@ impl<K, V, A: Allocator> Model for Keys<K, V, A> {
 }
 
 impl<K, V, A: Allocator> Keys<K, V, A> {
-    ghost use Rattle.clock2q_queues.specs.Keys.{key_places, entry, hash_at, key_at, value_at, with_key, with_value, written};
+    ghost use Rattle.clock2q_queues.specs.Keys.{key_places, entry, hash_at, key_at, value_at, with_key, with_value};
     ghost use Rattle.clock2q_queues.specs.KeysLends.{LendsValueAt};
 
     /// Returns room for `room` keys, and no key yet. It takes all the memory that the places will
