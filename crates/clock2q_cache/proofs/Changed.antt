@@ -139,7 +139,7 @@ module _ {K V : Type 0} {eq : K → K → Bool} {hash : K → ℕ} {shares : Sha
     whole = subst (λ z. IsWhole eq (machine_of shares q z h.entries free)) (sym entries) kept.whole;
     stored = subst (λ z. IsStored hash index z (places_of q)) (sym entries) kept.stored;
     hashed = kept.hashed;
-    sized = sized-same shares q q h.limit h.limit (length index) (length index) keys.room keys'.room room room kept.sized refl refl refl refl keys_room refl;
+    sized = sized-same kept.sized refl refl refl refl keys_room refl;
   }
 
   -- the key's history is erased
@@ -154,7 +154,7 @@ module _ {K V : Type 0} {eq : K → K → Bool} {hash : K → ℕ} {shares : Sha
       whole = subst (IsWhole eq) (sym forgotten-machine) (whole-forgotten eq m kept.whole (eq key));
       stored = kept.stored;
       hashed = subst (λ z. AllByRecursion (λ e. e.0 ≡ hash e.1) z) (sym entries) (all-filtered (eq key) (λ e. e.0 ≡ hash e.1) h.entries kept.hashed);
-      sized = sized-same shares q q h.limit h'.limit (length index) (length index) keys.room keys.room room room kept.sized refl refl limit refl refl refl;
+      sized = sized-same kept.sized refl refl limit refl refl refl;
     }
 
   pub discard-hash : (key : K) (hsh : ℕ) → ((x y : K) → eq x y ≡ true → hash x ≡ hash y) → hsh ≡ hash key → HasHash eq hsh key h.entries
@@ -191,7 +191,7 @@ module _ {K V : Type 0} {eq : K → K → Bool} {hash : K → ℕ} {shares : Sha
             keys.entries kept.stored.hashed (all-at (λ e. e.hash ≡ hash e.key) keys.entries slot r.entry kept.stored.hashed r.at));
       });
       hashed = kept.hashed;
-      sized = sized-same shares q q h.limit h.limit (length index) (length index) keys.room keys'.room room room kept.sized refl refl refl refl keys_room refl;
+      sized = sized-same kept.sized refl refl refl refl keys_room refl;
     }
 
   -- whether Small's tail goes on

@@ -39,5 +39,5 @@ module _ {K V : Type 0} {eq : K → K → Bool} {hash : K → ℕ} {shares : Sha
           hashed = tt;
         }));
         hashed = subst (λ z. AllByRecursion (λ e. e.0 ≡ hash e.1) z) (sym history) tt;
-        sized = sized-same shares q q' h.limit h'.limit (length index) (length index') keys.room keys'.room room room' kept.sized slots window limit (length-cleared index index' emptied) keys_room free_room;
+        sized = sized-same kept.sized slots window limit (length-cleared index index' emptied) keys_room free_room;
       }

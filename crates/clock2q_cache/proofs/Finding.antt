@@ -299,7 +299,7 @@ module _ {K V : Type 0} {eq : K → K → Bool} {hash : K → ℕ} {shares : Sha
         whole = subst (IsWhole eq) (sym (hit-machine q' small main)) (whole-hit eq m kept.whole (eq key));
         stored = subst (λ z. IsStored hash index keys.entries z) (sym places) kept.stored;
         hashed = kept.hashed;
-        sized = sized-same shares q q' h.limit h.limit (length index) (length index) keys.room keys.room room room kept.sized slots window refl refl refl refl;
+        sized = sized-same kept.sized slots window refl refl refl refl;
       }
         where
           places : places_of q' ≡ places_of q

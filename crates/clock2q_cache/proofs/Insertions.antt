@@ -7,12 +7,13 @@ use Rattle.clock2q_queues.specs.Cells.{Rises}
 use Rattle.clock2q_queues.specs.Keys.{KeyPlaces, key_at}
 use Rattle.clock2q_queues.specs.MainRing.{inspections}
 use Rattle.clock2q_queues.specs.Queues.{QueueState}
-use Rattle.clock2q_queues.specs.History.{Remembered}
+use Rattle.clock2q_queues.specs.declared.keys.store.Entry.{Entry}
+use Rattle.clock2q_queues.specs.History.{Remembered, Places}
 use Rattle.std.specs.declared.hash.Hasher as hasher
 use Rattle.std.specs.declared.hash.BuildHasher as builder
 use Rattle.std.specs.HashMap.Lent.{HashMembers}
 use Rattle.clock2q_handles.specs.Homes.{candidates}
-use Rattle.clock2q_machine.specs.Ages.{is_promoted}
+use Rattle.clock2q_machine.specs.Ages.{Age, is_promoted}
 use Rattle.clock2q_machine.proofs.Whole.{last_some}
 use Rattle.clock2q_machine.specs.Shares.{Shares, main_share}
 use Rattle.clock2q_machine.specs.Entries as machine
@@ -28,55 +29,49 @@ use Rattle.clock2q_cache.proofs.WithKeys.{main-inspections}
 use Rattle.clock2q_cache.proofs.CacheInvariant.{main_have}
 use Rattle.clock2q_machine.proofs.Whole.{none_is}
 
-module _ {K V : Type 0} (q : QueueState) (h : Remembered K) (keys : KeyPlaces K V) where
+module _ {K V : Type 0} (q : QueueState) (h : Remembered K) (keys : KeyPlaces K V) {q' : QueueState} {keys' : KeyPlaces K V} {es : List (Entry K V)} {n : ℕ} where
   -- a key that joins a queue
-  pub joined-spends : (q' : QueueState) (keys' : KeyPlaces K V) (least most : ℕ) → q'.inspections ≡ q.inspections
-      → Rises least most q.accesses q'.accesses → most ≤ 28 → keys'.questions ≡ keys.questions
+  pub joined-spends : {small : List (ℕ × Age)} {main : List (ℕ × Bool)} (least most : ℕ) → q' ≡ record q { small = small; main = main; accesses = q'.accesses }
+      → Rises least most q.accesses q'.accesses → most ≤ 28 → keys' ≡ record keys { entries = es; writes = n }
       → Spends 0 28 0 (counts_of q h keys) (counts_of q' h keys')
-  joined-spends q' keys' least most looks links few asked = record {
-    inspections = omega (arith, looks);
-    accesses = (omega (arith, links.0), omega (arith, links.1, few));
-    questions = (omega (arith, asked), omega (arith, asked));
-  }
+  joined-spends least most queues links few renewed =
+      let asked = ap (λ (z : KeyPlaces K V). z.questions) renewed in
+      record {
+        inspections = omega (arith, ap (λ (z : QueueState). z.inspections) queues);
+        accesses = (omega (arith, links.0), omega (arith, links.1, few));
+        questions = (omega (arith, asked), omega (arith, asked));
+      }
 
   -- one that takes the slot of Small's tail, which goes out
-  pub evicted-spends : (q1 q2 : QueueState) (h' : Remembered K) (keys' : KeyPlaces K V) → q1.inspections ≡ q.inspections
-      → Rises 0 7 q.accesses q1.accesses → q2.inspections ≡ q1.inspections → Rises 3 10 q1.accesses q2.accesses
-      → Rises 0 8 h.accesses h'.accesses → h'.questions ≡ h.questions → keys'.questions ≡ keys.questions → Spends 0 28 0 (counts_of q h keys) (counts_of q2 h' keys')
-  evicted-spends q1 q2 h' keys' looks links looks2 links2 pushed asked asked2 = record {
-    inspections = omega (arith, looks, looks2);
-    accesses = (omega (arith, links.0, links2.0, pushed.0), omega (arith, links.1, links2.1, pushed.1));
-    questions = (omega (arith, asked, asked2), omega (arith, asked, asked2));
-  }
+  pub evicted-spends : {small : List (ℕ × Age)} {main : List (ℕ × Bool)} {kept : List (ℕ × K)} {places : Places} {h' : Remembered K} (q1 : QueueState) → Rises 0 7 q.accesses q1.accesses
+      → q' ≡ record q { small = small; main = main; accesses = q'.accesses } → Rises 3 10 q1.accesses q'.accesses
+      → h' ≡ record h { entries = kept; places = places; accesses = h'.accesses } → Rises 0 8 h.accesses h'.accesses
+      → keys' ≡ record keys { entries = es; writes = n } → Spends 0 28 0 (counts_of q h keys) (counts_of q' h' keys')
+  evicted-spends q1 taken queues admitted pushed remembered renewed =
+      let asked = ap (λ (z : KeyPlaces K V). z.questions) renewed in
+      let told = ap (λ (z : Remembered K). z.questions) pushed in
+      record {
+        inspections = omega (arith, ap (λ (z : QueueState). z.inspections) queues);
+        accesses = (omega (arith, taken.0, admitted.0, remembered.0), omega (arith, taken.1, admitted.1, remembered.1));
+        questions = (omega (arith, asked, told), omega (arith, asked, told));
+      }
 
 module _ {K V : Type 0} {eq : K → K → Bool} {hash : K → ℕ} {shares : Shares} {q : QueueState} {h : Remembered K} {index : List (List (ℕ × ℕ))} {keys : KeyPlaces K V} {free : List ℕ} {room : ℕ}
     (laws : IsEquivalence eq) (kept : IsKept eq hash shares q h index keys free room) where
-  abbrev m : Machine K V
-  m = machine_of shares q keys.entries h.entries free
-
-  looked : machine.inspections m.main ≡ inspections q.main
-  looked = main-inspections (key_at keys.entries) q.main (main_have laws kept)
-
-  -- one that takes the slot of Main's victim
-  pub replaced-spends : (q1 q2 : QueueState) (keys' : KeyPlaces K V) → q1.inspections ≡ q.inspections + inspections q.main
-      → q1.accesses ≡ q.accesses + inspections q.main + 5 → q2.inspections ≡ q1.inspections → Rises 1 6 q1.accesses q2.accesses
-      → keys'.questions ≡ keys.questions → Spends (machine.inspections m.main) (machine.inspections m.main + 28) 0 (counts_of q h keys) (counts_of q2 h keys')
-  replaced-spends q1 q2 keys' looks links looks2 links2 asked = record {
-    inspections = omega (arith, looked, looks, looks2);
-    accesses = (omega (arith, looked, links, links2.0), omega (arith, looked, links, links2.1));
-    questions = (omega (arith, asked), omega (arith, asked));
-  }
-
-  -- one that takes the slot of Main's victim while Small's tail goes on
-  pub promoted-spends : (q1 q2 q3 q4 : QueueState) (keys' : KeyPlaces K V) → q1.inspections ≡ q.inspections + inspections q.main → q1.accesses ≡ q.accesses + inspections q.main + 5
-      → q2.inspections ≡ q1.inspections → Rises 0 7 q1.accesses q2.accesses → q3.inspections ≡ q2.inspections
-      → Rises 1 6 q2.accesses q3.accesses → q4.inspections ≡ q3.inspections → Rises 3 10 q3.accesses q4.accesses
-      → keys'.questions ≡ keys.questions → Spends (machine.inspections m.main) (machine.inspections m.main + 28) 0 (counts_of q h keys) (counts_of q4 h keys')
-  promoted-spends q1 q2 q3 q4 keys' looks links looks2 links2 looks3 links3 looks4 links4 asked = record {
-    inspections = omega (arith, looked, looks, looks2, looks3, looks4);
-    accesses = (omega (arith, looked, links, links2.0, links3.0, links4.0), omega (arith, looked, links, links2.1, links3.1, links4.1));
-    questions = (omega (arith, asked), omega (arith, asked));
-  }
+  -- one that takes the slot of Main's victim, and whatever else changes the queues spends so much
+  pub victim-spends : {q' : QueueState} {keys' : KeyPlaces K V} {small : List (ℕ × Age)} {main : List (ℕ × Bool)} {es : List (Entry K V)} {n looks : ℕ} (q1 : QueueState)
+      → looks ≡ q.inspections + inspections q.main → q1.accesses ≡ q.accesses + inspections q.main + 5
+      → q' ≡ record q { small = small; main = main; accesses = q'.accesses; inspections = looks } → Rises 0 23 q1.accesses q'.accesses
+      → keys' ≡ record keys { entries = es; writes = n }
+      → let m = machine_of shares q keys.entries h.entries free in Spends (machine.inspections m.main) (machine.inspections m.main + 28) 0 (counts_of q h keys) (counts_of q' h keys')
+  victim-spends q1 looks taken queues links renewed =
+      let looked = main-inspections (key_at keys.entries) q.main (main_have laws kept) in
+      let asked = ap (λ (z : KeyPlaces K V). z.questions) renewed in
+      record {
+        inspections = omega (arith, looked, looks, ap (λ (z : QueueState). z.inspections) queues);
+        accesses = (omega (arith, looked, taken, links.0), omega (arith, looked, taken, links.1));
+        questions = (omega (arith, asked), omega (arith, asked));
+      }
 
 no_last : {X : Type 0} (xs : List X) → 0 < length xs → last_or None xs ≡ None → ⊥
 no_last [] some none = omega (arith, some)

@@ -20,7 +20,7 @@ use Rattle.std.specs.Option.{option_map}
 use Rattle.clock2q_machine.specs.Ages.{is_promoted}
 use Rattle.clock2q_queues.specs.Queues.{slots_of}
 use Rattle.clock2q_machine.specs.Entries.{SmallEntry}
-use Rattle.clock2q_cache.specs.Places.{remembering, remembering_any, left_by, entered, discarded, key_out, out_of, hash_in, residents_with, remembered_with}
+use Rattle.clock2q_cache.specs.Places.{remembering_any, left_by, entered, discarded, key_out, out_of, hash_in, residents_with, remembered_with}
 use Rattle.clock2q_cache.specs.CacheState.{CacheState}
 use Rattle.clock2q_cache.proofs.WithKeys.{HaveKeys, have_later}
 use Rattle.clock2q_cache.proofs.Stored.{have_keys, hash-of-key}
@@ -90,31 +90,31 @@ module _ {K V : Type 0} {eq : K → K → Bool} {hash : K → ℕ} {shares : Sha
       ∙ none-paired (key_at keys.entries) slot (places_of q) have absent
 
   -- a key enters at a slot that has no resident
-  pub entered-vacant : (key : K) (slot : ℕ) → has slot (places_of q) ≡ false → entered hash key slot m index ≡ with_handle index (hash key) slot
-  entered-vacant key slot absent = ap (λ z. with_handle (left_by hash z slot index) (hash key) slot) (resident-none slot absent)
+  pub entered-vacant : (key : K) (slot : ℕ) {hsh : ℕ} {index' : List (List (ℕ × ℕ))} → has slot (places_of q) ≡ false → hsh ≡ hash key
+      → index' ≡ with_handle index hsh slot → index' ≡ entered hash key slot m index
+  entered-vacant key slot absent is indexed =
+      indexed ∙ ap (λ x. with_handle index x slot) is ∙ sym (ap (λ z. with_handle (left_by hash z slot index) (hash key) slot) (resident-none slot absent))
 
   -- a key takes the slot of a resident
-  pub entered-renewed : (key : K) (slot old : ℕ) → has slot (places_of q) ≡ true → hash_at keys.entries slot ≡ Some old
-      → entered hash key slot m index ≡ with_handle (removed eqb index old slot) (hash key) slot
-  entered-renewed key slot old there at =
+  pub entered-renewed : (key : K) (slot : ℕ) {hsh old : ℕ} {index' : List (List (ℕ × ℕ))} → has slot (places_of q) ≡ true → hash_at keys.entries slot ≡ Some old → hsh ≡ hash key
+      → index' ≡ with_handle (removed eqb index old slot) hsh slot → index' ≡ entered hash key slot m index
+  entered-renewed key slot {old = old} there at is indexed =
       let k = have slot there in
-      let is : old ≡ hash k.0 = hash-of-key hash keys.entries slot old k.0 kept.stored.hashed at k.1 in
-      ap (λ z. with_handle (left_by hash z slot index) (hash key) slot) (resident-there slot k.0 there k.1)
-      ∙ ap (λ z. with_handle (removed eqb index z slot) (hash key) slot) (sym is)
+      indexed ∙ ap (λ x. with_handle (removed eqb index old slot) x slot) is
+      ∙ ap (λ x. with_handle (removed eqb index x slot) (hash key) slot) (hash-of-key hash keys.entries slot old k.0 kept.stored.hashed at k.1)
+      ∙ sym (ap (λ z. with_handle (left_by hash z slot index) (hash key) slot) (resident-there slot k.0 there k.1))
 
-  -- a key goes out into the history
-  pub remembering-kept : (key : K) (hsh : ℕ) (p : Places) → hsh ≡ hash key → pushed_places h.limit hsh (oldest_hash (λ (e : ℕ × K). e.0) h.entries) p ≡ remembering hash key m p
-  remembering-kept key hsh p is =
-      ap (λ z. pushed_places z hsh (oldest_hash (λ (e : ℕ × K). e.0) h.entries) p) kept.sized.remembers
-      ∙ ap (λ z. pushed_places (history_share shares) z (oldest_hash (λ (e : ℕ × K). e.0) h.entries) p) is
+  -- the key of Small's tail goes out into the history
+  pub tail-remembered : (tail : ℕ) (p : Places) {key : K} {hsh : ℕ} {p' : Places} → last_or None (slots_of q.small) ≡ Some tail → key_at keys.entries tail ≡ Some key → hash_at keys.entries tail ≡ Some hsh
+      → p' ≡ pushed_places h.limit hsh (oldest_hash (λ (e : ℕ × K). e.0) h.entries) p
+      → p' ≡ remembering_any hash (option_map (λ (e : SmallEntry K). e.key) (last_or None m.small)) m p
+  tail-remembered tail p {key} {hsh} last key_is hash_is pushed =
+      let out : option_map (λ (e : SmallEntry K). e.key) (last_or None m.small) ≡ Some key =
+      ap (λ o. option_map (λ (e : SmallEntry K). e.key) o) (last_entry laws kept tail last) ∙ sym (tail_key laws kept tail last).1 ∙ key_is in
+      pushed ∙ ap (λ z. pushed_places z hsh (oldest_hash (λ (e : ℕ × K). e.0) h.entries) p) kept.sized.remembers
+      ∙ ap (λ z. pushed_places (history_share shares) z (oldest_hash (λ (e : ℕ × K). e.0) h.entries) p) (hash-of-key hash keys.entries tail hsh key kept.stored.hashed hash_is key_is)
       ∙ ap (λ z. pushed_places (history_share shares) (hash key) z p) (oldest-hashed hash None None h.entries refl kept.hashed)
-
-  -- the key of Small's tail
-  pub out-of-tail : (tail : ℕ) (key : K) → last_or None (slots_of q.small) ≡ Some tail
-      → key_at keys.entries tail ≡ Some key → option_map (λ (e : SmallEntry K). e.key) (last_or None m.small) ≡ Some key
-  out-of-tail tail key last at =
-      ap (λ o. option_map (λ (e : SmallEntry K). e.key) o) (last_entry laws kept tail last)
-      ∙ sym (tail_key laws kept tail last).1 ∙ at
+      ∙ ap (λ o. remembering_any hash o m p) (sym out)
 
 -- What stands in the indexes once a key has its slot.
 module _ {K V S H : Type 0} (key : HashMembers K) (build : builder.Ghosts S H) (hash : hasher.Ghosts H) (k : K) (c : CacheState K V S) where

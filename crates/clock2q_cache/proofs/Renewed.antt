@@ -1,15 +1,14 @@
 -- A key that takes the slot of another: Main's victim's, or that of Small's tail.
-use Rattle.std.proofs.Common.{◌≡◌, ℕ, zero, suc, ◌+◌, ◌-◌, ◌^◌, ◌<◌, ◌≤◌, ◌==◌, Bool, true, false, ◌||◌, cond, eqb, Option, Some, None, List, [], ◌∷◌, ◌++◌, map, length, take, drop, inl, inr, refl, sym, ap, ◌∙◌, subst, arith, eq-eqb, length-append}
+use Rattle.std.proofs.Common.{◌≡◌, ℕ, zero, suc, ◌+◌, ◌-◌, ◌^◌, ◌<◌, ◌≤◌, ◌==◌, Bool, true, false, cond, eqb, Option, Some, None, List, [], ◌∷◌, ◌++◌, map, length, take, drop, inl, inr, refl, sym, ap, ◌∙◌, subst, arith, eq-eqb, length-append}
 use Rattle.std.specs.Prelude.{if◌then◌else◌, slice_get, IfSome}
 use Rattle.std.specs.Cmp.{IsEquivalence}
 use Rattle.std.specs.List.{count_by, list_any, last_or, AllByRecursion}
 use Rattle.std.proofs.lemmas.Bool.{cases_Bool}
-use Rattle.std.proofs.lemmas.List.Sums.{sum_by-cons, sum_by-append}
+use Rattle.std.proofs.lemmas.List.Sums.{sum_by-cons}
 use Rattle.clock2q_handles.specs.Homes.{capacity, with_handle, removed}
 use Rattle.clock2q_machine.specs.Ages.{Age, is_promoted}
-use Rattle.clock2q_queues.specs.declared.keys.store.Entry.{Entry}
 use Rattle.clock2q_queues.specs.Rings.{has, AllApart}
-use Rattle.clock2q_queues.specs.Keys.{KeyPlaces, entry, written, hash_at, key_at}
+use Rattle.clock2q_queues.specs.Keys.{KeyPlaces, entry, hash_at, key_at}
 use Rattle.clock2q_queues.specs.Indexes.{IsIndex}
 use Rattle.clock2q_queues.specs.Small.{admitted}
 use Rattle.clock2q_queues.specs.MainRing.{set_front, from_victim}
@@ -17,7 +16,6 @@ use Rattle.clock2q_queues.specs.Queues.{QueueState, slots_of}
 use Rattle.clock2q_queues.specs.History.{Remembered, is_remembered}
 use Rattle.clock2q_queues.proofs.Rings.{has-append, eqb_self, has_first, below_of}
 use Rattle.clock2q_queues.proofs.Indexes.{length-put, length-taken}
-use Rattle.clock2q_queues.proofs.Booleans.{or_true, or_parts, or_neither}
 use Rattle.clock2q_machine.specs.Shares.{Shares, main_share, history_share}
 use Rattle.clock2q_machine.specs.Entries as machine
 use Rattle.clock2q_machine.specs.Entries.{SmallEntry, MainEntry}
@@ -25,10 +23,11 @@ use Rattle.clock2q_machine.specs.Machine.{Machine, Placement, vacancy, into_main
 use Rattle.clock2q_machine.specs.Whole.{known_count}
 use Rattle.clock2q_cache.specs.CacheFields.{machine_of, places_of, with_keys_small, with_keys_main, IsStored, IsKept}
 use Rattle.clock2q_cache.proofs.WithKeys.{main-cons, small-admitted, main-behind, small-agree, main-agree, small-take, small-last, main-from_victim}
-use Rattle.clock2q_cache.proofs.Stored.{stored-renewed, stored-same, key_at-own, key_at-others, values-written, length-values}
-use Rattle.clock2q_cache.proofs.Slots.{times, times-cons, times-none, at_most_once, length-places, has-appended, has-from_victim, length-swept}
-use Rattle.clock2q_cache.proofs.CacheInvariant.{length_in_small, length_in_main, small_have, main_have, apart, index_some, IsDone, kept-placed, sized-same}
-use Rattle.clock2q_machine.proofs.Whole.{IsPlaced, placed-replacing, placed-evicting, placed-promoting}
+use Rattle.clock2q_cache.proofs.Stored.{stored-renewed, key_at-own, key_at-others, values-written, length-values, hash-of-key}
+use Rattle.clock2q_cache.proofs.Slots.{times, times-cons, times-none, has-times, times-both, times-pushed, times-admitted, length-admitted, stored-moved, at_most_once, length-places, length-swept}
+use Rattle.clock2q_cache.proofs.CacheInvariant.{length_in_small, length_in_main, small_have, main_have, apart, index_some, IsDone, placed-done, sized-same}
+use Rattle.clock2q_cache.specs.Insertions.{Writes}
+use Rattle.clock2q_machine.proofs.Whole.{IsPlaced, some_is, placed-replacing, placed-evicting, placed-promoting}
 use Rattle.clock2q_machine.proofs.Weights.{weight-last}
 
 -- Lists
@@ -77,10 +76,6 @@ times-split t n main = times-appended t (drop n main) (map {B = ℕ × Bool} (λ
     of (suc n) [] = refl
     of (suc n) (e ∷ main) = omega (arith, of n main, times-cons t e.0 (slots_of main), times-cons t e.0 (slots_of (map {B = ℕ × Bool} (λ (e : ℕ × Bool). (e.0, false)) (take n main))))
 
-times-pushed : {X : Type 0} (t : ℕ) (ys : List (ℕ × X)) (x : ℕ × X) → times t (slots_of (ys ++ x ∷ [])) ≡ times t (slots_of ys) + cond (x.0 == t) 1 0
-times-pushed t [] x = omega (arith, times-cons t x.0 [])
-times-pushed t (y ∷ ys) x = omega (arith, times-cons t y.0 (slots_of (ys ++ x ∷ [])), times-cons t y.0 (slots_of ys), times-pushed t ys x)
-
 pub times-front : {X : Type 0} (t : ℕ) (xs : List (ℕ × X)) (x : ℕ × X) → last_or None xs ≡ Some x → times t (slots_of xs) ≡ times t (slots_of (take (length xs - 1) xs)) + cond (x.0 == t) 1 0
 times-front t xs x h = ap (λ z. times t (slots_of z)) (front-last xs x h) ∙ times-pushed t (take (length xs - 1) xs) x
 
@@ -104,46 +99,13 @@ no-tail (x ∷ xs) some none = none-last x.0 (slots_of xs) none
     none-last y [] e = cc
     none-last y (z ∷ zs) e = none-last z zs e
 
-slots-grown : (window : ℕ) (es : List (ℕ × Age)) → slots_of {X = Age} (drop 1 (admitted window 0 es)) ≡ slots_of es
-slots-grown window [] = refl
-slots-grown window (e ∷ es) = ap (λ zs. e.0 ∷ zs) (slots-grown window es)
-
-pub has-admitted : (t window slot : ℕ) (es : List (ℕ × Age)) → has t (slots_of (admitted window slot es)) ≡ (eqb t slot || has t (slots_of es))
-has-admitted t window slot es = ap (λ z. eqb t slot || has t z) (slots-grown window es)
-
-length-grown : (window slot : ℕ) (es : List (ℕ × Age)) → length (admitted window slot es) ≡ suc (length es)
-length-grown window slot [] = refl
-length-grown window slot (e ∷ es) = omega (arith, length-grown window slot es)
-
-turned_replacing : (a b c : Bool) → (a || (b || (c || false))) ≡ (a || (c || b))
-turned_replacing a true true = refl
-turned_replacing a true false = refl
-turned_replacing a false true = refl
-turned_replacing a false false = refl
-
-turned_evicting : (a b c : Bool) → ((a || b) || c) ≡ ((b || (a || false)) || c)
-turned_evicting true true c = refl
-turned_evicting true false c = refl
-turned_evicting false true c = refl
-turned_evicting false false c = refl
-
-turned_promoting : (v f o t : Bool) → ((v || f) || (o || (t || false))) ≡ ((f || (t || false)) || (v || o))
-turned_promoting true true o t = refl
-turned_promoting true false o true = refl
-turned_promoting true false o false = refl
-turned_promoting false true o t = refl
-turned_promoting false false true true = refl
-turned_promoting false false true false = refl
-turned_promoting false false false true = refl
-turned_promoting false false false false = refl
-
 module _ {K V : Type 0} {eq : K → K → Bool} {hash : K → ℕ} {shares : Shares} {q : QueueState} {h : Remembered K} {index : List (List (ℕ × ℕ))} {keys : KeyPlaces K V} {free : List ℕ} {room : ℕ}
     (laws : IsEquivalence eq) (kept : IsKept eq hash shares q h index keys free room) where
   abbrev m : Machine K V
   m = machine_of shares q keys.entries h.entries free
 
   once_at : (t : ℕ) → times t (slots_of q.small) + times t (slots_of q.main) ≤ 1
-  once_at t = omega (arith, at_most_once eq hash shares q index keys.entries h.entries free kept.whole kept.stored t, sum_by-append (λ s. cond (s == t) 1 0) (slots_of q.small) (slots_of q.main))
+  once_at t = omega (arith, at_most_once eq hash shares q index keys.entries h.entries free kept.whole kept.stored t, times-both t q)
 
   -- what `renew` asks for
   pub resident-there : (slot : ℕ) → has slot (places_of q) ≡ true
@@ -172,21 +134,20 @@ module _ {K V : Type 0} {eq : K → K → Bool} {hash : K → ℕ} {shares : Sha
     swept : from_victim q.main ≡ (victim, false) ∷ rest
     swept = first-is (from_victim q.main) (victim, false) first
 
-    pub victim-there : has victim (slots_of q.main) ≡ true
-    victim-there = sym (has-from_victim victim q.main) ∙ ap (λ z. has victim (slots_of z)) swept ∙ has_first victim (slots_of rest)
+    rest_times : (t : ℕ) → times t (slots_of q.main) ≡ cond (victim == t) 1 0 + times t (slots_of rest)
+    rest_times t = sym (times-split t (set_front q.main) q.main) ∙ ap (λ z. times t (slots_of z)) swept ∙ times-cons t victim (slots_of rest)
 
     victim_times : times victim (slots_of q.main) ≡ 1 + times victim (slots_of rest)
-    victim_times = sym (times-split victim (set_front q.main) q.main) ∙ ap (λ z. times victim (slots_of z)) swept
-        ∙ omega (arith, times-cons victim victim (slots_of rest), ap {B = ℕ} (λ b. cond b 1 0) (eqb_self victim))
+    victim_times = omega (arith, rest_times victim, ap {B = ℕ} (λ b. cond b 1 0) (eqb_self victim))
+
+    victim-there : has victim (slots_of q.main) ≡ true
+    victim-there = has-times victim (slots_of q.main) (victim ∷ slots_of rest) (rest_times victim ∙ sym (times-cons victim victim (slots_of rest))) ∙ has_first victim (slots_of rest)
 
     pub victim-not_in_rest : has victim (slots_of rest) ≡ false
     victim-not_in_rest = times-none victim (slots_of rest) (omega (arith, victim_times, once_at victim))
 
     pub victim-not_in_small : has victim (slots_of q.small) ≡ false
     victim-not_in_small = times-none victim (slots_of q.small) (omega (arith, victim_times, once_at victim))
-
-    pub rest-in_main : (t : ℕ) → has t (slots_of q.main) ≡ (eqb t victim || has t (slots_of rest))
-    rest-in_main t = sym (has-from_victim t q.main) ∙ ap (λ z. has t (slots_of z)) swept
 
     pub victim-in : has victim (places_of q) ≡ true
     victim-in = has-append victim (slots_of q.small) (slots_of q.main) ∙ rw (victim-not_in_small, victim-there) refl
@@ -207,97 +168,6 @@ module _ {K V : Type 0} {eq : K → K → Bool} {hash : K → ℕ} {shares : Sha
     choice = main-from_victim (key_at keys.entries) q.main (main_have laws kept)
         ∙ ap (λ z. with_keys_main (key_at keys.entries) z) swept ∙ main-cons (key_at keys.entries) (victim, false) rest victim_key.0 victim_key.1
 
-  -- a key takes a resident's slot
-  module _ (key : K) (value : V) (hsh slot old : ℕ) (is : hsh ≡ hash key) (there : has slot (places_of q) ≡ true) (at : hash_at keys.entries slot ≡ Some old) where
-    abbrev entries' : List (Entry K V)
-    entries' = written slot (entry hsh key value) keys.entries
-
-    abbrev index' : List (List (ℕ × ℕ))
-    index' = with_handle (removed eqb index old slot) hsh slot
-
-    made : slot < length keys.entries
-    made = below_of (length keys.entries) (places_of q) kept.stored.made slot there
-
-    next : slot ≤ length keys.entries
-    next = omega (arith, made)
-
-    renewed : IsStored hash index' entries' (places_of q)
-    renewed = subst (λ z. IsStored hash (with_handle (removed eqb index old slot) z slot) (written slot (entry z key value) keys.entries) (places_of q)) (sym is)
-        (stored-renewed hash index keys.entries (places_of q) slot old key value kept.stored (index_some laws kept) (apart laws kept) there at)
-
-    own : key_at entries' slot ≡ Some key
-    own = key_at-own slot hsh key value keys.entries next
-
-    small_other : (es : List (ℕ × Age)) → has slot (slots_of es) ≡ false → with_keys_small (key_at entries') es ≡ with_keys_small (key_at keys.entries) es
-    small_other es absent = small-agree (key_at keys.entries) (key_at entries') es (key_at-others slot hsh key value keys.entries next (slots_of es) absent)
-
-    main_other : (es : List (ℕ × Bool)) → has slot (slots_of es) ≡ false → with_keys_main (key_at entries') es ≡ with_keys_main (key_at keys.entries) es
-    main_other es absent = main-agree (key_at keys.entries) (key_at entries') es (key_at-others slot hsh key value keys.entries next (slots_of es) absent)
-
-    -- what the layers become
-    module _ (q' : QueueState) (h' : Remembered K) (index2 : List (List (ℕ × ℕ))) (keys' : KeyPlaces K V) (absent : known_count (eq key) m ≡ 0)
-        (slots : q'.slots ≡ q.slots) (window : q'.window ≡ q.window) (limit : h'.limit ≡ h.limit)
-        (indexed : index2 ≡ index') (wrote : keys'.entries ≡ entries') (keys_room : keys'.room ≡ keys.room) where
-      done : (p : Placement K V) → IsPlaced key m p → machine_of shares q' entries' h'.entries free ≡ stored p.slot value p.machine
-          → ((t : ℕ) → has t (places_of q') ≡ has t (places_of q)) → length (places_of q') ≡ length (places_of q) → AllByRecursion (λ e. e.0 ≡ hash e.1) h'.entries → slot ≡ p.slot
-          → IsDone laws kept slot value p q' h' index2 keys' free room
-      done p placed e same as_many hashed at =
-          let result : machine_of shares q' keys'.entries h'.entries free ≡ stored p.slot value p.machine = ap (λ z. machine_of shares q' z h'.entries free) wrote ∙ e in
-          let st = stored-same hash index' entries' (places_of q) (places_of q') renewed same as_many in
-          let sized = sized-same shares q q' h.limit h'.limit (length index) (length index2) keys.room keys'.room room room kept.sized slots window limit
-          (ap (λ (z : List (List (ℕ × ℕ))). length z) indexed ∙ length-put (removed eqb index old slot) hsh slot ∙ length-taken index old slot) keys_room refl in
-          record {
-            holds = kept-placed laws kept key value p absent placed q' h' index2 keys' free room result
-                (subst (λ z. IsStored hash z keys'.entries (places_of q')) (sym indexed) (subst (λ z. IsStored hash index' z (places_of q')) (sym wrote) st)) hashed sized;
-            machine = result;
-            at = at;
-          }
-
-  -- a key that takes the slot of Main's victim
-  module _ (victim : ℕ) (first : slice_get (from_victim q.main) 0 ≡ Some (victim, false)) (key : K) (value : V) (hsh old : ℕ) (is : hsh ≡ hash key) (at : hash_at keys.entries victim ≡ Some old)
-      (q' : QueueState) (index2 : List (List (ℕ × ℕ))) (keys' : KeyPlaces K V) (absent : known_count (eq key) m ≡ 0)
-      (slots : q'.slots ≡ q.slots) (window : q'.window ≡ q.window) (indexed : index2 ≡ with_handle (removed eqb index old victim) hsh victim)
-      (wrote : keys'.entries ≡ written victim (entry hsh key value) keys.entries) (keys_room : keys'.room ≡ keys.room) where
-    abbrev there : has victim (places_of q) ≡ true
-    there = victim-in victim first
-
-    -- goes to the end of Main
-    pub replaced-done : length m.main ≡ main_share shares → q'.small ≡ q.small → q'.main ≡ rest victim first ++ (victim, false) ∷ []
-        → IsDone laws kept victim value (into_main key m) q' h index2 keys' free room
-    replaced-done full small main =
-        let es = entries' key value hsh victim old is there at in
-        let s : with_keys_small (key_at es) q'.small ≡ m.small =
-        ap (λ z. with_keys_small (key_at es) z) small ∙ small_other key value hsh victim old is there at q.small (victim-not_in_small victim first) in
-        let t : with_keys_main (key_at es) q'.main ≡ machine.behind_hand key victim (others victim first) =
-        ap (λ z. with_keys_main (key_at es) z) main ∙ main-behind (key_at es) victim key (rest victim first) (own key value hsh victim old is there at)
-        ∙ ap (λ z. machine.behind_hand key victim z) (main_other key value hsh victim old is there at (rest victim first) (victim-not_in_rest victim first)) in
-        let v = values-written victim (entry hsh key value) keys.entries (next key value hsh victim old is there at) in
-        let p = replacing_victim key (victim_entry victim first ∷ others victim first) m in
-        let e : machine_of shares q' es h.entries free ≡ stored p.slot value p.machine = cc in
-        let is_p : into_main key m ≡ p =
-        ap (λ b. if b then replacing_victim key (machine.from_victim m.main) m else joining_main key (vacancy m) m) (eq-eqb (length m.main) (main_share shares) full)
-        ∙ ap (λ z. replacing_victim key z m) (choice victim first) in
-        subst (λ z. IsDone laws kept victim value z q' h index2 keys' free room) (sym is_p)
-        (done key value hsh victim old is there at q' h index2 keys' absent slots window refl indexed wrote keys_room p
-        (placed-replacing eq m kept.whole key (victim_entry victim first) (others victim first) (choice victim first)) e
-        (λ u. has-append u (slots_of q'.small) (slots_of q'.main)
-        ∙ ap (λ z. has u (slots_of z) || has u (slots_of q'.main)) small
-        ∙ ap (λ z. has u (slots_of q.small) || has u (slots_of z)) main
-        ∙ ap (λ z. has u (slots_of q.small) || z) (has-appended u (rest victim first) ((victim, false) ∷ []))
-        ∙ turned_replacing (has u (slots_of q.small)) (has u (slots_of (rest victim first))) (eqb u victim)
-        ∙ ap (λ z. has u (slots_of q.small) || z) (sym (rest-in_main victim first u))
-        ∙ sym (has-append u (slots_of q.small) (slots_of q.main)))
-        (omega (
-          arith,
-          length-places q',
-          length-places q,
-          ap (λ (z : List (ℕ × Age)). length z) small,
-          ap (λ (z : List (ℕ × Bool)). length z) main,
-          length-append (rest victim first) ((victim, false) ∷ []),
-          length-rest victim first,
-        ))
-        kept.hashed refl)
-
   -- Small's tail
   module _ (tail : ℕ) (last : last_or None (slots_of q.small) ≡ Some tail) where
     pub tail_at : (x : Age) × (last_or None q.small ≡ Some (tail, x))
@@ -306,14 +176,14 @@ module _ {K V : Type 0} {eq : K → K → Bool} {hash : K → ℕ} {shares : Sha
     abbrev pub front : List (ℕ × Age)
     front = take (length q.small - 1) q.small
 
-    pub tail-in_small : (t : ℕ) → has t (slots_of q.small) ≡ (has t (slots_of front) || (eqb t tail || false))
-    tail-in_small t = ap (λ z. has t (slots_of z)) (front-last q.small (tail, tail_at.0) tail_at.1) ∙ has-appended t front ((tail, tail_at.0) ∷ [])
+    front_times : (t : ℕ) → times t (slots_of q.small) ≡ times t (slots_of front) + cond (tail == t) 1 0
+    front_times t = times-front t q.small (tail, tail_at.0) tail_at.1
 
     tail_times : times tail (slots_of q.small) ≡ times tail (slots_of front) + 1
-    tail_times = times-front tail q.small (tail, tail_at.0) tail_at.1 ∙ omega (arith, ap {B = ℕ} (λ b. cond b 1 0) (eqb_self tail))
+    tail_times = omega (arith, front_times tail, ap {B = ℕ} (λ b. cond b 1 0) (eqb_self tail))
 
-    pub tail-there_in_small : has tail (slots_of q.small) ≡ true
-    tail-there_in_small = tail-in_small tail ∙ rw (eqb_self tail) (or_true (has tail (slots_of front)))
+    tail-there_in_small : has tail (slots_of q.small) ≡ true
+    tail-there_in_small = has-times tail (slots_of q.small) (tail ∷ slots_of front) (omega (arith, front_times tail, times-cons tail tail (slots_of front))) ∙ has_first tail (slots_of front)
 
     pub tail-in : has tail (places_of q) ≡ true
     tail-in = has-append tail (slots_of q.small) (slots_of q.main) ∙ rw tail-there_in_small refl
@@ -324,16 +194,17 @@ module _ {K V : Type 0} {eq : K → K → Bool} {hash : K → ℕ} {shares : Sha
     pub tail-not_in_main : has tail (slots_of q.main) ≡ false
     tail-not_in_main = times-none tail (slots_of q.main) (omega (arith, tail_times, once_at tail))
 
-    pub victim-not_in_front : (victim : ℕ) → slice_get (from_victim q.main) 0 ≡ Some (victim, false) → has victim (slots_of front) ≡ false
-    victim-not_in_front victim first = (or_parts (has victim (slots_of front)) (eqb victim tail || false) (sym (tail-in_small victim) ∙ victim-not_in_small victim first)).0
+    -- beside Main's victim
+    module _ (victim : ℕ) (first : slice_get (from_victim q.main) 0 ≡ Some (victim, false)) where
+      pub victim-not_in_front : has victim (slots_of front) ≡ false
+      victim-not_in_front = times-none victim (slots_of front) (omega (arith, front_times victim, victim_times victim first, once_at victim))
 
-    pub tail-not_in_rest : (victim : ℕ) (first : slice_get (from_victim q.main) 0 ≡ Some (victim, false)) → has tail (slots_of (rest victim first)) ≡ false
-    tail-not_in_rest victim first = (or_parts (eqb tail victim) (has tail (slots_of (rest victim first))) (sym (rest-in_main victim first tail) ∙ tail-not_in_main)).1
+      pub tail-not_in_rest : has tail (slots_of (rest victim first)) ≡ false
+      tail-not_in_rest = times-none tail (slots_of (rest victim first)) (omega (arith, rest_times victim first tail, tail_times, once_at tail))
 
-    pub victim-not_behind : (victim : ℕ) (first : slice_get (from_victim q.main) 0 ≡ Some (victim, false)) → has victim (slots_of (rest victim first ++ (tail, false) ∷ [])) ≡ false
-    victim-not_behind victim first = has-appended victim (rest victim first) ((tail, false) ∷ [])
-        ∙ or_neither (has victim (slots_of (rest victim first))) (eqb victim tail || false) (victim-not_in_rest victim first)
-        (or_parts (has victim (slots_of front)) (eqb victim tail || false) (sym (tail-in_small victim) ∙ victim-not_in_small victim first)).1
+      pub victim-not_behind : has victim (slots_of (rest victim first ++ (tail, false) ∷ [])) ≡ false
+      victim-not_behind = times-none victim (slots_of (rest victim first ++ (tail, false) ∷ []))
+          (omega (arith, times-pushed victim (rest victim first) (tail, false), front_times victim, victim_times victim first, once_at victim))
 
     length-front : suc (length front) ≡ length q.small
     length-front = omega (arith, (weight-last (λ e. 0) None q.small (tail, tail_at.0) (some q.small tail_at.1) tail_at.1).1)
@@ -358,108 +229,147 @@ module _ {K V : Type 0} {eq : K → K → Bool} {hash : K → ℕ} {shares : Sha
     front_entries = small-take (key_at keys.entries) (length q.small - 1) q.small (small_have laws kept)
         ∙ ap (λ n. take (n - 1) m.small) (sym (length_in_small laws kept))
 
-    -- its key has no history
+    -- it is the key that was there
+    tail_is : (old_key : K) → key_at keys.entries tail ≡ Some old_key → tail_key.0 ≡ old_key
+    tail_is old_key key_is = some_is tail_key.0 old_key (sym tail_key.1 ∙ key_is)
+
+    -- and has no history
     pub tail-unremembered : (old_key : K) → key_at keys.entries tail ≡ Some old_key → is_remembered eq old_key h.entries ≡ false
     tail-unremembered old_key key_is =
-        let same : tail_key.0 ≡ old_key = inner tail_key.0 old_key (sym tail_key.1 ∙ key_is) in
         let w = (weight-last (λ (e : SmallEntry K). cond (eq old_key e.key) 1 0) None m.small tail_entry small_some last_entry).0 in
-        let own : cond (eq old_key tail_key.0) 1 0 ≡ 1 = ap {B = ℕ} (λ b. cond b 1 0) (subst (λ z. eq old_key z ≡ true) (sym same) (laws.refl old_key)) in
+        let own : cond (eq old_key tail_key.0) 1 0 ≡ 1 =
+        ap {B = ℕ} (λ b. cond b 1 0) (subst (λ z. eq old_key z ≡ true) (sym (tail_is old_key key_is)) (laws.refl old_key)) in
         none-remembered (eq old_key) h.entries (omega (arith, kept.whole.keys_once old_key, w, own))
-      where
-        inner : (a b : K) → Some a ≡ Some b → a ≡ b
-        inner a b e = cc
 
-    -- a key that takes its slot
-    module _ (key : K) (value : V) (hsh old : ℕ) (is : hsh ≡ hash key) (at : hash_at keys.entries tail ≡ Some old) (old_key : K) (key_is : key_at keys.entries tail ≡ Some old_key)
-        (q' : QueueState) (h' : Remembered K) (index2 : List (List (ℕ × ℕ))) (keys' : KeyPlaces K V) (absent : known_count (eq key) m ≡ 0)
-        (slots : q'.slots ≡ q.slots) (window : q'.window ≡ q.window) (limit : h'.limit ≡ h.limit) (indexed : index2 ≡ with_handle (removed eqb index old tail) hsh tail)
-        (wrote : keys'.entries ≡ written tail (entry hsh key value) keys.entries) (keys_room : keys'.room ≡ keys.room) where
-      same_key : tail_key.0 ≡ old_key
-      same_key = inner tail_key.0 old_key (sym tail_key.1 ∙ key_is)
-        where
-          inner : (a b : K) → Some a ≡ Some b → a ≡ b
-          inner a b e = cc
+    -- where a key goes then
+    abbrev onto : K → Bool → Placement K V
+    onto key b = if b then promoting_tail key tail_entry (machine.from_victim m.main) m else evicting_tail key tail_entry m
 
-      pub evicted-done : vacancy m ≡ None → IfSome (last_or None m.small) (λ tail. is_promoted tail.age ≡ false) → q'.small ≡ admitted q.window tail front → q'.main ≡ q.main
-          → h'.entries ≡ take h.limit ((old, old_key) ∷ h.entries) → AllByRecursion (λ e. e.0 ≡ hash e.1) h'.entries
-          → IsDone laws kept tail value (into_small key m) q' h' index2 keys' free room
-      evicted-done none out small main pushed hashed =
-          let es = entries' key value hsh tail old is tail-in at in
-          let s : with_keys_small (key_at es) q'.small ≡ machine.small_admitted shares.window key tail (take (length m.small - 1) m.small) =
-          ap (λ z. with_keys_small (key_at es) z) small ∙ small-admitted (key_at es) q.window tail key front (own key value hsh tail old is tail-in at)
-          ∙ ap (λ z. machine.small_admitted q.window key tail z) (small_other key value hsh tail old is tail-in at front tail-not_in_front ∙ front_entries)
-          ∙ ap (λ z. machine.small_admitted z key tail (take (length m.small - 1) m.small)) kept.sized.window in
-          let t : with_keys_main (key_at es) q'.main ≡ m.main = ap (λ z. with_keys_main (key_at es) z) main ∙ main_other key value hsh tail old is tail-in at q.main tail-not_in_main in
-          let r : map (λ (e : ℕ × K). e.1) h'.entries ≡ take (history_share shares) (tail_key.0 ∷ m.history) =
-          ap (λ z. map (λ (e : ℕ × K). e.1) z) pushed ∙ map-take (λ (e : ℕ × K). e.1) h.limit ((old, old_key) ∷ h.entries) ∙ ap (λ n. take n (old_key ∷ m.history)) kept.sized.remembers
-          ∙ ap (λ z. take (history_share shares) (z ∷ m.history)) (sym same_key) in
-          let v = values-written tail (entry hsh key value) keys.entries (next key value hsh tail old is tail-in at) in
-          let p = evicting_tail key tail_entry m in
-          let e : machine_of shares q' es h'.entries free ≡ stored p.slot value p.machine = cc in
-          let out' : is_promoted tail_at.0 ≡ false = subst (λ z. IfSome z (λ tail. is_promoted tail.age ≡ false)) last_entry out in
-          let is_p : into_small key m ≡ p = ap (λ z. into_small_at key z (last_or None m.small) m) none ∙ ap (λ z. into_small_at key None z m) last_entry
-          ∙ ap (λ b. if b then promoting_tail key tail_entry (machine.from_victim m.main) m else evicting_tail key tail_entry m) out' in
-          subst (λ z. IsDone laws kept tail value z q' h' index2 keys' free room) (sym is_p)
-          (done key value hsh tail old is tail-in at q' h' index2 keys' absent slots window limit indexed wrote keys_room p
-          (placed-evicting eq m kept.whole key tail_entry last_entry small_some) e
-          (λ u. has-append u (slots_of q'.small) (slots_of q'.main)
-          ∙ ap (λ z. has u (slots_of z) || has u (slots_of q'.main)) small
-          ∙ ap (λ z. has u (slots_of (admitted q.window tail front)) || has u (slots_of z)) main
-          ∙ ap (λ z. z || has u (slots_of q.main)) (has-admitted u q.window tail front)
-          ∙ turned_evicting (eqb u tail) (has u (slots_of front)) (has u (slots_of q.main))
-          ∙ ap (λ z. z || has u (slots_of q.main)) (sym (tail-in_small u))
-          ∙ sym (has-append u (slots_of q.small) (slots_of q.main)))
-          (omega (arith, length-places q', length-places q, ap (λ (z : List (ℕ × Age)). length z) small, ap (λ (z : List (ℕ × Bool)). length z) main, length-grown q.window tail front, length-front))
-          hashed refl)
+    into-tail : (key : K) → vacancy m ≡ None → into_small key m ≡ onto key (is_promoted tail_at.0)
+    into-tail key none = ap (λ z. into_small_at key z (last_or None m.small) m) none ∙ ap (λ z. into_small_at key None z m) last_entry
 
-    -- a key that takes the slot of Main's victim, while the tail goes to the end of Main
-    module _ (victim : ℕ) (first : slice_get (from_victim q.main) 0 ≡ Some (victim, false)) (key : K) (value : V) (hsh old : ℕ) (is : hsh ≡ hash key) (at : hash_at keys.entries victim ≡ Some old)
-        (q' : QueueState) (index2 : List (List (ℕ × ℕ))) (keys' : KeyPlaces K V) (absent : known_count (eq key) m ≡ 0)
-        (slots : q'.slots ≡ q.slots) (window : q'.window ≡ q.window) (indexed : index2 ≡ with_handle (removed eqb index old victim) hsh victim)
-        (wrote : keys'.entries ≡ written victim (entry hsh key value) keys.entries) (keys_room : keys'.room ≡ keys.room) where
-      pub promoted-done : vacancy m ≡ None → IfSome (last_or None m.small) (λ tail. is_promoted tail.age ≡ true)
-          → q'.small ≡ admitted q.window victim front → q'.main ≡ rest victim first ++ (tail, false) ∷ []
-          → IsDone laws kept victim value (into_small key m) q' h index2 keys' free room
-      promoted-done none on small main =
-          let there : has victim (places_of q) ≡ true = victim-in victim first in
-          let es = entries' key value hsh victim old is there at in
-          let s : with_keys_small (key_at es) q'.small ≡ machine.small_admitted shares.window key victim (take (length m.small - 1) m.small) =
-          ap (λ z. with_keys_small (key_at es) z) small ∙ small-admitted (key_at es) q.window victim key front (own key value hsh victim old is there at)
-          ∙ ap (λ z. machine.small_admitted q.window key victim z) (small_other key value hsh victim old is there at front (victim-not_in_front victim first) ∙ front_entries)
-          ∙ ap (λ z. machine.small_admitted z key victim (take (length m.small - 1) m.small)) kept.sized.window in
-          let k : key_at es tail ≡ Some tail_key.0 =
-          key_at-others victim hsh key value keys.entries (next key value hsh victim old is there at) (slots_of q.small) (victim-not_in_small victim first) tail tail-there_in_small ∙ tail_key.1 in
-          let t : with_keys_main (key_at es) q'.main ≡ machine.behind_hand tail_key.0 tail (others victim first) =
-          ap (λ z. with_keys_main (key_at es) z) main ∙ main-behind (key_at es) tail tail_key.0 (rest victim first) k
-          ∙ ap (λ z. machine.behind_hand tail_key.0 tail z) (main_other key value hsh victim old is there at (rest victim first) (victim-not_in_rest victim first)) in
-          let v = values-written victim (entry hsh key value) keys.entries (next key value hsh victim old is there at) in
-          let p = promoting_tail key tail_entry (victim_entry victim first ∷ others victim first) m in
-          let e : machine_of shares q' es h.entries free ≡ stored p.slot value p.machine = cc in
-          let on' : is_promoted tail_at.0 ≡ true = subst (λ z. IfSome z (λ tail. is_promoted tail.age ≡ true)) last_entry on in
-          let is_p : into_small key m ≡ p = ap (λ z. into_small_at key z (last_or None m.small) m) none ∙ ap (λ z. into_small_at key None z m) last_entry
-          ∙ ap (λ b. if b then promoting_tail key tail_entry (machine.from_victim m.main) m else evicting_tail key tail_entry m) on'
-          ∙ ap (λ z. promoting_tail key tail_entry z m) (choice victim first) in
-          subst (λ z. IsDone laws kept victim value z q' h index2 keys' free room) (sym is_p)
-          (done key value hsh victim old is there at q' h index2 keys' absent slots window refl indexed wrote keys_room p
-          (placed-promoting eq m kept.whole key tail_entry last_entry small_some (victim_entry victim first) (others victim first) (choice victim first)) e
-          (λ u. has-append u (slots_of q'.small) (slots_of q'.main)
-          ∙ ap (λ z. has u (slots_of z) || has u (slots_of q'.main)) small
-          ∙ ap (λ z. has u (slots_of (admitted q.window victim front)) || has u (slots_of z)) main
-          ∙ ap (λ z. z || has u (slots_of (rest victim first ++ (tail, false) ∷ []))) (has-admitted u q.window victim front)
-          ∙ ap (λ z. (eqb u victim || has u (slots_of front)) || z) (has-appended u (rest victim first) ((tail, false) ∷ []))
-          ∙ turned_promoting (eqb u victim) (has u (slots_of front)) (has u (slots_of (rest victim first))) (eqb u tail)
-          ∙ ap (λ z. z || (eqb u victim || has u (slots_of (rest victim first)))) (sym (tail-in_small u))
-          ∙ ap (λ z. has u (slots_of q.small) || z) (sym (rest-in_main victim first u))
-          ∙ sym (has-append u (slots_of q.small) (slots_of q.main)))
-          (omega (
-            arith,
-            length-places q',
-            length-places q,
-            ap (λ (z : List (ℕ × Age)). length z) small,
-            ap (λ (z : List (ℕ × Bool)). length z) main,
-            length-grown q.window victim front,
-            length-front,
-            length-append (rest victim first) ((tail, false) ∷ []),
-            length-rest victim first,
-          ))
-          kept.hashed refl)
+  -- a key takes a resident's slot
+  module _ {key : K} {value : Option V} {hsh slot old n : ℕ} {index' : List (List (ℕ × ℕ))} {keys' : KeyPlaces K V} (is : hsh ≡ hash key) (absent : known_count (eq key) m ≡ 0)
+      (there : has slot (places_of q) ≡ true) (at : hash_at keys.entries slot ≡ Some old) (indexed : index' ≡ with_handle (removed eqb index old slot) hsh slot)
+      (w : Writes hsh key value slot keys.entries keys'.entries) (renewed : keys' ≡ record keys { entries = keys'.entries; writes = n }) where
+    next : slot ≤ length keys.entries
+    next = omega (arith, (slot-below slot there).0)
+
+    same_places : IsStored hash index' keys'.entries (places_of q)
+    same_places = rw (indexed, w.becomes, is) (stored-renewed hash index keys.entries (places_of q) slot old key w.held kept.stored (index_some laws kept) (apart laws kept) there at)
+
+    own : key_at keys'.entries slot ≡ Some key
+    own = rw w.becomes (key_at-own slot hsh key w.held keys.entries next)
+
+    others_keep : (places : List ℕ) → has slot places ≡ false → (t : ℕ) → has t places ≡ true → key_at keys'.entries t ≡ key_at keys.entries t
+    others_keep = rw w.becomes (key_at-others slot hsh key w.held keys.entries next)
+
+    small_other : (es : List (ℕ × Age)) → has slot (slots_of es) ≡ false → with_keys_small (key_at keys'.entries) es ≡ with_keys_small (key_at keys.entries) es
+    small_other es none = small-agree (key_at keys.entries) (key_at keys'.entries) es (others_keep (slots_of es) none)
+
+    main_other : (es : List (ℕ × Bool)) → has slot (slots_of es) ≡ false → with_keys_main (key_at keys'.entries) es ≡ with_keys_main (key_at keys.entries) es
+    main_other es none = main-agree (key_at keys.entries) (key_at keys'.entries) es (others_keep (slots_of es) none)
+
+    values : map (λ e. e.value) keys'.entries ≡ (stored slot w.held m).values
+    values = rw w.becomes (values-written slot (entry hsh key w.held) keys.entries next)
+
+    done : {p : Placement K V} {h' : Remembered K} (q' : QueueState) → IsPlaced key m p → slot ≡ p.slot → q'.slots ≡ q.slots → q'.window ≡ q.window → h'.limit ≡ h.limit
+        → machine_of shares q' keys'.entries h'.entries free ≡ stored p.slot w.held p.machine → AllByRecursion (λ e. e.0 ≡ hash e.1) h'.entries
+        → ((t : ℕ) → times t (places_of q') ≡ times t (places_of q)) → length q'.small + length q'.main ≡ length q.small + length q.main
+        → IsDone laws kept slot value p q' h' index' keys' free room
+    done q' placed own_slot slots window limit e hashed as_often as_many =
+        placed-done laws kept absent placed w own_slot e (stored-moved q' same_places as_often (as_many ∙ sym (length-places q))) hashed
+        (sized-same kept.sized slots window limit
+        (ap (λ (z : List (List (ℕ × ℕ))). length z) indexed ∙ length-put (removed eqb index old slot) hsh slot ∙ length-taken index old slot)
+        (ap (λ (z : KeyPlaces K V). z.room) renewed) refl)
+
+    -- Small without its tail, and with the key
+    small_joined : (tail : ℕ) (last : last_or None (slots_of q.small) ≡ Some tail) → has slot (slots_of (front tail last)) ≡ false
+        → with_keys_small (key_at keys'.entries) (admitted q.window slot (front tail last)) ≡ machine.small_admitted shares.window key slot (take (length m.small - 1) m.small)
+    small_joined tail last none = small-admitted (key_at keys'.entries) q.window slot key (front tail last) own
+        ∙ ap (λ z. machine.small_admitted q.window key slot z) (small_other (front tail last) none ∙ front_entries tail last)
+        ∙ ap (λ z. machine.small_admitted z key slot (take (length m.small - 1) m.small)) kept.sized.window
+
+    -- that of Main's victim, and goes to the end of Main
+    pub replaced-done : {q' : QueueState} {looks : ℕ} (first : slice_get (from_victim q.main) 0 ≡ Some (slot, false)) → length m.main ≡ main_share shares
+        → q' ≡ record q { main = rest slot first ++ (slot, false) ∷ []; accesses = q'.accesses; inspections = looks }
+        → IsDone laws kept slot value (into_main key m) q' h index' keys' free room
+    replaced-done {q'} {looks} first full queues =
+        let q1 : QueueState = record q { main = rest slot first ++ (slot, false) ∷ []; accesses = q'.accesses; inspections = looks } in
+        let s = small_other q.small (victim-not_in_small slot first) in
+        let t : with_keys_main (key_at keys'.entries) q1.main ≡ machine.behind_hand key slot (others slot first) =
+        main-behind (key_at keys'.entries) slot key (rest slot first) own ∙ ap (λ z. machine.behind_hand key slot z) (main_other (rest slot first) (victim-not_in_rest slot first)) in
+        let v = values in
+        let p = replacing_victim key (victim_entry slot first ∷ others slot first) m in
+        let e : machine_of shares q1 keys'.entries h.entries free ≡ stored p.slot w.held p.machine = cc in
+        let is_p : into_main key m ≡ p =
+        ap (λ b. if b then replacing_victim key (machine.from_victim m.main) m else joining_main key (vacancy m) m) (eq-eqb (length m.main) (main_share shares) full)
+        ∙ ap (λ z. replacing_victim key z m) (choice slot first) in
+        rw queues (subst (λ z. IsDone laws kept slot value z q1 h index' keys' free room) (sym is_p)
+        (done q1 (placed-replacing eq m kept.whole key (victim_entry slot first) (others slot first) (choice slot first)) refl refl refl refl e kept.hashed
+        (λ u. omega (arith, times-both u q1, times-pushed u (rest slot first) (slot, false), rest_times slot first u, times-both u q))
+        (omega (arith, length-append (rest slot first) ((slot, false) ∷ []), length-rest slot first))))
+
+    -- that of Small's tail, whose key goes out
+    pub evicted-done : {q' : QueueState} {h' : Remembered K} {old_key : K} (last : last_or None (slots_of q.small) ≡ Some slot) → key_at keys.entries slot ≡ Some old_key
+        → vacancy m ≡ None → IfSome (last_or None m.small) (λ tail. is_promoted tail.age ≡ false)
+        → q' ≡ record q { small = admitted q.window slot (front slot last); accesses = q'.accesses }
+        → h' ≡ record h { entries = take h.limit ((old, old_key) ∷ h.entries); places = h'.places; accesses = h'.accesses }
+        → IsDone laws kept slot value (into_small key m) q' h' index' keys' free room
+    evicted-done {q'} {h'} {old_key} last key_is none out queues pushed =
+        let q1 : QueueState = record q { small = admitted q.window slot (front slot last); accesses = q'.accesses } in
+        let h1 : Remembered K = record h { entries = take h.limit ((old, old_key) ∷ h.entries); places = h'.places; accesses = h'.accesses } in
+        let s : with_keys_small (key_at keys'.entries) q1.small ≡ machine.small_admitted shares.window key slot (take (length m.small - 1) m.small) =
+        small_joined slot last (tail-not_in_front slot last) in
+        let t = main_other q.main (tail-not_in_main slot last) in
+        let r : map (λ (e : ℕ × K). e.1) h1.entries ≡ take (history_share shares) ((tail_key slot last).0 ∷ m.history) =
+        map-take (λ (e : ℕ × K). e.1) h.limit ((old, old_key) ∷ h.entries) ∙ ap (λ n. take n (old_key ∷ m.history)) kept.sized.remembers
+        ∙ ap (λ z. take (history_share shares) (z ∷ m.history)) (sym (tail_is slot last old_key key_is)) in
+        let v = values in
+        let p = evicting_tail key (tail_entry slot last) m in
+        let e : machine_of shares q1 keys'.entries h1.entries free ≡ stored p.slot w.held p.machine = cc in
+        let out' : is_promoted (tail_at slot last).0 ≡ false = subst (λ z. IfSome z (λ tail. is_promoted tail.age ≡ false)) (last_entry slot last) out in
+        rw (queues, pushed) (subst (λ z. IsDone laws kept slot value z q1 h1 index' keys' free room) (sym (into-tail slot last key none ∙ ap (λ b. onto slot last key b) out'))
+        (done q1 (placed-evicting eq m kept.whole key (tail_entry slot last) (last_entry slot last) (small_some slot last)) refl refl refl refl e
+        (all-taken (λ e. e.0 ≡ hash e.1) h.limit ((old, old_key) ∷ h.entries) (hash-of-key hash keys.entries slot old old_key kept.stored.hashed at key_is, kept.hashed))
+        (λ u. omega (arith, times-both u q1, times-admitted u q.window slot (front slot last), front_times slot last u, times-both u q))
+        (omega (arith, length-admitted q.window slot (front slot last), length-front slot last))))
+
+    -- that of Main's victim, while Small's tail goes to the end of Main
+    pub promoted-done : {q' : QueueState} {tail looks : ℕ} (last : last_or None (slots_of q.small) ≡ Some tail) (first : slice_get (from_victim q.main) 0 ≡ Some (slot, false))
+        → vacancy m ≡ None → IfSome (last_or None m.small) (λ tail. is_promoted tail.age ≡ true)
+        → q' ≡ record q { small = admitted q.window slot (front tail last); main = rest slot first ++ (tail, false) ∷ []; accesses = q'.accesses; inspections = looks }
+        → IsDone laws kept slot value (into_small key m) q' h index' keys' free room
+    promoted-done {q'} {tail} {looks} last first none on queues =
+        let q1 : QueueState = record q { small = admitted q.window slot (front tail last); main = rest slot first ++ (tail, false) ∷ []; accesses = q'.accesses; inspections = looks } in
+        let s : with_keys_small (key_at keys'.entries) q1.small ≡ machine.small_admitted shares.window key slot (take (length m.small - 1) m.small) =
+        small_joined tail last (victim-not_in_front tail last slot first) in
+        let tail_kept : key_at keys'.entries tail ≡ Some (tail_key tail last).0 =
+        others_keep (slots_of q.small) (victim-not_in_small slot first) tail (tail-there_in_small tail last) ∙ (tail_key tail last).1 in
+        let t : with_keys_main (key_at keys'.entries) q1.main ≡ machine.behind_hand (tail_key tail last).0 tail (others slot first) =
+        main-behind (key_at keys'.entries) tail (tail_key tail last).0 (rest slot first) tail_kept
+        ∙ ap (λ z. machine.behind_hand (tail_key tail last).0 tail z) (main_other (rest slot first) (victim-not_in_rest slot first)) in
+        let v = values in
+        let p = promoting_tail key (tail_entry tail last) (victim_entry slot first ∷ others slot first) m in
+        let e : machine_of shares q1 keys'.entries h.entries free ≡ stored p.slot w.held p.machine = cc in
+        let on' : is_promoted (tail_at tail last).0 ≡ true = subst (λ z. IfSome z (λ tail. is_promoted tail.age ≡ true)) (last_entry tail last) on in
+        let is_p = into-tail tail last key none ∙ ap (λ b. onto tail last key b) on' ∙ ap (λ z. promoting_tail key (tail_entry tail last) z m) (choice slot first) in
+        rw queues (subst (λ z. IsDone laws kept slot value z q1 h index' keys' free room) (sym is_p)
+        (done q1 (placed-promoting eq m kept.whole key (tail_entry tail last) (last_entry tail last) (small_some tail last) (victim_entry slot first) (others slot first) (choice slot first))
+        refl refl refl refl e kept.hashed
+        (λ u. omega (
+          arith,
+          times-both u q1,
+          times-admitted u q.window slot (front tail last),
+          times-pushed u (rest slot first) (tail, false),
+          front_times tail last u,
+          rest_times slot first u,
+          times-both u q,
+        ))
+        (omega (
+          arith,
+          length-admitted q.window slot (front tail last),
+          length-front tail last,
+          length-append (rest slot first) ((tail, false) ∷ []),
+          length-rest slot first,
+        ))))

@@ -1,22 +1,25 @@
 -- How often a slot stands in a cache's queues, and which slots are apart.
-use Rattle.std.proofs.Common.{◌≡◌, ℕ, zero, suc, ◌+◌, ◌<◌, ◌≤◌, ◌==◌, Bool, true, false, ◌||◌, cond, eqb, Option, Some, None, List, [], ◌∷◌, ◌++◌, map, length, take, drop, reverse, inl, inr, refl, sym, ap, ◌∙◌, subst, arith, eqb-true, eq-eqb, length-append}
+use Rattle.std.proofs.Common.{◌≡◌, ℕ, zero, suc, ◌+◌, ◌<◌, ◌≤◌, ◌==◌, Bool, true, false, cond, eqb, Option, Some, None, List, [], ◌∷◌, ◌++◌, map, length, take, drop, reverse, inl, inr, refl, sym, ap, ◌∙◌, subst, arith, eqb-true, eq-eqb, length-append}
 use Rattle.std.specs.Prelude.{if◌then◌else◌, nat_lt, is_some}
 use Rattle.std.specs.List.{count_by}
 use Rattle.std.proofs.lemmas.Bool.{cases_Bool, cases_lt, both_ways, lt-ltb, le-ltb}
+use Rattle.std.proofs.lemmas.List.{length-map}
 use Rattle.std.proofs.lemmas.List.Sums.{sum_by-cons, sum_by-append}
-use Rattle.clock2q_queues.proofs.Booleans.{or_true}
+use Rattle.clock2q_queues.proofs.Booleans.{or_true, or_parts}
 use Rattle.clock2q_queues.specs.declared.keys.store.Entry.{Entry}
 use Rattle.clock2q_queues.specs.Rings.{has, AllApart}
 use Rattle.clock2q_queues.specs.Keys.{key_at}
+use Rattle.clock2q_machine.specs.Ages.{Age, grown}
+use Rattle.clock2q_queues.specs.Small.{admitted}
 use Rattle.clock2q_queues.specs.MainRing.{set_front, from_victim}
 use Rattle.clock2q_queues.specs.Queues.{QueueState, slots_of}
-use Rattle.clock2q_queues.proofs.Rings.{has-append, eqb_self}
+use Rattle.clock2q_queues.proofs.Rings.{has-append, eqb_self, eqb_swap}
 use Rattle.clock2q_machine.specs.Shares.{Shares}
 use Rattle.clock2q_machine.specs.Machine.{Machine, vacancy, vacant_slot}
 use Rattle.clock2q_machine.specs.Whole.{IsWhole, standings}
 use Rattle.clock2q_cache.specs.CacheFields.{machine_of, places_of, IsStored}
 use Rattle.clock2q_cache.proofs.WithKeys.{HaveKeys, small-standing, main-standing, length-small, length-main}
-use Rattle.clock2q_cache.proofs.Stored.{have_keys, length-values}
+use Rattle.clock2q_cache.proofs.Stored.{have_keys, length-values, stored-same}
 
 -- how often a slot stands among these
 abbrev pub times : ℕ → List ℕ → ℕ
@@ -49,32 +52,41 @@ length-slots : {X : Type 0} (xs : List (ℕ × X)) → length (slots_of xs) ≡ 
 length-slots [] = refl
 length-slots (x ∷ xs) = ap suc (length-slots xs)
 
+-- a slot that stands as often stands as well
+pub times-absent : (t : ℕ) (xs : List ℕ) → has t xs ≡ false → times t xs ≡ 0
+times-absent t [] h = refl
+times-absent t (x ∷ xs) h =
+    let p = or_parts (eqb t x) (has t xs) h in
+    omega (arith, times-cons t x xs, times-absent t xs p.1, ap {B = ℕ} (λ b. cond b 1 0) (eqb_swap t x p.0))
+
+pub has-times : (t : ℕ) (xs ys : List ℕ) → times t xs ≡ times t ys → has t xs ≡ has t ys
+has-times t xs ys e = elim (cases_Bool (has t ys)) [
+  | inl there ↦ elim (cases_Bool (has t xs)) [
+    | inl here ↦ here ∙ sym there
+    | inr absent ↦ absurd (omega (arith, e, times-some t ys there, times-absent t xs absent))
+  ]
+  | inr absent ↦ times-none t xs (e ∙ times-absent t ys absent) ∙ sym absent
+]
+
+-- how often a slot stands in both queues, and where one entered behind or in front
+pub times-both : (t : ℕ) (q : QueueState) → times t (places_of q) ≡ times t (slots_of q.small) + times t (slots_of q.main)
+times-both t q = sum_by-append (λ s. cond (s == t) 1 0) (slots_of q.small) (slots_of q.main)
+
+pub times-pushed : {X : Type 0} (t : ℕ) (ys : List (ℕ × X)) (x : ℕ × X) → times t (slots_of (ys ++ x ∷ [])) ≡ times t (slots_of ys) + cond (x.0 == t) 1 0
+times-pushed t [] x = omega (arith, times-cons t x.0 [])
+times-pushed t (y ∷ ys) x = omega (arith, times-cons t y.0 (slots_of (ys ++ x ∷ [])), times-cons t y.0 (slots_of ys), times-pushed t ys x)
+
+pub slots-admitted : (window slot : ℕ) (es : List (ℕ × Age)) → slots_of {X = Age} (admitted window slot es) ≡ slot ∷ slots_of es
+slots-admitted window slot [] = refl
+slots-admitted window slot (e ∷ es) = ap (λ zs. slot ∷ e.0 ∷ drop 1 zs) (slots-admitted window slot es)
+
+pub times-admitted : (t window slot : ℕ) (es : List (ℕ × Age)) → times t (slots_of (admitted window slot es)) ≡ cond (slot == t) 1 0 + times t (slots_of es)
+times-admitted t window slot es = ap (times t) (slots-admitted window slot es) ∙ times-cons t slot (slots_of es)
+
+pub length-admitted : (window slot : ℕ) (es : List (ℕ × Age)) → length (admitted window slot es) ≡ suc (length es)
+length-admitted window slot es = ap suc (length-map es (λ e. (e.0, grown window e.1)))
+
 -- the hand's choice moves entries, and takes none out
-has-split : (t n : ℕ) (main : List (ℕ × Bool)) → has t (slots_of main) ≡ (has t (slots_of (drop n main)) || has t (slots_of (map {B = ℕ × Bool} (λ e. (e.0, false)) (take n main))))
-has-split t zero main = or_none (has t (slots_of main))
-  where
-    or_none : (b : Bool) → b ≡ (b || false)
-    or_none true = refl
-    or_none false = refl
-has-split t (suc n) [] = refl
-has-split t (suc n) (e ∷ main) = ap (λ z. eqb t e.0 || z) (has-split t n main)
-    ∙ swapped (eqb t e.0) (has t (slots_of (drop n main))) (has t (slots_of (map {B = ℕ × Bool} (λ e. (e.0, false)) (take n main))))
-  where
-    swapped : (a b c : Bool) → (a || (b || c)) ≡ (b || (a || c))
-    swapped true true c = refl
-    swapped true false c = refl
-    swapped false b c = refl
-
-slots-append : {X : Type 0} (xs ys : List (ℕ × X)) → slots_of (xs ++ ys) ≡ slots_of xs ++ slots_of ys
-slots-append [] ys = refl
-slots-append (x ∷ xs) ys = ap (λ zs. x.0 ∷ zs) (slots-append xs ys)
-
-pub has-appended : {X : Type 0} (t : ℕ) (xs ys : List (ℕ × X)) → has t (slots_of (xs ++ ys)) ≡ (has t (slots_of xs) || has t (slots_of ys))
-has-appended t xs ys = ap (λ z. has t z) (slots-append xs ys) ∙ has-append t (slots_of xs) (slots_of ys)
-
-pub has-from_victim : (t : ℕ) (main : List (ℕ × Bool)) → has t (slots_of (from_victim main)) ≡ has t (slots_of main)
-has-from_victim t main = has-appended t (drop (set_front main) main) (map {B = ℕ × Bool} (λ e. (e.0, false)) (take (set_front main) main)) ∙ sym (has-split t (set_front main) main)
-
 length-split : (n : ℕ) (main : List (ℕ × Bool)) → length (drop n main) + length (map {B = ℕ × Bool} (λ (e : ℕ × Bool). (e.0, false)) (take n main)) ≡ length main
 length-split zero main = omega arith
 length-split (suc n) [] = refl
@@ -186,3 +198,9 @@ module _ {K V : Type 0} (eq : K → K → Bool) (hash : K → ℕ) (shares : Sha
           let below : length m.values < shares.capacity =
           omega (arith, few, whole.slots_counted, length-small (key_at entries) q.small small_keys, length-main (key_at entries) q.main main_keys, ap (λ (z : List ℕ). length z) at) in
           ap (λ (z : Option ℕ). is_some z) (ap (λ b. if b then Some (length m.values) else None) (lt-ltb (length m.values) shares.capacity below))
+
+-- the same places in another order
+pub stored-moved : {K V : Type 0} {hash : K → ℕ} {index : List (List (ℕ × ℕ))} {entries : List (Entry K V)} {places : List ℕ} (q : QueueState) → IsStored hash index entries places
+    → ((t : ℕ) → times t (places_of q) ≡ times t places) → length q.small + length q.main ≡ length places → IsStored hash index entries (places_of q)
+stored-moved {hash = hash} {index = index} {entries = entries} {places = places} q stored same as_many =
+    stored-same hash index entries places (places_of q) stored (λ t. has-times t (places_of q) places (same t)) (length-places q ∙ as_many)
