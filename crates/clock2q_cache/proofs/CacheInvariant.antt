@@ -18,7 +18,7 @@ use Rattle.clock2q_machine.specs.Machine.{Machine, Placement, vacancy, vacant_sl
 use Rattle.clock2q_machine.specs.Whole.{IsWhole, known_count}
 use Rattle.clock2q_cache.specs.Insertions.{IsValueFor, Fills, Writes}
 use Rattle.clock2q_cache.specs.CacheFields.{machine_of, places_of, with_keys_small, with_keys_main, IsStored, IsSized, IsKept}
-use Rattle.clock2q_cache.proofs.WithKeys.{HaveKeys, small-admitted, main-behind, small-agree, main-agree, length-small, length-main}
+use Rattle.clock2q_cache.proofs.WithKeys.{HaveKeys, small-admitted, main-behind, small_with, main_with, keys-agree, length-small, length-main}
 use Rattle.clock2q_cache.proofs.Stored.{stored-entered, key_at-own, key_at-others, values-written, length-values}
 use Rattle.clock2q_cache.proofs.Slots.{times, times-cons, times-both, times-pushed, times-admitted, length-admitted, stored-moved, vacant, vacancy-taken, vacancy-there, places_apart, small_keys, main_keys, length-places}
 use Rattle.clock2q_machine.proofs.Whole.{IsPlaced, whole-stored, placed-admitted, placed-joining}
@@ -147,11 +147,11 @@ module _ {K V : Type 0} {eq : K → K → Bool} {hash : K → ℕ} {shares : Sha
     own = rw w.becomes (key_at-own slot hsh key w.held keys.entries f.next)
 
     small_same : with_keys_small (key_at keys'.entries) q.small ≡ m.small
-    small_same = rw w.becomes (small-agree (key_at keys.entries) (key_at (written slot (entry hsh key w.held) keys.entries)) q.small
+    small_same = rw w.becomes (keys-agree small_with (key_at keys.entries) (key_at (written slot (entry hsh key w.held) keys.entries)) q.small
         (key_at-others slot hsh key w.held keys.entries f.next (slots_of q.small) f.not_in_small))
 
     main_same : with_keys_main (key_at keys'.entries) q.main ≡ m.main
-    main_same = rw w.becomes (main-agree (key_at keys.entries) (key_at (written slot (entry hsh key w.held) keys.entries)) q.main
+    main_same = rw w.becomes (keys-agree main_with (key_at keys.entries) (key_at (written slot (entry hsh key w.held) keys.entries)) q.main
         (key_at-others slot hsh key w.held keys.entries f.next (slots_of q.main) f.not_in_main))
 
     values : map (λ e. e.value) keys'.entries ≡ (stored slot w.held m).values

@@ -20,7 +20,7 @@ use Rattle.clock2q_machine.specs.Machine as cache
 use Rattle.clock2q_machine.specs.Machine.{Machine, stored, empty, vacancy, goes_to_main}
 use Rattle.clock2q_machine.specs.Whole.{IsWhole}
 use Rattle.clock2q_cache.specs.CacheFields.{machine_of, places_of, with_keys_small, with_keys_main, IsStored, IsSized, IsKept}
-use Rattle.clock2q_cache.proofs.WithKeys.{small-agree, main-agree, small-last}
+use Rattle.clock2q_cache.proofs.WithKeys.{small_with, main_with, keys-agree, small-last}
 use Rattle.clock2q_cache.proofs.Stored.{all-written, values-written, length-values, below-more}
 use Rattle.clock2q_cache.proofs.CacheInvariant.{small_have, length_in_small, sized-same}
 use Rattle.clock2q_machine.proofs.Whole.{whole-forgotten, all_resident, small_share}
@@ -171,9 +171,9 @@ module _ {K V : Type 0} {eq : K → K → Bool} {hash : K → ℕ} {shares : Sha
     pub replaced-machine : machine_of shares q (with_value slot value keys.entries) h.entries free ≡ stored slot value m
     replaced-machine =
         let s : with_keys_small (key_at (with_value slot value keys.entries)) q.small ≡ m.small =
-        small-agree (key_at keys.entries) (key_at (with_value slot value keys.entries)) q.small (λ t g. key-same slot value keys.entries r made t) in
+        keys-agree small_with (key_at keys.entries) (key_at (with_value slot value keys.entries)) q.small (λ t g. key-same slot value keys.entries r made t) in
         let t : with_keys_main (key_at (with_value slot value keys.entries)) q.main ≡ m.main =
-        main-agree (key_at keys.entries) (key_at (with_value slot value keys.entries)) q.main (λ t g. key-same slot value keys.entries r made t) in
+        keys-agree main_with (key_at keys.entries) (key_at (with_value slot value keys.entries)) q.main (λ t g. key-same slot value keys.entries r made t) in
         let v = ap (λ z. map (λ (e : Entry K V). e.value) z) r.written ∙ values-written slot (record r.entry { value = value }) keys.entries (omega (arith, made)) in
         cc
 
@@ -210,7 +210,7 @@ module _ {K V : Type 0} {eq : K → K → Bool} {hash : K → ℕ} {shares : Sha
           nothing (x ∷ xs) e s = last-some x xs e
       of (Some e) last =
           let k = small_have laws kept e.0 (tail-has e.0 q.small e.1 last) in
-          let l = small-last (key_at keys.entries) None None q.small e k.0 (small_have laws kept) (λ e. absurd (cc)) last k.1 in
+          let l = small-last (key_at keys.entries) q.small e k.0 (small_have laws kept) last k.1 in
           rw l (is ∙ ap (λ z. tail_promoted z) last)
 
 module _ {K V : Type 0} where

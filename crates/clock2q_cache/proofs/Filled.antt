@@ -18,7 +18,7 @@ use Rattle.clock2q_machine.specs.Shares.{Shares}
 use Rattle.clock2q_machine.specs.Machine.{Machine, prefilled}
 use Rattle.clock2q_machine.specs.Whole.{IsWhole}
 use Rattle.clock2q_cache.specs.CacheFields.{machine_of, places_of, with_keys_small, with_keys_main, IsStored, IsKept}
-use Rattle.clock2q_cache.proofs.WithKeys.{small-agree, main-agree}
+use Rattle.clock2q_cache.proofs.WithKeys.{small_with, main_with, keys-agree}
 use Rattle.clock2q_cache.proofs.Stored.{length-values, below-has}
 use Rattle.clock2q_cache.proofs.CacheInvariant.{sized-same}
 use Rattle.clock2q_machine.proofs.MachineInvariant.{lasting-prefilled}
@@ -111,9 +111,9 @@ module _ {K V : Type 0} {eq : K → K → Bool} {hash : K → ℕ} {shares : Sha
   pub machine-prefilled : machine_of shares q keys'.entries h.entries free' ≡ prefilled made m
   machine-prefilled =
       let s : with_keys_small (key_at keys'.entries) q.small ≡ m.small =
-      ap (λ z. with_keys_small (key_at z) q.small) is ∙ small-agree (key_at keys.entries) (key_at (keys.entries ++ added)) q.small (λ t g. key-before keys.entries added t (in_small t g)) in
+      ap (λ z. with_keys_small (key_at z) q.small) is ∙ keys-agree small_with (key_at keys.entries) (key_at (keys.entries ++ added)) q.small (λ t g. key-before keys.entries added t (in_small t g)) in
       let t : with_keys_main (key_at keys'.entries) q.main ≡ m.main =
-      ap (λ z. with_keys_main (key_at z) q.main) is ∙ main-agree (key_at keys.entries) (key_at (keys.entries ++ added)) q.main (λ t g. key-before keys.entries added t (in_main t g)) in
+      ap (λ z. with_keys_main (key_at z) q.main) is ∙ keys-agree main_with (key_at keys.entries) (key_at (keys.entries ++ added)) q.main (λ t g. key-before keys.entries added t (in_main t g)) in
       let v : map (λ (e : Entry K V). e.value) keys'.entries ≡ m.values ++ made = ap (λ z. map (λ (e : Entry K V). e.value) z) is ∙ map-append (λ (e : Entry K V). e.value) keys.entries added in
       let n : shares.capacity - length keys.entries ≡ length made = omega (arith, as_many, length-values added) in
       let f : reverse free' ≡ range_with_len (length m.values) (length made) ++ reverse free =

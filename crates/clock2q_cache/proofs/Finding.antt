@@ -1,11 +1,11 @@
 -- What a lookup through the index finds is the machine's slot of the key, and what a hit there makes of the machine.
-use Rattle.std.proofs.Common.{◌≡◌, ℕ, zero, suc, ◌+◌, ◌<◌, ◌≤◌, ◌⊎◌, Bool, true, false, ◌&&◌, cond, eqb, Option, Some, None, slice_get, List, [], ◌∷◌, ◌++◌, map, length, inl, inr, refl, sym, ap, ◌∙◌, subst, arith, eqb-true}
+use Rattle.std.proofs.Common.{◌≡◌, ℕ, zero, suc, ◌<◌, ◌≤◌, ◌⊎◌, Bool, true, false, ◌&&◌, cond, eqb, Option, Some, None, slice_get, List, [], ◌∷◌, ◌++◌, map, length, inl, inr, refl, sym, ap, ◌∙◌, subst, arith, eqb-true}
 use Rattle.std.specs.Prelude.{IfSome}
 use Rattle.std.specs.Cmp.{IsEquivalence}
 use Rattle.std.specs.Option.{option_map}
 use Rattle.std.specs.List.{count_by, find, list_any, cons_option, AllByRecursion}
 use Rattle.std.proofs.lemmas.Bool.{cases_Bool, both_ways, or_cases}
-use Rattle.std.proofs.lemmas.List.Sums.{sum_by-cons}
+use Rattle.std.proofs.lemmas.List.Sums.{sum_by-cons, sum_by-append}
 use Rattle.clock2q_handles.specs.Homes.{candidates}
 use Rattle.clock2q_queues.proofs.Booleans.{or_true}
 use Rattle.clock2q_machine.specs.Ages.{Age}
@@ -29,8 +29,9 @@ use Rattle.clock2q_machine.specs.Machine.{Machine, slot_of, hit}
 use Rattle.clock2q_machine.specs.Steps.{is_at}
 use Rattle.clock2q_machine.specs.Whole.{IsWhole, known_count}
 use Rattle.clock2q_cache.specs.CacheFields.{machine_of, places_of, with_keys_small, with_keys_main, IsStored, IsKept}
-use Rattle.clock2q_cache.proofs.WithKeys.{HaveKeys, have_later, small_with, main_with, small-cons, main-cons, small-hit, main-hit}
-use Rattle.clock2q_cache.proofs.Stored.{length-values}
+use Rattle.clock2q_cache.proofs.WithKeys.{HaveKeys, have_later, paired, paired-cons, small-hit, main-hit}
+use Rattle.clock2q_cache.proofs.Indexed.{residents-paired}
+use Rattle.clock2q_cache.proofs.Stored.{have_keys, length-values}
 use Rattle.clock2q_cache.proofs.CacheInvariant.{small_have, main_have, sized-same}
 use Rattle.clock2q_machine.proofs.Whole.{whole-hit}
 
@@ -45,50 +46,21 @@ none-has is (e ∷ es) h = elim (cases_Bool (is e)) [
   | inr f ↦ rw f (none-has is es (omega (arith, h, sum_by-cons (λ k. cond (is k) 1 0) e es)))
 ]
 
--- a test of slots that tells whether the key there passes
-module _ {K : Type 0} (key : ℕ → Option K) (is : K → Bool) (passes : ℕ → Bool) (tells : (t : ℕ) (k : K) → key t ≡ Some k → passes t ≡ is k) where
-  small-found : (es : List (ℕ × Age)) (rs : List (K × ℕ)) (ps : List ℕ) → HaveKeys key (slots_of es) → option_map (λ (r : K × ℕ). r.1) (find (λ r. is r.0) rs) ≡ find passes ps
-      → option_map (λ (r : K × ℕ). r.1) (find (λ r. is r.0) (map (λ (e : SmallEntry K). (e.key, e.slot)) (with_keys_small key es) ++ rs)) ≡ find passes (slots_of es ++ ps)
-  small-found [] rs ps h r = r
-  small-found (e ∷ es) rs ps h r =
-      let k = h e.0 (has_first e.0 (slots_of es)) in
-      let p : passes e.0 ≡ is k.0 = tells e.0 k.0 k.1 in
-      ap (λ z. option_map (λ (r : K × ℕ). r.1) (find (λ r. is r.0) (map (λ (e : SmallEntry K). (e.key, e.slot)) z ++ rs))) (small-cons key e es k.0 k.1)
-      ∙ elim (cases_Bool (is k.0)) [
-        | inl t ↦ rw (p, t) refl
-        | inr f ↦ rw (p, f) (small-found es rs ps (have_later key e.0 (slots_of es) h) r)
-      ]
+counted-map : {X Y : Type 0} (is : Y → Bool) (f : X → Y) (xs : List X) → count_by is (map f xs) ≡ count_by (λ x. is (f x)) xs
+counted-map is f [] = refl
+counted-map is f (x ∷ xs) = omega (arith, sum_by-cons (λ y. cond (is y) 1 0) (f x) (map f xs), sum_by-cons (λ x. cond (is (f x)) 1 0) x xs, counted-map is f xs)
 
-  main-found : (es : List (ℕ × Bool)) → HaveKeys key (slots_of es)
-      → option_map (λ (r : K × ℕ). r.1) (find (λ r. is r.0) (map (λ (e : MainEntry K). (e.key, e.slot)) (with_keys_main key es))) ≡ find passes (slots_of es)
-  main-found [] h = refl
-  main-found (e ∷ es) h =
-      let k = h e.0 (has_first e.0 (slots_of es)) in
-      let p : passes e.0 ≡ is k.0 = tells e.0 k.0 k.1 in
-      ap (λ z. option_map (λ (r : K × ℕ). r.1) (find (λ r. is r.0) (map (λ (e : MainEntry K). (e.key, e.slot)) z))) (main-cons key e es k.0 k.1)
-      ∙ elim (cases_Bool (is k.0)) [
-        | inl t ↦ rw (p, t) refl
-        | inr f ↦ rw (p, f) (main-found es (have_later key e.0 (slots_of es) h))
-      ]
+-- a test of slots that tells whether the key there passes
+paired-found : {K : Type 0} (key : ℕ → Option K) (is : K → Bool) (passes : ℕ → Bool) → ((t : ℕ) (k : K) → key t ≡ Some k → passes t ≡ is k) → (ps : List ℕ) → HaveKeys key ps
+    → option_map (λ (r : K × ℕ). r.1) (find (λ r. is r.0) (paired key ps)) ≡ find passes ps
+paired-found key is passes tells [] h = refl
+paired-found {K} key is passes tells (p ∷ ps) h =
+    let k = h p (has_first p ps) in
+    let t : passes p ≡ is k.0 = tells p k.0 k.1 in
+    ap (λ z. option_map (λ (r : K × ℕ). r.1) (find (λ r. is r.0) z)) (paired-cons key p ps k.0 k.1)
+    ∙ elim (cases_Bool (is k.0)) [ inl y ↦ rw (t, y) refl | inr n ↦ rw (t, n) (paired-found key is passes tells ps (have_later key p ps h)) ]
 
 module _ {K V : Type 0} (entries : List (Entry K V)) where
-  pub record HasEntry (t : ℕ) (k : K) : Type 0 where
-    pub hash : ℕ
-    pub hashed : hashed_at entries t ≡ Some (hash, k)
-
-  hashed-there : (t : ℕ) (k : K) → key_at entries t ≡ Some k → HasEntry t k
-  hashed-there t k h = of (slice_get entries t) refl h
-    where
-      inner : (a b : K) → Some a ≡ Some b → a ≡ b
-      inner a b q = cc
-
-      of : (o : Option (Entry K V)) → slice_get entries t ≡ o → elim o [ None ↦ None | Some e ↦ Some e.key ] ≡ Some k → HasEntry t k
-      of None is h = absurd (cc)
-      of (Some e) is h = record {
-        hash = e.hash;
-        hashed = ap (λ z. elim z [ None ↦ None | Some e ↦ Some (e.hash, e.key) ]) is ∙ ap (λ (z : K). Some (e.hash, z)) (inner e.key k h);
-      }
-
   -- whether a key is the one there
   pub key-tells : (eq : K → K → Bool) (key : K) (t : ℕ) (k : K) → key_at entries t ≡ Some k → is_key_at eq key entries t ≡ eq key k
   key-tells eq key t k h = of (slice_get entries t) h
@@ -100,48 +72,21 @@ module _ {K V : Type 0} (entries : List (Entry K V)) where
       of None h = absurd (cc)
       of (Some e) h = ap (λ z. eq key z) (inner e.key k h)
 
-  -- as many keys pass at the slots as in the queues
-  small-counted : (is : K → Bool) (es : List (ℕ × Age)) → HaveKeys (key_at entries) (slots_of es)
-      → count_by (λ (e : ℕ × K). is e.1) (entries_of entries (slots_of es)) ≡ count_by (λ (e : SmallEntry K). is e.key) (with_keys_small (key_at entries) es)
-  small-counted is [] h = refl
-  small-counted is (e ∷ es) h =
-      let k = h e.0 (has_first e.0 (slots_of es)) in
-      let x = hashed-there e.0 k.0 k.1 in
-      ap (λ z. count_by (λ (e : ℕ × K). is e.1) (cons_option z (entries_of entries (slots_of es)))) x.hashed
-      ∙ omega (
-        arith,
-        sum_by-cons (λ (e : ℕ × K). cond (is e.1) 1 0) (x.hash, k.0) (entries_of entries (slots_of es)),
-        sum_by-cons (λ (e : SmallEntry K). cond (is e.key) 1 0)
-            (small_with (key_at entries) e k.0) (with_keys_small (key_at entries) es),
-        small-counted is es (have_later (key_at entries) e.0 (slots_of es) h),
-      )
-      ∙ sym (ap (λ z. count_by (λ (e : SmallEntry K). is e.key) z) (small-cons (key_at entries) e es k.0 k.1))
-
-  main-counted : (is : K → Bool) (es : List (ℕ × Bool)) → HaveKeys (key_at entries) (slots_of es)
-      → count_by (λ (e : ℕ × K). is e.1) (entries_of entries (slots_of es)) ≡ count_by (λ (e : MainEntry K). is e.key) (with_keys_main (key_at entries) es)
-  main-counted is [] h = refl
-  main-counted is (e ∷ es) h =
-      let k = h e.0 (has_first e.0 (slots_of es)) in
-      let x = hashed-there e.0 k.0 k.1 in
-      ap (λ z. count_by (λ (e : ℕ × K). is e.1) (cons_option z (entries_of entries (slots_of es)))) x.hashed
-      ∙ omega (
-        arith,
-        sum_by-cons (λ (e : ℕ × K). cond (is e.1) 1 0) (x.hash, k.0) (entries_of entries (slots_of es)),
-        sum_by-cons (λ (e : MainEntry K). cond (is e.key) 1 0) (main_with (key_at entries) e k.0) (with_keys_main (key_at entries) es),
-        main-counted is es (have_later (key_at entries) e.0 (slots_of es) h),
-      )
-      ∙ sym (ap (λ z. count_by (λ (e : MainEntry K). is e.key) z) (main-cons (key_at entries) e es k.0 k.1))
-
-  appended-counted : (is : K → Bool) (xs ys : List ℕ) → count_by (λ (e : ℕ × K). is e.1) (entries_of entries (xs ++ ys))
-      ≡ count_by (λ (e : ℕ × K). is e.1) (entries_of entries xs) + count_by (λ (e : ℕ × K). is e.1) (entries_of entries ys)
-  appended-counted is [] ys = omega arith
-  appended-counted is (x ∷ xs) ys = of (appended-counted is xs ys) (hashed_at entries x)
+  -- as many keys pass at the places as among the residents there
+  paired-counted : (is : K → Bool) (ps : List ℕ) → count_by (λ (e : ℕ × K). is e.1) (entries_of entries ps) ≡ count_by (λ (r : K × ℕ). is r.0) (paired (key_at entries) ps)
+  paired-counted is [] = refl
+  paired-counted is (p ∷ ps) = of (slice_get entries p) (paired-counted is ps)
     where
-      of : count_by (λ (e : ℕ × K). is e.1) (entries_of entries (xs ++ ys)) ≡ count_by (λ (e : ℕ × K). is e.1) (entries_of entries xs) + count_by (λ (e : ℕ × K). is e.1) (entries_of entries ys)
-          → (o : Option (ℕ × K)) → count_by (λ (e : ℕ × K). is e.1) (cons_option o (entries_of entries (xs ++ ys)))
-          ≡ count_by (λ (e : ℕ × K). is e.1) (cons_option o (entries_of entries xs)) + count_by (λ (e : ℕ × K). is e.1) (entries_of entries ys)
-      of r None = r
-      of r (Some e) = omega (arith, r, sum_by-cons (λ (e : ℕ × K). cond (is e.1) 1 0) e (entries_of entries (xs ++ ys)), sum_by-cons (λ (e : ℕ × K). cond (is e.1) 1 0) e (entries_of entries xs))
+      of : (o : Option (Entry K V)) → count_by (λ (e : ℕ × K). is e.1) (entries_of entries ps) ≡ count_by (λ (r : K × ℕ). is r.0) (paired (key_at entries) ps)
+          → count_by (λ (e : ℕ × K). is e.1) (cons_option (elim o [ None ↦ None | Some e ↦ Some (e.hash, e.key) ]) (entries_of entries ps))
+          ≡ count_by (λ (r : K × ℕ). is r.0) (cons_option (option_map (λ k. (k, p)) (elim o [ None ↦ None | Some e ↦ Some e.key ])) (paired (key_at entries) ps))
+      of None r = r
+      of (Some e) r = omega (
+        arith,
+        r,
+        sum_by-cons (λ (x : ℕ × K). cond (is x.1) 1 0) (e.hash, e.key) (entries_of entries ps),
+        sum_by-cons (λ (x : K × ℕ). cond (is x.0) 1 0) (e.key, p) (paired (key_at entries) ps),
+      )
 
 -- where each key stands once at most, no two are the same
 distinct-once : {K : Type 0} (eq : K → K → Bool) → IsEquivalence eq → (es : List (ℕ × K)) → ((k : K) → count_by (λ (e : ℕ × K). eq k e.1) es ≤ 1) → AllDistinct eq es
@@ -185,13 +130,14 @@ module _ {K V : Type 0} {eq : K → K → Bool} {hash : K → ℕ} {shares : Sha
   candidates-there x = all-has (λ place. place < length keys.entries) (candidates index x) (λ t g. (candidate_there index keys.entries (places_of q) x t kept.stored.indexed g).1)
 
   known_at : (is : K → Bool) → count_by (λ (e : ℕ × K). is e.1) (entries_of keys.entries (places_of q)) ≤ known_count is m
-  known_at is =
-      omega (
-        arith,
-        appended-counted keys.entries is (slots_of q.small) (slots_of q.main),
-        small-counted keys.entries is q.small (small_have laws kept),
-        main-counted keys.entries is q.main (main_have laws kept),
-      )
+  known_at is = omega (
+    arith,
+    paired-counted keys.entries is (places_of q),
+    ap (λ (z : List (K × ℕ)). count_by (λ r. is r.0) z) (residents-paired laws kept),
+    sum_by-append (λ (r : K × ℕ). cond (is r.0) 1 0) (map (λ (e : SmallEntry K). (e.key, e.slot)) m.small) (map (λ (e : MainEntry K). (e.key, e.slot)) m.main),
+    counted-map (λ (r : K × ℕ). is r.0) (λ (e : SmallEntry K). (e.key, e.slot)) m.small,
+    counted-map (λ (r : K × ℕ). is r.0) (λ (e : MainEntry K). (e.key, e.slot)) m.main,
+  )
 
   pub distinct : AllDistinct eq (entries_of keys.entries (places_of q))
   distinct = distinct-once eq laws (entries_of keys.entries (places_of q)) (λ k. omega (arith, known_at (eq k), kept.whole.keys_once k))
@@ -199,9 +145,8 @@ module _ {K V : Type 0} {eq : K → K → Bool} {hash : K → ℕ} {shares : Sha
   module _ (key : K) where
     slot-among : slot_of (eq key) m ≡ find (is_key_at eq key keys.entries) (places_of q)
     slot-among =
-        small-found (key_at keys.entries) (eq key) (is_key_at eq key keys.entries) (key-tells keys.entries eq key)
-        q.small (map (λ (e : MainEntry K). (e.key, e.slot)) m.main) (slots_of q.main) (small_have laws kept)
-        (main-found (key_at keys.entries) (eq key) (is_key_at eq key keys.entries) (key-tells keys.entries eq key) q.main (main_have laws kept))
+        ap (λ (z : List (K × ℕ)). option_map (λ (r : K × ℕ). r.1) (find (λ r. eq key r.0) z)) (residents-paired laws kept)
+        ∙ paired-found (key_at keys.entries) (eq key) (is_key_at eq key keys.entries) (key-tells keys.entries eq key) (places_of q) (have_keys keys.entries (places_of q) kept.stored.made)
 
     -- what a lookup finds
     pub found : ((x y : K) → eq x y ≡ true → hash x ≡ hash y) → (hsh : ℕ) → hsh ≡ hash key → find (is_key_at eq key keys.entries) (candidates index hsh) ≡ slot_of (eq key) m
@@ -286,11 +231,11 @@ module _ {K V : Type 0} {eq : K → K → Bool} {hash : K → ℕ} {shares : Sha
       pub hit-machine : (q' : QueueState) → q'.small ≡ small_hit_at slot q.small → q'.main ≡ main_hit_at slot q.main → machine_of shares q' keys.entries h.entries free ≡ hit (eq key) m
       hit-machine q' small main =
           let s : with_keys_small (key_at keys.entries) q'.small ≡ machine.small_hit (eq key) m.small =
-          ap (λ z. with_keys_small (key_at keys.entries) z) small ∙ sym (small-hit (key_at keys.entries) (eq key) slot q.small
-          (λ t k g at. key-there k t (has-append t (slots_of q.small) (slots_of q.main) ∙ rw g refl) at) (small_have laws kept)) in
+          ap (λ z. with_keys_small (key_at keys.entries) z) small ∙ small-hit (key_at keys.entries) (eq key) slot q.small
+          (λ t k g at. key-there k t (has-append t (slots_of q.small) (slots_of q.main) ∙ rw g refl) at) (small_have laws kept) in
           let t : with_keys_main (key_at keys.entries) q'.main ≡ machine.main_hit (eq key) m.main =
-          ap (λ z. with_keys_main (key_at keys.entries) z) main ∙ sym (main-hit (key_at keys.entries) (eq key) slot q.main
-          (λ t k g at. key-there k t (has-append t (slots_of q.small) (slots_of q.main) ∙ rw g (or_true (has t (slots_of q.small)))) at) (main_have laws kept)) in
+          ap (λ z. with_keys_main (key_at keys.entries) z) main ∙ main-hit (key_at keys.entries) (eq key) slot q.main
+          (λ t k g at. key-there k t (has-append t (slots_of q.small) (slots_of q.main) ∙ rw g (or_true (has t (slots_of q.small)))) at) (main_have laws kept) in
           cc
 
       pub kept-hit : (q' : QueueState) → q'.small ≡ small_hit_at slot q.small → q'.main ≡ main_hit_at slot q.main

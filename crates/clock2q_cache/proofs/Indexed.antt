@@ -1,24 +1,21 @@
 -- What stands in the indexes, in terms of the machine.
-use Rattle.std.proofs.Common.{◌≡◌, ℕ, suc, ◌≤◌, ◌==◌, Bool, true, false, ◌||◌, ◌&&◌, eqb, Option, Some, None, slice_get, List, [], ◌∷◌, ◌++◌, map, length, inl, inr, refl, sym, ap, ◌∙◌, subst, arith, eqb-true}
-use Rattle.std.specs.Option.{option_map}
-use Rattle.std.specs.List.{list_any, zip, filter_map, cons_option, AllByRecursion}
+use Rattle.std.proofs.Common.{◌≡◌, ℕ, suc, ◌≤◌, ◌==◌, Bool, true, false, ◌||◌, ◌&&◌, eqb, Option, Some, None, slice_get, List, [], ◌∷◌, map, length, inl, inr, refl, sym, ap, ◌∙◌, subst, arith, eqb-true}
+use Rattle.std.specs.List.{list_any, zip, cons_option, AllByRecursion}
 use Rattle.std.proofs.lemmas.Bool.{cases_Bool}
 use Rattle.std.proofs.lemmas.List.{length-map}
 use Rattle.std.specs.Cmp.{IsEquivalence}
-use Rattle.clock2q_machine.specs.Ages.{Age}
 use Rattle.clock2q_queues.specs.declared.keys.store.Entry.{Entry}
 use Rattle.clock2q_queues.specs.Rings.{has, AllBelow}
 use Rattle.clock2q_queues.specs.Keys.{KeyPlaces, key_at, hash_at, hashed_at, entries_of}
 use Rattle.clock2q_queues.specs.Indexes.{IsIndex, is_named, is_alike}
-use Rattle.clock2q_queues.specs.Queues.{QueueState, slots_of}
+use Rattle.clock2q_queues.specs.Queues.{QueueState}
 use Rattle.clock2q_queues.specs.History.{Remembered, IsWholeHistory}
 use Rattle.clock2q_queues.proofs.Rings.{has_first}
-use Rattle.clock2q_machine.specs.Entries.{SmallEntry, MainEntry}
 use Rattle.clock2q_machine.specs.Shares.{Shares}
 use Rattle.clock2q_machine.specs.Machine.{residents}
-use Rattle.clock2q_cache.specs.CacheFields.{machine_of, places_of, with_keys_small, with_keys_main, IsKept}
+use Rattle.clock2q_cache.specs.CacheFields.{machine_of, places_of, IsKept}
 use Rattle.clock2q_cache.specs.Indexed.{HasPlaces}
-use Rattle.clock2q_cache.proofs.WithKeys.{HaveKeys, have_later, small-cons, main-cons}
+use Rattle.clock2q_cache.proofs.WithKeys.{HaveKeys, have_later, paired, paired-cons, residents-keyed}
 use Rattle.clock2q_cache.proofs.Stored.{entry_there, hash-of-key}
 use Rattle.clock2q_cache.proofs.CacheInvariant.{small_have, main_have}
 
@@ -27,36 +24,11 @@ absorb true a = refl
 absorb false true = refl
 absorb false false = refl
 
-module _ {K : Type 0} (key : ℕ → Option K) where
-  -- the keys that stand at these places, each with its place
-  abbrev pub paired : List ℕ → List (K × ℕ)
-  paired places = filter_map (λ s. option_map (λ k. (k, s)) (key s)) places
-
-  pub paired-cons : (s : ℕ) (ss : List ℕ) (k : K) → key s ≡ Some k → paired (s ∷ ss) ≡ (k, s) ∷ paired ss
-  paired-cons s ss k h = ap (λ o. cons_option (option_map (λ (k : K). (k, s)) o) (paired ss)) h
-
-  pub length-paired : (places : List ℕ) → HaveKeys key places → length (paired places) ≡ length places
-  length-paired [] h = refl
-  length-paired (s ∷ ss) h =
-      let k = h s (has_first s ss) in
-      ap (λ (z : List (K × ℕ)). length z) (paired-cons s ss k.0 k.1) ∙ ap suc (length-paired ss (have_later key s ss h))
-
-  pub main-paired : (es : List (ℕ × Bool)) → HaveKeys key (slots_of es) → map (λ (e : MainEntry K). (e.key, e.slot)) (with_keys_main key es) ≡ paired (slots_of es)
-  main-paired [] h = refl
-  main-paired (e ∷ es) h =
-      let k = h e.0 (has_first e.0 (slots_of es)) in
-      ap (λ (z : List (MainEntry K)). map (λ (e : MainEntry K). (e.key, e.slot)) z) (main-cons key e es k.0 k.1)
-      ∙ ap (λ zs. (k.0, e.0) ∷ zs) (main-paired es (have_later key e.0 (slots_of es) h))
-      ∙ sym (paired-cons e.0 (slots_of es) k.0 k.1)
-
-  pub small-paired : (es : List (ℕ × Age)) (rs : List (K × ℕ)) (ps : List ℕ) → HaveKeys key (slots_of es) → rs ≡ paired ps
-      → map (λ (e : SmallEntry K). (e.key, e.slot)) (with_keys_small key es) ++ rs ≡ paired (slots_of es ++ ps)
-  small-paired [] rs ps h r = r
-  small-paired (e ∷ es) rs ps h r =
-      let k = h e.0 (has_first e.0 (slots_of es)) in
-      ap (λ (z : List (SmallEntry K)). map (λ (e : SmallEntry K). (e.key, e.slot)) z ++ rs) (small-cons key e es k.0 k.1)
-      ∙ ap (λ zs. (k.0, e.0) ∷ zs) (small-paired es rs ps (have_later key e.0 (slots_of es) h) r)
-      ∙ sym (paired-cons e.0 (slots_of es ++ ps) k.0 k.1)
+length-paired : {K : Type 0} (key : ℕ → Option K) (places : List ℕ) → HaveKeys key places → length (paired key places) ≡ length places
+length-paired key [] h = refl
+length-paired key (s ∷ ss) h =
+    let k = h s (has_first s ss) in
+    ap (λ (z : List (_ × ℕ)). length z) (paired-cons key s ss k.0 k.1) ∙ ap suc (length-paired key ss (have_later key s ss h))
 
 module _ {K V : Type 0} (hash : K → ℕ) (entries : List (Entry K V)) where
   -- a key stands at a place with its hash
@@ -158,9 +130,7 @@ module _ {K V : Type 0} {eq : K → K → Bool} {hash : K → ℕ} {shares : Sha
     (laws : IsEquivalence eq) (kept : IsKept eq hash shares q h index keys free room) where
   -- the residents are the keys at the slots in use
   pub residents-paired : residents (machine_of shares q keys.entries h.entries free) ≡ paired (key_at keys.entries) (places_of q)
-  residents-paired =
-      let main = main-paired (key_at keys.entries) q.main (main_have laws kept) in
-      small-paired (key_at keys.entries) q.small _ (slots_of q.main) (small_have laws kept) main
+  residents-paired = residents-keyed (key_at keys.entries) q.small q.main (small_have laws kept) (main_have laws kept)
 
   -- the index of the residents
   pub residents-have : HasPlaces hash index (residents (machine_of shares q keys.entries h.entries free))

@@ -22,10 +22,10 @@ use Rattle.clock2q_queues.specs.Queues.{slots_of}
 use Rattle.clock2q_machine.specs.Entries.{SmallEntry}
 use Rattle.clock2q_cache.specs.Places.{remembering_any, left_by, entered, discarded, key_out, out_of, hash_in, residents_with, remembered_with}
 use Rattle.clock2q_cache.specs.CacheState.{CacheState}
-use Rattle.clock2q_cache.proofs.WithKeys.{HaveKeys, have_later}
+use Rattle.clock2q_cache.proofs.WithKeys.{HaveKeys, have_later, paired, paired-cons}
 use Rattle.clock2q_cache.proofs.Stored.{have_keys, hash-of-key}
 use Rattle.clock2q_cache.proofs.Renewed.{last_entry, tail_key}
-use Rattle.clock2q_cache.proofs.Indexed.{paired, paired-cons, residents-paired}
+use Rattle.clock2q_cache.proofs.Indexed.{residents-paired}
 
 module _ {K : Type 0} (key : ℕ → Option K) (slot : ℕ) where
   same_key : (a b : K) → Some a ≡ Some b → a ≡ b

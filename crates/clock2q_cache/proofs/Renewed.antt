@@ -22,7 +22,7 @@ use Rattle.clock2q_machine.specs.Entries.{SmallEntry, MainEntry}
 use Rattle.clock2q_machine.specs.Machine.{Machine, Placement, vacancy, into_main, into_small, into_small_at, joining_main, replacing_victim, evicting_tail, promoting_tail, stored}
 use Rattle.clock2q_machine.specs.Whole.{known_count}
 use Rattle.clock2q_cache.specs.CacheFields.{machine_of, places_of, with_keys_small, with_keys_main, IsStored, IsKept}
-use Rattle.clock2q_cache.proofs.WithKeys.{main-cons, small-admitted, main-behind, small-agree, main-agree, small-take, small-last, main-from_victim}
+use Rattle.clock2q_cache.proofs.WithKeys.{keys-cons, small-admitted, main-behind, small_with, main_with, keys-agree, small-take, small-last, main-from_victim}
 use Rattle.clock2q_cache.proofs.Stored.{stored-renewed, key_at-own, key_at-others, values-written, length-values, hash-of-key}
 use Rattle.clock2q_cache.proofs.Slots.{times, times-cons, times-none, has-times, times-both, times-pushed, times-admitted, length-admitted, stored-moved, at_most_once, length-places, length-swept}
 use Rattle.clock2q_cache.proofs.CacheInvariant.{length_in_small, length_in_main, small_have, main_have, apart, index_some, IsDone, placed-done, sized-same}
@@ -166,7 +166,7 @@ module _ {K V : Type 0} {eq : K → K → Bool} {hash : K → ℕ} {shares : Sha
 
     choice : machine.from_victim m.main ≡ victim_entry ∷ others
     choice = main-from_victim (key_at keys.entries) q.main (main_have laws kept)
-        ∙ ap (λ z. with_keys_main (key_at keys.entries) z) swept ∙ main-cons (key_at keys.entries) (victim, false) rest victim_key.0 victim_key.1
+        ∙ ap (λ z. with_keys_main (key_at keys.entries) z) swept ∙ keys-cons main_with (key_at keys.entries) (victim, false) rest victim_key.0 victim_key.1
 
   -- Small's tail
   module _ (tail : ℕ) (last : last_or None (slots_of q.small) ≡ Some tail) where
@@ -220,7 +220,7 @@ module _ {K V : Type 0} {eq : K → K → Bool} {hash : K → ℕ} {shares : Sha
     tail_entry = record { key = tail_key.0; slot = tail; age = tail_at.0 }
 
     pub last_entry : last_or None m.small ≡ Some tail_entry
-    last_entry = small-last (key_at keys.entries) None None q.small (tail, tail_at.0) tail_key.0 (small_have laws kept) (λ e. absurd (cc)) tail_at.1 tail_key.1
+    last_entry = small-last (key_at keys.entries) q.small (tail, tail_at.0) tail_key.0 (small_have laws kept) tail_at.1 tail_key.1
 
     small_some : 0 < length m.small
     small_some = omega (arith, length_in_small laws kept, length-front)
@@ -265,10 +265,10 @@ module _ {K V : Type 0} {eq : K → K → Bool} {hash : K → ℕ} {shares : Sha
     others_keep = rw w.becomes (key_at-others slot hsh key w.held keys.entries next)
 
     small_other : (es : List (ℕ × Age)) → has slot (slots_of es) ≡ false → with_keys_small (key_at keys'.entries) es ≡ with_keys_small (key_at keys.entries) es
-    small_other es none = small-agree (key_at keys.entries) (key_at keys'.entries) es (others_keep (slots_of es) none)
+    small_other es none = keys-agree small_with (key_at keys.entries) (key_at keys'.entries) es (others_keep (slots_of es) none)
 
     main_other : (es : List (ℕ × Bool)) → has slot (slots_of es) ≡ false → with_keys_main (key_at keys'.entries) es ≡ with_keys_main (key_at keys.entries) es
-    main_other es none = main-agree (key_at keys.entries) (key_at keys'.entries) es (others_keep (slots_of es) none)
+    main_other es none = keys-agree main_with (key_at keys.entries) (key_at keys'.entries) es (others_keep (slots_of es) none)
 
     values : map (λ e. e.value) keys'.entries ≡ (stored slot w.held m).values
     values = rw w.becomes (values-written slot (entry hsh key w.held) keys.entries next)

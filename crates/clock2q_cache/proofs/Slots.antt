@@ -18,7 +18,7 @@ use Rattle.clock2q_machine.specs.Shares.{Shares}
 use Rattle.clock2q_machine.specs.Machine.{Machine, vacancy, vacant_slot}
 use Rattle.clock2q_machine.specs.Whole.{IsWhole, standings}
 use Rattle.clock2q_cache.specs.CacheFields.{machine_of, places_of, IsStored}
-use Rattle.clock2q_cache.proofs.WithKeys.{HaveKeys, small-standing, main-standing, length-small, length-main}
+use Rattle.clock2q_cache.proofs.WithKeys.{HaveKeys, standing-keyed, length-small, length-main}
 use Rattle.clock2q_cache.proofs.Stored.{have_keys, length-values, stored-same}
 
 -- how often a slot stands among these
@@ -113,8 +113,7 @@ module _ {K V : Type 0} (eq : K → K → Bool) (hash : K → ℕ) (shares : Sha
   standing-times t =
       omega (
         arith,
-        small-standing (key_at entries) t q.small small_keys,
-        main-standing (key_at entries) t q.main main_keys,
+        standing-keyed (key_at entries) t q.small q.main small_keys main_keys,
         sum_by-append (λ s. cond (s == t) 1 0) (slots_of q.small) (slots_of q.main),
       )
 

@@ -1,6 +1,6 @@
 -- What becomes of the queues' lists of slots is what becomes of the machine's, with the keys that stand at the slots.
-use Rattle.std.proofs.Common.{◌≡◌, ℕ, zero, suc, ◌+◌, ◌==◌, Bool, true, false, cond, eqb, Option, Some, None, List, [], ◌∷◌, ◌++◌, map, length, take, drop, inl, inr, refl, sym, ap, ◌∙◌, arith}
-use Rattle.std.specs.List.{last_or, count_by, cons_option}
+use Rattle.std.proofs.Common.{◌≡◌, ℕ, zero, suc, ◌+◌, ◌==◌, Bool, true, false, not, cond, eqb, Option, Some, None, List, [], ◌∷◌, ◌++◌, map, length, take, drop, inl, inr, refl, sym, ap, ◌∙◌, subst, arith}
+use Rattle.std.specs.List.{last_or, count_by, cons_option, filter, filter_map}
 use Rattle.std.specs.Option.{option_map}
 use Rattle.std.proofs.lemmas.Bool.{cases_Bool}
 use Rattle.std.proofs.lemmas.List.Elements.{filter_map-append}
@@ -10,19 +10,20 @@ use Rattle.clock2q_machine.specs.Ages.{Age, grown, touched}
 use Rattle.clock2q_queues.specs.Rings.{has}
 use Rattle.clock2q_queues.specs.Small.{admitted, small_hit_at}
 use Rattle.clock2q_queues.specs.MainRing.{set_front, inspections, from_victim, main_hit_at}
-use Rattle.clock2q_queues.specs.Queues.{slots_of}
+use Rattle.clock2q_queues.specs.Queues.{slots_of, without_slot}
 use Rattle.clock2q_queues.proofs.Rings.{has_first, has_later}
 use Rattle.clock2q_machine.specs.Entries as machine
 use Rattle.clock2q_machine.specs.Entries.{SmallEntry, MainEntry}
 use Rattle.clock2q_cache.specs.CacheFields.{with_keys_small, with_keys_main}
 
+-- an entry of Small or of Main, and its key
+abbrev pub small_with : {K : Type 0} → ℕ × Age → K → SmallEntry K
+small_with e k = record { key = k; slot = e.0; age = e.1 }
+
+abbrev pub main_with : {K : Type 0} → ℕ × Bool → K → MainEntry K
+main_with e k = record { key = k; slot = e.0; bit = e.1 }
+
 module _ {K : Type 0} (key : ℕ → Option K) where
-  abbrev pub small_with : ℕ × Age → K → SmallEntry K
-  small_with e k = record { key = k; slot = e.0; age = e.1 }
-
-  abbrev pub main_with : ℕ × Bool → K → MainEntry K
-  main_with e k = record { key = k; slot = e.0; bit = e.1 }
-
   -- each of these slots has a key
   abbrev pub HaveKeys : List ℕ → Type 0
   HaveKeys slots = (t : ℕ) → has t slots ≡ true → (k : K) × (key t ≡ Some k)
@@ -30,12 +31,114 @@ module _ {K : Type 0} (key : ℕ → Option K) where
   pub have_later : (s : ℕ) (ss : List ℕ) → HaveKeys (s ∷ ss) → HaveKeys ss
   have_later s ss h t g = h t (has_later t s ss g)
 
-  pub small-cons : (e : ℕ × Age) (es : List (ℕ × Age)) (k : K) → key e.0 ≡ Some k → with_keys_small key (e ∷ es) ≡ small_with e k ∷ with_keys_small key es
-  small-cons e es k h = ap (λ z. cons_option (option_map (λ k. small_with e k) z) (with_keys_small key es)) h
+  -- the keys that stand at these places, each with its place
+  abbrev pub paired : List ℕ → List (K × ℕ)
+  paired places = filter_map (λ s. option_map (λ k. (k, s)) (key s)) places
 
-  pub main-cons : (e : ℕ × Bool) (es : List (ℕ × Bool)) (k : K) → key e.0 ≡ Some k → with_keys_main key (e ∷ es) ≡ main_with e k ∷ with_keys_main key es
-  main-cons e es k h = ap (λ z. cons_option (option_map (λ k. main_with e k) z) (with_keys_main key es)) h
+  pub paired-cons : (s : ℕ) (ss : List ℕ) (k : K) → key s ≡ Some k → paired (s ∷ ss) ≡ (k, s) ∷ paired ss
+  paired-cons s ss k h = ap (λ o. cons_option (option_map (λ (k : K). (k, s)) o) (paired ss)) h
 
+-- a queue's entries, and what they are with the keys that stand at their slots
+pub data Keyed {K X R : Type 0} (make : ℕ × X → K → R) (key : ℕ → Option K) : List (ℕ × X) → List R → Type 0 where
+  unkeyed : Keyed make key [] []
+  keyed : {e : ℕ × X} {es : List (ℕ × X)} {rs : List R} (k : K) → key e.0 ≡ Some k → Keyed make key es rs → Keyed make key (e ∷ es) (make e k ∷ rs)
+
+module _ {K X R : Type 0} (make : ℕ × X → K → R) (key : ℕ → Option K) where
+  abbrev with_keys : List (ℕ × X) → List R
+  with_keys es = filter_map (λ e. option_map (λ k. make e k) (key e.0)) es
+
+  pub keys-cons : (e : ℕ × X) (es : List (ℕ × X)) (k : K) → key e.0 ≡ Some k → with_keys (e ∷ es) ≡ make e k ∷ with_keys es
+  keys-cons e es k at = ap (λ o. cons_option (option_map (λ k. make e k) o) (with_keys es)) at
+
+  pub have-keyed : (es : List (ℕ × X)) → HaveKeys key (slots_of es) → Keyed make key es (with_keys es)
+  have-keyed [] h = unkeyed
+  have-keyed (e ∷ es) h =
+      let k = h e.0 (has_first e.0 (slots_of es)) in
+      subst (λ rs. Keyed make key (e ∷ es) rs) (sym (keys-cons e es k.0 k.1)) (keyed k.0 k.1 (have-keyed es (have_later key e.0 (slots_of es) h)))
+
+  pub keyed-is : {es : List (ℕ × X)} {rs : List R} → Keyed make key es rs → with_keys es ≡ rs
+  keyed-is unkeyed = refl
+  keyed-is (keyed {e} {es} k at r) = keys-cons e es k at ∙ ap (λ zs. make e k ∷ zs) (keyed-is r)
+
+  -- the same keys at these slots
+  pub keys-agree : (key' : ℕ → Option K) (es : List (ℕ × X)) → ((t : ℕ) → has t (slots_of es) ≡ true → key' t ≡ key t)
+      → filter_map (λ e. option_map (λ k. make e k) (key' e.0)) es ≡ with_keys es
+  keys-agree key' [] h = refl
+  keys-agree key' (e ∷ es) h =
+      ap (λ z. cons_option (option_map (λ k. make e k) z) (filter_map (λ e. option_map (λ k. make e k) (key' e.0)) es)) (h e.0 (has_first e.0 (slots_of es)))
+      ∙ ap (λ z. cons_option (option_map (λ k. make e k) (key e.0)) z) (keys-agree key' es (λ t g. h t (has_later t e.0 (slots_of es) g)))
+
+module _ {K X R : Type 0} {make : ℕ × X → K → R} {key : ℕ → Option K} where
+  -- as many as there are slots
+  length-keyed : {es : List (ℕ × X)} {rs : List R} → Keyed make key es rs → length rs ≡ length es
+  length-keyed unkeyed = refl
+  length-keyed (keyed k at r) = ap suc (length-keyed r)
+
+  -- a part of a queue, and two parts
+  take-keyed : (n : ℕ) {es : List (ℕ × X)} {rs : List R} → Keyed make key es rs → Keyed make key (take n es) (take n rs)
+  take-keyed zero r = unkeyed
+  take-keyed (suc n) unkeyed = unkeyed
+  take-keyed (suc n) (keyed k at r) = keyed k at (take-keyed n r)
+
+  drop-keyed : (n : ℕ) {es : List (ℕ × X)} {rs : List R} → Keyed make key es rs → Keyed make key (drop n es) (drop n rs)
+  drop-keyed zero r = r
+  drop-keyed (suc n) unkeyed = unkeyed
+  drop-keyed (suc n) (keyed k at r) = drop-keyed n r
+
+  append-keyed : {es fs : List (ℕ × X)} {rs ss : List R} → Keyed make key es rs → Keyed make key fs ss → Keyed make key (es ++ fs) (rs ++ ss)
+  append-keyed unkeyed s = s
+  append-keyed (keyed k at r) s = keyed k at (append-keyed r s)
+
+  last-keyed : (e : ℕ × X) (k : K) (o : Option (ℕ × X)) (p : Option R) {es : List (ℕ × X)} {rs : List R} → (o ≡ Some e → p ≡ Some (make e k))
+      → Keyed make key es rs → last_or o es ≡ Some e → key e.0 ≡ Some k → last_or p rs ≡ Some (make e k)
+  last-keyed e k o p first unkeyed last at = first last
+  last-keyed e k o p first (keyed {e = x} j is r) last at = last-keyed e k (Some x) (Some (make x j)) (λ q. same q) r last at
+    where
+      same : Some x ≡ Some e → Some (make x j) ≡ Some (make e k)
+      same q = cc
+
+  -- the residents of a queue
+  keyed-paired : {es : List (ℕ × X)} {rs : List R} (show : R → K × ℕ) → ((e : ℕ × X) (k : K) → show (make e k) ≡ (k, e.0)) → Keyed make key es rs → map show rs ≡ paired key (slots_of es)
+  keyed-paired show shown unkeyed = refl
+  keyed-paired show shown (keyed {e} {es} {rs} k at r) =
+      ap (λ z. z ∷ map show rs) (shown e k) ∙ ap (λ zs. (k, e.0) ∷ zs) (keyed-paired show shown r) ∙ sym (paired-cons key e.0 (slots_of es) k at)
+
+  module _ (slot : R → ℕ) (stands : (e : ℕ × X) (k : K) → slot (make e k) ≡ e.0) (t : ℕ) where
+    -- how often a slot stands
+    pub keyed-standing : {es : List (ℕ × X)} {rs : List R} → Keyed make key es rs → count_by (λ r. slot r == t) rs ≡ count_by (λ s. s == t) (slots_of es)
+    keyed-standing unkeyed = refl
+    keyed-standing (keyed {e} {es} {rs} k at r) = omega (
+      arith,
+      sum_by-cons (λ r. cond (slot r == t) 1 0) (make e k) rs,
+      sum_by-cons (λ s. cond (s == t) 1 0) e.0 (slots_of es),
+      ap {B = ℕ} (λ s. cond (s == t) 1 0) (stands e k),
+      keyed-standing r,
+    )
+
+    -- a queue without a slot
+    keyed-without : {es : List (ℕ × X)} {rs : List R} → Keyed make key es rs → Keyed make key (without_slot t es) (filter (λ r. not (slot r == t)) rs)
+    keyed-without unkeyed = unkeyed
+    keyed-without (keyed {e} k at r) = elim (cases_Bool (eqb e.0 t)) [
+      | inl q ↦ rw (stands e k, q) (keyed-without r)
+      | inr q ↦ rw (stands e k, q) (keyed k at (keyed-without r))
+    ]
+
+module _ {K : Type 0} (key : ℕ → Option K) where
+  pub length-small : (es : List (ℕ × Age)) → HaveKeys key (slots_of es) → length (with_keys_small key es) ≡ length es
+  length-small es h = length-keyed (have-keyed small_with key es h)
+
+  pub length-main : (es : List (ℕ × Bool)) → HaveKeys key (slots_of es) → length (with_keys_main key es) ≡ length es
+  length-main es h = length-keyed (have-keyed main_with key es h)
+
+  -- the residents of both queues
+  pub residents-keyed : (small : List (ℕ × Age)) (main : List (ℕ × Bool)) → HaveKeys key (slots_of small) → HaveKeys key (slots_of main)
+      → map (λ (e : SmallEntry K). (e.key, e.slot)) (with_keys_small key small) ++ map (λ (e : MainEntry K). (e.key, e.slot)) (with_keys_main key main) ≡ paired key (slots_of small ++ slots_of main)
+  residents-keyed small main s m =
+      ap (λ z. z ++ map (λ (e : MainEntry K). (e.key, e.slot)) (with_keys_main key main)) (keyed-paired (λ (e : SmallEntry K). (e.key, e.slot)) (λ e k. refl) (have-keyed small_with key small s))
+      ∙ ap (λ z. paired key (slots_of small) ++ z) (keyed-paired (λ (e : MainEntry K). (e.key, e.slot)) (λ e k. refl) (have-keyed main_with key main m))
+      ∙ sym (filter_map-append (λ s. option_map (λ k. (k, s)) (key s)) (slots_of small) (slots_of main))
+
+  -- an admission
   small-grown : (window : ℕ) (es : List (ℕ × Age))
       → map (λ (e : SmallEntry K). record e { age = grown window e.age }) (with_keys_small key es) ≡ with_keys_small key (map {B = ℕ × Age} (λ (e : ℕ × Age). (e.0, grown window e.1)) es)
   small-grown window [] = refl
@@ -47,163 +150,81 @@ module _ {K : Type 0} (key : ℕ → Option K) where
       of None xs ys r = r
       of (Some k) xs ys r = ap (λ zs. small_with (e.0, grown window e.1) k ∷ zs) r
 
-  -- an admission
   pub small-admitted : (window slot : ℕ) (k : K) (es : List (ℕ × Age)) → key slot ≡ Some k
       → with_keys_small key (admitted window slot es) ≡ machine.small_admitted window k slot (with_keys_small key es)
   small-admitted window slot k es h =
-      small-cons (slot, ages.Young 0) (map {B = ℕ × Age} (λ (e : ℕ × Age). (e.0, grown window e.1)) es) k h
+      keys-cons small_with key (slot, ages.Young 0) (map {B = ℕ × Age} (λ (e : ℕ × Age). (e.0, grown window e.1)) es) k h
       ∙ ap (λ zs. small_with (slot, ages.Young 0) k ∷ zs) (sym (small-grown window es))
 
   -- a slot that is put behind the hand
   pub main-behind : (slot : ℕ) (k : K) (es : List (ℕ × Bool)) → key slot ≡ Some k → with_keys_main key (es ++ (slot, false) ∷ []) ≡ machine.behind_hand k slot (with_keys_main key es)
   main-behind slot k es h =
       filter_map-append (λ (e : ℕ × Bool). option_map (λ k. main_with e k) (key e.0)) es ((slot, false) ∷ [])
-      ∙ ap (λ zs. with_keys_main key es ++ zs) (main-cons (slot, false) [] k h)
-
-  -- as many as there are slots
-  pub length-small : (es : List (ℕ × Age)) → HaveKeys (slots_of es) → length (with_keys_small key es) ≡ length es
-  length-small [] h = refl
-  length-small (e ∷ es) h =
-      let k = h e.0 (has_first e.0 (slots_of es)) in
-      ap (λ (z : List (SmallEntry K)). length z) (small-cons e es k.0 k.1) ∙ ap suc (length-small es (have_later e.0 (slots_of es) h))
-
-  pub length-main : (es : List (ℕ × Bool)) → HaveKeys (slots_of es) → length (with_keys_main key es) ≡ length es
-  length-main [] h = refl
-  length-main (e ∷ es) h =
-      let k = h e.0 (has_first e.0 (slots_of es)) in
-      ap (λ (z : List (MainEntry K)). length z) (main-cons e es k.0 k.1) ∙ ap suc (length-main es (have_later e.0 (slots_of es) h))
+      ∙ ap (λ zs. with_keys_main key es ++ zs) (keys-cons main_with key (slot, false) [] k h)
 
   -- the front of Small, and its tail
-  pub small-take : (n : ℕ) (es : List (ℕ × Age)) → HaveKeys (slots_of es) → with_keys_small key (take n es) ≡ take n (with_keys_small key es)
-  small-take zero es h = refl
-  small-take (suc n) [] h = refl
-  small-take (suc n) (e ∷ es) h =
-      let k = h e.0 (has_first e.0 (slots_of es)) in
-      small-cons e (take n es) k.0 k.1
-      ∙ ap (λ zs. small_with e k.0 ∷ zs) (small-take n es (have_later e.0 (slots_of es) h))
-      ∙ sym (ap (λ z. take (suc n) z) (small-cons e es k.0 k.1))
+  pub small-take : (n : ℕ) (es : List (ℕ × Age)) → HaveKeys key (slots_of es) → with_keys_small key (take n es) ≡ take n (with_keys_small key es)
+  small-take n es h = keyed-is small_with key (take-keyed n (have-keyed small_with key es h))
 
-  pub small-last : (o : Option (ℕ × Age)) (p : Option (SmallEntry K)) (es : List (ℕ × Age)) (e : ℕ × Age) (k : K)
-      → HaveKeys (slots_of es) → (o ≡ Some e → p ≡ Some (small_with e k)) → last_or o es ≡ Some e → key e.0 ≡ Some k
-      → last_or p (with_keys_small key es) ≡ Some (small_with e k)
-  small-last o p [] e k h first last is = first last
-  small-last o p (x ∷ es) e k h first last is =
-      let j = h x.0 (has_first x.0 (slots_of es)) in
-      ap (λ z. last_or p z) (small-cons x es j.0 j.1)
-      ∙ small-last (Some x) (Some (small_with x j.0)) es e k (have_later x.0 (slots_of es) h) (λ q. same j.0 q j.1) last is
-    where
-      inner : (a b : ℕ × Age) → Some a ≡ Some b → a ≡ b
-      inner a b q = cc
+  pub small-last : (es : List (ℕ × Age)) (e : ℕ × Age) (k : K) → HaveKeys key (slots_of es) → last_or None es ≡ Some e → key e.0 ≡ Some k → last_or None (with_keys_small key es) ≡ Some (small_with e k)
+  small-last es e k h = last-keyed e k None None (λ q. absurd (cc)) (have-keyed small_with key es h)
 
-      inner_key : (a b : K) → Some a ≡ Some b → a ≡ b
-      inner_key a b q = cc
+  -- the hand's looks, and its choice
+  main-passed : {es : List (ℕ × Bool)} {rs : List (MainEntry K)} → Keyed main_with key es rs → machine.set_front rs ≡ set_front es
+  main-passed unkeyed = refl
+  main-passed (keyed {e} k at r) = elim (cases_Bool e.1) [ inl t ↦ rw t (ap (λ z. 1 + z) (main-passed r)) | inr f ↦ rw f refl ]
 
-      same : (j : K) → Some x ≡ Some e → key x.0 ≡ Some j → Some (small_with x j) ≡ Some (small_with e k)
-      same j q at =
-          let xe : x ≡ e = inner x e q in
-          let jk : j ≡ k = inner_key j k (sym at ∙ ap (λ (z : ℕ × Age). key z.0) xe ∙ is) in
-          ap (λ (z : ℕ × Age). Some (small_with z j)) xe ∙ ap (λ z. Some (small_with e z)) jk
+  pub main-inspections : (es : List (ℕ × Bool)) → HaveKeys key (slots_of es) → machine.inspections (with_keys_main key es) ≡ inspections es
+  main-inspections es h = ap (λ z. z + 1) (main-passed (have-keyed main_with key es h))
 
-  -- the hand's looks
-  pub main-passed : (es : List (ℕ × Bool)) → HaveKeys (slots_of es) → machine.set_front (with_keys_main key es) ≡ set_front es
-  main-passed [] h = refl
-  main-passed ((s, true) ∷ es) h =
-      let k = h s (has_first s (slots_of es)) in
-      ap (λ z. machine.set_front z) (main-cons (s, true) es k.0 k.1) ∙ ap (λ z. 1 + z) (main-passed es (have_later s (slots_of es) h))
-  main-passed ((s, false) ∷ es) h =
-      let k = h s (has_first s (slots_of es)) in
-      ap (λ z. machine.set_front z) (main-cons (s, false) es k.0 k.1)
+  main-cleared : {es : List (ℕ × Bool)} {rs : List (MainEntry K)} → Keyed main_with key es rs → Keyed main_with key (map {B = ℕ × Bool} (λ e. (e.0, false)) es) (map (λ (e : MainEntry K). record e { bit = false }) rs)
+  main-cleared unkeyed = unkeyed
+  main-cleared (keyed k at r) = keyed k at (main-cleared r)
 
-  pub main-inspections : (es : List (ℕ × Bool)) → HaveKeys (slots_of es) → machine.inspections (with_keys_main key es) ≡ inspections es
-  main-inspections es h = ap (λ z. z + 1) (main-passed es h)
-
-  main-drop : (n : ℕ) (es : List (ℕ × Bool)) → HaveKeys (slots_of es) → drop n (with_keys_main key es) ≡ with_keys_main key (drop n es)
-  main-drop zero es h = refl
-  main-drop (suc n) [] h = refl
-  main-drop (suc n) (e ∷ es) h =
-      let k = h e.0 (has_first e.0 (slots_of es)) in
-      ap (λ z. drop (suc n) z) (main-cons e es k.0 k.1) ∙ main-drop n es (have_later e.0 (slots_of es) h)
-
-  main-cleared : (n : ℕ) (es : List (ℕ × Bool)) → HaveKeys (slots_of es)
-      → map (λ (e : MainEntry K). record e { bit = false }) (take n (with_keys_main key es)) ≡ with_keys_main key (map {B = ℕ × Bool} (λ (e : ℕ × Bool). (e.0, false)) (take n es))
-  main-cleared zero es h = refl
-  main-cleared (suc n) [] h = refl
-  main-cleared (suc n) (e ∷ es) h =
-      let k = h e.0 (has_first e.0 (slots_of es)) in
-      ap (λ z. map (λ (e : MainEntry K). record e { bit = false }) (take (suc n) z)) (main-cons e es k.0 k.1)
-      ∙ ap (λ zs. main_with (e.0, false) k.0 ∷ zs) (main-cleared n es (have_later e.0 (slots_of es) h))
-      ∙ sym (main-cons (e.0, false) (map {B = ℕ × Bool} (λ (e : ℕ × Bool). (e.0, false)) (take n es)) k.0 k.1)
-
-  -- the hand's choice
-  pub main-from_victim : (es : List (ℕ × Bool)) → HaveKeys (slots_of es) → machine.from_victim (with_keys_main key es) ≡ with_keys_main key (from_victim es)
+  pub main-from_victim : (es : List (ℕ × Bool)) → HaveKeys key (slots_of es) → machine.from_victim (with_keys_main key es) ≡ with_keys_main key (from_victim es)
   main-from_victim es h =
-      ap (λ n. drop n (with_keys_main key es) ++ map (λ (e : MainEntry K). record e { bit = false }) (take n (with_keys_main key es))) (main-passed es h)
-      ∙ ap (λ z. z ++ map (λ (e : MainEntry K). record e { bit = false }) (take (set_front es) (with_keys_main key es))) (main-drop (set_front es) es h)
-      ∙ ap (λ z. with_keys_main key (drop (set_front es) es) ++ z) (main-cleared (set_front es) es h)
-      ∙ sym (filter_map-append (λ (e : ℕ × Bool). option_map (λ k. main_with e k) (key e.0)) (drop (set_front es) es) (map {B = ℕ × Bool} (λ (e : ℕ × Bool). (e.0, false)) (take (set_front es) es)))
+      let r = have-keyed main_with key es h in
+      ap (λ n. drop n (with_keys_main key es) ++ map (λ (e : MainEntry K). record e { bit = false }) (take n (with_keys_main key es))) (main-passed r)
+      ∙ sym (keyed-is main_with key (append-keyed (drop-keyed (set_front es) r) (main-cleared (take-keyed (set_front es) r))))
 
   -- a hit, where the key passes the test at this slot alone
-  pub small-hit : (is : K → Bool) (slot : ℕ) (es : List (ℕ × Age)) → ((t : ℕ) (k : K) → has t (slots_of es) ≡ true → key t ≡ Some k → is k ≡ eqb t slot) → HaveKeys (slots_of es)
-      → machine.small_hit is (with_keys_small key es) ≡ with_keys_small key (small_hit_at slot es)
-  small-hit is slot [] h keys = refl
-  small-hit is slot (e ∷ es) h keys =
-      let j = keys e.0 (has_first e.0 (slots_of es)) in
-      let k : is j.0 ≡ eqb e.0 slot = h e.0 j.0 (has_first e.0 (slots_of es)) j.1 in
-      let rest = small-hit is slot es (λ t k g. h t k (has_later t e.0 (slots_of es) g)) (have_later e.0 (slots_of es) keys) in
-      ap (λ z. machine.small_hit is z) (small-cons e es j.0 j.1)
-      ∙ elim (cases_Bool (eqb e.0 slot)) [
-        | inl q ↦ rw (k, q) (ap (λ zs. small_with (e.0, touched e.1) j.0 ∷ zs) rest ∙ sym (small-cons (e.0, touched e.1) (small_hit_at slot es) j.0 j.1))
-        | inr q ↦ rw (k, q) (ap (λ zs. small_with e j.0 ∷ zs) rest ∙ sym (small-cons e (small_hit_at slot es) j.0 j.1))
-      ]
+  module _ (is : K → Bool) (slot : ℕ) where
+    small-hits : {es : List (ℕ × Age)} {rs : List (SmallEntry K)} → ((t : ℕ) (k : K) → has t (slots_of es) ≡ true → key t ≡ Some k → is k ≡ eqb t slot)
+        → Keyed small_with key es rs → Keyed small_with key (small_hit_at slot es) (machine.small_hit is rs)
+    small-hits tells unkeyed = unkeyed
+    small-hits tells (keyed {e} {es} k at r) =
+        let here : is k ≡ eqb e.0 slot = tells e.0 k (has_first e.0 (slots_of es)) at in
+        let rest = small-hits (λ t k g. tells t k (has_later t e.0 (slots_of es) g)) r in
+        elim (cases_Bool (eqb e.0 slot)) [ inl q ↦ rw (here, q) (keyed k at rest) | inr q ↦ rw (here, q) (keyed k at rest) ]
 
-  pub main-hit : (is : K → Bool) (slot : ℕ) (es : List (ℕ × Bool)) → ((t : ℕ) (k : K) → has t (slots_of es) ≡ true → key t ≡ Some k → is k ≡ eqb t slot) → HaveKeys (slots_of es)
-      → machine.main_hit is (with_keys_main key es) ≡ with_keys_main key (main_hit_at slot es)
-  main-hit is slot [] h keys = refl
-  main-hit is slot (e ∷ es) h keys =
-      let j = keys e.0 (has_first e.0 (slots_of es)) in
-      let k : is j.0 ≡ eqb e.0 slot = h e.0 j.0 (has_first e.0 (slots_of es)) j.1 in
-      let rest = main-hit is slot es (λ t k g. h t k (has_later t e.0 (slots_of es) g)) (have_later e.0 (slots_of es) keys) in
-      ap (λ z. machine.main_hit is z) (main-cons e es j.0 j.1)
-      ∙ elim (cases_Bool (eqb e.0 slot)) [
-        | inl q ↦ rw (k, q) (ap (λ zs. main_with (e.0, true) j.0 ∷ zs) rest ∙ sym (main-cons (e.0, true) (main_hit_at slot es) j.0 j.1))
-        | inr q ↦ rw (k, q) (ap (λ zs. main_with e j.0 ∷ zs) rest ∙ sym (main-cons e (main_hit_at slot es) j.0 j.1))
-      ]
+    main-hits : {es : List (ℕ × Bool)} {rs : List (MainEntry K)} → ((t : ℕ) (k : K) → has t (slots_of es) ≡ true → key t ≡ Some k → is k ≡ eqb t slot)
+        → Keyed main_with key es rs → Keyed main_with key (main_hit_at slot es) (machine.main_hit is rs)
+    main-hits tells unkeyed = unkeyed
+    main-hits tells (keyed {e} {es} k at r) =
+        let here : is k ≡ eqb e.0 slot = tells e.0 k (has_first e.0 (slots_of es)) at in
+        let rest = main-hits (λ t k g. tells t k (has_later t e.0 (slots_of es) g)) r in
+        elim (cases_Bool (eqb e.0 slot)) [ inl q ↦ rw (here, q) (keyed k at rest) | inr q ↦ rw (here, q) (keyed k at rest) ]
 
-  -- how often a slot stands
-  pub small-standing : (t : ℕ) (es : List (ℕ × Age)) → HaveKeys (slots_of es) → count_by (λ (e : SmallEntry K). e.slot == t) (with_keys_small key es) ≡ count_by (λ s. s == t) (slots_of es)
-  small-standing t [] h = refl
-  small-standing t (e ∷ es) h =
-      let k = h e.0 (has_first e.0 (slots_of es)) in
-      ap (λ z. count_by (λ (e : SmallEntry K). e.slot == t) z) (small-cons e es k.0 k.1)
-      ∙ omega (
-        arith,
-        sum_by-cons (λ (e : SmallEntry K). cond (e.slot == t) 1 0) (small_with e k.0) (with_keys_small key es),
-        sum_by-cons (λ s. cond (s == t) 1 0) e.0 (slots_of es),
-        small-standing t es (have_later e.0 (slots_of es) h),
-      )
+    pub small-hit : (es : List (ℕ × Age)) → ((t : ℕ) (k : K) → has t (slots_of es) ≡ true → key t ≡ Some k → is k ≡ eqb t slot) → HaveKeys key (slots_of es)
+        → with_keys_small key (small_hit_at slot es) ≡ machine.small_hit is (with_keys_small key es)
+    small-hit es tells h = keyed-is small_with key (small-hits tells (have-keyed small_with key es h))
 
-  pub main-standing : (t : ℕ) (es : List (ℕ × Bool)) → HaveKeys (slots_of es) → count_by (λ (e : MainEntry K). e.slot == t) (with_keys_main key es) ≡ count_by (λ s. s == t) (slots_of es)
-  main-standing t [] h = refl
-  main-standing t (e ∷ es) h =
-      let k = h e.0 (has_first e.0 (slots_of es)) in
-      ap (λ z. count_by (λ (e : MainEntry K). e.slot == t) z) (main-cons e es k.0 k.1)
-      ∙ omega (
-        arith,
-        sum_by-cons (λ (e : MainEntry K). cond (e.slot == t) 1 0) (main_with e k.0) (with_keys_main key es),
-        sum_by-cons (λ s. cond (s == t) 1 0) e.0 (slots_of es),
-        main-standing t es (have_later e.0 (slots_of es) h),
-      )
+    pub main-hit : (es : List (ℕ × Bool)) → ((t : ℕ) (k : K) → has t (slots_of es) ≡ true → key t ≡ Some k → is k ≡ eqb t slot) → HaveKeys key (slots_of es)
+        → with_keys_main key (main_hit_at slot es) ≡ machine.main_hit is (with_keys_main key es)
+    main-hit es tells h = keyed-is main_with key (main-hits tells (have-keyed main_with key es h))
 
-module _ {K : Type 0} (key key' : ℕ → Option K) where
-  -- the same keys at these slots
-  pub small-agree : (es : List (ℕ × Age)) → ((t : ℕ) → has t (slots_of es) ≡ true → key' t ≡ key t) → with_keys_small key' es ≡ with_keys_small key es
-  small-agree [] h = refl
-  small-agree (e ∷ es) h =
-      ap (λ z. cons_option (option_map (λ k. small_with key e k) z) (with_keys_small key' es)) (h e.0 (has_first e.0 (slots_of es)))
-      ∙ ap (λ z. cons_option (option_map (λ k. small_with key e k) (key e.0)) z) (small-agree es (λ t g. h t (has_later t e.0 (slots_of es) g)))
+  -- how often a slot stands in both queues
+  pub standing-keyed : (t : ℕ) (small : List (ℕ × Age)) (main : List (ℕ × Bool)) → HaveKeys key (slots_of small) → HaveKeys key (slots_of main)
+      → count_by (λ (e : SmallEntry K). e.slot == t) (with_keys_small key small) + count_by (λ (e : MainEntry K). e.slot == t) (with_keys_main key main)
+      ≡ count_by (λ s. s == t) (slots_of small) + count_by (λ s. s == t) (slots_of main)
+  standing-keyed t small main s m =
+      let a = keyed-standing (λ (e : SmallEntry K). e.slot) (λ e k. refl) t (have-keyed small_with key small s) in
+      let b = keyed-standing (λ (e : MainEntry K). e.slot) (λ e k. refl) t (have-keyed main_with key main m) in
+      omega (arith, a, b)
 
-  pub main-agree : (es : List (ℕ × Bool)) → ((t : ℕ) → has t (slots_of es) ≡ true → key' t ≡ key t) → with_keys_main key' es ≡ with_keys_main key es
-  main-agree [] h = refl
-  main-agree (e ∷ es) h =
-      ap (λ z. cons_option (option_map (λ k. main_with key e k) z) (with_keys_main key' es)) (h e.0 (has_first e.0 (slots_of es)))
-      ∙ ap (λ z. cons_option (option_map (λ k. main_with key e k) (key e.0)) z) (main-agree es (λ t g. h t (has_later t e.0 (slots_of es) g)))
+  -- the queues without a slot
+  pub small-without : (t : ℕ) (es : List (ℕ × Age)) → HaveKeys key (slots_of es) → with_keys_small key (without_slot t es) ≡ filter (λ e. not (e.slot == t)) (with_keys_small key es)
+  small-without t es h = keyed-is small_with key (keyed-without (λ (e : SmallEntry K). e.slot) (λ e k. refl) t (have-keyed small_with key es h))
+
+  pub main-without : (t : ℕ) (es : List (ℕ × Bool)) → HaveKeys key (slots_of es) → with_keys_main key (without_slot t es) ≡ filter (λ e. not (e.slot == t)) (with_keys_main key es)
+  main-without t es h = keyed-is main_with key (keyed-without (λ (e : MainEntry K). e.slot) (λ e k. refl) t (have-keyed main_with key es h))
