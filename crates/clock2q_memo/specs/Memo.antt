@@ -1,6 +1,8 @@
 -- What contracts see of a memo, and what it keeps.
-use Rattle.std.specs.Prelude.{◌≡◌, ℕ, ◌+◌, Bool, true, List, ◌∷◌, Some, is_some, if◌then◌else◌, refl}
+use Rattle.std.specs.Prelude.{◌≡◌, ℕ, ◌+◌, Bool, true, List, ◌∷◌, slice_get, Some, is_some, if◌then◌else◌, refl}
 use Rattle.std.specs.Coded.{Coded, code_by, coded×, coded_ℕ}
+use Rattle.std.specs.Borrow.{Bor}
+use Rattle.std.specs.Fn.{Shared}
 use Rattle.clock2q_machine.specs.Machine.{Machine, machine_code, slot_of, value_of, inserted}
 use Rattle.clock2q_machine.specs.Steps.{fetched}
 
@@ -19,6 +21,15 @@ memo_code {K} {V} {F} key value function = code_by (Machine K V × (F × ℕ))
     (λ m. (m.machine, (m.function, m.evaluations)))
     (λ p. memo_state p.0 p.1.0 p.1.1)
     (λ _. refl)
+
+module _ {F K V : Type 0} (g : Shared F (Bor K × Unit {0}) V) where
+  -- the function may be called at a key
+  abbrev pub IsCallableAt : F → K → Type 0
+  IsCallableAt f key = (shown : Bor K) → shown.now ≡ key → g.pre f (shown, tt)
+
+  -- the function may be called at each of these keys
+  abbrev pub IsCallableAtEach : F → List K → Type 0
+  IsCallableAtEach f keys = (at : ℕ) (key : K) → slice_get keys at ≡ Some key → IsCallableAt f key
 
 module _ {K V : Type 0} (eq : K → K → Bool) where
   -- whatever the function returns for a key is its value, and equal keys have equal values

@@ -11,6 +11,7 @@ pub(crate) struct Evaluator<F> {
 impl<F> Evaluator<F> {
     ghost use Rattle.std.specs.Prelude.{◌≡◌, ◌+◌};
     ghost use Rattle.std.specs.Fn.{FnReturnsAt};
+    ghost use Rattle.clock2q_memo.specs.Memo.{IsCallableAt};
 
     /// Returns a function that was not called yet.
     pub(crate) fn new(function: F) -> Self
@@ -27,7 +28,7 @@ impl<F> Evaluator<F> {
     pub(crate) fn evaluate<K, V>(&mut self, key: &K) -> V
     where
         F: Fn(&K) -> V,
-        requires { F.IsAlwaysCallable self.old.function }
+        requires { IsCallableAt F.Fn self.old.function key.now }
         ensures value { FnReturnsAt F.Fn self.old.function key.now result }
         ensures function { self.new.function ≡ self.old.function }
         ensures counted { self.new.evaluations.total ≡ self.old.evaluations.total + 1 }

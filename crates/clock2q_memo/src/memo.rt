@@ -170,7 +170,7 @@ where
     ghost use Rattle.clock2q_machine.specs.Machine.{slot_of, value_of, inserted, cleared};
     ghost use Rattle.clock2q_machine.specs.Steps.{fetched};
     ghost use Rattle.std.specs.Fn.{FnReturnsAt};
-    ghost use Rattle.clock2q_memo.specs.Memo.{Remembers, IsValueAt, evaluations_for, looked_up};
+    ghost use Rattle.clock2q_memo.specs.Memo.{IsCallableAt, Remembers, IsValueAt, evaluations_for, looked_up};
 
     /// Returns the function's value at the key. A remembered value is returned as
     /// [`Cache::peek`](clock2q_cache::Cache::peek) does, and nothing changes; else the function is
@@ -182,7 +182,7 @@ where
     /// that of the function, and that of [`Cache::put`](clock2q_cache::Cache::put), which hashes
     /// the key again.
     pub fn get(&mut self, key: K) -> V
-        requires callable { F.IsAlwaysCallable self.old.function }
+        requires callable { slot_of (K.eq key) self.old.machine ≡ None → IsCallableAt F.Fn self.old.function key }
         ensures value { IsValueAt K.eq (FnReturnsAt F.Fn self.old.function) self.old.machine key result }
         ensures remembers { Remembers K.eq (FnReturnsAt F.Fn self.old.function) self.old.machine → Remembers K.eq (FnReturnsAt F.Fn self.new.function) self.new.machine }
         ensures machine { self.new.machine ≡ looked_up K.eq key result self.old.machine }
@@ -203,7 +203,7 @@ where
     ///
     /// That of [`get`](Memo::get). A hit sets one bit.
     pub fn get_recorded(&mut self, key: K) -> V
-        requires callable { F.IsAlwaysCallable self.old.function }
+        requires callable { slot_of (K.eq key) self.old.machine ≡ None → IsCallableAt F.Fn self.old.function key }
         ensures value { IsValueAt K.eq (FnReturnsAt F.Fn self.old.function) self.old.machine key result }
         ensures remembers { Remembers K.eq (FnReturnsAt F.Fn self.old.function) self.old.machine → Remembers K.eq (FnReturnsAt F.Fn self.new.function) self.new.machine }
         ensures machine { self.new.machine ≡ fetched (K.eq key) key result self.old.machine }
@@ -219,7 +219,7 @@ where
 
     /// Calls the function at a key that is not resident, and remembers the value.
     fn remember(&mut self, key: K) -> V
-        requires callable { F.IsAlwaysCallable self.old.function }
+        requires callable { IsCallableAt F.Fn self.old.function key }
         requires absent { slot_of (K.eq key) self.old.machine ≡ None }
         ensures value { FnReturnsAt F.Fn self.old.function key result }
         ensures remembers { Remembers K.eq (FnReturnsAt F.Fn self.old.function) self.old.machine → Remembers K.eq (FnReturnsAt F.Fn self.new.function) self.new.machine }
@@ -271,7 +271,7 @@ where
 
 ghost use Rattle.std.specs.Prelude.{◌≡◌, ◌+◌, IfOk, OnErr, map};
 ghost use Rattle.std.specs.Fn.{FnReturnsAt};
-ghost use Rattle.clock2q_memo.specs.Memo.{Computes, Remembers, recalled, evaluations_of};
+ghost use Rattle.clock2q_memo.specs.Memo.{IsCallableAtEach, Computes, Remembers, recalled, evaluations_of};
 
 /// Returns the function's value at each of the keys, each got by [`Memo::get_recorded`] in turn.
 ///
@@ -294,7 +294,7 @@ where
     F: Fn(&K) -> V,
     S: BuildHasher,
     A: Allocator,
-    requires callable { F.IsAlwaysCallable memo.old.function }
+    requires callable { IsCallableAtEach F.Fn memo.old.function keys.items }
     ensures values { Remembers K.eq (FnReturnsAt F.Fn memo.old.function) memo.old.machine → IfOk result (λ values. (value : K → V) → Computes K.eq (FnReturnsAt F.Fn memo.old.function) value → values.items ≡ map value keys.items) }
     ensures remembers { Remembers K.eq (FnReturnsAt F.Fn memo.old.function) memo.old.machine → Remembers K.eq (FnReturnsAt F.Fn memo.new.function) memo.new.machine }
     ensures machine { IfOk result (λ values. memo.new.machine ≡ recalled K.eq keys.items values.items memo.old.machine) }

@@ -1,4 +1,5 @@
 //! Calls of caches and memos that were made: they ask for no memory.
+ghost use Rattle.clock2q_memo.specs.Memo.{IsCallableAt};
 
 use clock2q_cache::{Cache, CacheError, DefaultHashBuilder};
 use clock2q_memo::Memo;
@@ -135,7 +136,7 @@ fn recall_twice<A: Allocator, F: Fn(&u64) -> u64>(
     memo: &mut Memo<u64, u64, F, DefaultHashBuilder, A>,
     key: u64,
 ) -> (u64, u64)
-    requires { F.IsAlwaysCallable memo.old.function }
+    requires { IsCallableAt F.Fn memo.old.function key }
 {
     let first = memo.get(key);
     let second = memo.get_recorded(key);

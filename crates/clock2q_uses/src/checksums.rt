@@ -1,6 +1,6 @@
 //! A memo of a costly function: the checksums of documents, which need their every byte.
 ghost use Rattle.clock2q_uses.specs.Checksums.{adler32, document_checksum};
-ghost use Rattle.clock2q_memo.specs.Memo.{Computes, Remembers};
+ghost use Rattle.clock2q_memo.specs.Memo.{Computes, IsCallableAt, Remembers};
 ghost use Rattle.clock2q_machine.specs.Machine.{slot_of};
 ghost use Rattle.std.specs.Fn.{FnReturnsAt};
 ghost use Rattle.std.specs.NonZero.{non_zero_usize_get};
@@ -49,7 +49,7 @@ pub fn is_unchanged<F, S>(
 where
     F: Fn(&usize) -> Option<u32>,
     S: BuildHasher,
-    requires callable { F.IsAlwaysCallable memo.old.function }
+    requires callable { IsCallableAt F.Fn memo.old.function number }
     ensures unchanged { Remembers eqb (FnReturnsAt F.Fn memo.old.function) memo.old.machine → (value : ℕ → Option ℕ) → Computes eqb (FnReturnsAt F.Fn memo.old.function) value → IsTrue result ↔ (value number ≡ Some checksum) }
     ensures remembers { Remembers eqb (FnReturnsAt F.Fn memo.old.function) memo.old.machine → Remembers eqb (FnReturnsAt F.Fn memo.new.function) memo.new.machine }
     ensures unread { IsSome (slot_of (eqb number) memo.old.machine) → memo.new.evaluations ≡ memo.old.evaluations }

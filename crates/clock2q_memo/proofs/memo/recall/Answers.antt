@@ -1,7 +1,8 @@
-use Rattle.std.proofs.Common.{rules, arith, ◌≡◌, List, [], ◌∷◌, ◌++◌, length, map, ◌∙◌, sym, subst, ap, refl}
-use Rattle.std.specs.Fn.{FnReturnsAt}
+use Rattle.std.proofs.Common.{rules, arith, ◌≡◌, suc, List, [], ◌∷◌, ◌++◌, length, map, ◌∙◌, sym, subst, ap, refl}
+use Rattle.std.specs.Borrow.{Bor}
+use Rattle.std.specs.Fn.{FnReturnsAt, Shared}
 use Rattle.std.specs.Vec.Iter.{into_iter_items}
-use Rattle.clock2q_memo.specs.Memo.{Computes}
+use Rattle.clock2q_memo.specs.Memo.{IsCallableAtEach, Computes}
 use Rattle.clock2q_memo.proofs.Recalling.{recalled-step, evaluations-step, recalled-ended, evaluations-ended}
 use Rattle.clock2q_memo.proofs.memo.recall.Goals as goal
 
@@ -14,6 +15,10 @@ none_left : {X : Type 0} (xs : List X) → length xs ≡ 0 → xs ≡ []
 none_left [] e = refl
 none_left (x ∷ xs) e = absurd (omega (arith, e))
 
+-- what may be called at each key may be called at each that is left
+rest_callable : {F K V : Type 0} (call : Shared F (Bor K × Unit {0}) V) (f : F) (all : List K) (key : K) (rest : List K) → all ≡ key ∷ rest → IsCallableAtEach call f all → IsCallableAtEach call f rest
+rest_callable call f all key rest is each = λ at other there. subst (IsCallableAtEach call f) is each (suc at) other there
+
 pub loop-key-preserved : goal.loop-key-preserved
 loop-key-preserved g c =
     let inv = c.loop-key.invariant in
@@ -21,7 +26,7 @@ loop-key-preserved g c =
     record {
       can = search rules;
       ends = search rules;
-      callable = rw c.get_recorded.ensures.function inv.callable;
+      callable = rw c.get_recorded.ensures.function (rest_callable (g.F.Fn) c.loop-key.memo.function _ _ _ left inv.callable);
       remembers = λ h. c.get_recorded.ensures.remembers (inv.remembers h);
       told = λ h value computes.
           let now = subst (λ f. Computes g.K.PartialEq.eq (FnReturnsAt g.F.Fn f) value) (sym inv.function) computes in

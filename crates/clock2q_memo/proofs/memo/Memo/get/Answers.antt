@@ -5,6 +5,9 @@ use Rattle.clock2q_memo.proofs.memo.Memo.get.Goals as goal
 pub remember-requires-clause-absent : goal.remember-requires-clause-absent
 remember-requires-clause-absent g c = rw (← c.self.view_is) (absent_if g.K.PartialEq.eq g.met.K.Eq.laws _ c.self.invariant c.args.key c.in-None.ensures.value)
 
+pub remember-requires-clause-callable : goal.remember-requires-clause-callable
+remember-requires-clause-callable g c = c.requires.callable (remember-requires-clause-absent g c)
+
 pub returns-in-None-clause-machine : goal.returns-in-None-clause-machine
 returns-in-None-clause-machine g c =
     rw (← c.self.view_is) (search (rules, c.remember.ensures.machine, looked_up_anew g.K.PartialEq.eq g.met.K.Eq.laws _ c.self.invariant c.args.key c.in-None.ensures.value c.remember.result))

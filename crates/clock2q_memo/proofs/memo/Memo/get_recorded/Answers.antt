@@ -3,7 +3,7 @@ use Rattle.clock2q_machine.specs.Machine.{hit, slot_of, value_of}
 use Rattle.clock2q_machine.specs.Whole.{IsWhole}
 use Rattle.clock2q_machine.proofs.MachineInvariant.{lasting-hit}
 use Rattle.std.specs.Fn.{FnReturnsAt}
-use Rattle.clock2q_memo.specs.Memo.{Remembers}
+use Rattle.clock2q_memo.specs.Memo.{IsCallableAt, Remembers}
 use Rattle.clock2q_memo.proofs.Keeping.{kept-hit, absent_if, missed_hit, fetched_anew, evaluated_once, hit_value}
 use Rattle.clock2q_memo.proofs.memo.Memo.get_recorded.Goals as goal
 
@@ -25,6 +25,11 @@ remember-requires-clause-absent g c =
     let after : c.get.follows.lender-at-none.machine ≡ hit (g.K.PartialEq.eq c.args.key) c.self.inside.cache.machine = search rules in
     let same = missed_hit g.K.PartialEq.eq g.met.K.Eq.laws _ k c.args.key c.in-None.ensures.value in
     subst (λ m. slot_of (g.K.PartialEq.eq c.args.key) m ≡ None) (sym (after ∙ same)) (absent_if g.K.PartialEq.eq g.met.K.Eq.laws _ k c.args.key c.in-None.ensures.value)
+
+pub remember-requires-clause-callable : goal.remember-requires-clause-callable
+remember-requires-clause-callable g c =
+    let may = subst (λ memo. slot_of (g.K.PartialEq.eq c.args.key) memo.machine ≡ None → IsCallableAt g.F.Fn memo.function c.args.key) (sym c.self.view_is) c.requires.callable in
+    may (absent_if g.K.PartialEq.eq g.met.K.Eq.laws _ c.self.invariant c.args.key c.in-None.ensures.value)
 
 pub returns-in-Some-clause-resident : goal.returns-in-Some-clause-resident
 returns-in-Some-clause-resident g c =
