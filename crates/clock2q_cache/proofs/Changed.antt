@@ -8,22 +8,23 @@ use Rattle.clock2q_machine.specs.Ages.{Age, is_promoted}
 use Rattle.clock2q_queues.specs.declared.keys.store.Entry.{Entry}
 use Rattle.clock2q_queues.specs.Rings.{has}
 use Rattle.clock2q_queues.proofs.Rings.{has_first, has_later}
-use Rattle.clock2q_queues.specs.Keys.{KeyPlaces, entry, written, hash_at, key_at, value_at, with_value}
+use Rattle.clock2q_queues.specs.Keys.{KeyPlaces, entry, written, hash_at, key_at, with_value}
 use Rattle.clock2q_queues.specs.Indexes.{IsIndex, HasHash, index_room}
 use Rattle.clock2q_handles.specs.TableStep.{made_for}
+use Rattle.clock2q_handles.specs.Homes.{no_entries}
 use Rattle.clock2q_queues.specs.Queues.{QueueState, slots_of, tail_promoted}
 use Rattle.clock2q_queues.specs.History.{Remembered, forgotten}
 use Rattle.clock2q_queues.proofs.Entries.{slice_get-written, slice_get-written_other, length-written}
-use Rattle.clock2q_queues.proofs.Indexes.{IsIndex-kept, IsIndex-new, half_new}
+use Rattle.clock2q_queues.proofs.Indexes.{IsIndex-cleared, length-cleared, IsIndex-kept, IsIndex-new, half_new}
 use Rattle.clock2q_machine.specs.Shares.{Shares, history_share}
 use Rattle.clock2q_machine.specs.Machine as cache
 use Rattle.clock2q_machine.specs.Machine.{Machine, stored, empty, vacancy, goes_to_main}
 use Rattle.clock2q_machine.specs.Whole.{IsWhole}
 use Rattle.clock2q_cache.specs.CacheFields.{machine_of, places_of, with_keys_small, with_keys_main, IsStored, IsSized, IsKept}
 use Rattle.clock2q_cache.proofs.WithKeys.{small_with, main_with, keys-agree, small-last}
-use Rattle.clock2q_cache.proofs.Stored.{all-written, values-written, length-values, below-more}
+use Rattle.clock2q_cache.proofs.Stored.{set-written, all-written, values-written, length-values, below-more}
 use Rattle.clock2q_cache.proofs.CacheInvariant.{small_have, length_in_small, sized-same}
-use Rattle.clock2q_machine.proofs.Whole.{whole-forgotten, all_resident, small_share}
+use Rattle.clock2q_machine.proofs.Whole.{some_is, whole-forgotten, all_resident, small_share}
 use Rattle.clock2q_machine.proofs.MachineInvariant.{whole-changed, lasting-empty}
 
 module _ {K : Type 0} (is : K → Bool) where
@@ -50,22 +51,12 @@ hash-there : {K : Type 0} (eq : K → K → Bool) (hash : K → ℕ) (key : K) (
 hash-there eq hash key hsh [] respects is a = tt
 hash-there eq hash key hsh (e ∷ es) respects is a = ((λ q. a.0 ∙ sym (respects key e.1 q) ∙ sym is), hash-there eq hash key hsh es respects is a.1)
 
-set-written : {E : Type 0} (s : ℕ) (e : E) (es : List E) → s < length es → slice_set es s e ≡ written s e es
-set-written s e [] h = absurd (omega arith)
-set-written zero e (x ∷ xs) h = refl
-set-written (suc s) e (x ∷ xs) h = ap (λ zs. x ∷ zs) (set-written s e xs (omega arith))
-
 module _ {K V : Type 0} where
   -- a value that is replaced
   record Replaces (slot : ℕ) (value : V) (es : List (Entry K V)) : Type 0 where
     pub entry : Entry K V
     pub at : slice_get es slot ≡ Some entry
     pub written : with_value slot value es ≡ written slot (record entry { value = value }) es
-
-  pub value-there : (es : List (Entry K V)) (slot : ℕ) → slice_get (map (λ (e : Entry K V). e.value) es) slot ≡ value_at es slot
-  value-there [] slot = refl
-  value-there (e ∷ es) zero = refl
-  value-there (e ∷ es) (suc slot) = value-there es slot
 
   replaces : (slot : ℕ) (value : V) (es : List (Entry K V)) → slot < length es → Replaces slot value es
   replaces slot value es below = of (slice_get es slot) refl
@@ -83,45 +74,30 @@ module _ {K V : Type 0} where
         written = ap (λ z. elim z [ None ↦ es | Some e ↦ slice_set es slot (entry e.hash e.key value) ]) is ∙ set-written slot (record e { value = value }) es below;
       }
 
-  key-same : (slot : ℕ) (value : V) (es : List (Entry K V)) (r : Replaces slot value es) → slot < length es → (t : ℕ) → key_at (with_value slot value es) t ≡ key_at es t
-  key-same slot value es r below t =
-      ap (λ z. key_at z t) r.written ∙ elim (cases_Bool (eqb t slot)) [
-        | inl e ↦
-            let q : t ≡ slot = eqb-true t slot e in
-            subst (λ z. key_at (written slot (record r.entry { value = value }) es) z ≡ key_at es z) (sym q)
-            (ap (λ z. elim z [ None ↦ None | Some e ↦ Some e.key ]) (slice_get-written slot (record r.entry { value = value }) es (omega (arith, below)))
-            ∙ sym (ap (λ z. elim z [ None ↦ None | Some e ↦ Some e.key ]) r.at))
-        | inr e ↦ ap (λ z. elim z [ None ↦ None | Some e ↦ Some e.key ])
-            (slice_get-written_other slot t (record r.entry { value = value }) es (omega (arith, below)) (λ q. both_ways (eqb t slot) e (eq-eqb t slot q)))
+  -- nothing else of the entries changes
+  entry-same : {Y : Type 0} (f : Option (Entry K V) → Y) (slot : ℕ) (value : V) (es : List (Entry K V)) (r : Replaces slot value es) → slot < length es
+      → f (Some (record r.entry { value = value })) ≡ f (Some r.entry) → (t : ℕ) → f (slice_get (with_value slot value es) t) ≡ f (slice_get es t)
+  entry-same f slot value es r below same t =
+      let e = record r.entry { value = value } in
+      ap (λ z. f (slice_get z t)) r.written ∙ elim (cases_Bool (eqb t slot)) [
+        | inl is ↦ subst (λ z. f (slice_get (written slot e es) z) ≡ f (slice_get es z)) (sym (eqb-true t slot is))
+            (ap f (slice_get-written slot e es (omega (arith, below))) ∙ same ∙ sym (ap f r.at))
+        | inr other ↦ ap f (slice_get-written_other slot t e es (omega (arith, below)) (λ q. both_ways (eqb t slot) other (eq-eqb t slot q)))
       ]
 
+  key-same : (slot : ℕ) (value : V) (es : List (Entry K V)) (r : Replaces slot value es) → slot < length es → (t : ℕ) → key_at (with_value slot value es) t ≡ key_at es t
+  key-same slot value es r below = entry-same (λ z. elim z [ None ↦ None | Some e ↦ Some e.key ]) slot value es r below refl
+
   hash-same : (slot : ℕ) (value : V) (es : List (Entry K V)) (r : Replaces slot value es) → slot < length es → (t : ℕ) → hash_at (with_value slot value es) t ≡ hash_at es t
-  hash-same slot value es r below t =
-      ap (λ z. hash_at z t) r.written ∙ elim (cases_Bool (eqb t slot)) [
-        | inl e ↦
-            let q : t ≡ slot = eqb-true t slot e in
-            subst (λ z. hash_at (written slot (record r.entry { value = value }) es) z ≡ hash_at es z) (sym q)
-            (ap (λ z. elim z [ None ↦ None | Some e ↦ Some e.hash ]) (slice_get-written slot (record r.entry { value = value }) es (omega (arith, below)))
-            ∙ sym (ap (λ z. elim z [ None ↦ None | Some e ↦ Some e.hash ]) r.at))
-        | inr e ↦ ap (λ z. elim z [ None ↦ None | Some e ↦ Some e.hash ])
-            (slice_get-written_other slot t (record r.entry { value = value }) es (omega (arith, below)) (λ q. both_ways (eqb t slot) e (eq-eqb t slot q)))
-      ]
+  hash-same slot value es r below = entry-same (λ z. elim z [ None ↦ None | Some e ↦ Some e.hash ]) slot value es r below refl
 
   all-at : (P : Entry K V → Type 0) (es : List (Entry K V)) (slot : ℕ) (e : Entry K V) → AllByRecursion P es → slice_get es slot ≡ Some e → P e
   all-at P [] slot e a h = absurd (cc)
-  all-at P (x ∷ xs) zero e a h = let q : x ≡ e = inner x e h in subst P q a.0
-    where
-      inner : (a b : Entry K V) → Some a ≡ Some b → a ≡ b
-      inner a b q = cc
+  all-at P (x ∷ xs) zero e a h = subst P (some_is x e h) a.0
   all-at P (x ∷ xs) (suc slot) e a h = all-at P xs slot e a.1 h
 
 tail-has_from : (t : ℕ) (x : ℕ × Age) (xs : List (ℕ × Age)) (a : Age) → last_or (Some x) xs ≡ Some (t, a) → has t (x.0 ∷ slots_of xs) ≡ true
-tail-has_from t x [] a l =
-    let q : x ≡ (t, a) = inner x (t, a) l in
-    subst (λ (z : ℕ × Age). has t (z.0 ∷ []) ≡ true) (sym q) (has_first t [])
-  where
-    inner : (a b : ℕ × Age) → Some a ≡ Some b → a ≡ b
-    inner a b q = cc
+tail-has_from t x [] a l = subst (λ (z : ℕ × Age). has t (z.0 ∷ []) ≡ true) (sym (some_is x (t, a) l)) (has_first t [])
 tail-has_from t x (y ∷ xs) a l = has_later t x.0 (slots_of (y ∷ xs)) (tail-has_from t y xs a l)
 
 tail-has : (t : ℕ) (xs : List (ℕ × Age)) (a : Age) → last_or None xs ≡ Some (t, a) → has t (slots_of xs) ≡ true
@@ -268,6 +244,15 @@ module _ {K V : Type 0} where
           let e : reverse free ≡ [] = ap (λ (z : List ℕ). reverse z) none in
           let f : map (λ (e : Entry K V). e.value) keys.entries ≡ [] = ap (λ z. map (λ (e : Entry K V). e.value) z) keyed in
           cc
+
+  -- a cache that is emptied
+  pub kept-cleared : {eq : K → K → Bool} {hash : K → ℕ} {shares : Shares} {q q' : QueueState} {h h' : Remembered K} {index index' : List (List (ℕ × ℕ))} {keys keys' : KeyPlaces K V}
+      {free free' : List ℕ} {room room' : ℕ} → IsEquivalence eq → IsKept eq hash shares q h index keys free room
+      → q'.small ≡ [] → q'.main ≡ [] → h'.entries ≡ [] → keys'.entries ≡ [] → free' ≡ [] → index' ≡ no_entries (length index)
+      → q'.slots ≡ q.slots → q'.window ≡ q.window → h'.limit ≡ h.limit → keys'.room ≡ keys.room → room' ≡ room → IsKept eq hash shares q' h' index' keys' free' room'
+  kept-cleared {index = index} {index' = index'} laws kept small main entries keyed none emptied slots window limit keys_room free_room =
+      (kept-empty laws kept.whole.small_below small main entries (IsIndex-cleared index' (length index) [] emptied) keyed none
+      (sized-same kept.sized slots window limit (length-cleared index index' emptied) keys_room free_room)).0
 
   -- a new cache
   pub kept-new : {eq : K → K → Bool} {hash : K → ℕ} {shares : Shares} {q : QueueState} {h : Remembered K} {index : List (List (ℕ × ℕ))} {keys : KeyPlaces K V} {free : List ℕ} {room : ℕ}

@@ -8,7 +8,8 @@ use Rattle.std.proofs.lemmas.Bool.{cases_Bool, both_ways, or_cases}
 use Rattle.std.proofs.lemmas.List.Sums.{sum_by-cons, sum_by-append}
 use Rattle.clock2q_handles.specs.Homes.{candidates}
 use Rattle.clock2q_queues.proofs.Booleans.{or_true}
-use Rattle.clock2q_machine.specs.Ages.{Age}
+use Rattle.clock2q_machine.specs.Ages.{touched}
+use Rattle.clock2q_queues.proofs.SlotLists.{slots_of-hit}
 use Rattle.clock2q_queues.specs.declared.keys.store.Entry.{Entry}
 use Rattle.clock2q_queues.specs.Rings.{has}
 use Rattle.clock2q_queues.specs.Keys.{KeyPlaces, key_at, hashed_at, entries_of, is_key_at}
@@ -33,7 +34,7 @@ use Rattle.clock2q_cache.proofs.WithKeys.{HaveKeys, have_later, paired, paired-c
 use Rattle.clock2q_cache.proofs.Indexed.{residents-paired}
 use Rattle.clock2q_cache.proofs.Stored.{have_keys, length-values}
 use Rattle.clock2q_cache.proofs.CacheInvariant.{small_have, main_have, sized-same}
-use Rattle.clock2q_machine.proofs.Whole.{whole-hit}
+use Rattle.clock2q_machine.proofs.Whole.{whole-hit, some_is}
 
 pub all-has : (P : ℕ → Type 0) (xs : List ℕ) → ((t : ℕ) → has t xs ≡ true → P t) → AllByRecursion P xs
 all-has P [] h = tt
@@ -65,12 +66,9 @@ module _ {K V : Type 0} (entries : List (Entry K V)) where
   pub key-tells : (eq : K → K → Bool) (key : K) (t : ℕ) (k : K) → key_at entries t ≡ Some k → is_key_at eq key entries t ≡ eq key k
   key-tells eq key t k h = of (slice_get entries t) h
     where
-      inner : (a b : K) → Some a ≡ Some b → a ≡ b
-      inner a b q = cc
-
       of : (o : Option (Entry K V)) → elim o [ None ↦ None | Some e ↦ Some e.key ] ≡ Some k → elim o [ None ↦ false | Some e ↦ eq key e.key ] ≡ eq key k
       of None h = absurd (cc)
-      of (Some e) h = ap (λ z. eq key z) (inner e.key k h)
+      of (Some e) h = ap (λ z. eq key z) (some_is e.key k h)
 
   -- as many keys pass at the places as among the residents there
   paired-counted : (is : K → Bool) (ps : List ℕ) → count_by (λ (e : ℕ × K). is e.1) (entries_of entries ps) ≡ count_by (λ (r : K × ℕ). is r.0) (paired (key_at entries) ps)
@@ -111,14 +109,6 @@ hashes-same {K} {V} eq hash key entries (p ∷ ps) respects a = of (hashes-same 
 -- a resident's slot stands in one of the queues
 pub either-queue : (q : QueueState) (slot : ℕ) → has slot (places_of q) ≡ true → (has slot (slots_of q.small) ≡ true) ⊎ (has slot (slots_of q.main) ≡ true)
 either-queue q slot there = or_cases (has slot (slots_of q.small)) (has slot (slots_of q.main)) (sym (has-append slot (slots_of q.small) (slots_of q.main)) ∙ there)
-
-slots-small_hit : (slot : ℕ) (es : List (ℕ × Age)) → slots_of (small_hit_at slot es) ≡ slots_of es
-slots-small_hit slot [] = refl
-slots-small_hit slot (e ∷ es) = elim (cases_Bool (eqb e.0 slot)) [ inl q ↦ rw q (ap (λ zs. e.0 ∷ zs) (slots-small_hit slot es)) | inr q ↦ rw q (ap (λ zs. e.0 ∷ zs) (slots-small_hit slot es)) ]
-
-slots-main_hit : (slot : ℕ) (es : List (ℕ × Bool)) → slots_of (main_hit_at slot es) ≡ slots_of es
-slots-main_hit slot [] = refl
-slots-main_hit slot (e ∷ es) = elim (cases_Bool (eqb e.0 slot)) [ inl q ↦ rw q (ap (λ zs. e.0 ∷ zs) (slots-main_hit slot es)) | inr q ↦ rw q (ap (λ zs. e.0 ∷ zs) (slots-main_hit slot es)) ]
 
 module _ {K V : Type 0} {eq : K → K → Bool} {hash : K → ℕ} {shares : Shares} {q : QueueState} {h : Remembered K} {index : List (List (ℕ × ℕ))} {keys : KeyPlaces K V} {free : List ℕ} {room : ℕ}
     (laws : IsEquivalence eq) (kept : IsKept eq hash shares q h index keys free room) where
@@ -248,5 +238,5 @@ module _ {K V : Type 0} {eq : K → K → Bool} {hash : K → ℕ} {shares : Sha
       }
         where
           places : places_of q' ≡ places_of q
-          places = ap (λ z. slots_of z ++ slots_of q'.main) small ∙ ap (λ z. z ++ slots_of q'.main) (slots-small_hit slot q.small)
-              ∙ ap (λ z. slots_of q.small ++ slots_of z) main ∙ ap (λ z. slots_of q.small ++ z) (slots-main_hit slot q.main)
+          places = ap (λ z. slots_of z ++ slots_of q'.main) small ∙ ap (λ z. z ++ slots_of q'.main) (slots_of-hit touched slot q.small)
+              ∙ ap (λ z. slots_of q.small ++ slots_of z) main ∙ ap (λ z. slots_of q.small ++ z) (slots_of-hit (λ b. true) slot q.main)

@@ -16,6 +16,7 @@ use Rattle.clock2q_machine.specs.Machine.{residents}
 use Rattle.clock2q_cache.specs.CacheFields.{machine_of, places_of, IsKept}
 use Rattle.clock2q_cache.specs.Indexed.{HasPlaces}
 use Rattle.clock2q_cache.proofs.WithKeys.{HaveKeys, have_later, paired, paired-cons, residents-keyed}
+use Rattle.clock2q_machine.proofs.Whole.{some_is}
 use Rattle.clock2q_cache.proofs.Stored.{entry_there, hash-of-key}
 use Rattle.clock2q_cache.proofs.CacheInvariant.{small_have, main_have}
 
@@ -35,22 +36,19 @@ module _ {K V : Type 0} (hash : K → ℕ) (entries : List (Entry K V)) where
   abbrev pub Stands : ℕ → Type 0
   Stands s = (k : K) × (hashed_at entries s ≡ Some (hash k, k))
 
-  inner : (a b : ℕ × K) → Some a ≡ Some b → a ≡ b
-  inner a b q = cc
-
   key-of : (s : ℕ) (h : ℕ) (k : K) → hashed_at entries s ≡ Some (h, k) → key_at entries s ≡ Some k
   key-of s h k = of (slice_get entries s)
     where
       of : (o : Option (Entry K V)) → ◌≡◌ {A = Option (ℕ × K)} (elim o [ None ↦ None | Some e ↦ Some (e.hash, e.key) ]) (Some (h, k)) → elim o [ None ↦ None | Some e ↦ Some e.key ] ≡ Some k
       of None q = absurd (cc)
-      of (Some e) q = ap (λ (z : ℕ × K). Some z.1) (inner (e.hash, e.key) (h, k) q)
+      of (Some e) q = ap (λ (z : ℕ × K). Some z.1) (some_is (e.hash, e.key) (h, k) q)
 
   hash-of : (s : ℕ) (h : ℕ) (k : K) → hashed_at entries s ≡ Some (h, k) → hash_at entries s ≡ Some h
   hash-of s h k = of (slice_get entries s)
     where
       of : (o : Option (Entry K V)) → ◌≡◌ {A = Option (ℕ × K)} (elim o [ None ↦ None | Some e ↦ Some (e.hash, e.key) ]) (Some (h, k)) → elim o [ None ↦ None | Some e ↦ Some e.hash ] ≡ Some h
       of None q = absurd (cc)
-      of (Some e) q = ap (λ (z : ℕ × K). Some z.0) (inner (e.hash, e.key) (h, k) q)
+      of (Some e) q = ap (λ (z : ℕ × K). Some z.0) (some_is (e.hash, e.key) (h, k) q)
 
   pub stand_have : (places : List ℕ) → AllByRecursion Stands places → HaveKeys (key_at entries) places
   stand_have [] a t g = absurd (cc)

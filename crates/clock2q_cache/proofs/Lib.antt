@@ -1,7 +1,6 @@
 pub mod CacheInvariant
 pub mod Changed
 pub mod Charged
-pub mod Cleared
 pub mod Fetched
 pub mod Filled
 pub mod Finding

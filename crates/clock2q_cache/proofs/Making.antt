@@ -7,6 +7,7 @@ use Rattle.std.specs.Option.{UnwrapsOrElse}
 use Rattle.std.proofs.lemmas.Bool.{cases_lt, lt-ltb, le-ltb, eqb-false, both_ways}
 use Rattle.std.proofs.lemmas.Option.{slice_get_within, slice_get_past}
 use Rattle.std.proofs.lemmas.List.Sums.{sum_by-cons}
+use Rattle.clock2q_queues.proofs.Booleans.{and_true, and_false}
 use Rattle.clock2q_machine.specs.Shares.{main_share}
 use Rattle.clock2q_machine.specs.Entries.{MainEntry, from_victim}
 use Rattle.clock2q_machine.specs.Machine.{Machine, Placement, vacancy, vacant_slot, goes_to_main, into_main, into_small, into_small_at, joining_main, replacing_victim, placement, forgotten, slot_of, stored, reused, inserted, hit}
@@ -20,14 +21,6 @@ use Rattle.clock2q_machine.proofs.MachineInvariant.{resident_made}
 use Rattle.clock2q_machine.proofs.Standing.{get-within}
 use Rattle.clock2q_machine.proofs.Laws.{slot_at_most, reused_value}
 use Rattle.clock2q_cache.proofs.Fetched.{stored_again, stored_same}
-
-with_true : (b : Bool) → (b && true) ≡ b
-with_true true = refl
-with_true false = refl
-
-with_false : (b : Bool) → (b && false) ≡ false
-with_false true = refl
-with_false false = refl
 
 module _ {K V : Type 0} (eq : K → K → Bool) (m : Machine K V) (h : IsWhole eq m) where
   -- the vacancy is a new slot where none is free
@@ -53,9 +46,9 @@ module _ {K V : Type 0} (eq : K → K → Bool) (m : Machine K V) (h : IsWhole e
       by : (b : Bool) → (length m.main == main_share m.shares) ≡ b → (es : List (MainEntry K)) → from_victim m.main ≡ es → (v : Option ℕ) → vacancy m ≡ v
           → nat_lt (if b then replacing_victim key es m else joining_main key v m).slot (length m.values) ≡ not (next_is_vacant m && not (true && b))
       by true full [] choice v is = absurd (omega (arith, h.small_below, eqb-true (length m.main) (main_share m.shares) full, ap (length {A = MainEntry K}) choice, length-from_victim m.main))
-      by true full (victim ∷ others) choice v is = lt-ltb victim.slot (length m.values) (victim_made eq m h victim others choice) ∙ ap not (sym (with_false (next_is_vacant m)))
+      by true full (victim ∷ others) choice v is = lt-ltb victim.slot (length m.values) (victim_made eq m h victim others choice) ∙ ap not (sym (and_false (next_is_vacant m)))
       by false room es choice None is = absurd (omega (arith, all_resident eq m h is, h.small_within, h.main_within, h.small_below, eqb-false (length m.main) (main_share m.shares) room))
-      by false room es choice (Some slot) is = vacant-made slot is ∙ ap not (sym (with_true (next_is_vacant m)))
+      by false room es choice (Some slot) is = vacant-made slot is ∙ ap not (sym (and_true (next_is_vacant m)))
 
     pub small-makes : goes_to_main false m ≡ false → nat_lt (into_small key m).slot (length m.values) ≡ not (makes_slot false m)
     small-makes small = by (vacancy m) refl where
@@ -63,12 +56,12 @@ module _ {K V : Type 0} (eq : K → K → Bool) (m : Machine K V) (h : IsWhole e
       by None none =
           let full = no_vacancy m.free (length m.values) m.shares.capacity none in
           let over : nat_lt (length m.values) m.shares.capacity ≡ false = le-ltb (length m.values) m.shares.capacity (omega (arith, full.1)) in
-          let never : makes_slot false m ≡ false = with_true (next_is_vacant m) ∙ ap (λ b. (length m.free == 0) && b) over ∙ with_false (length m.free == 0) in
+          let never : makes_slot false m ≡ false = and_true (next_is_vacant m) ∙ ap (λ b. (length m.free == 0) && b) over ∙ and_false (length m.free == 0) in
           elim (placed-small eq m h key small).slots [
             | inl keeps ↦ lt-ltb (into_small key m).slot (length m.values) keeps.made ∙ ap not (sym never)
             | inr makes ↦ absurd (omega (arith, makes.vacant, full.1))
           ]
-      by (Some slot) is = ap (λ v. nat_lt (into_small_at key v (last_or None m.small) m).slot (length m.values)) is ∙ vacant-made slot is ∙ ap not (sym (with_true (next_is_vacant m)))
+      by (Some slot) is = ap (λ v. nat_lt (into_small_at key v (last_or None m.small) m).slot (length m.values)) is ∙ vacant-made slot is ∙ ap not (sym (and_true (next_is_vacant m)))
 
     pub placed-values : (main : Bool) → (main ≡ false → goes_to_main false m ≡ false) → (placed main key m).machine.values ≡ m.values
     placed-values true small = (placed-main eq m h key).values

@@ -23,14 +23,12 @@ use Rattle.clock2q_machine.specs.Entries.{SmallEntry}
 use Rattle.clock2q_cache.specs.Places.{remembering_any, left_by, entered, discarded, key_out, out_of, hash_in, residents_with, remembered_with}
 use Rattle.clock2q_cache.specs.CacheState.{CacheState}
 use Rattle.clock2q_cache.proofs.WithKeys.{HaveKeys, have_later, paired, paired-cons}
+use Rattle.clock2q_machine.proofs.Whole.{some_is}
 use Rattle.clock2q_cache.proofs.Stored.{have_keys, hash-of-key}
 use Rattle.clock2q_cache.proofs.Renewed.{last_entry, tail_key}
 use Rattle.clock2q_cache.proofs.Indexed.{residents-paired}
 
 module _ {K : Type 0} (key : ℕ → Option K) (slot : ℕ) where
-  same_key : (a b : K) → Some a ≡ Some b → a ≡ b
-  same_key a b q = cc
-
   -- the key at one of these places, with the place
   found-paired : (k : K) (ss : List ℕ) → HaveKeys key ss → has slot ss ≡ true → key slot ≡ Some k → find (λ (r : K × ℕ). r.1 == slot) (paired key ss) ≡ Some (k, slot)
   found-paired k [] h there at = absurd (both_ways false refl there)
@@ -40,7 +38,7 @@ module _ {K : Type 0} (key : ℕ → Option K) (slot : ℕ) where
       ∙ elim (cases_Bool (eqb s slot)) [
         | inl e ↦
             let q : s ≡ slot = eqb-true s slot e in
-            let same : j.0 ≡ k = same_key j.0 k (sym j.1 ∙ ap (λ z. key z) q ∙ at) in
+            let same : j.0 ≡ k = some_is j.0 k (sym j.1 ∙ ap (λ z. key z) q ∙ at) in
             rw e (ap (λ z. Some (z, s)) same ∙ ap (λ z. Some (k, z)) q)
         | inr e ↦ rw e (found-paired k ss (have_later key s ss h) (subst (λ b. (b || has slot ss) ≡ true) (eqb_swap s slot e) there) at)
       ]

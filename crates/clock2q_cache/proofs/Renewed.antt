@@ -4,6 +4,7 @@ use Rattle.std.specs.Prelude.{if◌then◌else◌, slice_get, IfSome}
 use Rattle.std.specs.Cmp.{IsEquivalence}
 use Rattle.std.specs.List.{count_by, list_any, last_or, AllByRecursion}
 use Rattle.std.proofs.lemmas.Bool.{cases_Bool}
+use Rattle.std.proofs.lemmas.List.{take-map}
 use Rattle.std.proofs.lemmas.List.Sums.{sum_by-cons}
 use Rattle.clock2q_handles.specs.Homes.{capacity, with_handle, removed}
 use Rattle.clock2q_machine.specs.Ages.{Age, is_promoted}
@@ -39,10 +40,7 @@ first-is (y ∷ xs) x h = let e : y ≡ x = cc in ap (λ z. z ∷ xs) e
 last-slot : {X : Type 0} (o : Option (ℕ × X)) (p : Option ℕ) (xs : List (ℕ × X)) (t : ℕ)
     → (p ≡ Some t → (x : X) × (o ≡ Some (t, x))) → last_or p (slots_of xs) ≡ Some t → (x : X) × (last_or o xs ≡ Some (t, x))
 last-slot o p [] t first h = first h
-last-slot o p (y ∷ xs) t first h = last-slot (Some y) (Some y.0) xs t (λ e. let q : y.0 ≡ t = inner y.0 t e in (y.1, ap (λ z. Some (z, y.1)) q)) h
-  where
-    inner : (a b : ℕ) → Some a ≡ Some b → a ≡ b
-    inner a b e = cc
+last-slot o p (y ∷ xs) t first h = last-slot (Some y) (Some y.0) xs t (λ e. (y.1, ap (λ z. Some (z, y.1)) (some_is y.0 t e))) h
 
 pub tail-there : {X : Type 0} (xs : List (ℕ × X)) (t : ℕ) → last_or None (slots_of xs) ≡ Some t → (x : X) × (last_or None xs ≡ Some (t, x))
 tail-there xs t h = last-slot None None xs t (λ e. absurd (cc)) h
@@ -58,11 +56,6 @@ front-last_of x o (y ∷ z ∷ zs) first h =
 
 pub front-last : {X : Type 0} (xs : List X) (x : X) → last_or None xs ≡ Some x → xs ≡ take (length xs - 1) xs ++ x ∷ []
 front-last xs x h = front-last_of x None xs (λ e. absurd (cc)) h
-
-map-take : {X Y : Type 0} (f : X → Y) (n : ℕ) (xs : List X) → map f (take n xs) ≡ take n (map f xs)
-map-take f zero xs = refl
-map-take f (suc n) [] = refl
-map-take f (suc n) (x ∷ xs) = ap (λ zs. f x ∷ zs) (map-take f n xs)
 
 times-split : (t n : ℕ) (main : List (ℕ × Bool)) → times t (slots_of (drop n main ++ map {B = ℕ × Bool} (λ (e : ℕ × Bool). (e.0, false)) (take n main))) ≡ times t (slots_of main)
 times-split t n main = times-appended t (drop n main) (map {B = ℕ × Bool} (λ (e : ℕ × Bool). (e.0, false)) (take n main)) ∙ of n main
@@ -323,7 +316,7 @@ module _ {K V : Type 0} {eq : K → K → Bool} {hash : K → ℕ} {shares : Sha
         small_joined slot last (tail-not_in_front slot last) in
         let t = main_other q.main (tail-not_in_main slot last) in
         let r : map (λ (e : ℕ × K). e.1) h1.entries ≡ take (history_share shares) ((tail_key slot last).0 ∷ m.history) =
-        map-take (λ (e : ℕ × K). e.1) h.limit ((old, old_key) ∷ h.entries) ∙ ap (λ n. take n (old_key ∷ m.history)) kept.sized.remembers
+        sym (take-map (λ (e : ℕ × K). e.1) h.limit ((old, old_key) ∷ h.entries)) ∙ ap (λ n. take n (old_key ∷ m.history)) kept.sized.remembers
         ∙ ap (λ z. take (history_share shares) (z ∷ m.history)) (sym (tail_is slot last old_key key_is)) in
         let v = values in
         let p = evicting_tail key (tail_entry slot last) m in

@@ -7,7 +7,7 @@ use denote.Param.Always.{always_mut, mut_next}
 use Rattle.std.specs.List.{filter, filter_map, cons_option, find, range_with_len}
 use Rattle.std.specs.List.Retain.{ReturnsInTurn}
 use Rattle.std.proofs.lemmas.Bool.{cases_Bool}
-use Rattle.std.proofs.lemmas.List.{append-nil, map-append}
+use Rattle.std.proofs.lemmas.List.{append-nil, map-append, length-map}
 use Rattle.std.proofs.lemmas.List.Elements.{filter_map-append}
 use Rattle.std.proofs.lemmas.List.Sums.{fold-append}
 use Rattle.clock2q_cache.specs.Closures.{AsksResident, MayBeAsked, Retains, TakesInTurn}
@@ -34,10 +34,6 @@ refused-more (c ∷ bits) [] b s many = absurd (omega (arith, many))
 refused-more (true ∷ bits) (t ∷ slots) b s many = refused-more bits slots b s (omega (arith, many))
 refused-more (false ∷ bits) (t ∷ slots) b s many = ap (λ zs. t ∷ zs) (refused-more bits slots b s (omega (arith, many)))
 
-length-slots : {K : Type 0} (rs : List (K × ℕ)) → length (map (λ (r : K × ℕ). r.1) rs) ≡ length rs
-length-slots [] = refl
-length-slots (r ∷ rs) = ap suc (length-slots rs)
-
 -- a resident that leaves is another one's neighbour, and no more
 module _ {K X : Type 0} (at : X → K × ℕ) (s t : ℕ) (differ : eqb s t ≡ false) where
   others : (es : List X) (rs rs' : List (K × ℕ)) → find (λ (r : K × ℕ). r.1 == t) rs' ≡ find (λ (r : K × ℕ). r.1 == t) rs
@@ -54,16 +50,8 @@ module _ {K X : Type 0} (at : X → K × ℕ) (s t : ℕ) (differ : eqb s t ≡ 
   ]
 
   last-others : (es : List X) → find (λ (r : K × ℕ). r.1 == t) (map at (filter (λ e. not ((at e).1 == s)) es)) ≡ find (λ (r : K × ℕ). r.1 == t) (map at es)
-  last-others [] = refl
-  last-others (e ∷ es) = elim (cases_Bool (eqb (at e).1 s)) [
-    | inl i ↦
-        let no : eqb (at e).1 t ≡ false = subst (λ z. eqb z t ≡ false) (sym (eqb-true (at e).1 s i)) differ in
-        rw (i, no) (last-others es)
-    | inr i ↦ elim (cases_Bool (eqb (at e).1 t)) [
-      | inl j ↦ rw (i, j) refl
-      | inr j ↦ rw (i, j) (last-others es)
-    ]
-  ]
+  last-others es = subst (λ z. find (λ (r : K × ℕ). r.1 == t) z ≡ find (λ (r : K × ℕ). r.1 == t) (map at es)) (append-nil (map at (filter (λ e. not ((at e).1 == s)) es)))
+      (subst (λ z. find (λ (r : K × ℕ). r.1 == t) (map at (filter (λ e. not ((at e).1 == s)) es) ++ []) ≡ find (λ (r : K × ℕ). r.1 == t) z) (append-nil (map at es)) (others es [] [] refl))
 
 pub resident-other : {K V : Type 0} (m : Machine K V) (s t : ℕ) → eqb s t ≡ false → resident_at (vacated s m) t ≡ resident_at m t
 resident-other {K} {V} m s t differ =
@@ -142,7 +130,7 @@ module _ {F K V : Type 0} (g : Mut F (Bor K × (Bor V × Unit {0})) Bool) (f : F
     becomes = left b (refused_slots h.bits (map (λ r. r.1) rs)) h.becomes
         ∙ sym (ap (λ z. vacated_all z old)
         (ap (λ z. refused_slots (h.bits ++ b ∷ []) z) (map-append (λ (r : K × ℕ). r.1) rs (r ∷ []))
-        ∙ refused-more h.bits (map (λ r. r.1) rs) b r.1 (h.as_many ∙ sym (length-slots rs))));
+        ∙ refused-more h.bits (map (λ r. r.1) rs) b r.1 (h.as_many ∙ sym (length-map rs (λ (r : K × ℕ). r.1)))));
   }
     where
       left : (b : Bool) (ss : List ℕ) → now ≡ vacated_all ss old → cond b now (vacated r.1 now) ≡ vacated_all (ss ++ cond b [] (r.1 ∷ [])) old

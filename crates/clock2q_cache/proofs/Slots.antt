@@ -5,6 +5,8 @@ use Rattle.std.specs.List.{count_by}
 use Rattle.std.proofs.lemmas.Bool.{cases_Bool, cases_lt, both_ways, lt-ltb, le-ltb}
 use Rattle.std.proofs.lemmas.List.{length-map}
 use Rattle.std.proofs.lemmas.List.Sums.{sum_by-cons, sum_by-append}
+use Rattle.clock2q_queues.proofs.SlotLists.{slots_of-mapped}
+use Rattle.clock2q_machine.proofs.Whole.{some_is, none_is}
 use Rattle.clock2q_queues.proofs.Booleans.{or_true, or_parts}
 use Rattle.clock2q_queues.specs.declared.keys.store.Entry.{Entry}
 use Rattle.clock2q_queues.specs.Rings.{has, AllApart}
@@ -48,10 +50,6 @@ times-apart (x ∷ xs) h =
     let own = times-cons x x xs in
     (times-none x xs (omega (arith, h x, own, ap {B = ℕ} (λ b. cond b 1 0) (eqb_self x))), times-apart xs (λ t. omega (arith, h t, times-cons t x xs)))
 
-length-slots : {X : Type 0} (xs : List (ℕ × X)) → length (slots_of xs) ≡ length xs
-length-slots [] = refl
-length-slots (x ∷ xs) = ap suc (length-slots xs)
-
 -- a slot that stands as often stands as well
 pub times-absent : (t : ℕ) (xs : List ℕ) → has t xs ≡ false → times t xs ≡ 0
 times-absent t [] h = refl
@@ -77,8 +75,7 @@ times-pushed t [] x = omega (arith, times-cons t x.0 [])
 times-pushed t (y ∷ ys) x = omega (arith, times-cons t y.0 (slots_of (ys ++ x ∷ [])), times-cons t y.0 (slots_of ys), times-pushed t ys x)
 
 pub slots-admitted : (window slot : ℕ) (es : List (ℕ × Age)) → slots_of {X = Age} (admitted window slot es) ≡ slot ∷ slots_of es
-slots-admitted window slot [] = refl
-slots-admitted window slot (e ∷ es) = ap (λ zs. slot ∷ e.0 ∷ drop 1 zs) (slots-admitted window slot es)
+slots-admitted window slot es = ap (λ zs. slot ∷ zs) (slots_of-mapped (λ a. grown window a) es)
 
 pub times-admitted : (t window slot : ℕ) (es : List (ℕ × Age)) → times t (slots_of (admitted window slot es)) ≡ cond (slot == t) 1 0 + times t (slots_of es)
 times-admitted t window slot es = ap (times t) (slots-admitted window slot es) ∙ times-cons t slot (slots_of es)
@@ -96,7 +93,7 @@ pub length-swept : (main : List (ℕ × Bool)) → length (from_victim main) ≡
 length-swept main = length-append (drop (set_front main) main) (map {B = ℕ × Bool} (λ (e : ℕ × Bool). (e.0, false)) (take (set_front main) main)) ∙ length-split (set_front main) main
 
 pub length-places : (q : QueueState) → length (places_of q) ≡ length q.small + length q.main
-length-places q = length-append (slots_of q.small) (slots_of q.main) ∙ ap (λ n. n + length (slots_of q.main)) (length-slots q.small) ∙ ap (λ n. length q.small + n) (length-slots q.main)
+length-places q = length-append (slots_of q.small) (slots_of q.main) ∙ ap (λ n. n + length (slots_of q.main)) (length-map q.small (λ e. e.0)) ∙ ap (λ n. length q.small + n) (length-map q.main (λ e. e.0))
 
 module _ {K V : Type 0} (eq : K → K → Bool) (hash : K → ℕ) (shares : Shares) (q : QueueState) (index : List (List (ℕ × ℕ))) (entries : List (Entry K V)) (history : List (ℕ × K)) (free : List ℕ)
     (whole : IsWhole eq (machine_of shares q entries history free)) (stored : IsStored hash index entries (places_of q)) where
@@ -150,26 +147,20 @@ module _ {K V : Type 0} (eq : K → K → Bool) (hash : K → ℕ) (shares : Sha
     pub next : slot ≤ length entries
     pub below : slot < shares.capacity
 
-  some_same : (x y : ℕ) → Some x ≡ Some y → x ≡ y
-  some_same x y e = cc
-
   pub vacant : (slot : ℕ) → vacancy m ≡ Some slot → IsVacant slot
   vacant slot is = of (reverse free) refl is
     where
       of : (fs : List ℕ) → reverse free ≡ fs → vacant_slot fs (length m.values) shares.capacity ≡ Some slot → IsVacant slot
       of (s ∷ fs) at e =
-          let same : s ≡ slot = some_same s slot e in
+          let same : s ≡ slot = some_is s slot e in
           let f = free_slot slot (omega (arith, ap (λ z. times slot z) at, times-cons slot s fs, ap {B = ℕ} (λ b. cond b 1 0) (eq-eqb s slot same))) in
           record { absent = f.0; next = omega (arith, f.1); below = omega (arith, f.1, whole.made_within, length-values entries) }
       of [] at e = elim (cases_lt (length m.values) shares.capacity) [
         | inl below ↦
-            let same : length m.values ≡ slot = some_same (length m.values) slot (sym (ap (λ b. if b then Some (length m.values) else None) (lt-ltb (length m.values) shares.capacity below)) ∙ e) in
+            let same : length m.values ≡ slot = some_is (length m.values) slot (sym (ap (λ b. if b then Some (length m.values) else None) (lt-ltb (length m.values) shares.capacity below)) ∙ e) in
             record { absent = subst (λ z. has z (places_of q) ≡ false) same next_slot; next = omega (arith, same, length-values entries); below = omega (arith, same, below) }
-        | inr above ↦ absurd (none_some slot (sym (ap (λ b. if b then Some (length m.values) else None) (le-ltb (length m.values) shares.capacity above)) ∙ e))
+        | inr above ↦ absurd (none_is slot (sym (ap (λ b. if b then Some (length m.values) else None) (le-ltb (length m.values) shares.capacity above)) ∙ e))
       ]
-        where
-          none_some : (x : ℕ) → None ≡ Some x → ⊥
-          none_some x e = cc
 
   -- the slot that is taken is the vacancy, where there is one
   pub vacancy-taken : (slot : ℕ) → is_some (vacancy m) ≡ true → vacant_slot (reverse free) (length entries) (length entries + 1) ≡ Some slot → vacancy m ≡ Some slot

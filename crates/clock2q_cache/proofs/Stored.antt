@@ -1,16 +1,19 @@
 -- The keys by slot and their index: what becomes of them where a key enters or one is replaced.
-use Rattle.std.proofs.Common.{◌≡◌, ℕ, zero, suc, ◌+◌, ◌^◌, ◌<◌, ◌≤◌, Bool, true, false, not, ◌&&◌, eqb, Some, None, slice_get, List, [], ◌∷◌, ◌++◌, map, length, inl, inr, refl, sym, ap, ◌∙◌, subst, arith, eqb-true}
+use Rattle.std.proofs.Common.{◌≡◌, ℕ, zero, suc, ◌+◌, ◌^◌, ◌<◌, ◌≤◌, true, false, ◌&&◌, eqb, Some, None, slice_get, List, [], ◌∷◌, ◌++◌, map, length, inl, inr, refl, sym, ap, ◌∙◌, subst, arith, eqb-true}
 use Rattle.std.specs.Prelude.{if◌then◌else◌, nat_lt, slice_set}
 use Rattle.std.specs.List.{AllByRecursion}
 use Rattle.std.proofs.lemmas.Bool.{cases_Bool, cases_lt, both_ways, lt-ltb, le-ltb}
 use Rattle.clock2q_handles.specs.Homes.{total, capacity, with_handle, removed}
 use Rattle.clock2q_queues.specs.declared.keys.store.Entry.{Entry}
 use Rattle.clock2q_queues.specs.Rings.{has, without, AllApart, AllBelow}
-use Rattle.clock2q_queues.specs.Keys.{entry, written, with_key, hash_at, key_at}
+use Rattle.clock2q_queues.specs.Keys.{entry, written, with_key, hash_at, key_at, value_at}
 use Rattle.clock2q_queues.specs.Indexes.{IsIndex, is_named}
-use Rattle.clock2q_queues.proofs.Rings.{has_first, has_later, eqb_self, below_of, has-without_test}
+use Rattle.clock2q_queues.proofs.Rings.{has_first, has_later, eqb_self, below_of, has-without, has-without_test}
+use Rattle.clock2q_queues.proofs.Booleans.{and_true, and_false}
+use Rattle.clock2q_machine.proofs.Whole.{some_is}
+use Rattle.std.proofs.lemmas.List.{map-append}
 use Rattle.clock2q_queues.proofs.Joining.{length-without}
-use Rattle.clock2q_queues.proofs.Entries.{slice_get-written, slice_get-written_other, length-written}
+use Rattle.clock2q_queues.proofs.Entries.{written-push, slice_get-written, slice_get-written_other, length-written}
 use Rattle.clock2q_queues.proofs.Indexes.{IsIndex-put, IsIndex-taken, length-taken}
 use Rattle.clock2q_cache.specs.CacheFields.{IsStored}
 use Rattle.clock2q_cache.specs.Insertions.{Writes}
@@ -51,15 +54,15 @@ module _ {K V : Type 0} where
   all-written P (suc s) e (x ∷ xs) a p = (a.0, all-written P s e xs a.1 p)
 
   -- a key that comes with a value, and one that finds its slot's
-  set-written : (s : ℕ) (e : Entry K V) (es : List (Entry K V)) → s < length es → slice_set es s e ≡ written s e es
+  pub set-written : (s : ℕ) (e : Entry K V) (es : List (Entry K V)) → s < length es → slice_set es s e ≡ written s e es
   set-written s e [] h = absurd (omega arith)
   set-written zero e (x ∷ xs) h = refl
   set-written (suc s) e (x ∷ xs) h = ap (λ zs. x ∷ zs) (set-written s e xs (omega arith))
 
-  value-there : (s : ℕ) (e : Entry K V) (es : List (Entry K V)) → slice_get es s ≡ Some e → slice_get (map (λ e. e.value) es) s ≡ Some e.value
-  value-there s e [] h = absurd (cc)
-  value-there zero e (x ∷ xs) h = let same : x ≡ e = cc in ap (λ (z : Entry K V). Some z.value) same
-  value-there (suc s) e (x ∷ xs) h = value-there s e xs h
+  pub value-there : (es : List (Entry K V)) (slot : ℕ) → slice_get (map (λ (e : Entry K V). e.value) es) slot ≡ value_at es slot
+  value-there [] slot = refl
+  value-there (e ∷ es) zero = refl
+  value-there (e ∷ es) (suc slot) = value-there es slot
 
   pub brings-value : (s hash : ℕ) (key : K) (value : V) (es new : List (Entry K V)) → new ≡ written s (entry hash key value) es → Writes hash key (Some value) s es new
   brings-value s hash key value es new is = record { held = value; is = refl; becomes = is }
@@ -68,14 +71,9 @@ module _ {K V : Type 0} where
   keeps-value s hash key es new there is =
       let e = entry_there es s there in
       let keyed : with_key s hash key es ≡ slice_set es s (entry hash key e.0.value) = ap (λ z. elim z [ None ↦ es | Some e ↦ slice_set es s (entry hash key e.value) ]) e.1 in
-      record { held = e.0.value; is = value-there s e.0 es e.1; becomes = is ∙ keyed ∙ set-written s (entry hash key e.0.value) es there }
+      record { held = e.0.value; is = value-there es s ∙ ap (λ z. elim z [ None ↦ None | Some e ↦ Some e.value ]) e.1; becomes = is ∙ keyed ∙ set-written s (entry hash key e.0.value) es there }
 
   -- the values
-  values-next : (s : ℕ) (e : Entry K V) (es : List (Entry K V)) → s ≡ length es → map (λ e. e.value) (written s e es) ≡ map (λ e. e.value) es ++ e.value ∷ []
-  values-next s e [] h = refl
-  values-next zero e (x ∷ xs) h = absurd (omega arith)
-  values-next (suc s) e (x ∷ xs) h = ap (λ zs. x.value ∷ zs) (values-next s e xs (omega arith))
-
   values-set : (s : ℕ) (e : Entry K V) (es : List (Entry K V)) → s < length es → map (λ e. e.value) (written s e es) ≡ slice_set (map (λ e. e.value) es) s e.value
   values-set s e [] h = absurd (omega arith)
   values-set zero e (x ∷ xs) h = refl
@@ -90,17 +88,16 @@ module _ {K V : Type 0} where
   values-written s e es h =
       elim (cases_lt s (length es)) [
         | inl below ↦ rw (lt-ltb s (length (map (λ (e : Entry K V). e.value) es)) (omega (arith, below, length-values es))) (values-set s e es below)
-        | inr above ↦ rw (le-ltb s (length (map (λ (e : Entry K V). e.value) es)) (omega (arith, above, length-values es))) (values-next s e es (omega (arith, above, h)))
+        | inr above ↦ rw (le-ltb s (length (map (λ (e : Entry K V). e.value) es)) (omega (arith, above, length-values es))) (ap (λ z. map (λ e. e.value) z) (written-push s e es (omega (arith, above, h))) ∙ map-append (λ e. e.value) es (e ∷ []))
       ]
-
-pub below-more : (n m : ℕ) (places : List ℕ) → n ≤ m → AllBelow n places → AllBelow m places
-below-more n m [] le b = tt
-below-more n m (p ∷ ps) le b = (omega (arith, le, b.0), below-more n m ps le b.1)
 
 -- all that are there are below
 pub below-has : (n : ℕ) (places : List ℕ) → ((t : ℕ) → has t places ≡ true → t < n) → AllBelow n places
 below-has n [] h = tt
 below-has n (p ∷ ps) h = (h p (has_first p ps), below-has n ps (λ t g. h t (has_later t p ps g)))
+
+pub below-more : (n m : ℕ) (places : List ℕ) → n ≤ m → AllBelow n places → AllBelow m places
+below-more n m places le b = below-has m places (λ t g. omega (arith, le, below_of n places b t g))
 
 module _ {K V : Type 0} (hash : K → ℕ) where
   -- the same places in another order
@@ -135,17 +132,10 @@ module _ {K V : Type 0} (hash : K → ℕ) where
       → IsStored hash index entries places → 0 < length index → AllApart places → hash_at entries slot ≡ Some old
       → IsStored hash (removed eqb index old slot) entries (without slot places)
   stored-left index entries places slot old i some apart at = record {
-    made = below-has (length entries) (without slot places) (λ t g. below_of (length entries) places i.made t (kept t g));
+    made = below-has (length entries) (without slot places) (λ t g. below_of (length entries) places i.made t (has-without t slot places g).0);
     indexed = IsIndex-taken index entries places slot old i.indexed some apart at;
     hashed = i.hashed;
   }
-    where
-      kept : (t : ℕ) → has t (without slot places) ≡ true → has t places ≡ true
-      kept t g = left (has t places) (not (eqb t slot)) (sym (has-without_test t slot places) ∙ g)
-        where
-          left : (a b : Bool) → (a && b) ≡ true → a ≡ true
-          left true b h = refl
-          left false b h = absurd (both_ways false refl h)
 
   -- a key takes the place of a resident
   pub stored-renewed : (index : List (List (ℕ × ℕ))) (entries : List (Entry K V)) (places : List ℕ) (slot old : ℕ) (key : K) (value : V)
@@ -153,25 +143,17 @@ module _ {K V : Type 0} (hash : K → ℕ) where
       → IsStored hash (with_handle (removed eqb index old slot) (hash key) slot) (written slot (entry (hash key) key value) entries) places
   stored-renewed index entries places slot old key value i some apart there at =
       let l = stored-left index entries places slot old i some apart at in
-      let gone : has slot (without slot places) ≡ false = has-without_test slot slot places ∙ rw (eqb_self slot) (and_none (has slot places)) in
+      let gone : has slot (without slot places) ≡ false = has-without_test slot slot places ∙ rw (eqb_self slot) (and_false (has slot places)) in
       let below : slot < length entries = below_of (length entries) places i.made slot there in
       let e = stored-entered (removed eqb index old slot) entries (without slot places) slot key value l (omega (arith, some, length-taken index old slot)) gone (omega (arith, below)) in
       stored-same (with_handle (removed eqb index old slot) (hash key) slot) (written slot (entry (hash key) key value) entries)
       (slot ∷ without slot places) places e again (sym (omega (arith, length-without slot places apart there)))
     where
-      and_none : (b : Bool) → (b && false) ≡ false
-      and_none true = refl
-      and_none false = refl
-
       again : (t : ℕ) → has t places ≡ has t (slot ∷ without slot places)
       again t = elim (cases_Bool (eqb t slot)) [
         | inl e ↦ subst (λ z. has z places ≡ true) (sym (eqb-true t slot e)) there ∙ rw e refl
-        | inr e ↦ rw (e, has-without_test t slot places, e) (and_all (has t places))
+        | inr e ↦ rw (e, has-without_test t slot places, e) (sym (and_true (has t places)))
       ]
-        where
-          and_all : (b : Bool) → b ≡ (b && true)
-          and_all true = refl
-          and_all false = refl
 
 -- one of the places goes out of an index: it has room for another
 pub left-room : {K V : Type 0} (index index' : List (List (ℕ × ℕ))) (entries : List (Entry K V)) (places : List ℕ) (slot old : ℕ)
@@ -194,13 +176,7 @@ module _ {K V : Type 0} (hash : K → ℕ) where
   pub hash-of-key : (entries : List (Entry K V)) (t old : ℕ) (key : K) → AllByRecursion (λ e. e.hash ≡ hash e.key) entries → hash_at entries t ≡ Some old → key_at entries t ≡ Some key → old ≡ hash key
   hash-of-key [] t old key a h k = absurd (cc)
   hash-of-key (e ∷ es) zero old key a h k =
-      let x : e.hash ≡ old = inner e.hash old h in
-      let y : e.key ≡ key = inner_key e.key key k in
+      let x = some_is e.hash old h in
+      let y = some_is e.key key k in
       sym x ∙ a.0 ∙ ap hash y
-    where
-      inner : (a b : ℕ) → Some a ≡ Some b → a ≡ b
-      inner a b q = cc
-
-      inner_key : (a b : K) → Some a ≡ Some b → a ≡ b
-      inner_key a b q = cc
   hash-of-key (e ∷ es) (suc t) old key a h k = hash-of-key es t old key a.1 h k

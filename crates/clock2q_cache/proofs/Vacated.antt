@@ -5,6 +5,9 @@ use Rattle.std.specs.Cmp.{IsEquivalence}
 use Rattle.std.specs.Option.{option_map}
 use Rattle.std.specs.List.{filter, find, count_by}
 use Rattle.std.proofs.lemmas.Bool.{cases_Bool, both_ways}
+use Rattle.clock2q_queues.proofs.SlotLists.{slots_of-filter}
+use Rattle.clock2q_machine.proofs.Whole.{some_is}
+use Rattle.std.proofs.lemmas.List.Elements.{filter-append}
 use Rattle.std.proofs.lemmas.List.Sums.{sum_by-append}
 use Rattle.clock2q_handles.specs.Homes.{removed}
 use Rattle.clock2q_queues.specs.Rings.{has, without}
@@ -24,25 +27,6 @@ use Rattle.clock2q_cache.proofs.Places.{resident-there, resident-none}
 use Rattle.clock2q_cache.proofs.CacheInvariant.{small_have, main_have, apart, index_some, sized-same}
 use Rattle.clock2q_machine.proofs.MachineInvariant.{whole-vacated}
 
-some_same : {X : Type 0} (x y : X) → Some x ≡ Some y → x ≡ y
-some_same x y e = cc
-
--- Lists
-
-slots-without : {X : Type 0} (slot : ℕ) (es : List (ℕ × X)) → slots_of (without_slot slot es) ≡ without slot (slots_of es)
-slots-without slot [] = refl
-slots-without slot (e ∷ es) = elim (cases_Bool (eqb e.0 slot)) [
-  | inl q ↦ rw q (slots-without slot es)
-  | inr q ↦ rw q (ap (λ zs. e.0 ∷ zs) (slots-without slot es))
-]
-
-without-append : (slot : ℕ) (xs ys : List ℕ) → without slot (xs ++ ys) ≡ without slot xs ++ without slot ys
-without-append slot [] ys = refl
-without-append slot (x ∷ xs) ys = elim (cases_Bool (eqb x slot)) [
-  | inl q ↦ rw q (without-append slot xs ys)
-  | inr q ↦ rw q (ap (λ zs. x ∷ zs) (without-append slot xs ys))
-]
-
 -- a key that is found stands at its slot
 pub found-resident : {K V : Type 0} (is : K → Bool) (m : Machine K V) (slot : ℕ) → slot_of is m ≡ Some slot → IsSome (resident_at m slot)
 found-resident {K} {V} is m slot found = among (residents m) found
@@ -52,7 +36,7 @@ found-resident {K} {V} is m slot found = among (residents m) found
     among (r ∷ rs) e = elim (cases_Bool (eqb r.1 slot)) [
       | inl at ↦ rw at refl
       | inr at ↦ elim (cases_Bool (is r.0)) [
-        | inl t ↦ absurd (both_ways (eqb r.1 slot) at (eq-eqb r.1 slot (some_same r.1 slot (rw t at e))))
+        | inl t ↦ absurd (both_ways (eqb r.1 slot) at (eq-eqb r.1 slot (some_is r.1 slot (rw t at e))))
         | inr f ↦ rw at (among rs (rw f at e))
       ]
     ]
@@ -114,6 +98,6 @@ module _ {K V : Type 0} {eq : K → K → Bool} {hash : K → ℕ} {shares : Sha
       }
         where
           places : places_of q' ≡ without slot (places_of q)
-          places = ap (λ z. slots_of z ++ slots_of q'.main) small ∙ ap (λ z. z ++ slots_of q'.main) (slots-without slot q.small)
-              ∙ ap (λ z. without slot (slots_of q.small) ++ slots_of z) main ∙ ap (λ z. without slot (slots_of q.small) ++ z) (slots-without slot q.main)
-              ∙ sym (without-append slot (slots_of q.small) (slots_of q.main))
+          places = ap (λ z. slots_of z ++ slots_of q'.main) small ∙ ap (λ z. z ++ slots_of q'.main) (slots_of-filter slot q.small)
+              ∙ ap (λ z. without slot (slots_of q.small) ++ slots_of z) main ∙ ap (λ z. without slot (slots_of q.small) ++ z) (slots_of-filter slot q.main)
+              ∙ sym (filter-append (λ t. not (eqb t slot)) (slots_of q.small) (slots_of q.main))
