@@ -25,6 +25,7 @@ use Rattle.clock2q_cache.specs.CacheFields.{machine_of, IsKept, counts_of}
 use Rattle.clock2q_cache.specs.CacheState.{CacheState, Counts}
 use Rattle.clock2q_cache.specs.Costs.{Spends, accesses_for, alike}
 use Rattle.clock2q_cache.specs.Hashes.{hash_of}
+use Rattle.clock2q_cache.proofs.Spent.{spends-both, spends-more}
 use Rattle.clock2q_cache.proofs.WithKeys.{main-inspections}
 use Rattle.clock2q_cache.proofs.CacheInvariant.{main_have}
 use Rattle.clock2q_machine.proofs.Whole.{none_is}
@@ -110,32 +111,32 @@ module _ {K V : Type 0} (m : Machine K V) where
     small-insertion goes =
         looks_of ∙ ap (λ b. if (if b then length m.main == main_share m.shares else not (is_some (vacancy m)) && goes_on (last_or None m.small)) then machine.inspections m.main else 0) goes
 
--- how often the hand looks where a key is placed whose history is erased first
-pub placed-inspections : {K V : Type 0} (is : K → Bool) (m m1 : Machine K V) (known main : Bool) → known ≡ list_any is m.history
-    → m1 ≡ forgotten is m → main ≡ goes_to_main known m1 → slot_of is m ≡ None → placed_inspections main m1 ≡ inspections_for is m
-placed-inspections is m m1 known main had erased goes absent =
-    ap (λ b. placed_inspections b m1) goes ∙ ap (λ z. placed_inspections (goes_to_main known z) z) erased
-    ∙ ap (λ b. placed_inspections (goes_to_main b m) m) had ∙ of (goes_to_main (list_any is m.history) m) refl
-  where
-    of : (b : Bool) → goes_to_main (list_any is m.history) m ≡ b → placed_inspections b m ≡ inspections_for is m
-    of true main = sym (main-insertion m is absent main)
-    of false small = sym (small-insertion m is absent small)
+-- a key whose history is erased first goes into Main or Small
+pub record IsSent {K V : Type 0} (is : K → Bool) (m m1 : Machine K V) (main : Bool) : Type 0 where
+  pub known : Bool
+  pub had : known ≡ list_any is m.history
+  pub erased : m1 ≡ forgotten is m
+  pub goes : main ≡ goes_to_main known m1
+
+module _ {K V : Type 0} {is : K → Bool} {m m1 : Machine K V} {main : Bool} (s : IsSent is m m1 main) where
+  pub goes-there : main ≡ goes_to_main (list_any is m.history) m
+  goes-there = s.goes ∙ ap (λ z. goes_to_main s.known z) s.erased ∙ ap (λ b. goes_to_main b m) s.had
+
+  -- how often the hand looks then
+  pub placed-inspections : slot_of is m ≡ None → placed_inspections main m1 ≡ inspections_for is m
+  placed-inspections absent = ap (placed_inspections main) s.erased ∙ ap (λ b. placed_inspections b m) goes-there ∙ of (goes_to_main (list_any is m.history) m) refl
+    where
+      of : (b : Bool) → goes_to_main (list_any is m.history) m ≡ b → placed_inspections b m ≡ inspections_for is m
+      of true main = sym (main-insertion m is absent main)
+      of false small = sym (small-insertion m is absent small)
 
 -- after Small's tail was looked at
-pub looked-spends : (looks : ℕ) (a b c : Counts) → Spends 0 1 0 a b → Spends looks (looks + 28) 0 b c → Spends looks (looks + 29) 0 a c
-looked-spends looks a b c before after = record {
-  inspections = omega (arith, before.inspections, after.inspections);
-  accesses = (omega (arith, before.accesses.0, after.accesses.0), omega (arith, before.accesses.1, after.accesses.1));
-  questions = (omega (arith, before.questions.0, after.questions.0), omega (arith, before.questions.1, after.questions.1));
-}
+pub looked-spends : {looks : ℕ} {a b c : Counts} → Spends 0 1 0 a b → Spends looks (looks + 28) 0 b c → Spends looks (looks + 29) 0 a c
+looked-spends before after = spends-both before after (omega arith) (omega arith) (omega arith)
 
 -- after the key's history was erased
-pub forgotten-spends : (looks most keys : ℕ) (a b c : Counts) → most ≤ looks + 29 → Spends 0 7 keys a b → Spends looks most 0 b c → Spends looks (looks + 36) keys a c
-forgotten-spends looks most keys a b c few before after = record {
-  inspections = omega (arith, before.inspections, after.inspections);
-  accesses = (omega (arith, before.accesses.0, after.accesses.0), omega (arith, few, before.accesses.1, after.accesses.1));
-  questions = (omega (arith, before.questions.0, after.questions.0), omega (arith, before.questions.1, after.questions.1));
-}
+pub forgotten-spends : {looks keys : ℕ} {a b c : Counts} → Spends 0 7 keys a b → Spends looks (looks + 29) 0 b c → Spends looks (looks + 36) keys a c
+forgotten-spends before after = spends-both before after (omega arith) (omega arith) (omega arith)
 
 -- A key is looked up, and is hit or inserted.
 module _ {K V S H : Type 0} (key : HashMembers K) (build : builder.Ghosts S H) (hash : hasher.Ghosts H)
@@ -149,7 +150,7 @@ module _ {K V S H : Type 0} (key : HashMembers K) (build : builder.Ghosts S H) (
   hit-spends slot there new is =
       let none : inspections_for (key.eq k) old.machine ≡ 0 = sym (ap (λ o. if is_some o then 0 else (if takes_victim (key.eq k) old.machine then machine.inspections old.machine.main else 0)) there) in
       let no_link : accesses_for (key.eq k) old.machine ≡ 0 = sym (ap (λ o. if is_some o then 0 else inspections_for (key.eq k) old.machine + 36) there) in
-      rw (is, no_link, none) (record { inspections = asked.inspections; accesses = (asked.accesses.0, omega (arith, asked.accesses.1)); questions = (asked.questions.0, omega (arith, asked.questions.1, asked_there)) })
+      rw (is, no_link, none) (spends-more asked (omega arith) (omega (arith, asked_there)))
 
   pub insert-spends : None ≡ slot_of (key.eq k) old.machine → (new : Counts) → Spends (inspections_for (key.eq k) found.machine) (inspections_for (key.eq k) found.machine + 36) (length (candidates found.remembered.index x)) found.counts new
       → Spends (inspections_for (key.eq k) old.machine) (accesses_for (key.eq k) old.machine) (alike key build hash k old) old.counts new
@@ -158,8 +159,4 @@ module _ {K V S H : Type 0} (key : HashMembers K) (build : builder.Ghosts S H) (
       let looks = ap (λ (z : CacheState K V S). inspections_for (key.eq k) z.machine) kept in
       let places = ap (λ (z : CacheState K V S). length (candidates z.remembered.index x)) kept in
       let places_there = ap (λ y. length (candidates old.remembered.index y)) same in
-      record {
-        inspections = omega (arith, asked.inspections, spent.inspections, looks);
-        accesses = (omega (arith, asked.accesses.0, spent.accesses.0), omega (arith, asked.accesses.1, spent.accesses.1, looks, links));
-        questions = (omega (arith, asked.questions.0, spent.questions.0), omega (arith, asked.questions.1, spent.questions.1, asked_there, places, places_there));
-      }
+      spends-both asked spent (omega (arith, looks)) (omega (arith, looks, links)) (omega (arith, asked_there, places, places_there))

@@ -2,7 +2,7 @@
 use Rattle.std.proofs.Common.{◌≡◌, ℕ, ◌<◌, ◌≤◌, ◌==◌, Bool, true, false, not, ◌&&◌, List, [], ◌∷◌, length, inl, inr, Option, Some, None, refl, sym, ap, ◌∙◌, subst, arith, eq-eqb, eqb-true, ne_eqb}
 use Rattle.std.specs.Prelude.{if◌then◌else◌, nat_lt, is_some, slice_get, IfSome, IfNone}
 use Rattle.std.specs.Cmp.{IsEquivalence}
-use Rattle.std.specs.List.{count_by, list_any, last_or}
+use Rattle.std.specs.List.{count_by, last_or}
 use Rattle.std.specs.Option.{UnwrapsOrElse}
 use Rattle.std.proofs.lemmas.Bool.{cases_lt, lt-ltb, le-ltb, eqb-false, both_ways}
 use Rattle.std.proofs.lemmas.Option.{slice_get_within, slice_get_past}
@@ -20,6 +20,7 @@ use Rattle.clock2q_machine.proofs.Weights.{length-from_victim}
 use Rattle.clock2q_machine.proofs.MachineInvariant.{resident_made}
 use Rattle.clock2q_machine.proofs.Standing.{get-within}
 use Rattle.clock2q_machine.proofs.Laws.{slot_at_most, reused_value}
+use Rattle.clock2q_cache.proofs.Insertions.{IsSent, goes-there}
 use Rattle.clock2q_cache.proofs.Fetched.{stored_again, stored_same}
 
 module _ {K V : Type 0} (eq : K → K → Bool) (m : Machine K V) (h : IsWhole eq m) where
@@ -77,21 +78,29 @@ goes-unknown true m e = cc
 goes-unknown false m e = e
 
 -- how a key is placed whose history is erased first
-module _ {K V : Type 0} (is : K → Bool) (key : K) (m m1 : Machine K V) (known main : Bool)
-    (had : known ≡ list_any is m.history) (erased : m1 ≡ forgotten is m) (goes : main ≡ goes_to_main known m1) where
-  pub placed-there : placed main key m1 ≡ placement is key m
-  placed-there = ap (λ b. placed b key m1) goes ∙ ap (λ z. placed (goes_to_main known z) key z) erased ∙ ap (λ b. placed (goes_to_main b (forgotten is m)) key (forgotten is m)) had
+module _ {K V : Type 0} (eq : K → K → Bool) (key : K) {m m1 : Machine K V} {main : Bool} (s : IsSent (eq key) m m1 main) where
+  pub small-unknown : main ≡ false → goes_to_main false m1 ≡ false
+  small-unknown small = goes-unknown s.known m1 (sym s.goes ∙ small)
 
-  pub makes-there : (b : Bool) → nat_lt (placed main key m1).slot (length m1.values) ≡ b → nat_lt (placement is key m).slot (length m.values) ≡ b
-  makes-there b e = ap (λ (p : Placement K V). nat_lt p.slot (length m.values)) (sym placed-there) ∙ ap (λ (z : Machine K V). nat_lt (placed main key m1).slot (length z.values)) (sym erased) ∙ e
+  pub placed-there : placed main key m1 ≡ placement (eq key) key m
+  placed-there = ap (placed main key) s.erased ∙ ap (λ b. placed b key (forgotten (eq key) m)) (goes-there s)
 
-  pub values-there : (placed main key m1).machine.values ≡ m1.values → (placement is key m).machine.values ≡ m.values
-  values-there e = ap (λ (p : Placement K V). p.machine.values) (sym placed-there) ∙ e ∙ ap (λ (z : Machine K V). z.values) erased
-
-  pub fills-there : (value : Option V) (new : Machine K V) → Fills value (placed main key m1) m1 new → Fills value (placement is key m) m new
+  pub fills-there : (value : Option V) (new : Machine K V) → Fills value (placed main key m1) m1 new → Fills value (placement (eq key) key m) m new
   fills-there value new f =
       let g = subst (λ p. Fills value p m1 new) placed-there f in
-      record { held = g.held; is = subst (λ (z : Machine K V). IsValueFor value (placement is key m).slot z.values g.held) erased g.is; becomes = g.becomes }
+      record { held = g.held; is = subst (λ (z : Machine K V). IsValueFor value (placement (eq key) key m).slot z.values g.held) s.erased g.is; becomes = g.becomes }
+
+  -- whether a slot is made for it
+  module _ (whole : IsWhole eq m1) (makes : Bool) (is : makes ≡ makes_slot main m1) where
+    pub makes-here : nat_lt (placed main key m1).slot (length m1.values) ≡ not makes
+    makes-here = placed-makes eq m1 whole key main small-unknown ∙ ap not (sym is)
+
+    pub makes-there : nat_lt (placement (eq key) key m).slot (length m.values) ≡ not makes
+    makes-there = ap (λ (p : Placement K V). nat_lt p.slot (length m.values)) (sym placed-there)
+        ∙ ap (λ (z : Machine K V). nat_lt (placed main key m1).slot (length z.values)) (sym s.erased) ∙ makes-here
+
+    pub values-there : (placement (eq key) key m).machine.values ≡ m.values
+    values-there = ap (λ (p : Placement K V). p.machine.values) (sym placed-there) ∙ placed-values eq m1 whole key main small-unknown ∙ ap (λ (z : Machine K V). z.values) s.erased
 
 pub not-below : (a b : ℕ) → nat_lt a b ≡ false → b ≤ a
 not-below a b e = elim (cases_lt a b) [

@@ -20,6 +20,22 @@ use Rattle.clock2q_machine.specs.Steps.{is_at, after, hit_at, retained, replaced
 use Rattle.clock2q_machine.proofs.Clock.{clock_bounded}
 use Rattle.clock2q_machine.proofs.Residents.{hit-absent}
 
+-- two parts of a call, of which each spends its own
+pub spends-both : {i j n l k x l' k' x' : ℕ} {a b c : Counts} → Spends i l k a b → Spends j l' k' b c → i + j ≡ n → l + l' ≤ x → k + k' ≤ x' → Spends n x x' a c
+spends-both before after looks links keys = record {
+  inspections = omega (arith, before.inspections, after.inspections, looks);
+  accesses = (omega (arith, before.accesses.0, after.accesses.0), omega (arith, before.accesses.1, after.accesses.1, links));
+  questions = (omega (arith, before.questions.0, after.questions.0), omega (arith, before.questions.1, after.questions.1, keys));
+}
+
+-- no more than it may
+pub spends-more : {i l k l' k' : ℕ} {a b : Counts} → Spends i l k a b → l ≤ l' → k ≤ k' → Spends i l' k' a b
+spends-more spent links keys = record {
+  inspections = spent.inspections;
+  accesses = (spent.accesses.0, omega (arith, spent.accesses.1, links));
+  questions = (spent.questions.0, omega (arith, spent.questions.1, keys));
+}
+
 module _ {K V : Type 0} (q : QueueState) (h : Remembered K) (keys : KeyPlaces K V) where
   -- a lookup asks at most as many keys as there are places to look at
   pub asked-spends : (keys' : KeyPlaces K V) (test : ℕ → Bool) (places all : List ℕ) → places ≡ all
@@ -45,14 +61,10 @@ module _ {K V : Type 0} (q : QueueState) (h : Remembered K) (keys : KeyPlaces K 
 
 -- one slot more of all: its resident stays or leaves
 pub slot-stays : (slot : ℕ) (a b : Counts) → Spends 0 (8 * slot) 0 a b → Spends 0 (8 * (slot + 1)) 0 a b
-slot-stays slot a b before = record { inspections = before.inspections; accesses = (before.accesses.0, omega (arith, before.accesses.1)); questions = before.questions }
+slot-stays slot a b before = spends-more before (omega arith) (omega arith)
 
 pub slot-leaves : (slot : ℕ) (a b c : Counts) → Spends 0 (8 * slot) 0 a b → Spends 0 8 0 b c → Spends 0 (8 * (slot + 1)) 0 a c
-slot-leaves slot a b c before left = record {
-  inspections = omega (arith, before.inspections, left.inspections);
-  accesses = (omega (arith, before.accesses.0, left.accesses.0), omega (arith, before.accesses.1, left.accesses.1));
-  questions = (omega (arith, before.questions.0, left.questions.0), omega (arith, before.questions.1, left.questions.1));
-}
+slot-leaves slot a b c before left = spends-both before left (omega arith) (omega arith) (omega arith)
 
 module _ {K V S H : Type 0} (key : HashMembers K) (build : builder.Ghosts S H) (hash : hasher.Ghosts H) where
   -- a call that leaves the machine's next state has paid for its looks
@@ -78,11 +90,7 @@ module _ {K V S H : Type 0} (key : HashMembers K) (build : builder.Ghosts S H) (
   -- a lookup under the key's hash asks no more than a call with the key may
   found-spends : (k : K) (x : ℕ) (old : CacheState K V S) (new : Counts) → x ≡ hash_of build hash old.hasher (key.hash_input k) → Spends 0 0 (length (candidates old.residents x)) old.counts new
       → Spends 0 0 (most_questions key build hash (Get k) old) old.counts new
-  found-spends k x old new same spent = record {
-    inspections = spent.inspections;
-    accesses = spent.accesses;
-    questions = (spent.questions.0, omega (arith, spent.questions.1, ap (λ y. length (candidates old.residents y)) same));
-  }
+  found-spends k x old new same spent = spends-more spent (omega arith) (omega (arith, ap (λ y. length (candidates old.residents y)) same))
 
   -- a lookup that finds no resident
   pub missed-becomes : (k : K) (x : ℕ) (old new : CacheState K V S) → x ≡ hash_of build hash old.hasher (key.hash_input k) → slot_of (key.eq k) old.machine ≡ None
@@ -114,11 +122,7 @@ module _ {K V S H : Type 0} (key : HashMembers K) (build : builder.Ghosts S H) (
   remove-costs k x slot old found new same there kept asked is left =
       let m : new.machine ≡ removed (key.eq k) old.machine = is ∙ ap (λ (z : CacheState K V S). vacated slot z.machine) kept ∙ ap (λ o. removed_at (key.eq k) o old.machine) there in
       let few = found-spends k x old found.counts same asked in
-      costs-of (Remove k) old new m (record {
-        inspections = omega (arith, few.inspections, left.inspections);
-        accesses = (omega (arith, few.accesses.0, left.accesses.0), omega (arith, few.accesses.1, left.accesses.1));
-        questions = (omega (arith, few.questions.0, left.questions.0), omega (arith, few.questions.1, left.questions.1));
-      })
+      costs-of (Remove k) old new m (spends-both few left (omega arith) (omega arith) (omega arith))
 
   -- the value of the key that is hit is lent, and this is left behind the reference
   pub lent-becomes : (k : K) (slot : ℕ) (value : V) (old new : CacheState K V S) → Some slot ≡ slot_of (key.eq k) old.machine

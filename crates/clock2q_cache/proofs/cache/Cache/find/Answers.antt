@@ -24,18 +24,13 @@ invariant_of-self g c =
 pub returns-clause-slot : goal.returns-clause-slot
 returns-clause-slot g c =
     let k = c.self.invariant in
-    let same = c.requires ∙ ap (λ (z : CacheState _ _ _). hash_of g.S.BuildHasher g.S.Hasher.Hasher z.hasher (g.K.Hash.hash_input c.args.key.now)) (sym c.self.view_is) in
+    let same = rw (← c.self.view_is) at c.requires in
     c.find.ensures.found ∙ ap (λ z. find (is_key_at g.K.PartialEq.eq c.args.key.now c.self.inside.keys.entries) z) c.get.ensures.candidates
     ∙ found g.met.K.Eq.laws k c.args.key.now (λ x y e. ap (λ z. hash_of g.S.BuildHasher g.S.Hasher.Hasher c.self.inside.hasher z) (g.met.K.Hash.respects_eq x y e)) c.args.hash same
     ∙ ap (λ (z : CacheState _ _ _). slot_of (g.K.PartialEq.eq c.args.key.now) z.machine) c.self.view_is
 
 pub returns-clause-made : goal.returns-clause-made
-returns-clause-made g c =
-    let k = c.self.invariant in
-    let same = c.requires ∙ ap (λ (z : CacheState _ _ _). hash_of g.S.BuildHasher g.S.Hasher.Hasher z.hasher (g.K.Hash.hash_input c.args.key.now)) (sym c.self.view_is) in
-    let is = c.find.ensures.found ∙ ap (λ z. find (is_key_at g.K.PartialEq.eq c.args.key.now c.self.inside.keys.entries) z) c.get.ensures.candidates
-    ∙ found g.met.K.Eq.laws k c.args.key.now (λ x y e. ap (λ z. hash_of g.S.BuildHasher g.S.Hasher.Hasher c.self.inside.hasher z) (g.met.K.Hash.respects_eq x y e)) c.args.hash same in
-    rw (← c.self.view_is) (found-made g.met.K.Eq.laws k c.args.key.now c.find.result is)
+returns-clause-made g c = rw (← c.self.view_is) (found-made g.met.K.Eq.laws c.self.invariant c.args.key.now c.find.result (rw (← c.self.view_is) at (returns-clause-slot g c)))
 
 pub returns-clause-counts : goal.returns-clause-counts
 returns-clause-counts g c =

@@ -1,5 +1,5 @@
 -- The key's history is erased.
-use Rattle.std.proofs.Common.{ap, sym, ◌∙◌}
+use Rattle.std.proofs.Common.{ap, ◌∙◌}
 use Rattle.std.specs.List.{list_any}
 use Rattle.clock2q_queues.specs.History.{Remembered}
 use Rattle.clock2q_cache.specs.Hashes.{hash_of}
@@ -12,7 +12,7 @@ use Rattle.clock2q_cache.proofs.cache.Cache.forget.Goals as goal
 pub discard-requires : goal.discard-requires
 discard-requires g c =
     let k = c.self.invariant in
-    let same = c.requires ∙ ap (λ (z : CacheState _ _ _). hash_of g.S.BuildHasher g.S.Hasher.Hasher z.hasher (g.K.Hash.hash_input c.args.key.now)) (sym c.self.view_is) in
+    let same = rw (← c.self.view_is) at c.requires in
     record {
       hash = discard-hash g.met.K.Eq.laws k c.args.key.now c.args.hash
           (λ x y e. ap (λ z. hash_of g.S.BuildHasher g.S.Hasher.Hasher c.self.inside.hasher z) (g.met.K.Hash.respects_eq x y e)) same;

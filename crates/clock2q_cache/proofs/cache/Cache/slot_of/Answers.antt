@@ -21,8 +21,4 @@ returns-clause-slot g c =
     ∙ ap (λ (z : CacheState _ _ _). slot_of (g.K.PartialEq.eq c.args.key.now) z.machine) c.self.view_is
 
 pub returns-clause-made : goal.returns-clause-made
-returns-clause-made g c =
-    let k = c.self.invariant in
-    let is = c.find_untold.ensures.found ∙ ap (λ z. find (is_key_at g.K.PartialEq.eq c.args.key.now c.self.inside.keys.entries) z) c.get.ensures.candidates
-    ∙ found g.met.K.Eq.laws k c.args.key.now (λ x y e. ap (λ z. hash_of g.S.BuildHasher g.S.Hasher.Hasher c.self.inside.hasher z) (g.met.K.Hash.respects_eq x y e)) _ c.hash_of-hash.ensures in
-    rw (← c.self.view_is) (found-made g.met.K.Eq.laws k c.args.key.now c.find_untold.result is)
+returns-clause-made g c = rw (← c.self.view_is) (found-made g.met.K.Eq.laws c.self.invariant c.args.key.now c.find_untold.result (rw (← c.self.view_is) at (returns-clause-slot g c)))
