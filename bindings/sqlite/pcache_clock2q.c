@@ -8,6 +8,9 @@
  * the longest time leaves. A page without a slot takes one when it's unpinned. So a cache has more
  * pages than cache_size only while all of them are pinned.
  *
+ * A hit sets a bit in the library, or none, and until the next key enters no bit is cleared and no
+ * page grows older. So of the hits of a page between two entries the library is told the first.
+ *
  * The index begins small, and is made anew at twice the size as the cache fills. All memory is of
  * SQLite's allocator. What a cache can do without is asked for as benign: the page of a fetch that
  * may fail, a longer table, and an index.
@@ -17,6 +20,7 @@
 #include "pcache_clock2q.h"
 
 #include "clock2q.h"
+#include <limits.h>
 #include <sqlite3.h>
 #include <string.h>
 
@@ -26,15 +30,18 @@ enum {
     ATTEMPTS = 16 /* to have the library choose a page that isn't pinned */
 };
 
-#define NO_SLOT ((size_t)-1)
+#define NO_SLOT UINT_MAX
+
+/* Keeps what is seldom done out of a call that is often made, which then saves no registers. */
+#define APART __attribute__((noinline))
 
 struct page {
     sqlite3_pcache_page base; /* first, since SQLite has pointers to it */
     unsigned key;
-    bool was_hit;
-    size_t slot;         /* or NO_SLOT */
-    struct page *next;   /* in its bucket */
+    unsigned slot;       /* or NO_SLOT */
+    uint64_t hit_at;     /* the entries up to its last hit, or 0 before its first one */
     struct page *newer;  /* among the idle ones; null if it's pinned */
+    struct page *next;   /* in its bucket */
     struct page *older;
 };
 
@@ -42,16 +49,17 @@ struct cache {
     size_t page_size;
     size_t extra_size;
     bool is_purgeable;
-    size_t wanted;  /* pages, at most, but for pinned ones */
+    size_t wanted;  /* pages, at most, but for pinned ones; SIZE_MAX if it isn't purgeable */
     size_t total;   /* pages */
     size_t pinned;
     unsigned highest; /* no key is above it */
     struct page **buckets;
-    size_t bucket_count; /* a power of two */
+    size_t bucket_mask;  /* one less than there are buckets, which is a power of two */
     struct page idle;    /* between the longest idle page, `newer`, and the shortest, `older` */
     clock2q index;
     struct page **at; /* the page of each slot, or null */
     size_t capacity;  /* of the index, or 0 if there is none */
+    uint64_t entries; /* of keys into an index */
 };
 
 /* SQLite's own, where the program that this is compiled into offers them, as SQLite's test program
@@ -111,14 +119,14 @@ static void make_idle(struct cache *cache, struct page *page) {
 static void make_pinned(struct cache *cache, struct page *page) {
     page->newer->older = page->older;
     page->older->newer = page->newer;
-    page->newer = page->older = NULL;
+    page->newer = NULL;
     cache->pinned++;
 }
 
 /* The table of pages. */
 
 static struct page **bucket_of(struct cache *cache, unsigned key) {
-    return &cache->buckets[key & (cache->bucket_count - 1)];
+    return &cache->buckets[key & cache->bucket_mask];
 }
 
 static struct page *look_up(struct cache *cache, unsigned key) {
@@ -143,14 +151,14 @@ static void unlink_page(struct cache *cache, struct page *page) {
 /* Makes the table twice as long where there are more pages than buckets. Without memory the chains
  * grow instead. */
 static void fit_table(struct cache *cache) {
-    if (cache->total < cache->bucket_count) return;
-    size_t old_count = cache->bucket_count;
+    size_t old_count = cache->bucket_mask + 1;
+    if (cache->total < old_count) return;
     struct page **old = cache->buckets;
     struct page **buckets = allocated(2 * old_count * sizeof *buckets, true);
     if (buckets == NULL) return;
     memset(buckets, 0, 2 * old_count * sizeof *buckets);
     cache->buckets = buckets;
-    cache->bucket_count = 2 * old_count;
+    cache->bucket_mask = 2 * old_count - 1;
     for (size_t i = 0; i < old_count; i++) {
         for (struct page *page = old[i], *next; page != NULL; page = next) {
             next = page->next;
@@ -166,12 +174,19 @@ static void fit_table(struct cache *cache) {
 static struct page *give_slot(struct cache *cache, struct page *page) {
     clock2q_place place;
     clock2q_enter(&cache->index, page->key, &place);
+    cache->entries++;
     struct page *loser = cache->at[place.slot];
     cache->at[place.slot] = page;
-    page->slot = place.slot;
+    page->slot = (unsigned)place.slot;
     if (loser == NULL || loser == page) return NULL;
     loser->slot = NO_SLOT;
     return loser;
+}
+
+/* Tells the library of a hit of a page that has a slot. */
+APART static void tell_hit(struct cache *cache, struct page *page) {
+    clock2q_at(&cache->index, page->slot, page->key);
+    page->hit_at = cache->entries;
 }
 
 static void take_slot_away(struct cache *cache, struct page *page) {
@@ -201,7 +216,7 @@ static void enter_pages(struct cache *cache, struct page **pages, size_t count) 
     }
     for (size_t i = 0; i < count; i++) {
         struct page *page = pages[i];
-        if (page != NULL && page->was_hit && page->slot != NO_SLOT) clock2q_at(&cache->index, page->slot, page->key);
+        if (page != NULL && page->hit_at != 0 && page->slot != NO_SLOT) tell_hit(cache, page);
     }
 }
 
@@ -252,7 +267,7 @@ static struct page *new_page(struct cache *cache, bool is_benign) {
     if (page == NULL) return NULL;
     page->base.pBuf = page + 1;
     page->base.pExtra = (char *)(page + 1) + cache->page_size;
-    page->newer = page->older = NULL;
+    page->newer = NULL;
     cache->total++;
     cache->pinned++;
     return page;
@@ -276,10 +291,10 @@ static void free_idle_pages(struct cache *cache, size_t wanted) {
 }
 
 /* Gives a page that has no slot one. The page that loses it is freed if it's idle. */
-static void index_page(struct cache *cache, struct page *page) {
+APART static void index_page(struct cache *cache, struct page *page) {
     fit_index(cache);
     if (cache->capacity == 0) return;
-    page->was_hit = false;
+    page->hit_at = 0;
     struct page *loser = give_slot(cache, page);
     if (loser != NULL && is_idle(loser)) free_page(cache, loser);
 }
@@ -323,7 +338,7 @@ static struct page *added_page(struct cache *cache, unsigned key, bool is_benign
         page->slot = NO_SLOT;
     }
     page->key = key;
-    page->was_hit = false;
+    page->hit_at = 0;
     memset(page->base.pExtra, 0, cache->extra_size);
     link_page(cache, page);
     if (!is_full && cache->total <= cache->wanted) index_page(cache, page);
@@ -354,9 +369,9 @@ static sqlite3_pcache *x_create(int page_size, int extra_size, int is_purgeable)
         .page_size = ((size_t)page_size + 7) / 8 * 8,
         .extra_size = (size_t)extra_size,
         .is_purgeable = is_purgeable != 0,
-        .wanted = 100,
+        .wanted = is_purgeable ? 100 : SIZE_MAX,
         .buckets = buckets,
-        .bucket_count = FIRST_BUCKETS,
+        .bucket_mask = FIRST_BUCKETS - 1,
     };
     cache->idle.newer = cache->idle.older = &cache->idle;
     return (sqlite3_pcache *)cache;
@@ -364,8 +379,8 @@ static sqlite3_pcache *x_create(int page_size, int extra_size, int is_purgeable)
 
 static void x_cachesize(sqlite3_pcache *handle, int wanted) {
     struct cache *cache = (struct cache *)handle;
-    cache->wanted = wanted < 0 ? 0 : (size_t)wanted;
     if (!cache->is_purgeable) return;
+    cache->wanted = wanted < 0 ? 0 : (size_t)wanted;
     free_idle_pages(cache, cache->wanted);
     if (cache->capacity > cache->wanted) fit_index(cache);
 }
@@ -382,30 +397,32 @@ static bool is_refused(struct cache *cache) {
 /* Pins an idle page, which is a hit. One that is pinned isn't hit again. */
 static void take_up(struct cache *cache, struct page *page) {
     make_pinned(cache, page);
-    if (page->slot != NO_SLOT) page->was_hit = clock2q_at(&cache->index, page->slot, page->key);
+    if (page->hit_at != cache->entries && page->slot != NO_SLOT) tell_hit(cache, page);
+}
+
+APART static sqlite3_pcache_page *missed(struct cache *cache, unsigned key, int create) {
+    if (create == 0 || (create == 1 && is_refused(cache))) return NULL;
+    struct page *page = added_page(cache, key, create == 1);
+    return page == NULL ? NULL : &page->base;
 }
 
 static sqlite3_pcache_page *x_fetch(sqlite3_pcache *handle, unsigned key, int create) {
     struct cache *cache = (struct cache *)handle;
     struct page *page = look_up(cache, key);
-    if (page != NULL) {
-        if (is_idle(page)) take_up(cache, page);
-        return &page->base;
-    }
-    if (create == 0 || (create == 1 && is_refused(cache))) return NULL;
-    page = added_page(cache, key, create == 1);
-    return page == NULL ? NULL : &page->base;
+    if (page == NULL) return missed(cache, key, create);
+    if (is_idle(page)) take_up(cache, page);
+    return &page->base;
 }
 
 static void x_unpin(sqlite3_pcache *handle, sqlite3_pcache_page *base, int discard) {
     struct cache *cache = (struct cache *)handle;
     struct page *page = (struct page *)base;
-    if (discard || (cache->is_purgeable && cache->total > cache->wanted)) {
+    if (discard || cache->total > cache->wanted) {
         free_page(cache, page);
         return;
     }
-    if (page->slot == NO_SLOT && cache->is_purgeable) index_page(cache, page);
     make_idle(cache, page);
+    if (page->slot == NO_SLOT && cache->is_purgeable) index_page(cache, page);
 }
 
 static void x_rekey(sqlite3_pcache *handle, sqlite3_pcache_page *base, unsigned old_key, unsigned new_key) {
@@ -429,19 +446,22 @@ static void free_bucket_from(struct cache *cache, size_t bucket, unsigned limit)
     }
 }
 
+APART static void free_from(struct cache *cache, unsigned limit) {
+    size_t keys = (size_t)cache->highest - limit + 1;
+    size_t buckets = smaller(keys, cache->bucket_mask + 1);
+    for (size_t i = 0; i < buckets; i++) free_bucket_from(cache, (limit + i) & cache->bucket_mask, limit);
+    cache->highest = limit == 0 ? 0 : limit - 1;
+}
+
 static void x_truncate(sqlite3_pcache *handle, unsigned limit) {
     struct cache *cache = (struct cache *)handle;
-    if (limit > cache->highest) return;
-    size_t keys = (size_t)cache->highest - limit + 1;
-    size_t buckets = smaller(keys, cache->bucket_count);
-    for (size_t i = 0; i < buckets; i++) free_bucket_from(cache, (limit + i) & (cache->bucket_count - 1), limit);
-    cache->highest = limit == 0 ? 0 : limit - 1;
+    if (limit <= cache->highest) free_from(cache, limit);
 }
 
 static void x_destroy(sqlite3_pcache *handle) {
     struct cache *cache = (struct cache *)handle;
     free_index(cache);
-    for (size_t bucket = 0; bucket < cache->bucket_count; bucket++) free_bucket_from(cache, bucket, 0);
+    for (size_t bucket = 0; bucket <= cache->bucket_mask; bucket++) free_bucket_from(cache, bucket, 0);
     sqlite3_free(cache->buckets);
     sqlite3_free(cache);
 }

@@ -4,8 +4,9 @@
  *
  * The kinds: `reads` looks rows up, some far oftener than others, with a scan of the table now and
  * then; `updates` changes random rows, 100 in a transaction; `mixed` does both, with ranges and
- * rollbacks. Under valgrind --tool=callgrind --toggle-collect=KIND it counts instructions, without
- * those of making the database. */
+ * rollbacks; `commits` changes one row in each transaction. Under valgrind --tool=callgrind
+ * --toggle-collect=KIND it counts instructions, without those of making the database, and those of
+ * all commits alone with --toggle-collect=commit. */
 #include "pcache_clock2q.h"
 
 #include <sqlite3.h>
@@ -137,6 +138,22 @@ __attribute__((noinline)) static void mixed(sqlite3 *database) {
     sqlite3_finalize(update);
 }
 
+__attribute__((noinline)) static void commit(sqlite3 *database, sqlite3_stmt *statement) {
+    must(sqlite3_step(statement) == SQLITE_DONE, database, "COMMIT");
+}
+
+__attribute__((noinline)) static void commits(sqlite3 *database) {
+    sqlite3_stmt *update = prepared(database, "UPDATE t SET b = b + ?2 WHERE id = ?1"), *end = prepared(database, "COMMIT");
+    for (int call = 1; call <= CALLS; call++) {
+        execute(database, "BEGIN");
+        run(update, drawn_row(), call);
+        commit(database, end);
+        sqlite3_reset(end);
+    }
+    sqlite3_finalize(update);
+    sqlite3_finalize(end);
+}
+
 static int counter(sqlite3 *database, int which) {
     int now, highest;
     sqlite3_db_status(database, which, &now, &highest, 0);
@@ -160,6 +177,8 @@ int main(int count, char **words) {
         reads(database);
     } else if (strcmp(kind, "updates") == 0) {
         updates(database);
+    } else if (strcmp(kind, "commits") == 0) {
+        commits(database);
     } else {
         mixed(database);
     }
