@@ -22,6 +22,7 @@ use Rattle.clock2q_machine.specs.Machine.{Machine, stored, empty, vacancy, goes_
 use Rattle.clock2q_machine.specs.Whole.{IsWhole}
 use Rattle.clock2q_cache.specs.CacheFields.{machine_of, places_of, with_keys_small, with_keys_main, IsStored, IsSized, IsKept}
 use Rattle.clock2q_cache.proofs.WithKeys.{small_with, main_with, keys-agree, small-last}
+use Rattle.clock2q_cache.proofs.Insertions.{no_last}
 use Rattle.clock2q_cache.proofs.Stored.{set-written, all-written, values-written, length-values, below-more}
 use Rattle.clock2q_cache.proofs.CacheInvariant.{small_have, length_in_small, sized-same}
 use Rattle.clock2q_machine.proofs.Whole.{some_is, whole-forgotten, all_resident, small_share}
@@ -175,15 +176,7 @@ module _ {K V : Type 0} {eq : K → K → Bool} {hash : K → ℕ} {shares : Sha
   tail-tells some b is = of (last_or None q.small) refl
     where
       of : (o : Option (ℕ × Age)) → last_or None q.small ≡ o → IfSome (last_or None m.small) (λ tail. b ≡ is_promoted tail.age)
-      of None none = absurd (nothing q.small none (omega (arith, some, length_in_small laws kept)))
-        where
-          last-some : (x : ℕ × Age) (xs : List (ℕ × Age)) → last_or (Some x) xs ≡ None → ⊥
-          last-some x [] e = cc
-          last-some x (y ∷ xs) e = last-some y xs e
-
-          nothing : (xs : List (ℕ × Age)) → last_or None xs ≡ None → 0 < length xs → ⊥
-          nothing [] e s = omega arith
-          nothing (x ∷ xs) e s = last-some x xs e
+      of None none = absurd (no_last q.small (omega (arith, some, length_in_small laws kept)) none)
       of (Some e) last =
           let k = small_have laws kept e.0 (tail-has e.0 q.small e.1 last) in
           let l = small-last (key_at keys.entries) q.small e k.0 (small_have laws kept) last k.1 in

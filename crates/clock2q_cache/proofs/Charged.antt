@@ -1,11 +1,10 @@
 -- A cache whose counts are brought to their bounds before a value of it is lent.
-use Rattle.std.proofs.Common.{◌≡◌, ℕ, ◌+◌, ◌-◌, Bool, List, refl, sym, ap, ◌∙◌, arith}
+use Rattle.std.proofs.Common.{◌≡◌, ℕ, ◌+◌, ◌-◌, Bool, refl, sym, ◌∙◌, arith}
 use Rattle.std.specs.declared.hash.Hasher as hasher
 use Rattle.std.specs.declared.hash.BuildHasher as builder
 use Rattle.std.specs.HashMap.Lent.{HashMembers}
-use Rattle.clock2q_queues.specs.History.{Places}
 use Rattle.clock2q_machine.specs.Bounds.{inspections_for}
-use Rattle.clock2q_cache.specs.CacheState.{CacheState, Counts, cache_state}
+use Rattle.clock2q_cache.specs.CacheState.{CacheState, cache_state}
 use Rattle.clock2q_machine.specs.Calls.{Put}
 use Rattle.clock2q_cache.specs.Charged.{most_links, most_keys, with_slot}
 use Rattle.clock2q_cache.specs.Closures.{Takes}
@@ -16,16 +15,6 @@ use Rattle.clock2q_machine.specs.Steps.{put, slotted}
 use Rattle.clock2q_cache.proofs.Fetched.{stored_same}
 use Rattle.clock2q_cache.proofs.Spent.{costs-of}
 
-state-from : {K V S : Type 0} {m m' : Machine K V} {r r' : List (List (ℕ × ℕ))} {p p' : Places} {h h' : S} {c c' : Counts}
-    → m ≡ m' → r ≡ r' → p ≡ p' → h ≡ h' → c ≡ c' → cache_state m r p h c ≡ cache_state m' r' p' h' c'
-state-from {m} {m'} {r} {r'} {p} {p'} {h} {h'} {c} {c'} a b d e f =
-    ap (λ z. cache_state z r p h c) a ∙ ap (λ z. cache_state m' z p h c) b ∙ ap (λ z. cache_state m' r' z h c) d ∙ ap (λ z. cache_state m' r' p' z c) e ∙ ap (λ z. cache_state m' r' p' h' z) f
-
-counts-from : {i i' a a' q q' : ℕ} → i ≡ i' → a ≡ a' → q ≡ q' → ◌≡◌ {A = Counts} (record { inspections = i; accesses = a; questions = q }) (record { inspections = i'; accesses = a'; questions = q' })
-counts-from {i} {i'} {a} {a'} {q} {q'} x y z =
-    ap (λ n. record { inspections = n; accesses = a; questions = q }) x ∙ ap (λ n. record { inspections = i'; accesses = n; questions = q }) y
-    ∙ ap (λ n. record { inspections = i'; accesses = a'; questions = n }) z
-
 module _ {K V S H : Type 0} (key : HashMembers K) (build : builder.Ghosts S H) (hash : hasher.Ghosts H) (k : K) (made : V → Type 0) (old new : CacheState K V S) (slot : ℕ)
     (taken : Takes (key.eq k) k made old.machine slot new.machine) (residents : new.residents ≡ residents_with key build hash k old) (remembered : new.remembered ≡ remembered_with key build hash k old) (same : new.hasher ≡ old.hasher)
     (spent : Spends (inspections_for (key.eq k) old.machine) (accesses_for (key.eq k) old.machine) (alike key build hash k old) old.counts new.counts) where
@@ -34,8 +23,12 @@ module _ {K V S H : Type 0} (key : HashMembers K) (build : builder.Ghosts S H) (
       → cache_state (stored slot w new.machine) new.residents new.remembered new.hasher
       (record { inspections = new.counts.inspections; accesses = new.counts.accesses + (links - new.counts.accesses); questions = new.counts.questions + (keys - new.counts.questions) })
       ≡ with_slot key build hash k w old
-  lent links keys is_links is_keys w = state-from (taken.writes w) residents remembered same
-      (counts-from spent.inspections (omega (arith, is_links, spent.accesses.1)) (omega (arith, is_keys, spent.questions.1)))
+  lent links keys is_links is_keys w =
+      let machine = taken.writes w in
+      let looks = spent.inspections in
+      let links_are : new.counts.accesses + (links - new.counts.accesses) ≡ most_links key build hash k old = omega (arith, is_links, spent.accesses.1) in
+      let keys_are : new.counts.questions + (keys - new.counts.questions) ≡ most_keys key build hash k old = omega (arith, is_keys, spent.questions.1) in
+      cc
 
 -- counts at their bounds are those of a put
 pub charged-costs : {K V S H : Type 0} (key : HashMembers K) (build : builder.Ghosts S H) (hash : hasher.Ghosts H) (k : K) (w : V) (old : CacheState K V S) → Costs key build hash (Put k w) old (with_slot key build hash k w old)

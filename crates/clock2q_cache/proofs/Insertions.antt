@@ -74,7 +74,7 @@ module _ {K V : Type 0} {eq : K → K → Bool} {hash : K → ℕ} {shares : Sha
         questions = (omega (arith, asked), omega (arith, asked));
       }
 
-no_last : {X : Type 0} (xs : List X) → 0 < length xs → last_or None xs ≡ None → ⊥
+pub no_last : {X : Type 0} (xs : List X) → 0 < length xs → last_or None xs ≡ None → ⊥
 no_last [] some none = omega (arith, some)
 no_last (x ∷ xs) some none = let l = last_some xs x in none_is l.0 (sym none ∙ l.1)
 

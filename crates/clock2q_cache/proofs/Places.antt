@@ -1,6 +1,6 @@
 -- Which resident stands at a slot, and what an insertion makes of the two indexes.
 use Rattle.std.proofs.Common.{◌≡◌, ℕ, ◌||◌, ◌==◌, Bool, true, false, eqb, Option, Some, None, List, [], ◌∷◌, map, inl, inr, refl, sym, ap, ◌∙◌, subst, eqb-true}
-use Rattle.std.specs.List.{find, list_any, last_or, AllByRecursion}
+use Rattle.std.specs.List.{find, last_or, AllByRecursion}
 use Rattle.std.specs.Cmp.{IsEquivalence}
 use Rattle.std.proofs.lemmas.Bool.{cases_Bool, both_ways}
 use Rattle.clock2q_handles.specs.Homes.{with_handle, removed}
@@ -10,18 +10,14 @@ use Rattle.clock2q_queues.specs.Queues.{QueueState}
 use Rattle.clock2q_queues.specs.History.{Remembered, Places, oldest_hash, pushed_places}
 use Rattle.clock2q_queues.proofs.Rings.{has_first, eqb_swap}
 use Rattle.clock2q_machine.specs.Shares.{Shares, history_share}
-use Rattle.clock2q_machine.specs.Machine.{Machine, resident_at, slot_of, goes_to_main, forgotten, placement}
+use Rattle.clock2q_machine.specs.Machine.{Machine, resident_at}
 use Rattle.clock2q_cache.specs.CacheFields.{machine_of, places_of, IsKept}
-use Rattle.std.specs.Prelude.{if◌then◌else◌, IfSome, is_some}
-use Rattle.std.specs.declared.hash.Hasher as hasher
-use Rattle.std.specs.declared.hash.BuildHasher as builder
-use Rattle.std.specs.HashMap.Lent.{HashMembers}
+use Rattle.std.specs.Prelude.{if◌then◌else◌, IfSome}
 use Rattle.std.specs.Option.{option_map}
 use Rattle.clock2q_machine.specs.Ages.{is_promoted}
 use Rattle.clock2q_queues.specs.Queues.{slots_of}
 use Rattle.clock2q_machine.specs.Entries.{SmallEntry}
-use Rattle.clock2q_cache.specs.Places.{remembering_any, left_by, entered, discarded, key_out, out_of, hash_in, residents_with, remembered_with}
-use Rattle.clock2q_cache.specs.CacheState.{CacheState}
+use Rattle.clock2q_cache.specs.Places.{remembering_any, left_by, entered, key_out}
 use Rattle.clock2q_cache.proofs.WithKeys.{HaveKeys, have_later, paired, paired-cons}
 use Rattle.clock2q_machine.proofs.Whole.{some_is}
 use Rattle.clock2q_cache.proofs.Stored.{have_keys, hash-of-key}
@@ -113,41 +109,3 @@ module _ {K V : Type 0} {eq : K → K → Bool} {hash : K → ℕ} {shares : Sha
       ∙ ap (λ z. pushed_places (history_share shares) z (oldest_hash (λ (e : ℕ × K). e.0) h.entries) p) (hash-of-key hash keys.entries tail hsh key kept.stored.hashed hash_is key_is)
       ∙ ap (λ z. pushed_places (history_share shares) (hash key) z p) (oldest-hashed hash None None h.entries refl kept.hashed)
       ∙ ap (λ o. remembering_any hash o m p) (sym out)
-
--- What stands in the indexes once a key has its slot.
-module _ {K V S H : Type 0} (key : HashMembers K) (build : builder.Ghosts S H) (hash : hasher.Ghosts H) (k : K) (c : CacheState K V S) where
-  abbrev is : K → Bool
-  is = key.eq k
-
-  abbrev has_slot : Option ℕ → List (List (ℕ × ℕ))
-  has_slot o = if is_some o then c.residents else entered (hash_in key build hash c) k (placement is k c.machine).slot c.machine c.residents
-
-  abbrev has_place : Option ℕ → Places
-  has_place o = if is_some o then c.remembered else
-      (let m = forgotten is c.machine in remembering_any (hash_in key build hash c) (out_of (goes_to_main (list_any is c.machine.history) c.machine) m) m (discarded is (hash_in key build hash c k) c))
-
-  -- it was resident
-  module _ (slot : ℕ) (found : Some slot ≡ slot_of is c.machine) where
-    pub resident-residents : (new : List (List (ℕ × ℕ))) → new ≡ c.residents → new ≡ residents_with key build hash k c
-    resident-residents new same = same ∙ ap has_slot found
-
-    pub resident-remembered : (new : Places) → new ≡ c.remembered → new ≡ remembered_with key build hash k c
-    resident-remembered new same = same ∙ ap has_place found
-
-  -- it was not, and was inserted after it was looked up
-  module _ (absent : None ≡ slot_of is c.machine) (found : CacheState K V S) (kept : found ≡ record c { counts = found.counts }) where
-    pub new-residents : (new : List (List (ℕ × ℕ))) (slot : ℕ) → slot ≡ (placement is k found.machine).slot
-        → new ≡ entered (hash_in key build hash found) k slot found.machine found.residents → new ≡ residents_with key build hash k c
-    new-residents new slot at e =
-        e ∙ ap (λ s. entered (hash_in key build hash found) k s found.machine found.residents) at
-        ∙ ap (λ (z : CacheState K V S). entered (hash_in key build hash z) k (placement is k z.machine).slot z.machine z.residents) kept ∙ ap has_slot absent
-
-    pub new-remembered : (new : Places) (x : ℕ) → x ≡ hash_in key build hash c k
-        → new ≡ (let m = forgotten is found.machine in
-        remembering_any (hash_in key build hash found) (out_of (goes_to_main (list_any is found.machine.history) found.machine) m) m (discarded is x found))
-        → new ≡ remembered_with key build hash k c
-    new-remembered new x same e =
-        e ∙ ap (λ (z : CacheState K V S). let m = forgotten is z.machine in
-        remembering_any (hash_in key build hash z) (out_of (goes_to_main (list_any is z.machine.history) z.machine) m) m (discarded is x z)) kept
-        ∙ ap (λ y. let m = forgotten is c.machine in
-        remembering_any (hash_in key build hash c) (out_of (goes_to_main (list_any is c.machine.history) c.machine) m) m (discarded is y c)) same ∙ ap has_place absent

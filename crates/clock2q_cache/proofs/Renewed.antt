@@ -4,7 +4,8 @@ use Rattle.std.specs.Prelude.{if◌then◌else◌, slice_get, IfSome}
 use Rattle.std.specs.Cmp.{IsEquivalence}
 use Rattle.std.specs.List.{count_by, list_any, last_or, AllByRecursion}
 use Rattle.std.proofs.lemmas.Bool.{cases_Bool}
-use Rattle.std.proofs.lemmas.List.{take-map}
+use Rattle.std.proofs.lemmas.List.{take-map, length-map}
+use Rattle.clock2q_cache.proofs.Insertions.{no_last}
 use Rattle.std.proofs.lemmas.List.Sums.{sum_by-cons}
 use Rattle.clock2q_handles.specs.Homes.{capacity, with_handle, removed}
 use Rattle.clock2q_machine.specs.Ages.{Age, is_promoted}
@@ -85,12 +86,7 @@ all-taken P (suc n) [] a = tt
 all-taken P (suc n) (e ∷ es) a = (a.0, all-taken P n es a.1)
 
 pub no-tail : {X : Type 0} (xs : List (ℕ × X)) → 0 < length xs → None ≡ last_or None (slots_of xs) → ⊥
-no-tail [] some none = omega arith
-no-tail (x ∷ xs) some none = none-last x.0 (slots_of xs) none
-  where
-    none-last : (y : ℕ) (ys : List ℕ) → None ≡ last_or (Some y) ys → ⊥
-    none-last y [] e = cc
-    none-last y (z ∷ zs) e = none-last z zs e
+no-tail xs some none = no_last (slots_of xs) (omega (arith, some, length-map xs (λ e. e.0))) (sym none)
 
 module _ {K V : Type 0} {eq : K → K → Bool} {hash : K → ℕ} {shares : Shares} {q : QueueState} {h : Remembered K} {index : List (List (ℕ × ℕ))} {keys : KeyPlaces K V} {free : List ℕ} {room : ℕ}
     (laws : IsEquivalence eq) (kept : IsKept eq hash shares q h index keys free room) where

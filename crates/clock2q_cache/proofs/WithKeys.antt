@@ -1,5 +1,6 @@
 -- What becomes of the queues' lists of slots is what becomes of the machine's, with the keys that stand at the slots.
 use Rattle.std.proofs.Common.{◌≡◌, ℕ, zero, suc, ◌+◌, ◌==◌, Bool, true, false, not, cond, eqb, Option, Some, None, List, [], ◌∷◌, ◌++◌, map, length, take, drop, inl, inr, refl, sym, ap, ◌∙◌, subst, arith}
+use Rattle.std.specs.Prelude.{if◌then◌else◌}
 use Rattle.std.specs.List.{last_or, count_by, cons_option, filter, filter_map}
 use Rattle.std.specs.Option.{option_map}
 use Rattle.std.proofs.lemmas.Bool.{cases_Bool}
@@ -123,6 +124,16 @@ module _ {K X R : Type 0} {make : ℕ × X → K → R} {key : ℕ → Option K}
       | inr q ↦ rw (stands e k, q) (keyed k at (keyed-without r))
     ]
 
+  -- a hit, where the key passes the test at this slot alone
+  keyed-hit : (of : R → K) (h : X → X) (g : R → R) → ((e : ℕ × X) (k : K) → of (make e k) ≡ k) → ((e : ℕ × X) (k : K) → g (make e k) ≡ make (e.0, h e.1) k)
+      → (is : K → Bool) (slot : ℕ) {es : List (ℕ × X)} {rs : List R} → ((t : ℕ) (k : K) → has t (slots_of es) ≡ true → key t ≡ Some k → is k ≡ eqb t slot) → Keyed make key es rs
+      → Keyed make key (map {B = ℕ × X} (λ e. if e.0 == slot then (e.0, h e.1) else e) es) (map (λ r. if is (of r) then g r else r) rs)
+  keyed-hit of h g own hits is slot tells unkeyed = unkeyed
+  keyed-hit of h g own hits is slot tells (keyed {e} {es} k at r) =
+      let here : is k ≡ eqb e.0 slot = tells e.0 k (has_first e.0 (slots_of es)) at in
+      let rest = keyed-hit of h g own hits is slot (λ t k g. tells t k (has_later t e.0 (slots_of es) g)) r in
+      elim (cases_Bool (eqb e.0 slot)) [ inl q ↦ rw (own e k, here, q, hits e k) (keyed k at rest) | inr q ↦ rw (own e k, here, q) (keyed k at rest) ]
+
 module _ {K : Type 0} (key : ℕ → Option K) where
   pub length-small : (es : List (ℕ × Age)) → HaveKeys key (slots_of es) → length (with_keys_small key es) ≡ length es
   length-small es h = length-keyed (have-keyed small_with key es h)
@@ -189,29 +200,13 @@ module _ {K : Type 0} (key : ℕ → Option K) where
 
   -- a hit, where the key passes the test at this slot alone
   module _ (is : K → Bool) (slot : ℕ) where
-    small-hits : {es : List (ℕ × Age)} {rs : List (SmallEntry K)} → ((t : ℕ) (k : K) → has t (slots_of es) ≡ true → key t ≡ Some k → is k ≡ eqb t slot)
-        → Keyed small_with key es rs → Keyed small_with key (small_hit_at slot es) (machine.small_hit is rs)
-    small-hits tells unkeyed = unkeyed
-    small-hits tells (keyed {e} {es} k at r) =
-        let here : is k ≡ eqb e.0 slot = tells e.0 k (has_first e.0 (slots_of es)) at in
-        let rest = small-hits (λ t k g. tells t k (has_later t e.0 (slots_of es) g)) r in
-        elim (cases_Bool (eqb e.0 slot)) [ inl q ↦ rw (here, q) (keyed k at rest) | inr q ↦ rw (here, q) (keyed k at rest) ]
-
-    main-hits : {es : List (ℕ × Bool)} {rs : List (MainEntry K)} → ((t : ℕ) (k : K) → has t (slots_of es) ≡ true → key t ≡ Some k → is k ≡ eqb t slot)
-        → Keyed main_with key es rs → Keyed main_with key (main_hit_at slot es) (machine.main_hit is rs)
-    main-hits tells unkeyed = unkeyed
-    main-hits tells (keyed {e} {es} k at r) =
-        let here : is k ≡ eqb e.0 slot = tells e.0 k (has_first e.0 (slots_of es)) at in
-        let rest = main-hits (λ t k g. tells t k (has_later t e.0 (slots_of es) g)) r in
-        elim (cases_Bool (eqb e.0 slot)) [ inl q ↦ rw (here, q) (keyed k at rest) | inr q ↦ rw (here, q) (keyed k at rest) ]
-
     pub small-hit : (es : List (ℕ × Age)) → ((t : ℕ) (k : K) → has t (slots_of es) ≡ true → key t ≡ Some k → is k ≡ eqb t slot) → HaveKeys key (slots_of es)
         → with_keys_small key (small_hit_at slot es) ≡ machine.small_hit is (with_keys_small key es)
-    small-hit es tells h = keyed-is small_with key (small-hits tells (have-keyed small_with key es h))
+    small-hit es tells h = keyed-is small_with key (keyed-hit (λ (e : SmallEntry K). e.key) touched (λ e. record e { age = touched e.age }) (λ e k. refl) (λ e k. refl) is slot tells (have-keyed small_with key es h))
 
     pub main-hit : (es : List (ℕ × Bool)) → ((t : ℕ) (k : K) → has t (slots_of es) ≡ true → key t ≡ Some k → is k ≡ eqb t slot) → HaveKeys key (slots_of es)
         → with_keys_main key (main_hit_at slot es) ≡ machine.main_hit is (with_keys_main key es)
-    main-hit es tells h = keyed-is main_with key (main-hits tells (have-keyed main_with key es h))
+    main-hit es tells h = keyed-is main_with key (keyed-hit (λ (e : MainEntry K). e.key) (λ b. true) (λ e. record e { bit = true }) (λ e k. refl) (λ e k. refl) is slot tells (have-keyed main_with key es h))
 
   -- how often a slot stands in both queues
   pub standing-keyed : (t : ℕ) (small : List (ℕ × Age)) (main : List (ℕ × Bool)) → HaveKeys key (slots_of small) → HaveKeys key (slots_of main)

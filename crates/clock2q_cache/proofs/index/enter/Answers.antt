@@ -1,8 +1,7 @@
 -- The slot has its value, or keeps the one that it had.
-use Rattle.std.proofs.Common.{◌<◌, length, sym, ap, ◌∙◌, subst}
+use Rattle.std.proofs.Common.{◌<◌, length, ap, ◌∙◌, subst}
 use Rattle.std.specs.Prelude.{IfNone}
 use Rattle.clock2q_queues.specs.Keys.{KeyPlaces}
-use Rattle.clock2q_cache.specs.Insertions.{Writes}
 use Rattle.clock2q_cache.proofs.Stored.{brings-value, keeps-value}
 use Rattle.clock2q_cache.proofs.index.enter.Goals as goal
 use Rattle.clock2q_cache.proofs.index.enter.Goals.{in-Some, in-None}
@@ -13,11 +12,9 @@ returns-clause-entries g c =
     elim c.match-value.branch [
       | in-Some w ↦
           let is = ap (λ (z : KeyPlaces _ _). z.entries) w.keys-is ∙ ap (λ (z : KeyPlaces _ _). z.entries) w.write.ensures.written in
-          subst (λ v. Writes c.args.hash c.args.key v c.args.slot es c.match-value.keys.entries) (sym w.in-Some.is)
-          (brings-value c.args.slot c.args.hash c.args.key w.in-Some.value es c.match-value.keys.entries is)
+          rw w.in-Some.is (brings-value c.args.slot c.args.hash c.args.key w.in-Some.value es c.match-value.keys.entries is)
       | in-None w ↦
           let made = subst (λ v. IfNone v (c.args.slot < length es)) w.in-None.is c.requires.had in
           let is = ap (λ (z : KeyPlaces _ _). z.entries) w.keys-is ∙ ap (λ (z : KeyPlaces _ _). z.entries) w.replace.ensures.replaced in
-          subst (λ v. Writes c.args.hash c.args.key v c.args.slot es c.match-value.keys.entries)
-          (sym w.in-None.is) (keeps-value c.args.slot c.args.hash c.args.key es c.match-value.keys.entries made is)
+          rw w.in-None.is (keeps-value c.args.slot c.args.hash c.args.key es c.match-value.keys.entries made is)
     ]

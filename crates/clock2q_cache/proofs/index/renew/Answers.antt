@@ -1,9 +1,8 @@
 -- The place that goes out of the index makes room for itself, and the slot has its value.
-use Rattle.std.proofs.Common.{sym, ap, ◌∙◌, subst}
+use Rattle.std.proofs.Common.{ap, ◌∙◌}
 use Rattle.clock2q_queues.specs.Keys.{KeyPlaces, with_value}
 use Rattle.clock2q_queues.proofs.Entries.{written-replaced}
 use Rattle.clock2q_cache.proofs.Stored.{left-room, brings-value, keeps-value}
-use Rattle.clock2q_cache.specs.Insertions.{Writes}
 use Rattle.clock2q_cache.proofs.index.renew.Goals as goal
 use Rattle.clock2q_cache.proofs.index.renew.Goals.{in-Some, in_default}
 
@@ -25,10 +24,8 @@ returns-clause-entries g c =
           let is = ap (λ (z : KeyPlaces _ _). z.entries) w.keys-is ∙ ap (λ (z : KeyPlaces _ _). z.entries) w.replace_value.ensures.replaced
           ∙ ap (λ (z : KeyPlaces _ _). with_value c.args.slot w.in-Some.value z.entries) c.replace-old.ensures.replaced
           ∙ written-replaced c.args.slot c.args.hash c.args.key w.in-Some.value es c.requires.made in
-          subst (λ v. Writes c.args.hash c.args.key v c.args.slot es c.match-value.keys.entries) (sym w.in-Some.is)
-          (brings-value c.args.slot c.args.hash c.args.key w.in-Some.value es c.match-value.keys.entries is)
+          rw w.in-Some.is (brings-value c.args.slot c.args.hash c.args.key w.in-Some.value es c.match-value.keys.entries is)
       | in_default w ↦
           let is = ap (λ (z : KeyPlaces _ _). z.entries) w.keys-is ∙ ap (λ (z : KeyPlaces _ _). z.entries) c.replace-old.ensures.replaced in
-          subst (λ v. Writes c.args.hash c.args.key v c.args.slot es c.match-value.keys.entries) (sym w.in_default.is)
-          (keeps-value c.args.slot c.args.hash c.args.key es c.match-value.keys.entries c.requires.made is)
+          rw w.in_default.is (keeps-value c.args.slot c.args.hash c.args.key es c.match-value.keys.entries c.requires.made is)
     ]

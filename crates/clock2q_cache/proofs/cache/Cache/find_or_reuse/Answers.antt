@@ -6,7 +6,6 @@ use Rattle.clock2q_machine.specs.Machine.{hit}
 use Rattle.clock2q_cache.proofs.Making.{hit-takes, new-takes}
 use Rattle.clock2q_cache.specs.CacheState.{CacheState}
 use Rattle.clock2q_cache.proofs.Insertions.{hit-spends, insert-spends}
-use Rattle.clock2q_cache.proofs.Places.{resident-residents, resident-remembered, new-residents, new-remembered}
 use Rattle.clock2q_cache.proofs.cache.Cache.find_or_reuse.Goals as goal
 
 pub returns-in-Some-clause-taken : goal.returns-in-Some-clause-taken
@@ -39,24 +38,16 @@ returns-clause-counts g c =
 
 pub returns-in-Some-clause-residents : goal.returns-in-Some-clause-residents
 returns-in-Some-clause-residents g c =
-    resident-residents (record { eq = g.K.PartialEq.eq; hash_input = g.K.Hash.hash_input })
-    g.S.BuildHasher g.S.Hasher.Hasher c.args.key c.args.self.now c.in-Some.found c.in-Some.ensures.slot c.record_hit.new.self.residents
-    (ap (λ (z : CacheState _ _ _). z.residents) c.record_hit.ensures.kept ∙ ap (λ (z : CacheState _ _ _). z.residents) c.find.ensures.kept)
+    rw (← c.in-Some.ensures.slot) (ap (λ (z : CacheState _ _ _). z.residents) c.record_hit.ensures.kept ∙ ap (λ (z : CacheState _ _ _). z.residents) c.find.ensures.kept)
 
 pub returns-in-Some-clause-remembered : goal.returns-in-Some-clause-remembered
 returns-in-Some-clause-remembered g c =
-    resident-remembered (record { eq = g.K.PartialEq.eq; hash_input = g.K.Hash.hash_input })
-    g.S.BuildHasher g.S.Hasher.Hasher c.args.key c.args.self.now c.in-Some.found c.in-Some.ensures.slot c.record_hit.new.self.remembered
-    (ap (λ (z : CacheState _ _ _). z.remembered) c.record_hit.ensures.kept ∙ ap (λ (z : CacheState _ _ _). z.remembered) c.find.ensures.kept)
+    rw (← c.in-Some.ensures.slot) (ap (λ (z : CacheState _ _ _). z.remembered) c.record_hit.ensures.kept ∙ ap (λ (z : CacheState _ _ _). z.remembered) c.find.ensures.kept)
 
 pub returns-clause-residents : goal.returns-clause-residents
 returns-clause-residents g c =
-    let f = c.find.ensures in
-    new-residents (record { eq = g.K.PartialEq.eq; hash_input = g.K.Hash.hash_input }) g.S.BuildHasher g.S.Hasher.Hasher c.args.key c.args.self.now c.in_default.ensures.slot
-    c.find.new.self f.kept c.insert_reusing.new.self.residents c.insert_reusing.result c.insert_reusing.ensures.slot c.insert_reusing.ensures.residents
+    rw (← c.in_default.ensures.slot) (rw (c.insert_reusing.ensures.slot, c.find.ensures.kept) at c.insert_reusing.ensures.residents)
 
 pub returns-clause-remembered : goal.returns-clause-remembered
 returns-clause-remembered g c =
-    let f = c.find.ensures in
-    new-remembered (record { eq = g.K.PartialEq.eq; hash_input = g.K.Hash.hash_input }) g.S.BuildHasher g.S.Hasher.Hasher c.args.key c.args.self.now
-    c.in_default.ensures.slot c.find.new.self f.kept c.insert_reusing.new.self.remembered c.args.hash c.requires.hash c.insert_reusing.ensures.remembered
+    rw (← c.in_default.ensures.slot) (rw (c.find.ensures.kept, c.requires.hash) at c.insert_reusing.ensures.remembered)

@@ -1,11 +1,9 @@
 -- Each resident is asked, and leaves where it is refused.
-use Rattle.std.proofs.Common.{◌≡◌, ◌+◌, ◌*◌, ◌<◌, false, Option, None, Some, arith, List, length, refl, ap, sym, ◌∙◌, subst}
+use Rattle.std.proofs.Common.{◌≡◌, ◌*◌, ◌<◌, false, Option, None, Some, arith, List, length, refl, ap, sym, ◌∙◌, subst}
 use Rattle.std.specs.Prelude.{is_some}
-use Rattle.std.specs.Fn.{Called}
-use Rattle.clock2q_cache.specs.CacheState.{CacheState}
 use Rattle.clock2q_cache.specs.Costs.{Spends}
 use Rattle.clock2q_machine.specs.Machine.{resident_at}
-use Rattle.clock2q_cache.proofs.Retained.{RetainsBelow, retains-none, retains-past, retains-asks, retains-kept, retains-refused, retains-all}
+use Rattle.clock2q_cache.proofs.Retained.{retains-none, retains-past, retains-asks, retains-kept, retains-refused, retains-all}
 use Rattle.clock2q_cache.proofs.Spent.{slot-stays, slot-leaves, retain-costs}
 use Rattle.clock2q_cache.proofs.cache.Cache.retain.Goals.{then-is_resident+then-not-stays, then-is_resident+else-not-stays, else-is_resident}
 use Rattle.clock2q_cache.proofs.cache.Cache.retain.Goals as goal
@@ -32,31 +30,23 @@ loop-slot-preserved g c =
     let spent = c.loop-slot.invariant.2 in
     let made : c.loop-slot.slot < length c.args.self.now.machine.values = omega (arith, c.loop-slot-test.true, c.made-slot-end.ensures) in
     elim c.if-is_resident.branch [
-      | then-is_resident+then-not-stays w ↦ (
-        subst (λ z. RetainsBelow g.F.FnMut c.args.keep c.args.self.now.machine (c.loop-slot.slot + 1) z c.if-is_resident.self.machine) (sym w.keep-is)
-            (subst (λ z. RetainsBelow g.F.FnMut c.args.keep c.args.self.now.machine (c.loop-slot.slot + 1) w.keep-stays.new.self z) (sym (ap (λ (z : CacheState _ _ _). z.machine) w.self-is ∙ w.vacate.ensures.machine))
-            (retains-refused g.F.FnMut c.args.keep c.args.self.now.machine c.loop-slot.slot c.loop-slot.keep c.loop-slot.self.machine h made w.key.result w.value.result w.key.ensures w.value.ensures w.keep-stays.new.self
-            (subst (λ b. Called g.F.FnMut c.loop-slot.keep (w.key.result, (w.value.result, tt)) b w.keep-stays.new.self) w.if-not-stays.true w.keep-stays.ensures))),
-        ap (λ (z : CacheState _ _ _). z.hasher) w.self-is ∙ w.vacate.ensures.hasher ∙ hashes,
-        subst (λ (z : CacheState _ _ _). Spends 0 (8 * (c.loop-slot.slot + 1)) 0 c.args.self.now.counts z.counts)
-            (sym w.self-is) (slot-leaves c.loop-slot.slot _ _ _ spent w.vacate.ensures.counts),
+      | then-is_resident+then-not-stays w ↦ rw (w.keep-is, w.self-is) (
+        rw w.vacate.ensures.machine (retains-refused g.F.FnMut c.args.keep c.args.self.now.machine c.loop-slot.slot c.loop-slot.keep c.loop-slot.self.machine h made
+            w.key.result w.value.result w.key.ensures w.value.ensures w.keep-stays.new.self (rw w.if-not-stays.true at w.keep-stays.ensures)),
+        w.vacate.ensures.hasher ∙ hashes,
+        slot-leaves c.loop-slot.slot _ _ _ spent w.vacate.ensures.counts,
       )
-      | then-is_resident+else-not-stays w ↦ (
-        subst (λ z. RetainsBelow g.F.FnMut c.args.keep c.args.self.now.machine (c.loop-slot.slot + 1) z c.if-is_resident.self.machine) (sym w.keep-is)
-            (subst (λ z. RetainsBelow g.F.FnMut c.args.keep c.args.self.now.machine (c.loop-slot.slot + 1) w.keep-stays.new.self z) (sym (ap (λ (z : CacheState _ _ _). z.machine) w.self-is))
-            (retains-kept g.F.FnMut c.args.keep c.args.self.now.machine c.loop-slot.slot c.loop-slot.keep c.loop-slot.self.machine h made w.key.result w.value.result w.key.ensures w.value.ensures w.keep-stays.new.self
-            (subst (λ b. Called g.F.FnMut c.loop-slot.keep (w.key.result, (w.value.result, tt)) b w.keep-stays.new.self) w.if-not-stays.false w.keep-stays.ensures))),
-        ap (λ (z : CacheState _ _ _). z.hasher) w.self-is ∙ hashes,
-        subst (λ (z : CacheState _ _ _). Spends 0 (8 * (c.loop-slot.slot + 1)) 0 c.args.self.now.counts z.counts) (sym w.self-is) (slot-stays c.loop-slot.slot _ _ spent),
+      | then-is_resident+else-not-stays w ↦ rw (w.keep-is, w.self-is) (
+        retains-kept g.F.FnMut c.args.keep c.args.self.now.machine c.loop-slot.slot c.loop-slot.keep c.loop-slot.self.machine h made
+            w.key.result w.value.result w.key.ensures w.value.ensures w.keep-stays.new.self (rw w.if-not-stays.false at w.keep-stays.ensures),
+        hashes,
+        slot-stays c.loop-slot.slot _ _ spent,
       )
-      | else-is_resident w ↦ (
-        subst (λ z. RetainsBelow g.F.FnMut c.args.keep c.args.self.now.machine (c.loop-slot.slot + 1) z c.if-is_resident.self.machine) (sym w.keep-is)
-            (subst (λ z. RetainsBelow g.F.FnMut c.args.keep c.args.self.now.machine (c.loop-slot.slot + 1) c.loop-slot.keep z) (sym (ap (λ (z : CacheState _ _ _). z.machine) w.self-is))
-            (retains-past g.F.FnMut c.args.keep c.args.self.now.machine c.loop-slot.slot c.loop-slot.keep c.loop-slot.self.machine h made
-            (none-there (resident_at c.loop-slot.self.machine c.loop-slot.slot)
-            (sym c.is_resident.ensures ∙ w.if-is_resident.false)))),
-        ap (λ (z : CacheState _ _ _). z.hasher) w.self-is ∙ hashes,
-        subst (λ (z : CacheState _ _ _). Spends 0 (8 * (c.loop-slot.slot + 1)) 0 c.args.self.now.counts z.counts) (sym w.self-is) (slot-stays c.loop-slot.slot _ _ spent),
+      | else-is_resident w ↦ rw (w.keep-is, w.self-is) (
+        retains-past g.F.FnMut c.args.keep c.args.self.now.machine c.loop-slot.slot c.loop-slot.keep c.loop-slot.self.machine h made
+            (none-there (resident_at c.loop-slot.self.machine c.loop-slot.slot) (sym c.is_resident.ensures ∙ w.if-is_resident.false)),
+        hashes,
+        slot-stays c.loop-slot.slot _ _ spent,
       )
     ]
   where
