@@ -1,5 +1,5 @@
 -- What holds of a cache's fields goes on to hold where a key's history is erased or a value is replaced, and holds of a new cache.
-use Rattle.std.proofs.Common.{◌≡◌, ℕ, zero, suc, ◌^◌, ◌<◌, ◌≤◌, ◌==◌, Bool, true, false, not, ◌||◌, ◌&&◌, eqb, Option, Some, None, slice_get, List, [], ◌∷◌, ◌++◌, map, length, reverse, inl, inr, refl, sym, ap, ◌∙◌, subst, arith, eqb-true, eq-eqb, ne_eqb}
+use Rattle.std.proofs.Common.{◌≡◌, ℕ, zero, suc, ◌<◌, ◌==◌, Bool, true, false, not, ◌||◌, ◌&&◌, eqb, Option, Some, None, slice_get, List, [], ◌∷◌, ◌++◌, map, length, reverse, inl, inr, refl, sym, ap, ◌∙◌, subst, arith, eqb-true, eq-eqb, ne_eqb}
 use Rattle.std.specs.Prelude.{nat_le, is_some, slice_set, IfSome}
 use Rattle.std.specs.Cmp.{IsEquivalence}
 use Rattle.std.specs.List.{filter, list_any, last_or, AllByRecursion}
@@ -9,14 +9,13 @@ use Rattle.clock2q_queues.specs.declared.keys.store.Entry.{Entry}
 use Rattle.clock2q_queues.specs.Rings.{has}
 use Rattle.clock2q_queues.proofs.Rings.{has_first, has_later}
 use Rattle.clock2q_queues.specs.Keys.{KeyPlaces, entry, written, hash_at, key_at, with_value}
-use Rattle.clock2q_queues.specs.Indexes.{IsIndex, HasHash, index_room}
-use Rattle.clock2q_handles.specs.TableStep.{made_for}
+use Rattle.clock2q_queues.specs.Indexes.{IsIndex, HasHash}
 use Rattle.clock2q_handles.specs.Homes.{no_entries}
 use Rattle.clock2q_queues.specs.Queues.{QueueState, slots_of, tail_promoted}
 use Rattle.clock2q_queues.specs.History.{Remembered, forgotten}
 use Rattle.clock2q_queues.proofs.Entries.{slice_get-written, slice_get-written_other, length-written}
-use Rattle.clock2q_queues.proofs.Indexes.{IsIndex-cleared, length-cleared, IsIndex-kept, IsIndex-new, half_new}
-use Rattle.clock2q_machine.specs.Shares.{Shares, history_share}
+use Rattle.clock2q_queues.proofs.Indexes.{IsIndex-cleared, length-cleared, IsIndex-kept}
+use Rattle.clock2q_machine.specs.Shares.{Shares}
 use Rattle.clock2q_machine.specs.Machine as cache
 use Rattle.clock2q_machine.specs.Machine.{Machine, stored, empty, vacancy, goes_to_main}
 use Rattle.clock2q_machine.specs.Whole.{IsWhole}
@@ -246,23 +245,3 @@ module _ {K V : Type 0} where
   kept-cleared {index = index} {index' = index'} laws kept small main entries keyed none emptied slots window limit keys_room free_room =
       (kept-empty laws kept.whole.small_below small main entries (IsIndex-cleared index' (length index) [] emptied) keyed none
       (sized-same kept.sized slots window limit (length-cleared index index' emptied) keys_room free_room)).0
-
-  -- a new cache
-  pub kept-new : {eq : K → K → Bool} {hash : K → ℕ} {shares : Shares} {q : QueueState} {h : Remembered K} {index : List (List (ℕ × ℕ))} {keys : KeyPlaces K V} {free : List ℕ} {room : ℕ}
-      → IsEquivalence eq
-      → shares.small < shares.capacity → (0 < shares.small → 0 < shares.window) → shares.capacity < 2 ^ 24
-      → q.small ≡ [] → q.main ≡ [] → q.slots ≡ shares.capacity → q.window ≡ shares.window → h.entries ≡ [] → h.limit ≡ history_share shares → index ≡ made_for (index_room shares.capacity)
-      → keys.entries ≡ [] → shares.capacity ≤ keys.room → free ≡ [] → shares.capacity ≤ room
-      → IsKept eq hash shares q h index keys free room × (machine_of shares q keys.entries h.entries free ≡ empty shares)
-  kept-new {eq} {hash} {shares} {q} {h} {index} {keys} {free} {room} laws below windowed short small main slots window entries limit homes keyed keys_room none free_room =
-      kept-empty laws below small main entries (subst (λ z. IsIndex {K = K} {V = V} z [] []) (sym homes) (IsIndex-new (index_room shares.capacity) [])) keyed none
-      (record {
-        as_many = slots;
-        window = window;
-        windowed = windowed;
-        remembers = limit;
-        half = omega (arith, half_new shares.capacity, ap (λ (z : List (List (ℕ × ℕ))). length z) homes);
-        room_for_keys = keys_room;
-        room_for_free = free_room;
-        short = short;
-      })

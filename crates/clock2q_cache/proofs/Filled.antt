@@ -1,18 +1,17 @@
 -- Slots that were never made are made and free.
-use Rattle.std.proofs.Common.{◌≡◌, ℕ, zero, suc, ◌+◌, ◌-◌, ◌<◌, Bool, true, false, ◌&&◌, Some, None, slice_get, List, [], ◌∷◌, ◌++◌, map, length, reverse, inl, inr, refl, sym, ap, ◌∙◌, subst, arith, length-append}
+use Rattle.std.proofs.Common.{◌≡◌, ℕ, zero, suc, ◌+◌, ◌-◌, ◌<◌, Bool, true, Some, None, slice_get, List, [], ◌∷◌, ◌++◌, map, length, reverse, refl, sym, ap, ◌∙◌, subst, arith, length-append}
 use Rattle.std.specs.Cmp.{IsEquivalence}
 use Rattle.std.specs.Fn.{Mut, Called}
 use Rattle.std.specs.List.{FoldsTo, AllByRecursion, range_with_len}
-use Rattle.std.proofs.lemmas.Bool.{cases_Bool}
 use Rattle.std.proofs.lemmas.List.{append-nil, append_assoc, map-append, reverse-append, reverse-reverse}
 use Rattle.clock2q_queues.proofs.Booleans.{or_true}
 use Rattle.clock2q_queues.specs.declared.keys.store.Entry.{Entry}
-use Rattle.clock2q_queues.specs.Rings.{has, AllBelow}
-use Rattle.clock2q_queues.specs.Indexes.{IsIndex, is_named, is_alike}
+use Rattle.clock2q_queues.specs.Rings.{has}
 use Rattle.clock2q_queues.specs.Keys.{KeyPlaces, entry, hash_at, key_at}
 use Rattle.clock2q_queues.specs.Queues.{QueueState, slots_of}
 use Rattle.clock2q_queues.specs.History.{Remembered}
 use Rattle.clock2q_queues.proofs.Rings.{has-append, below_of}
+use Rattle.clock2q_queues.proofs.Indexes.{IsIndex-kept}
 use Rattle.clock2q_cache.specs.Closures.{FillsUp}
 use Rattle.clock2q_machine.specs.Shares.{Shares}
 use Rattle.clock2q_machine.specs.Machine.{Machine, prefilled}
@@ -75,19 +74,6 @@ module _ {K V : Type 0} (entries added : List (Entry K V)) where
   hash-before : (t : ℕ) → t < length entries → hash_at more t ≡ hash_at entries t
   hash-before t h = ap (λ z. elim z [ None ↦ None | Some e ↦ Some e.hash ]) (get-append entries added t h)
 
-  index-before : (index : List (List (ℕ × ℕ))) (places : List ℕ) → AllBelow (length entries) places → IsIndex index entries places → IsIndex index more places
-  index-before index places below i = record {
-    listed = λ x place. i.listed x place ∙ same x place;
-    once = i.once;
-    counted = i.counted;
-  }
-    where
-      same : (x place : ℕ) → (has place places && is_named index entries x place) ≡ (has place places && is_named index more x place)
-      same x place = elim (cases_Bool (has place places)) [
-        | inl e ↦ rw e (sym (ap (λ z. elim z [ None ↦ false | Some y ↦ is_alike index x y ]) (hash-before place (below_of (length entries) places below place e))))
-        | inr e ↦ rw e refl
-      ]
-
 module _ {K V : Type 0} {eq : K → K → Bool} {hash : K → ℕ} {shares : Shares} {q : QueueState} {h : Remembered K} {index : List (List (ℕ × ℕ))} {keys : KeyPlaces K V} {free : List ℕ} {room : ℕ}
     (laws : IsEquivalence eq) (kept : IsKept eq hash shares q h index keys free room)
     (added : List (Entry K V)) (keys' : KeyPlaces K V) (free' : List ℕ) (room' : ℕ)
@@ -127,7 +113,8 @@ module _ {K V : Type 0} {eq : K → K → Bool} {hash : K → ℕ} {shares : Sha
     whole = subst (IsWhole eq) (sym machine-prefilled) (lasting-prefilled eq laws made m (omega (arith, made-count)) kept.whole);
     stored = subst (λ z. IsStored hash index z (places_of q)) (sym is) (record {
       made = below-has (length (keys.entries ++ added)) (places_of q) (λ t g. omega (arith, below_of (length keys.entries) (places_of q) kept.stored.made t g, length-append keys.entries added));
-      indexed = index-before keys.entries added index (places_of q) kept.stored.made kept.stored.indexed;
+      indexed = IsIndex-kept index keys.entries (keys.entries ++ added) (places_of q)
+          (λ t g. hash-before keys.entries added t (below_of (length keys.entries) (places_of q) kept.stored.made t g)) kept.stored.indexed;
       hashed = all-append (λ e. e.hash ≡ hash e.key) keys.entries added kept.stored.hashed hashed;
     });
     hashed = kept.hashed;

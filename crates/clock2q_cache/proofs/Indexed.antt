@@ -36,19 +36,17 @@ module _ {K V : Type 0} (hash : K → ℕ) (entries : List (Entry K V)) where
   abbrev pub Stands : ℕ → Type 0
   Stands s = (k : K) × (hashed_at entries s ≡ Some (hash k, k))
 
-  key-of : (s : ℕ) (h : ℕ) (k : K) → hashed_at entries s ≡ Some (h, k) → key_at entries s ≡ Some k
-  key-of s h k = of (slice_get entries s)
-    where
-      of : (o : Option (Entry K V)) → ◌≡◌ {A = Option (ℕ × K)} (elim o [ None ↦ None | Some e ↦ Some (e.hash, e.key) ]) (Some (h, k)) → elim o [ None ↦ None | Some e ↦ Some e.key ] ≡ Some k
-      of None q = absurd (cc)
-      of (Some e) q = ap (λ (z : ℕ × K). Some z.1) (some_is (e.hash, e.key) (h, k) q)
+  -- a part of what stands at a place
+  part-of : {Y : Type 0} (f : ℕ × K → Y) (o : Option (Entry K V)) (x : ℕ × K) → elim o [ None ↦ None | Some e ↦ Some (e.hash, e.key) ] ≡ Some x
+      → elim o [ None ↦ None | Some e ↦ Some (f (e.hash, e.key)) ] ≡ Some (f x)
+  part-of f None x q = absurd (cc)
+  part-of f (Some e) x q = ap (λ (z : ℕ × K). Some (f z)) (some_is (e.hash, e.key) x q)
 
-  hash-of : (s : ℕ) (h : ℕ) (k : K) → hashed_at entries s ≡ Some (h, k) → hash_at entries s ≡ Some h
-  hash-of s h k = of (slice_get entries s)
-    where
-      of : (o : Option (Entry K V)) → ◌≡◌ {A = Option (ℕ × K)} (elim o [ None ↦ None | Some e ↦ Some (e.hash, e.key) ]) (Some (h, k)) → elim o [ None ↦ None | Some e ↦ Some e.hash ] ≡ Some h
-      of None q = absurd (cc)
-      of (Some e) q = ap (λ (z : ℕ × K). Some z.0) (some_is (e.hash, e.key) (h, k) q)
+  key-of : (s h : ℕ) (k : K) → hashed_at entries s ≡ Some (h, k) → key_at entries s ≡ Some k
+  key-of s h k = part-of (λ z. z.1) (slice_get entries s) (h, k)
+
+  hash-of : (s h : ℕ) (k : K) → hashed_at entries s ≡ Some (h, k) → hash_at entries s ≡ Some h
+  hash-of s h k = part-of (λ z. z.0) (slice_get entries s) (h, k)
 
   pub stand_have : (places : List ℕ) → AllByRecursion Stands places → HaveKeys (key_at entries) places
   stand_have [] a t g = absurd (cc)

@@ -103,13 +103,12 @@ module _ {K V : Type 0} (m : Machine K V) where
     looks_of : inspections_for is m ≡ (if takes_victim is m then machine.inspections m.main else 0)
     looks_of = ap (λ o. if is_some o then 0 else (if takes_victim is m then machine.inspections m.main else 0)) absent
 
-    pub main-insertion : goes_to_main (list_any is m.history) m ≡ true → inspections_for is m ≡ main_inspections m
-    main-insertion goes =
-        looks_of ∙ ap (λ b. if (if b then length m.main == main_share m.shares else not (is_some (vacancy m)) && goes_on (last_or None m.small)) then machine.inspections m.main else 0) goes
-
-    pub small-insertion : goes_to_main (list_any is m.history) m ≡ false → inspections_for is m ≡ small_inspections m
-    small-insertion goes =
-        looks_of ∙ ap (λ b. if (if b then length m.main == main_share m.shares else not (is_some (vacancy m)) && goes_on (last_or None m.small)) then machine.inspections m.main else 0) goes
+    insertion : inspections_for is m ≡ placed_inspections (goes_to_main (list_any is m.history) m) m
+    insertion = looks_of ∙ of (goes_to_main (list_any is m.history) m)
+      where
+        of : (b : Bool) → (if (if b then length m.main == main_share m.shares else not (is_some (vacancy m)) && goes_on (last_or None m.small)) then machine.inspections m.main else 0) ≡ placed_inspections b m
+        of true = refl
+        of false = refl
 
 -- a key whose history is erased first goes into Main or Small
 pub record IsSent {K V : Type 0} (is : K → Bool) (m m1 : Machine K V) (main : Bool) : Type 0 where
@@ -124,11 +123,7 @@ module _ {K V : Type 0} {is : K → Bool} {m m1 : Machine K V} {main : Bool} (s 
 
   -- how often the hand looks then
   pub placed-inspections : slot_of is m ≡ None → placed_inspections main m1 ≡ inspections_for is m
-  placed-inspections absent = ap (placed_inspections main) s.erased ∙ ap (λ b. placed_inspections b m) goes-there ∙ of (goes_to_main (list_any is m.history) m) refl
-    where
-      of : (b : Bool) → goes_to_main (list_any is m.history) m ≡ b → placed_inspections b m ≡ inspections_for is m
-      of true main = sym (main-insertion m is absent main)
-      of false small = sym (small-insertion m is absent small)
+  placed-inspections absent = ap (placed_inspections main) s.erased ∙ ap (λ b. placed_inspections b m) goes-there ∙ sym (insertion m is absent)
 
 -- after Small's tail was looked at
 pub looked-spends : {looks : ℕ} {a b c : Counts} → Spends 0 1 0 a b → Spends looks (looks + 28) 0 b c → Spends looks (looks + 29) 0 a c

@@ -1,8 +1,8 @@
 -- Which resident stands at a slot, and what an insertion makes of the two indexes.
-use Rattle.std.proofs.Common.{◌≡◌, ℕ, ◌||◌, ◌==◌, Bool, true, false, eqb, Option, Some, None, List, [], ◌∷◌, map, inl, inr, refl, sym, ap, ◌∙◌, subst, eqb-true}
+use Rattle.std.proofs.Common.{◌≡◌, ℕ, ◌==◌, Bool, true, false, eqb, Option, Some, None, List, [], ◌∷◌, map, inl, inr, refl, sym, ap, ◌∙◌, eqb-true, eq-eqb}
 use Rattle.std.specs.List.{find, last_or, AllByRecursion}
 use Rattle.std.specs.Cmp.{IsEquivalence}
-use Rattle.std.proofs.lemmas.Bool.{cases_Bool, both_ways}
+use Rattle.std.proofs.lemmas.Bool.{cases_Bool}
 use Rattle.clock2q_handles.specs.Homes.{with_handle, removed}
 use Rattle.clock2q_queues.specs.Rings.{has}
 use Rattle.clock2q_queues.specs.Keys.{KeyPlaces, key_at, hash_at}
@@ -19,36 +19,24 @@ use Rattle.clock2q_queues.specs.Queues.{slots_of}
 use Rattle.clock2q_machine.specs.Entries.{SmallEntry}
 use Rattle.clock2q_cache.specs.Places.{remembering_any, left_by, entered, key_out}
 use Rattle.clock2q_cache.proofs.WithKeys.{HaveKeys, have_later, paired, paired-cons}
-use Rattle.clock2q_machine.proofs.Whole.{some_is}
 use Rattle.clock2q_cache.proofs.Stored.{have_keys, hash-of-key}
 use Rattle.clock2q_cache.proofs.Renewed.{last_entry, tail_key}
 use Rattle.clock2q_cache.proofs.Indexed.{residents-paired}
 
-module _ {K : Type 0} (key : ℕ → Option K) (slot : ℕ) where
-  -- the key at one of these places, with the place
-  found-paired : (k : K) (ss : List ℕ) → HaveKeys key ss → has slot ss ≡ true → key slot ≡ Some k → find (λ (r : K × ℕ). r.1 == slot) (paired key ss) ≡ Some (k, slot)
-  found-paired k [] h there at = absurd (both_ways false refl there)
-  found-paired k (s ∷ ss) h there at =
-      let j = h s (has_first s ss) in
-      ap (λ (z : List (K × ℕ)). find (λ (r : K × ℕ). r.1 == slot) z) (paired-cons key s ss j.0 j.1)
-      ∙ elim (cases_Bool (eqb s slot)) [
-        | inl e ↦
-            let q : s ≡ slot = eqb-true s slot e in
-            let same : j.0 ≡ k = some_is j.0 k (sym j.1 ∙ ap (λ z. key z) q ∙ at) in
-            rw e (ap (λ z. Some (z, s)) same ∙ ap (λ z. Some (k, z)) q)
-        | inr e ↦ rw e (found-paired k ss (have_later key s ss h) (subst (λ b. (b || has slot ss) ≡ true) (eqb_swap s slot e) there) at)
-      ]
-
-  -- no other place has one
-  none-paired : (ss : List ℕ) → HaveKeys key ss → has slot ss ≡ false → find (λ (r : K × ℕ). r.1 == slot) (paired key ss) ≡ None
-  none-paired [] h absent = refl
-  none-paired (s ∷ ss) h absent =
-      let j = h s (has_first s ss) in
-      ap (λ (z : List (K × ℕ)). find (λ (r : K × ℕ). r.1 == slot) z) (paired-cons key s ss j.0 j.1)
-      ∙ elim (cases_Bool (eqb s slot)) [
-        | inl e ↦ absurd (both_ways (has slot (s ∷ ss)) absent (subst (λ z. has z (s ∷ ss) ≡ true) (eqb-true s slot e) (has_first s ss)))
-        | inr e ↦ rw e (none-paired ss (have_later key s ss h) (subst (λ b. (b || has slot ss) ≡ false) (eqb_swap s slot e) absent))
-      ]
+-- the key at a place with the place, if it is one of these
+paired-at : {K : Type 0} (key : ℕ → Option K) (slot : ℕ) (ss : List ℕ) → HaveKeys key ss
+    → find (λ (r : K × ℕ). r.1 == slot) (paired key ss) ≡ (if has slot ss then option_map (λ k. (k, slot)) (key slot) else None)
+paired-at key slot [] h = refl
+paired-at {K} key slot (s ∷ ss) h =
+    let k = h s (has_first s ss) in
+    ap (λ (z : List (K × ℕ)). find (λ (r : K × ℕ). r.1 == slot) z) (paired-cons key s ss k.0 k.1)
+    ∙ elim (cases_Bool (eqb slot s)) [
+      | inl e ↦
+          let same : s ≡ slot = sym (eqb-true slot s e) in
+          let at : key slot ≡ Some k.0 = ap (λ z. key z) (sym same) ∙ k.1 in
+          rw (e, eq-eqb s slot same, at) (ap (λ z. Some (k.0, z)) same)
+      | inr e ↦ rw (e, eqb_swap slot s e) (paired-at key slot ss (have_later key s ss h))
+    ]
 
 -- whether Small's tail goes out
 pub key-out : {K : Type 0} (b : Bool) (o : Option (SmallEntry K)) → IfSome o (λ tail. b ≡ is_promoted tail.age) → key_out o ≡ (if b then None else option_map (λ tail. tail.key) o)
@@ -71,17 +59,16 @@ module _ {K V : Type 0} {eq : K → K → Bool} {hash : K → ℕ} {shares : Sha
   have : HaveKeys (key_at keys.entries) (places_of q)
   have = have_keys keys.entries (places_of q) kept.stored.made
 
+  resident-here : (slot : ℕ) → resident_at m slot ≡ (if has slot (places_of q) then option_map (λ k. (k, slot)) (key_at keys.entries slot) else None)
+  resident-here slot = ap (λ (z : List (K × ℕ)). find (λ (r : K × ℕ). r.1 == slot) z) (residents-paired laws kept) ∙ paired-at (key_at keys.entries) slot (places_of q) have
+
   -- the resident at a slot of the queues
   pub resident-there : (slot : ℕ) (k : K) → has slot (places_of q) ≡ true → key_at keys.entries slot ≡ Some k → resident_at m slot ≡ Some (k, slot)
-  resident-there slot k there at =
-      ap (λ (z : List (K × ℕ)). find (λ (r : K × ℕ). r.1 == slot) z) (residents-paired laws kept)
-      ∙ found-paired (key_at keys.entries) slot k (places_of q) have there at
+  resident-there slot k there at = resident-here slot ∙ rw (there, at) refl
 
   -- another slot has none
   pub resident-none : (slot : ℕ) → has slot (places_of q) ≡ false → resident_at m slot ≡ None
-  resident-none slot absent =
-      ap (λ (z : List (K × ℕ)). find (λ (r : K × ℕ). r.1 == slot) z) (residents-paired laws kept)
-      ∙ none-paired (key_at keys.entries) slot (places_of q) have absent
+  resident-none slot absent = resident-here slot ∙ rw absent refl
 
   -- a key enters at a slot that has no resident
   pub entered-vacant : (key : K) (slot : ℕ) {hsh : ℕ} {index' : List (List (ℕ × ℕ))} → has slot (places_of q) ≡ false → hsh ≡ hash key

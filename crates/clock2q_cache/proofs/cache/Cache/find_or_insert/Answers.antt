@@ -1,7 +1,6 @@
 -- The value stands at the slot where the key was found, or at the one that it took.
-use Rattle.std.proofs.Common.{sym, ap, ◌∙◌, subst}
+use Rattle.std.proofs.Common.{sym, ap, ◌∙◌}
 use Rattle.std.proofs.lemmas.Option.{slice_get_within}
-use Rattle.clock2q_cache.specs.Closures.{Fetches}
 use Rattle.clock2q_machine.specs.Machine.{hit, inserted}
 use Rattle.clock2q_cache.proofs.Fetched.{hit-fetches, new-fetches}
 use Rattle.clock2q_cache.specs.CacheState.{CacheState}
@@ -12,8 +11,7 @@ pub returns-in-Some-clause-fetched : goal.returns-in-Some-clause-fetched
 returns-in-Some-clause-fetched g c =
     let eq = g.K.PartialEq.eq in let m = c.args.self.now.machine in
     let now = c.record_hit.ensures.machine ∙ ap (hit (eq c.args.key)) c.find.ensures.machine in
-    subst (Fetches (eq c.args.key) c.args.key (goal.F-post g c.args.f) m c.in-Some.slot) (sym now)
-    (hit-fetches eq g.met.K.Eq.laws m c.find.ensures.whole c.args.key (goal.F-post g c.args.f) c.in-Some.slot (sym c.in-Some.ensures.slot))
+    rw now (hit-fetches eq g.met.K.Eq.laws m c.find.ensures.whole c.args.key (goal.F-post g c.args.f) c.in-Some.slot (sym c.in-Some.ensures.slot))
 
 pub returns-clause-fetched : goal.returns-clause-fetched
 returns-clause-fetched g c =

@@ -1,7 +1,6 @@
 -- The key stands at the slot where it was found, or at the one that it took.
-use Rattle.std.proofs.Common.{sym, ap, ◌∙◌, subst}
+use Rattle.std.proofs.Common.{sym, ap, ◌∙◌}
 use Rattle.std.proofs.lemmas.Option.{slice_get_within}
-use Rattle.clock2q_cache.specs.Closures.{Takes}
 use Rattle.clock2q_machine.specs.Machine.{hit}
 use Rattle.clock2q_cache.proofs.Making.{hit-takes, new-takes}
 use Rattle.clock2q_cache.specs.CacheState.{CacheState}
@@ -12,8 +11,7 @@ pub returns-in-Some-clause-taken : goal.returns-in-Some-clause-taken
 returns-in-Some-clause-taken g c =
     let eq = g.K.PartialEq.eq in let m = c.args.self.now.machine in
     let now = c.record_hit.ensures.machine ∙ ap (hit (eq c.args.key)) c.find.ensures.machine in
-    subst (Takes (eq c.args.key) c.args.key (goal.F-post g c.args.make) m c.in-Some.found) (sym now)
-    (hit-takes eq g.met.K.Eq.laws m c.find.ensures.whole c.args.key (goal.F-post g c.args.make) c.in-Some.found (sym c.in-Some.ensures.slot))
+    rw now (hit-takes eq g.met.K.Eq.laws m c.find.ensures.whole c.args.key (goal.F-post g c.args.make) c.in-Some.found (sym c.in-Some.ensures.slot))
 
 pub returns-clause-taken : goal.returns-clause-taken
 returns-clause-taken g c =
