@@ -4,7 +4,7 @@ use Rattle.std.specs.Prelude.{if◌then◌else◌, IfNone}
 use Rattle.std.specs.Cmp.{IsEquivalence}
 use Rattle.std.specs.List.{last_or, AllByRecursion}
 use Rattle.clock2q_handles.specs.Homes.{total, capacity, with_handle}
-use Rattle.clock2q_queues.specs.Rings.{has, AllApart}
+use Rattle.clock2q_queues.specs.Rings.{has}
 use Rattle.clock2q_queues.specs.Keys.{KeyPlaces, entry, written, key_at}
 use Rattle.clock2q_queues.specs.Small.{admitted}
 use Rattle.clock2q_queues.specs.Queues.{QueueState, slots_of}
@@ -18,9 +18,9 @@ use Rattle.clock2q_machine.specs.Machine.{Machine, Placement, vacancy, vacant_sl
 use Rattle.clock2q_machine.specs.Whole.{IsWhole, known_count}
 use Rattle.clock2q_cache.specs.Insertions.{IsValueFor, Fills, Writes}
 use Rattle.clock2q_cache.specs.CacheFields.{machine_of, places_of, with_keys_small, with_keys_main, IsStored, IsSized, IsKept}
-use Rattle.clock2q_cache.proofs.WithKeys.{HaveKeys, small-admitted, main-behind, small_with, main_with, keys-agree, length-small, length-main}
+use Rattle.clock2q_cache.proofs.WithKeys.{small-admitted, main-behind, small_with, main_with, keys-agree, length-small, length-main}
 use Rattle.clock2q_cache.proofs.Stored.{stored-entered, key_at-own, key_at-others, values-written, length-values}
-use Rattle.clock2q_cache.proofs.Slots.{times, times-cons, times-both, times-pushed, times-admitted, length-admitted, stored-moved, vacant, vacancy-taken, vacancy-there, places_apart, small_keys, main_keys, length-places}
+use Rattle.clock2q_cache.proofs.Slots.{times, times-cons, times-both, times-pushed, times-admitted, length-admitted, stored-moved, vacant, vacancy-taken, vacancy-there, small_have, main_have, length-places}
 use Rattle.clock2q_machine.proofs.Whole.{IsPlaced, whole-stored, placed-admitted, placed-joining}
 
 -- the layers are as large as they were
@@ -43,20 +43,11 @@ module _ {K V : Type 0} {eq : K → K → Bool} {hash : K → ℕ} {shares : Sha
   abbrev pub m : Machine K V
   m = machine_of shares q keys.entries h.entries free
 
-  pub small_have : HaveKeys (key_at keys.entries) (slots_of q.small)
-  small_have = small_keys eq hash shares q index keys.entries h.entries free kept.whole kept.stored
-
-  pub main_have : HaveKeys (key_at keys.entries) (slots_of q.main)
-  main_have = main_keys eq hash shares q index keys.entries h.entries free kept.whole kept.stored
-
   pub length_in_small : length m.small ≡ length q.small
-  length_in_small = length-small (key_at keys.entries) q.small small_have
+  length_in_small = length-small (key_at keys.entries) q.small (small_have laws kept)
 
   pub length_in_main : length m.main ≡ length q.main
-  length_in_main = length-main (key_at keys.entries) q.main main_have
-
-  pub apart : AllApart (places_of q)
-  apart = places_apart eq hash shares q index keys.entries h.entries free kept.whole kept.stored
+  length_in_main = length-main (key_at keys.entries) q.main (main_have laws kept)
 
   pub index_some : 0 < length index
   index_some = omega (arith, kept.sized.half, kept.whole.small_below)
@@ -76,9 +67,9 @@ module _ {K V : Type 0} {eq : K → K → Bool} {hash : K → ℕ} {shares : Sha
   -- the slot that is picked is one where a queue has room
   is-free : {slot made : ℕ} → made ≡ length keys.entries → vacant_slot (reverse free) made (made + 1) ≡ Some slot → length q.small + length q.main < shares.capacity → IsFree slot
   is-free {slot} {made} is picked few =
-      let some = vacancy-there eq hash shares q index keys.entries h.entries free kept.whole kept.stored few in
-      let taken = vacancy-taken eq hash shares q index keys.entries h.entries free kept.whole kept.stored slot some (subst (λ z. vacant_slot (reverse free) z (z + 1) ≡ Some slot) is picked) in
-      let v = vacant eq hash shares q index keys.entries h.entries free kept.whole kept.stored slot taken in
+      let some = vacancy-there laws kept few in
+      let taken = vacancy-taken laws kept slot some (subst (λ z. vacant_slot (reverse free) z (z + 1) ≡ Some slot) is picked) in
+      let v = vacant laws kept slot taken in
       let apart = or_parts (has slot (slots_of q.small)) (has slot (slots_of q.main)) (sym (has-append slot (slots_of q.small) (slots_of q.main)) ∙ v.absent) in
       record {
         taken = taken;

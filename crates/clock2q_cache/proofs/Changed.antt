@@ -23,7 +23,8 @@ use Rattle.clock2q_cache.specs.CacheFields.{machine_of, places_of, with_keys_sma
 use Rattle.clock2q_cache.proofs.WithKeys.{small_with, main_with, keys-agree, small-last}
 use Rattle.clock2q_cache.proofs.Insertions.{no_last}
 use Rattle.clock2q_cache.proofs.Stored.{set-written, all-written, values-written, length-values, below-more}
-use Rattle.clock2q_cache.proofs.CacheInvariant.{small_have, length_in_small, sized-same}
+use Rattle.clock2q_cache.proofs.CacheInvariant.{length_in_small, sized-same}
+use Rattle.clock2q_cache.proofs.Slots.{small_have}
 use Rattle.clock2q_machine.proofs.Whole.{some_is, whole-forgotten, all_resident, small_share}
 use Rattle.clock2q_machine.proofs.MachineInvariant.{whole-changed, lasting-empty}
 

@@ -33,21 +33,22 @@ use Rattle.clock2q_cache.specs.CacheFields.{machine_of, places_of, with_keys_sma
 use Rattle.clock2q_cache.proofs.WithKeys.{HaveKeys, have_later, paired, paired-cons, small-hit, main-hit}
 use Rattle.clock2q_cache.proofs.Indexed.{residents-paired}
 use Rattle.clock2q_cache.proofs.Stored.{have_keys, length-values}
-use Rattle.clock2q_cache.proofs.CacheInvariant.{small_have, main_have, sized-same}
+use Rattle.clock2q_cache.proofs.CacheInvariant.{sized-same}
+use Rattle.clock2q_cache.proofs.Slots.{small_have, main_have}
 use Rattle.clock2q_machine.proofs.Whole.{whole-hit, some_is}
 
 pub all-has : (P : ℕ → Type 0) (xs : List ℕ) → ((t : ℕ) → has t xs ≡ true → P t) → AllByRecursion P xs
 all-has P [] h = tt
 all-has P (x ∷ xs) h = (h x (has_first x xs), all-has P xs (λ t g. h t (has_later t x xs g)))
 
-none-has : {X : Type 0} (is : X → Bool) (es : List X) → count_by is es ≡ 0 → list_any is es ≡ false
+pub none-has : {X : Type 0} (is : X → Bool) (es : List X) → count_by is es ≡ 0 → list_any is es ≡ false
 none-has is [] h = refl
 none-has is (e ∷ es) h = elim (cases_Bool (is e)) [
   | inl t ↦ absurd (omega (arith, h, sum_by-cons (λ k. cond (is k) 1 0) e es, ap {B = ℕ} (λ b. cond b 1 0) t))
   | inr f ↦ rw f (none-has is es (omega (arith, h, sum_by-cons (λ k. cond (is k) 1 0) e es)))
 ]
 
-counted-map : {X Y : Type 0} (is : Y → Bool) (f : X → Y) (xs : List X) → count_by is (map f xs) ≡ count_by (λ x. is (f x)) xs
+pub counted-map : {X Y : Type 0} (is : Y → Bool) (f : X → Y) (xs : List X) → count_by is (map f xs) ≡ count_by (λ x. is (f x)) xs
 counted-map is f [] = refl
 counted-map is f (x ∷ xs) = omega (arith, sum_by-cons (λ y. cond (is y) 1 0) (f x) (map f xs), sum_by-cons (λ x. cond (is (f x)) 1 0) x xs, counted-map is f xs)
 

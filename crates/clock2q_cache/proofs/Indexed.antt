@@ -18,7 +18,7 @@ use Rattle.clock2q_cache.specs.Indexed.{HasPlaces}
 use Rattle.clock2q_cache.proofs.WithKeys.{HaveKeys, have_later, paired, paired-cons, residents-keyed}
 use Rattle.clock2q_machine.proofs.Whole.{some_is}
 use Rattle.clock2q_cache.proofs.Stored.{entry_there, hash-of-key}
-use Rattle.clock2q_cache.proofs.CacheInvariant.{small_have, main_have}
+use Rattle.clock2q_cache.proofs.Slots.{small_have, main_have}
 
 absorb : (n a : Bool) → n ≡ (n || (a && n))
 absorb true a = refl

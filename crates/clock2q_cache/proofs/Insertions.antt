@@ -27,8 +27,8 @@ use Rattle.clock2q_cache.specs.Costs.{Spends, accesses_for, alike}
 use Rattle.clock2q_cache.specs.Hashes.{hash_of}
 use Rattle.clock2q_cache.proofs.Spent.{spends-both, spends-more}
 use Rattle.clock2q_cache.proofs.WithKeys.{main-inspections}
-use Rattle.clock2q_cache.proofs.CacheInvariant.{main_have}
 use Rattle.clock2q_machine.proofs.Whole.{none_is}
+use Rattle.clock2q_cache.proofs.Slots.{main_have}
 
 module _ {K V : Type 0} (q : QueueState) (h : Remembered K) (keys : KeyPlaces K V) {q' : QueueState} {keys' : KeyPlaces K V} {es : List (Entry K V)} {n : ℕ} where
   -- a key that joins a queue

@@ -1,12 +1,14 @@
 -- A key that takes the slot of another: Main's victim's, or that of Small's tail.
-use Rattle.std.proofs.Common.{◌≡◌, ℕ, zero, suc, ◌+◌, ◌-◌, ◌^◌, ◌<◌, ◌≤◌, ◌==◌, Bool, true, false, cond, eqb, Option, Some, None, List, [], ◌∷◌, ◌++◌, map, length, take, drop, inl, inr, refl, sym, ap, ◌∙◌, subst, arith, eq-eqb, length-append}
+use Rattle.std.proofs.Common.{◌≡◌, ℕ, zero, suc, ◌+◌, ◌-◌, ◌^◌, ◌<◌, ◌≤◌, ◌==◌, Bool, true, false, cond, eqb, Option, Some, None, List, [], ◌∷◌, ◌++◌, map, length, take, drop, refl, sym, ap, ◌∙◌, subst, arith, eq-eqb, length-append}
 use Rattle.std.specs.Prelude.{if◌then◌else◌, slice_get, IfSome}
 use Rattle.std.specs.Cmp.{IsEquivalence}
-use Rattle.std.specs.List.{count_by, list_any, last_or, AllByRecursion}
-use Rattle.std.proofs.lemmas.Bool.{cases_Bool}
-use Rattle.std.proofs.lemmas.List.{take-map, length-map}
+use Rattle.std.specs.List.{last_or, AllByRecursion}
+use Rattle.std.proofs.lemmas.List.{take-map, length-map, take-append-drop}
+use Rattle.clock2q_queues.proofs.SlotLists.{slots_of-append, slots_of-mapped}
+use Rattle.clock2q_cache.proofs.Changed.{known-any}
+use Rattle.clock2q_cache.proofs.Finding.{none-has, counted-map}
 use Rattle.clock2q_cache.proofs.Insertions.{no_last}
-use Rattle.std.proofs.lemmas.List.Sums.{sum_by-cons}
+use Rattle.std.proofs.lemmas.List.Sums.{sum_by-append}
 use Rattle.clock2q_handles.specs.Homes.{capacity, with_handle, removed}
 use Rattle.clock2q_machine.specs.Ages.{Age, is_promoted}
 use Rattle.clock2q_queues.specs.Rings.{has, AllApart}
@@ -26,8 +28,8 @@ use Rattle.clock2q_machine.specs.Whole.{known_count}
 use Rattle.clock2q_cache.specs.CacheFields.{machine_of, places_of, with_keys_small, with_keys_main, IsStored, IsKept}
 use Rattle.clock2q_cache.proofs.WithKeys.{keys-cons, small-admitted, main-behind, small_with, main_with, keys-agree, small-take, small-last, main-from_victim}
 use Rattle.clock2q_cache.proofs.Stored.{stored-renewed, key_at-own, key_at-others, values-written, length-values, hash-of-key}
-use Rattle.clock2q_cache.proofs.Slots.{times, times-cons, times-none, has-times, times-both, times-pushed, times-admitted, length-admitted, stored-moved, at_most_once, length-places, length-swept}
-use Rattle.clock2q_cache.proofs.CacheInvariant.{length_in_small, length_in_main, small_have, main_have, apart, index_some, IsDone, placed-done, sized-same}
+use Rattle.clock2q_cache.proofs.Slots.{small_have, main_have, apart, times, times-cons, times-none, has-times, times-both, times-pushed, times-admitted, length-admitted, stored-moved, at_most_once, length-places, length-swept}
+use Rattle.clock2q_cache.proofs.CacheInvariant.{length_in_small, length_in_main, index_some, IsDone, placed-done, sized-same}
 use Rattle.clock2q_cache.specs.Insertions.{Writes}
 use Rattle.clock2q_machine.proofs.Whole.{IsPlaced, some_is, placed-replacing, placed-evicting, placed-promoting}
 use Rattle.clock2q_machine.proofs.Weights.{weight-last}
@@ -46,39 +48,20 @@ last-slot o p (y ∷ xs) t first h = last-slot (Some y) (Some y.0) xs t (λ e. (
 pub tail-there : {X : Type 0} (xs : List (ℕ × X)) (t : ℕ) → last_or None (slots_of xs) ≡ Some t → (x : X) × (last_or None xs ≡ Some (t, x))
 tail-there xs t h = last-slot None None xs t (λ e. absurd (cc)) h
 
-front-last_of : {X : Type 0} (x : X) (o : Option X) (xs : List X) → (o ≡ Some x → xs ≡ [] → ⊥) → last_or o xs ≡ Some x → xs ≡ take (length xs - 1) xs ++ x ∷ []
-front-last_of x o [] first h = absurd (first h refl)
-front-last_of x o (y ∷ []) first h = let e : y ≡ x = cc in ap (λ z. z ∷ []) e
-front-last_of x o (y ∷ z ∷ zs) first h =
-    let less : suc (suc (length zs)) - 1 ≡ suc (length zs) = omega arith in
-    let lesser : suc (length zs) - 1 ≡ length zs = omega arith in
-    let rest = front-last_of x (Some y) (z ∷ zs) (λ e q. absurd (cc)) h in
-    ap (λ n. y ∷ n) rest ∙ ap (λ n. y ∷ take n (z ∷ zs) ++ x ∷ []) lesser ∙ sym (ap (λ n. take n (y ∷ z ∷ zs) ++ x ∷ []) less)
-
-pub front-last : {X : Type 0} (xs : List X) (x : X) → last_or None xs ≡ Some x → xs ≡ take (length xs - 1) xs ++ x ∷ []
-front-last xs x h = front-last_of x None xs (λ e. absurd (cc)) h
-
 times-split : (t n : ℕ) (main : List (ℕ × Bool)) → times t (slots_of (drop n main ++ map {B = ℕ × Bool} (λ (e : ℕ × Bool). (e.0, false)) (take n main))) ≡ times t (slots_of main)
-times-split t n main = times-appended t (drop n main) (map {B = ℕ × Bool} (λ (e : ℕ × Bool). (e.0, false)) (take n main)) ∙ of n main
-  where
-    times-appended : (t : ℕ) (xs ys : List (ℕ × Bool)) → times t (slots_of (xs ++ ys)) ≡ times t (slots_of xs) + times t (slots_of ys)
-    times-appended t [] ys = omega arith
-    times-appended t (x ∷ xs) ys = omega (arith, times-cons t x.0 (slots_of (xs ++ ys)), times-cons t x.0 (slots_of xs), times-appended t xs ys)
+times-split t n main =
+    let front = map {B = ℕ × Bool} (λ (e : ℕ × Bool). (e.0, false)) (take n main) in
+    omega (
+      arith,
+      ap (times t) (slots_of-append (drop n main) front ∙ ap (λ z. slots_of (drop n main) ++ z) (slots_of-mapped (λ b. false) (take n main))),
+      sum_by-append (λ s. cond (s == t) 1 0) (slots_of (drop n main)) (slots_of (take n main)),
+      sum_by-append (λ s. cond (s == t) 1 0) (slots_of (take n main)) (slots_of (drop n main)),
+      ap (times t) (sym (slots_of-append (take n main) (drop n main)) ∙ ap (λ (z : List (ℕ × Bool)). slots_of z) (take-append-drop n main)),
+    )
 
-    of : (n : ℕ) (main : List (ℕ × Bool)) → times t (slots_of (drop n main)) + times t (slots_of (map {B = ℕ × Bool} (λ (e : ℕ × Bool). (e.0, false)) (take n main))) ≡ times t (slots_of main)
-    of zero main = omega arith
-    of (suc n) [] = refl
-    of (suc n) (e ∷ main) = omega (arith, of n main, times-cons t e.0 (slots_of main), times-cons t e.0 (slots_of (map {B = ℕ × Bool} (λ (e : ℕ × Bool). (e.0, false)) (take n main))))
-
-pub times-front : {X : Type 0} (t : ℕ) (xs : List (ℕ × X)) (x : ℕ × X) → last_or None xs ≡ Some x → times t (slots_of xs) ≡ times t (slots_of (take (length xs - 1) xs)) + cond (x.0 == t) 1 0
-times-front t xs x h = ap (λ z. times t (slots_of z)) (front-last xs x h) ∙ times-pushed t (take (length xs - 1) xs) x
-
-none-remembered : {K : Type 0} (is : K → Bool) (es : List (ℕ × K)) → count_by is (map (λ (e : ℕ × K). e.1) es) ≡ 0 → list_any (λ (e : ℕ × K). is e.1) es ≡ false
-none-remembered is [] h = refl
-none-remembered is (e ∷ es) h = elim (cases_Bool (is e.1)) [
-  | inl t ↦ absurd (omega (arith, h, sum_by-cons (λ k. cond (is k) 1 0) e.1 (map (λ (e : ℕ × _). e.1) es), ap {B = ℕ} (λ b. cond b 1 0) t))
-  | inr f ↦ rw f (none-remembered is es (omega (arith, h, sum_by-cons (λ k. cond (is k) 1 0) e.1 (map (λ (e : ℕ × _). e.1) es))))
-]
+some-last : {X : Type 0} (xs : List X) (x : X) → last_or None xs ≡ Some x → 0 < length xs
+some-last [] x e = absurd (cc)
+some-last (y ∷ xs) x e = omega arith
 
 pub all-taken : {E : Type 0} (P : E → Type 0) (n : ℕ) (es : List E) → AllByRecursion P es → AllByRecursion P (take n es)
 all-taken P zero es a = tt
@@ -94,7 +77,7 @@ module _ {K V : Type 0} {eq : K → K → Bool} {hash : K → ℕ} {shares : Sha
   m = machine_of shares q keys.entries h.entries free
 
   once_at : (t : ℕ) → times t (slots_of q.small) + times t (slots_of q.main) ≤ 1
-  once_at t = omega (arith, at_most_once eq hash shares q index keys.entries h.entries free kept.whole kept.stored t, times-both t q)
+  once_at t = omega (arith, at_most_once laws kept t, times-both t q)
 
   -- what `renew` asks for
   pub resident-there : (slot : ℕ) → has slot (places_of q) ≡ true
@@ -166,7 +149,12 @@ module _ {K V : Type 0} {eq : K → K → Bool} {hash : K → ℕ} {shares : Sha
     front = take (length q.small - 1) q.small
 
     front_times : (t : ℕ) → times t (slots_of q.small) ≡ times t (slots_of front) + cond (tail == t) 1 0
-    front_times t = times-front t q.small (tail, tail_at.0) tail_at.1
+    front_times t = omega (
+      arith,
+      (weight-last (λ (e : ℕ × Age). cond (e.0 == t) 1 0) None q.small (tail, tail_at.0) (some-last q.small (tail, tail_at.0) tail_at.1) tail_at.1).0,
+      counted-map (λ s. s == t) (λ (e : ℕ × Age). e.0) q.small,
+      counted-map (λ s. s == t) (λ (e : ℕ × Age). e.0) front,
+    )
 
     tail_times : times tail (slots_of q.small) ≡ times tail (slots_of front) + 1
     tail_times = omega (arith, front_times tail, ap {B = ℕ} (λ b. cond b 1 0) (eqb_self tail))
@@ -196,11 +184,7 @@ module _ {K V : Type 0} {eq : K → K → Bool} {hash : K → ℕ} {shares : Sha
           (omega (arith, times-pushed victim (rest victim first) (tail, false), front_times victim, victim_times victim first, once_at victim))
 
     length-front : suc (length front) ≡ length q.small
-    length-front = omega (arith, (weight-last (λ e. 0) None q.small (tail, tail_at.0) (some q.small tail_at.1) tail_at.1).1)
-      where
-        some : (xs : List (ℕ × Age)) → last_or None xs ≡ Some (tail, tail_at.0) → 0 < length xs
-        some [] e = absurd (cc)
-        some (x ∷ xs) e = omega arith
+    length-front = omega (arith, (weight-last (λ e. 0) None q.small (tail, tail_at.0) (some-last q.small (tail, tail_at.0) tail_at.1) tail_at.1).1)
 
     pub tail_key : (k : K) × (key_at keys.entries tail ≡ Some k)
     tail_key = small_have laws kept tail tail-there_in_small
@@ -228,7 +212,7 @@ module _ {K V : Type 0} {eq : K → K → Bool} {hash : K → ℕ} {shares : Sha
         let w = (weight-last (λ (e : SmallEntry K). cond (eq old_key e.key) 1 0) None m.small tail_entry small_some last_entry).0 in
         let own : cond (eq old_key tail_key.0) 1 0 ≡ 1 =
         ap {B = ℕ} (λ b. cond b 1 0) (subst (λ z. eq old_key z ≡ true) (sym (tail_is old_key key_is)) (laws.refl old_key)) in
-        none-remembered (eq old_key) h.entries (omega (arith, kept.whole.keys_once old_key, w, own))
+        known-any (eq old_key) h.entries ∙ none-has (eq old_key) m.history (omega (arith, kept.whole.keys_once old_key, w, own))
 
     -- where a key goes then
     abbrev onto : K → Bool → Placement K V

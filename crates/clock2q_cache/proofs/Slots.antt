@@ -10,7 +10,9 @@ use Rattle.clock2q_machine.proofs.Whole.{some_is, none_is}
 use Rattle.clock2q_queues.proofs.Booleans.{or_true, or_parts}
 use Rattle.clock2q_queues.specs.declared.keys.store.Entry.{Entry}
 use Rattle.clock2q_queues.specs.Rings.{has, AllApart}
-use Rattle.clock2q_queues.specs.Keys.{key_at}
+use Rattle.clock2q_queues.specs.Keys.{KeyPlaces, key_at}
+use Rattle.clock2q_queues.specs.History.{Remembered}
+use Rattle.std.specs.Cmp.{IsEquivalence}
 use Rattle.clock2q_machine.specs.Ages.{Age, grown}
 use Rattle.clock2q_queues.specs.Small.{admitted}
 use Rattle.clock2q_queues.specs.MainRing.{set_front, from_victim}
@@ -18,8 +20,8 @@ use Rattle.clock2q_queues.specs.Queues.{QueueState, slots_of}
 use Rattle.clock2q_queues.proofs.Rings.{has-append, eqb_self, eqb_swap}
 use Rattle.clock2q_machine.specs.Shares.{Shares}
 use Rattle.clock2q_machine.specs.Machine.{Machine, vacancy, vacant_slot}
-use Rattle.clock2q_machine.specs.Whole.{IsWhole, standings}
-use Rattle.clock2q_cache.specs.CacheFields.{machine_of, places_of, IsStored}
+use Rattle.clock2q_machine.specs.Whole.{standings}
+use Rattle.clock2q_cache.specs.CacheFields.{machine_of, places_of, IsStored, IsKept}
 use Rattle.clock2q_cache.proofs.WithKeys.{HaveKeys, standing-keyed, length-small, length-main}
 use Rattle.clock2q_cache.proofs.Stored.{have_keys, length-values, stored-same}
 
@@ -95,22 +97,22 @@ length-swept main = length-append (drop (set_front main) main) (map {B = ℕ × 
 pub length-places : (q : QueueState) → length (places_of q) ≡ length q.small + length q.main
 length-places q = length-append (slots_of q.small) (slots_of q.main) ∙ ap (λ n. n + length (slots_of q.main)) (length-map q.small (λ e. e.0)) ∙ ap (λ n. length q.small + n) (length-map q.main (λ e. e.0))
 
-module _ {K V : Type 0} (eq : K → K → Bool) (hash : K → ℕ) (shares : Shares) (q : QueueState) (index : List (List (ℕ × ℕ))) (entries : List (Entry K V)) (history : List (ℕ × K)) (free : List ℕ)
-    (whole : IsWhole eq (machine_of shares q entries history free)) (stored : IsStored hash index entries (places_of q)) where
+module _ {K V : Type 0} {eq : K → K → Bool} {hash : K → ℕ} {shares : Shares} {q : QueueState} {h : Remembered K} {index : List (List (ℕ × ℕ))} {keys : KeyPlaces K V} {free : List ℕ} {room : ℕ}
+    (laws : IsEquivalence eq) (kept : IsKept eq hash shares q h index keys free room) where
   abbrev m : Machine K V
-  m = machine_of shares q entries history free
+  m = machine_of shares q keys.entries h.entries free
 
-  pub small_keys : HaveKeys (key_at entries) (slots_of q.small)
-  small_keys = λ t g. have_keys entries (places_of q) stored.made t (has-append t (slots_of q.small) (slots_of q.main) ∙ rw g refl)
+  pub small_have : HaveKeys (key_at keys.entries) (slots_of q.small)
+  small_have = λ t g. have_keys keys.entries (places_of q) kept.stored.made t (has-append t (slots_of q.small) (slots_of q.main) ∙ rw g refl)
 
-  pub main_keys : HaveKeys (key_at entries) (slots_of q.main)
-  main_keys = λ t g. have_keys entries (places_of q) stored.made t (has-append t (slots_of q.small) (slots_of q.main) ∙ rw g (or_true (has t (slots_of q.small))))
+  pub main_have : HaveKeys (key_at keys.entries) (slots_of q.main)
+  main_have = λ t g. have_keys keys.entries (places_of q) kept.stored.made t (has-append t (slots_of q.small) (slots_of q.main) ∙ rw g (or_true (has t (slots_of q.small))))
 
   pub standing-times : (t : ℕ) → standings t m ≡ times t (places_of q) + times t (reverse free)
   standing-times t =
       omega (
         arith,
-        standing-keyed (key_at entries) t q.small q.main small_keys main_keys,
+        standing-keyed (key_at keys.entries) t q.small q.main small_have main_have,
         sum_by-append (λ s. cond (s == t) 1 0) (slots_of q.small) (slots_of q.main),
       )
 
@@ -119,19 +121,19 @@ module _ {K V : Type 0} (eq : K → K → Bool) (hash : K → ℕ) (shares : Sha
   once_at_most false = omega arith
 
   pub at_most_once : (t : ℕ) → times t (places_of q) + times t (reverse free) ≤ 1
-  at_most_once t = omega (arith, standing-times t, whole.slots_once t, once_at_most (nat_lt t (length m.values)))
+  at_most_once t = omega (arith, standing-times t, kept.whole.slots_once t, once_at_most (nat_lt t (length m.values)))
 
   -- no slot is two residents'
-  pub places_apart : AllApart (places_of q)
-  places_apart = times-apart (places_of q) (λ t. omega (arith, at_most_once t))
+  pub apart : AllApart (places_of q)
+  apart = times-apart (places_of q) (λ t. omega (arith, at_most_once t))
 
   -- a slot that is free has no resident, and was made
-  free_slot : (slot : ℕ) → 0 < times slot (reverse free) → (has slot (places_of q) ≡ false) × (slot < length entries)
+  free_slot : (slot : ℕ) → 0 < times slot (reverse free) → (has slot (places_of q) ≡ false) × (slot < length keys.entries)
   free_slot slot some = (
     times-none slot (places_of q) (omega (arith, some, at_most_once slot)),
     elim (cases_lt slot (length m.values)) [
-      | inl below ↦ omega (arith, below, length-values entries)
-      | inr above ↦ absurd (omega (arith, some, standing-times slot, whole.slots_once slot, ap {B = ℕ} (λ b. if b then 1 else 0) (le-ltb slot (length m.values) above)))
+      | inl below ↦ omega (arith, below, length-values keys.entries)
+      | inr above ↦ absurd (omega (arith, some, standing-times slot, kept.whole.slots_once slot, ap {B = ℕ} (λ b. if b then 1 else 0) (le-ltb slot (length m.values) above)))
     ],
   )
 
@@ -139,12 +141,12 @@ module _ {K V : Type 0} (eq : K → K → Bool) (hash : K → ℕ) (shares : Sha
   next_slot : has (length m.values) (places_of q) ≡ false
   next_slot =
       times-none (length m.values) (places_of q)
-      (omega (arith, standing-times (length m.values), whole.slots_once (length m.values), ap {B = ℕ} (λ b. if b then 1 else 0) (le-ltb (length m.values) (length m.values) (omega arith))))
+      (omega (arith, standing-times (length m.values), kept.whole.slots_once (length m.values), ap {B = ℕ} (λ b. if b then 1 else 0) (le-ltb (length m.values) (length m.values) (omega arith))))
 
   -- a vacancy has no resident, and was made or is the next slot
   pub record IsVacant (slot : ℕ) : Type 0 where
     pub absent : has slot (places_of q) ≡ false
-    pub next : slot ≤ length entries
+    pub next : slot ≤ length keys.entries
     pub below : slot < shares.capacity
 
   pub vacant : (slot : ℕ) → vacancy m ≡ Some slot → IsVacant slot
@@ -154,26 +156,26 @@ module _ {K V : Type 0} (eq : K → K → Bool) (hash : K → ℕ) (shares : Sha
       of (s ∷ fs) at e =
           let same : s ≡ slot = some_is s slot e in
           let f = free_slot slot (omega (arith, ap (λ z. times slot z) at, times-cons slot s fs, ap {B = ℕ} (λ b. cond b 1 0) (eq-eqb s slot same))) in
-          record { absent = f.0; next = omega (arith, f.1); below = omega (arith, f.1, whole.made_within, length-values entries) }
+          record { absent = f.0; next = omega (arith, f.1); below = omega (arith, f.1, kept.whole.made_within, length-values keys.entries) }
       of [] at e = elim (cases_lt (length m.values) shares.capacity) [
         | inl below ↦
             let same : length m.values ≡ slot = some_is (length m.values) slot (sym (ap (λ b. if b then Some (length m.values) else None) (lt-ltb (length m.values) shares.capacity below)) ∙ e) in
-            record { absent = subst (λ z. has z (places_of q) ≡ false) same next_slot; next = omega (arith, same, length-values entries); below = omega (arith, same, below) }
+            record { absent = subst (λ z. has z (places_of q) ≡ false) same next_slot; next = omega (arith, same, length-values keys.entries); below = omega (arith, same, below) }
         | inr above ↦ absurd (none_is slot (sym (ap (λ b. if b then Some (length m.values) else None) (le-ltb (length m.values) shares.capacity above)) ∙ e))
       ]
 
   -- the slot that is taken is the vacancy, where there is one
-  pub vacancy-taken : (slot : ℕ) → is_some (vacancy m) ≡ true → vacant_slot (reverse free) (length entries) (length entries + 1) ≡ Some slot → vacancy m ≡ Some slot
+  pub vacancy-taken : (slot : ℕ) → is_some (vacancy m) ≡ true → vacant_slot (reverse free) (length keys.entries) (length keys.entries + 1) ≡ Some slot → vacancy m ≡ Some slot
   vacancy-taken slot some taken = of (reverse free) some taken
     where
       of : (fs : List ℕ) → is_some (vacant_slot fs (length m.values) shares.capacity) ≡ true
-          → vacant_slot fs (length entries) (length entries + 1) ≡ Some slot → vacant_slot fs (length m.values) shares.capacity ≡ Some slot
+          → vacant_slot fs (length keys.entries) (length keys.entries + 1) ≡ Some slot → vacant_slot fs (length m.values) shares.capacity ≡ Some slot
       of (s ∷ fs) some e = e
       of [] some e = elim (cases_lt (length m.values) shares.capacity) [
         | inl below ↦
             ap (λ b. if b then Some (length m.values) else None) (lt-ltb (length m.values) shares.capacity below)
-            ∙ ap Some (length-values entries)
-            ∙ sym (ap (λ b. if b then Some (length entries) else None) (lt-ltb (length entries) (length entries + 1) (omega arith))) ∙ e
+            ∙ ap Some (length-values keys.entries)
+            ∙ sym (ap (λ b. if b then Some (length keys.entries) else None) (lt-ltb (length keys.entries) (length keys.entries + 1) (omega arith))) ∙ e
         | inr above ↦ absurd (both_ways false refl
             (sym (ap (λ (z : Option ℕ). is_some z) (ap (λ b. if b then Some (length m.values) else None) (le-ltb (length m.values) shares.capacity above))) ∙ some))
       ]
@@ -186,7 +188,7 @@ module _ {K V : Type 0} (eq : K → K → Bool) (hash : K → ℕ) (shares : Sha
       of (s ∷ fs) at = refl
       of [] at =
           let below : length m.values < shares.capacity =
-          omega (arith, few, whole.slots_counted, length-small (key_at entries) q.small small_keys, length-main (key_at entries) q.main main_keys, ap (λ (z : List ℕ). length z) at) in
+          omega (arith, few, kept.whole.slots_counted, length-small (key_at keys.entries) q.small small_have, length-main (key_at keys.entries) q.main main_have, ap (λ (z : List ℕ). length z) at) in
           ap (λ (z : Option ℕ). is_some z) (ap (λ b. if b then Some (length m.values) else None) (lt-ltb (length m.values) shares.capacity below))
 
 -- the same places in another order

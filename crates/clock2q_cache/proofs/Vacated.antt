@@ -22,9 +22,9 @@ use Rattle.clock2q_machine.specs.Whole.{IsWhole}
 use Rattle.clock2q_cache.specs.CacheFields.{machine_of, places_of, with_keys_small, with_keys_main, IsStored, IsKept}
 use Rattle.clock2q_cache.proofs.WithKeys.{standing-keyed, small-without, main-without}
 use Rattle.clock2q_cache.proofs.Stored.{stored-left, have_keys, length-values}
-use Rattle.clock2q_cache.proofs.Slots.{times-some}
+use Rattle.clock2q_cache.proofs.Slots.{small_have, main_have, apart, times-some}
 use Rattle.clock2q_cache.proofs.Places.{resident-there, resident-none}
-use Rattle.clock2q_cache.proofs.CacheInvariant.{small_have, main_have, apart, index_some, sized-same}
+use Rattle.clock2q_cache.proofs.CacheInvariant.{index_some, sized-same}
 use Rattle.clock2q_machine.proofs.MachineInvariant.{whole-vacated}
 
 -- a key that is found stands at its slot
