@@ -54,7 +54,7 @@ PC
 
 if echo '#include <sqlite3.h>' | $CC -E - >/dev/null 2>&1; then
     cat >exports_sqlite <<'MAP'
-CLOCK2Q_SQLITE_0 { global: clock2q_sqlite; local: *; };
+CLOCK2Q_SQLITE_0 { global: clock2q_sqlite; clock2q_sqlite_memory; local: *; };
 MAP
     $CC -std=c11 -O2 -DNDEBUG -fPIC -shared -I"$here" -o libclock2q_sqlite.so \
         -Wl,--version-script=exports_sqlite -Wl,-z,defs \

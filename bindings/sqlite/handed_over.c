@@ -1,5 +1,6 @@
-/* handed_over FILE: four threads use one connection in turn, and one of their own each. All count the
- * same rows, and one thread closes what others opened. */
+/* handed_over FILE: four threads use one connection in turn, and one of their own each, whose pages
+ * they free now and then. All count the same rows, and one thread closes what others opened. The
+ * bytes that the caches hold, which all threads count, are 0 in the end. */
 #include "pcache_clock2q.h"
 
 #include <pthread.h>
@@ -30,6 +31,7 @@ static void *use(void *number) {
     int agrees = is_done(sqlite3_open(file, own), *own) && is_done(sqlite3_exec(*own, "PRAGMA cache_size=20", NULL, NULL, NULL), *own);
     for (int round = 0; round < ROUNDS && agrees; round++) {
         agrees = count_rows(shared) == 5000 && count_rows(*own) == 5000;
+        sqlite3_db_release_memory(*own);
     }
     return agrees ? NULL : "differs";
 }
@@ -43,6 +45,7 @@ static int make_rows(void) {
 
 int main(int count, char **words) {
     pthread_t threads[THREADS];
+    long long bytes, most;
     if (count != 2 || clock2q_sqlite() != SQLITE_OK) return 2;
     file = words[1];
     remove(file);
@@ -55,5 +58,7 @@ int main(int count, char **words) {
         failed |= sqlite3_close(opened[i]) != SQLITE_OK;
     }
     failed |= sqlite3_close(shared) != SQLITE_OK;
-    return failed;
+    clock2q_sqlite_memory(&bytes, &most, 0);
+    if (bytes != 0 || most == 0) fprintf(stderr, "handed_over: %lld bytes are held, and %lld were\n", bytes, most);
+    return failed || bytes != 0 || most == 0;
 }

@@ -63,10 +63,11 @@ struct cache {
 };
 
 /* SQLite's own, where the program that this is compiled into offers them, as SQLite's test program
- * does: they tell a test's allocator that what it refuses between them is no error. Elsewhere they
- * are missing, and nobody asks. */
+ * does: the first two tell a test's allocator that what it refuses between them is no error, and the
+ * third has no mutex in single-thread mode. Elsewhere they are missing, and nobody asks. */
 __attribute__((weak)) void sqlite3BeginBenignMalloc(void);
 __attribute__((weak)) void sqlite3EndBenignMalloc(void);
+__attribute__((weak)) sqlite3_mutex *sqlite3MutexAlloc(int kind);
 
 static void begin_benign(void) {
     if (sqlite3BeginBenignMalloc != NULL) sqlite3BeginBenignMalloc();
@@ -76,20 +77,66 @@ static void end_benign(void) {
     if (sqlite3EndBenignMalloc != NULL) sqlite3EndBenignMalloc();
 }
 
-static void *allocated(size_t size, bool is_benign) {
-    if (is_benign) begin_benign();
+/* These are missing where SQLite was built for one thread alone. */
+__attribute__((weak)) sqlite3_mutex *sqlite3_mutex_alloc(int kind);
+__attribute__((weak)) void sqlite3_mutex_enter(sqlite3_mutex *which);
+__attribute__((weak)) void sqlite3_mutex_leave(sqlite3_mutex *which);
+
+/* The bytes that all caches hold of SQLite's allocator, and the most that they held. The mutex is the
+ * one under which SQLite counts those of its own cache. It isn't held while the allocator is called. */
+static sqlite3_mutex *mutex; /* null where there is none */
+static long long held, most_held;
+
+static void lock(void) {
+    if (mutex != NULL) sqlite3_mutex_enter(mutex);
+}
+
+static void unlock(void) {
+    if (mutex != NULL) sqlite3_mutex_leave(mutex);
+}
+
+static void count_taken(size_t size) {
+    lock();
+    held += (long long)size;
+    if (held > most_held) most_held = held;
+    unlock();
+}
+
+static void count_freed(size_t size) {
+    lock();
+    held -= (long long)size;
+    unlock();
+}
+
+void clock2q_sqlite_memory(long long *now, long long *most, int resets) {
+    lock();
+    *now = held;
+    *most = most_held;
+    if (resets) most_held = held;
+    unlock();
+}
+
+static void *taken(size_t size) {
     void *block = sqlite3_malloc64(size);
-    if (is_benign) end_benign();
+    if (block != NULL) count_taken(sqlite3_msize(block));
     return block;
 }
 
-static void *taken_of_sqlite(size_t size) {
-    return sqlite3_malloc64(size);
+static void given_back(void *block) {
+    if (block != NULL) count_freed(sqlite3_msize(block));
+    sqlite3_free(block);
+}
+
+static void *taken_as_benign(size_t size) {
+    begin_benign();
+    void *block = taken(size);
+    end_benign();
+    return block;
 }
 
 /* Makes an index in SQLite's memory. Returns false without memory. */
 static bool is_index_made(clock2q *index, size_t capacity) {
-    const clock2q_memory memory = {taken_of_sqlite, sqlite3_free};
+    const clock2q_memory memory = {taken, given_back};
     begin_benign();
     clock2q_use_memory(&memory);
     bool is_made = clock2q_new(index, capacity) == CLOCK2Q_DONE;
@@ -154,7 +201,7 @@ static void fit_table(struct cache *cache) {
     size_t old_count = cache->bucket_mask + 1;
     if (cache->total < old_count) return;
     struct page **old = cache->buckets;
-    struct page **buckets = allocated(2 * old_count * sizeof *buckets, true);
+    struct page **buckets = taken_as_benign(2 * old_count * sizeof *buckets);
     if (buckets == NULL) return;
     memset(buckets, 0, 2 * old_count * sizeof *buckets);
     cache->buckets = buckets;
@@ -165,7 +212,7 @@ static void fit_table(struct cache *cache) {
             link_page(cache, page);
         }
     }
-    sqlite3_free(old);
+    given_back(old);
 }
 
 /* The index. */
@@ -201,7 +248,7 @@ static void free_index(struct cache *cache) {
         if (cache->at[slot] != NULL) cache->at[slot]->slot = NO_SLOT;
     }
     clock2q_free(&cache->index);
-    sqlite3_free(cache->at);
+    given_back(cache->at);
     cache->at = NULL;
     cache->capacity = 0;
 }
@@ -223,10 +270,10 @@ static void enter_pages(struct cache *cache, struct page **pages, size_t count) 
 /* Makes the index anew with this capacity. Without memory it stays as it is. */
 static void make_index(struct cache *cache, size_t capacity) {
     clock2q index = CLOCK2Q_NONE;
-    struct page **at = allocated(capacity * sizeof *at, true);
+    struct page **at = taken_as_benign(capacity * sizeof *at);
     if (at == NULL) return;
     if (!is_index_made(&index, capacity)) {
-        sqlite3_free(at);
+        given_back(at);
         return;
     }
     memset(at, 0, capacity * sizeof *at);
@@ -238,7 +285,7 @@ static void make_index(struct cache *cache, size_t capacity) {
     cache->capacity = capacity;
     enter_pages(cache, old_at, old_capacity);
     clock2q_free(&old_index);
-    sqlite3_free(old_at);
+    given_back(old_at);
 }
 
 static size_t smaller(size_t one, size_t other) {
@@ -263,7 +310,8 @@ static void fit_index(struct cache *cache) {
 /* Pages that come and leave. */
 
 static struct page *new_page(struct cache *cache, bool is_benign) {
-    struct page *page = allocated(sizeof *page + cache->page_size + cache->extra_size, is_benign);
+    size_t size = sizeof(struct page) + cache->page_size + cache->extra_size;
+    struct page *page = is_benign ? taken_as_benign(size) : taken(size);
     if (page == NULL) return NULL;
     page->base.pBuf = page + 1;
     page->base.pExtra = (char *)(page + 1) + cache->page_size;
@@ -279,7 +327,7 @@ static void free_page(struct cache *cache, struct page *page) {
     if (is_idle(page)) make_pinned(cache, page);
     cache->pinned--;
     cache->total--;
-    sqlite3_free(page);
+    given_back(page);
 }
 
 static struct page *longest_idle(struct cache *cache) {
@@ -349,19 +397,25 @@ static struct page *added_page(struct cache *cache, unsigned key, bool is_benign
 
 static int x_init(void *unused) {
     (void)unused;
+    if (sqlite3MutexAlloc != NULL) {
+        mutex = sqlite3MutexAlloc(SQLITE_MUTEX_STATIC_PMEM);
+    } else if (sqlite3_mutex_alloc != NULL) {
+        mutex = sqlite3_mutex_alloc(SQLITE_MUTEX_STATIC_PMEM);
+    }
     return SQLITE_OK;
 }
 
 static void x_shutdown(void *unused) {
     (void)unused;
+    mutex = NULL;
 }
 
 static sqlite3_pcache *x_create(int page_size, int extra_size, int is_purgeable) {
-    struct cache *cache = allocated(sizeof *cache, false);
-    struct page **buckets = allocated(FIRST_BUCKETS * sizeof *buckets, false);
+    struct cache *cache = taken(sizeof *cache);
+    struct page **buckets = taken(FIRST_BUCKETS * sizeof *buckets);
     if (cache == NULL || buckets == NULL) {
-        sqlite3_free(cache);
-        sqlite3_free(buckets);
+        given_back(cache);
+        given_back(buckets);
         return NULL;
     }
     memset(buckets, 0, FIRST_BUCKETS * sizeof *buckets);
@@ -462,8 +516,8 @@ static void x_destroy(sqlite3_pcache *handle) {
     struct cache *cache = (struct cache *)handle;
     free_index(cache);
     for (size_t bucket = 0; bucket <= cache->bucket_mask; bucket++) free_bucket_from(cache, bucket, 0);
-    sqlite3_free(cache->buckets);
-    sqlite3_free(cache);
+    given_back(cache->buckets);
+    given_back(cache);
 }
 
 static void x_shrink(sqlite3_pcache *handle) {

@@ -1,7 +1,8 @@
 /* random_calls [SEEDS]: random calls of the page cache's methods against what SQLite relies on: a
  * pinned page stays where it is with its content, no two keys share a page, a page that is found has
  * the content that its key was given last, and there are no more pages than the size says or are
- * pinned. Each run is made twice, the second time with requests for memory refused at random. */
+ * pinned. What the module tells of its memory is what SQLite's allocator has given out since. Each
+ * run is made twice, the second time with requests for memory refused at random. */
 #include "pcache_clock2q.h"
 
 #include <sqlite3.h>
@@ -23,6 +24,8 @@ struct run {
     sqlite3_pcache_page *pinned[KEYS + 1];
     uint64_t stamps[KEYS + 1]; /* what each key was given last */
     uint64_t clock;
+    sqlite3_int64 before; /* bytes in use before there was a cache */
+    long long most;       /* bytes held at any count */
     int size, pins;
     bool is_purgeable;
 };
@@ -112,10 +115,19 @@ static void resize(struct run *run) {
     run->methods.xCachesize(run->cache, run->size);
 }
 
+static void count_bytes(struct run *run) {
+    long long now, most;
+    clock2q_sqlite_memory(&now, &most, 0);
+    if (now > run->most) run->most = now;
+    check(now == sqlite3_memory_used() - run->before, "other bytes than are in use");
+    check(most >= run->most, "less than was held");
+}
+
 static void count(struct run *run) {
     int pages = run->methods.xPagecount(run->cache);
     check(pages >= run->pins, "fewer pages than are pinned");
     if (run->is_purgeable) check(pages <= (run->size > run->pins ? run->size : run->pins) + 16, "too many pages");
+    count_bytes(run);
 }
 
 static void step(struct run *run) {
@@ -139,8 +151,10 @@ static void step(struct run *run) {
 
 static void run_with(uint64_t seed, bool is_purgeable) {
     struct run run = {.methods = methods, .size = 50, .is_purgeable = is_purgeable};
+    long long now, most;
     drawn = seed * 2654435761u + 1;
-    sqlite3_int64 before = sqlite3_memory_used();
+    run.before = sqlite3_memory_used();
+    clock2q_sqlite_memory(&now, &most, 1);
     run.cache = run.methods.xCreate(64, sizeof(struct content), is_purgeable);
     if (run.cache == NULL) {
         check(refuses, "no cache");
@@ -149,7 +163,11 @@ static void run_with(uint64_t seed, bool is_purgeable) {
     run.methods.xCachesize(run.cache, run.size);
     for (int i = 0; i < STEPS; i++) step(&run);
     run.methods.xDestroy(run.cache);
-    check(sqlite3_memory_used() == before, "memory is kept");
+    check(sqlite3_memory_used() == run.before, "memory is kept");
+    clock2q_sqlite_memory(&now, &most, 1);
+    check(now == 0 && most >= run.most, "bytes of no cache, or less than was held");
+    clock2q_sqlite_memory(&now, &most, 0);
+    check(most == 0, "the most isn't reset");
 }
 
 int main(int words, char **word) {
