@@ -90,14 +90,15 @@ module _ {K V : Type 0} {eq : K → K → Bool} {hash : K → ℕ} {shares : Sha
   free-main is picked some = is-free is picked (omega (arith, some, kept.whole.small_within, kept.whole.small_below, length_in_small, length_in_main))
 
   -- a key that has its slot: what holds goes on to hold, and the machine is as it should be
-  pub record IsDone (slot : ℕ) (value : Option V) (p : Placement K V) (q' : QueueState) (h' : Remembered K) (index' : List (List (ℕ × ℕ))) (keys' : KeyPlaces K V) (free' : List ℕ) (room' : ℕ) : Type 0 where
+  pub record IsDone (slot : ℕ) (value : Option V) (p : Placement K V) (q' : QueueState) (h' : Remembered K)
+      (index' : List (List (ℕ × ℕ))) (keys' : KeyPlaces K V) (free' : List ℕ) (room' : ℕ) : Type 0 where
     pub holds : IsKept eq hash shares q' h' index' keys' free' room'
     pub fills : Fills value p m (machine_of shares q' keys'.entries h'.entries free')
     pub at : slot ≡ p.slot
 
   -- a key that was not known is placed, and its slot has its value
-  pub placed-done : {key : K} {value : Option V} {hsh slot : ℕ} {p : Placement K V} {q' : QueueState} {h' : Remembered K} {index' : List (List (ℕ × ℕ))} {keys' : KeyPlaces K V} {free' : List ℕ} {room' : ℕ}
-      → known_count (eq key) m ≡ 0 → IsPlaced key m p → (w : Writes hsh key value slot keys.entries keys'.entries) → slot ≡ p.slot
+  pub placed-done : {key : K} {value : Option V} {hsh slot : ℕ} {p : Placement K V} {q' : QueueState} {h' : Remembered K}
+      {index' : List (List (ℕ × ℕ))} {keys' : KeyPlaces K V} {free' : List ℕ} {room' : ℕ} → known_count (eq key) m ≡ 0 → IsPlaced key m p → (w : Writes hsh key value slot keys.entries keys'.entries) → slot ≡ p.slot
       → machine_of shares q' keys'.entries h'.entries free' ≡ stored p.slot w.held p.machine
       → IsStored hash index' keys'.entries (places_of q') → AllByRecursion (λ e. e.0 ≡ hash e.1) h'.entries
       → IsSized shares q' h'.limit (length index') keys'.room room' → IsDone slot value p q' h' index' keys' free' room'

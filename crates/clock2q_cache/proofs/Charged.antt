@@ -16,7 +16,8 @@ use Rattle.clock2q_cache.proofs.Fetched.{stored_same}
 use Rattle.clock2q_cache.proofs.Spent.{costs-of}
 
 module _ {K V S H : Type 0} (key : HashMembers K) (build : builder.Ghosts S H) (hash : hasher.Ghosts H) (k : K) (made : V → Type 0) (old new : CacheState K V S) (slot : ℕ)
-    (taken : Takes (key.eq k) k made old.machine slot new.machine) (residents : new.residents ≡ residents_with key build hash k old) (remembered : new.remembered ≡ remembered_with key build hash k old) (same : new.hasher ≡ old.hasher)
+    (taken : Takes (key.eq k) k made old.machine slot new.machine) (residents : new.residents ≡ residents_with key build hash k old)
+    (remembered : new.remembered ≡ remembered_with key build hash k old) (same : new.hasher ≡ old.hasher)
     (spent : Spends (inspections_for (key.eq k) old.machine) (accesses_for (key.eq k) old.machine) (alike key build hash k old) old.counts new.counts) where
   -- what the caller leaves behind the reference is then the key's value
   pub lent : (links keys : ℕ) → links ≡ most_links key build hash k old → keys ≡ most_keys key build hash k old → (w : V)
@@ -31,8 +32,10 @@ module _ {K V S H : Type 0} (key : HashMembers K) (build : builder.Ghosts S H) (
       cc
 
 -- counts at their bounds are those of a put
-pub charged-costs : {K V S H : Type 0} (key : HashMembers K) (build : builder.Ghosts S H) (hash : hasher.Ghosts H) (k : K) (w : V) (old : CacheState K V S) → Costs key build hash (Put k w) old (with_slot key build hash k w old)
-charged-costs key build hash k w old = costs-of key build hash (Put k w) old (with_slot key build hash k w old) refl (record { inspections = refl; accesses = (omega arith, omega arith); questions = (omega arith, omega arith) })
+pub charged-costs : {K V S H : Type 0} (key : HashMembers K) (build : builder.Ghosts S H) (hash : hasher.Ghosts H) (k : K) (w : V) (old : CacheState K V S)
+    → Costs key build hash (Put k w) old (with_slot key build hash k w old)
+charged-costs key build hash k w old =
+    costs-of key build hash (Put k w) old (with_slot key build hash k w old) refl (record { inspections = refl; accesses = (omega arith, omega arith); questions = (omega arith, omega arith) })
 
 -- what was taken and is not written to is as it was taken
 pub unwritten : {K V : Type 0} (is : K → Bool) (key : K) (made : V → Type 0) (old new : Machine K V) (slot : ℕ) (t : Takes is key made old slot new)

@@ -14,7 +14,7 @@ use Rattle.std.specs.declared.hash.BuildHasher as builder
 use Rattle.std.specs.HashMap.Lent.{HashMembers}
 use Rattle.clock2q_handles.specs.Homes.{candidates}
 use Rattle.clock2q_machine.specs.Ages.{Age, is_promoted}
-use Rattle.clock2q_machine.proofs.Whole.{last_some}
+use Rattle.clock2q_machine.proofs.Whole.{last_some, none_is}
 use Rattle.clock2q_machine.specs.Shares.{Shares, main_share}
 use Rattle.clock2q_machine.specs.Entries as machine
 use Rattle.clock2q_machine.specs.Entries.{SmallEntry}
@@ -27,7 +27,6 @@ use Rattle.clock2q_cache.specs.Costs.{Spends, accesses_for, alike}
 use Rattle.clock2q_cache.specs.Hashes.{hash_of}
 use Rattle.clock2q_cache.proofs.Spent.{spends-both, spends-more}
 use Rattle.clock2q_cache.proofs.WithKeys.{main-inspections}
-use Rattle.clock2q_machine.proofs.Whole.{none_is}
 use Rattle.clock2q_cache.proofs.Slots.{main_have}
 
 module _ {K V : Type 0} (q : QueueState) (h : Remembered K) (keys : KeyPlaces K V) {q' : QueueState} {keys' : KeyPlaces K V} {es : List (Entry K V)} {n : ℕ} where
@@ -106,7 +105,8 @@ module _ {K V : Type 0} (m : Machine K V) where
     insertion : inspections_for is m ≡ placed_inspections (goes_to_main (list_any is m.history) m) m
     insertion = looks_of ∙ of (goes_to_main (list_any is m.history) m)
       where
-        of : (b : Bool) → (if (if b then length m.main == main_share m.shares else not (is_some (vacancy m)) && goes_on (last_or None m.small)) then machine.inspections m.main else 0) ≡ placed_inspections b m
+        of : (b : Bool) → (if (if b then length m.main == main_share m.shares else not (is_some (vacancy m)) && goes_on (last_or None m.small)) then machine.inspections m.main else 0)
+            ≡ placed_inspections b m
         of true = refl
         of false = refl
 
@@ -143,11 +143,13 @@ module _ {K V S H : Type 0} (key : HashMembers K) (build : builder.Ghosts S H) (
   pub hit-spends : (slot : ℕ) → Some slot ≡ slot_of (key.eq k) old.machine → (new : Counts) → new ≡ found.counts
       → Spends (inspections_for (key.eq k) old.machine) (accesses_for (key.eq k) old.machine) (alike key build hash k old) old.counts new
   hit-spends slot there new is =
-      let none : inspections_for (key.eq k) old.machine ≡ 0 = sym (ap (λ o. if is_some o then 0 else (if takes_victim (key.eq k) old.machine then machine.inspections old.machine.main else 0)) there) in
+      let none : inspections_for (key.eq k) old.machine ≡ 0 =
+      sym (ap (λ o. if is_some o then 0 else (if takes_victim (key.eq k) old.machine then machine.inspections old.machine.main else 0)) there) in
       let no_link : accesses_for (key.eq k) old.machine ≡ 0 = sym (ap (λ o. if is_some o then 0 else inspections_for (key.eq k) old.machine + 36) there) in
       rw (is, no_link, none) (spends-more asked (omega arith) (omega (arith, asked_there)))
 
-  pub insert-spends : None ≡ slot_of (key.eq k) old.machine → (new : Counts) → Spends (inspections_for (key.eq k) found.machine) (inspections_for (key.eq k) found.machine + 36) (length (candidates found.remembered.index x)) found.counts new
+  pub insert-spends : None ≡ slot_of (key.eq k) old.machine → (new : Counts)
+      → Spends (inspections_for (key.eq k) found.machine) (inspections_for (key.eq k) found.machine + 36) (length (candidates found.remembered.index x)) found.counts new
       → Spends (inspections_for (key.eq k) old.machine) (accesses_for (key.eq k) old.machine) (alike key build hash k old) old.counts new
   insert-spends absent new spent =
       let links : accesses_for (key.eq k) old.machine ≡ inspections_for (key.eq k) old.machine + 36 = sym (ap (λ o. if is_some o then 0 else inspections_for (key.eq k) old.machine + 36) absent) in

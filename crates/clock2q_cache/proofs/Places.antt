@@ -6,7 +6,7 @@ use Rattle.std.proofs.lemmas.Bool.{cases_Bool}
 use Rattle.clock2q_handles.specs.Homes.{with_handle, removed}
 use Rattle.clock2q_queues.specs.Rings.{has}
 use Rattle.clock2q_queues.specs.Keys.{KeyPlaces, key_at, hash_at}
-use Rattle.clock2q_queues.specs.Queues.{QueueState}
+use Rattle.clock2q_queues.specs.Queues.{QueueState, slots_of}
 use Rattle.clock2q_queues.specs.History.{Remembered, Places, oldest_hash, pushed_places}
 use Rattle.clock2q_queues.proofs.Rings.{has_first, eqb_swap}
 use Rattle.clock2q_machine.specs.Shares.{Shares, history_share}
@@ -15,7 +15,6 @@ use Rattle.clock2q_cache.specs.CacheFields.{machine_of, places_of, IsKept}
 use Rattle.std.specs.Prelude.{if◌then◌else◌, IfSome}
 use Rattle.std.specs.Option.{option_map}
 use Rattle.clock2q_machine.specs.Ages.{is_promoted}
-use Rattle.clock2q_queues.specs.Queues.{slots_of}
 use Rattle.clock2q_machine.specs.Entries.{SmallEntry}
 use Rattle.clock2q_cache.specs.Places.{remembering_any, left_by, entered, key_out}
 use Rattle.clock2q_cache.proofs.WithKeys.{HaveKeys, have_later, paired, paired-cons}
@@ -86,7 +85,8 @@ module _ {K V : Type 0} {eq : K → K → Bool} {hash : K → ℕ} {shares : Sha
       ∙ sym (ap (λ z. with_handle (left_by hash z slot index) (hash key) slot) (resident-there slot k.0 there k.1))
 
   -- the key of Small's tail goes out into the history
-  pub tail-remembered : (tail : ℕ) (p : Places) {key : K} {hsh : ℕ} {p' : Places} → last_or None (slots_of q.small) ≡ Some tail → key_at keys.entries tail ≡ Some key → hash_at keys.entries tail ≡ Some hsh
+  pub tail-remembered : (tail : ℕ) (p : Places) {key : K} {hsh : ℕ} {p' : Places}
+      → last_or None (slots_of q.small) ≡ Some tail → key_at keys.entries tail ≡ Some key → hash_at keys.entries tail ≡ Some hsh
       → p' ≡ pushed_places h.limit hsh (oldest_hash (λ (e : ℕ × K). e.0) h.entries) p
       → p' ≡ remembering_any hash (option_map (λ (e : SmallEntry K). e.key) (last_or None m.small)) m p
   tail-remembered tail p {key} {hsh} last key_is hash_is pushed =

@@ -80,7 +80,8 @@ module _ {F K V : Type 0} (g : Mut F (Bor K × (Bor V × Unit {0})) Bool) where
 
   -- a closure that answers as a test does, as long as what it needs lasts, keeps the residents that pass the test
   module _ (I : F → Type 0) (m : Machine K V) (test : K × ℕ → Bool)
-      (says : (f : F) (key : Bor K) (value : Bor V) (r : K × ℕ) (b : Bool) (next : F) → I f → key.now ≡ r.0 → slice_get m.values r.1 ≡ Some value.now → Called g f (key, (value, tt)) b next → (b ≡ test r) × I next) where
+      (says : (f : F) (key : Bor K) (value : Bor V) (r : K × ℕ) (b : Bool) (next : F) → I f → key.now ≡ r.0
+      → slice_get m.values r.1 ≡ Some value.now → Called g f (key, (value, tt)) b next → (b ≡ test r) × I next) where
     bits_of : (bits : List Bool) (rs : List (K × ℕ)) (f last : F) → length bits ≡ length rs → I f → ReturnsInTurn (AsksResident g m.values) f bits rs last → bits ≡ map test rs
     bits_of [] [] f last many i asked = refl
     bits_of [] (r ∷ rs) f last many i asked = absurd (omega (arith, many))

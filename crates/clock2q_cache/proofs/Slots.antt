@@ -95,7 +95,8 @@ pub length-swept : (main : List (ℕ × Bool)) → length (from_victim main) ≡
 length-swept main = length-append (drop (set_front main) main) (map {B = ℕ × Bool} (λ (e : ℕ × Bool). (e.0, false)) (take (set_front main) main)) ∙ length-split (set_front main) main
 
 pub length-places : (q : QueueState) → length (places_of q) ≡ length q.small + length q.main
-length-places q = length-append (slots_of q.small) (slots_of q.main) ∙ ap (λ n. n + length (slots_of q.main)) (length-map q.small (λ e. e.0)) ∙ ap (λ n. length q.small + n) (length-map q.main (λ e. e.0))
+length-places q =
+    length-append (slots_of q.small) (slots_of q.main) ∙ ap (λ n. n + length (slots_of q.main)) (length-map q.small (λ e. e.0)) ∙ ap (λ n. length q.small + n) (length-map q.main (λ e. e.0))
 
 module _ {K V : Type 0} {eq : K → K → Bool} {hash : K → ℕ} {shares : Shares} {q : QueueState} {h : Remembered K} {index : List (List (ℕ × ℕ))} {keys : KeyPlaces K V} {free : List ℕ} {room : ℕ}
     (laws : IsEquivalence eq) (kept : IsKept eq hash shares q h index keys free room) where

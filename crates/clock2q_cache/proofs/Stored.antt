@@ -88,7 +88,8 @@ module _ {K V : Type 0} where
   values-written s e es h =
       elim (cases_lt s (length es)) [
         | inl below ↦ rw (lt-ltb s (length (map (λ (e : Entry K V). e.value) es)) (omega (arith, below, length-values es))) (values-set s e es below)
-        | inr above ↦ rw (le-ltb s (length (map (λ (e : Entry K V). e.value) es)) (omega (arith, above, length-values es))) (ap (λ z. map (λ e. e.value) z) (written-push s e es (omega (arith, above, h))) ∙ map-append (λ e. e.value) es (e ∷ []))
+        | inr above ↦ rw (le-ltb s (length (map (λ (e : Entry K V). e.value) es)) (omega (arith, above, length-values es)))
+            (ap (λ z. map (λ e. e.value) z) (written-push s e es (omega (arith, above, h))) ∙ map-append (λ e. e.value) es (e ∷ []))
       ]
 
 -- all that are there are below

@@ -177,7 +177,8 @@ module _ {K : Type 0} (key : ℕ → Option K) where
   pub small-take : (n : ℕ) (es : List (ℕ × Age)) → HaveKeys key (slots_of es) → with_keys_small key (take n es) ≡ take n (with_keys_small key es)
   small-take n es h = keyed-is small_with key (take-keyed n (have-keyed small_with key es h))
 
-  pub small-last : (es : List (ℕ × Age)) (e : ℕ × Age) (k : K) → HaveKeys key (slots_of es) → last_or None es ≡ Some e → key e.0 ≡ Some k → last_or None (with_keys_small key es) ≡ Some (small_with e k)
+  pub small-last : (es : List (ℕ × Age)) (e : ℕ × Age) (k : K) → HaveKeys key (slots_of es) → last_or None es ≡ Some e → key e.0 ≡ Some k
+      → last_or None (with_keys_small key es) ≡ Some (small_with e k)
   small-last es e k h = last-keyed e k None None (λ q. absurd (cc)) (have-keyed small_with key es h)
 
   -- the hand's looks, and its choice
@@ -188,7 +189,8 @@ module _ {K : Type 0} (key : ℕ → Option K) where
   pub main-inspections : (es : List (ℕ × Bool)) → HaveKeys key (slots_of es) → machine.inspections (with_keys_main key es) ≡ inspections es
   main-inspections es h = ap (λ z. z + 1) (main-passed (have-keyed main_with key es h))
 
-  main-cleared : {es : List (ℕ × Bool)} {rs : List (MainEntry K)} → Keyed main_with key es rs → Keyed main_with key (map {B = ℕ × Bool} (λ e. (e.0, false)) es) (map (λ (e : MainEntry K). record e { bit = false }) rs)
+  main-cleared : {es : List (ℕ × Bool)} {rs : List (MainEntry K)} → Keyed main_with key es rs
+      → Keyed main_with key (map {B = ℕ × Bool} (λ e. (e.0, false)) es) (map (λ (e : MainEntry K). record e { bit = false }) rs)
   main-cleared unkeyed = unkeyed
   main-cleared (keyed k at r) = keyed k at (main-cleared r)
 
@@ -202,11 +204,13 @@ module _ {K : Type 0} (key : ℕ → Option K) where
   module _ (is : K → Bool) (slot : ℕ) where
     pub small-hit : (es : List (ℕ × Age)) → ((t : ℕ) (k : K) → has t (slots_of es) ≡ true → key t ≡ Some k → is k ≡ eqb t slot) → HaveKeys key (slots_of es)
         → with_keys_small key (small_hit_at slot es) ≡ machine.small_hit is (with_keys_small key es)
-    small-hit es tells h = keyed-is small_with key (keyed-hit (λ (e : SmallEntry K). e.key) touched (λ e. record e { age = touched e.age }) (λ e k. refl) (λ e k. refl) is slot tells (have-keyed small_with key es h))
+    small-hit es tells h =
+        keyed-is small_with key (keyed-hit (λ (e : SmallEntry K). e.key) touched (λ e. record e { age = touched e.age }) (λ e k. refl) (λ e k. refl) is slot tells (have-keyed small_with key es h))
 
     pub main-hit : (es : List (ℕ × Bool)) → ((t : ℕ) (k : K) → has t (slots_of es) ≡ true → key t ≡ Some k → is k ≡ eqb t slot) → HaveKeys key (slots_of es)
         → with_keys_main key (main_hit_at slot es) ≡ machine.main_hit is (with_keys_main key es)
-    main-hit es tells h = keyed-is main_with key (keyed-hit (λ (e : MainEntry K). e.key) (λ b. true) (λ e. record e { bit = true }) (λ e k. refl) (λ e k. refl) is slot tells (have-keyed main_with key es h))
+    main-hit es tells h =
+        keyed-is main_with key (keyed-hit (λ (e : MainEntry K). e.key) (λ b. true) (λ e. record e { bit = true }) (λ e k. refl) (λ e k. refl) is slot tells (have-keyed main_with key es h))
 
   -- how often a slot stands in both queues
   pub standing-keyed : (t : ℕ) (small : List (ℕ × Age)) (main : List (ℕ × Bool)) → HaveKeys key (slots_of small) → HaveKeys key (slots_of main)

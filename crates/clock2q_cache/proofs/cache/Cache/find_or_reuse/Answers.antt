@@ -31,8 +31,8 @@ returns-in-Some-clause-counts g c =
 
 pub returns-clause-counts : goal.returns-clause-counts
 returns-clause-counts g c =
-    insert-spends (record { eq = g.K.PartialEq.eq; hash_input = g.K.Hash.hash_input }) g.S.BuildHasher g.S.Hasher.Hasher c.args.key c.args.hash c.args.self.now c.find.new.self c.requires.hash c.find.ensures.kept c.find.ensures.counts
-    c.in_default.ensures.slot c.insert_reusing.new.self.counts c.insert_reusing.ensures.counts
+    insert-spends (record { eq = g.K.PartialEq.eq; hash_input = g.K.Hash.hash_input }) g.S.BuildHasher g.S.Hasher.Hasher c.args.key c.args.hash
+    c.args.self.now c.find.new.self c.requires.hash c.find.ensures.kept c.find.ensures.counts c.in_default.ensures.slot c.insert_reusing.new.self.counts c.insert_reusing.ensures.counts
 
 pub returns-in-Some-clause-residents : goal.returns-in-Some-clause-residents
 returns-in-Some-clause-residents g c =

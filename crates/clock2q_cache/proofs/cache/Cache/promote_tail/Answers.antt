@@ -40,23 +40,19 @@ renew-requires g c =
       made = (slot-below g.met.K.Eq.laws k c.take_victim-slot.result there).0;
     }
 
-pub admit-requires-clause-slot_in : goal.admit-requires-clause-slot_in
-admit-requires-clause-slot_in g c =
+pub admit-requires : goal.admit-requires
+admit-requires g c =
     let k = c.self.invariant in
-    let b = slot-below g.met.K.Eq.laws k c.take_victim-slot.result (victim-in g.met.K.Eq.laws k c.take_victim-slot.result c.take_victim-slot.ensures.victim) in
-    rw (c.append.ensures.queues, c.in-Some.ensures.queues, c.take_victim-slot.ensures.queues) (omega (arith, b.1, k.sized.as_many))
-
-pub admit-requires-clause-not_in_small : goal.admit-requires-clause-not_in_small
-admit-requires-clause-not_in_small g c =
-    let tail = last g (goal.at.admit-requires-clause-not_in_small g c).In-Some in
-    rw (c.append.ensures.queues, c.in-Some.ensures.queues, c.take_victim-slot.ensures.queues)
-    (victim-not_in_front g.met.K.Eq.laws c.self.invariant c.in-Some.tail tail c.take_victim-slot.result c.take_victim-slot.ensures.victim)
-
-pub admit-requires-clause-not_in_main : goal.admit-requires-clause-not_in_main
-admit-requires-clause-not_in_main g c =
-    let tail = last g (goal.at.admit-requires-clause-not_in_main g c).In-Some in
-    rw (c.append.ensures.queues, c.in-Some.ensures.queues, c.take_victim-slot.ensures.queues)
-    (victim-not_behind g.met.K.Eq.laws c.self.invariant c.in-Some.tail tail c.take_victim-slot.result c.take_victim-slot.ensures.victim)
+    let victim = c.take_victim-slot.ensures.victim in
+    let tail = last g (goal.at.admit-requires g c).In-Some in
+    let b = slot-below g.met.K.Eq.laws k c.take_victim-slot.result (victim-in g.met.K.Eq.laws k c.take_victim-slot.result victim) in
+    let some = rw (← c.self.view_is) at c.requires.some in
+    rw (c.append.ensures.queues, c.in-Some.ensures.queues, c.take_victim-slot.ensures.queues) (record {
+      slot_in = omega (arith, b.1, k.sized.as_many);
+      not_in_small = victim-not_in_front g.met.K.Eq.laws k c.in-Some.tail tail c.take_victim-slot.result victim;
+      not_in_main = victim-not_behind g.met.K.Eq.laws k c.in-Some.tail tail c.take_victim-slot.result victim;
+      window = omega (arith, k.sized.window, k.sized.windowed (omega (arith, some, k.whole.small_within)));
+    })
 
 -- the key has the slot
 done : (g : Over) (c : After-admit g) → last_or None (slots_of c.self.inside.queues.small) ≡ Some c.in-Some.tail

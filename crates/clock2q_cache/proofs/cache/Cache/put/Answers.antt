@@ -1,35 +1,24 @@
 -- The key is resident with its value.
-use Rattle.std.proofs.Common.{◌≡◌, ℕ, Bool, Option, Some, None, sym, ap, ◌∙◌, subst}
-use Rattle.std.specs.Cmp.{IsEquivalence}
-use Rattle.clock2q_machine.specs.Machine.{Machine, slot_of, value_of, hit, stored, inserted}
-use Rattle.clock2q_machine.specs.Whole.{IsWhole}
+use Rattle.std.proofs.Common.{sym, ap, ◌∙◌}
+use Rattle.clock2q_machine.specs.Machine.{hit, stored, inserted}
 use Rattle.std.specs.Prelude.{is_some, if◌then◌else◌}
 use Rattle.clock2q_machine.specs.Calls.{Put}
 use Rattle.clock2q_cache.specs.CacheState.{CacheState}
-use Rattle.clock2q_machine.specs.Steps.{replaced, replaced_at as replaced_in}
+use Rattle.clock2q_machine.specs.Steps.{replaced, replaced_at}
 use Rattle.clock2q_cache.proofs.Insertions.{hit-spends, insert-spends}
 use Rattle.clock2q_cache.proofs.Spent.{costs-of}
 use Rattle.clock2q_machine.proofs.Laws.{inserted_there, replaced_there}
 use Rattle.clock2q_cache.proofs.cache.Cache.put.Goals as goal
 
-module _ {K V : Type 0} (eq : K → K → Bool) (laws : IsEquivalence eq) (m : Machine K V) (h : IsWhole eq m) (key : K) (value : V) (new : Machine K V) where
-  brought_in : (found : Option ℕ) → found ≡ slot_of (eq key) m → found ≡ None → new ≡ inserted (eq key) key value m → value_of (eq key) new ≡ Some value
-  brought_in found is none e = subst (λ n. value_of (eq key) n ≡ Some value) (sym e) (inserted_there eq laws m h key (sym is ∙ none) value)
-
-  replaced_at : (found : Option ℕ) → found ≡ slot_of (eq key) m → (slot : ℕ) → found ≡ Some slot → (after_hit : Machine K V)
-      → after_hit ≡ hit (eq key) m → new ≡ stored slot value after_hit → value_of (eq key) new ≡ Some value
-  replaced_at found is slot some after_hit same e =
-      subst (λ n. value_of (eq key) n ≡ Some value) (sym e) (subst (λ n. value_of (eq key) (stored slot value n) ≡ Some value) (sym same) (replaced_there eq laws m h key value slot (sym is ∙ some)))
-
 pub returns-in_default-clause-resident : goal.returns-in_default-clause-resident
 returns-in_default-clause-resident g c =
-    brought_in g.K.PartialEq.eq g.met.K.Eq.laws c.args.self.now.machine c.find.ensures.whole c.args.key c.args.value c.insert.new.self.machine c.find.result c.find.ensures.slot c.in_default.is
-    (c.insert.ensures.machine ∙ ap (λ z. inserted (g.K.PartialEq.eq c.args.key) c.args.key c.args.value z) c.find.ensures.machine)
+    rw (c.insert.ensures.machine, c.find.ensures.machine)
+    (inserted_there g.K.PartialEq.eq g.met.K.Eq.laws c.args.self.now.machine c.find.ensures.whole c.args.key (sym c.in_default.ensures.slot) c.args.value)
 
 pub returns-clause-resident : goal.returns-clause-resident
 returns-clause-resident g c =
-    replaced_at g.K.PartialEq.eq g.met.K.Eq.laws c.args.self.now.machine c.find.ensures.whole c.args.key c.args.value c.replace.new.self.machine c.find.result c.find.ensures.slot
-    c.in-Some.slot c.in-Some.is c.record_hit.new.self.machine (c.record_hit.ensures.machine ∙ ap (λ z. hit (g.K.PartialEq.eq c.args.key) z) c.find.ensures.machine) c.replace.ensures.machine
+    rw (c.replace.ensures.machine, c.record_hit.ensures.machine, c.find.ensures.machine)
+    (replaced_there g.K.PartialEq.eq g.met.K.Eq.laws c.args.self.now.machine c.find.ensures.whole c.args.key c.args.value c.in-Some.slot (sym c.in-Some.ensures.slot))
 
 pub returns-in_default-clause-costs : goal.returns-in_default-clause-costs
 returns-in_default-clause-costs g c =
@@ -38,7 +27,8 @@ returns-in_default-clause-costs g c =
     let becomes = c.insert.ensures.machine ∙ ap (inserted is c.args.key c.args.value) c.find.ensures.machine
     ∙ sym (ap (λ o. if is_some o then replaced is c.args.value m else inserted is c.args.key c.args.value m) (sym c.in_default.ensures.slot)) in
     costs-of (record { eq = g.K.PartialEq.eq; hash_input = g.K.Hash.hash_input }) g.S.BuildHasher g.S.Hasher.Hasher (Put c.args.key c.args.value) c.args.self.now c.insert.new.self becomes
-    (insert-spends (record { eq = g.K.PartialEq.eq; hash_input = g.K.Hash.hash_input }) g.S.BuildHasher g.S.Hasher.Hasher c.args.key c.hash-hash.result c.args.self.now c.find.new.self c.hash-hash.ensures c.find.ensures.kept c.find.ensures.counts c.in_default.ensures.slot c.insert.new.self.counts c.insert.ensures.counts)
+    (insert-spends (record { eq = g.K.PartialEq.eq; hash_input = g.K.Hash.hash_input }) g.S.BuildHasher g.S.Hasher.Hasher c.args.key c.hash-hash.result c.args.self.now c.find.new.self
+    c.hash-hash.ensures c.find.ensures.kept c.find.ensures.counts c.in_default.ensures.slot c.insert.new.self.counts c.insert.ensures.counts)
 
 pub returns-clause-costs : goal.returns-clause-costs
 returns-clause-costs g c =
@@ -46,7 +36,7 @@ returns-clause-costs g c =
     let m = c.args.self.now.machine in
     let hit_now = c.record_hit.ensures.machine ∙ ap (hit is) c.find.ensures.machine in
     let becomes = c.replace.ensures.machine ∙ ap (stored c.in-Some.slot c.args.value) hit_now
-    ∙ sym (ap (λ o. if is_some o then replaced_in is c.args.value o m else inserted is c.args.key c.args.value m) (sym c.in-Some.ensures.slot)) in
+    ∙ sym (ap (λ o. if is_some o then replaced_at is c.args.value o m else inserted is c.args.key c.args.value m) (sym c.in-Some.ensures.slot)) in
     let counts = ap (λ (z : CacheState _ _ _). z.counts) c.replace.ensures.kept ∙ ap (λ (z : CacheState _ _ _). z.counts) c.record_hit.ensures.kept in
     costs-of (record { eq = g.K.PartialEq.eq; hash_input = g.K.Hash.hash_input }) g.S.BuildHasher g.S.Hasher.Hasher (Put c.args.key c.args.value) c.args.self.now c.replace.new.self becomes
     (hit-spends (record { eq = g.K.PartialEq.eq; hash_input = g.K.Hash.hash_input }) g.S.BuildHasher g.S.Hasher.Hasher c.args.key c.hash-hash.result c.args.self.now

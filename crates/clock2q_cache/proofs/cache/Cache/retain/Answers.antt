@@ -21,7 +21,8 @@ pub keep-stays-requires : goal.keep-stays-requires
 keep-stays-requires g c =
     let h = c.loop-slot.invariant.0 in
     let made : c.loop-slot.slot < length c.args.self.now.machine.values = omega (arith, c.loop-slot-test.true, c.made-slot-end.ensures) in
-    retains-asks g.F.FnMut c.args.keep c.args.self.now.machine c.loop-slot.slot c.loop-slot.keep c.loop-slot.self.machine h made c.key.result c.value.result c.key.ensures c.value.ensures
+    retains-asks g.F.FnMut c.args.keep c.args.self.now.machine c.loop-slot.slot c.loop-slot.keep c.loop-slot.self.machine h made
+    c.key.result c.value.result c.key.ensures c.value.ensures
 
 pub loop-slot-preserved : goal.loop-slot-preserved
 loop-slot-preserved g c =

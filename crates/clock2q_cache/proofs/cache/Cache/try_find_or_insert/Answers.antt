@@ -32,5 +32,5 @@ returns-in-Some-clause-counts g c =
 
 pub returns-clause-counts : goal.returns-clause-counts
 returns-clause-counts g c =
-    insert-spends (record { eq = g.K.PartialEq.eq; hash_input = g.K.Hash.hash_input }) g.S.BuildHasher g.S.Hasher.Hasher c.args.key c.hash-hash.result c.args.self.now c.find.new.self c.hash-hash.ensures c.find.ensures.kept c.find.ensures.counts
-    c.in_default.ensures.slot c.insert.new.self.counts c.insert.ensures.counts
+    insert-spends (record { eq = g.K.PartialEq.eq; hash_input = g.K.Hash.hash_input }) g.S.BuildHasher g.S.Hasher.Hasher c.args.key c.hash-hash.result
+    c.args.self.now c.find.new.self c.hash-hash.ensures c.find.ensures.kept c.find.ensures.counts c.in_default.ensures.slot c.insert.new.self.counts c.insert.ensures.counts
