@@ -33,11 +33,7 @@ module _ {M H : Type 0} (m : Mut M (H × Unit {0}) Bool) where
     offered_by (h ∷ hs) f i all = (takes f h i (all 0 h refl), λ next called. offered_by hs next (keeps f h next i (all 0 h refl) called) (λ k v is. all (suc k) v is))
 
   module _ {F : Type 0} (g : Mut F (H × Unit {0}) ℕ) (rehash : F) (homes : List (List (ℕ × H))) (x : ℕ) (f : M) where
-    -- a closure that may always be called may be offered the candidates
-    pub offered_always : always_mut m f → AfterGrowth g rehash homes (λ hs. MayBeOffered m f (candidates hs x))
-    offered_always always key gives = offered_any (candidates _ x) f always
-
-    -- and one that may be called on every held handle
+    -- a closure that may be called on every held handle may be offered the candidates
     pub offered_held : TakesHeld homes f → AfterGrowth g rehash homes (λ hs. MayBeOffered m f (candidates hs x))
     offered_held takes key gives = record { in_turn = takes.at (candidates _ x) (λ i h is. grown_from key homes h (candidate_held _ x i h is)) }
 
@@ -65,3 +61,8 @@ module _ {M H : Type 0} (m : Mut M (H × Unit {0}) Bool) where
         later : (found : Option H) → test h ≡ false → IsFound test hs found → IsFound test (h ∷ hs) found
         later None fails r = λ k v is. none_by k v is fails r
         later (Some c) fails r = (r.0, suc r.1, r.2)
+
+module _ {M H F : Type 0} {m : Mut M (H × Unit {0}) Bool} {g : Mut F (H × Unit {0}) ℕ} {rehash : F} {homes : List (List (ℕ × H))} {f : M} where
+  -- a closure that may always be called may be offered the candidates of a hash
+  pub offered_always : (x : ℕ) → always_mut m f → AfterGrowth g rehash homes (λ hs. MayBeOffered m f (candidates hs x))
+  offered_always x always key gives = offered_any m (candidates _ x) f always

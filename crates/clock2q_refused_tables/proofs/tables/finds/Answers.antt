@@ -9,7 +9,7 @@ pub find_or_insert-outcome-requires-clause-rehash : goal.find_or_insert-outcome-
 find_or_insert-outcome-requires-clause-rehash g c = λ _. ((λ handle. handle), keyed_given (λ handle. handle) _ c.loop-turn.table.homes _ c.loop-turn.invariant (λ _ _. tt) (λ f h r next called. search rules))
 
 pub find_or_insert-outcome-requires-clause-callable : goal.find_or_insert-outcome-requires-clause-callable
-find_or_insert-outcome-requires-clause-callable g c = λ key gives. offered_always _ _ _ _ _ _ (mut_total _ _ (λ f a. search rules)) key gives
+find_or_insert-outcome-requires-clause-callable g c = offered_always _ (mut_total _ _ (λ f a. search rules))
 
 pub loop-turn-preserved : goal.loop-turn-preserved
 loop-turn-preserved g c =

@@ -10,7 +10,7 @@ pub find_or_insert-requires-clause-rehash : goal.find_or_insert-requires-clause-
 find_or_insert-requires-clause-rehash g c = λ _. (c.requires.hashes.0, given-same _ (λ f h r next called. search rules) _ c.requires.hashes.0 _ _ c.requires.hashes.1 (λ h. search rules) (λ h r next called. search rules))
 
 pub find_or_insert-requires-clause-callable : goal.find_or_insert-requires-clause-callable
-find_or_insert-requires-clause-callable g c = offered_always _ _ _ _ _ _ (search (rules, of_calls))
+find_or_insert-requires-clause-callable g c = offered_always _ (search (rules, of_calls))
 
 pub returns-clause-reply : goal.returns-clause-reply
 returns-clause-reply g c = λ key h.

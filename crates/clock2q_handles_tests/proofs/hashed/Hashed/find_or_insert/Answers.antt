@@ -15,4 +15,4 @@ invariant_of-self c =
     (keyed_given (λ handle. handle.hash) _ c.self.inside.table.homes _ c.self.invariant (λ _ _. tt) (λ f h r next called. search rules))
 
 pub find_or_insert-requires-clause-callable : goal.find_or_insert-requires-clause-callable
-find_or_insert-requires-clause-callable c = λ key gives. offered_always _ _ _ _ _ _ (mut_total _ _ (λ f a. search rules)) key gives
+find_or_insert-requires-clause-callable c = offered_always _ (mut_total _ _ (λ f a. search rules))
