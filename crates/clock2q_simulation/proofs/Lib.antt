@@ -1,4 +1,6 @@
 mod Amounts
+mod KeyBytes
+mod KnownKeys
 mod LineByLine
 mod Numbering
 mod Sent

@@ -1,5 +1,6 @@
 pub mod Amounts
 pub mod ChosenShares
+pub mod KnownKeys
 pub mod MachineHits
 pub mod Reading
 pub mod Rows

@@ -5,7 +5,7 @@ ghost use Rattle.clock2q_simulation.specs.Reading.{ReadsTrace, HasNoEnd, Takes};
 
 use crate::error::SimulationError;
 use crate::progress::Progress;
-use crate::trace::Trace;
+use crate::trace::{GrowingTrace, Trace};
 use clock2q_text::Source;
 use std::alloc::{AllocError, Allocator};
 use std::io::Write;
@@ -16,19 +16,19 @@ const BLOCK: usize = 65536;
 /// The keys so far, and the beginning of one whose line has not ended yet.
 #[derive(Drop)]
 struct Lines<A: Allocator> {
-    trace: Trace<A>,
+    trace: GrowingTrace<A>,
     line: Vec<u8, A>,
 }
 
 impl<A: Allocator + Copy> Lines<A> {
     /// Takes the bytes that come next.
-    fn take(&mut self, alloc: A, bytes: &[u8]) -> Result<(), AllocError>
+    fn take(&mut self, bytes: &[u8]) -> Result<(), AllocError>
         requires unended { HasNoEnd self.old.line.items }
         ensures taken { OnOk result (Takes self.old.trace.keys self.old.line.items bytes.now self.new.trace.keys self.new.line.items) }
     {
         for byte in bytes {
             if *byte == b'\n' {
-                self.trace.push(alloc, &self.line)?;
+                self.trace.push(&self.line)?;
                 self.line.clear();
             } else {
                 match self.line.push(*byte) {
@@ -41,15 +41,15 @@ impl<A: Allocator + Copy> Lines<A> {
     }
 
     /// Ends the last line, which may lack its end.
-    fn finish(self, alloc: A) -> Result<Trace<A>, AllocError>
+    fn finish(self) -> Result<Trace<A>, AllocError>
         requires unended { HasNoEnd self.line.items }
         ensures keys { IfOk result (λ trace. trace.keys ≡ self.trace.keys ++ lines_of self.line.items) }
     {
         let Lines { mut trace, line } = self;
         if !line.is_empty() {
-            trace.push(alloc, &line)?;
+            trace.push(&line)?;
         }
-        Ok(trace)
+        Ok(trace.finish())
     }
 }
 
@@ -63,7 +63,7 @@ impl<A: Allocator + Copy> Lines<A> {
 ///
 /// # Cost
 ///
-/// That of [`Trace::push`] for each line. Memory in proportion to the number of lines and to the
+/// That of [`GrowingTrace::push`] for each line. Memory in proportion to the number of lines and to the
 /// bytes of the different keys.
 pub fn read_trace<R: Source, W: Write, A: Allocator + Copy>(
     alloc: A,
@@ -73,7 +73,7 @@ pub fn read_trace<R: Source, W: Write, A: Allocator + Copy>(
     ensures { ReadsTrace (R.given reader.old) (R.given reader.new) (R.remaining reader.old) (R.remaining reader.new) (λ trace. trace.keys) result }
 {
     let mut lines = Lines {
-        trace: Trace::new(alloc),
+        trace: GrowingTrace::new(alloc),
         line: Vec::new(alloc),
     };
     let mut block = [0u8; BLOCK];
@@ -82,16 +82,16 @@ pub fn read_trace<R: Source, W: Write, A: Allocator + Copy>(
             return Err(SimulationError::Read);
         };
         if count == 0 {
-            return match lines.finish(alloc) {
+            return match lines.finish() {
                 Ok(trace) => Ok(trace),
                 Err(_) => Err(SimulationError::Memory),
             };
         }
-        match lines.take(alloc, &block[..count]) {
+        match lines.take(&block[..count]) {
             Ok(()) => {}
             Err(_) => return Err(SimulationError::Memory),
         }
-        progress.read(lines.trace.numbers().len());
+        progress.read(lines.trace.len());
     }
     // so many bytes leave no memory for their keys
     Err(SimulationError::Memory)

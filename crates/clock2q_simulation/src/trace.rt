@@ -1,13 +1,11 @@
 //! A trace: keys of any bytes, told by numbers.
-ghost use Rattle.std.specs.Prelude.{◌≡◌, ◌<◌, ◌≤◌, ◌^◌, ℕ, [], ◌∷◌, ◌++◌, IfOk, OnOk, OnErr, None, Some, List};
-ghost use Rattle.std.specs.HashMap.{hash_map_len};
+ghost use Rattle.std.specs.Prelude.{◌≡◌, ◌≤◌, ◌^◌, [], ◌∷◌, ◌++◌, OnOk, OnErr, length};
 ghost use Rattle.clock2q_policies.specs.Policies.{AreBelow};
-ghost use Rattle.clock2q_simulation.specs.Trace.{AreNumbers, IsMapping, number_in};
+ghost use Rattle.clock2q_simulation.specs.Trace.{AreNumbers};
 
-use clock2q_cache::DefaultHashBuilder;
+use crate::known_keys::KnownKeys;
 use clock2q_count::Told;
 use std::alloc::{AllocError, Allocator};
-use std::collections::HashMap;
 use std::marker::Model;
 
 /// The keys of a trace, as a type for contracts alone: no value of it is ever made.
@@ -22,74 +20,38 @@ impl Model for Keys {
     ghost view = { λ _. [] };
 }
 
-/// The numbers of the different keys.
-type Known<A> = HashMap<Vec<u8, A>, u32, DefaultHashBuilder, A>;
-
 /// Keys in the order in which they come, each told by a number: equal keys by the same one, and
 /// different keys by different ones.
 ///
 /// # Example
 ///
 /// ```
-/// let mut trace = Trace::new(rt.alloc());
+/// let mut growing = GrowingTrace::new(rt.alloc());
 /// for key in [b"a", b"b", b"a"] {
-///     trace.push(rt.alloc(), key)?;
+///     growing.push(key)?;
 /// }
+/// let trace = growing.finish();
 /// assert_eq!(rt; trace.numbers(), [0, 1, 0].as_slice());
 /// assert_eq!(rt; trace.key_count(), 2);
 /// ```
 #[derive(Drop)]
 pub struct Trace<A: Allocator> {
     numbers: Vec<u32, A>,
-    known: Known<A>,
+    different: usize,
     keys: Told<Keys>,
 }
 
 impl<A: Allocator> Model for Trace<A> {
-    ghost use Rattle.std.specs.HashMap.{hash_map_len};
-    ghost use Rattle.clock2q_simulation.specs.Trace.{Numbered, IsNumbering};
+    ghost use Rattle.clock2q_simulation.specs.Trace.{Numbered, AreTold};
 
     ghost Value = { Numbered };
 
-    ghost view = { λ t. record { keys = t.keys.value; numbers = t.numbers.items; different = hash_map_len t.known } };
+    ghost view = { λ t. record { keys = t.keys.value; numbers = t.numbers.items; different = t.different } };
 
-    ghost invariant = { λ t. IsNumbering t.known t.numbers.items t.keys.value };
+    ghost invariant = { λ t. AreTold t.keys.value t.numbers.items t.different };
 }
 
-impl<A: Allocator + Copy> Trace<A> {
-    /// Returns a trace without keys.
-    pub fn new(alloc: A) -> Trace<A>
-        ensures empty { result.keys ≡ [] }
-    {
-        Trace {
-            numbers: Vec::new(alloc),
-            known: HashMap::new(alloc),
-            keys: Told::new(&()),
-        }
-    }
-
-    /// Adds a key at the end.
-    ///
-    /// # Errors
-    ///
-    /// `AllocError` where a request for memory is refused, or where the key is new and there are
-    /// 2^32 others. No key is added then, but a new one may already count in
-    /// [`key_count`](Trace::key_count).
-    ///
-    /// # Cost
-    ///
-    /// One lookup of the key among the different ones before it, and one insertion if it is new.
-    pub fn push(&mut self, alloc: A, key: &[u8]) -> Result<(), AllocError>
-        ensures added { OnOk result (self.new.keys ≡ self.old.keys ++ key.now ∷ []) }
-        ensures refused { OnErr result (self.new.keys ≡ self.old.keys) }
-    {
-        self.numbers.reserve(1)?;
-        let number = number_of(alloc, &mut self.known, key)?;
-        self.numbers.push_reserved(number);
-        self.keys.set(&key);
-        Ok(())
-    }
-
+impl<A: Allocator> Trace<A> {
     /// Returns the numbers of the keys, in order.
     pub fn numbers(&self) -> &[u32]
         ensures alike { AreNumbers self.now.keys result.now }
@@ -104,28 +66,96 @@ impl<A: Allocator + Copy> Trace<A> {
         ensures keys { result ≡ self.now.different }
         ensures few { result ≤ 2 ^ 32 }
     {
-        self.known.len()
+        self.different
     }
 }
 
-/// Returns the number of a key. One that has none gets the next.
-fn number_of<A: Allocator + Copy>(
-    alloc: A,
-    known: &mut Known<A>,
-    key: &[u8],
-) -> Result<u32, AllocError>
-    requires mapped { IsMapping known.old }
-    ensures mapped { IsMapping known.new }
-    ensures number { IfOk result (λ number. number_in known.new key.now ≡ Some number) }
-    ensures kept { (other : List ℕ) → (number : ℕ) → number_in known.old other ≡ Some number → number_in known.new other ≡ Some number }
-{
-    if let Some(number) = known.get(key) {
-        return Ok(*number);
+/// A trace that gets more keys. It holds the bytes of the different ones, which the
+/// [`Trace`] that it becomes needs no more.
+///
+/// # Example
+///
+/// ```
+/// let mut growing = GrowingTrace::new(rt.alloc());
+/// growing.push(b"a")?;
+/// growing.push(b"a")?;
+/// assert_eq!(rt; growing.len(), 2);
+/// assert_eq!(rt; growing.finish().key_count(), 1);
+/// ```
+#[derive(Drop)]
+pub struct GrowingTrace<A: Allocator> {
+    numbers: Vec<u32, A>,
+    known: KnownKeys<A>,
+    keys: Told<Keys>,
+}
+
+impl<A: Allocator> Model for GrowingTrace<A> {
+    ghost use Rattle.std.specs.Prelude.{length};
+    ghost use Rattle.clock2q_simulation.specs.Trace.{Numbered, IsNumbering};
+
+    ghost Value = { Numbered };
+
+    ghost view = { λ t. record { keys = t.keys.value; numbers = t.numbers.items; different = length t.known } };
+
+    ghost invariant = { λ t. IsNumbering t.known t.numbers.items t.keys.value };
+}
+
+impl<A: Allocator + Copy> GrowingTrace<A> {
+    /// Returns a trace without keys.
+    pub fn new(alloc: A) -> GrowingTrace<A>
+        ensures empty { result.keys ≡ [] }
+    {
+        GrowingTrace {
+            numbers: Vec::new(alloc),
+            known: KnownKeys::new(alloc),
+            keys: Told::new(&()),
+        }
     }
-    let Ok(next) = u32::try_from(known.len()) else {
-        return Err(AllocError);
-    };
-    let key = Vec::from_slice(alloc, key)?;
-    known.insert(key, next)?;
-    Ok(next)
+
+    /// Adds a key at the end.
+    ///
+    /// # Errors
+    ///
+    /// `AllocError` where a request for memory is refused, where there are 2^32 different keys, or
+    /// where their table refuses a new one, since its number would stand more than 2^24 - 2 slots
+    /// past its home. Nothing changes then.
+    ///
+    /// # Cost
+    ///
+    /// One lookup of the key among the different ones before it, and one insertion if it is new.
+    pub fn push(&mut self, key: &[u8]) -> Result<(), AllocError>
+        ensures added { OnOk result (self.new.keys ≡ self.old.keys ++ key.now ∷ []) }
+        ensures refused { OnErr result (self.new ≡ self.old) }
+    {
+        self.numbers.reserve(1)?;
+        let number = self.known.number_of(key)?;
+        self.numbers.push_reserved(number);
+        self.keys.set(&key);
+        Ok(())
+    }
+}
+
+impl<A: Allocator> GrowingTrace<A> {
+    /// Returns how many keys there are, equal ones counted each.
+    pub fn len(&self) -> usize
+        ensures len { result ≡ length self.now.keys }
+    {
+        self.numbers.len()
+    }
+
+    /// Returns the trace, and gives back the memory that holds the bytes of the keys.
+    pub fn finish(self) -> Trace<A>
+        ensures same { result ≡ self }
+    {
+        let GrowingTrace {
+            numbers,
+            known,
+            keys,
+        } = self;
+        Trace {
+            numbers,
+            different: known.len(),
+            keys,
+        }
+    }
 }

@@ -12,8 +12,8 @@ returns g c =
     elim c.if-not-is_empty.branch [
       | then-not-is_empty+in_ok-push w ↦
           let some : 0 < length line.items = omega (arith, line.ok.0, eqb-false line.len 0 (sym c.is_empty.ensures ∙ w.if-not-is_empty.true)) in
-          record { keys = ap (λ t. t.keys) w.trace-is ∙ w.in_ok-push.ensures.added ∙ ap (λ l. keys ++ l ∷ []) w.deref.ensures.value ∙ ap (λ ls. keys ++ ls) (sym (last-line line.items c.requires.unended some)) }
+          record { keys = ap (λ t. t.keys) (c.finish.ensures.same ∙ w.trace-is) ∙ w.in_ok-push.ensures.added ∙ ap (λ l. keys ++ l ∷ []) w.deref.ensures.value ∙ ap (λ ls. keys ++ ls) (sym (last-line line.items c.requires.unended some)) }
       | else-not-is_empty w ↦
           let none : eqb (length line.items) 0 ≡ true = eq-eqb (length line.items) 0 (omega (arith, line.ok.0, eqb-true line.len 0 (sym c.is_empty.ensures ∙ w.if-not-is_empty.false))) in
-          record { keys = ap (λ t. t.keys) w.trace-is ∙ sym (ap (λ ls. keys ++ ls) (lines_of-empty line.items none) ∙ append-nil keys) }
+          record { keys = ap (λ t. t.keys) (c.finish.ensures.same ∙ w.trace-is) ∙ sym (ap (λ ls. keys ++ ls) (lines_of-empty line.items none) ∙ append-nil keys) }
     ]

@@ -1,0 +1,51 @@
+//! Keys of any bytes, one after another in one vector.
+ghost use Rattle.std.specs.Cmp.Lexicographic.{pointwise};
+ghost use Rattle.std.specs.Prelude.{◌≡◌, ◌<◌, ◌+◌, [], get_or, length, nat_eq};
+ghost use Rattle.clock2q_simulation.specs.KnownKeys.{AreStarts, hash_of, keys_in};
+
+use clock2q_cache::DefaultHashBuilder;
+use std::hash::BuildHasher;
+
+/// Returns the hash of a key.
+pub(crate) fn hash_of(key: &[u8]) -> u64
+    ensures hash { result ≡ hash_of key.now }
+{
+    DefaultHashBuilder::new().hash_one(key)
+}
+
+/// Returns where the key of a number ends: where the next one starts, or at the end of all bytes.
+fn end_of(starts: &[usize], number: usize, end: usize) -> usize
+    requires within { number < length starts.now }
+    ensures end { result ≡ get_or starts.now (number + 1) end }
+{
+    starts.get(number + 1).copied().unwrap_or(end)
+}
+
+/// Returns the key of a number.
+fn key_at<'a>(bytes: &'a [u8], starts: &[usize], number: usize) -> &'a [u8]
+    requires within { number < length starts.now }
+    requires starts { AreStarts starts.now (length bytes.now) }
+    ensures key { result.now ≡ get_or (keys_in bytes.now starts.now) number [] }
+{
+    let start = starts[number];
+    let end = end_of(starts, number, bytes.len());
+    &bytes[start..end]
+}
+
+/// Returns the hash of the key of a number.
+pub(crate) fn hash_at(bytes: &[u8], starts: &[usize], number: usize) -> u64
+    requires within { number < length starts.now }
+    requires starts { AreStarts starts.now (length bytes.now) }
+    ensures hash { result ≡ hash_of (get_or (keys_in bytes.now starts.now) number []) }
+{
+    hash_of(key_at(bytes, starts, number))
+}
+
+/// Returns true if a number is that of a key.
+pub(crate) fn is_key_at(bytes: &[u8], starts: &[usize], number: usize, key: &[u8]) -> bool
+    requires within { number < length starts.now }
+    requires starts { AreStarts starts.now (length bytes.now) }
+    ensures same { result ≡ pointwise nat_eq (get_or (keys_in bytes.now starts.now) number []) key.now }
+{
+    key_at(bytes, starts, number) == key
+}
