@@ -1,6 +1,6 @@
 //! The numbers of a trace's keys.
 
-use clock2q_simulation::{Progress, SimulationError, Trace, read_trace};
+use clock2q_simulation::{GrowingTrace, Progress, SimulationError, Trace, read_trace};
 use clock2q_text::Device;
 use std::alloc::Global;
 use std::test::Fail;
@@ -28,6 +28,21 @@ fn keys_have_numbers(rt: HostRuntime) -> Result<(), Fail> {
         let trace = trace_of(rt.alloc(), input)?;
         assert_eq!(rt; trace.numbers(), numbers);
     }
+    Ok(())
+}
+
+/// Keys that begin others, and one of no bytes: where each starts is all that tells them apart.
+#[test]
+fn keys_that_begin_others(rt: HostRuntime) -> Result<(), Fail> {
+    let keys: [&[u8]; 8] = [b"", b"a", b"aa", b"", b"aaa", b"a", b"aa", b"aaa"];
+    let mut growing = GrowingTrace::new(rt.alloc());
+    for (count, key) in keys.iter().enumerate() {
+        assert_eq!(rt; growing.len(), count);
+        growing.push(key)?;
+    }
+    let trace = growing.finish();
+    assert_eq!(rt; trace.numbers(), [0, 1, 2, 0, 3, 1, 2, 3].as_slice());
+    assert_eq!(rt; trace.key_count(), 4);
     Ok(())
 }
 
