@@ -98,7 +98,8 @@ module _ {K V : Type 0} {eq : K → K → Bool} {hash : K → ℕ} {shares : Sha
 
   -- a key that was not known is placed, and its slot has its value
   pub placed-done : {key : K} {value : Option V} {hsh slot : ℕ} {p : Placement K V} {q' : QueueState} {h' : Remembered K}
-      {index' : List (List (ℕ × ℕ))} {keys' : KeyPlaces K V} {free' : List ℕ} {room' : ℕ} → known_count (eq key) m ≡ 0 → IsPlaced key m p → (w : Writes hsh key value slot keys.entries keys'.entries) → slot ≡ p.slot
+      {index' : List (List (ℕ × ℕ))} {keys' : KeyPlaces K V} {free' : List ℕ} {room' : ℕ}
+      → known_count (eq key) m ≡ 0 → IsPlaced key m p → (w : Writes hsh key value slot keys.entries keys'.entries) → slot ≡ p.slot
       → machine_of shares q' keys'.entries h'.entries free' ≡ stored p.slot w.held p.machine
       → IsStored hash index' keys'.entries (places_of q') → AllByRecursion (λ e. e.0 ≡ hash e.1) h'.entries
       → IsSized shares q' h'.limit (length index') keys'.room room' → IsDone slot value p q' h' index' keys' free' room'

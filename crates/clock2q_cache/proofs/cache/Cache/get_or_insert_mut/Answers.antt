@@ -30,7 +30,8 @@ returns g c =
         writes_back = tt;
         slot = t.at;
         value = subst (UnwrapsOrElse (slice_get m.values c.find_or_reuse-slot.result) (goal.F-post g c.args.make)) same t.had;
-        unwritten = subst (λ v. put is c.args.key v m ≡ slotted is c.args.key v m) same (unwritten is c.args.key (goal.F-post g c.args.make) m c.find_or_reuse-slot.new.self.machine c.find_or_reuse-slot.result t);
+        unwritten = subst (λ v. put is c.args.key v m ≡ slotted is c.args.key v m) same
+            (unwritten is c.args.key (goal.F-post g c.args.make) m c.find_or_reuse-slot.new.self.machine c.find_or_reuse-slot.result t);
         costs = λ w. charged-costs (record { eq = g.K.PartialEq.eq; hash_input = g.K.Hash.hash_input }) g.S.BuildHasher g.S.Hasher.Hasher c.args.key w c.args.self.now;
       },
     )

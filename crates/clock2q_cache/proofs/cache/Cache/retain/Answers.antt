@@ -9,7 +9,11 @@ use Rattle.clock2q_cache.proofs.cache.Cache.retain.Goals.{then-is_resident+then-
 use Rattle.clock2q_cache.proofs.cache.Cache.retain.Goals as goal
 
 pub loop-slot-init : goal.loop-slot-init
-loop-slot-init g c = (retains-none g.F.FnMut c.args.keep c.args.self.now.machine c.requires.callable, refl, record { inspections = omega arith; accesses = (omega arith, omega arith); questions = (omega arith, omega arith) })
+loop-slot-init g c = (
+  retains-none g.F.FnMut c.args.keep c.args.self.now.machine c.requires.callable,
+  refl,
+  record { inspections = omega arith; accesses = (omega arith, omega arith); questions = (omega arith, omega arith) },
+)
 
 pub is_resident-requires : goal.is_resident-requires
 is_resident-requires g c = omega (arith, c.loop-slot-test.true, c.made-slot-end.ensures, ap (λ (z : List _). length z) c.loop-slot.invariant.0.values)
@@ -57,10 +61,12 @@ loop-slot-preserved g c =
 
 pub returns : goal.returns
 returns g c =
-    let r = retains-all g.F.FnMut c.args.keep c.args.self.now.machine c.loop-slot.slot c.loop-slot.keep c.loop-slot.self.machine (omega (arith, c.loop-slot-test.false, c.loop-slot.auto.slot-end, c.made-slot-end.ensures)) c.loop-slot.invariant.0 in
+    let r = retains-all g.F.FnMut c.args.keep c.args.self.now.machine c.loop-slot.slot c.loop-slot.keep c.loop-slot.self.machine
+    (omega (arith, c.loop-slot-test.false, c.loop-slot.auto.slot-end, c.made-slot-end.ensures)) c.loop-slot.invariant.0 in
     let all : c.loop-slot.slot ≡ length c.args.self.now.machine.values = omega (arith, c.loop-slot-test.false, c.loop-slot.auto.slot-end, c.made-slot-end.ensures) in
     record {
       retained = r;
       hasher = c.loop-slot.invariant.1;
-      costs = λ bits. retain-costs (record { eq = g.K.PartialEq.eq; hash_input = g.K.Hash.hash_input }) g.S.BuildHasher g.S.Hasher.Hasher bits r.bits c.args.self.now c.loop-slot.self r.becomes (subst (λ n. Spends 0 (8 * n) 0 c.args.self.now.counts c.loop-slot.self.counts) all c.loop-slot.invariant.2);
+      costs = λ bits. retain-costs (record { eq = g.K.PartialEq.eq; hash_input = g.K.Hash.hash_input }) g.S.BuildHasher g.S.Hasher.Hasher bits r.bits
+          c.args.self.now c.loop-slot.self r.becomes (subst (λ n. Spends 0 (8 * n) 0 c.args.self.now.counts c.loop-slot.self.counts) all c.loop-slot.invariant.2);
     }

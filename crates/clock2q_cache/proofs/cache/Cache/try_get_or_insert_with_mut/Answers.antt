@@ -49,7 +49,8 @@ returns-in_err-slot g c =
     let m = c.args.self.now.machine in
     let e = c.in_err-slot.ensures in
     let is = e.machine ∙ sym (hit-absent (g.K.PartialEq.eq c.args.key) m e.absent) in
-    let costs = costs-of (record { eq = g.K.PartialEq.eq; hash_input = g.K.Hash.hash_input }) g.S.BuildHasher g.S.Hasher.Hasher (Try c.args.key None) c.args.self.now c.try_find_or_insert.new.self is e.asked in (
+    let costs = costs-of (record { eq = g.K.PartialEq.eq; hash_input = g.K.Hash.hash_input }) g.S.BuildHasher g.S.Hasher.Hasher
+    (Try c.args.key None) c.args.self.now c.try_find_or_insert.new.self is e.asked in (
       (search rules, (λ w ok. absurd (not_both c.from_residual.result c.from_residual.ensures.0 ok)), on_err c.from_residual.result (e.machine, e.hasher, costs)),
       record { writes_back = tt; value = search rules; unwritten = search rules; err = search rules; absent = search rules },
     )
