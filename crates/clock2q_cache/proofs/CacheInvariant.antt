@@ -1,4 +1,5 @@
 -- What holds of a cache's fields goes on to hold after each change of the layers, and the machine becomes what it should.
+use Rattle.clock2q_queues.proofs.Entries.{key_at-own, key_at-others, values-written, length-values}
 use Rattle.std.proofs.Common.{◌≡◌, ℕ, suc, ◌+◌, ◌^◌, ◌<◌, ◌≤◌, Bool, false, Option, Some, None, List, [], ◌∷◌, ◌++◌, map, length, drop, reverse, refl, sym, ap, ◌∙◌, subst, arith, ne_eqb, length-append}
 use Rattle.std.specs.Prelude.{if◌then◌else◌, IfNone}
 use Rattle.std.specs.Cmp.{IsEquivalence}
@@ -19,7 +20,7 @@ use Rattle.clock2q_machine.specs.Whole.{IsWhole, known_count}
 use Rattle.clock2q_cache.specs.Insertions.{IsValueFor, Fills, Writes}
 use Rattle.clock2q_cache.specs.CacheFields.{machine_of, places_of, with_keys_small, with_keys_main, IsStored, IsSized, IsKept}
 use Rattle.clock2q_cache.proofs.WithKeys.{small-admitted, main-behind, small_with, main_with, keys-agree, length-small, length-main}
-use Rattle.clock2q_cache.proofs.Stored.{stored-entered, key_at-own, key_at-others, values-written, length-values}
+use Rattle.clock2q_cache.proofs.Stored.{stored-entered}
 use Rattle.clock2q_cache.proofs.Slots.{times, times-cons, times-both, times-pushed, times-admitted, length-admitted, stored-moved, vacant, vacancy-taken, vacancy-there, small_have, main_have, length-places}
 use Rattle.clock2q_machine.proofs.Whole.{IsPlaced, whole-stored, placed-admitted, placed-joining}
 

@@ -7,13 +7,13 @@ use Rattle.std.proofs.lemmas.Bool.{cases_Bool, both_ways}
 use Rattle.clock2q_machine.specs.Ages.{Age, is_promoted}
 use Rattle.clock2q_queues.specs.declared.keys.store.Entry.{Entry}
 use Rattle.clock2q_queues.specs.Rings.{has}
-use Rattle.clock2q_queues.proofs.Rings.{has_first, has_later}
+use Rattle.clock2q_queues.proofs.Rings.{has_first, has_later, below-more}
 use Rattle.clock2q_queues.specs.Keys.{KeyPlaces, entry, written, hash_at, key_at, with_value}
 use Rattle.clock2q_queues.specs.Indexes.{IsIndex, HasHash}
 use Rattle.clock2q_handles.specs.Homes.{no_entries}
 use Rattle.clock2q_queues.specs.Queues.{QueueState, slots_of, tail_promoted}
 use Rattle.clock2q_queues.specs.History.{Remembered, forgotten}
-use Rattle.clock2q_queues.proofs.Entries.{slice_get-written, slice_get-written_other, length-written}
+use Rattle.clock2q_queues.proofs.Entries.{slice_get-written, slice_get-written_other, length-written, set-written, all-written, values-written, length-values}
 use Rattle.clock2q_queues.proofs.Indexes.{IsIndex-cleared, length-cleared, IsIndex-kept}
 use Rattle.clock2q_machine.specs.Shares.{Shares}
 use Rattle.clock2q_machine.specs.Machine as cache
@@ -22,7 +22,6 @@ use Rattle.clock2q_machine.specs.Whole.{IsWhole}
 use Rattle.clock2q_cache.specs.CacheFields.{machine_of, places_of, with_keys_small, with_keys_main, IsStored, IsSized, IsKept}
 use Rattle.clock2q_cache.proofs.WithKeys.{small_with, main_with, keys-agree, small-last}
 use Rattle.clock2q_cache.proofs.Insertions.{no_last}
-use Rattle.clock2q_cache.proofs.Stored.{set-written, all-written, values-written, length-values, below-more}
 use Rattle.clock2q_cache.proofs.CacheInvariant.{length_in_small, sized-same}
 use Rattle.clock2q_cache.proofs.Slots.{small_have}
 use Rattle.clock2q_machine.proofs.Whole.{some_is, whole-forgotten, all_resident, small_share}

@@ -12,7 +12,7 @@ use Rattle.clock2q_cache.specs.Costs.{Costs, Spends, accesses_for, alike}
 use Rattle.clock2q_machine.specs.Machine.{Machine, stored}
 use Rattle.clock2q_cache.specs.Places.{residents_with, remembered_with}
 use Rattle.clock2q_machine.specs.Steps.{put, slotted}
-use Rattle.clock2q_cache.proofs.Fetched.{stored_same}
+use Rattle.clock2q_machine.proofs.Storing.{stored_same}
 use Rattle.clock2q_cache.proofs.Spent.{costs-of}
 
 module _ {K V S H : Type 0} (key : HashMembers K) (build : builder.Ghosts S H) (hash : hasher.Ghosts H) (k : K) (made : V → Type 0) (old new : CacheState K V S) (slot : ℕ)

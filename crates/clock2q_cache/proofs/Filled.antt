@@ -1,4 +1,5 @@
 -- Slots that were never made are made and free.
+use Rattle.clock2q_queues.proofs.Entries.{length-values}
 use Rattle.std.proofs.Common.{◌≡◌, ℕ, zero, suc, ◌+◌, ◌-◌, ◌<◌, Bool, true, Some, None, slice_get, List, [], ◌∷◌, ◌++◌, map, length, reverse, refl, sym, ap, ◌∙◌, subst, arith, length-append}
 use Rattle.std.specs.Cmp.{IsEquivalence}
 use Rattle.std.specs.Fn.{Mut, Called}
@@ -10,7 +11,7 @@ use Rattle.clock2q_queues.specs.Rings.{has}
 use Rattle.clock2q_queues.specs.Keys.{KeyPlaces, entry, hash_at, key_at}
 use Rattle.clock2q_queues.specs.Queues.{QueueState, slots_of}
 use Rattle.clock2q_queues.specs.History.{Remembered}
-use Rattle.clock2q_queues.proofs.Rings.{has-append, below_of}
+use Rattle.clock2q_queues.proofs.Rings.{has-append, below_of, below-has}
 use Rattle.clock2q_queues.proofs.Indexes.{IsIndex-kept}
 use Rattle.clock2q_cache.specs.Closures.{FillsUp}
 use Rattle.clock2q_machine.specs.Shares.{Shares}
@@ -18,7 +19,6 @@ use Rattle.clock2q_machine.specs.Machine.{Machine, prefilled}
 use Rattle.clock2q_machine.specs.Whole.{IsWhole}
 use Rattle.clock2q_cache.specs.CacheFields.{machine_of, places_of, with_keys_small, with_keys_main, IsStored, IsKept}
 use Rattle.clock2q_cache.proofs.WithKeys.{small_with, main_with, keys-agree}
-use Rattle.clock2q_cache.proofs.Stored.{length-values, below-has}
 use Rattle.clock2q_cache.proofs.CacheInvariant.{sized-same}
 use Rattle.clock2q_machine.proofs.MachineInvariant.{lasting-prefilled}
 

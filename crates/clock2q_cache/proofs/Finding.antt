@@ -21,7 +21,7 @@ use Rattle.clock2q_queues.specs.Queues.{QueueState, slots_of}
 use Rattle.clock2q_queues.specs.History.{Remembered}
 use Rattle.clock2q_queues.proofs.Rings.{has-append, has_first, has_later, below_of}
 use Rattle.clock2q_queues.proofs.Indexes.{candidate_there}
-use Rattle.clock2q_queues.proofs.Entries.{same_place}
+use Rattle.clock2q_queues.proofs.Entries.{same_place, length-values}
 use Rattle.clock2q_queues.proofs.Lookups.{lookup, found_there, not_found}
 use Rattle.clock2q_machine.specs.Shares.{Shares}
 use Rattle.clock2q_machine.specs.Entries as machine
@@ -32,7 +32,7 @@ use Rattle.clock2q_machine.specs.Whole.{IsWhole, known_count}
 use Rattle.clock2q_cache.specs.CacheFields.{machine_of, places_of, with_keys_small, with_keys_main, IsStored, IsKept}
 use Rattle.clock2q_cache.proofs.WithKeys.{HaveKeys, have_later, paired, paired-cons, small-hit, main-hit}
 use Rattle.clock2q_cache.proofs.Indexed.{residents-paired}
-use Rattle.clock2q_cache.proofs.Stored.{have_keys, length-values}
+use Rattle.clock2q_cache.proofs.Stored.{have_keys}
 use Rattle.clock2q_cache.proofs.CacheInvariant.{sized-same}
 use Rattle.clock2q_cache.proofs.Slots.{small_have, main_have}
 use Rattle.clock2q_machine.proofs.Whole.{whole-hit, some_is}

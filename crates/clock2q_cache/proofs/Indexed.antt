@@ -1,4 +1,5 @@
 -- What stands in the indexes, in terms of the machine.
+use Rattle.clock2q_queues.proofs.Entries.{slice_get_some}
 use Rattle.std.proofs.Common.{◌≡◌, ℕ, suc, ◌≤◌, ◌==◌, Bool, true, false, ◌||◌, ◌&&◌, eqb, Option, Some, None, slice_get, List, [], ◌∷◌, map, length, inl, inr, refl, sym, ap, ◌∙◌, subst, arith, eqb-true}
 use Rattle.std.specs.List.{list_any, zip, cons_option, AllByRecursion}
 use Rattle.std.proofs.lemmas.Bool.{cases_Bool}
@@ -17,7 +18,7 @@ use Rattle.clock2q_cache.specs.CacheFields.{machine_of, places_of, IsKept}
 use Rattle.clock2q_cache.specs.Indexed.{HasPlaces}
 use Rattle.clock2q_cache.proofs.WithKeys.{HaveKeys, have_later, paired, paired-cons, residents-keyed}
 use Rattle.clock2q_machine.proofs.Whole.{some_is}
-use Rattle.clock2q_cache.proofs.Stored.{entry_there, hash-of-key}
+use Rattle.clock2q_cache.proofs.Stored.{hash-of-key}
 use Rattle.clock2q_cache.proofs.Slots.{small_have, main_have}
 
 absorb : (n a : Bool) → n ≡ (n || (a && n))
@@ -59,7 +60,7 @@ module _ {K V : Type 0} (hash : K → ℕ) (entries : List (Entry K V)) where
   stored_stand : (places : List ℕ) → AllBelow (length entries) places → AllByRecursion (λ e. e.hash ≡ hash e.key) entries → AllByRecursion Stands places
   stored_stand [] below all = tt
   stored_stand (s ∷ ss) below all =
-      let e = entry_there entries s below.0 in
+      let e = slice_get_some entries s below.0 in
       let h = hash-of-key hash entries s e.0.hash e.0.key all (ap (λ z. elim z [ None ↦ None | Some e ↦ Some e.hash ]) e.1) (ap (λ z. elim z [ None ↦ None | Some e ↦ Some e.key ]) e.1) in
       let at : hashed_at entries s ≡ Some (e.0.hash, e.0.key) = ap (λ z. elim z [ None ↦ None | Some e ↦ Some (e.hash, e.key) ]) e.1 in
       ((e.0.key, at ∙ ap (λ n. Some (n, e.0.key)) h), stored_stand ss below.1 all)

@@ -4,7 +4,7 @@ use Rattle.std.specs.Prelude.{if◌then◌else◌, nat_lt, is_some, slice_get, I
 use Rattle.std.specs.Cmp.{IsEquivalence}
 use Rattle.std.specs.List.{count_by, last_or}
 use Rattle.std.specs.Option.{UnwrapsOrElse}
-use Rattle.std.proofs.lemmas.Bool.{cases_lt, lt-ltb, le-ltb, eqb-false, both_ways}
+use Rattle.std.proofs.lemmas.Bool.{cases_lt, lt-ltb, le-ltb, eqb-false, both_ways, ltb-true, ltb-false}
 use Rattle.std.proofs.lemmas.Option.{slice_get_within, slice_get_past}
 use Rattle.std.proofs.lemmas.List.Sums.{sum_by-cons}
 use Rattle.clock2q_queues.proofs.Booleans.{and_true, and_false}
@@ -21,7 +21,7 @@ use Rattle.clock2q_machine.proofs.MachineInvariant.{resident_made}
 use Rattle.clock2q_machine.proofs.Standing.{get-within}
 use Rattle.clock2q_machine.proofs.Laws.{slot_at_most, reused_value}
 use Rattle.clock2q_cache.proofs.Insertions.{IsSent, goes-there}
-use Rattle.clock2q_cache.proofs.Fetched.{stored_again, stored_same}
+use Rattle.clock2q_machine.proofs.Storing.{stored_again, stored_same}
 
 module _ {K V : Type 0} (eq : K → K → Bool) (m : Machine K V) (h : IsWhole eq m) where
   -- the vacancy is a new slot where none is free
@@ -102,21 +102,9 @@ module _ {K V : Type 0} (eq : K → K → Bool) (key : K) {m m1 : Machine K V} {
     pub values-there : (placement (eq key) key m).machine.values ≡ m.values
     values-there = ap (λ (p : Placement K V). p.machine.values) (sym placed-there) ∙ placed-values eq m1 whole key main small-unknown ∙ ap (λ (z : Machine K V). z.values) s.erased
 
-pub not-below : (a b : ℕ) → nat_lt a b ≡ false → b ≤ a
-not-below a b e = elim (cases_lt a b) [
-  | inl within ↦ absurd (both_ways (nat_lt a b) e (lt-ltb a b within))
-  | inr above ↦ above
-]
-
-pub is-below : (a b : ℕ) → nat_lt a b ≡ true → a < b
-is-below a b e = elim (cases_lt a b) [
-  | inl within ↦ within
-  | inr above ↦ absurd (both_ways (nat_lt a b) (le-ltb a b above) e)
-]
-
 -- where no value is brought, the slot was made
 pub made-or-none : {V : Type 0} (value : Option V) (slot made : ℕ) → nat_lt slot made ≡ not (is_some value) → IfNone value (slot < made)
-made-or-none None slot made is = is-below slot made is
+made-or-none None slot made is = ltb-true slot made is
 made-or-none (Some v) slot made is = tt
 
 -- a slot keeps its value, or a new one has the one that was made
@@ -135,7 +123,7 @@ module _ {K V : Type 0} (is : K → Bool) (key : K) (made : V → Type 0) (m : M
       let p = placement is key m in
       record {
         value = v;
-        had = subst (λ o. UnwrapsOrElse o made v) (sym (slice_get_past m.values p.slot (not-below p.slot (length m.values) has))) gave;
+        had = subst (λ o. UnwrapsOrElse o made v) (sym (slice_get_past m.values p.slot (ltb-false p.slot (length m.values) has))) gave;
         becomes = f.becomes ∙ ap (λ x. stored p.slot x p.machine) f.is ∙ sym (ap (λ b. if b then p.machine else stored p.slot v p.machine) has);
       }
 

@@ -1,4 +1,5 @@
 -- A key that takes the slot of another: Main's victim's, or that of Small's tail.
+use Rattle.clock2q_queues.proofs.Entries.{key_at-own, key_at-others, values-written, length-values}
 use Rattle.std.proofs.Common.{◌≡◌, ℕ, zero, suc, ◌+◌, ◌-◌, ◌^◌, ◌<◌, ◌≤◌, ◌==◌, Bool, true, false, cond, eqb, Option, Some, None, List, [], ◌∷◌, ◌++◌, map, length, take, drop, refl, sym, ap, ◌∙◌, subst, arith, eq-eqb, length-append}
 use Rattle.std.specs.Prelude.{if◌then◌else◌, slice_get, IfSome}
 use Rattle.std.specs.Cmp.{IsEquivalence}
@@ -27,7 +28,7 @@ use Rattle.clock2q_machine.specs.Machine.{Machine, Placement, vacancy, into_main
 use Rattle.clock2q_machine.specs.Whole.{known_count}
 use Rattle.clock2q_cache.specs.CacheFields.{machine_of, places_of, with_keys_small, with_keys_main, IsStored, IsKept}
 use Rattle.clock2q_cache.proofs.WithKeys.{keys-cons, small-admitted, main-behind, small_with, main_with, keys-agree, small-take, small-last, main-from_victim}
-use Rattle.clock2q_cache.proofs.Stored.{stored-renewed, key_at-own, key_at-others, values-written, length-values, hash-of-key}
+use Rattle.clock2q_cache.proofs.Stored.{stored-renewed, hash-of-key}
 use Rattle.clock2q_cache.proofs.Slots.{small_have, main_have, apart, times, times-cons, times-none, has-times, times-both, times-pushed, times-admitted, length-admitted, stored-moved, at_most_once, length-places, length-swept}
 use Rattle.clock2q_cache.proofs.CacheInvariant.{length_in_small, length_in_main, index_some, IsDone, placed-done, sized-same}
 use Rattle.clock2q_cache.specs.Insertions.{Writes}

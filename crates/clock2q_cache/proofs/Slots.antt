@@ -1,4 +1,5 @@
 -- How often a slot stands in a cache's queues, and which slots are apart.
+use Rattle.clock2q_queues.proofs.Entries.{length-values}
 use Rattle.std.proofs.Common.{◌≡◌, ℕ, zero, suc, ◌+◌, ◌<◌, ◌≤◌, ◌==◌, Bool, true, false, cond, eqb, Option, Some, None, List, [], ◌∷◌, ◌++◌, map, length, take, drop, reverse, inl, inr, refl, sym, ap, ◌∙◌, subst, arith, eqb-true, eq-eqb, length-append}
 use Rattle.std.specs.Prelude.{if◌then◌else◌, nat_lt, is_some}
 use Rattle.std.specs.List.{count_by}
@@ -23,7 +24,7 @@ use Rattle.clock2q_machine.specs.Machine.{Machine, vacancy, vacant_slot}
 use Rattle.clock2q_machine.specs.Whole.{standings}
 use Rattle.clock2q_cache.specs.CacheFields.{machine_of, places_of, IsStored, IsKept}
 use Rattle.clock2q_cache.proofs.WithKeys.{HaveKeys, standing-keyed, length-small, length-main}
-use Rattle.clock2q_cache.proofs.Stored.{have_keys, length-values, stored-same}
+use Rattle.clock2q_cache.proofs.Stored.{have_keys, stored-same}
 
 -- how often a slot stands among these
 abbrev pub times : ℕ → List ℕ → ℕ

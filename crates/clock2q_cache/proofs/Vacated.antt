@@ -1,4 +1,5 @@
 -- Which slots have a resident, and what a cache's fields become where one of them leaves.
+use Rattle.clock2q_queues.proofs.Entries.{length-values}
 use Rattle.std.proofs.Common.{◌≡◌, ℕ, ◌+◌, ◌<◌, ◌==◌, Bool, true, not, cond, eqb, Option, Some, List, [], ◌∷◌, ◌++◌, length, reverse, inl, inr, refl, sym, ap, ◌∙◌, subst, arith, eq-eqb}
 use Rattle.std.specs.Prelude.{is_some, IsSome}
 use Rattle.std.specs.Cmp.{IsEquivalence}
@@ -21,7 +22,7 @@ use Rattle.clock2q_machine.specs.Machine.{Machine, residents, resident_at, slot_
 use Rattle.clock2q_machine.specs.Whole.{IsWhole}
 use Rattle.clock2q_cache.specs.CacheFields.{machine_of, places_of, with_keys_small, with_keys_main, IsStored, IsKept}
 use Rattle.clock2q_cache.proofs.WithKeys.{standing-keyed, small-without, main-without}
-use Rattle.clock2q_cache.proofs.Stored.{stored-left, have_keys, length-values}
+use Rattle.clock2q_cache.proofs.Stored.{stored-left, have_keys}
 use Rattle.clock2q_cache.proofs.Slots.{small_have, main_have, apart, times-some}
 use Rattle.clock2q_cache.proofs.Places.{resident-there, resident-none}
 use Rattle.clock2q_cache.proofs.CacheInvariant.{index_some, sized-same}

@@ -6,6 +6,7 @@ pub mod Remembered
 pub mod Residents
 pub mod SecondChance
 pub mod Standing
+pub mod Storing
 pub mod Weights
 pub mod Whole
 pub mod WorkedCounts

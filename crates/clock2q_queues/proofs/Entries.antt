@@ -1,12 +1,14 @@
 -- What becomes of the keys by place.
-use Rattle.std.proofs.Common.{◌≡◌, ℕ, zero, suc, ◌+◌, ◌<◌, ◌≤◌, max, Bool, true, false, Option, Some, None, slice_get, slice_set, List, [], ◌∷◌, ◌++◌, length, take, inl, inr, refl, sym, ap, ◌∙◌, subst, eqb, arith}
+use Rattle.std.proofs.Common.{◌≡◌, ℕ, zero, suc, ◌+◌, ◌<◌, ◌≤◌, max, Bool, true, false, Option, Some, None, slice_get, slice_set, List, [], ◌∷◌, ◌++◌, length, take, inl, inr, refl, sym, ap, ◌∙◌, subst, eqb, arith, map}
+use Rattle.std.specs.Prelude.{if◌then◌else◌, nat_lt}
 use Rattle.std.specs.List.{cons_option, AllByRecursion}
 use Rattle.std.specs.Cmp.{IsEquivalence}
 use Rattle.std.proofs.lemmas.Option.{slice_get_within}
-use Rattle.std.proofs.lemmas.Bool.{both_ways, or_cases, eq-eqb, eqb-true}
+use Rattle.std.proofs.lemmas.Bool.{both_ways, or_cases, eq-eqb, eqb-true, cases_lt, lt-ltb, le-ltb}
+use Rattle.std.proofs.lemmas.List.{map-append}
 use Rattle.clock2q_queues.specs.declared.keys.store.Entry.{Entry}
 use Rattle.clock2q_queues.specs.Rings.{has, AllBelow}
-use Rattle.clock2q_queues.specs.Keys.{entry, written, with_key, with_value, hash_at, hashed_at, entries_of, is_key_at}
+use Rattle.clock2q_queues.specs.Keys.{entry, written, with_key, with_value, hash_at, hashed_at, entries_of, is_key_at, key_at, value_at}
 use Rattle.clock2q_queues.specs.Indexes.{has_key, AllDistinct}
 use Rattle.clock2q_queues.proofs.Rings.{has_first, has_later}
 use Rattle.clock2q_queues.proofs.Booleans.{or_left, or_right}
@@ -39,7 +41,7 @@ module _ {E : Type 0} where
   written-push zero e (x ∷ xs) h = absurd (omega arith)
   written-push (suc place) e (x ∷ xs) h = ap (λ zs. x ∷ zs) (written-push place e xs (omega arith))
 
-  slice_get_some : (xs : List E) (i : ℕ) → i < length xs → (e : E) × (slice_get xs i ≡ Some e)
+  pub slice_get_some : (xs : List E) (i : ℕ) → i < length xs → (e : E) × (slice_get xs i ≡ Some e)
   slice_get_some [] i h = absurd (omega arith)
   slice_get_some (x ∷ xs) zero h = (x, refl)
   slice_get_some (x ∷ xs) (suc i) h = slice_get_some xs i (omega arith)
@@ -53,6 +55,17 @@ module _ {E : Type 0} where
   set_twice place d e [] h = absurd (omega arith)
   set_twice zero d e (x ∷ xs) h = refl
   set_twice (suc place) d e (x ∷ xs) h = ap (λ zs. x ∷ zs) (set_twice place d e xs (omega arith))
+
+  -- what holds of all and of the one that is written holds of all then
+  pub all-written : (P : E → Type 0) (s : ℕ) (e : E) (es : List E) → AllByRecursion P es → P e → AllByRecursion P (written s e es)
+  all-written P s e [] a p = (p, tt)
+  all-written P zero e (x ∷ xs) a p = (p, a.1)
+  all-written P (suc s) e (x ∷ xs) a p = (a.0, all-written P s e xs a.1 p)
+
+  pub set-written : (s : ℕ) (e : E) (es : List E) → s < length es → slice_set es s e ≡ written s e es
+  set-written s e [] h = absurd (omega arith)
+  set-written zero e (x ∷ xs) h = refl
+  set-written (suc s) e (x ∷ xs) h = ap (λ zs. x ∷ zs) (set-written s e xs (omega arith))
 
 -- Keys in a list
 
@@ -81,6 +94,48 @@ module _ {K V : Type 0} where
       let valued : with_value place value ys ≡ slice_set ys place (entry hash key value) =
       ap (λ z. elim z [ None ↦ ys | Some e ↦ slice_set ys place (entry e.hash e.key value) ]) (get_set place d xs h) in
       ap (λ z. with_value place value z) keyed ∙ valued ∙ set_twice place d (entry hash key value) xs h
+
+  -- an entry that is written
+  module _ (s h : ℕ) (k : K) (v : V) (es : List (Entry K V)) (next : s ≤ length es) where
+    pub key_at-own : key_at (written s (entry h k v) es) s ≡ Some k
+    key_at-own = ap (λ z. elim z [ None ↦ None | Some e ↦ Some e.key ]) (slice_get-written s (entry h k v) es next)
+
+    pub hash_at-own : hash_at (written s (entry h k v) es) s ≡ Some h
+    hash_at-own = ap (λ z. elim z [ None ↦ None | Some e ↦ Some e.hash ]) (slice_get-written s (entry h k v) es next)
+
+    apart_places : (t : ℕ) (places : List ℕ) → has s places ≡ false → has t places ≡ true → t ≡ s → ⊥
+    apart_places t places absent g e = both_ways (has s places) absent (subst (λ z. has z places ≡ true) e g)
+
+    pub key_at-others : (places : List ℕ) → has s places ≡ false → (t : ℕ) → has t places ≡ true → key_at (written s (entry h k v) es) t ≡ key_at es t
+    key_at-others places absent t g = ap (λ z. elim z [ None ↦ None | Some e ↦ Some e.key ]) (slice_get-written_other s t (entry h k v) es next (apart_places t places absent g))
+
+    pub hash_at-others : (places : List ℕ) → has s places ≡ false → (t : ℕ) → has t places ≡ true → hash_at (written s (entry h k v) es) t ≡ hash_at es t
+    hash_at-others places absent t g = ap (λ z. elim z [ None ↦ None | Some e ↦ Some e.hash ]) (slice_get-written_other s t (entry h k v) es next (apart_places t places absent g))
+
+  -- Values at places
+
+  pub value-there : (es : List (Entry K V)) (slot : ℕ) → slice_get (map (λ (e : Entry K V). e.value) es) slot ≡ value_at es slot
+  value-there [] slot = refl
+  value-there (e ∷ es) zero = refl
+  value-there (e ∷ es) (suc slot) = value-there es slot
+
+  values-set : (s : ℕ) (e : Entry K V) (es : List (Entry K V)) → s < length es → map (λ e. e.value) (written s e es) ≡ slice_set (map (λ e. e.value) es) s e.value
+  values-set s e [] h = absurd (omega arith)
+  values-set zero e (x ∷ xs) h = refl
+  values-set (suc s) e (x ∷ xs) h = ap (λ zs. x.value ∷ zs) (values-set s e xs (omega arith))
+
+  pub length-values : (es : List (Entry K V)) → length (map (λ (e : Entry K V). e.value) es) ≡ length es
+  length-values [] = refl
+  length-values (e ∷ es) = ap suc (length-values es)
+
+  pub values-written : (s : ℕ) (e : Entry K V) (es : List (Entry K V)) → s ≤ length es
+      → map (λ e. e.value) (written s e es) ≡ (if nat_lt s (length (map (λ (e : Entry K V). e.value) es)) then slice_set (map (λ e. e.value) es) s e.value else map (λ e. e.value) es ++ e.value ∷ [])
+  values-written s e es h =
+      elim (cases_lt s (length es)) [
+        | inl below ↦ rw (lt-ltb s (length (map (λ (e : Entry K V). e.value) es)) (omega (arith, below, length-values es))) (values-set s e es below)
+        | inr above ↦ rw (le-ltb s (length (map (λ (e : Entry K V). e.value) es)) (omega (arith, above, length-values es)))
+            (ap (λ z. map (λ e. e.value) z) (written-push s e es (omega (arith, above, h))) ∙ map-append (λ e. e.value) es (e ∷ []))
+      ]
 
   -- Keys at places
 

@@ -1,5 +1,5 @@
 -- What becomes of a ring when a slot is put in, taken out, or when it is met from another slot on.
-use Rattle.std.proofs.Common.{◌≡◌, ℕ, suc, ◌<◌, true, false, not, cond, ◌||◌, ◌&&◌, eqb, List, [], ◌∷◌, ◌++◌, length, inl, inr, refl, sym, ap, ◌∙◌, subst}
+use Rattle.std.proofs.Common.{◌≡◌, ℕ, suc, ◌<◌, ◌≤◌, true, false, not, cond, ◌||◌, ◌&&◌, eqb, List, [], ◌∷◌, ◌++◌, length, inl, inr, refl, sym, ap, ◌∙◌, subst, arith}
 use Rattle.std.specs.List.{filter}
 use Rattle.std.proofs.lemmas.Bool.{eqb-true, eq-eqb, both_ways, cases_Bool, or_cases}
 use Rattle.std.proofs.lemmas.List.{append-nil}
@@ -72,6 +72,14 @@ AllBelow-right n (x ∷ xs) ys a = AllBelow-right n xs ys a.1
 pub below_of : (n : ℕ) (ss : List ℕ) → AllBelow n ss → (t : ℕ) → has t ss ≡ true → t < n
 below_of n [] a t h = absurd (both_ways false refl h)
 below_of n (s ∷ ss) a t h = elim (or_cases (eqb t s) (has t ss) h) [ inl e ↦ subst (λ z. z < n) (sym (eqb-true t s e)) a.0 | inr g ↦ below_of n ss a.1 t g ]
+
+-- all that are there are below
+pub below-has : (n : ℕ) (places : List ℕ) → ((t : ℕ) → has t places ≡ true → t < n) → AllBelow n places
+below-has n [] h = tt
+below-has n (p ∷ ps) h = (h p (has_first p ps), below-has n ps (λ t g. h t (has_later t p ps g)))
+
+pub below-more : (n m : ℕ) (places : List ℕ) → n ≤ m → AllBelow n places → AllBelow m places
+below-more n m places le b = below-has m places (λ t g. omega (arith, le, below_of n places b t g))
 
 -- a slot among these stands between two parts of them
 pub parted : (s : ℕ) (ss : List ℕ) → has s ss ≡ true → (xs : List ℕ) × ((ys : List ℕ) × (ss ≡ xs ++ s ∷ ys))

@@ -1,11 +1,12 @@
 -- A slot is made where none is free and no one's is taken.
 use Rattle.std.proofs.Common.{not, sym, ap, ◌∙◌}
 use Rattle.std.proofs.lemmas.Option.{slice_get_past}
+use Rattle.std.proofs.lemmas.Bool.{ltb-false}
 use Rattle.clock2q_machine.specs.Whole.{known_count}
 use Rattle.clock2q_machine.specs.Machine.{Placement}
 use Rattle.clock2q_machine.proofs.Whole.{unknown_once_forgotten}
 use Rattle.clock2q_cache.proofs.Insertions.{IsSent, goes-there, placed-inspections, forgotten-spends}
-use Rattle.clock2q_cache.proofs.Making.{small-unknown, placed-there, fills-there, makes-here, makes-there, values-there, reuses, not-below, made-or-none}
+use Rattle.clock2q_cache.proofs.Making.{small-unknown, placed-there, fills-there, makes-here, makes-there, values-there, reuses, made-or-none}
 use Rattle.clock2q_cache.proofs.cache.Cache.insert_reusing.Given.{Over}
 use Rattle.clock2q_cache.proofs.cache.Cache.insert_reusing.Goals.{After-admits_to_main-main}
 use Rattle.clock2q_cache.proofs.cache.Cache.insert_reusing.Goals as goal
@@ -18,7 +19,7 @@ pub then-value-requires : goal.then-value-requires
 then-value-requires g c made =
     let s = sent g (goal.at.then-value-requires g c).After-admits_to_main-main in
     let there = makes-there g.K.PartialEq.eq c.args.key s c.makes_slot.ensures.whole c.makes_slot.result c.makes_slot.ensures.makes ∙ ap not made in
-    c.requires.make (slice_get_past c.args.self.now.machine.values _ (not-below _ _ there))
+    c.requires.make (slice_get_past c.args.self.now.machine.values _ (ltb-false _ _ there))
 
 pub place-requires-clause-absent : goal.place-requires-clause-absent
 place-requires-clause-absent g c =

@@ -1,9 +1,9 @@
 -- The slots that were never made are made and free.
+use Rattle.clock2q_queues.proofs.Entries.{length-values}
 use Rattle.std.proofs.Common.{◌≡◌, ◌-◌, ◌++◌, length, map, reverse, ◌∙◌}
 use Rattle.std.specs.List.{range_with_len}
 use Rattle.clock2q_cache.proofs.Filled.{made-count, machine-prefilled, kept-prefilled}
 use Rattle.clock2q_cache.proofs.Spent.{made-spends, prefill-costs}
-use Rattle.clock2q_cache.proofs.Stored.{length-values}
 use Rattle.clock2q_cache.proofs.cache.Cache.prefill.Given.{Over}
 use Rattle.clock2q_cache.proofs.cache.Cache.prefill.Goals.{After-free_down}
 use Rattle.clock2q_cache.proofs.cache.Cache.prefill.Goals as goal

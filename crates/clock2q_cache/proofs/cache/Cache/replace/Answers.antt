@@ -1,11 +1,11 @@
 -- The value of a slot is replaced.
+use Rattle.clock2q_queues.proofs.Entries.{value-there}
 use Rattle.std.proofs.Common.{ap, sym, ◌∙◌, slice_get}
 use Rattle.clock2q_queues.specs.Keys.{KeyPlaces}
 use Rattle.clock2q_cache.specs.CacheState.{CacheState}
 use Rattle.clock2q_cache.specs.CacheFields.{machine_of}
 use Rattle.clock2q_machine.specs.Machine.{stored}
 use Rattle.clock2q_cache.proofs.Changed.{replaced-machine, kept-replaced}
-use Rattle.clock2q_cache.proofs.Stored.{value-there}
 use Rattle.clock2q_cache.proofs.cache.Cache.replace.Goals as goal
 
 pub invariant_of-self : goal.invariant_of-self

@@ -1,11 +1,11 @@
 -- Whatever is left behind the reference is the slot's value.
+use Rattle.clock2q_queues.proofs.Entries.{value-there}
 use Rattle.std.proofs.Common.{refl, ap, sym, ◌∙◌, slice_get}
 use Rattle.clock2q_queues.specs.Keys.{with_value}
 use Rattle.clock2q_machine.specs.Machine.{stored}
 use Rattle.clock2q_cache.specs.CacheState.{CacheState, cache_state}
 use Rattle.clock2q_cache.specs.CacheFields.{counts_of}
 use Rattle.clock2q_cache.proofs.Changed.{replaced-machine, kept-replaced}
-use Rattle.clock2q_cache.proofs.Stored.{value-there}
 use Rattle.clock2q_cache.proofs.cache.Cache.value_mut.Goals as goal
 
 pub invariant_of-self-lent : goal.invariant_of-self-lent
