@@ -1,17 +1,18 @@
 -- What holds of a cache's fields goes on to hold after each change of the layers, and the machine becomes what it should.
 use Rattle.clock2q_queues.proofs.Entries.{key_at-own, key_at-others, values-written, length-values}
-use Rattle.std.proofs.Common.{◌≡◌, ℕ, suc, ◌+◌, ◌^◌, ◌<◌, ◌≤◌, Bool, false, Option, Some, None, List, [], ◌∷◌, ◌++◌, map, length, drop, reverse, refl, sym, ap, ◌∙◌, subst, arith, ne_eqb, length-append}
+use Rattle.std.proofs.Common.{◌≡◌, ℕ, suc, ◌+◌, ◌^◌, ◌<◌, ◌≤◌, Bool, true, false, Option, Some, None, List, [], ◌∷◌, ◌++◌, map, length, drop, reverse, refl, sym, ap, ◌∙◌, subst, arith, ne_eqb, length-append}
 use Rattle.std.specs.Prelude.{if◌then◌else◌, IfNone}
 use Rattle.std.specs.Cmp.{IsEquivalence}
 use Rattle.std.specs.List.{last_or, AllByRecursion}
-use Rattle.clock2q_handles.specs.Homes.{total, capacity, with_handle}
+use Rattle.clock2q_handles.specs.Homes.{total, capacity, candidates, with_handle}
 use Rattle.clock2q_queues.specs.Rings.{has}
-use Rattle.clock2q_queues.specs.Keys.{KeyPlaces, entry, written, key_at}
+use Rattle.clock2q_queues.specs.Keys.{KeyPlaces, entry, written, hash_at, key_at}
 use Rattle.clock2q_queues.specs.Small.{admitted}
 use Rattle.clock2q_queues.specs.Queues.{QueueState, slots_of}
-use Rattle.clock2q_queues.specs.History.{Remembered}
+use Rattle.clock2q_queues.specs.Index.{IndexState, is_shared, slots}
+use Rattle.clock2q_queues.specs.History.{Remembered, most_beside}
 use Rattle.clock2q_queues.proofs.Rings.{has-append}
-use Rattle.clock2q_queues.proofs.Indexes.{length-put}
+use Rattle.clock2q_queues.proofs.Indexes.{length-put, named-own}
 use Rattle.clock2q_queues.proofs.Booleans.{or_parts}
 use Rattle.clock2q_machine.specs.Shares.{Shares, main_share}
 use Rattle.clock2q_machine.specs.Entries as machine
@@ -24,19 +25,48 @@ use Rattle.clock2q_cache.proofs.Stored.{stored-entered}
 use Rattle.clock2q_cache.proofs.Slots.{times, times-cons, times-both, times-pushed, times-admitted, length-admitted, stored-moved, vacant, vacancy-taken, vacancy-there, small_have, main_have, length-places}
 use Rattle.clock2q_machine.proofs.Whole.{IsPlaced, whole-stored, placed-admitted, placed-joining}
 
+-- a history of which the index alone changed
+pub record IsReindexed {K : Type 0} (h h' : Remembered K) : Type 0 where
+  pub entries : h'.entries ≡ h.entries
+  pub limit : h'.limit ≡ h.limit
+  pub beside : most_beside h' ≡ most_beside h
+
+module _ {K : Type 0} (h : Remembered K) {h' : Remembered K} {index : IndexState} (is : h' ≡ record h { places = record h.places { index = index } }) where
+  -- where the places stand in the same table
+  pub reindexed : is_shared index ≡ is_shared h.places.index → IsReindexed h h'
+  reindexed shared = record {
+    entries = ap (λ (z : Remembered K). z.entries) is;
+    limit = ap (λ (z : Remembered K). z.limit) is;
+    beside = ap (λ (z : Remembered K). most_beside z) is ∙ ap (λ b. if b then h.limit else 0) shared;
+  }
+
+  -- the slots then are those of the new index
+  pub now-slots : {homes : List (List (ℕ × ℕ))} → slots index ≡ homes → slots h'.places.index ≡ homes
+  now-slots same = ap (λ (z : Remembered K). slots z.places.index) is ∙ same
+
 -- the layers are as large as they were
-pub sized-same : {shares : Shares} {q q' : QueueState} {limit limit' homes homes' keys_room keys_room' free_room free_room' : ℕ} → IsSized shares q limit homes keys_room free_room
-    → q'.slots ≡ q.slots → q'.window ≡ q.window → limit' ≡ limit → homes' ≡ homes → keys_room' ≡ keys_room → free_room' ≡ free_room
-    → IsSized shares q' limit' homes' keys_room' free_room'
-sized-same s slots window limit homes keys_room free_room = record {
+pub sized-same : {shares : Shares} {q q' : QueueState} {limit limit' beside beside' homes homes' keys_room keys_room' free_room free_room' : ℕ} → IsSized shares q limit beside homes keys_room free_room
+    → q'.slots ≡ q.slots → q'.window ≡ q.window → limit' ≡ limit → beside' ≡ beside → homes' ≡ homes → keys_room' ≡ keys_room → free_room' ≡ free_room
+    → IsSized shares q' limit' beside' homes' keys_room' free_room'
+sized-same s slots window limit beside homes keys_room free_room = record {
   as_many = slots ∙ s.as_many;
   window = window ∙ s.window;
   windowed = s.windowed;
   remembers = limit ∙ s.remembers;
-  half = omega (arith, homes, s.half);
+  spacious = omega (arith, beside, ap capacity homes, s.spacious);
   room_for_keys = omega (arith, keys_room, s.room_for_keys);
   room_for_free = omega (arith, free_room, s.room_for_free);
   short = s.short;
+  few = omega (arith, beside, s.few);
+}
+
+pub kept-reindexed : {K V : Type 0} {eq : K → K → Bool} {hash : K → ℕ} {shares : Shares} {q : QueueState} {h h' : Remembered K} {index : List (List (ℕ × ℕ))} {keys : KeyPlaces K V}
+    {free : List ℕ} {room : ℕ} → IsReindexed h h' → IsKept eq hash shares q h index keys free room → IsKept eq hash shares q h' index keys free room
+kept-reindexed {eq = eq} {hash} {shares} {q} {keys = keys} {free} moved kept = record {
+  whole = subst (λ z. IsWhole eq (machine_of shares q keys.entries z free)) (sym moved.entries) kept.whole;
+  stored = kept.stored;
+  hashed = subst (λ z. AllByRecursion (λ e. e.0 ≡ hash e.1) z) (sym moved.entries) kept.hashed;
+  sized = sized-same kept.sized refl refl moved.limit moved.beside refl refl refl;
 }
 
 module _ {K V : Type 0} {eq : K → K → Bool} {hash : K → ℕ} {shares : Shares} {q : QueueState} {h : Remembered K} {index : List (List (ℕ × ℕ))} {keys : KeyPlaces K V} {free : List ℕ} {room : ℕ}
@@ -51,7 +81,11 @@ module _ {K V : Type 0} {eq : K → K → Bool} {hash : K → ℕ} {shares : Sha
   length_in_main = length-main (key_at keys.entries) q.main (main_have laws kept)
 
   pub index_some : 0 < length index
-  index_some = omega (arith, kept.sized.half, kept.whole.small_below)
+  index_some = omega (arith, kept.sized.spacious, kept.whole.small_below)
+
+  -- a resident's slot stands in the index under its key's hash
+  pub resident-held : (slot : ℕ) {old : ℕ} → has slot (places_of q) ≡ true → hash_at keys.entries slot ≡ Some old → has slot (candidates index old) ≡ true
+  resident-held slot {old} there at = kept.stored.indexed.listed old slot ∙ rw (there, named-own index keys.entries old slot at) refl
 
   -- a slot that a key may take which joins a queue
   pub record IsFree (slot : ℕ) : Type 0 where
@@ -62,8 +96,9 @@ module _ {K V : Type 0} {eq : K → K → Bool} {hash : K → ℕ} {shares : Sha
     pub next : slot ≤ length keys.entries
     pub below : slot < q.slots
     pub within : slot < keys.room
-    pub index_room : total index < capacity (length index)
-    pub few : total index + 1 < 2 ^ 24
+    pub short : slot < 2 ^ 24
+    pub index_room : total index + most_beside h < capacity (length index)
+    pub few : total index + most_beside h + 1 < 2 ^ 24
 
   -- the slot that is picked is one where a queue has room
   is-free : {slot made : ℕ} → made ≡ length keys.entries → vacant_slot (reverse free) made (made + 1) ≡ Some slot → length q.small + length q.main < shares.capacity → IsFree slot
@@ -80,8 +115,9 @@ module _ {K V : Type 0} {eq : K → K → Bool} {hash : K → ℕ} {shares : Sha
         next = v.next;
         below = omega (arith, v.below, kept.sized.as_many);
         within = omega (arith, v.below, kept.sized.room_for_keys);
-        index_room = omega (arith, few, kept.sized.half, kept.stored.indexed.counted, length-places q);
-        few = omega (arith, few, kept.sized.short, kept.stored.indexed.counted, length-places q);
+        short = omega (arith, v.below, kept.sized.short);
+        index_room = omega (arith, few, kept.sized.spacious, kept.stored.indexed.counted, length-places q);
+        few = omega (arith, few, kept.sized.few, kept.stored.indexed.counted, length-places q);
       }
 
   pub free-small : {slot made : ℕ} → made ≡ length keys.entries → vacant_slot (reverse free) made (made + 1) ≡ Some slot → length m.small < shares.small → IsFree slot
@@ -97,13 +133,22 @@ module _ {K V : Type 0} {eq : K → K → Bool} {hash : K → ℕ} {shares : Sha
     pub fills : Fills value p m (machine_of shares q' keys'.entries h'.entries free')
     pub at : slot ≡ p.slot
 
+  -- the same, once the index beside the history changed
+  pub done-reindexed : {slot : ℕ} {value : Option V} {p : Placement K V} {q' : QueueState} {h1 h2 : Remembered K} {index' : List (List (ℕ × ℕ))} {keys' : KeyPlaces K V} {free' : List ℕ} {room' : ℕ}
+      → IsReindexed h1 h2 → IsDone slot value p q' h1 index' keys' free' room' → IsDone slot value p q' h2 index' keys' free' room'
+  done-reindexed {value = value} {p = p} {q' = q'} {keys' = keys'} {free' = free'} moved d = record {
+    holds = kept-reindexed moved d.holds;
+    fills = subst (λ z. Fills value p m (machine_of shares q' keys'.entries z free')) (sym moved.entries) d.fills;
+    at = d.at;
+  }
+
   -- a key that was not known is placed, and its slot has its value
   pub placed-done : {key : K} {value : Option V} {hsh slot : ℕ} {p : Placement K V} {q' : QueueState} {h' : Remembered K}
       {index' : List (List (ℕ × ℕ))} {keys' : KeyPlaces K V} {free' : List ℕ} {room' : ℕ}
       → known_count (eq key) m ≡ 0 → IsPlaced key m p → (w : Writes hsh key value slot keys.entries keys'.entries) → slot ≡ p.slot
       → machine_of shares q' keys'.entries h'.entries free' ≡ stored p.slot w.held p.machine
       → IsStored hash index' keys'.entries (places_of q') → AllByRecursion (λ e. e.0 ≡ hash e.1) h'.entries
-      → IsSized shares q' h'.limit (length index') keys'.room room' → IsDone slot value p q' h' index' keys' free' room'
+      → IsSized shares q' h'.limit (most_beside h') (length index') keys'.room room' → IsDone slot value p q' h' index' keys' free' room'
   placed-done {key} {value} {p = p} absent placed w at is stored hashed sized = record {
     holds = record { whole = subst (IsWhole eq) (sym is) (whole-stored eq m kept.whole laws key absent p placed w.held); stored = stored; hashed = hashed; sized = sized };
     fills = record { held = w.held; is = subst (λ s. IsValueFor value s m.values w.held) at w.is; becomes = is };
@@ -157,7 +202,7 @@ module _ {K V : Type 0} {eq : K → K → Bool} {hash : K → ℕ} {shares : Sha
         → IsDone slot value p q' h index' keys' free' room'
     done q' free' placed at free_room slots window e as_often as_many =
         placed-done absent placed w at e (stored-moved q' entered as_often (as_many ∙ ap suc (sym (length-places q)))) kept.hashed
-        (sized-same kept.sized slots window refl (ap (λ (z : List (List (ℕ × ℕ))). length z) indexed ∙ length-put index hsh slot) (ap (λ (z : KeyPlaces K V). z.room) renewed) free_room)
+        (sized-same kept.sized slots window refl refl (ap (λ (z : List (List (ℕ × ℕ))). length z) indexed ∙ length-put index hsh slot) (ap (λ (z : KeyPlaces K V). z.room) renewed) free_room)
 
     pub small-done : {q' : QueueState} {free' : List ℕ} {room' : ℕ} → length m.small < shares.small → q' ≡ record q { small = admitted q.window slot q.small; accesses = q'.accesses }
         → reverse free' ≡ drop 1 (reverse free) → room' ≡ room → IsDone slot value (into_small key m) q' h index' keys' free' room'

@@ -12,7 +12,7 @@ use Rattle.clock2q_queues.specs.Keys.{KeyPlaces, entry, written, hash_at, key_at
 use Rattle.clock2q_queues.specs.Indexes.{IsIndex, HasHash}
 use Rattle.clock2q_handles.specs.Homes.{no_entries}
 use Rattle.clock2q_queues.specs.Queues.{QueueState, slots_of, tail_promoted}
-use Rattle.clock2q_queues.specs.History.{Remembered, forgotten}
+use Rattle.clock2q_queues.specs.History.{Remembered, forgotten, most_beside}
 use Rattle.clock2q_queues.proofs.Entries.{slice_get-written, slice_get-written_other, length-written, set-written, all-written, values-written, length-values}
 use Rattle.clock2q_queues.proofs.Indexes.{IsIndex-cleared, length-cleared, IsIndex-kept}
 use Rattle.clock2q_machine.specs.Shares.{Shares}
@@ -115,7 +115,7 @@ module _ {K V : Type 0} {eq : K → K → Bool} {hash : K → ℕ} {shares : Sha
     whole = subst (λ z. IsWhole eq (machine_of shares q z h.entries free)) (sym entries) kept.whole;
     stored = subst (λ z. IsStored hash index z (places_of q)) (sym entries) kept.stored;
     hashed = kept.hashed;
-    sized = sized-same kept.sized refl refl refl refl keys_room refl;
+    sized = sized-same kept.sized refl refl refl refl refl keys_room refl;
   }
 
   -- the key's history is erased
@@ -125,13 +125,13 @@ module _ {K V : Type 0} {eq : K → K → Bool} {hash : K → ℕ} {shares : Sha
         let r : map (λ (e : ℕ × K). e.1) h'.entries ≡ filter (λ k. not (eq key k)) m.history = ap (λ z. map (λ (e : ℕ × K). e.1) z) entries ∙ keys-filtered (eq key) h.entries in
         cc
 
-    pub kept-forgotten : h'.limit ≡ h.limit → IsKept eq hash shares q h' index keys free room
-    kept-forgotten limit = record {
+    pub kept-forgotten : h'.limit ≡ h.limit → most_beside h' ≡ most_beside h → {index' : List (List (ℕ × ℕ))} → index' ≡ index → IsKept eq hash shares q h' index' keys free room
+    kept-forgotten limit beside same = rw same (record {
       whole = subst (IsWhole eq) (sym forgotten-machine) (whole-forgotten eq m kept.whole (eq key));
       stored = kept.stored;
       hashed = subst (λ z. AllByRecursion (λ e. e.0 ≡ hash e.1) z) (sym entries) (all-filtered (eq key) (λ e. e.0 ≡ hash e.1) h.entries kept.hashed);
-      sized = sized-same kept.sized refl refl limit refl refl refl;
-    }
+      sized = sized-same kept.sized refl refl limit beside refl refl refl;
+    })
 
   pub discard-hash : (key : K) (hsh : ℕ) → ((x y : K) → eq x y ≡ true → hash x ≡ hash y) → hsh ≡ hash key → HasHash eq hsh key h.entries
   discard-hash key hsh respects is = hash-there eq hash key hsh h.entries respects is kept.hashed
@@ -167,7 +167,7 @@ module _ {K V : Type 0} {eq : K → K → Bool} {hash : K → ℕ} {shares : Sha
             keys.entries kept.stored.hashed (all-at (λ e. e.hash ≡ hash e.key) keys.entries slot r.entry kept.stored.hashed r.at));
       });
       hashed = kept.hashed;
-      sized = sized-same kept.sized refl refl refl refl keys_room refl;
+      sized = sized-same kept.sized refl refl refl refl refl keys_room refl;
     }
 
   -- whether Small's tail goes on
@@ -211,7 +211,7 @@ module _ {K V : Type 0} where
   pub kept-empty : {eq : K → K → Bool} {hash : K → ℕ} {shares : Shares} {q : QueueState} {h : Remembered K} {index : List (List (ℕ × ℕ))} {keys : KeyPlaces K V} {free : List ℕ} {room : ℕ}
       → IsEquivalence eq
       → shares.small < shares.capacity → q.small ≡ [] → q.main ≡ [] → h.entries ≡ [] → IsIndex {K = K} {V = V} index [] []
-      → keys.entries ≡ [] → free ≡ [] → IsSized shares q h.limit (length index) keys.room room
+      → keys.entries ≡ [] → free ≡ [] → IsSized shares q h.limit (most_beside h) (length index) keys.room room
       → IsKept eq hash shares q h index keys free room × (machine_of shares q keys.entries h.entries free ≡ empty shares)
   kept-empty {eq} {hash} {shares} {q} {h} {index} {keys} {free} {room} laws below small main entries indexed keyed none sized = (
     record {
@@ -241,7 +241,7 @@ module _ {K V : Type 0} where
   pub kept-cleared : {eq : K → K → Bool} {hash : K → ℕ} {shares : Shares} {q q' : QueueState} {h h' : Remembered K} {index index' : List (List (ℕ × ℕ))} {keys keys' : KeyPlaces K V}
       {free free' : List ℕ} {room room' : ℕ} → IsEquivalence eq → IsKept eq hash shares q h index keys free room
       → q'.small ≡ [] → q'.main ≡ [] → h'.entries ≡ [] → keys'.entries ≡ [] → free' ≡ [] → index' ≡ no_entries (length index)
-      → q'.slots ≡ q.slots → q'.window ≡ q.window → h'.limit ≡ h.limit → keys'.room ≡ keys.room → room' ≡ room → IsKept eq hash shares q' h' index' keys' free' room'
-  kept-cleared {index = index} {index' = index'} laws kept small main entries keyed none emptied slots window limit keys_room free_room =
+      → q'.slots ≡ q.slots → q'.window ≡ q.window → h'.limit ≡ h.limit → most_beside h' ≡ most_beside h → keys'.room ≡ keys.room → room' ≡ room → IsKept eq hash shares q' h' index' keys' free' room'
+  kept-cleared {index = index} {index' = index'} laws kept small main entries keyed none emptied slots window limit beside keys_room free_room =
       (kept-empty laws kept.whole.small_below small main entries (IsIndex-cleared index' (length index) [] emptied) keyed none
-      (sized-same kept.sized slots window limit (length-cleared index index' emptied) keys_room free_room)).0
+      (sized-same kept.sized slots window limit beside (length-cleared index index' emptied) keys_room free_room)).0

@@ -10,18 +10,17 @@ use Rattle.clock2q_cache.specs.Charged.{most_links, most_keys, with_slot}
 use Rattle.clock2q_cache.specs.Closures.{Takes}
 use Rattle.clock2q_cache.specs.Costs.{Costs, Spends, accesses_for, alike}
 use Rattle.clock2q_machine.specs.Machine.{Machine, stored}
-use Rattle.clock2q_cache.specs.Places.{residents_with, remembered_with}
+use Rattle.clock2q_cache.specs.Places.{known_with}
 use Rattle.clock2q_machine.specs.Steps.{put, slotted}
 use Rattle.clock2q_machine.proofs.Storing.{stored_same}
 use Rattle.clock2q_cache.proofs.Spent.{costs-of}
 
 module _ {K V S H : Type 0} (key : HashMembers K) (build : builder.Ghosts S H) (hash : hasher.Ghosts H) (k : K) (made : V → Type 0) (old new : CacheState K V S) (slot : ℕ)
-    (taken : Takes (key.eq k) k made old.machine slot new.machine) (residents : new.residents ≡ residents_with key build hash k old)
-    (remembered : new.remembered ≡ remembered_with key build hash k old) (same : new.hasher ≡ old.hasher)
+    (taken : Takes (key.eq k) k made old.machine slot new.machine) (known : new.known ≡ known_with key build hash k old) (same : new.hasher ≡ old.hasher)
     (spent : Spends (inspections_for (key.eq k) old.machine) (accesses_for (key.eq k) old.machine) (alike key build hash k old) old.counts new.counts) where
   -- what the caller leaves behind the reference is then the key's value
   pub lent : (links keys : ℕ) → links ≡ most_links key build hash k old → keys ≡ most_keys key build hash k old → (w : V)
-      → cache_state (stored slot w new.machine) new.residents new.remembered new.hasher
+      → cache_state (stored slot w new.machine) new.known new.hasher
       (record { inspections = new.counts.inspections; accesses = new.counts.accesses + (links - new.counts.accesses); questions = new.counts.questions + (keys - new.counts.questions) })
       ≡ with_slot key build hash k w old
   lent links keys is_links is_keys w =

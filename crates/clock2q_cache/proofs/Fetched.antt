@@ -1,12 +1,9 @@
 -- A key that is hit, or else inserted with a value that was made.
-use Rattle.std.proofs.Common.{◌≡◌, ℕ, zero, suc, ◌≤◌, Bool, true, List, [], ◌∷◌, ◌++◌, length, inl, inr, Some, None, refl, sym, ap, ◌∙◌, subst, arith, length-append}
-use Rattle.std.specs.Prelude.{is_some, if◌then◌else◌, nat_lt, slice_get, slice_set}
+use Rattle.std.proofs.Common.{◌≡◌, ℕ, Bool, Some, None, refl, sym, ap, ◌∙◌, subst}
+use Rattle.std.specs.Prelude.{is_some, if◌then◌else◌, slice_get}
 use Rattle.std.specs.Cmp.{IsEquivalence}
 use Rattle.std.specs.Option.{UnwrapsOrElse, option_and_then}
-use Rattle.std.proofs.lemmas.Bool.{cases_lt, lt-ltb, le-ltb}
-use Rattle.std.proofs.lemmas.Option.{slice_get_within}
-use Rattle.std.proofs.Math.ListN.{length-set}
-use Rattle.clock2q_machine.specs.Machine.{Machine, slot_of, value_of, hit, stored, inserted, placement}
+use Rattle.clock2q_machine.specs.Machine.{Machine, slot_of, value_of, hit, inserted, placement}
 use Rattle.clock2q_machine.specs.Steps.{put, fetched, replaced_at}
 use Rattle.clock2q_machine.specs.Whole.{IsWhole}
 use Rattle.clock2q_cache.specs.Closures.{Fetches}

@@ -118,5 +118,5 @@ module _ {K V : Type 0} {eq : K → K → Bool} {hash : K → ℕ} {shares : Sha
       hashed = all-append (λ e. e.hash ≡ hash e.key) keys.entries added kept.stored.hashed hashed;
     });
     hashed = kept.hashed;
-    sized = sized-same kept.sized refl refl refl refl keys_room free_room;
+    sized = sized-same kept.sized refl refl refl refl refl keys_room free_room;
   }

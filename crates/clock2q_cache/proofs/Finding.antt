@@ -1,5 +1,5 @@
 -- What a lookup through the index finds is the machine's slot of the key, and what a hit there makes of the machine.
-use Rattle.std.proofs.Common.{◌≡◌, ℕ, zero, suc, ◌<◌, ◌≤◌, ◌⊎◌, Bool, true, false, ◌&&◌, cond, eqb, Option, Some, None, slice_get, List, [], ◌∷◌, ◌++◌, map, length, inl, inr, refl, sym, ap, ◌∙◌, subst, arith, eqb-true}
+use Rattle.std.proofs.Common.{◌≡◌, ℕ, zero, suc, ◌+◌, ◌<◌, ◌≤◌, ◌⊎◌, Bool, true, false, ◌&&◌, cond, eqb, Option, Some, None, slice_get, List, [], ◌∷◌, ◌++◌, map, length, inl, inr, refl, sym, ap, ◌∙◌, subst, arith, eqb-true}
 use Rattle.std.specs.Prelude.{IfSome}
 use Rattle.std.specs.Cmp.{IsEquivalence}
 use Rattle.std.specs.Option.{option_map}
@@ -18,10 +18,11 @@ use Rattle.clock2q_queues.specs.Small.{small_hit_at}
 use Rattle.clock2q_queues.specs.MainRing.{main_hit_at}
 use Rattle.std.specs.Bool.{then_some}
 use Rattle.clock2q_queues.specs.Queues.{QueueState, slots_of}
-use Rattle.clock2q_queues.specs.History.{Remembered}
+use Rattle.clock2q_queues.specs.declared.history.Found.{Found}
+use Rattle.clock2q_queues.specs.History.{Remembered, place_of, found_slot, found_place}
 use Rattle.clock2q_queues.proofs.Rings.{has-append, has_first, has_later, below_of}
 use Rattle.clock2q_queues.proofs.Indexes.{candidate_there}
-use Rattle.clock2q_queues.proofs.Entries.{same_place, length-values}
+use Rattle.clock2q_queues.proofs.Entries.{same_place, key_there, any_entry, length-values}
 use Rattle.clock2q_queues.proofs.Lookups.{lookup, found_there, not_found}
 use Rattle.clock2q_machine.specs.Shares.{Shares}
 use Rattle.clock2q_machine.specs.Entries as machine
@@ -107,6 +108,28 @@ hashes-same {K} {V} eq hash key entries (p ∷ ps) respects a = of (hashes-same 
     of r (e ∷ es) zero b = ((λ q. b.0 ∙ sym (respects key e.key q)), r)
     of r (e ∷ es) (suc t) b = of r es t b.1
 
+-- what isn't a resident has no slot
+pub no-slot : (r : Found) → ((slot : ℕ) → r ≡ Found.Resident slot → ⊥) → None ≡ found_slot r
+no-slot (Found.Resident slot) other = absurd (other slot refl)
+no-slot (Found.Remembered place) other = refl
+no-slot Found.Absent other = refl
+
+-- a key whose place is found is among the keys
+placed-any : {K : Type 0} (is : K → Bool) (ks : List K) (ps : List ℕ) (p : ℕ) → place_of is ks ps ≡ Some p → list_any is ks ≡ true
+placed-any is [] ps p e = absurd (cc)
+placed-any is (k ∷ ks) [] p e = absurd (cc)
+placed-any is (k ∷ ks) (q ∷ ps) p e = elim (cases_Bool (is k)) [
+  | inl t ↦ rw t refl
+  | inr f ↦ rw f (placed-any is ks ps p (rw f at e))
+]
+
+any-counted : {X : Type 0} (is : X → Bool) (ks : List X) → list_any is ks ≡ true → 0 < count_by is ks
+any-counted is [] e = absurd (cc)
+any-counted is (k ∷ ks) e = elim (cases_Bool (is k)) [
+  | inl t ↦ omega (arith, sum_by-cons (λ x. cond (is x) 1 0) k ks, ap {B = ℕ} (λ b. cond b 1 0) t)
+  | inr f ↦ omega (arith, sum_by-cons (λ x. cond (is x) 1 0) k ks, any-counted is ks (rw f at e))
+]
+
 -- a resident's slot stands in one of the queues
 pub either-queue : (q : QueueState) (slot : ℕ) → has slot (places_of q) ≡ true → (has slot (slots_of q.small) ≡ true) ⊎ (has slot (slots_of q.main) ≡ true)
 either-queue q slot there = or_cases (has slot (slots_of q.small)) (has slot (slots_of q.main)) (sym (has-append slot (slots_of q.small) (slots_of q.main)) ∙ there)
@@ -120,8 +143,8 @@ module _ {K V : Type 0} {eq : K → K → Bool} {hash : K → ℕ} {shares : Sha
   pub candidates-there : (x : ℕ) → AllByRecursion (λ place. place < length keys.entries) (candidates index x)
   candidates-there x = all-has (λ place. place < length keys.entries) (candidates index x) (λ t g. (candidate_there index keys.entries (places_of q) x t kept.stored.indexed g).1)
 
-  known_at : (is : K → Bool) → count_by (λ (e : ℕ × K). is e.1) (entries_of keys.entries (places_of q)) ≤ known_count is m
-  known_at is = omega (
+  known_residents : (is : K → Bool) → count_by (λ (e : ℕ × K). is e.1) (entries_of keys.entries (places_of q)) ≤ count_by (λ e. is e.key) m.small + count_by (λ e. is e.key) m.main
+  known_residents is = omega (
     arith,
     paired-counted keys.entries is (places_of q),
     ap (λ (z : List (K × ℕ)). count_by (λ r. is r.0) z) (residents-paired laws kept),
@@ -129,6 +152,9 @@ module _ {K V : Type 0} {eq : K → K → Bool} {hash : K → ℕ} {shares : Sha
     counted-map (λ (r : K × ℕ). is r.0) (λ (e : SmallEntry K). (e.key, e.slot)) m.small,
     counted-map (λ (r : K × ℕ). is r.0) (λ (e : MainEntry K). (e.key, e.slot)) m.main,
   )
+
+  known_at : (is : K → Bool) → count_by (λ (e : ℕ × K). is e.1) (entries_of keys.entries (places_of q)) ≤ known_count is m
+  known_at is = omega (arith, known_residents is)
 
   pub distinct : AllDistinct eq (entries_of keys.entries (places_of q))
   distinct = distinct-once eq laws (entries_of keys.entries (places_of q)) (λ k. omega (arith, known_at (eq k), kept.whole.keys_once k))
@@ -147,6 +173,28 @@ module _ {K V : Type 0} {eq : K → K → Bool} {hash : K → ℕ} {shares : Sha
     -- a slot that is found is a resident's
     pub found-there : (slot : ℕ) → slot_of (eq key) m ≡ Some slot → (has slot (places_of q) ≡ true) × (is_key_at eq key keys.entries slot ≡ true)
     found-there slot is = found_there (is_key_at eq key keys.entries) (places_of q) slot (sym is ∙ slot-among)
+
+    -- a key that the history has is no resident's
+    unresident : list_any (eq key) m.history ≡ true → None ≡ slot_of (eq key) m
+    unresident remembered = of (slot_of (eq key) m) refl
+      where
+        of : (o : Option ℕ) → slot_of (eq key) m ≡ o → None ≡ o
+        of None is = refl
+        of (Some slot) is =
+            let f = found-there slot is in
+            let e = key_there eq key keys.entries slot f.1 in
+            let resident = any-counted (λ (x : ℕ × K). eq key x.1) (entries_of keys.entries (places_of q)) (any_entry eq key keys.entries (places_of q) slot e.0 f.0 e.1 e.2) in
+            absurd (omega (arith, kept.whole.keys_once key, resident, known_residents (eq key), any-counted (eq key) m.history remembered))
+
+    -- what a lookup among residents and remembered keys finds
+    pub looked : ((x y : K) → eq x y ≡ true → hash x ≡ hash y) → (hsh : ℕ) → hsh ≡ hash key → (r : Found)
+        → IfSome (found_slot r) (λ slot. find (is_key_at eq key keys.entries) (candidates index hsh) ≡ Some slot)
+        → (found_slot r ≡ None → found_place r ≡ place_of (eq key) m.history h.places.taken)
+        → (found_slot r ≡ None → found_place r ≡ None → find (is_key_at eq key keys.entries) (candidates index hsh) ≡ None)
+        → found_slot r ≡ slot_of (eq key) m
+    looked respects hsh is (Found.Resident slot) at place absent = sym at ∙ found respects hsh is
+    looked respects hsh is (Found.Remembered p) at place absent = unresident (placed-any (eq key) m.history h.places.taken p (sym (place refl)))
+    looked respects hsh is Found.Absent at place absent = sym (absent refl refl) ∙ found respects hsh is
 
     pub found-made : (o : Option ℕ) → o ≡ slot_of (eq key) m → IfSome o (λ slot. slot < length m.values)
     found-made None is = tt
@@ -235,7 +283,7 @@ module _ {K V : Type 0} {eq : K → K → Bool} {hash : K → ℕ} {shares : Sha
         whole = subst (IsWhole eq) (sym (hit-machine q' small main)) (whole-hit eq m kept.whole (eq key));
         stored = subst (λ z. IsStored hash index keys.entries z) (sym places) kept.stored;
         hashed = kept.hashed;
-        sized = sized-same kept.sized slots window refl refl refl refl;
+        sized = sized-same kept.sized slots window refl refl refl refl refl;
       }
         where
           places : places_of q' ≡ places_of q

@@ -1,4 +1,4 @@
--- What stands in the indexes, in terms of the machine.
+-- What stands in the index, in terms of the machine.
 use Rattle.clock2q_queues.proofs.Entries.{slice_get_some}
 use Rattle.std.proofs.Common.{◌≡◌, ℕ, suc, ◌≤◌, ◌==◌, Bool, true, false, ◌||◌, ◌&&◌, eqb, Option, Some, None, slice_get, List, [], ◌∷◌, map, length, inl, inr, refl, sym, ap, ◌∙◌, subst, arith, eqb-true}
 use Rattle.std.specs.List.{list_any, zip, cons_option, AllByRecursion}
@@ -9,6 +9,7 @@ use Rattle.clock2q_queues.specs.declared.keys.store.Entry.{Entry}
 use Rattle.clock2q_queues.specs.Rings.{has, AllBelow}
 use Rattle.clock2q_queues.specs.Keys.{KeyPlaces, key_at, hash_at, hashed_at, entries_of}
 use Rattle.clock2q_queues.specs.Indexes.{IsIndex, is_named, is_alike}
+use Rattle.clock2q_queues.specs.Index as known
 use Rattle.clock2q_queues.specs.Queues.{QueueState}
 use Rattle.clock2q_queues.specs.History.{Remembered, IsWholeHistory}
 use Rattle.clock2q_queues.proofs.Rings.{has_first}
@@ -129,16 +130,16 @@ module _ {K V : Type 0} {eq : K → K → Bool} {hash : K → ℕ} {shares : Sha
   pub residents-paired : residents (machine_of shares q keys.entries h.entries free) ≡ paired (key_at keys.entries) (places_of q)
   residents-paired = residents-keyed (key_at keys.entries) q.small q.main (small_have laws kept) (main_have laws kept)
 
-  -- the index of the residents
+  -- the residents in the index
   pub residents-have : HasPlaces hash index (residents (machine_of shares q keys.entries h.entries free))
   residents-have =
       subst (λ z. HasPlaces hash index z) (sym residents-paired)
       (has-places hash keys.entries index (places_of q) (stored_stand hash keys.entries (places_of q) kept.stored.made kept.stored.hashed) kept.stored.indexed)
 
-  -- the index of the history
+  -- the history in the index
   pub record Remembers : Type 0 where
     pub as_many : length h.places.taken ≡ length (map (λ (e : ℕ × K). e.1) h.entries)
-    pub have : HasPlaces hash h.places.index (zip (map (λ (e : ℕ × K). e.1) h.entries) h.places.taken)
+    pub have : HasPlaces hash (known.places h.places.index) (zip (map (λ (e : ℕ × K). e.1) h.entries) h.places.taken)
 
   pub remembers : IsWholeHistory eq h → Remembers
   remembers whole =
@@ -148,6 +149,6 @@ module _ {K V : Type 0} {eq : K → K → Bool} {hash : K → ℕ} {shares : Sha
       record {
         as_many = sym w.2 ∙ sym (length-map h.entries (λ (e : ℕ × K). e.1));
         have =
-            subst (λ z. HasPlaces hash h.places.index z) (sym (ap (λ (z : List (ℕ × K)). zip (map (λ (e : ℕ × K). e.1) z) taken) w.1 ∙ t.zipped))
-            (has-places hash w.0 h.places.index taken t.stand w.3);
+            subst (λ z. HasPlaces hash (known.places h.places.index) z) (sym (ap (λ (z : List (ℕ × K)). zip (map (λ (e : ℕ × K). e.1) z) taken) w.1 ∙ t.zipped))
+            (has-places hash w.0 (known.places h.places.index) taken t.stand w.3);
       }

@@ -12,7 +12,6 @@ use Rattle.clock2q_queues.specs.History.{Remembered, Places}
 use Rattle.std.specs.declared.hash.Hasher as hasher
 use Rattle.std.specs.declared.hash.BuildHasher as builder
 use Rattle.std.specs.HashMap.Lent.{HashMembers}
-use Rattle.clock2q_handles.specs.Homes.{candidates}
 use Rattle.clock2q_machine.specs.Ages.{Age, is_promoted}
 use Rattle.clock2q_machine.proofs.Whole.{last_some, none_is}
 use Rattle.clock2q_machine.specs.Shares.{Shares, main_share}
@@ -24,22 +23,23 @@ use Rattle.clock2q_cache.specs.Insertions.{placed_inspections, main_inspections,
 use Rattle.clock2q_cache.specs.CacheFields.{machine_of, IsKept, counts_of}
 use Rattle.clock2q_cache.specs.CacheState.{CacheState, Counts}
 use Rattle.clock2q_cache.specs.Costs.{Spends, accesses_for, alike}
-use Rattle.clock2q_cache.specs.Hashes.{hash_of}
-use Rattle.clock2q_cache.proofs.Spent.{spends-both, spends-more}
+use Rattle.clock2q_cache.proofs.Spent.{spends-both}
 use Rattle.clock2q_cache.proofs.WithKeys.{main-inspections}
 use Rattle.clock2q_cache.proofs.Slots.{main_have}
 
 module _ {K V : Type 0} (q : QueueState) (h : Remembered K) (keys : KeyPlaces K V) {q' : QueueState} {keys' : KeyPlaces K V} {es : List (Entry K V)} {n : ℕ} where
   -- a key that joins a queue
   pub joined-spends : {small : List (ℕ × Age)} {main : List (ℕ × Bool)} (least most : ℕ) → q' ≡ record q { small = small; main = main; accesses = q'.accesses }
-      → Rises least most q.accesses q'.accesses → most ≤ 28 → keys' ≡ record keys { entries = es; writes = n }
-      → Spends 0 28 0 (counts_of q h keys) (counts_of q' h keys')
-  joined-spends least most queues links few renewed =
+      → Rises least most q.accesses q'.accesses → most ≤ 28 → {places : Places} {h' : Remembered K} → h' ≡ record h { places = places } → keys' ≡ record keys { entries = es; writes = n }
+      → Spends 0 28 0 (counts_of q h keys) (counts_of q' h' keys')
+  joined-spends least most queues links few moved renewed =
       let asked = ap (λ (z : KeyPlaces K V). z.questions) renewed in
+      let told = ap (λ (z : Remembered K). z.questions) moved in
+      let same = ap (λ (z : Remembered K). z.accesses) moved in
       record {
         inspections = omega (arith, ap (λ (z : QueueState). z.inspections) queues);
-        accesses = (omega (arith, links.0), omega (arith, links.1, few));
-        questions = (omega (arith, asked), omega (arith, asked));
+        accesses = (omega (arith, links.0, same), omega (arith, links.1, few, same));
+        questions = (omega (arith, asked, told), omega (arith, asked, told));
       }
 
   -- one that takes the slot of Small's tail, which goes out
@@ -62,15 +62,17 @@ module _ {K V : Type 0} {eq : K → K → Bool} {hash : K → ℕ} {shares : Sha
   pub victim-spends : {q' : QueueState} {keys' : KeyPlaces K V} {small : List (ℕ × Age)} {main : List (ℕ × Bool)} {es : List (Entry K V)} {n looks : ℕ} (q1 : QueueState)
       → looks ≡ q.inspections + inspections q.main → q1.accesses ≡ q.accesses + inspections q.main + 5
       → q' ≡ record q { small = small; main = main; accesses = q'.accesses; inspections = looks } → Rises 0 23 q1.accesses q'.accesses
-      → keys' ≡ record keys { entries = es; writes = n }
-      → let m = machine_of shares q keys.entries h.entries free in Spends (machine.inspections m.main) (machine.inspections m.main + 28) 0 (counts_of q h keys) (counts_of q' h keys')
-  victim-spends q1 looks taken queues links renewed =
+      → {places : Places} {h' : Remembered K} → h' ≡ record h { places = places } → keys' ≡ record keys { entries = es; writes = n }
+      → let m = machine_of shares q keys.entries h.entries free in Spends (machine.inspections m.main) (machine.inspections m.main + 28) 0 (counts_of q h keys) (counts_of q' h' keys')
+  victim-spends q1 looks taken queues links moved renewed =
       let looked = main-inspections (key_at keys.entries) q.main (main_have laws kept) in
       let asked = ap (λ (z : KeyPlaces K V). z.questions) renewed in
+      let told = ap (λ (z : Remembered K). z.questions) moved in
+      let same = ap (λ (z : Remembered K). z.accesses) moved in
       record {
         inspections = omega (arith, looked, looks, ap (λ (z : QueueState). z.inspections) queues);
-        accesses = (omega (arith, looked, taken, links.0), omega (arith, looked, taken, links.1));
-        questions = (omega (arith, asked), omega (arith, asked));
+        accesses = (omega (arith, looked, taken, links.0, same), omega (arith, looked, taken, links.1, same));
+        questions = (omega (arith, asked, told), omega (arith, asked, told));
       }
 
 pub no_last : {X : Type 0} (xs : List X) → 0 < length xs → last_or None xs ≡ None → ⊥
@@ -130,30 +132,24 @@ pub looked-spends : {looks : ℕ} {a b c : Counts} → Spends 0 1 0 a b → Spen
 looked-spends before after = spends-both before after (omega arith) (omega arith) (omega arith)
 
 -- after the key's history was erased
-pub forgotten-spends : {looks keys : ℕ} {a b c : Counts} → Spends 0 7 keys a b → Spends looks (looks + 29) 0 b c → Spends looks (looks + 36) keys a c
+pub forgotten-spends : {looks : ℕ} {a b c : Counts} → Spends 0 7 0 a b → Spends looks (looks + 29) 0 b c → Spends looks (looks + 36) 0 a c
 forgotten-spends before after = spends-both before after (omega arith) (omega arith) (omega arith)
 
 -- A key is looked up, and is hit or inserted.
 module _ {K V S H : Type 0} (key : HashMembers K) (build : builder.Ghosts S H) (hash : hasher.Ghosts H)
-    (k : K) (x : ℕ) (old found : CacheState K V S) (same : x ≡ hash_of build hash old.hasher (key.hash_input k))
-    (kept : found ≡ record old { counts = found.counts }) (asked : Spends 0 0 (length (candidates old.residents x)) old.counts found.counts) where
-  asked_there : length (candidates old.residents x) ≡ length (candidates old.residents (hash_of build hash old.hasher (key.hash_input k)))
-  asked_there = ap (λ y. length (candidates old.residents y)) same
-
+    (k : K) (old found : CacheState K V S) (kept : found ≡ record old { counts = found.counts }) (asked : Spends 0 0 (alike key build hash k old) old.counts found.counts) where
   pub hit-spends : (slot : ℕ) → Some slot ≡ slot_of (key.eq k) old.machine → (new : Counts) → new ≡ found.counts
       → Spends (inspections_for (key.eq k) old.machine) (accesses_for (key.eq k) old.machine) (alike key build hash k old) old.counts new
   hit-spends slot there new is =
       let none : inspections_for (key.eq k) old.machine ≡ 0 =
       sym (ap (λ o. if is_some o then 0 else (if takes_victim (key.eq k) old.machine then machine.inspections old.machine.main else 0)) there) in
       let no_link : accesses_for (key.eq k) old.machine ≡ 0 = sym (ap (λ o. if is_some o then 0 else inspections_for (key.eq k) old.machine + 36) there) in
-      rw (is, no_link, none) (spends-more asked (omega arith) (omega (arith, asked_there)))
+      rw (is, no_link, none) asked
 
   pub insert-spends : None ≡ slot_of (key.eq k) old.machine → (new : Counts)
-      → Spends (inspections_for (key.eq k) found.machine) (inspections_for (key.eq k) found.machine + 36) (length (candidates found.remembered.index x)) found.counts new
+      → Spends (inspections_for (key.eq k) found.machine) (inspections_for (key.eq k) found.machine + 36) 0 found.counts new
       → Spends (inspections_for (key.eq k) old.machine) (accesses_for (key.eq k) old.machine) (alike key build hash k old) old.counts new
   insert-spends absent new spent =
       let links : accesses_for (key.eq k) old.machine ≡ inspections_for (key.eq k) old.machine + 36 = sym (ap (λ o. if is_some o then 0 else inspections_for (key.eq k) old.machine + 36) absent) in
       let looks = ap (λ (z : CacheState K V S). inspections_for (key.eq k) z.machine) kept in
-      let places = ap (λ (z : CacheState K V S). length (candidates z.remembered.index x)) kept in
-      let places_there = ap (λ y. length (candidates old.remembered.index y)) same in
-      spends-both asked spent (omega (arith, looks)) (omega (arith, looks, links)) (omega (arith, asked_there, places, places_there))
+      spends-both asked spent (omega (arith, looks)) (omega (arith, looks, links)) (omega arith)

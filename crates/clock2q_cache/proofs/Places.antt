@@ -1,9 +1,8 @@
--- Which resident stands at a slot, and what an insertion makes of the two indexes.
+-- Which resident stands at a slot, and what an insertion makes of the index.
 use Rattle.std.proofs.Common.{◌≡◌, ℕ, ◌==◌, Bool, true, false, eqb, Option, Some, None, List, [], ◌∷◌, map, inl, inr, refl, sym, ap, ◌∙◌, eqb-true, eq-eqb}
 use Rattle.std.specs.List.{find, last_or, AllByRecursion}
 use Rattle.std.specs.Cmp.{IsEquivalence}
 use Rattle.std.proofs.lemmas.Bool.{cases_Bool}
-use Rattle.clock2q_handles.specs.Homes.{with_handle, removed}
 use Rattle.clock2q_queues.specs.Rings.{has}
 use Rattle.clock2q_queues.specs.Keys.{KeyPlaces, key_at, hash_at}
 use Rattle.clock2q_queues.specs.Queues.{QueueState, slots_of}
@@ -16,7 +15,8 @@ use Rattle.std.specs.Prelude.{if◌then◌else◌, IfSome}
 use Rattle.std.specs.Option.{option_map}
 use Rattle.clock2q_machine.specs.Ages.{is_promoted}
 use Rattle.clock2q_machine.specs.Entries.{SmallEntry}
-use Rattle.clock2q_cache.specs.Places.{remembering_any, left_by, entered, key_out}
+use Rattle.clock2q_queues.specs.Index as known
+use Rattle.clock2q_cache.specs.Places.{remembering, left_by, entered, key_out}
 use Rattle.clock2q_cache.proofs.WithKeys.{HaveKeys, have_later, paired, paired-cons}
 use Rattle.clock2q_cache.proofs.Stored.{have_keys, hash-of-key}
 use Rattle.clock2q_cache.proofs.Renewed.{last_entry, tail_key}
@@ -69,30 +69,33 @@ module _ {K V : Type 0} {eq : K → K → Bool} {hash : K → ℕ} {shares : Sha
   pub resident-none : (slot : ℕ) → has slot (places_of q) ≡ false → resident_at m slot ≡ None
   resident-none slot absent = resident-here slot ∙ rw absent refl
 
-  -- a key enters at a slot that has no resident
-  pub entered-vacant : (key : K) (slot : ℕ) {hsh : ℕ} {index' : List (List (ℕ × ℕ))} → has slot (places_of q) ≡ false → hsh ≡ hash key
-      → index' ≡ with_handle index hsh slot → index' ≡ entered hash key slot m index
-  entered-vacant key slot absent is indexed =
-      indexed ∙ ap (λ x. with_handle index x slot) is ∙ sym (ap (λ z. with_handle (left_by hash z slot index) (hash key) slot) (resident-none slot absent))
+  module _ (p : Places) (key : K) (slot : ℕ) {hsh : ℕ} {p' : Places} (is : hsh ≡ hash key) where
+    -- a key enters at a slot that has no resident
+    pub entered-vacant : has slot (places_of q) ≡ false → p' ≡ record p { index = known.entered hsh slot p.index } → p' ≡ entered hash key slot None m p
+    entered-vacant absent indexed =
+        indexed ∙ ap (λ x. record p { index = known.entered x slot p.index }) is
+        ∙ sym (ap (λ z. let r = left_by hash z slot p in record r { index = known.entered (hash key) slot r.index }) (resident-none slot absent))
 
-  -- a key takes the slot of a resident
-  pub entered-renewed : (key : K) (slot : ℕ) {hsh old : ℕ} {index' : List (List (ℕ × ℕ))} → has slot (places_of q) ≡ true → hash_at keys.entries slot ≡ Some old → hsh ≡ hash key
-      → index' ≡ with_handle (removed eqb index old slot) hsh slot → index' ≡ entered hash key slot m index
-  entered-renewed key slot {old = old} there at is indexed =
-      let k = have slot there in
-      indexed ∙ ap (λ x. with_handle (removed eqb index old slot) x slot) is
-      ∙ ap (λ x. with_handle (removed eqb index x slot) (hash key) slot) (hash-of-key hash keys.entries slot old k.0 kept.stored.hashed at k.1)
-      ∙ sym (ap (λ z. with_handle (left_by hash z slot index) (hash key) slot) (resident-there slot k.0 there k.1))
+    -- a key takes the slot of a resident that leaves
+    pub entered-renewed : {old : ℕ} → has slot (places_of q) ≡ true → hash_at keys.entries slot ≡ Some old
+        → p' ≡ record p { index = known.entered hsh slot (known.left old slot p.index) } → p' ≡ entered hash key slot None m p
+    entered-renewed {old} there at indexed =
+        let k = have slot there in
+        indexed ∙ ap (λ x. record p { index = known.entered x slot (known.left old slot p.index) }) is
+        ∙ ap (λ x. record p { index = known.entered (hash key) slot (known.left x slot p.index) }) (hash-of-key hash keys.entries slot old k.0 kept.stored.hashed at k.1)
+        ∙ sym (ap (λ z. let r = left_by hash z slot p in record r { index = known.entered (hash key) slot r.index }) (resident-there slot k.0 there k.1))
 
-  -- the key of Small's tail goes out into the history
-  pub tail-remembered : (tail : ℕ) (p : Places) {key : K} {hsh : ℕ} {p' : Places}
-      → last_or None (slots_of q.small) ≡ Some tail → key_at keys.entries tail ≡ Some key → hash_at keys.entries tail ≡ Some hsh
-      → p' ≡ pushed_places h.limit hsh (oldest_hash (λ (e : ℕ × K). e.0) h.entries) p
-      → p' ≡ remembering_any hash (option_map (λ (e : SmallEntry K). e.key) (last_or None m.small)) m p
-  tail-remembered tail p {key} {hsh} last key_is hash_is pushed =
-      let out : option_map (λ (e : SmallEntry K). e.key) (last_or None m.small) ≡ Some key =
-      ap (λ o. option_map (λ (e : SmallEntry K). e.key) o) (last_entry laws kept tail last) ∙ sym (tail_key laws kept tail last).1 ∙ key_is in
-      pushed ∙ ap (λ z. pushed_places z hsh (oldest_hash (λ (e : ℕ × K). e.0) h.entries) p) kept.sized.remembers
-      ∙ ap (λ z. pushed_places (history_share shares) z (oldest_hash (λ (e : ℕ × K). e.0) h.entries) p) (hash-of-key hash keys.entries tail hsh key kept.stored.hashed hash_is key_is)
-      ∙ ap (λ z. pushed_places (history_share shares) (hash key) z p) (oldest-hashed hash None None h.entries refl kept.hashed)
-      ∙ ap (λ o. remembering_any hash o m p) (sym out)
+    -- a key takes the slot of Small's tail, whose key goes out into the history
+    pub entered-evicting : {key_out : K} {old : ℕ} → last_or None (slots_of q.small) ≡ Some slot → key_at keys.entries slot ≡ Some key_out → hash_at keys.entries slot ≡ Some old
+        → (let r = pushed_places h.limit old slot (oldest_hash (λ (e : ℕ × K). e.0) h.entries) p in p' ≡ record r { index = known.entered hsh slot r.index })
+        → p' ≡ entered hash key slot (option_map (λ (e : SmallEntry K). e.key) (last_or None m.small)) m p
+    entered-evicting {key_out} {old} last key_is hash_is indexed =
+        let out : option_map (λ (e : SmallEntry K). e.key) (last_or None m.small) ≡ Some key_out =
+        ap (λ o. option_map (λ (e : SmallEntry K). e.key) o) (last_entry laws kept slot last) ∙ sym (tail_key laws kept slot last).1 ∙ key_is in
+        let pushed : pushed_places h.limit old slot (oldest_hash (λ (e : ℕ × K). e.0) h.entries) p ≡ remembering hash key_out slot m p =
+        ap (λ z. pushed_places z old slot (oldest_hash (λ (e : ℕ × K). e.0) h.entries) p) kept.sized.remembers
+        ∙ ap (λ z. pushed_places (history_share shares) z slot (oldest_hash (λ (e : ℕ × K). e.0) h.entries) p) (hash-of-key hash keys.entries slot old key_out kept.stored.hashed hash_is key_is)
+        ∙ ap (λ z. pushed_places (history_share shares) (hash key_out) slot z p) (oldest-hashed hash None None h.entries refl kept.hashed) in
+        indexed ∙ ap (λ (r : Places). record r { index = known.entered hsh slot r.index }) pushed
+        ∙ ap (λ x. let r = remembering hash key_out slot m p in record r { index = known.entered x slot r.index }) is
+        ∙ ap (λ o. entered hash key slot o m p) (sym out)

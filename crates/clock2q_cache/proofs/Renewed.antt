@@ -10,7 +10,7 @@ use Rattle.clock2q_cache.proofs.Changed.{known-any}
 use Rattle.clock2q_cache.proofs.Finding.{none-has, counted-map}
 use Rattle.clock2q_cache.proofs.Insertions.{no_last}
 use Rattle.std.proofs.lemmas.List.Sums.{sum_by-append}
-use Rattle.clock2q_handles.specs.Homes.{capacity, with_handle, removed}
+use Rattle.clock2q_handles.specs.Homes.{total, capacity, with_handle, removed}
 use Rattle.clock2q_machine.specs.Ages.{Age, is_promoted}
 use Rattle.clock2q_queues.specs.Rings.{has, AllApart}
 use Rattle.clock2q_queues.specs.Keys.{KeyPlaces, entry, hash_at, key_at}
@@ -18,7 +18,7 @@ use Rattle.clock2q_queues.specs.Indexes.{IsIndex}
 use Rattle.clock2q_queues.specs.Small.{admitted}
 use Rattle.clock2q_queues.specs.MainRing.{set_front, from_victim}
 use Rattle.clock2q_queues.specs.Queues.{QueueState, slots_of}
-use Rattle.clock2q_queues.specs.History.{Remembered, is_remembered}
+use Rattle.clock2q_queues.specs.History.{Remembered, is_remembered, most_beside}
 use Rattle.clock2q_queues.proofs.Rings.{has-append, eqb_self, has_first, below_of}
 use Rattle.clock2q_queues.proofs.Indexes.{length-put, length-taken}
 use Rattle.clock2q_machine.specs.Shares.{Shares, main_share, history_share}
@@ -81,17 +81,22 @@ module _ {K V : Type 0} {eq : K → K → Bool} {hash : K → ℕ} {shares : Sha
   once_at t = omega (arith, at_most_once laws kept t, times-both t q)
 
   -- what `renew` asks for
-  pub resident-there : (slot : ℕ) → has slot (places_of q) ≡ true
-      → (places : List ℕ) × IsIndex index keys.entries places × AllApart places × (has slot places ≡ true) × (length places < 2 ^ 24) × (length places ≤ capacity (length index))
-  resident-there slot there =
-      let n = length-places q in (
-        places_of q,
-        kept.stored.indexed,
-        apart laws kept,
-        there,
-        omega (arith, n, kept.whole.small_within, kept.whole.main_within, kept.whole.small_below, kept.sized.short, length_in_small laws kept, length_in_main laws kept),
-        omega (arith, n, kept.whole.small_within, kept.whole.main_within, kept.whole.small_below, kept.sized.half, length_in_small laws kept, length_in_main laws kept),
-      )
+  pub resident-there : (slot : ℕ) → has slot (places_of q) ≡ true → (places : List ℕ) × IsIndex index keys.entries places × AllApart places × (has slot places ≡ true)
+  resident-there slot there = (places_of q, kept.stored.indexed, apart laws kept, there)
+
+  pub room-there : (total index + most_beside h ≤ capacity (length index)) × (total index + most_beside h < 2 ^ 24)
+  room-there =
+      let few : total index ≤ shares.capacity = omega (
+        arith,
+        kept.stored.indexed.counted,
+        length-places q,
+        kept.whole.small_within,
+        kept.whole.main_within,
+        kept.whole.small_below,
+        length_in_small laws kept,
+        length_in_main laws kept,
+      ) in
+      (omega (arith, few, kept.sized.spacious), omega (arith, few, kept.sized.few))
 
   -- a resident's slot was made, and is below the capacity
   pub slot-below : (slot : ℕ) → has slot (places_of q) ≡ true → (slot < length keys.entries) × (slot < shares.capacity) × (slot < 2 ^ 24)
@@ -247,13 +252,13 @@ module _ {K V : Type 0} {eq : K → K → Bool} {hash : K → ℕ} {shares : Sha
     values : map (λ e. e.value) keys'.entries ≡ (stored slot w.held m).values
     values = rw w.becomes (values-written slot (entry hsh key w.held) keys.entries next)
 
-    done : {p : Placement K V} {h' : Remembered K} (q' : QueueState) → IsPlaced key m p → slot ≡ p.slot → q'.slots ≡ q.slots → q'.window ≡ q.window → h'.limit ≡ h.limit
+    done : {p : Placement K V} {h' : Remembered K} (q' : QueueState) → IsPlaced key m p → slot ≡ p.slot → q'.slots ≡ q.slots → q'.window ≡ q.window → h'.limit ≡ h.limit → most_beside h' ≡ most_beside h
         → machine_of shares q' keys'.entries h'.entries free ≡ stored p.slot w.held p.machine → AllByRecursion (λ e. e.0 ≡ hash e.1) h'.entries
         → ((t : ℕ) → times t (places_of q') ≡ times t (places_of q)) → length q'.small + length q'.main ≡ length q.small + length q.main
         → IsDone laws kept slot value p q' h' index' keys' free room
-    done q' placed own_slot slots window limit e hashed as_often as_many =
+    done q' placed own_slot slots window limit beside e hashed as_often as_many =
         placed-done laws kept absent placed w own_slot e (stored-moved q' same_places as_often (as_many ∙ sym (length-places q))) hashed
-        (sized-same kept.sized slots window limit
+        (sized-same kept.sized slots window limit beside
         (ap (λ (z : List (List (ℕ × ℕ))). length z) indexed ∙ length-put (removed eqb index old slot) hsh slot ∙ length-taken index old slot)
         (ap (λ (z : KeyPlaces K V). z.room) renewed) refl)
 
@@ -280,7 +285,7 @@ module _ {K V : Type 0} {eq : K → K → Bool} {hash : K → ℕ} {shares : Sha
         ap (λ b. if b then replacing_victim key (machine.from_victim m.main) m else joining_main key (vacancy m) m) (eq-eqb (length m.main) (main_share shares) full)
         ∙ ap (λ z. replacing_victim key z m) (choice slot first) in
         rw queues (subst (λ z. IsDone laws kept slot value z q1 h index' keys' free room) (sym is_p)
-        (done q1 (placed-replacing eq m kept.whole key (victim_entry slot first) (others slot first) (choice slot first)) refl refl refl refl e kept.hashed
+        (done q1 (placed-replacing eq m kept.whole key (victim_entry slot first) (others slot first) (choice slot first)) refl refl refl refl refl e kept.hashed
         (λ u. omega (arith, times-both u q1, times-pushed u (rest slot first) (slot, false), rest_times slot first u, times-both u q))
         (omega (arith, length-append (rest slot first) ((slot, false) ∷ []), length-rest slot first))))
 
@@ -288,11 +293,12 @@ module _ {K V : Type 0} {eq : K → K → Bool} {hash : K → ℕ} {shares : Sha
     pub evicted-done : {q' : QueueState} {h' : Remembered K} {old_key : K} (last : last_or None (slots_of q.small) ≡ Some slot) → key_at keys.entries slot ≡ Some old_key
         → vacancy m ≡ None → IfSome (last_or None m.small) (λ tail. is_promoted tail.age ≡ false)
         → q' ≡ record q { small = admitted q.window slot (front slot last); accesses = q'.accesses }
-        → h' ≡ record h { entries = take h.limit ((old, old_key) ∷ h.entries); places = h'.places; accesses = h'.accesses }
+        → h' ≡ record h { entries = take h.limit ((old, old_key) ∷ h.entries); places = h'.places; accesses = h'.accesses } → most_beside h' ≡ most_beside h
         → IsDone laws kept slot value (into_small key m) q' h' index' keys' free room
-    evicted-done {q'} {h'} {old_key} last key_is none out queues pushed =
+    evicted-done {q'} {h'} {old_key} last key_is none out queues pushed beside_is =
         let q1 : QueueState = record q { small = admitted q.window slot (front slot last); accesses = q'.accesses } in
         let h1 : Remembered K = record h { entries = take h.limit ((old, old_key) ∷ h.entries); places = h'.places; accesses = h'.accesses } in
+        let beside : most_beside h1 ≡ most_beside h = sym (ap (λ (z : Remembered K). most_beside z) pushed) ∙ beside_is in
         let s : with_keys_small (key_at keys'.entries) q1.small ≡ machine.small_admitted shares.window key slot (take (length m.small - 1) m.small) =
         small_joined slot last (tail-not_in_front slot last) in
         let t = main_other q.main (tail-not_in_main slot last) in
@@ -304,7 +310,7 @@ module _ {K V : Type 0} {eq : K → K → Bool} {hash : K → ℕ} {shares : Sha
         let e : machine_of shares q1 keys'.entries h1.entries free ≡ stored p.slot w.held p.machine = cc in
         let out' : is_promoted (tail_at slot last).0 ≡ false = subst (λ z. IfSome z (λ tail. is_promoted tail.age ≡ false)) (last_entry slot last) out in
         rw (queues, pushed) (subst (λ z. IsDone laws kept slot value z q1 h1 index' keys' free room) (sym (into-tail slot last key none ∙ ap (λ b. onto slot last key b) out'))
-        (done q1 (placed-evicting eq m kept.whole key (tail_entry slot last) (last_entry slot last) (small_some slot last)) refl refl refl refl e
+        (done q1 (placed-evicting eq m kept.whole key (tail_entry slot last) (last_entry slot last) (small_some slot last)) refl refl refl refl beside e
         (all-taken (λ e. e.0 ≡ hash e.1) h.limit ((old, old_key) ∷ h.entries) (hash-of-key hash keys.entries slot old old_key kept.stored.hashed at key_is, kept.hashed))
         (λ u. omega (arith, times-both u q1, times-admitted u q.window slot (front slot last), front_times slot last u, times-both u q))
         (omega (arith, length-admitted q.window slot (front slot last), length-front slot last))))
@@ -330,7 +336,7 @@ module _ {K V : Type 0} {eq : K → K → Bool} {hash : K → ℕ} {shares : Sha
         let is_p = into-tail tail last key none ∙ ap (λ b. onto tail last key b) on' ∙ ap (λ z. promoting_tail key (tail_entry tail last) z m) (choice slot first) in
         rw queues (subst (λ z. IsDone laws kept slot value z q1 h index' keys' free room) (sym is_p)
         (done q1 (placed-promoting eq m kept.whole key (tail_entry tail last) (last_entry tail last) (small_some tail last) (victim_entry slot first) (others slot first) (choice slot first))
-        refl refl refl refl e kept.hashed
+        refl refl refl refl refl e kept.hashed
         (λ u. omega (
           arith,
           times-both u q1,

@@ -11,7 +11,7 @@ use Rattle.clock2q_queues.proofs.Lookups.{questions-most}
 use Rattle.clock2q_machine.specs.Bounds.{set_bits, inspections_of}
 use Rattle.clock2q_machine.specs.Calls.{Call, Get, GetAt, Set, Remove, Retain, Prefill}
 use Rattle.clock2q_cache.specs.CacheFields.{counts_of}
-use Rattle.clock2q_cache.specs.CacheState.{CacheState, Counts}
+use Rattle.clock2q_cache.specs.CacheState.{CacheState, Counts, residents_in}
 use Rattle.clock2q_cache.specs.Costs.{Spends, Costs, Becomes, most_accesses, most_questions}
 use Rattle.clock2q_cache.specs.Hashes.{hash_of}
 use Rattle.clock2q_machine.specs.Machine.{slot_of, hit, stored, prefilled, vacated, removed_at, removed}
@@ -88,13 +88,13 @@ module _ {K V S H : Type 0} (key : HashMembers K) (build : builder.Ghosts S H) (
   retain-costs bits asked old new is spent = costs-unlooked (Retain bits) old new refl (omega (arith, ap set_bits is, clock_bounded key.eq (Retain asked) old.machine)) spent
 
   -- a lookup under the key's hash asks no more than a call with the key may
-  found-spends : (k : K) (x : ℕ) (old : CacheState K V S) (new : Counts) → x ≡ hash_of build hash old.hasher (key.hash_input k) → Spends 0 0 (length (candidates old.residents x)) old.counts new
+  found-spends : (k : K) (x : ℕ) (old : CacheState K V S) (new : Counts) → x ≡ hash_of build hash old.hasher (key.hash_input k) → Spends 0 0 (length (candidates (residents_in old.known) x)) old.counts new
       → Spends 0 0 (most_questions key build hash (Get k) old) old.counts new
-  found-spends k x old new same spent = spends-more spent (omega arith) (omega (arith, ap (λ y. length (candidates old.residents y)) same))
+  found-spends k x old new same spent = spends-more spent (omega arith) (omega (arith, ap (λ y. length (candidates (residents_in old.known) y)) same))
 
   -- a lookup that finds no resident
   pub missed-becomes : (k : K) (x : ℕ) (old new : CacheState K V S) → x ≡ hash_of build hash old.hasher (key.hash_input k) → slot_of (key.eq k) old.machine ≡ None
-      → new ≡ record old { counts = new.counts } → Spends 0 0 (length (candidates old.residents x)) old.counts new.counts
+      → new ≡ record old { counts = new.counts } → Spends 0 0 (length (candidates (residents_in old.known) x)) old.counts new.counts
       → Becomes key build hash (Get k) (hit (key.eq k) old.machine) old new
   missed-becomes k x old new same absent kept spent =
       let m = ap (λ (z : CacheState K V S). z.machine) kept ∙ sym (hit-absent (key.eq k) old.machine absent) in
@@ -106,7 +106,7 @@ module _ {K V S H : Type 0} (key : HashMembers K) (build : builder.Ghosts S H) (
 
   -- a lookup that finds one, which is hit
   pub hit-becomes : (k : K) (x : ℕ) (old found new : CacheState K V S) → x ≡ hash_of build hash old.hasher (key.hash_input k)
-      → found ≡ record old { counts = found.counts } → Spends 0 0 (length (candidates old.residents x)) old.counts found.counts
+      → found ≡ record old { counts = found.counts } → Spends 0 0 (length (candidates (residents_in old.known) x)) old.counts found.counts
       → new ≡ record found { machine = new.machine } → new.machine ≡ hit (key.eq k) found.machine
       → Becomes key build hash (Get k) (hit (key.eq k) old.machine) old new
   hit-becomes k x old found new same kept spent after_hit is =
@@ -115,14 +115,13 @@ module _ {K V S H : Type 0} (key : HashMembers K) (build : builder.Ghosts S H) (
       (m, ap (λ (z : CacheState K V S). z.hasher) after_hit ∙ ap (λ (z : CacheState K V S). z.hasher) kept, costs-of (Get k) old new m (rw c (found-spends k x old found.counts same spent)))
 
   -- a lookup that finds a resident, which leaves
-  pub remove-costs : (k : K) (x slot : ℕ) (old found new : CacheState K V S) → x ≡ hash_of build hash old.hasher (key.hash_input k) → Some slot ≡ slot_of (key.eq k) old.machine
-      → found ≡ record old { counts = found.counts } → Spends 0 0 (length (candidates old.residents x)) old.counts found.counts
+  pub remove-costs : (k : K) (slot : ℕ) (old found new : CacheState K V S) → Some slot ≡ slot_of (key.eq k) old.machine
+      → found ≡ record old { counts = found.counts } → Spends 0 0 (most_questions key build hash (Remove k) old) old.counts found.counts
       → new.machine ≡ vacated slot found.machine → Spends 0 8 0 found.counts new.counts
       → Costs key build hash (Remove k) old new
-  remove-costs k x slot old found new same there kept asked is left =
+  remove-costs k slot old found new there kept asked is left =
       let m : new.machine ≡ removed (key.eq k) old.machine = is ∙ ap (λ (z : CacheState K V S). vacated slot z.machine) kept ∙ ap (λ o. removed_at (key.eq k) o old.machine) there in
-      let few = found-spends k x old found.counts same asked in
-      costs-of (Remove k) old new m (spends-both few left (omega arith) (omega arith) (omega arith))
+      costs-of (Remove k) old new m (spends-both asked left (omega arith) (omega arith) (omega arith))
 
   -- the value of the key that is hit is lent, and this is left behind the reference
   pub lent-becomes : (k : K) (slot : ℕ) (value : V) (old new : CacheState K V S) → Some slot ≡ slot_of (key.eq k) old.machine

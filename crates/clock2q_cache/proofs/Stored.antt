@@ -1,19 +1,18 @@
 -- The keys by slot and their index: what becomes of them where a key enters or one is replaced.
-use Rattle.std.proofs.Common.{◌≡◌, ℕ, zero, suc, ◌+◌, ◌^◌, ◌<◌, ◌≤◌, true, false, ◌&&◌, eqb, Some, None, slice_get, List, [], ◌∷◌, ◌++◌, map, length, inl, inr, refl, sym, ap, ◌∙◌, subst, arith, eqb-true}
-use Rattle.std.specs.Prelude.{if◌then◌else◌, nat_lt, slice_set}
+use Rattle.std.proofs.Common.{◌≡◌, ℕ, zero, suc, ◌+◌, ◌^◌, ◌<◌, ◌≤◌, true, false, ◌&&◌, eqb, Some, None, List, [], ◌∷◌, length, inl, inr, refl, sym, ap, ◌∙◌, subst, arith, eqb-true}
+use Rattle.std.specs.Prelude.{slice_set}
 use Rattle.std.specs.List.{AllByRecursion}
-use Rattle.std.proofs.lemmas.Bool.{cases_Bool, cases_lt, both_ways, lt-ltb, le-ltb}
+use Rattle.std.proofs.lemmas.Bool.{cases_Bool}
 use Rattle.clock2q_handles.specs.Homes.{total, capacity, with_handle, removed}
 use Rattle.clock2q_queues.specs.declared.keys.store.Entry.{Entry}
 use Rattle.clock2q_queues.specs.Rings.{has, without, AllApart, AllBelow}
-use Rattle.clock2q_queues.specs.Keys.{entry, written, with_key, hash_at, key_at, value_at}
+use Rattle.clock2q_queues.specs.Keys.{entry, written, with_key, hash_at, key_at}
 use Rattle.clock2q_queues.specs.Indexes.{IsIndex, is_named}
-use Rattle.clock2q_queues.proofs.Rings.{has_first, has_later, eqb_self, below_of, has-without, has-without_test, below-has, below-more}
+use Rattle.clock2q_queues.proofs.Rings.{eqb_self, below_of, has-without, has-without_test, below-has, below-more}
 use Rattle.clock2q_queues.proofs.Booleans.{and_true, and_false}
 use Rattle.clock2q_machine.proofs.Whole.{some_is}
-use Rattle.std.proofs.lemmas.List.{map-append}
 use Rattle.clock2q_queues.proofs.Joining.{length-without}
-use Rattle.clock2q_queues.proofs.Entries.{written-push, slice_get-written, slice_get-written_other, length-written, slice_get_some, set-written, all-written, value-there, hash_at-own, hash_at-others}
+use Rattle.clock2q_queues.proofs.Entries.{length-written, slice_get_some, set-written, all-written, value-there, hash_at-own, hash_at-others}
 use Rattle.clock2q_queues.proofs.Indexes.{IsIndex-put, IsIndex-taken, length-taken}
 use Rattle.clock2q_cache.specs.CacheFields.{IsStored}
 use Rattle.clock2q_cache.specs.Insertions.{Writes}
@@ -94,14 +93,15 @@ module _ {K V : Type 0} (hash : K → ℕ) where
 -- one of the places goes out of an index: it has room for another
 pub left-room : {K V : Type 0} (index index' : List (List (ℕ × ℕ))) (entries : List (Entry K V)) (places : List ℕ) (slot old : ℕ)
     → IsIndex index entries places → AllApart places → has slot places ≡ true → hash_at entries slot ≡ Some old
-    → length places < 2 ^ 24 → length places ≤ capacity (length index) → index' ≡ removed eqb index old slot → (total index' < capacity (length index')) × (total index' + 1 < 2 ^ 24)
-left-room index index' entries places slot old i apart there at few room is =
+    → (beside : ℕ) → total index + beside < 2 ^ 24 → total index + beside ≤ capacity (length index) → index' ≡ removed eqb index old slot
+    → (total index' + beside < capacity (length index')) × (total index' + beside + 1 < 2 ^ 24)
+left-room index index' entries places slot old i apart there at beside few room is =
     let n = length-without slot places apart there in
-    let some : 0 < length index = some_homes (length index) (omega (arith, n, room)) in
+    let some : 0 < length index = some_homes (length index) (omega (arith, n, i.counted, room)) in
     let left = IsIndex-taken index entries places slot old i some apart at in
     let homes : length index' ≡ length index = ap (λ (z : List (List (ℕ × ℕ))). length z) is ∙ length-taken index old slot in
     let count : total index' ≡ length (without slot places) = ap (λ z. total z) is ∙ left.counted in
-    (rw homes (omega (arith, n, count, room)), omega (arith, n, count, few))
+    (rw homes (omega (arith, n, count, i.counted, room)), omega (arith, n, count, i.counted, few))
   where
     some_homes : (n : ℕ) → 0 < capacity n → 0 < n
     some_homes zero h = absurd (omega arith)

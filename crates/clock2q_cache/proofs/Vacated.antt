@@ -94,7 +94,7 @@ module _ {K V : Type 0} {eq : K → K → Bool} {hash : K → ℕ} {shares : Sha
             (stored-left hash index keys.entries (places_of q) slot old kept.stored (index_some laws kept) (apart laws kept) at));
         hashed = kept.hashed;
         sized =
-            sized-same kept.sized slots window refl
+            sized-same kept.sized slots window refl refl
             (ap (λ (z : List (List (ℕ × ℕ))). length z) out ∙ length-taken index old slot) refl free_room;
       }
         where

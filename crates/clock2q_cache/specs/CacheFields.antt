@@ -1,5 +1,5 @@
 -- How a cache keeps its machine in the layers below. No public clause cites this file.
-use Rattle.std.specs.Prelude.{◌≡◌, ℕ, ◌+◌, ◌*◌, ◌^◌, ◌<◌, ◌≤◌, Bool, List, ◌++◌, map, length, reverse, Option}
+use Rattle.std.specs.Prelude.{◌≡◌, ℕ, ◌+◌, ◌^◌, ◌<◌, ◌≤◌, Bool, List, ◌++◌, map, length, reverse, Option}
 use Rattle.std.specs.List.{filter_map, AllByRecursion}
 use Rattle.std.specs.Option.{option_map}
 use Rattle.clock2q_machine.specs.Ages.{Age}
@@ -8,7 +8,8 @@ use Rattle.clock2q_queues.specs.Keys.{KeyPlaces, key_at}
 use Rattle.clock2q_queues.specs.Indexes.{IsIndex}
 use Rattle.clock2q_queues.specs.Rings.{AllBelow}
 use Rattle.clock2q_queues.specs.Queues.{QueueState, slots_of}
-use Rattle.clock2q_queues.specs.History.{Remembered}
+use Rattle.clock2q_handles.specs.Homes.{capacity}
+use Rattle.clock2q_queues.specs.History.{Remembered, most_beside}
 use Rattle.clock2q_machine.specs.Shares.{Shares, history_share}
 use Rattle.clock2q_machine.specs.Entries.{SmallEntry, MainEntry}
 use Rattle.clock2q_machine.specs.Machine.{Machine}
@@ -47,15 +48,16 @@ module _ {K V : Type 0} where
     pub hashed : AllByRecursion (λ e. e.hash ≡ hash e.key) entries
 
 -- the layers are as large as the shares say
-pub record IsSized (shares : Shares) (q : QueueState) (limit homes keys_room free_room : ℕ) : Type 0 where
+pub record IsSized (shares : Shares) (q : QueueState) (limit beside homes keys_room free_room : ℕ) : Type 0 where
   pub as_many : q.slots ≡ shares.capacity
   pub window : q.window ≡ shares.window
   pub windowed : 0 < shares.small → 0 < shares.window
   pub remembers : limit ≡ history_share shares
-  pub half : 2 * shares.capacity ≤ homes
+  pub spacious : shares.capacity + beside ≤ capacity homes
   pub room_for_keys : shares.capacity ≤ keys_room
   pub room_for_free : shares.capacity ≤ free_room
   pub short : shares.capacity < 2 ^ 24
+  pub few : shares.capacity + beside < 2 ^ 24
 
 -- what holds of a cache's fields
 pub record IsKept {K V : Type 0} (eq : K → K → Bool) (hash : K → ℕ) (shares : Shares) (q : QueueState)
@@ -63,7 +65,7 @@ pub record IsKept {K V : Type 0} (eq : K → K → Bool) (hash : K → ℕ) (sha
   pub whole : IsWhole eq (machine_of shares q keys.entries h.entries free)
   pub stored : IsStored hash index keys.entries (places_of q)
   pub hashed : AllByRecursion (λ e. e.0 ≡ hash e.1) h.entries
-  pub sized : IsSized shares q h.limit (length index) keys.room room
+  pub sized : IsSized shares q h.limit (most_beside h) (length index) keys.room room
 
 -- what was counted below
 abbrev pub counts_of : {K V : Type 0} → QueueState → Remembered K → KeyPlaces K V → Counts

@@ -1,6 +1,7 @@
 -- What contracts see of a cache.
 use Rattle.std.specs.Prelude.{ℕ, List, refl}
-use Rattle.std.specs.Coded.{Coded, code_by, coded×, coded_ℕ, coded_list}
+use Rattle.std.specs.Coded.{Coded, code_by, coded×, coded_ℕ}
+use Rattle.clock2q_queues.specs.Index.{slots, places}
 use Rattle.clock2q_queues.specs.History.{Places, places_code}
 use Rattle.clock2q_machine.specs.Machine.{Machine, machine_code}
 
@@ -19,23 +20,26 @@ counts_code =
     code_by (ℕ × (ℕ × ℕ)) (coded× coded_ℕ (coded× coded_ℕ coded_ℕ)) (λ c. (c.inspections, (c.accesses, c.questions)))
     (λ p. record { inspections = p.0; accesses = p.1.0; questions = p.1.1 }) (λ _. refl)
 
--- the machine that the cache is, the lists by home of the index of its residents, the places of its history's keys, what its hasher is, and what was counted
+-- the machine that the cache is, the index of its known keys with the places of its history's, what its hasher is, and what was counted
 pub record CacheState (K V S : Type 0) : Type 0 where
   pub machine : Machine K V
-  pub residents : List (List (ℕ × ℕ))
-  pub remembered : Places
+  pub known : Places
   pub hasher : S
   pub counts : Counts
 
-abbrev pub cache_state : {K V S : Type 0} → Machine K V → List (List (ℕ × ℕ)) → Places → S → Counts → CacheState K V S
-cache_state machine residents remembered hasher counts = record { machine = machine; residents = residents; remembered = remembered; hasher = hasher; counts = counts }
-
-abbrev pub homes_code : Coded (List (List (ℕ × ℕ)))
-homes_code = coded_list (coded_list (coded× coded_ℕ coded_ℕ))
+abbrev pub cache_state : {K V S : Type 0} → Machine K V → Places → S → Counts → CacheState K V S
+cache_state machine known hasher counts = record { machine = machine; known = known; hasher = hasher; counts = counts }
 
 abbrev pub cache_code : {K V S : Type 0} → Coded K → Coded V → Coded S → Coded (CacheState K V S)
-cache_code {K} {V} {S} key value hasher = code_by (Machine K V × (List (List (ℕ × ℕ)) × (Places × (S × Counts))))
-    (coded× (machine_code key value) (coded× homes_code (coded× places_code (coded× hasher counts_code))))
-    (λ c. (c.machine, (c.residents, (c.remembered, (c.hasher, c.counts)))))
-    (λ p. cache_state p.0 p.1.0 p.1.1.0 p.1.1.1.0 p.1.1.1.1)
+cache_code {K} {V} {S} key value hasher = code_by (Machine K V × (Places × (S × Counts)))
+    (coded× (machine_code key value) (coded× places_code (coded× hasher counts_code)))
+    (λ c. (c.machine, (c.known, (c.hasher, c.counts))))
+    (λ p. cache_state p.0 p.1.0 p.1.1.0 p.1.1.1)
     (λ _. refl)
+
+-- the lists by home of the residents' slots, and of the remembered keys' places: two views of the index
+abbrev pub residents_in : Places → List (List (ℕ × ℕ))
+residents_in p = slots p.index
+
+abbrev pub remembered_in : Places → List (List (ℕ × ℕ))
+remembered_in p = places p.index

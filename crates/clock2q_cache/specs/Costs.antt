@@ -8,7 +8,7 @@ use Rattle.clock2q_queues.specs.Cells.{Rises}
 use Rattle.clock2q_machine.specs.Calls.{Call, Put, Get, GetAt, Set, With, Try, SlotFor, Remove, Retain, Clear}
 use Rattle.clock2q_machine.specs.Machine.{Machine, slot_of}
 use Rattle.clock2q_machine.specs.Bounds.{set_bits, inspections_for, inspections_of, main_victims, settings}
-use Rattle.clock2q_cache.specs.CacheState.{CacheState, Counts}
+use Rattle.clock2q_cache.specs.CacheState.{CacheState, Counts, residents_in, remembered_in}
 use Rattle.clock2q_cache.specs.Hashes.{hash_of}
 
 -- the hand made so many inspections, and at most so many links were accessed and keys asked about
@@ -33,9 +33,9 @@ most_accesses eq Clear m = m.shares.capacity + m.shares.window
 most_accesses eq other m = 0
 
 module _ {K V S H : Type 0} (key : HashMembers K) (build : builder.Ghosts S H) (hash : hasher.Ghosts H) where
-  -- how many places stand in the two indexes under the hash of a key
+  -- how many slots and places stand in the index under the hash of a key
   abbrev pub alike : K → CacheState K V S → ℕ
-  alike k c = let x = hash_of build hash c.hasher (key.hash_input k) in length (candidates c.residents x) + length (candidates c.remembered.index x)
+  alike k c = let x = hash_of build hash c.hasher (key.hash_input k) in length (candidates (residents_in c.known) x) + length (candidates (remembered_in c.known) x)
 
   -- how many keys a call may ask about: those under the hash of its own, or the one at its slot
   abbrev pub most_questions : Call K V → CacheState K V S → ℕ

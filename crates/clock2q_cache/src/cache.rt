@@ -11,8 +11,7 @@ mod removal;
 use crate::hashes::hash_of;
 use crate::shares::Shares;
 use clock2q_count::Count;
-use clock2q_handles::Table;
-use clock2q_queues::history::History;
+use clock2q_queues::history::{Found, History};
 use clock2q_queues::keys::Keys;
 use clock2q_queues::queues::Queues;
 use std::alloc::{Allocator, Global};
@@ -54,7 +53,6 @@ pub struct Cache<K: Hash + Eq, V, S: BuildHasher = DefaultHashBuilder, A: Alloca
     shares: Shares,
     queues: Queues<A>,
     history: History<K, A>,
-    index: Table<u32, A>,
     keys: Keys<K, V, A>,
     free: Vec<u32, A>,
     hasher: S,
@@ -63,6 +61,7 @@ pub struct Cache<K: Hash + Eq, V, S: BuildHasher = DefaultHashBuilder, A: Alloca
 impl<K: Hash + Eq, V, S: BuildHasher, A: Allocator> Model for Cache<K, V, S, A> {
     ghost use Rattle.std.specs.Prelude.{vec_capacity};
     ghost use Rattle.clock2q_cache.specs.CacheState.{CacheState, cache_state, cache_code};
+    ghost use Rattle.clock2q_queues.specs.Index.{slots};
     ghost use Rattle.clock2q_cache.specs.CacheFields.{machine_of, counts_of, IsKept};
     ghost use Rattle.clock2q_cache.specs.Hashes.{hash_of};
 
@@ -70,9 +69,9 @@ impl<K: Hash + Eq, V, S: BuildHasher, A: Allocator> Model for Cache<K, V, S, A> 
 
     ghost coded = { cache_code K.code V.code S.code };
 
-    ghost view = { λ c. cache_state (machine_of c.shares c.queues c.keys.entries c.history.entries c.free.items) c.index.homes c.history.places c.hasher (counts_of c.queues c.history c.keys) };
+    ghost view = { λ c. cache_state (machine_of c.shares c.queues c.keys.entries c.history.entries c.free.items) c.history.places c.hasher (counts_of c.queues c.history c.keys) };
 
-    ghost invariant = { λ c. IsKept K.eq (λ k. hash_of S.BuildHasher S.Hasher.Hasher c.hasher (K.hash_input k)) c.shares c.queues c.history c.index.homes c.keys c.free.items (vec_capacity c.free) };
+    ghost invariant = { λ c. IsKept K.eq (λ k. hash_of S.BuildHasher S.Hasher.Hasher c.hasher (K.hash_input k)) c.shares c.queues c.history (slots c.history.places.index) c.keys c.free.items (vec_capacity c.free) };
 }
 
 impl<K: Hash + Eq, V, S: BuildHasher, A: Allocator> Cache<K, V, S, A> {
@@ -81,9 +80,11 @@ impl<K: Hash + Eq, V, S: BuildHasher, A: Allocator> Cache<K, V, S, A> {
     ghost use Rattle.std.specs.Borrow.{sem};
     ghost use Rattle.clock2q_machine.specs.Whole.{IsWhole};
     ghost use Rattle.clock2q_handles.specs.Homes.{candidates};
+    ghost use Rattle.clock2q_queues.specs.History.{found_slot, found_place, place_of};
+    ghost use Rattle.clock2q_cache.specs.CacheState.{residents_in};
     ghost use Rattle.clock2q_machine.specs.Calls.{Get, GetAt};
     ghost use Rattle.clock2q_cache.specs.CacheLends.{LeavesMachine, LendsHit, LendsSlot};
-    ghost use Rattle.clock2q_cache.specs.Costs.{Becomes, Costs, Spends};
+    ghost use Rattle.clock2q_cache.specs.Costs.{Becomes, Costs, Spends, alike};
     ghost use Rattle.clock2q_cache.specs.Hashes.{hash_of};
     ghost use Rattle.clock2q_cache.specs.Indexed.{IsIndexed, IsSpacious};
     ghost use Rattle.std.specs.Bool.{then_some};
@@ -253,7 +254,8 @@ impl<K: Hash + Eq, V, S: BuildHasher, A: Allocator> Cache<K, V, S, A> {
     {
         let hash = hash_of(&self.hasher, key);
         let mut asked = Count::new();
-        self.keys.find_untold(self.index.get(hash), key, &mut asked)
+        self.keys
+            .find_untold(self.history.handles(hash), key, &mut asked)
     }
 
     /// Returns the slot of a resident key.
@@ -265,9 +267,24 @@ impl<K: Hash + Eq, V, S: BuildHasher, A: Allocator> Cache<K, V, S, A> {
         ensures whole { IsWhole K.eq self.old.machine }
         ensures hasher { self.new.hasher ≡ self.old.hasher }
         ensures kept { self.new ≡ record self.old { counts = self.new.counts } }
-        ensures counts { Spends 0 0 (length (candidates self.old.residents hash)) self.old.counts self.new.counts }
+        ensures counts { Spends 0 0 (length (candidates (residents_in self.old.known) hash)) self.old.counts self.new.counts }
     {
-        self.keys.find(self.index.get(hash), key)
+        self.keys.find(self.history.handles(hash), key)
+    }
+
+    /// Looks a key up among the residents and in the history.
+    pub(crate) fn look(&mut self, hash: u64, key: &K) -> Found
+        requires { hash ≡ hash_of S.BuildHasher S.Hasher.Hasher self.old.hasher (K.hash_input key.now) }
+        ensures slot { found_slot result ≡ slot_of (K.eq key.now) self.old.machine }
+        ensures made { IfSome (found_slot result) (λ slot. slot < length self.old.machine.values) }
+        ensures place { found_slot result ≡ None → found_place result ≡ place_of (K.eq key.now) self.old.machine.history self.old.known.taken }
+        ensures machine { self.new.machine ≡ self.old.machine }
+        ensures whole { IsWhole K.eq self.old.machine }
+        ensures hasher { self.new.hasher ≡ self.old.hasher }
+        ensures kept { self.new ≡ record self.old { counts = self.new.counts } }
+        ensures counts { Spends 0 0 (alike K.Hash S.BuildHasher S.Hasher.Hasher key.now self.old) self.old.counts self.new.counts }
+    {
+        self.history.look(hash, key, &mut self.keys)
     }
 
     /// Returns the slot of a resident key, and records a hit on it.
@@ -292,17 +309,17 @@ impl<K: Hash + Eq, V, S: BuildHasher, A: Allocator> Cache<K, V, S, A> {
         self.queues.hit(slot);
     }
 
-    /// Removes the key from the history, and returns true if it was there.
-    pub(crate) fn forget(&mut self, hash: u64, key: &K) -> bool
-        requires { hash ≡ hash_of S.BuildHasher S.Hasher.Hasher self.old.hasher (K.hash_input key.now) }
+    /// Removes the key, which stands at `place`, from the history, and returns true if it was there.
+    pub(crate) fn forget(&mut self, hash: u64, key: &K, place: Option<u32>) -> bool
+        requires place { place ≡ place_of (K.eq key.now) self.old.machine.history self.old.known.taken }
+        requires hash { hash ≡ hash_of S.BuildHasher S.Hasher.Hasher self.old.hasher (K.hash_input key.now) }
         ensures known { result ≡ list_any (K.eq key.now) self.old.machine.history }
         ensures machine { self.new.machine ≡ forgotten (K.eq key.now) self.old.machine }
         ensures hasher { self.new.hasher ≡ self.old.hasher }
-        ensures residents { self.new.residents ≡ self.old.residents }
-        ensures remembered { self.new.remembered ≡ discarded (K.eq key.now) hash self.old }
-        ensures counts { Spends 0 7 (length (candidates self.old.remembered.index hash)) self.old.counts self.new.counts }
+        ensures places { self.new.known ≡ discarded (K.eq key.now) hash self.old }
+        ensures counts { Spends 0 7 0 self.old.counts self.new.counts }
     {
-        self.history.discard(hash, key)
+        self.history.discard(hash, key, place)
     }
 
     /// Returns the value of a slot.
@@ -340,8 +357,9 @@ impl<K: Hash + Eq + Drop, V: Drop, S: BuildHasher, A: Allocator> Cache<K, V, S, 
         ensures costs { Costs K.Hash S.BuildHasher S.Hasher.Hasher (Put key value) self.old self.new }
     {
         let hash = self.hash(&key);
-        let Some(slot) = self.find(hash, &key) else {
-            self.insert(hash, key, value);
+        let found = self.look(hash, &key);
+        let Found::Resident(slot) = found else {
+            self.insert(hash, key, value, found.place());
             return None;
         };
         self.record_hit(slot, &key);

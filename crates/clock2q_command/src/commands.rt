@@ -66,7 +66,7 @@ where
     ensures costs { Costs K.Hash S.BuildHasher S.Hasher.Hasher (call_of command) cache.old cache.new }
     ensures indexed { IsIndexed K.Hash S.BuildHasher S.Hasher.Hasher cache.old }
 {
-    let _ = cache.len(); // whose contract says what the indexes have
+    let _ = cache.len(); // whose contract says what the index has
     match command {
         Command::Put(key, value) => Reply::Value(cache.put(key, value)),
         Command::Get(key) => Reply::Value(cache.get(&key).copied()),

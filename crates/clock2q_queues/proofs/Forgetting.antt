@@ -1,21 +1,24 @@
 -- A key forgotten by the history.
-use Rattle.std.proofs.Common.{◌≡◌, ℕ, ◌+◌, ◌≤◌, Bool, true, false, eqb, Option, Some, None, slice_get, List, [], ◌∷◌, map, length, inl, inr, refl, sym, ap, ◌∙◌, subst, arith}
+use Rattle.std.proofs.Common.{◌≡◌, ℕ, ◌+◌, ◌^◌, ◌<◌, ◌≤◌, Bool, true, false, eqb, Option, Some, None, slice_get, List, [], ◌∷◌, map, length, inl, inr, refl, sym, ap, ◌∙◌, subst, arith}
 use Rattle.std.specs.List.{cons_option, find}
 use Rattle.std.specs.Cmp.{IsEquivalence}
 use Rattle.std.proofs.lemmas.Bool.{both_ways, cases_Bool, eqb-true}
-use Rattle.clock2q_handles.specs.Homes.{candidates, removed}
+use Rattle.clock2q_handles.specs.Homes.{candidates}
+use Rattle.clock2q_queues.specs.Index as known
+use Rattle.clock2q_queues.specs.Index.{IndexState, forgotten_at}
 use Rattle.clock2q_queues.specs.declared.keys.store.Entry.{Entry}
 use Rattle.clock2q_queues.specs.Rings.{has, without, AllBelow}
 use Rattle.clock2q_queues.specs.Order.{PlaceOrder, IsWholeOrder, used}
 use Rattle.clock2q_queues.specs.Keys.{KeyPlaces, hashed_at, entries_of, is_key_at}
 use Rattle.clock2q_queues.specs.Indexes.{IsIndex, AllDistinct, HasHash, has_key}
-use Rattle.clock2q_queues.specs.History.{IsHistory, forgotten, remembered, accesses_of, places_with, places_in, place_of, freed_place}
+use Rattle.clock2q_queues.specs.History.{IsHistory, forgotten, remembered, accesses_of, places_with, places_from, place_of, freed_place}
 use Rattle.clock2q_queues.specs.Cells.{Rises}
-use Rattle.clock2q_queues.proofs.Rings.{has_first, has_later, AllApart-left, AllBelow-left}
+use Rattle.clock2q_queues.proofs.Rings.{has_first, has_later, below_of, AllApart-left, AllBelow-left}
 use Rattle.clock2q_queues.proofs.Joining.{length-without}
 use Rattle.clock2q_queues.proofs.Entries.{key_there, any_entry, same_place, hashed_there, entries-cons}
 use Rattle.clock2q_queues.proofs.Histories.{shown-as}
-use Rattle.clock2q_queues.proofs.Indexes.{length-taken, IsIndex-removed}
+use Rattle.clock2q_queues.proofs.Indexes.{IsIndex-removed, named-own}
+use Rattle.clock2q_queues.proofs.Views.{places-forgotten, forgotten-like}
 use Rattle.clock2q_queues.proofs.Booleans.{or_parts, or_neither}
 use Rattle.clock2q_queues.proofs.Lookups.{found_there, not_found, lookup, hash_there}
 
@@ -95,39 +98,42 @@ module _ {K V : Type 0} (eq : K → K → Bool) where
       ]
 
   -- a key was forgotten that was there
-  pub record Forgets (hash : ℕ) (key : K) (index : List (List (ℕ × ℕ))) (order : PlaceOrder)
-      (keys : KeyPlaces K V) (index' : List (List (ℕ × ℕ))) (order' : PlaceOrder) (keys' : KeyPlaces K V) : Type 0 where
+  pub record Forgets (hash : ℕ) (key : K) (index : IndexState) (order : PlaceOrder)
+      (keys : KeyPlaces K V) (index' : IndexState) (order' : PlaceOrder) (keys' : KeyPlaces K V) : Type 0 where
     pub whole : IsHistory eq index' order' keys'
-    pub shown : remembered (entries_of keys'.entries order'.places) order'.limit (places_in index' order') (accesses_of order' keys') keys'.questions
-        ≡ remembered (forgotten eq key (entries_of keys.entries order.places)) order.limit (places_in index' order') (accesses_of order' keys') keys'.questions
+    pub shown : remembered (entries_of keys'.entries order'.places) order'.limit (places_from index' order') (accesses_of order' keys') keys'.questions
+        ≡ remembered (forgotten eq key (entries_of keys.entries order.places)) order.limit (places_from index' order') (accesses_of order' keys') keys'.questions
     pub accesses : Rises 0 7 (accesses_of order keys) (accesses_of order' keys')
     pub found : has_key eq key (entries_of keys.entries order.places) ≡ true
-    pub places : places_in index' order' ≡ freed_place hash (place_of (eq key) (map (λ (e : ℕ × K). e.1) (entries_of keys.entries order.places)) order.places) (places_in index order)
+    pub places : places_from index' order' ≡ freed_place hash (place_of (eq key) (map (λ (e : ℕ × K). e.1) (entries_of keys.entries order.places)) order.places) (places_from index order)
 
-  module _ (laws : IsEquivalence eq) (hash : ℕ) (key : K) (index : List (List (ℕ × ℕ))) (order : PlaceOrder) (keys : KeyPlaces K V) (h : IsHistory eq index order keys)
+  module _ (laws : IsEquivalence eq) (hash : ℕ) (key : K) (index : IndexState) (order : PlaceOrder) (keys : KeyPlaces K V) (h : IsHistory eq index order keys)
       (hashed : HasHash eq hash key (entries_of keys.entries order.places)) where
-    looked : find (is_key_at eq key keys.entries) (candidates index hash) ≡ find (is_key_at eq key keys.entries) order.places
-    looked = lookup eq hash key index keys.entries order.places h.indexed hashed laws h.distinct
+    looked : find (is_key_at eq key keys.entries) (candidates (known.places index) hash) ≡ find (is_key_at eq key keys.entries) order.places
+    looked = lookup eq hash key (known.places index) keys.entries order.places h.indexed hashed laws h.distinct
 
-    placed : place_of (eq key) (map (λ (e : ℕ × K). e.1) (entries_of keys.entries order.places)) order.places ≡ find (is_key_at eq key keys.entries) (candidates index hash)
+    pub placed : place_of (eq key) (map (λ (e : ℕ × K). e.1) (entries_of keys.entries order.places)) order.places ≡ find (is_key_at eq key keys.entries) (candidates (known.places index) hash)
     placed = place_beside key keys.entries (used order) order.places (omega (arith, h.as_many)) (AllBelow-left (used order) order.places order.free h.whole.below) ∙ sym looked
 
-    -- a key that isn't found has no place
-    pub unplaced : None ≡ find (is_key_at eq key keys.entries) (candidates index hash)
-        → places_in index order ≡ freed_place hash (place_of (eq key) (map (λ (e : ℕ × K). e.1) (entries_of keys.entries order.places)) order.places) (places_in index order)
-    unplaced none = ap (λ z. freed_place hash z (places_in index order)) (none ∙ sym placed)
-
     -- a key that isn't found isn't remembered
-    pub missed : None ≡ find (is_key_at eq key keys.entries) (candidates index hash)
+    pub missed : None ≡ find (is_key_at eq key keys.entries) (candidates (known.places index) hash)
         → (has_key eq key (entries_of keys.entries order.places) ≡ false) × (forgotten eq key (entries_of keys.entries order.places) ≡ entries_of keys.entries order.places)
     missed none = forgets_none key keys.entries order.places (not_found (is_key_at eq key keys.entries) order.places (none ∙ looked))
 
-    module _ (place : ℕ) (found : Some place ≡ find (is_key_at eq key keys.entries) (candidates index hash)) where
+    module _ (place : ℕ) (found : Some place ≡ find (is_key_at eq key keys.entries) (candidates (known.places index) hash)) where
       there : (has place order.places ≡ true) × (is_key_at eq key keys.entries place ≡ true)
       there = found_there (is_key_at eq key keys.entries) order.places place (found ∙ looked)
 
       pub place_there : has place order.places ≡ true
       place_there = there.0
+
+      pub place_short : place < 2 ^ 24
+      place_short = omega (arith, below_of (used order) order.places (AllBelow-left (used order) order.places order.free h.whole.below) place there.0, h.whole.within, h.short)
+
+      pub place_held : has place (candidates (known.places index) hash) ≡ true
+      place_held =
+          let at = hash_there eq hash key (known.places index) keys.entries order.places h.indexed hashed place there.0 there.1 in
+          h.indexed.listed hash place ∙ rw (there.0, named-own (known.places index) keys.entries hash place at) refl
 
       others_differ : (t : ℕ) → has t order.places ≡ true → eqb t place ≡ false → is_key_at eq key keys.entries t ≡ false
       others_differ t g d = elim (cases_Bool (is_key_at eq key keys.entries t)) [
@@ -135,31 +141,36 @@ module _ {K V : Type 0} (eq : K → K → Bool) where
         | inr k ↦ k
       ]
 
-      pub forgets : (index' : List (List (ℕ × ℕ))) (order' : PlaceOrder) (keys' : KeyPlaces K V) → index' ≡ removed eqb index hash place → IsWholeOrder order'
+      pub forgets : (index' : IndexState) (order' : PlaceOrder) (keys' : KeyPlaces K V) → index' ≡ forgotten_at hash place index → IsWholeOrder order'
           → order' ≡ record order { places = without place order.places; free = place ∷ order.free; accesses = order.accesses + 7 }
           → keys' ≡ record keys { questions = keys'.questions } → Forgets hash key index order keys index' order' keys'
       forgets index' order' keys' is w ordered same =
           let apart = AllApart-left order.places order.free h.whole.apart in
-          let at = hash_there eq hash key index keys.entries order.places h.indexed hashed place there.0 there.1 in
-          let taken = IsIndex-removed index keys.entries order.places place hash h.indexed apart at in
+          let at = hash_there eq hash key (known.places index) keys.entries order.places h.indexed hashed place there.0 there.1 in
+          let taken = IsIndex-removed (known.places index) keys.entries order.places place hash h.indexed apart at in
           let places = ap (λ (z : PlaceOrder). z.places) ordered in
           let limit = ap (λ (z : PlaceOrder). z.limit) ordered in
           let entries' = ap (λ (z : KeyPlaces K V). z.entries) same in
           let entries : entries_of keys'.entries order'.places ≡ forgotten eq key (entries_of keys.entries order.places) =
           ap (λ z. entries_of z order'.places) entries' ∙ ap (λ z. entries_of keys.entries z) places ∙ forgets_one key keys.entries place order.places there.1 others_differ in
           let e = key_there eq key keys.entries place there.1 in
+          let like = forgotten-like index hash place in
+          let shared : known.is_shared index' ≡ known.is_shared index = ap (λ z. known.is_shared z) is ∙ like.shared in
+          let slot_count : length (known.places index') ≡ length (known.places index) = ap (λ z. length (known.places z)) is ∙ like.places in
           let count : used order' ≡ used order =
           omega (arith, ap (λ (z : PlaceOrder). length z.places) ordered, ap (λ (z : PlaceOrder). length z.free) ordered, length-without place order.places apart there.0) in
           record {
             whole = record {
               whole = w;
               indexed =
-                  subst (λ z. IsIndex index' z order'.places) (sym entries')
-                  (subst (λ z. IsIndex index' keys.entries z) (sym places) (subst (λ z. IsIndex z keys.entries (without place order.places)) (sym is) taken));
+                  subst (λ z. IsIndex (known.places index') z order'.places) (sym entries')
+                  (subst (λ z. IsIndex (known.places index') keys.entries z) (sym places)
+                  (subst (λ z. IsIndex z keys.entries (without place order.places)) (sym (ap (λ z. known.places z) is ∙ places-forgotten index hash place)) taken));
               distinct = subst (λ z. AllDistinct eq z) (sym entries) (distinct-forgotten eq key (entries_of keys.entries order.places) h.distinct);
               as_many = ap (λ (z : List (Entry K V)). length z) entries' ∙ h.as_many ∙ sym count;
               room = rw (limit, ap (λ (z : KeyPlaces K V). z.room) same) h.room;
-              half = rw (limit, ap (λ (z : List (List (ℕ × ℕ))). length z) is ∙ length-taken index hash place) h.half;
+              some = rw (limit, slot_count) h.some;
+              own_room = λ own. rw (limit, slot_count) (h.own_room (sym shared ∙ own));
               short = rw limit h.short;
             };
             shown = shown-as _ _ entries limit refl;
@@ -168,7 +179,7 @@ module _ {K V : Type 0} (eq : K → K → Bool) where
                 let m = ap (λ (z : KeyPlaces K V). z.writes) same in
                 (omega (arith, n, m), omega (arith, n, m));
             found = any_entry eq key keys.entries order.places place e.0 there.0 e.1 e.2;
-            places = ap (λ z. places_with z order'.places order'.free) is ∙ ap (λ z. places_with (removed eqb index hash place) z order'.free) places
-                ∙ ap (λ z. places_with (removed eqb index hash place) (without place order.places) z) (ap (λ (z : PlaceOrder). z.free) ordered)
-                ∙ ap (λ z. freed_place hash z (places_in index order)) (found ∙ sym placed);
+            places = ap (λ z. places_with z order'.places order'.free) is ∙ ap (λ z. places_with (forgotten_at hash place index) z order'.free) places
+                ∙ ap (λ z. places_with (forgotten_at hash place index) (without place order.places) z) (ap (λ (z : PlaceOrder). z.free) ordered)
+                ∙ ap (λ z. freed_place hash z (places_from index order)) (found ∙ sym placed);
           }

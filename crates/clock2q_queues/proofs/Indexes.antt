@@ -1,5 +1,5 @@
 -- What putting a place into the index, and taking one out, makes of it.
-use Rattle.std.proofs.Common.{◌≡◌, ℕ, zero, suc, ◌+◌, ◌*◌, ◌/◌, ◌%◌, ◌<◌, ◌≤◌, Bool, true, false, not, ◌||◌, ◌&&◌, ◌==◌, eqb, Option, Some, None, get_or, List, [], ◌∷◌, ◌++◌, length, map, filter, inl, inr, refl, sym, ap, ◌∙◌, subst, arith, eqb-true}
+use Rattle.std.proofs.Common.{◌≡◌, ℕ, zero, suc, ◌+◌, ◌*◌, ◌%◌, ◌<◌, ◌≤◌, Bool, true, false, not, ◌||◌, ◌&&◌, ◌==◌, eqb, Option, Some, None, get_or, List, [], ◌∷◌, ◌++◌, length, map, filter, inl, inr, refl, sym, ap, ◌∙◌, subst, arith, eqb-true}
 use Rattle.std.specs.List.{list_any, AllByRecursion}
 use Rattle.std.proofs.lemmas.Bool.{both_ways, cases_Bool}
 use Rattle.std.proofs.lemmas.Bool.Decides.{leb_tells}
@@ -8,7 +8,7 @@ use Rattle.clock2q_queues.specs.Rings.{has, without, AllApart}
 use Rattle.clock2q_handles.specs.Homes.{top, home, no_entries, capacity, listed, count, total, candidates, with_handle, removed, is_entry_of, without_first}
 use Rattle.clock2q_queues.specs.Keys.{hash_at}
 use Rattle.clock2q_handles.specs.TableStep.{fit, doubled_until, made_for}
-use Rattle.clock2q_queues.specs.Indexes.{IsIndex, is_alike, is_named, index_room}
+use Rattle.clock2q_queues.specs.Indexes.{IsIndex, is_alike, is_named}
 use Rattle.clock2q_queues.specs.declared.keys.store.Entry.{Entry}
 use Rattle.clock2q_queues.proofs.Booleans.{and_parts, and_true, and_false, and_swap, or_true, or_false, or_neither}
 use Rattle.clock2q_queues.proofs.Entries.{hash_in}
@@ -96,7 +96,7 @@ not_alike : (index : List (List (ℕ × ℕ))) (x y : ℕ) → is_alike index x 
 not_alike index x y h p = both_ways (is_alike index x y) h (rw (p.0, p.1, eqb_self (home index y), eqb_self (top y)) refl)
 
 module _ {K V : Type 0} where
-  named-length : (index index' : List (List (ℕ × ℕ))) (keys : List (Entry K V)) (x place : ℕ) → length index' ≡ length index → is_named index' keys x place ≡ is_named index keys x place
+  pub named-length : (index index' : List (List (ℕ × ℕ))) (keys : List (Entry K V)) (x place : ℕ) → length index' ≡ length index → is_named index' keys x place ≡ is_named index keys x place
   named-length index index' keys x place e = ap (λ n. elim (hash_at keys place) [ None ↦ false | Some y ↦ (x % n == y % n) && (top x == top y) ]) e
 
   named-as : (index : List (List (ℕ × ℕ))) (keys : List (Entry K V)) (x place hash : ℕ) → hash_at keys place ≡ Some hash → is_named index keys x place ≡ is_alike index x hash
@@ -261,10 +261,6 @@ module _ {K V : Type 0} where
 
 -- Room in an index
 
--- an index with twice the slots takes one more place, and stays at most half full
-pub room_in : (places limit m : ℕ) → places < limit → 2 * limit ≤ m → places < capacity m
-room_in places limit m h half = omega arith
-
 enough : (e k m : ℕ) → 16 ≤ m → e ≤ capacity m + k → e ≤ capacity (doubled_until e m k)
 enough e zero m l h = omega (arith, h)
 enough e (suc k) m l h = elim (leb_tells e (capacity m)) [
@@ -272,19 +268,13 @@ enough e (suc k) m l h = elim (leb_tells e (capacity m)) [
   | inr q ↦ rw (q.0, doubled_until) (enough e k (2 * m) (omega (arith, l)) (omega (arith, l, h, q.1)))
 ]
 
-fits_new : (n : ℕ) → n ≤ capacity (length (made_for {H = ℕ} n))
+-- a table that is made for so many entries takes them
+pub fits_new : (n : ℕ) → n ≤ capacity (length (made_for {H = ℕ} n))
 unfolding fit
 fits_new zero = omega arith
 fits_new (suc k) =
     let e : length (made_for {H = ℕ} (suc k)) ≡ doubled_until (suc k) 16 (suc k) = length-replicate {A = List (ℕ × ℕ)} (fit (suc k)) [] in
     rw e (enough (suc k) (suc k) 16 (omega arith) (omega arith))
-
--- an index that is made for twice as many, or half as many again, has twice the slots
-pub half_new : (limit : ℕ) → 2 * limit ≤ length (made_for {H = ℕ} (index_room limit))
-half_new limit = elim (leb_tells limit 12288) [
-  | inl q ↦ rw q.0 (omega (arith, fits_new (2 * limit)))
-  | inr q ↦ rw q.0 (omega (arith, fits_new (limit + limit / 2)))
-]
 
 none_read : {E : Type 0} (m i : ℕ) → get_or (no_entries {E = E} m) i [] ≡ []
 none_read zero i = refl
@@ -295,7 +285,7 @@ none_new : (n x : ℕ) → candidates (made_for {H = ℕ} n) x ≡ []
 none_new zero x = refl
 none_new (suc k) x = ap (λ es. map {A = ℕ × ℕ} (λ e. e.1) (filter (λ e. e.0 == top x) es)) (none_read (fit (suc k)) (home (made_for {H = ℕ} (suc k)) x))
 
-total_new : (n : ℕ) → total (made_for {H = ℕ} n) ≡ 0
+pub total_new : (n : ℕ) → total (made_for {H = ℕ} n) ≡ 0
 total_new zero = refl
 total_new (suc k) = total-no_entries (λ (h : ℕ). h) (fit (suc k))
 

@@ -1,4 +1,5 @@
 pub mod Booleans
+pub mod Emptied
 pub mod Entries
 pub mod Flagged
 pub mod Forgetting
@@ -10,6 +11,7 @@ pub mod Indexes
 pub mod Joining
 pub mod QueuesApart
 pub mod Leaving
+pub mod Looking
 pub mod Lookups
 pub mod Main
 pub mod MakingPlaces
@@ -18,7 +20,9 @@ pub mod Records
 pub mod Remembering
 pub mod Rings
 pub mod Sharing
+pub mod Views
 pub mod SlotLists
+pub mod Sorted
 pub mod Standings
 pub mod Window
 mod WorkedQueues

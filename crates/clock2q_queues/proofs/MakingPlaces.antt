@@ -7,17 +7,20 @@ use Rattle.std.proofs.lemmas.List.{append-nil}
 use Rattle.clock2q_queues.specs.declared.keys.store.Entry.{Entry}
 use Rattle.clock2q_queues.specs.Rings.{has, without, AllApart}
 use Rattle.clock2q_queues.specs.Cells.{Rises}
-use Rattle.clock2q_handles.specs.Homes.{with_handle, removed}
+use Rattle.clock2q_handles.specs.Homes.{candidates, removed}
+use Rattle.clock2q_queues.specs.Index as known
+use Rattle.clock2q_queues.specs.Index.{IndexState, remembered_at, forgotten_at}
 use Rattle.clock2q_queues.specs.Order.{PlaceOrder, IsWholeOrder, used, next_place, place_for}
 use Rattle.clock2q_queues.specs.Keys.{hash_at, hashed_at, entries_of}
 use Rattle.clock2q_queues.specs.Indexes.{IsIndex}
-use Rattle.clock2q_queues.specs.History.{MakesPlace, places_with, places_in, oldest_hash, taking_free, taking_oldest}
+use Rattle.clock2q_queues.specs.History.{MakesPlace, places_with, places_from, oldest_hash, taking_free, taking_oldest}
 use Rattle.clock2q_queues.proofs.Booleans.{or_true, and_false}
 use Rattle.clock2q_queues.proofs.Rings.{eqb_self, AllApart-left, AllBelow-left, below_of, without-parted, has-append, has-without_test}
 use Rattle.clock2q_queues.proofs.Joining.{split_last, length-without}
 use Rattle.clock2q_queues.proofs.Entries.{hashed_there, hash_of_hashed}
 use Rattle.clock2q_queues.proofs.Orders.{FitsNext, FitsNext-from, take_front}
-use Rattle.clock2q_queues.proofs.Indexes.{length-taken, IsIndex-removed}
+use Rattle.clock2q_queues.proofs.Indexes.{IsIndex-removed, named-own}
+use Rattle.clock2q_queues.proofs.Views.{places-forgotten, slots-forgotten, forgotten-like}
 
 last_taken : (ps : List ℕ) (p : ℕ) → last_or None ps ≡ Some p → AllApart ps → (without p ps ≡ take (length ps - 1) ps) × (has p ps ≡ true)
 last_taken [] p e a = absurd (cc)
@@ -56,8 +59,8 @@ module _ {K V : Type 0} (keys : List (Entry K V)) where
       let same : e.0.0 ≡ hash = let q = hash_of_hashed keys p e.0 e.1 in cc in
       ap (λ z. elim z [ None ↦ 0 | Some k ↦ k.0 ]) (last-entry None s ps p e.0 e.1 last) ∙ same
 
-module _ {K V : Type 0} (index : List (List (ℕ × ℕ))) (order order' : PlaceOrder) (keys : List (Entry K V)) (place : ℕ)
-    (i : IsIndex index keys order.places) (as_many : length keys ≡ used order) (w : IsWholeOrder order) where
+module _ {K V : Type 0} (index : IndexState) (order order' : PlaceOrder) (keys : List (Entry K V)) (place : ℕ)
+    (i : IsIndex (known.places index) keys order.places) (as_many : length keys ≡ used order) (w : IsWholeOrder order) where
   pub MakesPlace-new : length order.places < order.limit → place ≡ next_place order → order'.places ≡ place ∷ order.places → order'.free ≡ drop 1 order.free → order'.limit ≡ order.limit
       → Rises 1 7 order.accesses order'.accesses → MakesPlace index index order order' keys place
   MakesPlace-new room is places free limit accesses =
@@ -70,20 +73,22 @@ module _ {K V : Type 0} (index : List (List (ℕ × ℕ))) (order order' : Place
       record {
         places = places ∙ ap (λ zs. place ∷ zs) (sym all);
         absent = ap (λ zs. has place zs) all ∙ n.absent;
-        indexed = subst (λ zs. IsIndex index keys zs) (sym all) i;
+        indexed = subst (λ zs. IsIndex (known.places index) keys zs) (sym all) i;
+        slots = refl;
+        shared = refl;
         as_many = refl;
         next = rw is (rw as_many u.0);
         below = n.fits;
         used_now = counts ∙ u.1 ∙ ap (λ z. max z (place_for (length order.places) order.free + 1)) (sym as_many) ∙ ap (λ z. max (length keys) (z + 1)) (sym is);
         limit = limit;
         accesses = accesses;
-        placed = λ hash.
-            let p = places_in index order in
+        placed = λ hash slot.
+            let p = places_from index order in
             let oldest = oldest_hash (λ (e : ℕ × K). e.0) (entries_of keys order.places) in
-            ap (λ z. places_with (with_handle index hash place) z order'.free) places
-            ∙ ap (λ z. places_with (with_handle index hash place) (place ∷ order.places) z) free
-            ∙ ap (λ z. places_with (with_handle index hash z) (z ∷ order.places) (drop 1 order.free)) is
-            ∙ sym (ap (λ b. if b then taking_free hash p else taking_oldest hash oldest (last_or None order.places) p) (lt-ltb (length order.places) order.limit room));
+            ap (λ z. places_with (remembered_at hash slot place index) z order'.free) places
+            ∙ ap (λ z. places_with (remembered_at hash slot place index) (place ∷ order.places) z) free
+            ∙ ap (λ z. places_with (remembered_at hash slot z index) (z ∷ order.places) (drop 1 order.free)) is
+            ∙ sym (ap (λ b. if b then taking_free hash slot p else taking_oldest hash slot oldest (last_or None order.places) p) (lt-ltb (length order.places) order.limit room));
       }
 
   pub oldest_there : last_or None order.places ≡ Some place → place < length keys
@@ -91,9 +96,9 @@ module _ {K V : Type 0} (index : List (List (ℕ × ℕ))) (order order' : Place
       let there = (last_taken order.places place last (AllApart-left order.places order.free w.apart)).1 in
       rw as_many (below_of (used order) order.places (AllBelow-left (used order) order.places order.free w.below) place there)
 
-  pub MakesPlace-oldest : (index' : List (List (ℕ × ℕ))) (hash : ℕ) → order.limit ≤ length order.places → last_or None order.places ≡ Some place
+  pub MakesPlace-oldest : (index' : IndexState) (hash : ℕ) → order.limit ≤ length order.places → last_or None order.places ≡ Some place
       → order'.places ≡ place ∷ take (length order.places - 1) order.places → order'.free ≡ order.free → order'.limit ≡ order.limit → order'.accesses ≡ order.accesses + 1
-      → hash_at keys place ≡ Some hash → index' ≡ removed eqb index hash place → MakesPlace index index' order order' keys place
+      → hash_at keys place ≡ Some hash → index' ≡ forgotten_at hash place index → MakesPlace index index' order order' keys place
   MakesPlace-oldest index' hash full last places free limit accesses at is =
       let apart = AllApart-left order.places order.free w.apart in
       let l = last_taken order.places place last apart in
@@ -102,27 +107,36 @@ module _ {K V : Type 0} (index : List (List (ℕ × ℕ))) (order order' : Place
       let front : without place order.places ≡ take (order.limit - 1) order.places = l.0 ∙ ap (λ z. take (z - 1) order.places) (sym n) in
       let counts : used order' ≡ suc (length (take (order.limit - 1) order.places)) + length order.free = ap (λ (z : List ℕ). length z + length order'.free) places
       ∙ ap (λ (z : List ℕ). suc (length (take (length order.places - 1) order.places)) + length z) free ∙ ap (λ z. suc (length (take (z - 1) order.places)) + length order.free) (sym n) in
+      let like = forgotten-like index hash place in
       let left : length (take (order.limit - 1) order.places) + 1 ≡ length order.places = ap (λ (z : List ℕ). length z + 1) (sym front) ∙ length-without place order.places apart l.1 in
       record {
         places = places ∙ ap (λ z. place ∷ take (z - 1) order.places) (sym n);
         absent = ap (λ zs. has place zs) (sym front) ∙ gone place order.places;
         indexed =
-            subst (λ z. IsIndex z keys (take (order.limit - 1) order.places)) (sym is)
-            (subst (λ zs. IsIndex (removed eqb index hash place) keys zs) front (IsIndex-removed index keys order.places place hash i apart at));
-        as_many = ap (λ (z : List (List (ℕ × ℕ))). length z) is ∙ length-taken index hash place;
+            subst (λ z. IsIndex z keys (take (order.limit - 1) order.places)) (sym (ap (λ z. known.places z) is ∙ places-forgotten index hash place))
+            (subst (λ zs. IsIndex (removed eqb (known.places index) hash place) keys zs) front (IsIndex-removed (known.places index) keys order.places place hash i apart at));
+        slots = ap (λ z. known.slots z) is ∙ slots-forgotten index hash place;
+        shared = ap (λ z. known.is_shared z) is ∙ like.shared;
+        as_many = ap (λ z. length (known.places z)) is ∙ like.places;
         next = omega (arith, there);
         below = omega (arith, there, as_many, w.within);
         used_now = omega (arith, counts, left, as_many, there);
         limit = limit;
         accesses = (omega (arith, accesses), omega (arith, accesses));
-        placed = λ new.
-            let p = places_in index order in
+        placed = λ new slot.
+            let p = places_from index order in
             let oldest = oldest_hash (λ (e : ℕ × K). e.0) (entries_of keys order.places) in
             let front' = take (length order.places - 1) order.places in
-            ap (λ z. places_with (with_handle z new place) order'.places order'.free) is
-            ∙ ap (λ z. places_with (with_handle (removed eqb index hash place) new place) z order'.free) places
-            ∙ ap (λ z. places_with (with_handle (removed eqb index hash place) new place) (place ∷ front') z) free
-            ∙ ap (λ z. places_with (with_handle (removed eqb index z place) new place) (place ∷ front') order.free) (sym (oldest-is keys order.places place hash last there at))
-            ∙ ap (λ z. taking_oldest new oldest z p) (sym last)
-            ∙ sym (ap (λ b. if b then taking_free new p else taking_oldest new oldest (last_or None order.places) p) (le-ltb (length order.places) order.limit full));
+            ap (λ z. places_with (remembered_at new slot place z) order'.places order'.free) is
+            ∙ ap (λ z. places_with (remembered_at new slot place (forgotten_at hash place index)) z order'.free) places
+            ∙ ap (λ z. places_with (remembered_at new slot place (forgotten_at hash place index)) (place ∷ front') z) free
+            ∙ ap (λ z. places_with (remembered_at new slot place (forgotten_at z place index)) (place ∷ front') order.free) (sym (oldest-is keys order.places place hash last there at))
+            ∙ ap (λ z. taking_oldest new slot oldest z p) (sym last)
+            ∙ sym (ap (λ b. if b then taking_free new slot p else taking_oldest new slot oldest (last_or None order.places) p) (le-ltb (length order.places) order.limit full));
       }
+
+  -- the oldest place stands under the hash of its key
+  pub oldest_held : (hash : ℕ) → last_or None order.places ≡ Some place → hash_at keys place ≡ Some hash → has place (candidates (known.places index) hash) ≡ true
+  oldest_held hash last at =
+      let there = (last_taken order.places place last (AllApart-left order.places order.free w.apart)).1 in
+      i.listed hash place ∙ rw (there, named-own (known.places index) keys hash place at) refl

@@ -1,14 +1,10 @@
 -- An index of places: a table that has the place of each key under the key's hash.
-use Rattle.std.specs.Prelude.{◌≡◌, ℕ, ◌+◌, ◌*◌, ◌/◌, nat_le, cond, Bool, true, false, ◌&&◌, ◌==◌, List, [], ◌∷◌, length, Some, None}
+use Rattle.std.specs.Prelude.{◌≡◌, ℕ, Bool, true, false, ◌&&◌, ◌==◌, List, [], ◌∷◌, length, Some, None}
 use Rattle.std.specs.List.{list_any, AllByRecursion}
 use Rattle.clock2q_queues.specs.Rings.{has, AllApart}
 use Rattle.clock2q_handles.specs.Homes.{top, home, candidates, total}
 use Rattle.clock2q_queues.specs.declared.keys.store.Entry.{Entry}
 use Rattle.clock2q_queues.specs.Keys.{hash_at}
-
--- how many entries an index is made for where at most so many stand in it: twice as many in a small index, half as many again in a large one
-abbrev pub index_room : ℕ → ℕ
-index_room limit = cond (nat_le limit 12288) (2 * limit) (limit + limit / 2)
 
 -- two hashes that an index can't tell apart: they have the same home and the same fingerprint
 abbrev pub is_alike : List (List (ℕ × ℕ)) → ℕ → ℕ → Bool

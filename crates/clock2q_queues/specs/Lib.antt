@@ -10,4 +10,5 @@ pub mod Order
 pub mod Keys
 pub mod KeysLends
 pub mod Indexes
+pub mod Index
 pub mod History

@@ -1,22 +1,51 @@
 //! The history of the keys that Small evicted, which the literature calls Ghost.
-ghost use Rattle.std.specs.Prelude.{◌≡◌, ℕ, ◌+◌, ◌^◌, ◌<◌, ◌≤◌, false, [], ◌∷◌, map, take, length, IfOk};
-ghost use Rattle.clock2q_handles.specs.Homes.{candidates, no_entries};
-ghost use Rattle.clock2q_handles.specs.TableStep.{made_for};
+ghost use Rattle.std.specs.Prelude.{◌≡◌, ℕ, ◌+◌, ◌^◌, ◌<◌, ◌≤◌, true, false, None, [], ◌∷◌, map, take, length, IfOk, IfSome};
+ghost use Rattle.std.specs.List.{find, AllByRecursion};
+ghost use Rattle.clock2q_handles.specs.Homes.{candidates, removed, no_entries};
 ghost use Rattle.clock2q_queues.specs.Cells.{Rises};
+ghost use Rattle.clock2q_queues.specs.Rings.{has};
 ghost use Rattle.clock2q_queues.specs.Order.{IsWholeOrder, used};
-ghost use Rattle.clock2q_queues.specs.Indexes.{IsIndex, HasHash, index_room};
-ghost use Rattle.clock2q_queues.specs.History.{IsWholeHistory, MakesPlace, places_with, pushed_places, freed_place, place_of, oldest_hash, remembered, is_remembered, forgotten};
+ghost use Rattle.clock2q_queues.specs.Keys.{is_key_at};
+ghost use Rattle.clock2q_queues.specs.Indexes.{IsIndex, HasHash};
+ghost use Rattle.clock2q_queues.specs.Index as known;
+ghost use Rattle.clock2q_queues.specs.Index.{index_state, index_for, entered, left, slots_among, places_among};
+ghost use Rattle.clock2q_queues.specs.History.{IsWholeHistory, MakesPlace, HasRoom, places_with, pushed_places, freed_place, place_of, oldest_hash, remembered, is_remembered, forgotten, found_slot, found_place, first_known};
 
 mod order;
 
-use crate::keys::{Keys, index_room};
-use clock2q_handles::Table;
+use crate::index::{Index, REMEMBERED};
+use crate::keys::Keys;
+use clock2q_handles::Candidates;
 use order::Order;
 use std::alloc::{AllocError, Allocator, Global};
 use std::marker::Model;
 
-/// A history of keys of limited length, the newest key first. Each key stands at a place, with its
-/// hash, and an index holds that place under the hash.
+/// What a lookup of a key finds.
+#[derive(Clone, Copy)]
+pub enum Found {
+    /// The slot of a resident.
+    Resident(u32),
+    /// The place of a remembered key.
+    Remembered(u32),
+    /// Neither.
+    Absent,
+}
+
+impl Found {
+    /// Returns the place of a remembered key.
+    pub fn place(self) -> Option<u32>
+        ensures place { result ≡ found_place self }
+    {
+        match self {
+            Found::Remembered(place) => Some(place),
+            Found::Resident(_) | Found::Absent => None,
+        }
+    }
+}
+
+/// A history of keys of limited length, the newest key first, and the index that it shares with the
+/// residents. Each key stands at a place, with its hash, and the index holds that place under the
+/// hash.
 ///
 /// The caller passes a key's hash with the key, the same hash each time. If hashes are spread well,
 /// a call compares few keys and costs the same however many are remembered.
@@ -24,36 +53,36 @@ use std::marker::Model;
 /// # Example
 ///
 /// ```
-/// let mut history: History<u64> = History::new(rt.alloc(), 2)?;
-/// history.push(hash_of(1), 1);
-/// history.push(hash_of(5), 5);
-/// assert!(rt; history.discard(hash_of(1), &1));
-/// assert!(rt; !history.discard(hash_of(1), &1));
-/// assert_eq!(rt; history.len(), 1);
+/// let mut history: History<u64> = History::new(rt.alloc(), 1, 2)?;
+/// history.add(hash_of(1), 0);
+/// history.push(hash_of(1), 0, 1);
+/// let place = history.look(hash_of(1), &1, &mut residents).place();
+/// assert!(rt; history.discard(hash_of(1), &1, place));
+/// assert_eq!(rt; history.len(), 0);
 /// ```
 #[derive(Drop)]
 pub struct History<K: Eq, A: Allocator = Global> {
-    index: Table<u32, A>,
+    index: Index<A>,
     order: Order<A>,
     keys: Keys<K, (), A>,
 }
 
 impl<K: Eq, A: Allocator> Model for History<K, A> {
     ghost use Rattle.clock2q_queues.specs.Keys.{entries_of};
-    ghost use Rattle.clock2q_queues.specs.History.{Remembered, remembered_code, remembered, places_in, accesses_of, IsHistory};
+    ghost use Rattle.clock2q_queues.specs.History.{Remembered, remembered_code, remembered, places_from, accesses_of, IsHistory};
 
     ghost Value = { Remembered K };
 
     ghost coded = { remembered_code K.code };
 
-    ghost view = { λ h. remembered (entries_of h.keys.entries h.order.places) h.order.limit (places_in h.index.homes h.order) (accesses_of h.order h.keys) h.keys.questions };
+    ghost view = { λ h. remembered (entries_of h.keys.entries h.order.places) h.order.limit (places_from h.index h.order) (accesses_of h.order h.keys) h.keys.questions };
 
-    ghost invariant = { λ h. IsHistory K.eq h.index.homes h.order h.keys };
+    ghost invariant = { λ h. IsHistory K.eq h.index h.order h.keys };
 }
 
 impl<K: Eq, A: Allocator + Copy> History<K, A> {
-    /// Returns an empty history for up to `limit` keys. It takes all the memory that it will ever
-    /// need.
+    /// Returns an empty history for up to `limit` keys, with an index for up to `residents` keys
+    /// beside them. It takes all the memory that it will ever need.
     ///
     /// # Errors
     ///
@@ -61,16 +90,15 @@ impl<K: Eq, A: Allocator + Copy> History<K, A> {
     ///
     /// # Cost
     ///
-    /// Linear in `limit`.
-    pub fn new(alloc: A, limit: usize) -> Result<Self, AllocError>
+    /// Linear in `residents` and `limit`.
+    pub fn new(alloc: A, residents: usize, limit: usize) -> Result<Self, AllocError>
+        requires some { 0 < residents }
+        requires residents { residents < 2 ^ 24 }
         requires short { limit < 2 ^ 24 }
-        ensures made { IfOk result (λ h. h ≡ remembered [] limit (places_with (made_for (index_room limit)) [] []) 0 0) }
+        ensures made { IfOk result (λ h. h ≡ remembered [] limit (places_with (index_for residents limit) [] []) 0 0) }
     {
-        let Ok(index) = Table::with_capacity(alloc, index_room(limit)) else {
-            return Err(AllocError);
-        };
         Ok(History {
-            index,
+            index: Index::new(alloc, residents, limit)?,
             order: Order::new(alloc, limit as u32)?,
             keys: Keys::new(alloc, limit)?,
         })
@@ -86,52 +114,110 @@ impl<K: Eq, A: Allocator> History<K, A> {
         self.order.len() as usize
     }
 
-    /// Adds a key as the newest. If the history is full, the oldest key is forgotten and dropped. A
-    /// history for no keys drops the new one.
-    pub fn push(&mut self, hash: u64, key: K)
+    /// Returns the handles under a hash: the slots of residents, and others from
+    /// [`REMEMBERED`] on.
+    #[inline(always)]
+    pub fn handles(&self, hash: u64) -> Candidates<'_, u32>
+        ensures slots { slots_among result.left ≡ candidates (known.slots self.now.places.index) hash }
+    {
+        self.index.handles(hash)
+    }
+
+    /// Looks a key up among the residents, which have their keys in `residents`, and in the history.
+    #[inline(always)]
+    pub fn look<V>(&mut self, hash: u64, key: &K, residents: &mut Keys<K, V, A>) -> Found
+        requires hash { HasHash K.eq hash key.now self.old.entries }
+        requires used { AllByRecursion (λ slot. slot < length residents.old.entries) (candidates (known.slots self.old.places.index) hash) }
+        ensures slot { IfSome (found_slot result) (λ slot. find (is_key_at K.eq key.now residents.old.entries) (candidates (known.slots self.old.places.index) hash) ≡ Some slot) }
+        ensures place { found_slot result ≡ None → found_place result ≡ place_of (K.eq key.now) (map (λ e. e.1) self.old.entries) self.old.places.taken }
+        ensures absent { found_slot result ≡ None → found_place result ≡ None → find (is_key_at K.eq key.now residents.old.entries) (candidates (known.slots self.old.places.index) hash) ≡ None }
+        ensures residents { residents.new ≡ record residents.old { questions = residents.new.questions } }
+        ensures kept { self.new ≡ record self.old { questions = self.new.questions } }
+        ensures asked { Rises 0 (length (candidates (known.slots self.old.places.index) hash)) residents.old.questions residents.new.questions }
+        ensures questions { Rises 0 (length (candidates (known.places self.old.places.index) hash)) self.old.questions self.new.questions }
+    {
+        if self.index.is_shared() {
+            return look_among(self.index.handles(hash), key, residents, &mut self.keys);
+        }
+        if let Some(slot) = residents.find(self.index.handles(hash), key) {
+            return Found::Resident(slot);
+        }
+        let Some(place) = self.keys.find(self.index.own_places(hash), key) else {
+            return Found::Absent;
+        };
+        Found::Remembered(place)
+    }
+
+    /// Adds the slot of a key that becomes resident to the index.
+    #[inline(always)]
+    pub fn add(&mut self, hash: u64, slot: u32)
+        requires below { slot < 2 ^ 31 }
+        requires room { HasRoom self.old }
+        ensures added { self.new ≡ record self.old { places = record self.old.places { index = entered hash slot self.old.places.index } } }
+    {
+        self.index.add_slot(hash, slot);
+    }
+
+    /// Removes the slot of a resident that leaves from the index.
+    #[inline(always)]
+    pub fn remove(&mut self, hash: u64, slot: u32)
+        requires below { slot < 2 ^ 31 }
+        requires held { has slot (candidates (known.slots self.old.places.index) hash) ≡ true }
+        ensures removed { self.new ≡ record self.old { places = record self.old.places { index = left hash slot self.old.places.index } } }
+    {
+        self.index.remove_slot(hash, slot);
+    }
+
+    /// Adds the key of a resident that leaves its slot as the newest. If the history is full, the
+    /// oldest key is forgotten and dropped. A history for no keys drops the new one.
+    pub fn push(&mut self, hash: u64, slot: u32, key: K)
     where
         K: Drop,
+        requires below { slot < 2 ^ 31 }
+        requires held { has slot (candidates (known.slots self.old.places.index) hash) ≡ true }
         requires absent { is_remembered K.eq key self.old.entries ≡ false }
         ensures pushed { self.new ≡ record self.old { entries = take self.old.limit ((hash, key) ∷ self.old.entries); places = self.new.places; accesses = self.new.accesses } }
-        ensures places { self.new.places ≡ pushed_places self.old.limit hash (oldest_hash (λ (e : ℕ × K). e.0) self.old.entries) self.old.places }
+        ensures places { self.new.places ≡ pushed_places self.old.limit hash slot (oldest_hash (λ (e : ℕ × K). e.0) self.old.entries) self.old.places }
         ensures accesses { Rises 0 8 self.old.accesses self.new.accesses }
     {
         if self.order.limit() == 0 {
+            self.index.remove_slot(hash, slot);
             return;
         }
         let place = make_place(&mut self.index, &mut self.order, &self.keys);
+        self.index.remember(hash, slot, place);
         self.keys.write(place, hash, key, ());
-        // (the index has room for every place, and too few for a run to be too long)
-        let _ = self.index.insert_within_capacity(hash, place);
     }
 
-    /// Forgets a key, and returns whether it was remembered. The history drops its own key when the
-    /// key's place is used again.
-    pub fn discard(&mut self, hash: u64, key: &K) -> bool
+    /// Forgets a key that stands at `place`, and returns whether there is one. The history drops
+    /// its own key when the key's place is used again.
+    pub fn discard(&mut self, hash: u64, key: &K, place: Option<u32>) -> bool
         requires hash { HasHash K.eq hash key.now self.old.entries }
+        requires place { place ≡ place_of (K.eq key.now) (map (λ e. e.1) self.old.entries) self.old.places.taken }
         ensures found { result ≡ is_remembered K.eq key.now self.old.entries }
-        ensures forgotten { self.new ≡ record self.old { entries = forgotten K.eq key.now self.old.entries; places = self.new.places; accesses = self.new.accesses; questions = self.new.questions } }
+        ensures forgotten { self.new ≡ record self.old { entries = forgotten K.eq key.now self.old.entries; places = self.new.places; accesses = self.new.accesses } }
         ensures places { self.new.places ≡ freed_place hash (place_of (K.eq key.now) (map (λ e. e.1) self.old.entries) self.old.places.taken) self.old.places }
         ensures accesses { Rises 0 7 self.old.accesses self.new.accesses }
-        ensures questions { Rises 0 (length (candidates self.old.places.index hash)) self.old.questions self.new.questions }
     {
-        let Some(place) = self.keys.find(self.index.get(hash), key) else {
+        let _ = key;
+        let _ = self.order.len();
+        let Some(place) = place else {
             return false;
         };
-        self.index.remove(hash, place);
+        self.index.forget(hash, place);
         self.order.unlink(place);
         true
     }
 
-    /// Forgets every key.
+    /// Forgets every key, and empties the index of residents too.
     ///
     /// # Cost
     ///
-    /// Linear in the number of keys that the history may hold: its index is filled anew.
+    /// Linear in the number of keys that the index may hold, which is filled anew.
     pub fn clear(&mut self)
     where
         K: Drop,
-        ensures cleared { self.new ≡ record self.old { entries = []; places = places_with (no_entries (length self.old.places.index)) [] [] } }
+        ensures cleared { self.new ≡ record self.old { entries = []; places = places_with (index_state (no_entries (length self.old.places.index.shared)) (no_entries (length self.old.places.index.own))) [] [] } }
     {
         self.index.clear();
         self.order.clear();
@@ -139,23 +225,52 @@ impl<K: Eq, A: Allocator> History<K, A> {
     }
 }
 
+/// Returns the first of `handles` at which `key` stands, among the residents or the remembered keys.
+#[inline(always)]
+fn look_among<K: Eq, V, A: Allocator>(
+    mut handles: Candidates<'_, u32>,
+    key: &K,
+    residents: &mut Keys<K, V, A>,
+    remembered: &mut Keys<K, (), A>,
+) -> Found
+    requires slots { AllByRecursion (λ slot. slot < length residents.old.entries) (slots_among handles.left) }
+    requires places { AllByRecursion (λ place. place < length remembered.old.entries) (places_among handles.left) }
+    ensures found { result ≡ first_known (is_key_at K.eq key.now residents.old.entries) (is_key_at K.eq key.now remembered.old.entries) handles.entry.left }
+    ensures residents { residents.new ≡ record residents.old { questions = residents.new.questions } }
+    ensures remembered { remembered.new ≡ record remembered.old { questions = remembered.new.questions } }
+    ensures asked { Rises 0 (length (slots_among handles.entry.left)) residents.old.questions residents.new.questions }
+    ensures questions { Rises 0 (length (places_among handles.entry.left)) remembered.old.questions remembered.new.questions }
+{
+    while let Some(handle) = handles.next() {
+        if handle < REMEMBERED {
+            if residents.is(handle, key) {
+                return Found::Resident(handle);
+            }
+        } else if remembered.is(handle - REMEMBERED, key) {
+            return Found::Remembered(handle - REMEMBERED);
+        }
+    }
+    Found::Absent
+}
+
 /// Moves a place to the front for a new key. If every place has a key, it is that of the oldest key,
 /// which is removed from the index.
 fn make_place<K, V, A: Allocator>(
-    index: &mut Table<u32, A>,
+    index: &mut Index<A>,
     order: &mut Order<A>,
     keys: &Keys<K, V, A>,
 ) -> u32
-    requires indexed { IsIndex index.old.homes keys.now.entries order.old.places }
+    requires indexed { IsIndex (known.places index.old) keys.now.entries order.old.places }
     requires as_many { length keys.now.entries ≡ used order.old }
     requires some { 0 < order.old.limit }
-    ensures made { MakesPlace index.old.homes index.new.homes order.old order.new keys.now.entries result }
+    requires short { order.old.limit < 2 ^ 24 }
+    ensures made { MakesPlace index.old index.new order.old order.new keys.now.entries result }
     ensures whole { IsWholeOrder order.new }
 {
     if order.len() < order.limit() {
         return order.push();
     }
     let place = order.reuse_oldest();
-    index.remove(keys.hash(place), place);
+    index.forget(keys.hash(place), place);
     place
 }

@@ -1,31 +1,15 @@
-//! Keys with their hashes and values, each at a place, and lookups through an index of the places.
-ghost use Rattle.std.specs.Prelude.{◌≡◌, ◌+◌, ◌^◌, ◌<◌, ◌≤◌, length};
+//! Keys with their hashes and values, each at a place, and lookups through an index.
+ghost use Rattle.std.specs.Prelude.{◌≡◌, ◌+◌, ◌<◌, ◌≤◌, length};
 ghost use Rattle.std.specs.List.{find, AllByRecursion};
-ghost use Rattle.clock2q_queues.specs.Indexes.{index_room};
+ghost use Rattle.clock2q_queues.specs.Index.{slots_among};
 
 mod store;
 
+use crate::index::REMEMBERED;
 use clock2q_count::Count;
 use clock2q_handles::Candidates;
 use std::alloc::Allocator;
 pub use store::{Entry, Keys};
-
-/// The most places for which an index has room for twice as many. Its slots then take 256 KB.
-const SMALL_INDEX: usize = 12_288;
-
-/// Returns how many entries to make an index for that holds up to `limit` places: twice as many,
-/// or half as many again if that would take much memory. Such an index is never more than half
-/// full, which keeps lookups short.
-pub fn index_room(limit: usize) -> usize
-    requires countable { limit < 2 ^ 63 }
-    ensures room { result ≡ index_room limit }
-{
-    if limit <= SMALL_INDEX {
-        limit * 2
-    } else {
-        limit + limit / 2
-    }
-}
 
 impl<K, V, A: Allocator> Keys<K, V, A> {
     ghost use Rattle.clock2q_queues.specs.Keys.{entry, written};
@@ -64,33 +48,36 @@ impl<K: Eq, V, A: Allocator> Keys<K, V, A> {
         is_key
     }
 
-    /// Returns the first of `places` whose key equals `key`, and counts each question.
-    pub fn find(&mut self, places: Candidates<'_, u32>, key: &K) -> Option<u32>
-        requires used { AllByRecursion (λ place. place < length self.old.entries) places.left }
-        ensures found { result ≡ find (is_key_at K.eq key.now self.old.entries) places.entry.left }
-        ensures counted { self.new ≡ record self.old { questions = self.old.questions + questions_of (is_key_at K.eq key.now self.old.entries) places.entry.left } }
+    /// Returns the first of `handles` below [`REMEMBERED`] at which `key` stands, and counts each
+    /// question. The other handles are passed unasked.
+    pub fn find(&mut self, handles: Candidates<'_, u32>, key: &K) -> Option<u32>
+        requires used { AllByRecursion (λ place. place < length self.old.entries) (slots_among handles.left) }
+        ensures found { result ≡ find (is_key_at K.eq key.now self.old.entries) (slots_among handles.entry.left) }
+        ensures counted { self.new ≡ record self.old { questions = self.old.questions + questions_of (is_key_at K.eq key.now self.old.entries) (slots_among handles.entry.left) } }
     {
         let mut asked = Count::new();
-        let found = self.find_untold(places, key, &mut asked);
+        let found = self.find_untold(handles, key, &mut asked);
         self.add_questions(&asked);
         found
     }
 
-    /// Returns the first of `places` whose key equals `key`. The questions are counted in `asked`
-    /// instead.
+    /// Returns the first of `handles` below [`REMEMBERED`] at which `key` stands. The questions are
+    /// counted in `asked` instead.
     pub fn find_untold(
         &self,
-        mut places: Candidates<'_, u32>,
+        mut handles: Candidates<'_, u32>,
         key: &K,
         asked: &mut Count,
     ) -> Option<u32>
-        requires used { AllByRecursion (λ place. place < length self.now.entries) places.left }
-        ensures found { result ≡ find (is_key_at K.eq key.now self.now.entries) places.entry.left }
-        ensures counted { asked.new.total ≡ asked.old.total + questions_of (is_key_at K.eq key.now self.now.entries) places.entry.left }
+        requires used { AllByRecursion (λ place. place < length self.now.entries) (slots_among handles.left) }
+        ensures found { result ≡ find (is_key_at K.eq key.now self.now.entries) (slots_among handles.entry.left) }
+        ensures counted { asked.new.total ≡ asked.old.total + questions_of (is_key_at K.eq key.now self.now.entries) (slots_among handles.entry.left) }
     {
-        while let Some(place) = places.next() {
-            if self.is_untold(place, key, asked) {
-                return Some(place);
+        while let Some(handle) = handles.next() {
+            if handle < REMEMBERED {
+                if self.is_untold(handle, key, asked) {
+                    return Some(handle);
+                }
             }
         }
         None

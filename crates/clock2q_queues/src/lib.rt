@@ -2,7 +2,9 @@
 //!
 //! - [`Queues`](queues::Queues): the two queues of its residents, which know slot numbers and no
 //!   keys;
-//! - [`History`](history::History): the keys that were evicted from Small, the first queue;
+//! - [`History`](history::History): the keys that were evicted from Small, the first queue, and the
+//!   index of all known keys;
+//! - [`Index`](index::Index): where each known key stands, under its hash;
 //! - [`Keys`](keys::Keys): keys with their hashes and values, by which residents and remembered
 //!   keys are found.
 //!
@@ -12,6 +14,7 @@
 #![tactic(auto)]
 
 pub mod history;
+pub mod index;
 pub mod keys;
 mod links;
 mod main_ring;

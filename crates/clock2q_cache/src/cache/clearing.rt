@@ -1,6 +1,5 @@
 //! A cache emptied, with its history.
 use crate::cache::Cache;
-use crate::index::empty;
 use std::alloc::Allocator;
 use std::hash::{BuildHasher, Hash};
 
@@ -21,7 +20,7 @@ impl<K: Hash + Eq + Drop, V: Drop, S: BuildHasher, A: Allocator> Cache<K, V, S, 
         ensures hasher { self.new.hasher ≡ self.old.hasher }
         ensures costs { Costs K.Hash S.BuildHasher S.Hasher.Hasher Clear self.old self.new }
     {
-        empty(&mut self.index, &mut self.keys);
+        self.keys.clear();
         self.queues.clear();
         self.history.clear();
         self.free.clear();

@@ -2,9 +2,8 @@
 use crate::cache::{Cache, DefaultHashBuilder, MAX_CAPACITY};
 use crate::error::CacheError;
 use crate::shares::Shares;
-use clock2q_handles::Table;
 use clock2q_queues::history::History;
-use clock2q_queues::keys::{Keys, index_room};
+use clock2q_queues::keys::Keys;
 use clock2q_queues::queues::Queues;
 use std::alloc::Allocator;
 use std::hash::{BuildHasher, BuildHasherDefault, Hash};
@@ -116,17 +115,13 @@ impl<K: Hash + Eq + Drop, V: Drop, S: BuildHasher + Drop, A: Allocator + Copy> C
     {
         let slots = shares.capacity();
         let queues = Queues::new(alloc, slots as u32, shares.window() as u32)?;
-        let history = History::new(alloc, shares.history())?;
-        let Ok(index) = Table::with_capacity(alloc, index_room(slots)) else {
-            return Err(CacheError::Memory);
-        };
+        let history = History::new(alloc, slots, shares.history())?;
         let keys = Keys::new(alloc, slots)?;
         let free = Vec::with_capacity(alloc, slots)?;
         Ok(Cache {
             shares,
             queues,
             history,
-            index,
             keys,
             free,
             hasher,

@@ -1,6 +1,7 @@
 //! Calls that look a key up and, where it is not resident, insert it with what a closure returns.
 use crate::cache::Cache;
 use clock2q_count::Told;
+use clock2q_queues::history::Found;
 use std::alloc::Allocator;
 use std::hash::{BuildHasher, Hash};
 
@@ -15,7 +16,7 @@ impl<K: Hash + Eq + Drop, V: Drop, S: BuildHasher, A: Allocator> Cache<K, V, S, 
     ghost use Rattle.clock2q_cache.specs.Hashes.{hash_of};
     ghost use Rattle.clock2q_cache.specs.Closures.{Fetches, Takes};
     ghost use Rattle.clock2q_cache.specs.Costs.{Costs, Spends, accesses_for, alike};
-    ghost use Rattle.clock2q_cache.specs.Places.{residents_with, remembered_with};
+    ghost use Rattle.clock2q_cache.specs.Places.{known_with};
     ghost use Rattle.clock2q_machine.specs.Machine.{slot_of, value_of};
     ghost use Rattle.clock2q_machine.specs.Steps.{put, fetched, slotted, slotted_at};
 
@@ -50,7 +51,7 @@ impl<K: Hash + Eq + Drop, V: Drop, S: BuildHasher, A: Allocator> Cache<K, V, S, 
     /// # Cost
     ///
     /// That of [`get_or_insert_with`](Cache::get_or_insert_with). After an error no link was
-    /// accessed, and the key was compared with residents alone.
+    /// accessed.
     pub fn try_get_or_insert_with<F: FnOnce() -> Result<V, E>, E>(
         &mut self,
         key: K,
@@ -147,12 +148,13 @@ impl<K: Hash + Eq + Drop, V: Drop, S: BuildHasher, A: Allocator> Cache<K, V, S, 
         ensures counts { Spends (inspections_for (K.eq key) self.old.machine) (accesses_for (K.eq key) self.old.machine) (alike K.Hash S.BuildHasher S.Hasher.Hasher key self.old) self.old.counts self.new.counts }
     {
         let hash = self.hash(&key);
-        if let Some(slot) = self.find(hash, &key) {
+        let found = self.look(hash, &key);
+        if let Found::Resident(slot) = found {
             self.record_hit(slot, &key);
             return slot;
         }
         let value = f();
-        self.insert(hash, key, value)
+        self.insert(hash, key, value, found.place())
     }
 
     /// Returns the slot of a key, which is hit or else inserted. A slot that was made before keeps
@@ -162,16 +164,16 @@ impl<K: Hash + Eq + Drop, V: Drop, S: BuildHasher, A: Allocator> Cache<K, V, S, 
         requires make { slice_get self.old.machine.values (slotted_at (slot_of (K.eq key) self.old.machine) (K.eq key) key self.old.machine) ≡ None → F.pre make }
         ensures taken { Takes (K.eq key) key (F.post make) self.old.machine result self.new.machine }
         ensures made { result < length self.new.machine.values }
-        ensures residents { self.new.residents ≡ residents_with K.Hash S.BuildHasher S.Hasher.Hasher key self.old }
-        ensures remembered { self.new.remembered ≡ remembered_with K.Hash S.BuildHasher S.Hasher.Hasher key self.old }
+        ensures known { self.new.known ≡ known_with K.Hash S.BuildHasher S.Hasher.Hasher key self.old }
         ensures hasher { self.new.hasher ≡ self.old.hasher }
         ensures counts { Spends (inspections_for (K.eq key) self.old.machine) (accesses_for (K.eq key) self.old.machine) (alike K.Hash S.BuildHasher S.Hasher.Hasher key self.old) self.old.counts self.new.counts }
     {
-        if let Some(found) = self.find(hash, &key) {
-            self.record_hit(found, &key);
-            return found;
+        let found = self.look(hash, &key);
+        if let Found::Resident(slot) = found {
+            self.record_hit(slot, &key);
+            return slot;
         }
-        self.insert_reusing(hash, key, make)
+        self.insert_reusing(hash, key, found.place(), make)
     }
 
     /// Does what `find_or_insert` does with an `f` that may fail. Nothing changes then.
@@ -187,11 +189,12 @@ impl<K: Hash + Eq + Drop, V: Drop, S: BuildHasher, A: Allocator> Cache<K, V, S, 
         ensures asked { OnErr result (Spends 0 0 (alike K.Hash S.BuildHasher S.Hasher.Hasher key self.old) self.old.counts self.new.counts) }
     {
         let hash = self.hash(&key);
-        if let Some(resident) = self.find(hash, &key) {
-            self.record_hit(resident, &key);
-            return Ok(resident);
+        let found = self.look(hash, &key);
+        if let Found::Resident(slot) = found {
+            self.record_hit(slot, &key);
+            return Ok(slot);
         }
         let value = f()?;
-        Ok(self.insert(hash, key, value))
+        Ok(self.insert(hash, key, value, found.place()))
     }
 }

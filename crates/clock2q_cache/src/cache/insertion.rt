@@ -1,6 +1,6 @@
 //! Insertion of a key that is not resident.
 use crate::cache::Cache;
-use crate::index::{enter, renew};
+use crate::index::{enter, refill, renew};
 use crate::vacancies::take_vacancy;
 use std::alloc::Allocator;
 use std::hash::{BuildHasher, Hash};
@@ -12,44 +12,51 @@ impl<K: Hash + Eq + Drop, V: Drop, S: BuildHasher, A: Allocator> Cache<K, V, S, 
     ghost use Rattle.clock2q_machine.specs.Shares.{main_share};
     ghost use Rattle.clock2q_machine.specs.Ages.{is_promoted};
     ghost use Rattle.clock2q_machine.specs.Whole.{IsWhole, known_count};
-    ghost use Rattle.clock2q_handles.specs.Homes.{candidates};
+    ghost use Rattle.clock2q_queues.specs.History.{place_of};
     ghost use Rattle.clock2q_machine.specs.Bounds.{inspections_for};
     ghost use Rattle.clock2q_cache.specs.Costs.{Spends};
     ghost use Rattle.clock2q_machine.specs.Entries.{inspections};
     ghost use Rattle.clock2q_cache.specs.Hashes.{hash_of};
     ghost use Rattle.clock2q_cache.specs.Closures.{Reuses};
-    ghost use Rattle.clock2q_cache.specs.Places.{Reindexes, entered, remembering_any, out_of, out_of_small, discarded};
+    ghost use Rattle.clock2q_cache.specs.Places.{Reindexes, entered, out_of, out_of_small, discarded};
     ghost use Rattle.clock2q_cache.specs.Insertions.{Fills, placed, placed_inspections, makes_slot, next_is_vacant, main_inspections, small_inspections};
     ghost use Rattle.clock2q_machine.specs.Machine.{slot_of, vacancy, goes_to_main, into_main, into_small, forgotten, placement, inserted};
 
-    /// Inserts a key that is not resident.
-    pub(crate) fn insert(&mut self, hash: u64, key: K, value: V) -> u32
+    /// Inserts a key that is not resident. If the history has it, it stands there at `place`.
+    pub(crate) fn insert(&mut self, hash: u64, key: K, value: V, place: Option<u32>) -> u32
+        requires place { place ≡ place_of (K.eq key) self.old.machine.history self.old.known.taken }
         requires hash { hash ≡ hash_of S.BuildHasher S.Hasher.Hasher self.old.hasher (K.hash_input key) }
         requires absent { slot_of (K.eq key) self.old.machine ≡ None }
         ensures slot { result ≡ (placement (K.eq key) key self.old.machine).slot }
         ensures machine { self.new.machine ≡ inserted (K.eq key) key value self.old.machine }
         ensures hasher { self.new.hasher ≡ self.old.hasher }
-        ensures counts { Spends (inspections_for (K.eq key) self.old.machine) (inspections_for (K.eq key) self.old.machine + 36) (length (candidates self.old.remembered.index hash)) self.old.counts self.new.counts }
+        ensures counts { Spends (inspections_for (K.eq key) self.old.machine) (inspections_for (K.eq key) self.old.machine + 36) 0 self.old.counts self.new.counts }
     {
-        let known = self.forget(hash, &key);
+        let known = self.forget(hash, &key, place);
         let main = self.admits_to_main(known);
         self.place(hash, key, Some(value), main)
     }
 
-    /// Inserts a key that is not resident. A slot that was made before keeps its value; a new one
-    /// gets what `make` returns.
-    pub(crate) fn insert_reusing<F: FnOnce() -> V>(&mut self, hash: u64, key: K, make: F) -> u32
+    /// Inserts a key as `insert` does. A slot that was made before keeps its value; a new one gets
+    /// what `make` returns.
+    pub(crate) fn insert_reusing<F: FnOnce() -> V>(
+        &mut self,
+        hash: u64,
+        key: K,
+        place: Option<u32>,
+        make: F,
+    ) -> u32
+        requires place { place ≡ place_of (K.eq key) self.old.machine.history self.old.known.taken }
         requires hash { hash ≡ hash_of S.BuildHasher S.Hasher.Hasher self.old.hasher (K.hash_input key) }
         requires absent { slot_of (K.eq key) self.old.machine ≡ None }
         requires make { slice_get self.old.machine.values (placement (K.eq key) key self.old.machine).slot ≡ None → F.pre make }
         ensures slot { result ≡ (placement (K.eq key) key self.old.machine).slot }
         ensures machine { Reuses (K.eq key) key (F.post make) self.old.machine self.new.machine }
-        ensures residents { self.new.residents ≡ entered (λ k. hash_of S.BuildHasher S.Hasher.Hasher self.old.hasher (K.hash_input k)) key result self.old.machine self.old.residents }
-        ensures remembered { let m = forgotten (K.eq key) self.old.machine in self.new.remembered ≡ remembering_any (λ k. hash_of S.BuildHasher S.Hasher.Hasher self.old.hasher (K.hash_input k)) (out_of (goes_to_main (list_any (K.eq key) self.old.machine.history) self.old.machine) m) m (discarded (K.eq key) hash self.old) }
+        ensures known { let m = forgotten (K.eq key) self.old.machine in self.new.known ≡ entered (λ k. hash_of S.BuildHasher S.Hasher.Hasher self.old.hasher (K.hash_input k)) key result (out_of (goes_to_main (list_any (K.eq key) self.old.machine.history) self.old.machine) m) m (discarded (K.eq key) hash self.old) }
         ensures hasher { self.new.hasher ≡ self.old.hasher }
-        ensures counts { Spends (inspections_for (K.eq key) self.old.machine) (inspections_for (K.eq key) self.old.machine + 36) (length (candidates self.old.remembered.index hash)) self.old.counts self.new.counts }
+        ensures counts { Spends (inspections_for (K.eq key) self.old.machine) (inspections_for (K.eq key) self.old.machine + 36) 0 self.old.counts self.new.counts }
     {
-        let known = self.forget(hash, &key);
+        let known = self.forget(hash, &key, place);
         let main = self.admits_to_main(known);
         let value = self.makes_slot(main).then(make);
         self.place(hash, key, value, main)
@@ -144,7 +151,7 @@ impl<K: Hash + Eq + Drop, V: Drop, S: BuildHasher, A: Allocator> Cache<K, V, S, 
         ensures counts { Spends (inspections self.old.machine.main) (inspections self.old.machine.main + 28) 0 self.old.counts self.new.counts }
     {
         let victim = self.queues.take_victim();
-        renew(&mut self.index, &mut self.keys, victim, hash, key, value);
+        renew(&mut self.history, &mut self.keys, victim, hash, key, value);
         self.queues.append(victim);
         victim
     }
@@ -162,7 +169,7 @@ impl<K: Hash + Eq + Drop, V: Drop, S: BuildHasher, A: Allocator> Cache<K, V, S, 
         ensures counts { Spends 0 28 0 self.old.counts self.new.counts }
     {
         let slot = take_vacancy(&mut self.free, self.keys.len());
-        enter(&mut self.index, &mut self.keys, slot, hash, key, value);
+        enter(&mut self.history, &mut self.keys, slot, hash, key, value);
         self.queues.append(slot);
         slot
     }
@@ -203,7 +210,7 @@ impl<K: Hash + Eq + Drop, V: Drop, S: BuildHasher, A: Allocator> Cache<K, V, S, 
         ensures counts { Spends 0 28 0 self.old.counts self.new.counts }
     {
         let slot = take_vacancy(&mut self.free, self.keys.len());
-        enter(&mut self.index, &mut self.keys, slot, hash, key, value);
+        enter(&mut self.history, &mut self.keys, slot, hash, key, value);
         self.queues.admit(slot);
         slot
     }
@@ -236,8 +243,9 @@ impl<K: Hash + Eq + Drop, V: Drop, S: BuildHasher, A: Allocator> Cache<K, V, S, 
         let Some(tail) = self.queues.take_tail() else {
             unreachable!()
         };
-        let (old_hash, old_key) = renew(&mut self.index, &mut self.keys, tail, hash, key, value);
-        self.history.push(old_hash, old_key);
+        let (old_hash, old_key) = refill(&mut self.keys, tail, hash, key, value);
+        self.history.push(old_hash, tail, old_key);
+        self.history.add(hash, tail);
         self.queues.admit(tail);
         tail
     }
@@ -261,7 +269,7 @@ impl<K: Hash + Eq + Drop, V: Drop, S: BuildHasher, A: Allocator> Cache<K, V, S, 
             unreachable!()
         };
         self.queues.append(tail);
-        renew(&mut self.index, &mut self.keys, slot, hash, key, value);
+        renew(&mut self.history, &mut self.keys, slot, hash, key, value);
         self.queues.admit(slot);
         slot
     }

@@ -1,6 +1,7 @@
 //! Removal of residents: of one by its key, and of those that a closure rejects.
 use crate::cache::Cache;
 use crate::vacancies::free_slot;
+use clock2q_queues::history::Found;
 use std::alloc::Allocator;
 use std::hash::{BuildHasher, Hash};
 
@@ -29,8 +30,9 @@ impl<K: Hash + Eq, V, S: BuildHasher, A: Allocator> Cache<K, V, S, A> {
         ensures costs { Costs K.Hash S.BuildHasher S.Hasher.Hasher (Remove key.now) self.old self.new }
     {
         let hash = self.hash(key);
-        let Some(slot) = self.find(hash, key) else {
-            self.forget(hash, key);
+        let found = self.look(hash, key);
+        let Found::Resident(slot) = found else {
+            self.forget(hash, key, found.place());
             return false;
         };
         self.vacate(slot);
@@ -91,7 +93,7 @@ impl<K: Hash + Eq, V, S: BuildHasher, A: Allocator> Cache<K, V, S, A> {
         ensures hasher { self.new.hasher ≡ self.old.hasher }
         ensures counts { Spends 0 8 0 self.old.counts self.new.counts }
     {
-        self.index.remove(self.keys.hash(slot), slot);
+        self.history.remove(self.keys.hash(slot), slot);
         self.queues.leave(slot);
         free_slot(&mut self.free, slot);
     }

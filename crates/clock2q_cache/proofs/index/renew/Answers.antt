@@ -1,31 +1,32 @@
--- The place that goes out of the index makes room for itself, and the slot has its value.
-use Rattle.std.proofs.Common.{ap, ◌∙◌}
-use Rattle.clock2q_queues.specs.Keys.{KeyPlaces, with_value}
-use Rattle.clock2q_queues.proofs.Entries.{written-replaced}
-use Rattle.clock2q_cache.proofs.Stored.{left-room, brings-value, keeps-value}
+-- The slot that leaves the index makes room for itself.
+use Rattle.std.proofs.Common.{◌≡◌, eqb, refl, ap, ◌∙◌, arith}
+use Rattle.clock2q_handles.specs.Homes.{removed}
+use Rattle.clock2q_queues.specs.Index.{slots}
+use Rattle.clock2q_queues.specs.History.{Remembered, most_beside}
+use Rattle.clock2q_queues.proofs.Indexes.{named-own}
+use Rattle.clock2q_queues.proofs.Views.{slots-left}
+use Rattle.clock2q_cache.proofs.Stored.{left-room}
 use Rattle.clock2q_cache.proofs.index.renew.Goals as goal
-use Rattle.clock2q_cache.proofs.index.renew.Goals.{in-Some, in_default}
 
-pub add-requires-clause-room : goal.add-requires-clause-room
-add-requires-clause-room g c =
+pub remove-requires : goal.remove-requires
+remove-requires g c =
     let r = c.requires.resident in
-    (left-room c.args.index.now.homes c.remove.new.self.homes c.args.keys.now.entries r.0 c.args.slot _ r.1 r.2 r.3 c.hash.ensures.hash r.4 r.5 c.remove.ensures.removed).0
+    let homes = slots c.args.history.now.places.index in
+    record {
+      below = omega (arith, c.requires.below);
+      held = r.1.listed c.hash.result c.args.slot ∙ rw (r.3, named-own homes c.args.keys.now.entries c.hash.result c.args.slot c.hash.ensures.hash) refl;
+    }
 
-pub add-requires-clause-few : goal.add-requires-clause-few
-add-requires-clause-few g c =
+pub add-requires : goal.add-requires
+add-requires g c =
     let r = c.requires.resident in
-    (left-room c.args.index.now.homes c.remove.new.self.homes c.args.keys.now.entries r.0 c.args.slot _ r.1 r.2 r.3 c.hash.ensures.hash r.4 r.5 c.remove.ensures.removed).1
-
-pub returns-clause-entries : goal.returns-clause-entries
-returns-clause-entries g c =
-    let es = c.args.keys.now.entries in
-    elim c.match-value.branch [
-      | in-Some w ↦
-          let is = ap (λ (z : KeyPlaces _ _). z.entries) w.keys-is ∙ ap (λ (z : KeyPlaces _ _). z.entries) w.replace_value.ensures.replaced
-          ∙ ap (λ (z : KeyPlaces _ _). with_value c.args.slot w.in-Some.value z.entries) c.replace-old.ensures.replaced
-          ∙ written-replaced c.args.slot c.args.hash c.args.key w.in-Some.value es c.requires.made in
-          rw w.in-Some.is (brings-value c.args.slot c.args.hash c.args.key w.in-Some.value es c.match-value.keys.entries is)
-      | in_default w ↦
-          let is = ap (λ (z : KeyPlaces _ _). z.entries) w.keys-is ∙ ap (λ (z : KeyPlaces _ _). z.entries) c.replace-old.ensures.replaced in
-          rw w.in_default.is (keeps-value c.args.slot c.args.hash c.args.key es c.match-value.keys.entries c.requires.made is)
-    ]
+    let h = c.args.history.now in
+    let is : slots c.remove.new.self.places.index ≡ removed eqb (slots h.places.index) c.hash.result c.args.slot =
+    ap (λ (z : Remembered _). slots z.places.index) c.remove.ensures.removed ∙ slots-left h.places.index c.hash.result c.args.slot (omega (arith, c.requires.below)) in
+    let same : most_beside c.remove.new.self ≡ most_beside h = ap (λ (z : Remembered _). most_beside z) c.remove.ensures.removed in
+    let room = left-room (slots h.places.index) (slots c.remove.new.self.places.index) c.args.keys.now.entries r.0 c.args.slot _
+    r.1 r.2 r.3 c.hash.ensures.hash (most_beside h) c.requires.few c.requires.room is in
+    record {
+      below = omega (arith, c.requires.below);
+      room = record { room = omega (arith, room.0, same); few = omega (arith, room.1, same) };
+    }

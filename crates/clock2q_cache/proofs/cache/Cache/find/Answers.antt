@@ -13,7 +13,7 @@ use Rattle.clock2q_cache.proofs.cache.Cache.find.Goals as goal
 pub find-requires : goal.find-requires
 find-requires g c =
     let k = c.self.invariant in
-    record { used = subst (λ z. AllByRecursion (λ place. place < length c.self.inside.keys.entries) z) (sym c.get.ensures.candidates) (candidates-there g.met.K.Eq.laws k c.args.hash) }
+    record { used = subst (λ z. AllByRecursion (λ place. place < length c.self.inside.keys.entries) z) (sym c.handles.ensures.slots) (candidates-there g.met.K.Eq.laws k c.args.hash) }
 
 pub invariant_of-self : goal.invariant_of-self
 invariant_of-self g c =
@@ -25,7 +25,7 @@ pub returns-clause-slot : goal.returns-clause-slot
 returns-clause-slot g c =
     let k = c.self.invariant in
     let same = rw (← c.self.view_is) at c.requires in
-    c.find.ensures.found ∙ ap (λ z. find (is_key_at g.K.PartialEq.eq c.args.key.now c.self.inside.keys.entries) z) c.get.ensures.candidates
+    c.find.ensures.found ∙ ap (λ z. find (is_key_at g.K.PartialEq.eq c.args.key.now c.self.inside.keys.entries) z) c.handles.ensures.slots
     ∙ found g.met.K.Eq.laws k c.args.key.now (λ x y e. ap (λ z. hash_of g.S.BuildHasher g.S.Hasher.Hasher c.self.inside.hasher z) (g.met.K.Hash.respects_eq x y e)) c.args.hash same
     ∙ ap (λ (z : CacheState _ _ _). slot_of (g.K.PartialEq.eq c.args.key.now) z.machine) c.self.view_is
 
@@ -35,4 +35,4 @@ returns-clause-made g c = rw (← c.self.view_is) (found-made g.met.K.Eq.laws c.
 pub returns-clause-counts : goal.returns-clause-counts
 returns-clause-counts g c =
     let i = c.self.inside in
-    rw (← c.self.view_is) (asked-spends i.queues i.history i.keys c.find.new.self (is_key_at g.K.PartialEq.eq c.args.key.now i.keys.entries) _ _ c.get.ensures.candidates c.find.ensures.counted)
+    rw (← c.self.view_is) (asked-spends i.queues i.history i.keys c.find.new.self (is_key_at g.K.PartialEq.eq c.args.key.now i.keys.entries) _ _ c.handles.ensures.slots c.find.ensures.counted)

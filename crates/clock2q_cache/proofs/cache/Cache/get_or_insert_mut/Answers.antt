@@ -23,7 +23,7 @@ returns g c =
         refl,
         λ w. ap (λ (z : CacheState _ _ _). record z { machine = stored c.find_or_reuse-slot.result w z.machine }) charged
             ∙ lent (record { eq = g.K.PartialEq.eq; hash_input = g.K.Hash.hash_input }) g.S.BuildHasher g.S.Hasher.Hasher c.args.key (goal.F-post g c.args.make)
-            c.args.self.now c.find_or_reuse-slot.new.self c.find_or_reuse-slot.result t e.residents e.remembered e.hasher e.counts _ _
+            c.args.self.now c.find_or_reuse-slot.new.self c.find_or_reuse-slot.result t e.known e.hasher e.counts _ _
             (ap (λ (z : ℕ × ℕ). z.0) c.most-most.ensures.picked) (ap (λ (z : ℕ × ℕ). z.1) c.most-most.ensures.picked) w,
       ),
       record {

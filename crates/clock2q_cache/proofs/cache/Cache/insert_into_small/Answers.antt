@@ -35,16 +35,16 @@ returns-else-tail_is_promoted-clause-counts g c =
 pub returns-then-has_vacancy-clause-indexes : goal.returns-then-has_vacancy-clause-indexes
 returns-then-has_vacancy-clause-indexes g c =
     let x = c.join_small.ensures.indexes in
-    rw (← c.if-has_vacancy.ensures.vacant) (record { residents = x.residents; remembered = x.remembered })
+    rw (← c.if-has_vacancy.ensures.vacant) x
 
 pub returns-then-tail_is_promoted-clause-indexes : goal.returns-then-tail_is_promoted-clause-indexes
 returns-then-tail_is_promoted-clause-indexes g c =
     let x = rw c.tail_is_promoted.ensures.kept at c.promote_tail.ensures.indexes in
     let out = key-out true (last_or None c.args.self.now.machine.small) c.if-tail_is_promoted.ensures.value in
-    rw (← c.if-has_vacancy.ensures.vacant, out) (record { residents = x.residents; remembered = x.remembered })
+    rw (← c.if-has_vacancy.ensures.vacant, out) x
 
 pub returns-else-tail_is_promoted-clause-indexes : goal.returns-else-tail_is_promoted-clause-indexes
 returns-else-tail_is_promoted-clause-indexes g c =
     let x = rw c.tail_is_promoted.ensures.kept at c.evict_tail.ensures.indexes in
     let out = key-out false (last_or None c.args.self.now.machine.small) c.if-tail_is_promoted.ensures.value in
-    rw (← c.if-has_vacancy.ensures.vacant, out) (record { residents = x.residents; remembered = x.remembered })
+    rw (← c.if-has_vacancy.ensures.vacant, out) x

@@ -49,14 +49,11 @@ returns-clause-machine g c =
     (there ∙ ap not (sym c.then-value.ensures.variant)) c.then-value.ensures.some
     (fills-there eq c.args.key s c.then-value.result c.place.new.self.machine c.place.ensures.machine)
 
-pub returns-clause-residents : goal.returns-clause-residents
-returns-clause-residents g c = let f = c.forget-known.ensures in rw (f.hasher, f.machine, f.residents) at c.place.ensures.indexes.residents
-
-pub returns-clause-remembered : goal.returns-clause-remembered
-returns-clause-remembered g c =
+pub returns-clause-known : goal.returns-clause-known
+returns-clause-known g c =
     let f = c.forget-known.ensures in
-    let goes = goes-there (sent g (goal.at.returns-clause-remembered g c).After-admits_to_main-main) in
-    rw (f.hasher, f.machine, goes, f.remembered) at c.place.ensures.indexes.remembered
+    let goes = goes-there (sent g (goal.at.returns-clause-known g c).After-admits_to_main-main) in
+    rw (f.hasher, f.machine, goes, f.places) at c.place.ensures.indexes
 
 pub returns-clause-counts : goal.returns-clause-counts
 returns-clause-counts g c =

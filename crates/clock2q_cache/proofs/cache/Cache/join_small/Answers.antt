@@ -1,7 +1,10 @@
 -- The new key's slot is the vacancy.
-use Rattle.std.proofs.Common.{refl, vec_capacity, arith}
+use Rattle.std.proofs.Common.{refl, ap, vec_capacity, arith}
+use Rattle.clock2q_queues.specs.Index.{slots}
+use Rattle.clock2q_queues.specs.History.{Remembered}
+use Rattle.clock2q_queues.proofs.Views.{slots-entered}
 use Rattle.clock2q_machine.specs.Machine.{into_small}
-use Rattle.clock2q_cache.proofs.CacheInvariant.{m, IsFree, IsDone, free-small, made-small, small-done}
+use Rattle.clock2q_cache.proofs.CacheInvariant.{m, IsFree, IsDone, done-reindexed, reindexed, now-slots, free-small, made-small, small-done}
 use Rattle.clock2q_cache.proofs.Insertions.{joined-spends}
 use Rattle.clock2q_cache.proofs.Places.{entered-vacant}
 use Rattle.clock2q_cache.proofs.cache.Cache.join_small.Given.{Over}
@@ -19,8 +22,8 @@ enter-requires g c =
       next = f.next;
       had = made-small g.met.K.Eq.laws c.self.invariant c.args.key c.args.value f.taken (rw (← c.self.view_is) at c.requires.had);
       room = f.within;
-      index_room = f.index_room;
-      few = f.few;
+      below = f.short;
+      index_room = record { room = f.index_room; few = f.few };
     }
 
 pub admit-requires : goal.admit-requires
@@ -33,11 +36,13 @@ admit-requires g c =
 -- the key has it
 done : (g : Over) (c : After-admit g) → IsFree g.met.K.Eq.laws c.self.invariant c.take_vacancy-slot.result
     → IsDone g.met.K.Eq.laws c.self.invariant c.take_vacancy-slot.result c.args.value (into_small c.args.key (m g.met.K.Eq.laws c.self.invariant))
-    c.admit.new.self c.self.inside.history c.enter.new.index.homes c.enter.new.keys c.take_vacancy-slot.new.free.items (vec_capacity c.take_vacancy-slot.new.free)
+    c.admit.new.self c.enter.new.history (slots c.enter.new.history.places.index) c.enter.new.keys c.take_vacancy-slot.new.free.items (vec_capacity c.take_vacancy-slot.new.free)
 done g c f =
-    small-done g.met.K.Eq.laws c.self.invariant f (rw (← c.self.view_is) at c.requires.hash) (rw (← c.self.view_is) at c.requires.absent)
-    c.enter.ensures.index c.enter.ensures.entries c.enter.ensures.kept (rw (← c.self.view_is) at c.requires.room)
-    c.admit.ensures.queues c.take_vacancy-slot.ensures.others c.take_vacancy-slot.ensures.capacity
+    done-reindexed g.met.K.Eq.laws c.self.invariant (reindexed c.self.inside.history c.enter.ensures.index refl)
+    (small-done g.met.K.Eq.laws c.self.invariant f (rw (← c.self.view_is) at c.requires.hash) (rw (← c.self.view_is) at c.requires.absent)
+    (now-slots c.self.inside.history c.enter.ensures.index (slots-entered c.self.inside.history.places.index c.args.hash c.take_vacancy-slot.result (omega (arith, f.short))))
+    c.enter.ensures.entries c.enter.ensures.kept (rw (← c.self.view_is) at c.requires.room)
+    c.admit.ensures.queues c.take_vacancy-slot.ensures.others c.take_vacancy-slot.ensures.capacity)
 
 pub invariant_of-self : goal.invariant_of-self
 invariant_of-self g c =
@@ -52,10 +57,8 @@ returns g c =
     rw (← c.self.view_is) (record {
       slot = d.at;
       machine = d.fills;
-      indexes = record {
-        residents = entered-vacant g.met.K.Eq.laws c.self.invariant c.args.key c.take_vacancy-slot.result f.absent (rw (← c.self.view_is) at c.requires.hash) c.enter.ensures.index;
-        remembered = refl;
-      };
+      indexes = entered-vacant g.met.K.Eq.laws c.self.invariant c.self.inside.history.places c.args.key c.take_vacancy-slot.result
+          (rw (← c.self.view_is) at c.requires.hash) f.absent (ap (λ (z : Remembered _). z.places) c.enter.ensures.index);
       hasher = refl;
-      counts = joined-spends c.self.inside.queues c.self.inside.history c.self.inside.keys 3 10 c.admit.ensures.queues c.admit.ensures.accesses (omega arith) c.enter.ensures.kept;
+      counts = joined-spends c.self.inside.queues c.self.inside.history c.self.inside.keys 3 10 c.admit.ensures.queues c.admit.ensures.accesses (omega arith) c.enter.ensures.index c.enter.ensures.kept;
     })

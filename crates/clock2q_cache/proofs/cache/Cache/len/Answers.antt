@@ -1,5 +1,8 @@
 -- There are as many residents as slots in the queues.
-use Rattle.std.proofs.Common.{arith, subst}
+use Rattle.std.proofs.Common.{◌+◌, ◌≤◌, length, arith, subst}
+use Rattle.std.specs.Prelude.{if◌then◌else◌}
+use Rattle.clock2q_handles.specs.Homes.{capacity}
+use Rattle.clock2q_queues.specs.Index.{is_shared, slots}
 use Rattle.clock2q_cache.specs.CacheState.{CacheState}
 use Rattle.clock2q_cache.specs.Indexed.{IsIndexed, IsSpacious}
 use Rattle.clock2q_cache.proofs.CacheInvariant.{length_in_small, length_in_main}
@@ -40,6 +43,6 @@ pub returns-clause-spacious : goal.returns-clause-spacious
 returns-clause-spacious g c =
     let k = c.self.invariant in
     subst (λ (z : CacheState _ _ _). IsSpacious z) c.self.view_is (record {
-      residents = k.sized.half;
-      remembered = omega (arith, c.len.ensures.whole.half, k.sized.remembers);
+      residents = subst (λ n. c.self.inside.shares.capacity + (if is_shared c.self.inside.history.places.index then n else 0) ≤ capacity (length (slots c.self.inside.history.places.index))) k.sized.remembers k.sized.spacious;
+      remembered = λ own. omega (arith, c.len.ensures.whole.own_room own, k.sized.remembers);
     })

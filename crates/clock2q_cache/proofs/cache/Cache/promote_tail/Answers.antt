@@ -1,10 +1,14 @@
 -- The tail goes on to Main, and the slot of Main's victim to the new key.
-use Rattle.std.proofs.Common.{◌≡◌, Some, None, refl, sym, arith, vec_capacity}
+use Rattle.std.proofs.Common.{◌≡◌, Some, None, refl, sym, arith, vec_capacity, ap, ◌∙◌}
 use Rattle.std.specs.List.{last_or}
 use Rattle.clock2q_queues.specs.Queues.{slots_of}
+use Rattle.clock2q_handles.specs.Homes.{with_handle}
+use Rattle.clock2q_queues.specs.Index.{left, slots}
+use Rattle.clock2q_queues.specs.History.{Remembered}
+use Rattle.clock2q_queues.proofs.Views.{slots-entered, slots-left}
 use Rattle.clock2q_machine.specs.Machine.{into_small}
-use Rattle.clock2q_cache.proofs.CacheInvariant.{m, IsDone, length_in_small}
-use Rattle.clock2q_cache.proofs.Renewed.{resident-there, slot-below, no-tail, victim-in, victim-not_in_front, victim-not_behind, tail-in, tail-not_in_front, tail-not_in_rest, promoted-done}
+use Rattle.clock2q_cache.proofs.CacheInvariant.{m, IsDone, done-reindexed, reindexed, now-slots, length_in_small}
+use Rattle.clock2q_cache.proofs.Renewed.{resident-there, room-there, slot-below, no-tail, victim-in, victim-not_in_front, victim-not_behind, tail-in, tail-not_in_front, tail-not_in_rest, promoted-done}
 use Rattle.clock2q_cache.proofs.Insertions.{victim-spends}
 use Rattle.clock2q_cache.proofs.Places.{entered-renewed}
 use Rattle.clock2q_cache.proofs.cache.Cache.promote_tail.Given.{Over}
@@ -38,6 +42,9 @@ renew-requires g c =
     record {
       resident = resident-there g.met.K.Eq.laws k c.take_victim-slot.result there;
       made = (slot-below g.met.K.Eq.laws k c.take_victim-slot.result there).0;
+      below = (slot-below g.met.K.Eq.laws k c.take_victim-slot.result there).2;
+      room = (room-there g.met.K.Eq.laws k).0;
+      few = (room-there g.met.K.Eq.laws k).1;
     }
 
 pub admit-requires : goal.admit-requires
@@ -57,14 +64,19 @@ admit-requires g c =
 -- the key has the slot
 done : (g : Over) (c : After-admit g) → last_or None (slots_of c.self.inside.queues.small) ≡ Some c.in-Some.tail
     → IsDone g.met.K.Eq.laws c.self.invariant c.take_victim-slot.result c.args.value (into_small c.args.key (m g.met.K.Eq.laws c.self.invariant))
-    c.admit.new.self c.self.inside.history c.renew.new.index.homes c.renew.new.keys c.self.inside.free.items (vec_capacity c.self.inside.free)
+    c.admit.new.self c.renew.new.history (slots c.renew.new.history.places.index) c.renew.new.keys c.self.inside.free.items (vec_capacity c.self.inside.free)
 done g c tail =
     let victim = c.take_victim-slot.ensures.victim in
     let r = c.renew.ensures in
-    promoted-done g.met.K.Eq.laws c.self.invariant (rw (← c.self.view_is) at c.requires.hash) (rw (← c.self.view_is) at c.requires.absent)
-    (victim-in g.met.K.Eq.laws c.self.invariant c.take_victim-slot.result victim) r.hash r.index r.entries r.kept
+    let below = (slot-below g.met.K.Eq.laws c.self.invariant c.take_victim-slot.result (victim-in g.met.K.Eq.laws c.self.invariant c.take_victim-slot.result victim)).2 in
+    done-reindexed g.met.K.Eq.laws c.self.invariant (reindexed c.self.inside.history r.index refl)
+    (promoted-done g.met.K.Eq.laws c.self.invariant (rw (← c.self.view_is) at c.requires.hash) (rw (← c.self.view_is) at c.requires.absent)
+    (victim-in g.met.K.Eq.laws c.self.invariant c.take_victim-slot.result victim) r.hash
+    (now-slots c.self.inside.history r.index (slots-entered (left c.renew.result.0 c.take_victim-slot.result c.self.inside.history.places.index) c.args.hash c.take_victim-slot.result (omega (arith, below))
+    ∙ ap (λ z. with_handle z c.args.hash c.take_victim-slot.result) (slots-left c.self.inside.history.places.index c.renew.result.0 c.take_victim-slot.result (omega (arith, below)))))
+    r.entries r.kept
     tail victim (rw (← c.self.view_is) at c.requires.full) (rw (← c.self.view_is) at c.requires.on)
-    (rw (c.append.ensures.queues, c.in-Some.ensures.queues, c.take_victim-slot.ensures.queues) at c.admit.ensures.queues)
+    (rw (c.append.ensures.queues, c.in-Some.ensures.queues, c.take_victim-slot.ensures.queues) at c.admit.ensures.queues))
 
 pub invariant_of-self : goal.invariant_of-self
 invariant_of-self g c = let at = goal.at.invariant_of-self g c in (done g at.After-admit (last g at.In-Some)).holds
@@ -82,13 +94,10 @@ returns g c =
     rw (← c.self.view_is) (record {
       slot = d.at;
       machine = d.fills;
-      indexes = record {
-        residents = entered-renewed g.met.K.Eq.laws k c.args.key c.take_victim-slot.result (victim-in g.met.K.Eq.laws k c.take_victim-slot.result v.victim)
-            r.hash (rw (← c.self.view_is) at c.requires.hash) r.index;
-        remembered = refl;
-      };
+      indexes = entered-renewed g.met.K.Eq.laws k c.self.inside.history.places c.args.key c.take_victim-slot.result (rw (← c.self.view_is) at c.requires.hash)
+          (victim-in g.met.K.Eq.laws k c.take_victim-slot.result v.victim) r.hash (ap (λ (z : Remembered _). z.places) r.index);
       hasher = refl;
       counts = victim-spends g.met.K.Eq.laws k c.take_victim-slot.new.self v.inspections v.accesses
           (rw (c.append.ensures.queues, c.in-Some.ensures.queues, v.queues) at c.admit.ensures.queues)
-          (omega (arith, taken.0, appended.0, admitted.0), omega (arith, taken.1, appended.1, admitted.1)) r.kept;
+          (omega (arith, taken.0, appended.0, admitted.0), omega (arith, taken.1, appended.1, admitted.1)) r.index r.kept;
     })

@@ -7,10 +7,10 @@ use Rattle.clock2q_cache.proofs.cache.Cache.remove.Goals as goal
 
 pub vacate-requires : goal.vacate-requires
 vacate-requires g c =
-    found-resident (g.K.PartialEq.eq c.args.key.now) c.find.new.self.machine c.in-Some.slot
-    (ap (λ (z : Machine _ _). slot_of (g.K.PartialEq.eq c.args.key.now) z) c.in-Some.ensures.machine ∙ sym c.in-Some.ensures.slot)
+    found-resident (g.K.PartialEq.eq c.args.key.now) c.look-found.new.self.machine c.in-Resident.slot
+    (ap (λ (z : Machine _ _). slot_of (g.K.PartialEq.eq c.args.key.now) z) c.in-Resident.ensures.machine ∙ sym c.in-Resident.ensures.slot)
 
 pub returns-clause-costs : goal.returns-clause-costs
 returns-clause-costs g c =
-    remove-costs (record { eq = g.K.PartialEq.eq; hash_input = g.K.Hash.hash_input }) g.S.BuildHasher g.S.Hasher.Hasher c.args.key.now c.hash-hash.result c.in-Some.slot
-    c.args.self.now c.find.new.self c.vacate.new.self c.hash-hash.ensures c.in-Some.ensures.slot c.find.ensures.kept c.find.ensures.counts c.vacate.ensures.machine c.vacate.ensures.counts
+    remove-costs (record { eq = g.K.PartialEq.eq; hash_input = g.K.Hash.hash_input }) g.S.BuildHasher g.S.Hasher.Hasher c.args.key.now c.in-Resident.slot
+    c.args.self.now c.look-found.new.self c.vacate.new.self c.in-Resident.ensures.slot c.look-found.ensures.kept c.look-found.ensures.counts c.vacate.ensures.machine c.vacate.ensures.counts

@@ -1,8 +1,12 @@
 -- The key goes to the end of Main, at the victim's slot.
-use Rattle.std.proofs.Common.{arith, refl, vec_capacity}
+use Rattle.std.proofs.Common.{arith, refl, vec_capacity, ap, ◌∙◌}
+use Rattle.clock2q_handles.specs.Homes.{with_handle}
+use Rattle.clock2q_queues.specs.Index.{left, slots}
+use Rattle.clock2q_queues.specs.History.{Remembered}
+use Rattle.clock2q_queues.proofs.Views.{slots-entered, slots-left}
 use Rattle.clock2q_machine.specs.Machine.{into_main}
-use Rattle.clock2q_cache.proofs.CacheInvariant.{m, IsDone}
-use Rattle.clock2q_cache.proofs.Renewed.{resident-there, slot-below, victim-in, victim-not_in_rest, victim-not_in_small, replaced-done}
+use Rattle.clock2q_cache.proofs.CacheInvariant.{m, IsDone, done-reindexed, reindexed, now-slots}
+use Rattle.clock2q_cache.proofs.Renewed.{resident-there, room-there, slot-below, victim-in, victim-not_in_rest, victim-not_in_small, replaced-done}
 use Rattle.clock2q_cache.proofs.Insertions.{victim-spends}
 use Rattle.clock2q_cache.proofs.Places.{entered-renewed}
 use Rattle.clock2q_cache.proofs.cache.Cache.replace_victim.Given.{Over}
@@ -16,6 +20,9 @@ renew-requires g c =
     record {
       resident = resident-there g.met.K.Eq.laws k c.take_victim-victim.result there;
       made = (slot-below g.met.K.Eq.laws k c.take_victim-victim.result there).0;
+      below = (slot-below g.met.K.Eq.laws k c.take_victim-victim.result there).2;
+      room = (room-there g.met.K.Eq.laws k).0;
+      few = (room-there g.met.K.Eq.laws k).1;
     }
 
 pub append-requires : goal.append-requires
@@ -31,12 +38,17 @@ append-requires g c =
 
 -- the key has the slot
 done : (g : Over) (c : After-append g) → IsDone g.met.K.Eq.laws c.self.invariant c.take_victim-victim.result c.args.value (into_main c.args.key (m g.met.K.Eq.laws c.self.invariant))
-    c.append.new.self c.self.inside.history c.renew.new.index.homes c.renew.new.keys c.self.inside.free.items (vec_capacity c.self.inside.free)
+    c.append.new.self c.renew.new.history (slots c.renew.new.history.places.index) c.renew.new.keys c.self.inside.free.items (vec_capacity c.self.inside.free)
 done g c =
     let victim = c.take_victim-victim.ensures.victim in
-    replaced-done g.met.K.Eq.laws c.self.invariant (rw (← c.self.view_is) at c.requires.hash) (rw (← c.self.view_is) at c.requires.absent)
-    (victim-in g.met.K.Eq.laws c.self.invariant c.take_victim-victim.result victim) c.renew.ensures.hash c.renew.ensures.index c.renew.ensures.entries c.renew.ensures.kept
-    victim (rw (← c.self.view_is) at c.requires.full) (rw c.take_victim-victim.ensures.queues at c.append.ensures.queues)
+    let below = (slot-below g.met.K.Eq.laws c.self.invariant c.take_victim-victim.result (victim-in g.met.K.Eq.laws c.self.invariant c.take_victim-victim.result victim)).2 in
+    done-reindexed g.met.K.Eq.laws c.self.invariant (reindexed c.self.inside.history c.renew.ensures.index refl)
+    (replaced-done g.met.K.Eq.laws c.self.invariant (rw (← c.self.view_is) at c.requires.hash) (rw (← c.self.view_is) at c.requires.absent)
+    (victim-in g.met.K.Eq.laws c.self.invariant c.take_victim-victim.result victim) c.renew.ensures.hash
+    (now-slots c.self.inside.history c.renew.ensures.index (slots-entered (left c.renew.result.0 c.take_victim-victim.result c.self.inside.history.places.index) c.args.hash c.take_victim-victim.result (omega (arith, below))
+    ∙ ap (λ z. with_handle z c.args.hash c.take_victim-victim.result) (slots-left c.self.inside.history.places.index c.renew.result.0 c.take_victim-victim.result (omega (arith, below)))))
+    c.renew.ensures.entries c.renew.ensures.kept
+    victim (rw (← c.self.view_is) at c.requires.full) (rw c.take_victim-victim.ensures.queues at c.append.ensures.queues))
 
 pub invariant_of-self : goal.invariant_of-self
 invariant_of-self g c = (done g (goal.at.invariant_of-self g c).After-append).holds
@@ -50,11 +62,9 @@ returns g c =
     rw (← c.self.view_is) (record {
       slot = d.at;
       machine = d.fills;
-      indexes = record {
-        residents = entered-renewed g.met.K.Eq.laws k c.args.key c.take_victim-victim.result there c.renew.ensures.hash (rw (← c.self.view_is) at c.requires.hash) c.renew.ensures.index;
-        remembered = refl;
-      };
+      indexes = entered-renewed g.met.K.Eq.laws k c.self.inside.history.places c.args.key c.take_victim-victim.result
+          (rw (← c.self.view_is) at c.requires.hash) there c.renew.ensures.hash (ap (λ (z : Remembered _). z.places) c.renew.ensures.index);
       hasher = refl;
       counts = victim-spends g.met.K.Eq.laws k c.take_victim-victim.new.self c.take_victim-victim.ensures.inspections c.take_victim-victim.ensures.accesses
-          (rw c.take_victim-victim.ensures.queues at c.append.ensures.queues) (omega (arith, links.0), omega (arith, links.1)) c.renew.ensures.kept;
+          (rw c.take_victim-victim.ensures.queues at c.append.ensures.queues) (omega (arith, links.0), omega (arith, links.1)) c.renew.ensures.index c.renew.ensures.kept;
     })

@@ -22,7 +22,7 @@ returns g c =
     let i = c.self.inside in (
       (
         refl,
-        λ w. ap (λ z. cache_state z i.index.homes i.history.places i.hasher (counts_of i.queues i.history i.keys)) (replaced-machine g.met.K.Eq.laws k c.args.slot w below)
+        λ w. ap (λ z. cache_state z i.history.places i.hasher (counts_of i.queues i.history i.keys)) (replaced-machine g.met.K.Eq.laws k c.args.slot w below)
             ∙ ap (λ (z : CacheState _ _ _). record z { machine = stored c.args.slot w z.machine }) c.self.view_is,
       ),
       record {

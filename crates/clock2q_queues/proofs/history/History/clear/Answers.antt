@@ -8,6 +8,6 @@ pub invariant_of-self : goal.invariant_of-self
 invariant_of-self g c =
     let i = c.self.inside in
     let e = c.clear-2.ensures in
-    IsHistory-cleared g.K.PartialEq.eq i.index.homes c.clear.new.self.homes i.order c.clear-2.new.self i.keys c.clear-3.new.self c.self.invariant c.clear.ensures.cleared
+    rw c.clear.ensures.cleared (IsHistory-cleared g.K.PartialEq.eq i.index i.order c.clear-2.new.self i.keys c.clear-3.new.self c.self.invariant
     e.whole (ap (λ (z : PlaceOrder). z.places) e.order) (ap (λ (z : PlaceOrder). z.free) e.order) (ap (λ (z : PlaceOrder). z.limit) e.order)
-    (ap (λ (z : KeyPlaces _ _). z.entries) c.clear-3.ensures.cleared) (ap (λ (z : KeyPlaces _ _). z.room) c.clear-3.ensures.cleared)
+    (ap (λ (z : KeyPlaces _ _). z.entries) c.clear-3.ensures.cleared) (ap (λ (z : KeyPlaces _ _). z.room) c.clear-3.ensures.cleared))

@@ -6,9 +6,9 @@ use Rattle.clock2q_queues.proofs.history.History.len.Goals as goal
 pub returns-clause-len : goal.returns-clause-len
 returns-clause-len g c =
     let i = c.self.inside in
-    c.len.ensures.len ∙ sym (entries_counted g.K.PartialEq.eq i.index.homes i.order i.keys c.self.invariant) ∙ ap (λ (z : Remembered _). length z.entries) c.self.view_is
+    c.len.ensures.len ∙ sym (entries_counted g.K.PartialEq.eq i.index i.order i.keys c.self.invariant) ∙ ap (λ (z : Remembered _). length z.entries) c.self.view_is
 
 pub returns-clause-whole : goal.returns-clause-whole
 returns-clause-whole g c =
     let i = c.self.inside in
-    rw (← c.self.view_is) (IsWholeHistory-from g.K.PartialEq.eq i.index.homes i.order i.keys _ _ c.self.invariant)
+    rw (← c.self.view_is) (IsWholeHistory-from g.K.PartialEq.eq i.index i.order i.keys _ _ c.self.invariant)
