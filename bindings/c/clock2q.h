@@ -182,6 +182,11 @@ static inline size_t clock2q_capacity_checked(clock2q *cache) {
     return clock2q_capacity(cache);
 }
 
+static inline void clock2q_release_checked(clock2q cache) {
+    assert(cache.at != NULL);
+    clock2q_release(cache);
+}
+
 #define clock2q_new clock2q_new_checked
 #define clock2q_with_policy clock2q_with_policy_checked
 #define clock2q_enter clock2q_enter_checked
@@ -192,6 +197,7 @@ static inline size_t clock2q_capacity_checked(clock2q *cache) {
 #define clock2q_clear clock2q_clear_checked
 #define clock2q_len clock2q_len_checked
 #define clock2q_capacity clock2q_capacity_checked
+#define clock2q_release clock2q_release_checked
 #endif
 
 #ifdef __cplusplus
