@@ -72,8 +72,9 @@ typedef struct {
 } clock2q_memory;
 
 /* Has the caches that this thread makes from now on take their memory there, or from malloc again
- * where `memory` is null. What a cache took goes back where it came from, whoever frees it. */
-void clock2q_use_memory(const clock2q_memory *memory);
+ * where `memory` is null. Returns where they took it before. What a cache took goes back where it
+ * came from, whoever frees it. */
+clock2q_memory clock2q_use_memory(const clock2q_memory *memory);
 
 /* Makes a cache for `capacity` keys. Needs none there. Takes time and memory in proportion to the
  * capacity, some 38 bytes a key, in at most twelve requests. */

@@ -22,8 +22,10 @@ WITHIN void *clock2q_memory_taken(size_t size);
 WITHIN void *clock2q_memory_resized(void *start, size_t size);
 WITHIN void clock2q_memory_given_back(void *start);
 
-void clock2q_use_memory(const clock2q_memory *other) {
+clock2q_memory clock2q_use_memory(const clock2q_memory *other) {
+    clock2q_memory before = memory;
     memory = other != NULL ? *other : (clock2q_memory){malloc, free};
+    return before;
 }
 
 static struct origin *origin_of(void *start) {

@@ -134,13 +134,14 @@ static void *taken_as_benign(size_t size) {
     return block;
 }
 
-/* Makes an index in SQLite's memory. Returns false without memory. */
+/* Makes an index in SQLite's memory, and has the thread's other caches take theirs where they did.
+ * Returns false without memory. */
 static bool is_index_made(clock2q *index, size_t capacity) {
     const clock2q_memory memory = {taken, given_back};
     begin_benign();
-    clock2q_use_memory(&memory);
+    const clock2q_memory before = clock2q_use_memory(&memory);
     bool is_made = clock2q_new(index, capacity) == CLOCK2Q_DONE;
-    clock2q_use_memory(NULL);
+    clock2q_use_memory(&before);
     end_benign();
     return is_made;
 }

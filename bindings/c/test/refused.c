@@ -84,7 +84,7 @@ static void own_memory(void) {
     left = 0;
     clock2q_use_memory(&memory);
     must(clock2q_new(&cache, 100) == CLOCK2Q_DONE, "no memory of malloc is asked for");
-    clock2q_use_memory(NULL);
+    must(clock2q_use_memory(NULL).take == own_take, "where memory came from before");
     must(own_taken > 0 && own_given_back == 0, "a cache in the program's memory");
     clock2q_free(&cache);
     must(own_given_back == own_taken, "memory goes back where it came from");

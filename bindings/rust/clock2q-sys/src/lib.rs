@@ -30,7 +30,16 @@ pub struct clock2q_place {
     pub has_last: bool,
 }
 
+/// Where caches take their memory from, and where it goes back to. Neither of the two is `None`.
+#[repr(C)]
+#[derive(Clone, Copy, Debug)]
+pub struct clock2q_memory {
+    pub take: Option<unsafe extern "C" fn(size: usize) -> *mut c_void>,
+    pub give_back: Option<unsafe extern "C" fn(block: *mut c_void)>,
+}
+
 extern "C" {
+    pub fn clock2q_use_memory(memory: *const clock2q_memory) -> clock2q_memory;
     pub fn clock2q_new(cache: *mut clock2q, capacity: usize) -> u32;
     pub fn clock2q_with_policy(
         cache: *mut clock2q,
