@@ -23,6 +23,9 @@ fn pkg_config() -> String {
         .args(["--libs", "--keep-system-libs", "clock2q"])
         .output()
         .expect("pkg-config runs, or CLOCK2Q_LIB_DIR is set");
-    assert!(told.status.success(), "pkg-config knows clock2q, or CLOCK2Q_LIB_DIR is set");
+    assert!(
+        told.status.success(),
+        "pkg-config knows clock2q, or CLOCK2Q_LIB_DIR is set"
+    );
     String::from_utf8(told.stdout).expect("pkg-config writes UTF-8")
 }

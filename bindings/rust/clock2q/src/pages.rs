@@ -31,6 +31,13 @@ impl Place {
 /// thread, but the compiler can't see that through calls of C: who does so wraps it in a type that
 /// says `Send`.
 ///
+/// ```compile_fail
+/// fn send<T: Send>(_: T) {}
+/// send(clock2q::PageCache::new(2));
+/// ```
+///
+/// # Example
+///
 /// ```
 /// use clock2q::PageCache;
 ///
@@ -75,7 +82,9 @@ impl PageCache {
     }
 
     fn made(make: impl FnOnce(*mut sys::clock2q) -> u32) -> Result<PageCache, Refused> {
-        let handle = UnsafeCell::new(sys::clock2q { at: ptr::null_mut() });
+        let handle = UnsafeCell::new(sys::clock2q {
+            at: ptr::null_mut(),
+        });
         match make(handle.get()) {
             sys::CLOCK2Q_DONE => Ok(PageCache {
                 handle,

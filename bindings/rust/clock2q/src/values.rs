@@ -1,8 +1,10 @@
 //! Keys and their values.
 
 use crate::{PageCache, Refused};
+use std::fmt;
 
-/// A cache of values, which live in a vector of its own.
+/// A cache of values, which live in a vector of its own. It is neither `Send` nor `Sync`, as its
+/// [`PageCache`] isn't.
 pub struct Cache<V> {
     pages: PageCache,
     values: Vec<Option<V>>,
@@ -75,5 +77,15 @@ impl<V> Cache<V> {
     /// Returns how many keys there can be.
     pub fn capacity(&self) -> usize {
         self.pages.capacity()
+    }
+}
+
+impl<V> fmt::Debug for Cache<V> {
+    fn fmt(&self, formatter: &mut fmt::Formatter<'_>) -> fmt::Result {
+        formatter
+            .debug_struct("Cache")
+            .field("len", &self.len())
+            .field("capacity", &self.capacity())
+            .finish()
     }
 }

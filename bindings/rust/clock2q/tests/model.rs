@@ -82,8 +82,19 @@ fn each_value_is_dropped_once() {
 #[test]
 fn refusals() {
     assert_eq!(PageCache::new(0).err(), Some(Refused::Capacity));
-    assert_eq!(PageCache::new(MAX_CAPACITY + 1).err(), Some(Refused::Capacity));
-    assert_eq!(PageCache::with_policy(10, 10, 1).err(), Some(Refused::Policy));
-    assert_eq!(PageCache::with_policy(10, 0, 0).map(|pages| pages.capacity()).ok(), Some(10));
+    assert_eq!(
+        PageCache::new(MAX_CAPACITY + 1).err(),
+        Some(Refused::Capacity)
+    );
+    assert_eq!(
+        PageCache::with_policy(10, 10, 1).err(),
+        Some(Refused::Policy)
+    );
+    assert_eq!(
+        PageCache::with_policy(10, 0, 0)
+            .map(|pages| pages.capacity())
+            .ok(),
+        Some(10)
+    );
     assert_eq!(Refused::Policy.to_string(), "policy refused");
 }
