@@ -15,7 +15,7 @@ from __future__ import annotations
 
 import ctypes
 import os
-from typing import Generic, NamedTuple, Optional, TypeVar, Union
+from typing import ClassVar, Generic, NamedTuple, NoReturn, Optional, TypeVar, Union
 
 Value = TypeVar("Value")
 Default = TypeVar("Default")
@@ -36,8 +36,9 @@ class _Place(ctypes.Structure):
     ]
 
 
-def _load() -> ctypes.CDLL:
-    library = ctypes.CDLL(os.environ.get("CLOCK2Q_LIBRARY", "libclock2q.so.0"))
+def _load() -> ctypes.PyDLL:
+    # Under the interpreter's lock, so that no two calls come at once where threads forget to take turns.
+    library = ctypes.PyDLL(os.environ.get("CLOCK2Q_LIBRARY", "libclock2q.so.0"))
     handle, key, size = ctypes.POINTER(_Handle), ctypes.c_uint64, ctypes.c_size_t
     signatures = {
         "new": (ctypes.c_uint32, [handle, size]),
@@ -61,10 +62,14 @@ def _load() -> ctypes.CDLL:
 _library = _load()
 
 
+def _is_key(key: object) -> bool:
+    return isinstance(key, int) and 0 <= key < 2**64
+
+
 def _checked(key: int) -> int:
     if not isinstance(key, int):
         raise TypeError("a key is an int")
-    if not 0 <= key < 2**64:
+    if not _is_key(key):
         raise ValueError("a key is from 0 to 2**64 - 1")
     return key
 
@@ -93,6 +98,9 @@ class PageCache:
             _library.clock2q_release(self._handle)
             self._handle.at = None
 
+    def __reduce__(self) -> NoReturn:
+        raise TypeError("a cache isn't copied")
+
     def enter(self, key: int) -> Place:
         """Returns the slot of a key, after a hit or after giving it one."""
         place = _Place()
@@ -108,30 +116,32 @@ class PageCache:
     def is_at(self, slot: int, key: int) -> bool:
         """Returns True, after a hit, if the key is at this slot."""
         is_slot = 0 <= slot < self.capacity
-        return is_slot and _library.clock2q_at(self._handle, slot, _checked(key))
+        return is_slot and bool(_library.clock2q_at(self._handle, slot, _checked(key)))
 
-    def __contains__(self, key: int) -> bool:
-        return _library.clock2q_contains(self._handle, _checked(key))
+    def __contains__(self, key: object) -> bool:
+        return _is_key(key) and bool(_library.clock2q_contains(self._handle, key))
 
     def remove(self, key: int) -> bool:
         """Takes the slot of a key away. Returns False if it has none."""
-        return _library.clock2q_remove(self._handle, _checked(key))
+        return bool(_library.clock2q_remove(self._handle, _checked(key)))
 
     def clear(self) -> None:
         """Takes all slots away, and forgets all keys."""
         _library.clock2q_clear(self._handle)
 
     def __len__(self) -> int:
-        return _library.clock2q_len(self._handle)
+        return int(_library.clock2q_len(self._handle))
 
     @property
     def capacity(self) -> int:
         """How many keys can have a slot."""
-        return _library.clock2q_capacity(self._handle)
+        return int(_library.clock2q_capacity(self._handle))
 
 
 class Cache(Generic[Value]):
     """A dict of at most `capacity` keys, of which the replacement chooses one that leaves."""
+
+    __iter__: ClassVar[None] = None
 
     def __init__(self, capacity: int) -> None:
         self._slots = PageCache(capacity)
@@ -158,7 +168,7 @@ class Cache(Generic[Value]):
             raise KeyError(key)
         del self._values[slot]
 
-    def __contains__(self, key: int) -> bool:
+    def __contains__(self, key: object) -> bool:
         return key in self._slots
 
     def __len__(self) -> int:

@@ -1,7 +1,10 @@
 """Tests of clock2q.py: python3 -m unittest, with CLOCK2Q_LIBRARY set."""
 
+import copy
+import pickle
 import random
 import unittest
+from typing import Any, Callable
 
 from clock2q import MAX_CAPACITY, Cache, PageCache, Place
 
@@ -31,7 +34,15 @@ class PageCacheTest(unittest.TestCase):
                 pages.enter(key)
         with self.assertRaises(TypeError):
             pages.find("7")  # type: ignore[arg-type]
+        for stranger in ("7", -1, 2**64):
+            self.assertNotIn(stranger, pages)
         self.assertEqual(pages.enter(2**64 - 1), Place(0, None))
+
+    def test_no_handle_is_copied(self) -> None:
+        copies: list[Callable[[Any], Any]] = [copy.copy, copy.deepcopy, pickle.dumps]
+        for copied in copies:
+            with self.assertRaises(TypeError):
+                copied(PageCache(1))
 
 
 class CacheTest(unittest.TestCase):
@@ -49,6 +60,8 @@ class CacheTest(unittest.TestCase):
         cache[8] = "eight"
         cache.clear()
         self.assertEqual((len(cache), cache.capacity, cache.get(8)), (0, 10, None))
+        with self.assertRaises(TypeError):
+            iter(cache)
 
     def test_against_a_dict(self) -> None:
         """What is there is what was stored last."""
