@@ -98,44 +98,48 @@ class PageCache:
             _library.clock2q_release(self._handle)
             self._handle.at = None
 
+    def _cache(self) -> _Handle:
+        assert self._handle.at, "there is no cache"
+        return self._handle
+
     def __reduce__(self) -> NoReturn:
         raise TypeError("a cache isn't copied")
 
     def enter(self, key: int) -> Place:
         """Returns the slot of a key, after a hit or after giving it one."""
         place = _Place()
-        _library.clock2q_enter(self._handle, _checked(key), place)
+        _library.clock2q_enter(self._cache(), _checked(key), place)
         return Place(place.slot, place.last if place.has_last else None)
 
     def find(self, key: int) -> Optional[int]:
         """Returns the slot of a key, after a hit, or None."""
         slot = ctypes.c_size_t()
-        found = _library.clock2q_find(self._handle, _checked(key), slot)
+        found = _library.clock2q_find(self._cache(), _checked(key), slot)
         return slot.value if found else None
 
     def is_at(self, slot: int, key: int) -> bool:
         """Returns True, after a hit, if the key is at this slot."""
         is_slot = 0 <= slot < self.capacity
-        return is_slot and bool(_library.clock2q_at(self._handle, slot, _checked(key)))
+        return is_slot and bool(_library.clock2q_at(self._cache(), slot, _checked(key)))
 
     def __contains__(self, key: object) -> bool:
-        return _is_key(key) and bool(_library.clock2q_contains(self._handle, key))
+        return _is_key(key) and bool(_library.clock2q_contains(self._cache(), key))
 
     def remove(self, key: int) -> bool:
         """Takes the slot of a key away. Returns False if it has none."""
-        return bool(_library.clock2q_remove(self._handle, _checked(key)))
+        return bool(_library.clock2q_remove(self._cache(), _checked(key)))
 
     def clear(self) -> None:
         """Takes all slots away, and forgets all keys."""
-        _library.clock2q_clear(self._handle)
+        _library.clock2q_clear(self._cache())
 
     def __len__(self) -> int:
-        return int(_library.clock2q_len(self._handle))
+        return int(_library.clock2q_len(self._cache()))
 
     @property
     def capacity(self) -> int:
         """How many keys can have a slot."""
-        return int(_library.clock2q_capacity(self._handle))
+        return int(_library.clock2q_capacity(self._cache()))
 
 
 class Cache(Generic[Value]):

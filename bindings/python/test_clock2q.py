@@ -44,6 +44,12 @@ class PageCacheTest(unittest.TestCase):
             with self.assertRaises(TypeError):
                 copied(PageCache(1))
 
+    def test_no_cache_is_asserted(self) -> None:
+        pages = PageCache(1)
+        pages.__del__()
+        with self.assertRaises(AssertionError):
+            pages.enter(7)
+
 
 class CacheTest(unittest.TestCase):
     def test_as_a_dict(self) -> None:
