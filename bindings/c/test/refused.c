@@ -67,9 +67,11 @@ static void no_memory(void) {
 }
 
 static long own_taken, own_given_back;
+static size_t own_bytes;
 
 static void *own_take(size_t size) {
     own_taken++;
+    own_bytes += size;
     return __real_malloc(size);
 }
 
@@ -86,6 +88,7 @@ static void own_memory(void) {
     must(clock2q_new(&cache, 100) == CLOCK2Q_DONE, "no memory of malloc is asked for");
     must(clock2q_use_memory(NULL).take == own_take, "where memory came from before");
     must(own_taken > 0 && own_given_back == 0, "a cache in the program's memory");
+    must(own_bytes <= 141 * 100, "at most 141 bytes a key");
     clock2q_free(&cache);
     must(own_given_back == own_taken, "memory goes back where it came from");
     must(clock2q_new(&cache, 100) == CLOCK2Q_NO_MEMORY, "malloc's memory again");
