@@ -1,6 +1,7 @@
 /* workload CACHE KIND PAGES FILE: one workload on a database of its own in FILE, on the page cache
  * `clock2q` or `sqlite`, with this cache_size. Prints the misses, the spilled pages, the most pages
- * that there were, and a checksum of every answer, which doesn't depend on the cache.
+ * that there were, and a checksum of every answer and of all rows in the end, which doesn't depend on
+ * the cache.
  *
  * The kinds: `reads` looks rows up, some far oftener than others, with a scan of the table now and
  * then; `updates` changes random rows, 100 in a transaction; `mixed` does both, with ranges and
@@ -167,6 +168,13 @@ static void check_integrity(sqlite3 *database) {
     sqlite3_finalize(check);
 }
 
+/* Adds each row, as the workload left it, to the checksum. */
+static void add_rows(sqlite3 *database) {
+    sqlite3_stmt *rows = prepared(database, "SELECT id, a, b, length(c), ?1, ?2 FROM t ORDER BY id");
+    run(rows, 0, 0);
+    sqlite3_finalize(rows);
+}
+
 int main(int count, char **words) {
     if (count != 5) return 2;
     const char *kind = words[2];
@@ -184,6 +192,7 @@ int main(int count, char **words) {
     }
     int misses = counter(database, SQLITE_DBSTATUS_CACHE_MISS), spills = counter(database, SQLITE_DBSTATUS_CACHE_SPILL);
     check_integrity(database);
+    add_rows(database);
     must(sqlite3_close(database) == SQLITE_OK, database, "close");
     printf("%d %d %d %016llx\n", misses, spills, most_pages, (unsigned long long)checksum);
     return 0;
