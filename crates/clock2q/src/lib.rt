@@ -18,7 +18,9 @@
 //! [`Cache::with_policy`] takes other shares. All memory is taken by the constructor: no later call
 //! asks for any or refuses anything.
 //!
-//! ```rust
+//! # Example
+//!
+//! ```
 //! let capacity = NonZeroUsize::new(100).ok_or("not zero")?;
 //! let mut cache = Cache::new(rt.alloc(), capacity)?;
 //! cache.put(1u64, 10u64);

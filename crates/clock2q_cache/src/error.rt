@@ -10,7 +10,9 @@ use thiserror::Error;
 /// Nothing was done then: memory that was taken for the cache is given back, and none of the
 /// commands has run.
 ///
-/// ```rust
+/// # Example
+///
+/// ```
 /// let too_large = NonZeroUsize::new(MAX_CAPACITY + 1).ok_or("not zero")?;
 /// let refused = Cache::<u64, u64, _>::new(rt.alloc(), too_large);
 /// assert_eq!(rt; refused.err(), Some(CacheError::Capacity));

@@ -113,7 +113,7 @@ impl<'a, H: Copy + Default> SlotsMut<'a, H> {
         self.write(hole, Metadata::empty(), H::default());
     }
 
-    /// Removes the first candidate of `hash` that equals `handle`, and returns whether there was
+    /// Removes the first candidate of `hash` that equals `handle`, and returns true if there was
     /// one.
     #[inline(always)]
     pub(super) fn remove(&mut self, hash: u64, handle: H) -> bool

@@ -176,7 +176,7 @@ fn slots_for(entries: usize) -> Option<usize> {
         .find(|count| count / 4 * 3 >= entries)
 }
 
-/// Whether a lookup of the hash is to yield an entry of its home.
+/// Returns true if a lookup of the hash is to yield an entry of its home.
 fn is_candidate(held: &Handle, hash: u64) -> bool {
     held.hash >> 56 == hash >> 56
 }

@@ -17,7 +17,9 @@ use std::num::NonZeroUsize;
 /// values, and the same at each call; for one that doesn't, the contracts leave open which values
 /// are returned.
 ///
-/// ```rust
+/// # Example
+///
+/// ```
 /// let mut squares = Memo::new(rt.alloc(), capacity, |n: &u64| n.wrapping_mul(*n))?;
 /// assert_eq!(rt; squares.get(12), 144);
 /// assert_eq!(rt; squares.get(12), 144); // and this time nothing was multiplied
@@ -62,7 +64,7 @@ where
     /// # Errors
     ///
     /// `Capacity` above [`MAX_CAPACITY`](clock2q_cache::MAX_CAPACITY), before any memory is taken;
-    /// `Memory` where a request for memory is refused. The function is dropped then.
+    /// `Memory` if a request for memory is refused. The function is dropped then.
     ///
     /// # Cost
     ///
@@ -277,7 +279,7 @@ ghost use Rattle.clock2q_memo.specs.Memo.{IsCallableAtEach, Computes, Remembers,
 ///
 /// # Errors
 ///
-/// `AllocError` where the list of values can't be reserved; no value was got then.
+/// `AllocError` if the list of values can't be reserved; no value was got then.
 ///
 /// # Cost
 ///

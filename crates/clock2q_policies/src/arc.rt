@@ -22,7 +22,7 @@ const LEFT_AGAIN: u8 = 3;
 pub(crate) struct Arc<A: Allocator> {
     capacity: usize,
     lists: Lists<A>,
-    // How many of the residents should have come once.
+    /// How many of the residents should have come once.
     target: f64,
 }
 

@@ -11,7 +11,7 @@ const LISTS: usize = 4;
 /// Lists with a newest and an oldest key. Each key stands in at most one of them.
 #[derive(Drop)]
 pub(crate) struct Lists<A: Allocator> {
-    // Of each key, and then of each list as a whole, which closes it to a ring.
+    /// Of each key, and then of each list as a whole, which closes it to a ring.
     newer: Vec<u32, A>,
     older: Vec<u32, A>,
     lists: Vec<u8, A>,
@@ -44,7 +44,7 @@ impl<A: Allocator> Lists<A> {
         self.lengths.get(usize::from(list)).copied().unwrap_or(0)
     }
 
-    /// Tells whether a key stands in a list.
+    /// Returns true if a key stands in a list.
     pub(crate) fn has(&self, list: u8, key: u32) -> bool {
         self.lists.get(key as usize) == Some(&list)
     }

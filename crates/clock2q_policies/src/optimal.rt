@@ -8,9 +8,9 @@ use std::num::NonZeroUsize;
 /// that is asked for, so the others are as many as the capacity less one.
 #[derive(Drop)]
 struct Rooms<A: Allocator> {
-    // Where each stay that is over ended; its room is free from there on.
+    /// Where each stay that is over ended; its room is free from there on.
     ended: Places<A>,
-    // How many rooms have had no stay yet.
+    /// How many rooms have had no stay yet.
     unused: usize,
 }
 
@@ -43,7 +43,7 @@ impl<A: Allocator> Rooms<A> {
 ///
 /// # Errors
 ///
-/// `AllocError` where a request for memory is refused.
+/// `AllocError` if a request for memory is refused.
 ///
 /// # Cost
 ///

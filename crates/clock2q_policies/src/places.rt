@@ -13,7 +13,7 @@ const LEVELS: usize = 11;
 #[derive(Drop)]
 pub(crate) struct Places<A: Allocator> {
     words: Vec<u64, A>,
-    // Where the words of each level begin.
+    /// Where the words of each level begin.
     starts: [usize; LEVELS],
 }
 

@@ -38,7 +38,7 @@ struct Residents<A: Allocator> {
 }
 
 impl<A: Allocator> Residents<A> {
-    /// Tells whether the key at a place of the trace is held, and makes what the policy makes of it.
+    /// Returns true if the key at a place of the trace is held, and does what the policy does then.
     fn access(
         &mut self,
         policy: PlainPolicy,
@@ -119,7 +119,7 @@ fn after_oldest(trace: &[u32], stamps: &[usize], left: usize, at: usize) -> usiz
 ///
 /// # Errors
 ///
-/// `AllocError` where the request for memory is refused.
+/// `AllocError` if the request for memory is refused.
 ///
 /// # Cost
 ///

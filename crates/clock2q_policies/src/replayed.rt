@@ -9,7 +9,7 @@ use std::num::NonZeroUsize;
 
 /// A cache of keys that are numbers.
 pub(crate) trait Replayed {
-    /// Tells whether a key is resident, and makes it so.
+    /// Returns true if a key is resident, and makes it so.
     fn access(&mut self, key: u32) -> bool;
 }
 
@@ -31,7 +31,7 @@ where
 ///
 /// # Errors
 ///
-/// `AllocError` where a request for memory is refused.
+/// `AllocError` if a request for memory is refused.
 ///
 /// # Cost
 ///
@@ -50,7 +50,7 @@ pub fn clock_hits<A: Allocator + Copy>(
 ///
 /// # Errors
 ///
-/// `AllocError` where a request for memory is refused.
+/// `AllocError` if a request for memory is refused.
 ///
 /// # Cost
 ///
@@ -69,7 +69,7 @@ pub fn sieve_hits<A: Allocator + Copy>(
 ///
 /// # Errors
 ///
-/// `AllocError` where a request for memory is refused.
+/// `AllocError` if a request for memory is refused.
 ///
 /// # Cost
 ///
@@ -88,7 +88,7 @@ pub fn s3_fifo_hits<A: Allocator + Copy>(
 ///
 /// # Errors
 ///
-/// `AllocError` where a request for memory is refused.
+/// `AllocError` if a request for memory is refused.
 ///
 /// # Cost
 ///

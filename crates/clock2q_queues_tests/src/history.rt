@@ -24,7 +24,7 @@ fn forget(history: &mut History<u64>, key: u64, hashes: u64) -> bool
     history.discard(key % hashes, &key)
 }
 
-/// Discards a key, tells whether it was there, and pushes it.
+/// Discards a key, and pushes it. Returns true if it was there.
 fn renew(history: &mut History<u64>, key: u64, hashes: u64) -> bool
     requires some { 0 < hashes }
     requires hashed { AllByRecursion (λ e. e.0 ≡ e.1 % hashes) history.old.entries }
@@ -36,7 +36,7 @@ fn renew(history: &mut History<u64>, key: u64, hashes: u64) -> bool
 }
 
 /// One call in 97 clears the history, one of three others discards the key, and the rest renew it.
-/// Tells whether the key was there, where it was asked.
+/// Returns true if the key was there, where it was asked.
 fn call(history: &mut History<u64>, key: u64, hashes: u64, drawn: u64) -> Option<bool>
     requires some { 0 < hashes }
     requires hashed { AllByRecursion (λ e. e.0 ≡ e.1 % hashes) history.old.entries }

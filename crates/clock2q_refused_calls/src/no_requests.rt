@@ -16,7 +16,7 @@ fn new_cache<A: Allocator + Copy>(
     Cache::new(alloc, capacity)
 }
 
-/// Puts so many new keys, each with itself as its value, and tells whether each is resident then.
+/// Puts so many new keys, each with itself as its value. Returns true if each is resident then.
 fn put_all<A: Allocator>(cache: &mut Cache<u64, u64, DefaultHashBuilder, A>, keys: u64) -> bool {
     let mut are_resident = true;
     for key in 0..keys {

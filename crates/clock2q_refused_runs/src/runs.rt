@@ -34,7 +34,7 @@ const REPLIES: [Reply<u64>; 9] = [
     Reply::Number(4),
 ];
 
-/// Makes a list of commands and runs it, and tells whether the replies are those.
+/// Makes a list of commands and runs it. Returns true if the replies are those.
 fn replies_as_wanted<'a>(
     alloc: &'a Refusing<Global>,
     cache: &mut Cache<u64, u64, DefaultHashBuilder, &'a Refusing<Global>>,

@@ -16,8 +16,8 @@ const EVERY_COMMAND: (&str, &str) = (
 /// Shares that the first line chooses.
 const CHOSEN_SHARES: (&str, &str) = ("new 4 2 1\nput 1 10\nget 1\n", "ok\nnone\nsome 10\n");
 
-/// Tells whether a text is answered like this. Where it is refused, nothing was written, or it
-/// isn't answered like this.
+/// Returns true if a text is answered like this. Returns false if another text was written, or if
+/// one was written before a refusal.
 fn is_answered<A: Allocator>(
     alloc: A,
     out: Global,

@@ -106,7 +106,7 @@ fn forget(history: &mut History<u64, &Refusing<Global>>, key: u64) -> bool
     history.discard(key % 3, &key)
 }
 
-/// Discards a key, tells whether it was there, and pushes it.
+/// Discards a key, and pushes it. Returns true if it was there.
 fn renew(history: &mut History<u64, &Refusing<Global>>, key: u64) -> bool
     requires { AllByRecursion (λ e. e.0 ≡ e.1 % 3) history.old.entries }
     ensures { AllByRecursion (λ e. e.0 ≡ e.1 % 3) history.new.entries }

@@ -11,7 +11,7 @@ ghost use Rattle.std.specs.Prelude.{◌<◌};
 /// ```
 #[derive(Drop)]
 pub struct Draws {
-    // A sum that grows by an odd step; its bits, mixed, are the numbers.
+    /// A sum that grows by an odd step; its bits, mixed, are the numbers.
     sum: u64,
 }
 

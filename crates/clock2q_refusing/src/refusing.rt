@@ -31,7 +31,7 @@ impl Requests {
         }
     }
 
-    /// Counts a request for `size` bytes, and returns whether it is refused.
+    /// Counts a request for `size` bytes, and returns true if it is refused.
     fn refuses(&self, size: usize) -> bool {
         let made = self.made.get().saturating_add(1);
         self.made.set(made);

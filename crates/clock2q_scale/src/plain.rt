@@ -42,7 +42,8 @@ impl Lists {
         }
     }
 
-    /// Whether an entry of Small is old: whether half of Small's share, rounded up, came after it.
+    /// Returns true if an entry of Small is old: if half of Small's share, rounded up, came after
+    /// it.
     fn is_old(&self, entry: &Entry) -> bool {
         self.admissions.wrapping_sub(entry.admitted) >= self.small_share().div_ceil(2)
     }
@@ -89,7 +90,7 @@ impl Lists {
         Ok(())
     }
 
-    /// Takes a key out of the history, and tells whether it was there.
+    /// Takes a key out of the history, and returns true if it was there.
     fn forget(&mut self, key: u64) -> bool {
         let place = self.history.iter().position(|known| *known == key);
         if let Some(place) = place {

@@ -19,8 +19,8 @@ const ROUND_NUMBERS: [usize; 22] = [
 ///
 /// # Errors
 ///
-/// `Argument` where it is neither; `Capacity` where a number of keys in it is above
-/// `MAX_CAPACITY`; `Memory` where a request for memory is refused.
+/// `Argument` if it is neither; `Capacity` if a number of keys in it is above
+/// `MAX_CAPACITY`; `Memory` if a request for memory is refused.
 pub fn capacities_of<A: Allocator>(
     alloc: A,
     argument: &str,

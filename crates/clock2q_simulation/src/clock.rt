@@ -16,8 +16,8 @@ use std::num::NonZeroUsize;
 ///
 /// # Errors
 ///
-/// `Capacity` where the capacity is above `MAX_CAPACITY`; else `Policy` where the shares don't fit
-/// together; `Memory` where a request for memory is refused.
+/// `Capacity` if the capacity is above `MAX_CAPACITY`; else `Policy` if the shares don't fit
+/// together; `Memory` if a request for memory is refused.
 ///
 /// # Cost
 ///

@@ -13,11 +13,11 @@ use std::marker::Model;
 /// numbers, which holds no key.
 #[derive(Drop)]
 pub(crate) struct KnownKeys<A: Allocator> {
-    // The keys' bytes, one key after another.
+    /// The keys' bytes, one key after another.
     bytes: Vec<u8, A>,
-    // Where each key starts; it ends where the next one starts.
+    /// Where each key starts; it ends where the next one starts.
     starts: Vec<usize, A>,
-    // The numbers, each under its key's hash.
+    /// The numbers, each under its key's hash.
     numbers: Table<u32, A>,
 }
 

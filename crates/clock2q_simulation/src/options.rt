@@ -89,10 +89,10 @@ builds the program, which takes minutes.
 ///
 /// # Errors
 ///
-/// `Argument` where an argument is none of these, is repeated, or contradicts an earlier one: what
-/// is wrong, and its place. `Capacity` where a capacity or an end of a range is above
-/// `MAX_CAPACITY` keys; `NoCapacity` where there is none; `UnusedShares` where there are shares, and
-/// policies without Clock2Q+; `Memory` where a request for memory is refused. The arguments are
+/// `Argument` if an argument is none of these, is repeated, or contradicts an earlier one: what
+/// is wrong, and its place. `Capacity` if a capacity or an end of a range is above
+/// `MAX_CAPACITY` keys; `NoCapacity` if there is none; `UnusedShares` if there are shares, and
+/// policies without Clock2Q+; `Memory` if a request for memory is refused. The arguments are
 /// read in order, and the first bad one ends the call with its error.
 ///
 /// # Cost

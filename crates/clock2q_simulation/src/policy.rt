@@ -105,8 +105,8 @@ impl Policy {
 ///
 /// # Errors
 ///
-/// `Capacity` where the policy is Clock2Q+ and the capacity is above `MAX_CAPACITY`, `Shares` where
-/// its shares don't fit together, and `Memory` where a request for memory is refused or the trace
+/// `Capacity` if the policy is Clock2Q+ and the capacity is above `MAX_CAPACITY`, `Shares` if
+/// its shares don't fit together, and `Memory` if a request for memory is refused or the trace
 /// has 2^32 different keys.
 ///
 /// # Cost

@@ -58,7 +58,7 @@ impl<A: Allocator + Copy> Lines<A> {
 ///
 /// # Errors
 ///
-/// `Read` where a read fails, and `Memory` where a request for memory is refused. What was read is
+/// `Read` if a read fails, and `Memory` if a request for memory is refused. What was read is
 /// dropped then.
 ///
 /// # Cost

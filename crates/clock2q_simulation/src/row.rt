@@ -61,7 +61,7 @@ impl<A: Allocator> Row<A> {
 ///
 /// # Errors
 ///
-/// Those of [`policy_hits`]; `Memory` also where there is no memory for the row.
+/// Those of [`policy_hits`]; `Memory` also if there is no memory for the row.
 ///
 /// # Cost
 ///

@@ -8,7 +8,7 @@ use clock2q_text::{Sink, write_all};
 ///
 /// # Errors
 ///
-/// `Write` where a write or the flush fails. A beginning of the text, or all of it, may have been
+/// `Write` if a write or the flush fails. A beginning of the text, or all of it, may have been
 /// written then.
 pub fn send<W: Sink>(writer: &mut W, text: &[u8]) -> Result<(), SimulationError>
     ensures { Sends (W.taken writer.old) (W.taken writer.new) (W.contents writer.old) (W.contents writer.new) text.now result }

@@ -27,8 +27,8 @@ use std::num::NonZeroUsize;
 ///
 /// # Errors
 ///
-/// Those of [`read_trace`], then those of [`rows_of`]. `Memory` also where there is no memory for
-/// the text. `Write` where the text can't be written or flushed: a beginning of it, or all, may
+/// Those of [`read_trace`], then those of [`rows_of`]. `Memory` also if there is no memory for
+/// the text. `Write` if the text can't be written or flushed: a beginning of it, or all, may
 /// have been written. Nothing is written before any other error.
 ///
 /// # Cost
@@ -61,8 +61,8 @@ pub fn simulate<R: Source, W: Sink, P: Write, A: Allocator + Copy>(
 ///
 /// # Errors
 ///
-/// Those of [`replay`]; `Capacity` also where a percentage of the different keys comes to more than
-/// `MAX_CAPACITY`; `Memory` also where there is no memory for the rows.
+/// Those of [`replay`]; `Capacity` also if a percentage of the different keys comes to more than
+/// `MAX_CAPACITY`; `Memory` also if there is no memory for the rows.
 ///
 /// # Cost
 ///

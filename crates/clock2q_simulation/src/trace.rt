@@ -116,7 +116,7 @@ impl<A: Allocator + Copy> GrowingTrace<A> {
     ///
     /// # Errors
     ///
-    /// `AllocError` where a request for memory is refused, where there are 2^32 different keys, or
+    /// `AllocError` if a request for memory is refused, where there are 2^32 different keys, or
     /// where their table refuses a new one, since its number would stand more than 2^24 - 2 slots
     /// past its home. Nothing changes then.
     ///

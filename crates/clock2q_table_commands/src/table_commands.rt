@@ -9,7 +9,9 @@ use std::alloc::Allocator;
 /// A call of a [`Table`](clock2q_handles::Table) as a value, which [`run_table`] makes. `L` is a
 /// list of handles.
 ///
-/// ```rust
+/// # Example
+///
+/// ```
 /// let commands = [TableCommand::Insert(7), TableCommand::Remove(7, 8)];
 /// let replies = run_table(rt.alloc(), &mut table, |handle| handle, &commands)?;
 /// assert_eq!(rt; replies.as_slice(), [TableReply::Done, TableReply::Removed(false)].as_slice());
@@ -52,7 +54,7 @@ pub enum TableReply<H, L = Vec<H>> {
 ///
 /// # Errors
 ///
-/// `Memory` where the list of replies can't be reserved. That is done first: no command has run,
+/// `Memory` if the list of replies can't be reserved. That is done first: no command has run,
 /// and the table is unchanged. Where there is no memory for the list of a lookup, that command
 /// alone is refused.
 ///

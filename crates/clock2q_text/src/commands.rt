@@ -5,7 +5,9 @@ use std::alloc::{Allocator, Global};
 /// A call of a `Cache` as a value, which `run` of `clock2q_command` makes. Where the call
 /// takes a closure, the command has the values that the closure is to return.
 ///
-/// ```rust
+/// # Example
+///
+/// ```
 /// let mut commands = Vec::new(rt.alloc());
 /// commands.push(Command::Put(1, 10))?;
 /// commands.push(Command::Get(1))?;
@@ -56,7 +58,9 @@ pub enum Command<K, V, A: Allocator = Global> {
 
 /// The reply to a [`Command`]. The command tells which of these it is.
 ///
-/// ```rust
+/// # Example
+///
+/// ```
 /// let replies = run(rt.alloc(), &mut cache, commands)?; // those of the example at `Command`
 /// assert_eq!(rt; replies.as_slice(), [Reply::Value(None), Reply::Value(Some(10))].as_slice());
 /// ```

@@ -95,7 +95,9 @@ pub trait Sink {
 /// interrupted call is not made again. What the device counts is seen by contracts alone, and takes
 /// no memory.
 ///
-/// ```rust
+/// # Example
+///
+/// ```
 /// let mut input = Device::new(b"new 2\nlen\n".as_slice());
 /// let mut output = Device::new(Vec::new(rt.alloc()));
 /// serve(rt.alloc(), &mut input, &mut output)?;

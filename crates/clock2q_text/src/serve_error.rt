@@ -6,7 +6,9 @@ use thiserror::Error;
 
 /// The reason why `serve` of `clock2q_command` wrote no reply, or not all of them.
 ///
-/// ```rust
+/// # Example
+///
+/// ```
 /// let mut input = Device::new(b"new 2\nput 1\n".as_slice());
 /// let mut output = Device::new(Vec::new(rt.alloc()));
 /// let refused = serve(rt.alloc(), &mut input, &mut output);

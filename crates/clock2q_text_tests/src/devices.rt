@@ -240,7 +240,7 @@ fn failing_writes(rt: HostRuntime) {
     }
 }
 
-/// A writer that fails after so many calls is called so often, and flushed once.
+/// Returns true if a writer that fails after so many calls is called so often, and flushed once.
 fn is_whole(writer: &Writer, writes: usize) -> bool {
     writer.taken.as_slice() == REPLIES && writer.calls == writes && writer.flushes == 1
 }

@@ -19,7 +19,7 @@ use std::test::Fail;
 ///
 /// # Errors
 ///
-/// `Capacity` above [`MAX_CAPACITY`], and `Memory` where a request for memory is refused. No
+/// `Capacity` above [`MAX_CAPACITY`], and `Memory` if a request for memory is refused. No
 /// document is read then.
 pub fn checksums(
     alloc: Global,

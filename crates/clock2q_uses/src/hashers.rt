@@ -13,7 +13,7 @@ use std::hash::{BuildHasher, Hash};
 ///
 /// # Errors
 ///
-/// `Memory` where a list of replies can't be reserved. If it is that of `other`, all commands have
+/// `Memory` if a list of replies can't be reserved. If it is that of `other`, all commands have
 /// run on `one` and none on `other`; else both caches are as they were.
 pub fn run_on_both<K, V, S, T, A>(
     alloc: A,

@@ -64,7 +64,7 @@ impl Interner {
     ///
     /// # Errors
     ///
-    /// `Memory` where the list of keys or the table can't grow, and `RunTooLong` as
+    /// `Memory` if the list of keys or the table can't grow, and `RunTooLong` as
     /// [`Table::insert`](clock2q::handles::Table::insert) returns it. All keys keep their numbers,
     /// and none is added.
     pub fn intern(&mut self, key: u64) -> Result<usize, TableError>

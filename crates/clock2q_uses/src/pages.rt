@@ -40,7 +40,7 @@ pub fn load<T: Copy, S: BuildHasher>(
 ///
 /// # Errors
 ///
-/// `Capacity` above [`MAX_CAPACITY`], and `Memory` where a request for memory is refused. No page
+/// `Capacity` above [`MAX_CAPACITY`], and `Memory` if a request for memory is refused. No page
 /// is copied then.
 pub fn read_pages<T: Copy>(
     alloc: Global,

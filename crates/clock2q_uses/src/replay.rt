@@ -15,7 +15,7 @@ use std::test::Fail;
 ///
 /// # Errors
 ///
-/// `Capacity` above [`MAX_CAPACITY`], and `Memory` where a request for memory is refused: for the
+/// `Capacity` above [`MAX_CAPACITY`], and `Memory` if a request for memory is refused: for the
 /// cache, the commands or the replies.
 pub fn replay(alloc: Global, capacity: NonZeroUsize, trace: &[u64]) -> Result<usize, CacheError>
     ensures hits { IfOk result (λ hits. hits ≡ trace_hits (non_zero_usize_get capacity) trace.now) }
@@ -31,7 +31,7 @@ pub fn replay(alloc: Global, capacity: NonZeroUsize, trace: &[u64]) -> Result<us
 ///
 /// # Errors
 ///
-/// `Memory` where the list can't be reserved.
+/// `Memory` if the list can't be reserved.
 pub fn puts_of(alloc: Global, keys: &[u64]) -> Result<Vec<Command<u64, u64>>, CacheError>
     ensures puts { IfOk result (λ puts. map call_of puts.items ≡ map put_of keys.now) }
     ensures memory { IfErr result (λ e. e ≡ CacheError.Memory) }

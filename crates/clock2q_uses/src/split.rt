@@ -41,7 +41,7 @@ impl SplitIndex {
     ///
     /// # Errors
     ///
-    /// `Memory` where the list of parts can't be reserved.
+    /// `Memory` if the list of parts can't be reserved.
     pub fn new(alloc: Global, parts: usize) -> Result<SplitIndex, TableError>
         requires count { IsPartitionCount parts }
         ensures empty { IfOk result (λ index. index ≡ replicate parts []) }

@@ -13,7 +13,7 @@ use clock2q_count::Count;
 use std::alloc::Allocator;
 
 impl<H: Copy + Default, A: Allocator> Slots<H, A> {
-    /// Removes the first candidate of `hash` that equals `handle`, and returns whether there was
+    /// Removes the first candidate of `hash` that equals `handle`, and returns true if there was
     /// one.
     #[inline(always)]
     pub(crate) fn remove(&mut self, hash: u64, handle: H) -> bool

@@ -11,7 +11,7 @@ use crate::table::Table;
 use std::alloc::Allocator;
 
 impl<H: Copy + Eq + Default, A: Allocator> Table<H, A> {
-    /// Removes the first candidate of `hash` that equals `handle`, and returns whether there was
+    /// Removes the first candidate of `hash` that equals `handle`, and returns true if there was
     /// one. The entries after it move back by one slot, up to an empty slot or an entry at its
     /// home. The table keeps its memory.
     ///
