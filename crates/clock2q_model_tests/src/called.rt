@@ -52,9 +52,9 @@ impl<S: BuildHasher> Called<S> {
     }
 
     fn set(&mut self, key: u64, value: u64) -> Option<u64> {
-        let place = self.cache.get_mut(&key)?;
-        let before = *place;
-        *place = value;
+        let held = self.cache.get_mut(&key)?;
+        let before = *held;
+        *held = value;
         Some(before)
     }
 
@@ -74,9 +74,9 @@ impl<S: BuildHasher> Called<S> {
             .cache
             .try_get_or_insert_with_mut(key, || offered.ok_or(()))
         {
-            Ok(place) => {
-                let before = *place;
-                *place = value;
+            Ok(held) => {
+                let before = *held;
+                *held = value;
                 Some(before)
             }
             Err(()) => None,
@@ -84,8 +84,8 @@ impl<S: BuildHasher> Called<S> {
     }
 
     fn take_slot(&mut self, key: u64, value: u64) -> Reply {
-        let (slot, place) = self.cache.get_or_insert_mut(key, || value);
-        Reply::Slot(slot, *place)
+        let (slot, held) = self.cache.get_or_insert_mut(key, || value);
+        Reply::Slot(slot, *held)
     }
 
     fn remove(&mut self, key: u64) -> bool {
@@ -142,7 +142,7 @@ impl<S: BuildHasher> Called<S> {
         format!(in alloc; "{:?}", self.cache)
     }
 
-    /// Whether the cache asks of just these residents, in this order, which of them stay.
+    /// Returns true if the cache asks of just these residents, in this order, which of them stay.
     pub(crate) fn holds(&mut self, residents: &[(u64, u64)]) -> bool {
         let mut left = residents;
         let mut same = true;

@@ -6,21 +6,21 @@ use std::alloc::{AllocError, Global};
 
 /// How a capacity is shared out.
 #[derive(Clone, Copy, Debug)]
-pub(crate) struct Policy {
+pub(crate) struct Shares {
     pub(crate) capacity: usize,
     pub(crate) small: usize,
     pub(crate) window: usize,
 }
 
-impl Policy {
+impl Shares {
     /// The shares of a cache for which none are given.
-    pub(crate) fn usual(capacity: usize) -> Policy {
+    pub(crate) fn usual(capacity: usize) -> Shares {
         let small = if capacity > 1 {
             (capacity / 10).max(1)
         } else {
             0
         };
-        Policy {
+        Shares {
             capacity,
             small,
             window: small.div_ceil(2),
@@ -42,7 +42,7 @@ struct Entry {
 #[derive(Drop)]
 pub(crate) struct Model {
     alloc: Global,
-    policy: Policy,
+    shares: Shares,
     /// Newest first.
     small: Vec<Entry>,
     /// From the hand.
@@ -56,10 +56,10 @@ pub(crate) struct Model {
 }
 
 impl Model {
-    pub(crate) fn new(alloc: Global, policy: Policy) -> Model {
+    pub(crate) fn new(alloc: Global, shares: Shares) -> Model {
         Model {
             alloc,
-            policy,
+            shares,
             small: Vec::new(alloc),
             main: Vec::new(alloc),
             history: Vec::new(alloc),
@@ -70,7 +70,7 @@ impl Model {
 
     /// From which number on no key is used in a list of steps.
     pub(crate) fn keys(&self) -> u64 {
-        (self.policy.capacity as u64)
+        (self.shares.capacity as u64)
             .saturating_mul(2)
             .saturating_add(2)
     }
@@ -124,17 +124,17 @@ impl Model {
             }
             Step::Len => Reply::Number(self.len()),
             Step::IsEmpty => Reply::Flag(self.len() == 0),
-            Step::Capacity => Reply::Number(self.policy.capacity),
+            Step::Capacity => Reply::Number(self.shares.capacity),
         })
     }
 
     /// What a cache shows of itself.
     pub(crate) fn text(&self) -> Result<String, AllocError> {
-        let Policy {
+        let Shares {
             capacity,
             small,
             ..
-        } = self.policy;
+        } = self.shares;
         format!(in self.alloc;
             "Cache {{ len: {}, capacity: {capacity}, small: {}, small_capacity: {small}, main: {}, main_capacity: {}, ghost: {}, ghost_capacity: {} }}",
             self.len(),
@@ -316,7 +316,7 @@ impl Model {
 
     fn prefill(&mut self, first: u64, more: u64) -> Result<(), AllocError> {
         let made = self.values.len();
-        let capacity = self.policy.capacity;
+        let capacity = self.shares.capacity;
         for slot in made..capacity {
             let before = slot.saturating_sub(made) as u64;
             self.values.push(made_value(first, more, before))?;
@@ -330,7 +330,7 @@ impl Model {
     /// A key counts as hit in Main, or in Small once it is no longer young.
     fn hit(&mut self, key: u64) {
         for entry in &mut self.small {
-            if entry.key == key && entry.age >= self.policy.window {
+            if entry.key == key && entry.age >= self.shares.window {
                 entry.hit = true;
             }
         }
@@ -349,7 +349,7 @@ impl Model {
         Ok(())
     }
 
-    /// Forgets the key, and says whether it was remembered.
+    /// Forgets the key, and returns true if it was remembered.
     fn forget(&mut self, key: u64) -> bool {
         let count = self.history.len();
         self.history.retain(|remembered| *remembered != key);
@@ -373,17 +373,17 @@ impl Model {
     }
 
     fn is_vacant(&self) -> bool {
-        !self.free.is_empty() || self.values.len() < self.policy.capacity
+        !self.free.is_empty() || self.values.len() < self.shares.capacity
     }
 
     fn enters_main(&mut self, key: u64) -> bool {
         let returns = self.forget(key);
-        let small = self.policy.small;
+        let small = self.shares.small;
         returns || small == 0 || self.is_vacant() && self.small.len() == small
     }
 
     fn enter_main(&mut self, key: u64) -> Result<usize, AllocError> {
-        let share = self.policy.capacity.saturating_sub(self.policy.small);
+        let share = self.shares.capacity.saturating_sub(self.shares.small);
         let slot = if self.main.len() < share {
             self.vacancy()?
         } else {
@@ -425,7 +425,7 @@ impl Model {
             return Ok(slot);
         }
         self.history.insert(0, oldest.key)?;
-        self.history.truncate(self.policy.capacity / 2);
+        self.history.truncate(self.shares.capacity / 2);
         Ok(oldest.slot)
     }
 

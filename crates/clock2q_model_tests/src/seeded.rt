@@ -1,6 +1,6 @@
 //! Lists of steps from seeds, each reply and what it leaves compared with plain lists.
 
-use crate::model::Policy;
+use crate::model::Shares;
 use crate::steps::Step;
 use crate::tested::{Place, Tested};
 use clock2q_cache::DefaultHashBuilder;
@@ -28,20 +28,20 @@ enum Kind {
 }
 
 /// The shares of such a list.
-fn policy_of(draws: &mut Draws, kind: Kind, capacity: usize) -> Policy {
+fn shares_of(draws: &mut Draws, kind: Kind, capacity: usize) -> Shares {
     if capacity < 2 {
-        return Policy::usual(capacity);
+        return Shares::usual(capacity);
     }
     let most = capacity - 1;
     let drawn = draws.below(most as u64) as usize + 1;
     let (small, window) = match kind {
-        Kind::Usual => return Policy::usual(capacity),
+        Kind::Usual => return Shares::usual(capacity),
         Kind::NoSmall => (0, 0),
         Kind::ShortestWindow => (drawn, 1),
         Kind::LongestWindow => (drawn, drawn),
         Kind::SmallestMain => (most, drawn),
     };
-    Policy {
+    Shares {
         capacity,
         small,
         window,
@@ -50,11 +50,11 @@ fn policy_of(draws: &mut Draws, kind: Kind, capacity: usize) -> Policy {
 
 type Usual = Tested<DefaultHashBuilder>;
 
-fn made(alloc: Global, kind: Kind, policy: Policy) -> Result<Usual, Fail> {
+fn made(alloc: Global, kind: Kind, shares: Shares) -> Result<Usual, Fail> {
     let hasher = DefaultHashBuilder::new();
     match kind {
-        Kind::Usual => Tested::usual(alloc, policy.capacity, hasher),
-        _ => Tested::new(alloc, policy, hasher),
+        Kind::Usual => Tested::usual(alloc, shares.capacity, hasher),
+        _ => Tested::new(alloc, shares, hasher),
     }
 }
 
@@ -80,8 +80,8 @@ fn look_closely(rt: &impl Abort, tested: &mut Usual, end: Place) -> Result<(), F
 /// Begins a list anew and looks closely where it comes to.
 fn beginning_is_same(rt: &impl Abort, alloc: Global, kind: Kind, end: Place) -> Result<(), Fail> {
     let mut draws = Draws::new(end.list);
-    let policy = policy_of(&mut draws, kind, end.list as usize);
-    let mut tested = made(alloc, kind, policy)?;
+    let shares = shares_of(&mut draws, kind, end.list as usize);
+    let mut tested = made(alloc, kind, shares)?;
     drive(rt, &mut tested, end, &mut draws)?;
     look_closely(rt, &mut tested, end)
 }

@@ -1,7 +1,7 @@
 //! A cache beside its plain lists, driven by the same steps.
 
 use crate::called::Called;
-use crate::model::{Model, Policy};
+use crate::model::{Model, Shares};
 use crate::steps::{Reply, Step};
 use clock2q_cache::Cache;
 use std::alloc::Global;
@@ -26,11 +26,11 @@ pub(crate) struct Tested<S: BuildHasher> {
 }
 
 impl<S: BuildHasher + Drop> Tested<S> {
-    pub(crate) fn new(alloc: Global, policy: Policy, hasher: S) -> Result<Tested<S>, Fail> {
-        let capacity = NonZeroUsize::new(policy.capacity).ok_or("not zero")?;
-        let (small, window) = (policy.small, policy.window);
+    pub(crate) fn new(alloc: Global, shares: Shares, hasher: S) -> Result<Tested<S>, Fail> {
+        let capacity = NonZeroUsize::new(shares.capacity).ok_or("not zero")?;
+        let (small, window) = (shares.small, shares.window);
         let cache = Cache::with_policy(alloc, capacity, small, window, hasher)?;
-        let model = Model::new(alloc, policy);
+        let model = Model::new(alloc, shares);
         Ok(Tested {
             alloc,
             called: Called::new(cache),
@@ -40,7 +40,7 @@ impl<S: BuildHasher + Drop> Tested<S> {
 
     /// Of the shares that a cache has for which none are given.
     pub(crate) fn usual(alloc: Global, capacity: usize, hasher: S) -> Result<Tested<S>, Fail> {
-        let model = Model::new(alloc, Policy::usual(capacity));
+        let model = Model::new(alloc, Shares::usual(capacity));
         let capacity = NonZeroUsize::new(capacity).ok_or("not zero")?;
         let cache = Cache::with_hasher(alloc, capacity, hasher)?;
         Ok(Tested {

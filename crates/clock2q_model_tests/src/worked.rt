@@ -31,7 +31,7 @@ const RUNS: &[Run] = &[
             (Step::Len, Reply::Number(1)),
         ],
     },
-    // A single place.
+    // A single slot.
     Run {
         capacity: 1,
         puts: (0, 0),
