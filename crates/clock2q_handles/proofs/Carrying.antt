@@ -5,7 +5,7 @@ use Rattle.std.proofs.lemmas.Nat.{mod_below}
 use Rattle.std.proofs.Math.Nat.{mod-eq_of_lt, mod-mod, add-mod_right}
 use Rattle.clock2q_handles.specs.Candidates.{IsWalkFor}
 use Rattle.clock2q_handles.specs.Homes.{top}
-use Rattle.clock2q_handles.specs.Layout.{Placed, placed, slot_at, reach, IsTidy, AreNear}
+use Rattle.clock2q_handles.specs.Layout.{Placed, placed, slot_at, reach, longest_reach, IsTidy, AreNear}
 use Rattle.clock2q_handles.specs.Shifts.{Opens, Closes, HasCome, IsVacancy, moved_on}
 use Rattle.clock2q_handles.specs.Slots.{Mark, cell, mark_of, mark_on, mark_back, mark_reach}
 use Rattle.clock2q_handles.proofs.Periods.{lap, lap-lt, lap-same, rem-same}
@@ -205,7 +205,7 @@ module _ {H : Type 0} (old now : List (Option (Placed (ℕ × H)))) where
   set_len : (now' : List (Option (Placed (ℕ × H)))) (t : ℕ) (x : Option (Placed (ℕ × H))) → now' ≡ set now t x → length now' ≡ length now
   set_len now' t x is = ap length is ∙ length-set now t x
 
-  module _ (tidy : IsTidy old) (first next : Option (Placed (ℕ × H))) (there : Mark) (s t w w' : ℕ) (state : CarryState old now first next there s t w w') where
+  module _ (tidy : IsTidy old) {first next : Option (Placed (ℕ × H))} {there : Mark} {s t w w' : ℕ} (state : CarryState old now first next there s t w w') where
     some : 0 < length old
     some = omega (arith, state.within)
 
@@ -387,7 +387,7 @@ module _ {H : Type 0} (slots : List (Option (Placed (ℕ × H)))) (tidy : IsTidy
 
   -- and has room for that
   pub looks_room : (d s : ℕ) (b : Bool) (wanted mark : Mark) → IsTrue b ↔ (mark_reach mark < mark_reach wanted) → b ≡ false
-      → mark ≡ mark_of (slot_at slots s) → AreNear slots → mark_reach wanted ≤ 16777215
+      → mark ≡ mark_of (slot_at slots s) → AreNear slots → mark_reach wanted ≤ longest_reach
   looks_room d s b wanted mark test off told near = omega (arith, goes_on slots b wanted mark s test off told, near s)
 
   -- a walk that is ended there

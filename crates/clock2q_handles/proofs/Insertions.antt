@@ -2,7 +2,7 @@
 use Rattle.std.proofs.Common.{◌≡◌, ℕ, zero, suc, ◌+◌, ◌-◌, ◌%◌, ◌<◌, ◌≤◌, ◌⊎◌, inl, inr, refl, ap, sym, ◌∙◌, subst, arith, List, length, Option}
 use Rattle.std.proofs.lemmas.Bool.{cases_lt}
 use Rattle.clock2q_handles.specs.Homes.{top, capacity, total, with_handle}
-use Rattle.clock2q_handles.specs.Layout.{Placed, slot_at, reach, homes_of, run, IsTooLong, AreNear}
+use Rattle.clock2q_handles.specs.Layout.{Placed, slot_at, reach, longest_reach, homes_of, run, IsTooLong, AreNear}
 use Rattle.clock2q_handles.specs.Shifts.{Opens, HasRoom, IsVacancy}
 use Rattle.clock2q_handles.specs.Slots.{IsSlotCount}
 use Rattle.clock2q_handles.specs.Table.{IsTable}
@@ -36,7 +36,7 @@ module _ {E : Type 0} where
   pub opened-near : (slots others : List (Option (Placed E))) (g n w : ℕ) (e : E) → length others ≡ length slots
       → Opens (slot_at slots) (slot_at others) (length slots) g n w e → HasRoom (slot_at slots) 16777214 g n w
       → AreNear slots → AreNear others
-  opened-near slots others g n w e same opens room near = near_by_lap others g 16777215 (omega (arith, opens.upto, same)) (λ j l. elim (cases_lt j n) [
+  opened-near slots others g n w e same opens room near = near_by_lap others g longest_reach (omega (arith, opens.upto, same)) (λ j l. elim (cases_lt j n) [
     | inl early ↦ omega (arith, near (g + j), ap reach (opens.before j early))
     | inr from ↦ elim (cases_lt n j) [
       | inr at ↦ let q : j ≡ n = omega arith in omega (arith, ap (λ i. reach (slot_at others (g + i))) q, ap reach opens.put, room.own)

@@ -5,7 +5,7 @@ use Rattle.std.proofs.Math.Nat.{mod-mod}
 use Rattle.std.proofs.lemmas.Bool.{cases_lt}
 use Rattle.std.specs.List.{list_any}
 use Rattle.clock2q_handles.specs.Homes.{listed, total, is_entry_of, removed, with_list}
-use Rattle.clock2q_handles.specs.Layout.{Placed, placed, slot_at, reach, homes_of, met, run, IsBestPlaced}
+use Rattle.clock2q_handles.specs.Layout.{Placed, placed, slot_at, reach, longest_reach, homes_of, met, run, IsBestPlaced}
 use Rattle.clock2q_handles.specs.Shifts.{Opens, Closes, moved_on}
 use Rattle.clock2q_handles.specs.Slots.{IsSlotCount}
 use Rattle.clock2q_handles.specs.Table.{IsTable}
@@ -156,7 +156,7 @@ module _ {H : Type 0} (eq : H → H → Bool) (x : ℕ) (v : H) (others slots : 
     tidy = removed-tidy slots others x n w found.entry (sym same) closes.opens.from moved table.tidy near;
     counted = omega (arith, taken-len);
     slot_count = subst IsSlotCount (sym same) table.slot_count;
-    near = closed-near slots others g n w 16777215 found.entry same (omega (arith, within)) closes.opens table.near;
+    near = closed-near slots others g n w longest_reach found.entry same (omega (arith, within)) closes.opens table.near;
   }
 
 -- a table's entries are placed as well as can be

@@ -1,7 +1,7 @@
 -- What taking out the entry at a position makes of a table.
 use Rattle.std.proofs.Common.{◌≡◌, ℕ, suc, ◌+◌, ◌-◌, ◌%◌, ◌<◌, ◌≤◌, refl, ap, sym, ◌∙◌, subst, arith, List, ◌∷◌, length, length-append, Option, Some}
 use Rattle.clock2q_handles.specs.Homes.{listed, total, with_list}
-use Rattle.clock2q_handles.specs.Layout.{Placed, placed, slot_at, homes_of, met, run, spill_of, walk}
+use Rattle.clock2q_handles.specs.Layout.{Placed, placed, slot_at, longest_reach, homes_of, met, run, spill_of, walk}
 use Rattle.clock2q_handles.specs.Shifts.{Closes}
 use Rattle.clock2q_handles.specs.Slots.{IsSlotCount}
 use Rattle.clock2q_handles.specs.Table.{IsTable}
@@ -54,7 +54,7 @@ vacating others slots x i n len before after e table stands taken =
         tidy = removed-tidy slots others x d w e same from moved table.tidy near;
         counted = omega (arith, less);
         slot_count = subst IsSlotCount same table.slot_count;
-        near = closed-near slots others g d w 16777215 e taken.len some closes.opens table.near;
+        near = closed-near slots others g d w longest_reach e taken.len some closes.opens table.near;
       };
       shorter = λ y. subst (λ hs. walk hs y ≤ walk (homes_of others) y) (sym lists) (shorter-walk (homes_of others) x y (list_without others x d) (tidy-room others table.tidy) fewer);
       counted = omega (arith, closed.2, from);

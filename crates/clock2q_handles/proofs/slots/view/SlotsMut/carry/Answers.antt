@@ -19,14 +19,14 @@ loop-there-init g c = record {
 
 pub one_further-metadata-requires-clause-room : goal.one_further-metadata-requires-clause-room
 one_further-metadata-requires-clause-room g c =
-    carry_room (shown c.args.self.now) (shown c.loop-there.self) c.requires.tidy _ _ (told c.loop-there.there) _ _ _ _ c.loop-there.invariant.state c.requires.near
+    carry_room (shown c.args.self.now) (shown c.loop-there.self) c.requires.tidy c.loop-there.invariant.state c.requires.near
 
 more : (g : Over) (c : After-metadata-there-in-loop-there g)
     → CarryState (shown c.args.self.now) (shown c.write.new.self) (cell (told c.args.metadata) c.args.handle)
     (cell (told c.one_further-metadata.result) c.handle-held.result) (told c.metadata-there-in-loop-there.result) c.args.slot c.after-slot.result
     c.args.self.now.writes.now.total (c.loop-there.self.writes.now.total + 1)
-more g c = carry_goes (shown c.args.self.now) (shown c.loop-there.self) c.requires.tidy _ _ (told c.loop-there.there)
-    _ c.loop-there.slot _ _ c.loop-there.invariant.state (shown c.write.new.self) c.after-slot.result c.handle-held.result
+more g c = carry_goes (shown c.args.self.now) (shown c.loop-there.self) c.requires.tidy c.loop-there.invariant.state
+    (shown c.write.new.self) c.after-slot.result c.handle-held.result
     (told c.metadata-there-in-loop-there.result) (told c.one_further-metadata.result) (λ e. refused c.is_empty.result c.is_empty.ensures c.loop-there-test.true e)
     c.write.ensures.written c.handle-held.ensures c.one_further-metadata.ensures c.after-slot.ensures.after c.metadata-there-in-loop-there.ensures
 
@@ -35,8 +35,8 @@ loop-there-smaller g c =
     let next = more g (goal.at.loop-there-smaller g c).After-metadata-there-in-loop-there in
     let state = c.loop-there.invariant.state in
     let old = shown c.args.self.now in
-    let was : lap (length old) c.args.slot c.loop-there.slot ≡ state.steps = carry_lap old (shown c.loop-there.self) c.requires.tidy _ _ _ _ _ _ _ state in
-    let is : lap (length old) c.args.slot c.after-slot.result ≡ next.steps = carry_lap old (shown c.write.new.self) c.requires.tidy _ _ _ _ _ _ _ next in
+    let was : lap (length old) c.args.slot c.loop-there.slot ≡ state.steps = carry_lap old (shown c.loop-there.self) c.requires.tidy state in
+    let is : lap (length old) c.args.slot c.after-slot.result ≡ next.steps = carry_lap old (shown c.write.new.self) c.requires.tidy next in
     omega (arith, was, is, next.within, state.writes, next.writes)
 
 pub loop-there-preserved : goal.loop-there-preserved
@@ -53,6 +53,6 @@ loop-there-preserved g c =
 
 pub returns-clause-opens : goal.returns-clause-opens
 returns-clause-opens g c h n f come is =
-    let ended = carry_ends (shown c.args.self.now) (shown c.loop-there.self) c.requires.tidy _ _ (told c.loop-there.there) _ _ _ _ c.loop-there.invariant.state
+    let ended = carry_ends (shown c.args.self.now) (shown c.loop-there.self) c.requires.tidy c.loop-there.invariant.state
     (shown c.write-2.new.self) (c.is_empty.ensures.0 c.loop-there-test.false) c.write-2.ensures.written h n (f, c.args.handle) come (ap (λ m. cell m c.args.handle) is) in
     (ended.0, ended.1, ended.2, omega (arith, ended.3, c.write-2.ensures.counted))
