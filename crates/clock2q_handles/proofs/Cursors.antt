@@ -190,10 +190,10 @@ pub record HasFound {H : Type 0} (slots : List (Option (Placed (ℕ × H)))) (s 
   pub read : w' + unread_at slots s' n' ≡ w + unread_at slots s n + 1
   pub on : (t : Mark) (k : ℕ) → t ≡ mark_on s' → k ≡ (n' + 1) % length slots → HasStepped slots s' t n' k × (left_at slots s n ≡ r ∷ left_at slots t k)
 
-pub has_found : {H : Type 0} (slots : List (Option (Placed (ℕ × H)))) (s s' : Mark) (n n' : ℕ) (r : H) (w w' : ℕ) → IsLookup slots s' n'
+pub has_found : {H : Type 0} (slots : List (Option (Placed (ℕ × H)))) {s s' : Mark} {n n' : ℕ} (r : H) {w w' : ℕ} → IsLookup slots s' n'
     → IsSome s' → mark_of (slot_at slots n') ≡ s' → left_at slots s n ≡ left_at slots s' n' → IfSome (slot_at slots n') (λ p. r ≡ p.entry.1)
     → w' + unread_at slots s' n' ≡ w + unread_at slots s n + 1 → HasFound slots s s' n n' r w w'
-has_found slots s s' n n' r w w' lookup some found left handle read =
+has_found slots {s' = s'} {n' = n'} r lookup some found left handle read =
     let far : mark_reach s' ≤ reach (slot_at slots n') = omega (arith, reach_told s' (slot_at slots n') (sym found)) in
     record {
       far = far;

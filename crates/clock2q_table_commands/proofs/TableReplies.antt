@@ -21,11 +21,11 @@ module _ {M H : Type 0} (m : Mut M (H × Unit {0}) Bool) (test : H → Bool) (f 
   accepted_by h hs found true next last e rest w = rw e w.0
   accepted_by h hs found false next last e rest w = rw e (rest refl w)
 
-  pub offered : (hs : List H) (found : Option H) (q last : M) → q ≡ f → Offers m q hs found last → found ≡ find test hs
-  offered [] found q last same o = o.0
-  offered (h ∷ hs) found q last same o =
+  pub offered : (hs : List H) (found : Option H) {q : M} (last : M) → q ≡ f → Offers m q hs found last → found ≡ find test hs
+  offered [] found last same o = o.0
+  offered (h ∷ hs) found last same o =
       let a = asks h o.0 o.1 (subst (λ p. Called m p (h, tt) o.0 o.1) same o.2) in
-      accepted_by h hs found o.0 o.1 last (sym a.1) (λ _ w. offered hs found o.1 last a.0 w) o.3
+      accepted_by h hs found o.0 o.1 last (sym a.1) (λ _ w. offered hs found last a.0 w) o.3
 
 module _ {H : Type 0} (A : Type 0) (eq : H → H → Bool) (key : H → ℕ) where
   -- an insertion under the hash of a handle

@@ -17,5 +17,5 @@ returns-clause-reply g c = λ key h.
     subst (λ reply. Finds g.H.PartialEq.eq key c.args.handle c.args.accepted.now c.args.table.now.homes reply c.find_or_insert.new.self.homes) (sym c.told_found.ensures)
     (Finds-told _ g.H.PartialEq.eq key c.args.table.now.homes c.find_or_insert.new.self.homes c.hash_of.result c.args.handle c.args.accepted.now c.find_or_insert.result (h.one c.args.handle c.hash_of.result c.hash_of.ensures)
     (λ e. let s = (c.find_or_insert.ensures.settles e).1 key (λ _. given-same _ (λ f v r next called. search rules) _ key _ _ h (λ v. search rules) (λ v r next called. search rules)) in
-    (s.0, offered _ (λ v. list_any (λ a. g.H.PartialEq.eq a v) c.args.accepted.now) _ (λ v b next called. (search rules, search rules)) _ s.0 _ _ refl s.1, s.2))
+    (s.0, offered _ (λ v. list_any (λ a. g.H.PartialEq.eq a v) c.args.accepted.now) _ (λ v b next called. (search rules, search rules)) _ s.0 _ refl s.1, s.2))
     (λ e. ((c.find_or_insert.ensures.memory e).0, ap (λ t. t.homes) (c.find_or_insert.ensures.memory e).1)))

@@ -47,7 +47,7 @@ found g c =
     let handle = subst (λ s. IfSome (slot_at s c.in-Ok.here) (λ p. c.handle-handle.result ≡ p.entry.1)) c.candidate.ensures.same c.handle-handle.ensures.handle in
     subst (λ s. HasFound s (sought c.loop-end.wanted) (sought c.in-Ok.found)
     c.loop-end.slot c.in-Ok.here c.handle-handle.result c.loop-end.self.reads c.candidate.new.self.reads) c.loop-end.invariant.same
-    (has_found c.loop-end.self.slots _ _ _ _ c.handle-handle.result _ _ is.lookup is.some is.found is.left handle is.read)
+    (has_found c.loop-end.self.slots c.handle-handle.result is.lookup is.some is.found is.left handle is.read)
 
 -- the walk came to it
 came : (g : Over) (c : After-handle-handle g) → IsWalkFor c.args.self.now.slots c.args.hash (sought c.in-Ok.found) c.in-Ok.here
