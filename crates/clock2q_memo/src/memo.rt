@@ -13,7 +13,7 @@ use std::num::NonZeroUsize;
 /// A function of keys with a bounded cache of its values.
 ///
 /// It stands in the place of its function: [`get`](Memo::get) returns what the function returns,
-/// and calls it only where the key isn't resident. The function has to give equal keys equal
+/// and calls it only if the key isn't resident. The function has to give equal keys equal
 /// values, and the same at each call; for one that doesn't, the contracts leave open which values
 /// are returned.
 ///

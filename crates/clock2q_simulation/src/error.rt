@@ -89,8 +89,8 @@ pub enum SimulationError {
 impl SimulationError {
     ghost use Rattle.clock2q_simulation.specs.SimulationError.{status_of, of_cache};
 
-    /// Returns the status with which the program ends: 2 for its arguments, 3 where a capacity is
-    /// too large or memory is refused, 4 where reading or writing failed.
+    /// Returns the status with which the program ends: 2 for its arguments, 3 if a capacity is
+    /// too large or memory is refused, 4 if reading or writing failed.
     pub fn status(&self) -> u8
         ensures status { result ≡ status_of self.now }
     {

@@ -116,8 +116,8 @@ impl<A: Allocator + Copy> GrowingTrace<A> {
     ///
     /// # Errors
     ///
-    /// `AllocError` if a request for memory is refused, where there are 2^32 different keys, or
-    /// where their table refuses a new one, since its number would stand more than 2^24 - 2 slots
+    /// `AllocError` if a request for memory is refused, if there are 2^32 different keys, or if
+    /// their table refuses a new one, since its number would stand more than 2^24 - 2 slots
     /// past its home. Nothing changes then.
     ///
     /// # Cost

@@ -22,7 +22,7 @@ pub enum Command<K, V, A: Allocator = Global> {
     Peek(K),
     /// Asks whether a key is resident. The reply is a `Flag`.
     Contains(K),
-    /// Asks for the value of a key where it is resident at this slot, and records a hit. The reply
+    /// Asks for the value of a key if it is resident at this slot, and records a hit. The reply
     /// is a `Value`.
     GetAt(usize, K),
     /// Replaces the value of a resident key, and records a hit. The reply is a `Value`: the value
@@ -66,11 +66,11 @@ pub enum Command<K, V, A: Allocator = Global> {
 /// ```
 #[derive(Clone, Copy, Debug, PartialEq)]
 pub enum Reply<V> {
-    /// The value asked for, or the one replaced; `None` where the key wasn't resident.
+    /// The value asked for, or the one replaced; `None` if the key wasn't resident.
     Value(Option<V>),
     /// The value that the key has now.
     Stored(V),
-    /// The value that the key has now, or `None` where it isn't resident and no value was offered.
+    /// The value that the key has now, or `None` if it isn't resident and no value was offered.
     Tried(Option<V>),
     /// The slot that the key has now, and the value there.
     Slot(usize, V),

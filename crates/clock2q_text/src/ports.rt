@@ -39,11 +39,11 @@ pub trait Source {
     ghost given: { Self → Traffic };
 
     /// Moves bytes to the front of `into`, which isn't empty, and returns how many: at most its
-    /// length, and 0 where none is left.
+    /// length, and 0 if none is left.
     ///
     /// # Errors
     ///
-    /// `Failed` where the bytes can't be had. None was moved then.
+    /// `Failed` if the bytes can't be had. None was moved then.
     fn read(&mut self, into: &mut [u8]) -> Result<usize, Failed>
         requires space { 0 < length into.old }
         ensures bound { IfOk result (λ n. n ≤ length into.new) }
@@ -73,7 +73,7 @@ pub trait Sink {
     ///
     /// # Errors
     ///
-    /// `Failed` where no byte can be taken.
+    /// `Failed` if no byte can be taken.
     fn write(&mut self, from: &[u8]) -> Result<usize, Failed>
         ensures bound { IfOk result (λ n. n ≤ length from.now) }
         ensures bytes { WriteAppends (contents self.old) (contents self.new) result from.now }
@@ -83,7 +83,7 @@ pub trait Sink {
     ///
     /// # Errors
     ///
-    /// `Failed` where not all of it could be sent on.
+    /// `Failed` if not all of it could be sent on.
     fn flush(&mut self) -> Result<(), Failed>
         ensures bytes { Keeps (contents self.old) (contents self.new) }
         ensures taken { taken self.new ≡ after_flush (taken self.old) result };

@@ -41,8 +41,8 @@ pub enum ServeError {
 impl ServeError {
     ghost use Rattle.clock2q_text.specs.ServeError.{status_of};
 
-    /// Returns the status with which the program ends: 2 at a bad line, 3 where there is no memory
-    /// or the capacity is too large, 4 where a device failed, 5 where the shares don't fit
+    /// Returns the status with which the program ends: 2 at a bad line, 3 if there is no memory
+    /// or the capacity is too large, 4 if a device failed, 5 if the shares don't fit
     /// together.
     pub fn status(&self) -> u8
         ensures status { result ≡ status_of self.now }

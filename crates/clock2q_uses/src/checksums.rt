@@ -15,7 +15,7 @@ use std::test::Fail;
 
 /// Returns the checksums of the documents that are asked for, each by its number, and `None` for a
 /// number without a document. Up to `capacity` checksums are remembered: a document that is asked
-/// for again is read again only where its checksum is no longer among them.
+/// for again is read again only if its checksum is no longer among them.
 ///
 /// # Errors
 ///
