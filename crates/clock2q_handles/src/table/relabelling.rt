@@ -9,7 +9,7 @@ use crate::table::Table;
 use std::alloc::Allocator;
 
 impl<H: Copy + Eq + Default, A: Allocator> Table<H, A> {
-    /// Replaces the handle of the entry at a position, which a [search](Table::search) told. Its
+    /// Replaces the handle of the entry at a position that [search](Table::search) returned. Its
     /// hash stays, and every entry stays where it is.
     ///
     /// # Cost

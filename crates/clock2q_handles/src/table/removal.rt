@@ -34,7 +34,7 @@ impl<H: Copy + Eq + Default, A: Allocator> Table<H, A> {
     }
 
     /// Removes the first candidate of `hash` that equals `handle`, as [remove](Table::remove) does,
-    /// where the caller knows that there is one. It looks for no end of the walk.
+    /// where the caller knows that there is one. Its walk tests for no end.
     ///
     /// # Cost
     ///
@@ -50,7 +50,7 @@ impl<H: Copy + Eq + Default, A: Allocator> Table<H, A> {
         self.len -= 1;
     }
 
-    /// Removes the entry at a position, which a [search](Table::search) told.
+    /// Removes the entry at a position that [search](Table::search) returned.
     ///
     /// # Cost
     ///
