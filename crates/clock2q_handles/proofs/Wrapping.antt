@@ -1,5 +1,5 @@
 -- What a call over a view of both vectors comes to, told of the vectors.
-use Rattle.std.proofs.Common.{◌≡◌, ℕ, ◌%◌, Bool, ap, ◌∙◌, subst, List, length, Option}
+use Rattle.std.proofs.Common.{◌≡◌, ℕ, ◌%◌, ◌++◌, Bool, ap, sym, ◌∙◌, subst, List, length, take, drop, Option}
 use Rattle.std.specs.Bool.{OnTrue}
 use Rattle.std.specs.Fn.{Mut}
 use Rattle.clock2q_handles.specs.Candidates.{EndsAt}
@@ -9,10 +9,17 @@ use Rattle.clock2q_handles.specs.Moves.{MayMove, Moves}
 use Rattle.clock2q_handles.specs.Shifts.{PutsIn}
 use Rattle.clock2q_handles.specs.Slots.{Mark, cells}
 use Rattle.clock2q_handles.specs.declared.metadata.Metadata.{Metadata}
+use Rattle.clock2q_handles.proofs.Cells.{kept_whole}
 
 module _ {H : Type 0} where
   pub cells_along : {ms ms' : List Metadata} {vs vs' : List H} → ms ≡ ms' → vs ≡ vs' → cells ms vs ≡ cells ms' vs'
   cells_along {ms' = ms'} {vs = vs} e f = ap (λ m. cells m vs) e ∙ ap (cells ms') f
+
+  -- two vectors whose slices were written have what the slices have
+  pub cells_back : (ms before : List Metadata) (vs held : List H) (m n : ℕ) → length ms ≡ m → length vs ≡ n
+      → cells ms vs ≡ cells (take m (ms ++ drop (length ms) before)) (take n (vs ++ drop (length vs) held))
+  cells_back ms before vs held m n e f =
+      cells_along (sym (kept_whole ms (drop (length ms) before) m e)) (sym (kept_whole vs (drop (length vs) held) n f))
 
 module _ {E : Type 0} where
   pub puts_along : {old old' new new' : List (Option (Placed E))} (x : ℕ) {b b' a a' : ℕ} {e : E}

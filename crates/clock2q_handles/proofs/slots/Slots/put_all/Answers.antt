@@ -1,6 +1,5 @@
-use Rattle.std.proofs.Common.{◌≡◌, refl, ◌++◌, take, drop, length, sym, ap, ◌∙◌, arith}
-use Rattle.clock2q_handles.proofs.Cells.{kept_whole}
-use Rattle.clock2q_handles.proofs.Wrapping.{cells_along, movable_along, moves_along}
+use Rattle.std.proofs.Common.{◌≡◌, refl, length, sym, ap, ◌∙◌, arith}
+use Rattle.clock2q_handles.proofs.Wrapping.{cells_along, cells_back, movable_along, moves_along}
 use Rattle.clock2q_handles.proofs.slots.Slots.put_all.Goals as goal
 
 pub put_all_into-requires-clause-movable : goal.put_all_into-requires-clause-movable
@@ -9,11 +8,9 @@ put_all_into-requires-clause-movable g c =
 
 pub returns : goal.returns
 returns g c =
-    let ms : take c.self.inside.metadata.len (c.put_all_into.new.metadata ++ drop (length c.put_all_into.new.metadata) c.self.inside.metadata.items) ≡ c.put_all_into.new.metadata =
-    kept_whole c.put_all_into.new.metadata (drop (length c.put_all_into.new.metadata) c.self.inside.metadata.items) c.self.inside.metadata.len
-    (omega (arith, c.put_all_into.ensures.len, c.as_mut_slice.ensures.len, ap length c.as_mut_slice.ensures.value, c.self.inside.metadata.ok.0)) in
-    let vs : take c.self.inside.handles.len (c.put_all_into.new.handles ++ drop (length c.put_all_into.new.handles) c.self.inside.handles.items) ≡ c.put_all_into.new.handles =
-    kept_whole c.put_all_into.new.handles (drop (length c.put_all_into.new.handles) c.self.inside.handles.items) c.self.inside.handles.len
+    let new = cells_back c.put_all_into.new.metadata c.self.inside.metadata.items c.put_all_into.new.handles c.self.inside.handles.items
+    c.self.inside.metadata.len c.self.inside.handles.len
+    (omega (arith, c.put_all_into.ensures.len, c.as_mut_slice.ensures.len, ap length c.as_mut_slice.ensures.value, c.self.inside.metadata.ok.0))
     (omega (arith, c.put_all_into.ensures.len, c.put_all_into.ensures.as_many, ap length c.as_mut_slice.ensures.value, c.self.invariant.0, c.self.inside.handles.ok.0)) in
     let old = cells_along c.as_mut_slice.ensures.value c.as_mut_slice-2.ensures.value ∙ ap (λ s. s.slots) c.self.view_is in
-    record { moved = moves_along g.F.FnMut c.put_all_into.ensures.moved old (cells_along (sym ms) (sym vs)) }
+    record { moved = moves_along g.F.FnMut c.put_all_into.ensures.moved old new }

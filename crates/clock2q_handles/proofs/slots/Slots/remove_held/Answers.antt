@@ -1,15 +1,13 @@
-use Rattle.std.proofs.Common.{◌≡◌, ◌++◌, take, drop, length, refl, sym, ap, ◌∙◌, arith}
+use Rattle.std.proofs.Common.{◌≡◌, length, refl, ap, ◌∙◌, arith}
 use Rattle.clock2q_handles.specs.Homes.{is_entry_of}
-use Rattle.clock2q_handles.proofs.Cells.{kept_whole}
-use Rattle.clock2q_handles.proofs.Wrapping.{cells_along, takes_out_along}
+use Rattle.clock2q_handles.proofs.Wrapping.{cells_along, cells_back, takes_out_along}
 use Rattle.clock2q_handles.proofs.slots.Slots.remove_held.Goals as goal
 
 pub returns : goal.returns
 returns g c =
-    let ms : take c.self.inside.metadata.len (c.remove_held_from.new.metadata ++ drop (length c.remove_held_from.new.metadata) c.self.inside.metadata.items) ≡ c.remove_held_from.new.metadata =
-    kept_whole c.remove_held_from.new.metadata (drop (length c.remove_held_from.new.metadata) c.self.inside.metadata.items) c.self.inside.metadata.len (omega (arith, c.remove_held_from.ensures.len, c.as_mut_slice.ensures.len, ap length c.as_mut_slice.ensures.value, c.self.inside.metadata.ok.0)) in
-    let vs : take c.self.inside.handles.len (c.remove_held_from.new.handles ++ drop (length c.remove_held_from.new.handles) c.self.inside.handles.items) ≡ c.remove_held_from.new.handles =
-    kept_whole c.remove_held_from.new.handles (drop (length c.remove_held_from.new.handles) c.self.inside.handles.items) c.self.inside.handles.len
+    let new = cells_back c.remove_held_from.new.metadata c.self.inside.metadata.items c.remove_held_from.new.handles c.self.inside.handles.items
+    c.self.inside.metadata.len c.self.inside.handles.len
+    (omega (arith, c.remove_held_from.ensures.len, c.as_mut_slice.ensures.len, ap length c.as_mut_slice.ensures.value, c.self.inside.metadata.ok.0))
     (omega (arith, c.remove_held_from.ensures.len, c.remove_held_from.ensures.as_many, ap length c.as_mut_slice.ensures.value, c.self.invariant.0, c.self.inside.handles.ok.0)) in
     let old = cells_along c.as_mut_slice.ensures.value c.as_mut_slice-2.ensures.value ∙ ap (λ s. s.slots) c.self.view_is in
-    record { taken = takes_out_along (is_entry_of g.H.PartialEq.eq c.args.hash c.args.handle) c.args.hash c.remove_held_from.ensures.taken old (cells_along (sym ms) (sym vs)) (ap (λ s. s.writes) c.self.view_is) refl }
+    record { taken = takes_out_along (is_entry_of g.H.PartialEq.eq c.args.hash c.args.handle) c.args.hash c.remove_held_from.ensures.taken old new (ap (λ s. s.writes) c.self.view_is) refl }
