@@ -67,13 +67,13 @@ pub slot-leaves : (slot : ℕ) (a b c : Counts) → Spends 0 (8 * slot) 0 a b �
 slot-leaves slot a b c before left = spends-both before left (omega arith) (omega arith) (omega arith)
 
 module _ {K V S H : Type 0} (key : HashMembers K) (build : builder.Ghosts S H) (hash : hasher.Ghosts H) where
-  -- a call that leaves the machine's next state has paid for its looks
+  -- a call that leaves the machine's next state has paid for its inspections
   pub costs-of : (call : Call K V) (old new : CacheState K V S) → new.machine ≡ after key.eq call old.machine
       → Spends (inspections_of key.eq call old.machine) (most_accesses key.eq call old.machine) (most_questions key build hash call old) old.counts new.counts
       → Costs key build hash call old new
   costs-of call old new is spent = record { counts = spent; clock = omega (arith, spent.inspections, clock_bounded key.eq call old.machine, ap set_bits is) }
 
-  -- a call that lets the hand look at nothing, and sets no bit
+  -- a call that lets the hand inspect nothing, and sets no bit
   costs-unlooked : (call : Call K V) (old new : CacheState K V S) → inspections_of key.eq call old.machine ≡ 0 → set_bits new.machine ≤ set_bits old.machine
       → Spends 0 (most_accesses key.eq call old.machine) (most_questions key build hash call old) old.counts new.counts
       → Costs key build hash call old new

@@ -181,7 +181,7 @@ module _ {K : Type 0} (key : ℕ → Option K) where
       → last_or None (with_keys_small key es) ≡ Some (small_with e k)
   small-last es e k h = last-keyed e k None None (λ q. absurd (cc)) (have-keyed small_with key es h)
 
-  -- the hand's looks, and its choice
+  -- the hand's inspections, and its choice
   main-passed : {es : List (ℕ × Bool)} {rs : List (MainEntry K)} → Keyed main_with key es rs → machine.set_front rs ≡ set_front es
   main-passed unkeyed = refl
   main-passed (keyed {e} k at r) = elim (cases_Bool e.1) [ inl t ↦ rw t (ap (λ z. 1 + z) (main-passed r)) | inr f ↦ rw f refl ]

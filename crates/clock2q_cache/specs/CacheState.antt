@@ -5,7 +5,7 @@ use Rattle.clock2q_queues.specs.Index.{slots, places}
 use Rattle.clock2q_queues.specs.History.{Places, places_code}
 use Rattle.clock2q_machine.specs.Machine.{Machine, machine_code}
 
--- how often the hand inspected, a link was accessed, and a key was asked about
+-- how many inspections, accesses to links and questions there were
 pub record Counts : Type 0 where
   pub inspections : ℕ
   pub accesses : ℕ

@@ -10,7 +10,7 @@ use Rattle.clock2q_cache.specs.Places.{known_with}
 use Rattle.clock2q_machine.specs.Steps.{put}
 
 module _ {K V S H : Type 0} (key : HashMembers K) (build : builder.Ghosts S H) (hash : hasher.Ghosts H) where
-  -- the most links that a call for a key's slot accesses, and keys that it asks about, added to what was counted
+  -- the most accesses to links and questions that a call for a key's slot makes, added to what was counted
   abbrev pub most_links : K → CacheState K V S → ℕ
   most_links k c = c.counts.accesses + accesses_for (key.eq k) c.machine
 

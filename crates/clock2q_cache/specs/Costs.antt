@@ -11,7 +11,7 @@ use Rattle.clock2q_machine.specs.Bounds.{set_bits, inspections_for, inspections_
 use Rattle.clock2q_cache.specs.CacheState.{CacheState, Counts, residents_in, remembered_in}
 use Rattle.clock2q_cache.specs.Hashes.{hash_of}
 
--- the hand made so many inspections, and at most so many links were accessed and keys asked about
+-- the hand made so many inspections, and at most so many links were accessed and questions asked
 pub record Spends (inspected links keys : ℕ) (old new : Counts) : Type 0 where
   pub inspections : new.inspections ≡ old.inspections + inspected
   pub accesses : Rises 0 links old.accesses new.accesses
@@ -37,7 +37,7 @@ module _ {K V S H : Type 0} (key : HashMembers K) (build : builder.Ghosts S H) (
   abbrev pub alike : K → CacheState K V S → ℕ
   alike k c = let x = hash_of build hash c.hasher (key.hash_input k) in length (candidates (residents_in c.known) x) + length (candidates (remembered_in c.known) x)
 
-  -- how many keys a call may ask about: those under the hash of its own, or the one at its slot
+  -- how many questions a call may ask: one to each key under the hash of its own, or one to the key at its slot
   abbrev pub most_questions : Call K V → CacheState K V S → ℕ
   most_questions (Put k value) c = alike k c
   most_questions (Get k) c = alike k c

@@ -1,4 +1,4 @@
--- The CLOCK bound: a look of the hand is paid for by Main's victim, or by a bit that a hit had set.
+-- The CLOCK bound: an inspection by the hand is paid for by Main's victim, or by a bit that a hit had set.
 use Rattle.std.proofs.Common.{◌≡◌, ℕ, suc, ◌+◌, ◌≤◌, ◌==◌, Bool, true, false, not, ◌&&◌, cond, List, [], ◌∷◌, ◌++◌, map, length, take, drop, Option, Some, None, refl, sym, ap, ◌∙◌, arith}
 use Rattle.std.specs.Prelude.{if◌then◌else◌, is_some, nat_lt}
 use Rattle.std.specs.List.{count_by, list_any, last_or, find}
@@ -77,7 +77,7 @@ module _ {K : Type 0} where
         bits-from_victim es,
       )
 
-  -- where Main has no entry, the look at none has none to pay for
+  -- where Main has no entry, one inspection is counted
   paid_none : (es : List (MainEntry K)) → from_victim es ≡ [] → inspections es + bits es ≡ 1 + bits es
   paid_none es choice = omega (arith, bits-from_victim es, ap (length {A = MainEntry K}) choice, length-from_victim es, count_by-le-length (λ (e : MainEntry K). e.bit) es)
 
@@ -192,7 +192,7 @@ module _ {K V : Type 0} where
         → (if takes_victim (eq key) m then inspections m.main else 0) + set_bits (inserted (eq key) key value m) ≡ (if takes_victim (eq key) m then 1 else 0) + set_bits m
     paid_insertion key value m = paid_placement (eq key) key m
 
-    -- each look is paid for, exactly where the call takes nothing out
+    -- each inspection is paid for, exactly where the call takes nothing out
     pub paid : (call : Call K V) (m : Machine K V) → takes_out call ≡ false → IsPaid eq call m
     paid (Put key value) m stays =
         paid_wanted (eq key) (slot_of (eq key) m) m (replaced_at (eq key) value (slot_of (eq key) m) m) (inserted (eq key) key value m)
@@ -244,7 +244,7 @@ module _ {K V : Type 0} where
     run_bounded [] m = omega arith
     run_bounded (call ∷ calls) m = omega (arith, clock_bounded call m, run_bounded calls (after eq call m))
 
-    -- from a new cache the hand looks no more often than it had victims and hits set bits
+    -- from a new cache there are no more inspections than victims of Main and bits that hits set
     pub new_run_bounded : (shares : Shares) (calls : List (Call K V))
         → summed eq (inspections_of eq) calls (empty shares) ≤ summed eq (main_victims eq) calls (empty shares) + summed eq (settings eq) calls (empty shares)
     new_run_bounded shares calls = omega (arith, run_bounded calls (empty shares))

@@ -1,4 +1,4 @@
--- How often the hand looks in runs worked out by hand, how many victims Main has, and how many bits hits set.
+-- How often the hand inspects an entry in runs worked out by hand, how many victims Main has, and how many bits hits set.
 use Rattle.std.proofs.Common.{◌≡◌, ℕ, false, eqb, List, [], ◌∷◌, ◌++◌, refl}
 use Rattle.std.specs.Prelude.{Some, None}
 use Rattle.clock2q_machine.specs.Machine.{Machine}
@@ -7,7 +7,7 @@ use Rattle.clock2q_machine.specs.Steps.{answers, after_all}
 use Rattle.clock2q_machine.specs.Bounds.{set_bits, inspections_of, main_victims, settings, summed}
 use Rattle.clock2q_machine.proofs.WorkedRuns.{puts, gets, state, chosen}
 
--- looks, victims and settings over a run
+-- inspections, victims and settings over a run
 abbrev counts : List (Call ℕ ℕ) → Machine ℕ ℕ → List ℕ
 counts calls m = summed eqb (inspections_of eqb) calls m ∷ summed eqb (main_victims eqb) calls m ∷ summed eqb (settings eqb) calls m ∷ []
 

@@ -1,4 +1,4 @@
--- The hand's sweep over Main, one look after the other.
+-- The hand's sweep over Main, one inspection after the other.
 use Rattle.std.proofs.Common.{◌≡◌, ℕ, suc, ◌+◌, ◌<◌, Bool, true, false, cond, ◌||◌, eqb, Some, slice_get, List, [], ◌∷◌, ◌++◌, length, map, take, drop, inl, inr, refl, sym, ap, ◌∙◌, subst, arith}
 use Rattle.std.proofs.lemmas.Bool.{both_ways, or_cases}
 use Rattle.std.proofs.lemmas.List.{append-nil, append_assoc, map-append, take-append-le, drop-append-le, length_push}
@@ -57,7 +57,7 @@ has-behind t hand rest h = elim (or_cases (has t rest) (has t (hand ∷ [])) (sy
   | inr q ↦ or_left (eqb t hand) (has t rest) (elim (or_cases (eqb t hand) false q) [ inl z ↦ z | inr z ↦ absurd (both_ways false refl z) ])
 ]
 
--- a look at the hand's slot leaves what stands there
+-- an inspection of the hand's slot leaves what stands there
 module _ (now l : LinkState) (main : MainRing) (hand : ℕ) (rest : List ℕ) (k : Looks hand now l) (m : IsMain now (with_hand hand main) (hand ∷ rest)) where
   linked : IsLinked l.records.items (hand ∷ rest)
   linked = subst (λ (z : List Record). IsLinked z (hand ∷ rest)) (sym k.items) m.queue.linked
@@ -104,7 +104,7 @@ module _ (now l : LinkState) (main : MainRing) (hand : ℕ) (rest : List ℕ) (k
       ap (λ (z : List Record). (record_at z t, bit_at l t)) k.items
       ∙ ap (λ z. (record_at now.records.items t, z)) (k.bits t ∙ rw ((or_parts (eqb t hand) (has t rest) h).0) refl)
 
--- the hand came as far as this slot: the choice is still to be made, by as many looks as are left
+-- the hand came as far as this slot: the choice is still to be made, by as many inspections as are left
 pub record Swept (old : LinkState) (main : MainRing) (now : LinkState) (hand : ℕ) : Type 0 where
   pub whole : IsMainRing now (with_hand hand main)
   pub choice : from_victim (main_entries now (with_hand hand main)) ≡ from_victim (main_entries old main)
@@ -204,7 +204,7 @@ module _ (old : LinkState) (main : MainRing) (now : LinkState) (hand : ℕ) (s :
         accesses = let e = s.looks in let f = s.accesses in let n = k.inspections in omega arith;
       }
 
--- the same by the states between: the look, then the reading of the record
+-- the same by the states between: the inspection, then the reading of the record
 module _ (old : LinkState) (main : MainRing) (now : LinkState) (hand : ℕ) (s : Swept old main now hand) (mid : LinkState)
     (bits : (t : ℕ) → bit_at mid t ≡ cond (eqb t hand) false (bit_at now t)) (looked : mid ≡ record now { bits = mid.bits }) (counted : mid.bits.inspections ≡ now.bits.inspections + 1) where
   pub hand_in_still : hand < length mid.records.items

@@ -1,4 +1,4 @@
--- The queues' words on lists worked out by hand: the hand's choice with its looks, and the ages of Small.
+-- The queues' words on lists worked out by hand: the hand's choice with its inspections, and the ages of Small.
 use Rattle.std.proofs.Common.{◌≡◌, ℕ, Bool, true, false, List, [], ◌∷◌, ◌++◌, map, refl}
 use Rattle.std.specs.List.{range_with_len}
 use Rattle.clock2q_machine.specs.Ages.{Age, Young, Old}
@@ -25,7 +25,7 @@ after_two_hits : let main = main_hit_at 19 (main_hit_at 3 (slots_with false 3 17
     (inspections main ≡ 2) × (from_victim main ≡ slots_with false 4 15 ++ (19, true) ∷ (3, false) ∷ [])
 after_two_hits = (refl, refl)
 
--- no bit is set: one look
+-- no bit is set: one inspection
 none_set : (inspections (slots_with false 5 3) ≡ 1) × (from_victim (slots_with false 5 3) ≡ slots_with false 5 3)
 none_set = (refl, refl)
 
