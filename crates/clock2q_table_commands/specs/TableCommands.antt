@@ -18,14 +18,14 @@ pub record IsHashing {H : Type 0} (returns : H → ℕ → Type 0) (key : H → 
   pub hashes : IsHashOf key homes
 
 -- an outcome as a reply
-abbrev pub told : {H L : Type 0} → Result (Unit {0}) TableError → TableReply H L
-told (Ok done) = Done
-told (Err refusal) = Refused refusal
+abbrev pub reply_of : {H L : Type 0} → Result (Unit {0}) TableError → TableReply H L
+reply_of (Ok done) = Done
+reply_of (Err refusal) = Refused refusal
 
 -- what a lookup with insertion answers, as a reply
-abbrev pub told_found : {H L : Type 0} → Result (H × Bool) TableError → TableReply H L
-told_found (Ok found) = Found found.0 found.1
-told_found (Err refusal) = Refused refusal
+abbrev pub reply_of_found : {H L : Type 0} → Result (H × Bool) TableError → TableReply H L
+reply_of_found (Ok found) = Found found.0 found.1
+reply_of_found (Err refusal) = Refused refusal
 
 -- the first of the handles that equals one of those accepted
 abbrev pub first_accepted : {H : Type 0} → (H → H → Bool) → List H → List H → Option H
@@ -39,7 +39,7 @@ module _ {H A : Type 0} (eq : H → H → Bool) (key : H → ℕ) where
   Inserts v old (Refused Memory) new = (new ≡ old) × IsFull old
   Inserts v old reply new = ⊥
 
-  -- a full table grows, and the first candidate that is accepted is told, or v is inserted
+  -- a full table grows, and the reply is the first candidate that is accepted, or v, which is inserted
   abbrev pub Finds : H → List H → List (List (ℕ × H)) → TableReply H (Vec H A) → List (List (ℕ × H)) → Type 0
   Finds v accepted old (Found c false) new = (first_accepted eq accepted (candidates (grown key old) (key v)) ≡ Some c) × (new ≡ grown key old)
   Finds v accepted old (Found c true) new = (first_accepted eq accepted (candidates (grown key old) (key v)) ≡ None) × (c ≡ v) × Inserts v old Done new
@@ -47,7 +47,7 @@ module _ {H A : Type 0} (eq : H → H → Bool) (key : H → ℕ) where
   Finds v accepted old (Refused Memory) new = (new ≡ old) × IsFull old
   Finds v accepted old reply new = ⊥
 
-  -- the first candidate of x that equals v goes, if there is one, and it is told whether there was
+  -- the first candidate of x that equals v goes, if there is one, and the reply says whether there was
   abbrev pub Removes : ℕ → H → List (List (ℕ × H)) → TableReply H (Vec H A) → List (List (ℕ × H)) → Type 0
   Removes x v old (Removed was) new = (was ≡ list_any (is_entry_of eq x v) (listed old x)) × (new ≡ removed eq old x v)
   Removes x v old reply new = ⊥
@@ -59,7 +59,7 @@ module _ {H A : Type 0} (eq : H → H → Bool) (key : H → ℕ) where
   Reserves n old (Refused Memory) new = (new ≡ old) × IsShortOf old n
   Reserves n old reply new = ⊥
 
-  -- the candidates of x are told, and nothing changes
+  -- the candidates of x are the reply, and nothing changes
   abbrev pub Gets : ℕ → List (List (ℕ × H)) → TableReply H (Vec H A) → List (List (ℕ × H)) → Type 0
   Gets x old (Handles handles) new = (handles.items ≡ candidates old x) × (new ≡ old)
   Gets x old (Refused Memory) new = new ≡ old

@@ -1,7 +1,7 @@
 //! Commands to a handle table as data, their replies, and the run of a list of commands.
 ghost use Rattle.std.specs.Prelude.{◌≡◌, ℕ, Bool, IfOk, IfErr, OnErr};
 ghost use Rattle.clock2q_handles.specs.Changes.{IsLaidOut};
-ghost use Rattle.clock2q_table_commands.specs.TableCommands.{IsHashing, told, told_found, Inserts, Finds, Reserves, Gets, IsReplied, AreReplied};
+ghost use Rattle.clock2q_table_commands.specs.TableCommands.{IsHashing, reply_of, reply_of_found, Inserts, Finds, Reserves, Gets, IsReplied, AreReplied};
 
 use clock2q_handles::{Table, TableError};
 use std::alloc::Allocator;
@@ -120,8 +120,8 @@ where
 }
 
 /// Returns the reply to a command that returns nothing else.
-fn told<H, L>(outcome: Result<(), TableError>) -> TableReply<H, L>
-    ensures { result ≡ told outcome }
+fn reply_of<H, L>(outcome: Result<(), TableError>) -> TableReply<H, L>
+    ensures { result ≡ reply_of outcome }
 {
     match outcome {
         Ok(()) => TableReply::Done,
@@ -130,8 +130,8 @@ fn told<H, L>(outcome: Result<(), TableError>) -> TableReply<H, L>
 }
 
 /// Returns the reply to a command that finds or inserts.
-fn told_found<H: Copy, L>(outcome: Result<(H, bool), TableError>) -> TableReply<H, L>
-    ensures { result ≡ told_found outcome }
+fn reply_of_found<H: Copy, L>(outcome: Result<(H, bool), TableError>) -> TableReply<H, L>
+    ensures { result ≡ reply_of_found outcome }
 {
     match outcome {
         Ok((handle, is_new)) => TableReply::Found(handle, is_new),
@@ -151,7 +151,7 @@ where
         Inserts H.PartialEq.eq key handle table.old.homes result table.new.homes }
     ensures laid { IsLaidOut table.new }
 {
-    told(table.insert(hash_of(handle), handle, |held| hash_of(held)))
+    reply_of(table.insert(hash_of(handle), handle, |held| hash_of(held)))
 }
 
 /// Finds the first candidate that is in the list, or inserts the handle.
@@ -171,7 +171,7 @@ where
         Finds H.PartialEq.eq key handle accepted.now table.old.homes result table.new.homes }
     ensures laid { IsLaidOut table.new }
 {
-    told_found(table.find_or_insert(
+    reply_of_found(table.find_or_insert(
         hash_of(handle),
         |candidate| accepted.contains(&candidate),
         handle,
@@ -195,7 +195,7 @@ where
         Reserves H.PartialEq.eq key additional table.old.homes result table.new.homes }
     ensures laid { IsLaidOut table.new }
 {
-    told(table.reserve(additional, |held| hash_of(held)))
+    reply_of(table.reserve(additional, |held| hash_of(held)))
 }
 
 /// Lists the candidates of a hash.

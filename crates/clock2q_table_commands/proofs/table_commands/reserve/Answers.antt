@@ -9,7 +9,7 @@ reserve-requires g c = record { rehash = λ _. (c.requires.hashes.0, given-same 
 
 pub returns-clause-reply : goal.returns-clause-reply
 returns-clause-reply g c = λ key h.
-    subst (λ reply. Reserves g.H.PartialEq.eq key c.args.additional c.args.table.now.homes reply c.reserve.new.self.homes) (sym c.told.ensures)
+    subst (λ reply. Reserves g.H.PartialEq.eq key c.args.additional c.args.table.now.homes reply c.reserve.new.self.homes) (sym c.reply_of.ensures)
     (Reserves-reserved _ g.H.PartialEq.eq key _ _ c.args.table.now c.reserve.new.self c.args.additional c.reserve.result
     c.reserve.ensures.reserved c.reserve.ensures.refused c.reserve.ensures.size.1 c.reserve.ensures.size.0 c.reserve.ensures.memory c.reserve.ensures.only
     (given-same _ (λ f v r next called. search rules) _ key _ _ h (λ v. search rules) (λ v r next called. search rules)))

@@ -7,7 +7,7 @@ use Rattle.clock2q_table_commands.proofs.table_commands.run_table.Goals as goal
 
 pub loop-command-init : goal.loop-command-init
 loop-command-init g c = record {
-  told = search rules;
+  replied = search rules;
   hashes = λ key h. h;
   laid = whole_laid _ c.len.ensures.whole;
   room = search rules;
@@ -21,11 +21,11 @@ execute-requires-clause-hashes g c = (c.requires.hashes.0, c.loop-command.invari
 
 pub loop-command-preserved : goal.loop-command-preserved
 loop-command-preserved g c = record {
-  told = λ key h.
+  replied = λ key h.
       subst (λ replies. AreReplied g.H.PartialEq.eq key (take (c.loop-command.command-index + 1) c.args.commands.now) c.args.table.now.homes replies c.execute.new.table.homes) (sym c.push_reserved.ensures.items)
       (AreReplied-taken _ g.H.PartialEq.eq key c.args.commands.now c.loop-command.command-index c.command-item.result c.command-item.result c.loop-command.replies.items c.execute.result
       c.args.table.now.homes c.loop-command.table.homes c.execute.new.table.homes c.loop-command-test.true c.command-item.is
-      (c.loop-command.invariant.told key h) (c.execute.ensures.reply key (c.loop-command.invariant.hashes key h)));
+      (c.loop-command.invariant.replied key h) (c.execute.ensures.reply key (c.loop-command.invariant.hashes key h)));
   hashes = λ key h. record {
     one = h.one;
     hashes = hashes-replied _ g.H.PartialEq.eq key c.command-item.result c.loop-command.table.homes c.execute.result c.execute.new.table.homes
@@ -38,4 +38,4 @@ loop-command-preserved g c = record {
 pub returns-clause-replies : goal.returns-clause-replies
 returns-clause-replies g c = λ key h.
     subst (λ commands. AreReplied g.H.PartialEq.eq key commands c.args.table.now.homes c.loop-command.replies.items c.loop-command.table.homes)
-    (take_all c.loop-command.command-index c.args.commands.now (search rules)) (c.loop-command.invariant.told key h)
+    (take_all c.loop-command.command-index c.args.commands.now (search rules)) (c.loop-command.invariant.replied key h)
