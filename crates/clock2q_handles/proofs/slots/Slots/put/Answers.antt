@@ -1,4 +1,4 @@
-use Rattle.std.proofs.Common.{◌≡◌, refl, length, ap, ◌∙◌, arith}
+use Rattle.std.proofs.Common.{refl, length, ap, ◌∙◌, arith}
 use Rattle.clock2q_handles.proofs.Wrapping.{cells_along, cells_back, puts_along}
 use Rattle.clock2q_handles.proofs.slots.Slots.put.Goals as goal
 

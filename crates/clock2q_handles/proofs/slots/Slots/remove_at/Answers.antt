@@ -1,4 +1,4 @@
-use Rattle.std.proofs.Common.{◌≡◌, length, refl, ap, ◌∙◌, arith}
+use Rattle.std.proofs.Common.{length, refl, ap, ◌∙◌, arith}
 use Rattle.clock2q_handles.proofs.Wrapping.{cells_along, cells_back, takes_at_along}
 use Rattle.clock2q_handles.proofs.slots.Slots.remove_at.Goals as goal
 

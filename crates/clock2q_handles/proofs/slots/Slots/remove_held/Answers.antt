@@ -1,4 +1,4 @@
-use Rattle.std.proofs.Common.{◌≡◌, length, refl, ap, ◌∙◌, arith}
+use Rattle.std.proofs.Common.{length, refl, ap, ◌∙◌, arith}
 use Rattle.clock2q_handles.specs.Homes.{is_entry_of}
 use Rattle.clock2q_handles.proofs.Wrapping.{cells_along, cells_back, takes_out_along}
 use Rattle.clock2q_handles.proofs.slots.Slots.remove_held.Goals as goal

@@ -1,4 +1,4 @@
-use Rattle.std.proofs.Common.{◌≡◌, ◌+◌, ◌%◌, length, set, ap, ◌∙◌, arith, sym}
+use Rattle.std.proofs.Common.{◌+◌, ◌%◌, length, set, ap, ◌∙◌, arith, sym}
 use Rattle.clock2q_handles.specs.Slots.{slots_value, cell, told}
 use Rattle.clock2q_handles.proofs.Wrapping.{cells_along, cells_back}
 use Rattle.clock2q_handles.proofs.slots.Slots.write.Goals as goal
