@@ -12,8 +12,12 @@ use Rattle.clock2q_cache.specs.declared.error.CacheError.TheVariants.{Memory, Ca
 use Rattle.clock2q_command.specs.Serve.{Makes, output_for}
 use Rattle.clock2q_text.specs.Text.{output_of}
 
+-- the most keys that a cache can have
+abbrev most_keys : ℕ
+most_keys = 16777215
+
 -- where more would be refused, and isn't, there's no more
-within : (n : ℕ) (Refused : Type 0) → (16777215 < n → Refused) → (Refused → ⊥) → n < 16777216
+within : (n : ℕ) (Refused : Type 0) → (most_keys < n → Refused) → (Refused → ⊥) → n < 16777216
 within n Refused refuses h = ⊎_elim (λ less. less) (λ more. absurd (h (refuses (omega arith)))) (cases_lt n 16777216)
 
 -- the usual shares can be had together
@@ -43,14 +47,14 @@ policy_cases shares = ⊎_elim (λ below. ⊎_elim (λ longer. inr (λ p. omega 
 
 module _ {X K V : Type 0} (machine : X → Machine K V) where
   -- a cache that `new` made, or refused
-  pub Makes-usual : (n : ℕ) (r : Result X CacheError) → 0 < n → IfOk r (λ cache. machine cache ≡ empty (usual_shares n)) → IsErrOf r Capacity ↔ (16777215 < n) → r ≢ Err Policy → Makes (usual_shares n) machine r
+  pub Makes-usual : (n : ℕ) (r : Result X CacheError) → 0 < n → IfOk r (λ cache. machine cache ≡ empty (usual_shares n)) → IsErrOf r Capacity ↔ (most_keys < n) → r ≢ Err Policy → Makes (usual_shares n) machine r
   Makes-usual n (Ok cache) some made capacity policy = ((within n _ capacity.1 (λ e. cc), IsPolicy-usual n some), made)
   Makes-usual n (Err Memory) some made capacity policy = (within n _ capacity.1 (λ e. cc), IsPolicy-usual n some)
-  Makes-usual n (Err Capacity) some made capacity policy = λ less. let more : 16777215 < n = capacity.0 refl in omega (arith, less, more)
+  Makes-usual n (Err Capacity) some made capacity policy = λ less. let more : most_keys < n = capacity.0 refl in omega (arith, less, more)
   Makes-usual n (Err Policy) some made capacity policy = absurd (policy refl)
 
   -- one that `with_policy` did
-  pub Makes-chosen : (shares : Shares) (r : Result X CacheError) → IfOk r (λ cache. machine cache ≡ empty shares) → IsErrOf r Capacity ↔ (16777215 < shares.capacity) → IsErrOf r Policy ↔ ((shares.capacity ≤ 16777215) × (IsPolicy shares → ⊥)) → Makes shares machine r
+  pub Makes-chosen : (shares : Shares) (r : Result X CacheError) → IfOk r (λ cache. machine cache ≡ empty shares) → IsErrOf r Capacity ↔ (most_keys < shares.capacity) → IsErrOf r Policy ↔ ((shares.capacity ≤ most_keys) × (IsPolicy shares → ⊥)) → Makes shares machine r
   Makes-chosen shares (Ok cache) made capacity policy =
       let few : shares.capacity < 16777216 = within shares.capacity _ capacity.1 (λ e. cc) in
       ((few, ⊎_elim (λ p. p) (λ no_policy. absurd (no (policy.1 (omega (arith, few), no_policy)))) (policy_cases shares)), made) where
@@ -61,7 +65,7 @@ module _ {X K V : Type 0} (machine : X → Machine K V) where
       (few, ⊎_elim (λ p. p) (λ no_policy. absurd (no (policy.1 (omega (arith, few), no_policy)))) (policy_cases shares)) where
         no : IsErrOf {T = X} (Err Memory) Policy → ⊥
         no e = cc
-  Makes-chosen shares (Err Capacity) made capacity policy = λ less. let more : 16777215 < shares.capacity = capacity.0 refl in omega (arith, less, more)
+  Makes-chosen shares (Err Capacity) made capacity policy = λ less. let more : most_keys < shares.capacity = capacity.0 refl in omega (arith, less, more)
   Makes-chosen shares (Err Policy) made capacity policy =
       let p = policy.0 refl in
       (omega (arith, p.0), p.1)

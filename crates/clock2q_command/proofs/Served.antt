@@ -51,21 +51,30 @@ Answers-replied old new left remain input script bytes (Err Policy) whole is h =
 Answers-replied old new left remain input script bytes (Err Read) whole is h = absurd h
 Answers-replied old new left remain input script bytes (Err Write) whole is h = absurd h
 
+-- what passed through a port in a call, and what it held
+pub record Passage : Type 0 where
+  pub old : Traffic
+  pub new : Traffic
+  pub left : Option (List ℕ)
+  pub remain : Option (List ℕ)
+
 -- without a text it is refused
-pub IsRefused-early : (given gives : Traffic) (left remain : Option (List ℕ)) (took takes : Traffic) (held holds : Option (List ℕ)) (refusal : ServeError) → HasNoText given gives left remain refusal → IsRefused given gives left remain took takes held holds refusal
-IsRefused-early given gives left remain took takes held holds Write h = absurd h
-IsRefused-early given gives left remain took takes held holds (BadLine line) h = h
-IsRefused-early given gives left remain took takes held holds Memory h = h
-IsRefused-early given gives left remain took takes held holds Capacity h = h
-IsRefused-early given gives left remain took takes held holds Policy h = h
-IsRefused-early given gives left remain took takes held holds Read h = h
+pub IsRefused-early : (from to : Passage) (refusal : ServeError)
+    → HasNoText from.old from.new from.left from.remain refusal → IsRefused from.old from.new from.left from.remain to.old to.new to.left to.remain refusal
+IsRefused-early from to Write h = absurd h
+IsRefused-early from to (BadLine line) h = h
+IsRefused-early from to Memory h = h
+IsRefused-early from to Capacity h = h
+IsRefused-early from to Policy h = h
+IsRefused-early from to Read h = h
 
 -- with a text it is refused where sending fails
-pub IsRefused-late : (given gives : Traffic) (left remain : Option (List ℕ)) (took takes : Traffic) (held holds : Option (List ℕ)) (text : List ℕ) (r : Result (Unit {0}) ServeError) → IsAnswered given gives left remain text → Sends took takes held holds text r → IfErr r (IsRefused given gives left remain took takes held holds)
-IsRefused-late given gives left remain took takes held holds text (Ok done) answered h = tt
-IsRefused-late given gives left remain took takes held holds text (Err (BadLine line)) answered h = absurd h
-IsRefused-late given gives left remain took takes held holds text (Err Memory) answered h = absurd h
-IsRefused-late given gives left remain took takes held holds text (Err Capacity) answered h = absurd h
-IsRefused-late given gives left remain took takes held holds text (Err Policy) answered h = absurd h
-IsRefused-late given gives left remain took takes held holds text (Err Read) answered h = absurd h
-IsRefused-late given gives left remain took takes held holds text (Err Write) answered h = record { text = text; count = h.0; answered = answered; written = h.1 }
+pub IsRefused-late : {given gives : Traffic} {left remain : Option (List ℕ)} (took takes : Traffic) (held holds : Option (List ℕ)) (text : List ℕ) (r : Result (Unit {0}) ServeError)
+    → IsAnswered given gives left remain text → Sends took takes held holds text r → IfErr r (IsRefused given gives left remain took takes held holds)
+IsRefused-late took takes held holds text (Ok done) answered h = tt
+IsRefused-late took takes held holds text (Err (BadLine line)) answered h = absurd h
+IsRefused-late took takes held holds text (Err Memory) answered h = absurd h
+IsRefused-late took takes held holds text (Err Capacity) answered h = absurd h
+IsRefused-late took takes held holds text (Err Policy) answered h = absurd h
+IsRefused-late took takes held holds text (Err Read) answered h = absurd h
+IsRefused-late took takes held holds text (Err Write) answered h = record { text = text; count = h.0; answered = answered; written = h.1 }

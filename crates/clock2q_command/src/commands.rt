@@ -18,7 +18,7 @@ use std::hash::{BuildHasher, Hash};
 ///
 /// # Errors
 ///
-/// `Memory` where the list of replies can't be reserved. That is done first: no command has run,
+/// `Memory` if the list of replies can't be reserved. That is done first: no command has run,
 /// and the cache is as it was.
 ///
 /// # Cost
@@ -111,9 +111,9 @@ where
     ensures hasher { cache.new.hasher ≡ cache.old.hasher }
     ensures costs { Costs K.Hash S.BuildHasher S.Hasher.Hasher (Set key.now value) cache.old cache.new }
 {
-    let place = cache.get_mut(key)?;
-    let before = *place;
-    *place = value;
+    let held = cache.get_mut(key)?;
+    let before = *held;
+    *held = value;
     Some(before)
 }
 

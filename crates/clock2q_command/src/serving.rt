@@ -98,13 +98,13 @@ fn send<W: Sink>(writer: &mut W, text: &[u8]) -> Result<(), ServeError>
 ///
 /// The first of these that applies:
 ///
-/// 1. `Read` where a read fails;
-/// 2. `BadLine` where a line isn't a command in its place;
-/// 3. `Capacity` where the cache would be too large;
-/// 4. `Policy` where its shares don't fit together;
-/// 5. `Write` where a write or the flush fails.
+/// 1. `Read` if a read fails;
+/// 2. `BadLine` if a line isn't a command in its place;
+/// 3. `Capacity` if the cache would be too large;
+/// 4. `Policy` if its shares don't fit together;
+/// 5. `Write` if a write or the flush fails.
 ///
-/// `Memory` comes where a request for memory is refused: while the input is read, or later if its
+/// `Memory` comes if a request for memory is refused: while the input is read, or later if its
 /// first two lines are good. After `Write` a beginning of the text may be written, and nothing
 /// after the others.
 ///

@@ -5,8 +5,8 @@ use Rattle.clock2q_command.proofs.serving.serve.Goals as goal
 pub returns-in_err-text-clause-err : goal.returns-in_err-text-clause-err
 returns-in_err-text-clause-err g c =
     let p = err_from_is_err_and c.from_residual.result c.from_residual.ensures.1 in
-    rw (p.1, p.2) (IsRefused-early _ _ _ _ _ _ _ _ c.in_err-text.field-0.0 c.in_err-text.ensures)
+    rw (p.1, p.2) (IsRefused-early _ _ c.in_err-text.field-0.0 c.in_err-text.ensures)
 
 pub returns-clause-err : goal.returns-clause-err
 returns-clause-err g c =
-    IsRefused-late _ _ _ _ _ _ _ _ c.in_ok-text.text.items c.send.result c.in_ok-text.ensures (rw c.deref.ensures.value at c.send.ensures)
+    IsRefused-late _ _ _ _ c.in_ok-text.text.items c.send.result c.in_ok-text.ensures (rw c.deref.ensures.value at c.send.ensures)
