@@ -119,36 +119,36 @@ fn one_refused(rt: HostRuntime) {
     }
 }
 
-/// What a reply tells of a run in which 1 is the only handle that is looked up.
+/// A reply of a run in which 1 is the only handle that is looked up.
 #[derive(Clone, Copy, Debug, PartialEq)]
-enum Told {
+enum Seen {
     Inserted,
-    // The handle 1 was inserted, since none was found.
+    /// The handle 1 was inserted, since none was found.
     New,
-    // The handle 1 was looked up.
+    /// The handle 1 was looked up.
     Held,
-    // Nothing was.
+    /// Nothing was.
     Absent,
     Refused,
     Other,
 }
 
-fn told_by<A: Allocator>(reply: &TableReply<u64, Vec<u64, A>>) -> Told {
+fn seen_in<A: Allocator>(reply: &TableReply<u64, Vec<u64, A>>) -> Seen {
     match reply {
-        TableReply::Done => Told::Inserted,
-        TableReply::Found(1, true) => Told::New,
-        TableReply::Handles(handles) if handles.as_slice() == [1].as_slice() => Told::Held,
-        TableReply::Handles(handles) if handles.is_empty() => Told::Absent,
-        TableReply::Refused(TableError::Memory) => Told::Refused,
-        _ => Told::Other,
+        TableReply::Done => Seen::Inserted,
+        TableReply::Found(1, true) => Seen::New,
+        TableReply::Handles(handles) if handles.as_slice() == [1].as_slice() => Seen::Held,
+        TableReply::Handles(handles) if handles.is_empty() => Seen::Absent,
+        TableReply::Refused(TableError::Memory) => Seen::Refused,
+        _ => Seen::Other,
     }
 }
 
-/// What the last three replies tell.
-fn told_of_three<A: Allocator>(replies: &[TableReply<u64, Vec<u64, A>>]) -> [Told; 3] {
+/// The last three replies.
+fn seen_of_three<A: Allocator>(replies: &[TableReply<u64, Vec<u64, A>>]) -> [Seen; 3] {
     match replies {
-        [.., first, second, third] => [told_by(first), told_by(second), told_by(third)],
-        _ => [Told::Other; 3],
+        [.., first, second, third] => [seen_in(first), seen_in(second), seen_in(third)],
+        _ => [Seen::Other; 3],
     }
 }
 
@@ -170,18 +170,18 @@ fn find_first(alloc: &Refusing<Global>) -> [Command<'_>; 3] {
     ]
 }
 
-/// What the last three commands are told by a table that is full when they come. Its slots for so
+/// The last three replies of a table that is full when their commands come. Its slots for so
 /// many entries are asked for first, if there are any, and then the list of replies. The first of the
 /// three asks for the two vectors of more slots. Where it is refused, the table is full still, and
 /// the next one asks. The list of the lookup comes last; it isn't asked for where there is nothing to
 /// look up.
-fn last_told<'a>(
+fn last_seen<'a>(
     alloc: &'a Refusing<Global>,
     entries: usize,
     commands: &[Command<'a>],
-) -> Result<[Told; 3], TableError> {
+) -> Result<[Seen; 3], TableError> {
     let replies = replies_of(alloc, entries, commands)?;
-    Ok(told_of_three(&replies))
+    Ok(seen_of_three(&replies))
 }
 
 #[test]
@@ -189,14 +189,14 @@ fn insertion_and_all_later_refused(rt: HostRuntime) {
     let alloc = Refusing::new(rt.alloc());
     for (granted, wanted) in [
         (0, Err(TableError::Memory)),
-        (1, Ok([Told::Refused, Told::Refused, Told::Absent])),
-        (2, Ok([Told::Refused, Told::Refused, Told::Absent])),
-        (3, Ok([Told::Inserted, Told::New, Told::Refused])),
-        (4, Ok([Told::Inserted, Told::New, Told::Held])),
+        (1, Ok([Seen::Refused, Seen::Refused, Seen::Absent])),
+        (2, Ok([Seen::Refused, Seen::Refused, Seen::Absent])),
+        (3, Ok([Seen::Inserted, Seen::New, Seen::Refused])),
+        (4, Ok([Seen::Inserted, Seen::New, Seen::Held])),
     ] {
         alloc.refuse_after(granted);
         assert_eq!(rt;
-            last_told(&alloc, 0, &insert_first(&alloc)),
+            last_seen(&alloc, 0, &insert_first(&alloc)),
             wanted,
             "{granted} granted"
         );
@@ -209,13 +209,13 @@ fn insertion_alone_refused(rt: HostRuntime) {
     let alloc = Refusing::new(rt.alloc());
     for (granted, wanted) in [
         (0, Err(TableError::Memory)),
-        (1, Ok([Told::Refused, Told::New, Told::Held])),
-        (2, Ok([Told::Refused, Told::New, Told::Held])),
-        (3, Ok([Told::Inserted, Told::New, Told::Held])),
+        (1, Ok([Seen::Refused, Seen::New, Seen::Held])),
+        (2, Ok([Seen::Refused, Seen::New, Seen::Held])),
+        (3, Ok([Seen::Inserted, Seen::New, Seen::Held])),
     ] {
         alloc.refuse_one_after(granted);
         assert_eq!(rt;
-            last_told(&alloc, 0, &insert_first(&alloc)),
+            last_seen(&alloc, 0, &insert_first(&alloc)),
             wanted,
             "{granted} granted"
         );
@@ -228,14 +228,14 @@ fn find_and_all_later_refused(rt: HostRuntime) {
     let alloc = Refusing::new(rt.alloc());
     for (granted, wanted) in [
         (0, Err(TableError::Memory)),
-        (1, Ok([Told::Refused, Told::Refused, Told::Absent])),
-        (2, Ok([Told::Refused, Told::Refused, Told::Absent])),
-        (3, Ok([Told::New, Told::Inserted, Told::Refused])),
-        (4, Ok([Told::New, Told::Inserted, Told::Held])),
+        (1, Ok([Seen::Refused, Seen::Refused, Seen::Absent])),
+        (2, Ok([Seen::Refused, Seen::Refused, Seen::Absent])),
+        (3, Ok([Seen::New, Seen::Inserted, Seen::Refused])),
+        (4, Ok([Seen::New, Seen::Inserted, Seen::Held])),
     ] {
         alloc.refuse_after(granted);
         assert_eq!(rt;
-            last_told(&alloc, 0, &find_first(&alloc)),
+            last_seen(&alloc, 0, &find_first(&alloc)),
             wanted,
             "{granted} granted"
         );
@@ -248,13 +248,13 @@ fn find_alone_refused(rt: HostRuntime) {
     let alloc = Refusing::new(rt.alloc());
     for (granted, wanted) in [
         (0, Err(TableError::Memory)),
-        (1, Ok([Told::Refused, Told::Inserted, Told::Absent])),
-        (2, Ok([Told::Refused, Told::Inserted, Told::Absent])),
-        (3, Ok([Told::New, Told::Inserted, Told::Held])),
+        (1, Ok([Seen::Refused, Seen::Inserted, Seen::Absent])),
+        (2, Ok([Seen::Refused, Seen::Inserted, Seen::Absent])),
+        (3, Ok([Seen::New, Seen::Inserted, Seen::Held])),
     ] {
         alloc.refuse_one_after(granted);
         assert_eq!(rt;
-            last_told(&alloc, 0, &find_first(&alloc)),
+            last_seen(&alloc, 0, &find_first(&alloc)),
             wanted,
             "{granted} granted"
         );
@@ -274,7 +274,7 @@ fn after_twelve<'a>(alloc: Global, three: [Command<'a>; 3]) -> Result<Vec<Comman
     Ok(commands)
 }
 
-const BOTH_REFUSED: [Told; 3] = [Told::Refused, Told::Refused, Told::Absent];
+const BOTH_REFUSED: [Seen; 3] = [Seen::Refused, Seen::Refused, Seen::Absent];
 
 /// A table made for twelve entries is full of them.
 #[test]
@@ -287,24 +287,24 @@ fn growths_and_all_later_refused(rt: HostRuntime) -> Result<(), Fail> {
         (4, BOTH_REFUSED, BOTH_REFUSED),
         (
             5,
-            [Told::Inserted, Told::New, Told::Refused],
-            [Told::New, Told::Inserted, Told::Refused],
+            [Seen::Inserted, Seen::New, Seen::Refused],
+            [Seen::New, Seen::Inserted, Seen::Refused],
         ),
         (
             6,
-            [Told::Inserted, Told::New, Told::Held],
-            [Told::New, Told::Inserted, Told::Held],
+            [Seen::Inserted, Seen::New, Seen::Held],
+            [Seen::New, Seen::Inserted, Seen::Held],
         ),
     ] {
         alloc.refuse_after(granted);
         assert_eq!(rt;
-            last_told(&alloc, 12, &inserting),
+            last_seen(&alloc, 12, &inserting),
             Ok(inserted),
             "{granted} granted"
         );
         alloc.refuse_after(granted);
         assert_eq!(rt;
-            last_told(&alloc, 12, &finding),
+            last_seen(&alloc, 12, &finding),
             Ok(found),
             "{granted} granted"
         );
@@ -321,29 +321,29 @@ fn growths_alone_refused(rt: HostRuntime) -> Result<(), Fail> {
     for (granted, inserted, found) in [
         (
             3,
-            [Told::Refused, Told::New, Told::Held],
-            [Told::Refused, Told::Inserted, Told::Absent],
+            [Seen::Refused, Seen::New, Seen::Held],
+            [Seen::Refused, Seen::Inserted, Seen::Absent],
         ),
         (
             4,
-            [Told::Refused, Told::New, Told::Held],
-            [Told::Refused, Told::Inserted, Told::Absent],
+            [Seen::Refused, Seen::New, Seen::Held],
+            [Seen::Refused, Seen::Inserted, Seen::Absent],
         ),
         (
             5,
-            [Told::Inserted, Told::New, Told::Held],
-            [Told::New, Told::Inserted, Told::Held],
+            [Seen::Inserted, Seen::New, Seen::Held],
+            [Seen::New, Seen::Inserted, Seen::Held],
         ),
     ] {
         alloc.refuse_one_after(granted);
         assert_eq!(rt;
-            last_told(&alloc, 12, &inserting),
+            last_seen(&alloc, 12, &inserting),
             Ok(inserted),
             "{granted} granted"
         );
         alloc.refuse_one_after(granted);
         assert_eq!(rt;
-            last_told(&alloc, 12, &finding),
+            last_seen(&alloc, 12, &finding),
             Ok(found),
             "{granted} granted"
         );
