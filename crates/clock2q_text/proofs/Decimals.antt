@@ -1,5 +1,5 @@
 -- The digits of a number, written from the last one.
-use Rattle.std.proofs.Common.{◌≡◌, ℕ, suc, ◌+◌, ◌-◌, ◌/◌, ◌%◌, ◌<◌, ◌≤◌, ◌^◌, cond, List, [], ◌∷◌, ◌++◌, length, take, drop, set, Result, Ok, Err, refl, sym, ap, ◌∙◌, subst, append_assoc, length-append, arith, rules}
+use Rattle.std.proofs.Common.{◌≡◌, ℕ, ◌+◌, ◌/◌, ◌%◌, ◌<◌, ◌≤◌, ◌^◌, cond, List, [], ◌∷◌, ◌++◌, length, drop, set, Result, Ok, Err, sym, ap, ◌∙◌, append_assoc, length-append, arith, rules}
 use Rattle.std.specs.Prelude.{decimal, OnOk, is_ok}
 use Rattle.std.proofs.lemmas.Fmt.{decimal_step, decimal_digit, decimal_nonempty}
 use Rattle.std.proofs.lemmas.List.{drop-set}

@@ -1,12 +1,12 @@
 -- The calls that a text spells are supplied with values.
-use Rattle.std.proofs.Common.{◌≡◌, ℕ, ◌+◌, Bool, true, false, cond, List, [], ◌∷◌, Option, Some, None, Result, Ok, Err, refl, sym, ap, ◌∙◌, subst, rules}
+use Rattle.std.proofs.Common.{◌≡◌, ℕ, ◌+◌, Bool, true, false, cond, List, [], ◌∷◌, Option, Some, None, Result, Ok, Err, subst}
 use Rattle.std.specs.Prelude.{codes, ⊤}
 use Rattle.std.specs.Option.{option_and_then, option_map, option_or}
 use Rattle.std.specs.Str.{bytes_eq}
 use Rattle.clock2q_machine.specs.Shares.{Shares}
 use Rattle.clock2q_machine.specs.Calls.{Call, Put, Get, Peek, Contains, GetAt, Set, With, Try, SlotFor, Remove, Retain, Clear, Prefill, Len, IsEmpty, Capacity}
 use Rattle.clock2q_text.specs.Commands.{IsSupplied, AreSupplied}
-use Rattle.clock2q_text.specs.Text.{Script, number_of, tried_of, bit_of, all_read, some_read, without, with_one, with_two, numbers_call, list_call, lone_call, call_named, call_in, words_of, lines_of, shares_in, calls_from, call_then, with_call, script_in, script_of, script_then, script_with}
+use Rattle.clock2q_text.specs.Text.{Script, number_of, tried_of, bit_of, all_read, some_read, without, with_one, with_two, numbers_call, list_call, lone_call, call_in, words_of, lines_of, shares_in, calls_from, call_then, script_in, script_of, script_then}
 
 -- a call, if there is one, is supplied
 abbrev Supplied : Option (Call ℕ ℕ) → Type 0

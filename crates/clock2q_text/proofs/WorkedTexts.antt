@@ -4,7 +4,7 @@ use Rattle.std.specs.List.{list_all, list_any}
 use Rattle.std.specs.Fmt.{digits}
 use Rattle.clock2q_machine.specs.Shares.{usual_shares}
 use Rattle.clock2q_machine.specs.Policies.{shares_of}
-use Rattle.clock2q_machine.specs.Calls.{Call, Put, Get, GetAt, Set, With, Try, SlotFor, Remove, Retain, Clear, Prefill, Len, Value, Slot, Stored, Tried, Flag, Number, Done}
+use Rattle.clock2q_machine.specs.Calls.{Put, Get, GetAt, Set, With, Try, SlotFor, Remove, Retain, Clear, Prefill, Len, Value, Slot, Stored, Tried, Flag, Number, Done}
 use Rattle.clock2q_text.specs.Text.{script_of, lines_of, words_of, number_of, call_in, shares_in, call_named, output_of, answer_lines}
 
 -- the lines of a text: the last may lack its end, and an empty one is a line

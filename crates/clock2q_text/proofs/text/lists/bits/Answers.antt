@@ -1,4 +1,4 @@
-use Rattle.std.proofs.Common.{◌≡◌, suc, ◌∷◌, length, drop, drop-cons, get_or, Some, None, [], sym, ap, ◌∙◌, arith, subst, false}
+use Rattle.std.proofs.Common.{◌≡◌, suc, ◌∷◌, length, drop, drop-cons, get_or, [], sym, ◌∙◌, subst}
 use Rattle.std.proofs.lemmas.Bool.{eqb-true, eqb-false}
 use Rattle.std.proofs.lemmas.List.{drop_all}
 use Rattle.clock2q_text.specs.Text.{bit_of}

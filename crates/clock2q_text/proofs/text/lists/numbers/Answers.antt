@@ -1,5 +1,4 @@
-use Rattle.std.proofs.Common.{◌≡◌, Some, None, sym, ap, ◌∙◌}
-use Rattle.clock2q_text.specs.Cut.{words_after}
+use Rattle.std.proofs.Common.{sym}
 use Rattle.clock2q_text.specs.Text.{words_of, number_of}
 use Rattle.clock2q_text.proofs.Listing.{IsReadUpTo, numbers-none, numbers-refused, numbers-all}
 use Rattle.clock2q_text.proofs.text.lists.numbers.Goals as goal

@@ -1,7 +1,6 @@
-use Rattle.std.proofs.Common.{◌≡◌, ◌∷◌, [], sym, ap, ◌∙◌}
-use Rattle.clock2q_text.specs.Commands.{call_of}
+use Rattle.std.proofs.Common.{◌∷◌, sym, ap, ◌∙◌}
 use Rattle.clock2q_text.specs.Cut.{words_after}
-use Rattle.clock2q_text.specs.Text.{words_of, call_in, lone_call}
+use Rattle.clock2q_text.specs.Text.{words_of, call_in}
 use Rattle.clock2q_text.proofs.Calling.{words_of-cut, words_are_some, call_in-alone, call_in-numbers, call_in-list}
 use Rattle.clock2q_text.proofs.text.names.command_of.Goals as goal
 
