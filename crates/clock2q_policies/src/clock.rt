@@ -9,7 +9,7 @@ const RESIDENT: u8 = 0;
 
 /// CLOCK, of 'A Paging Experiment with the Multics System' (1968): the hand goes round the keys in
 /// the order in which they came, clears the mark of each that was hit, and evicts the first one
-/// without a mark.
+/// without a mark. A key has no mark when it comes.
 #[derive(Drop)]
 pub(crate) struct Clock<A: Allocator> {
     capacity: usize,
