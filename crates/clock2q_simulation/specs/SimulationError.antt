@@ -1,5 +1,5 @@
 -- The status with which the program ends for each refusal, and what a cache that can't be had comes to.
-use Rattle.std.specs.Prelude.{ℕ}
+use Rattle.std.specs.Prelude.{ℕ, ◌≤◌}
 use Rattle.clock2q_cache.specs.declared.error.CacheError.{CacheError}
 use Rattle.clock2q_cache.specs.declared.error.CacheError.TheVariants as cache
 use Rattle.clock2q_simulation.specs.declared.error.SimulationError.{SimulationError}
@@ -20,3 +20,7 @@ abbrev pub of_cache : CacheError → ℕ → SimulationError
 of_cache cache.Capacity capacity = Capacity
 of_cache cache.Memory capacity = Memory
 of_cache cache.Policy capacity = Shares capacity
+
+-- no device failed: the status is not the one of a failed device
+abbrev pub IsOfNoDevice : SimulationError → Type 0
+IsOfNoDevice refusal = status_of refusal ≤ 3

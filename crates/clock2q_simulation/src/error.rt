@@ -126,9 +126,11 @@ impl SimulationError {
 }
 
 impl From<AllocError> for SimulationError {
-    fn from(_error: AllocError) -> SimulationError
-        ensures { result ≡ SimulationError.Memory }
-    {
+    ghost use Rattle.clock2q_simulation.specs.declared.error.SimulationError.TheVariants.{Memory};
+
+    ghost from_gives = { λ _ refusal. refusal ≡ Memory };
+
+    fn from(_error: AllocError) -> SimulationError {
         SimulationError::Memory
     }
 }

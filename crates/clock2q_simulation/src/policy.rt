@@ -1,7 +1,8 @@
 //! The policies that can be compared.
-ghost use Rattle.std.specs.Prelude.{IfOk};
+ghost use Rattle.std.specs.Prelude.{IfErr, IfOk};
 ghost use Rattle.std.specs.NonZero.{non_zero_usize_get};
 ghost use Rattle.clock2q_simulation.specs.Rows.{AreHits};
+ghost use Rattle.clock2q_simulation.specs.SimulationError.{IsOfNoDevice};
 
 use crate::clock::clock2q_hits;
 use crate::error::SimulationError;
@@ -121,6 +122,7 @@ pub fn policy_hits<A: Allocator + Copy>(
     trace: &Trace<A>,
 ) -> Result<usize, SimulationError>
     ensures hits { IfOk result (AreHits shares trace.now.numbers (non_zero_usize_get capacity) policy) }
+    ensures devices { IfErr result IsOfNoDevice }
 {
     let numbers = trace.numbers();
     let Ok(keys) = u32::try_from(trace.key_count()) else {

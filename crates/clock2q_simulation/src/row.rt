@@ -1,7 +1,8 @@
 //! What comes of one capacity.
-ghost use Rattle.std.specs.Prelude.{◌≡◌, IfOk};
+ghost use Rattle.std.specs.Prelude.{◌≡◌, IfErr, IfOk};
 ghost use Rattle.std.specs.NonZero.{non_zero_usize_get};
 ghost use Rattle.clock2q_simulation.specs.Rows.{AreHits, IsRow};
+ghost use Rattle.clock2q_simulation.specs.SimulationError.{IsOfNoDevice};
 
 use crate::error::SimulationError;
 use crate::policy::{Policy, policy_hits};
@@ -74,6 +75,7 @@ pub fn replay<A: Allocator + Copy>(
     trace: &Trace<A>,
 ) -> Result<Row<A>, SimulationError>
     ensures row { IfOk result (IsRow policies.now shares trace.now.numbers (non_zero_usize_get capacity)) }
+    ensures devices { IfErr result IsOfNoDevice }
 {
     let mut hits = Vec::new(alloc);
     for policy in policies {
@@ -96,6 +98,7 @@ fn hits_in<A: Allocator + Copy>(
 ) -> Result<Hits, SimulationError>
     ensures policy { IfOk result (λ h. h.policy ≡ policy) }
     ensures hits { IfOk result (λ h. AreHits shares trace.now.numbers (non_zero_usize_get capacity) h.policy h.hits) }
+    ensures devices { IfErr result IsOfNoDevice }
 {
     let hits = policy_hits(alloc, policy, capacity, shares, trace)?;
     Ok(Hits { policy, hits })

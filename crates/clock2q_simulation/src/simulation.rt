@@ -1,8 +1,9 @@
 //! The program's whole work: from a trace to a text.
-ghost use Rattle.std.specs.Prelude.{◌≡◌, ◌≢◌, ◌<◌, IfOk, IfErr, IsErrOf, OnOk};
+ghost use Rattle.std.specs.Prelude.{◌≡◌, ◌≢◌, ◌<◌, ◌↔◌, IfOk, IfErr, IsErrOf, OnOk};
 ghost use Rattle.std.specs.NonZero.{non_zero_usize_get};
 ghost use Rattle.clock2q_simulation.specs.Amounts.{keys_of};
 ghost use Rattle.clock2q_simulation.specs.Rows.{AreRows};
+ghost use Rattle.clock2q_simulation.specs.SimulationError.{IsOfNoDevice};
 ghost use Rattle.clock2q_simulation.specs.Simulated.{IsSimulated};
 
 use crate::amount::Amount;
@@ -45,9 +46,9 @@ pub fn simulate<R: Source, W: Sink, P: Write, A: Allocator + Copy>(
     ensures ok { OnOk result (IsSimulated (R.given reader.old) (R.given reader.new) (R.remaining reader.old) (R.remaining reader.new)
         (W.taken writer.old) (W.taken writer.new) (W.contents writer.old) (W.contents writer.new)) }
 
-    // A device that failed is always told.
-    ensures read { ((R.given reader.old).failures < (R.given reader.new).failures) → IsErrOf result SimulationError.Read }
-    ensures write { ((W.taken writer.old).failures < (W.taken writer.new).failures) → IsErrOf result SimulationError.Write }
+    // A device that failed is always told, and no other refusal is told so.
+    ensures read { ((R.given reader.old).failures < (R.given reader.new).failures) ↔ IsErrOf result SimulationError.Read }
+    ensures write { ((W.taken writer.old).failures < (W.taken writer.new).failures) ↔ IsErrOf result SimulationError.Write }
 
     // Nothing is written before any other refusal.
     ensures unwritten { IfErr result (λ refusal. (refusal ≢ SimulationError.Write) → writer.new ≡ writer.old) }
@@ -76,6 +77,7 @@ pub fn rows_of<P: Write, A: Allocator + Copy>(
     progress: &mut Progress<P>,
 ) -> Result<Vec<Row<A>, A>, SimulationError>
     ensures rows { IfOk result (λ rows. AreRows policies.now shares trace.now capacities.now rows.items) }
+    ensures devices { IfErr result IsOfNoDevice }
 {
     let mut rows = Vec::new(alloc);
     for asked in capacities {
@@ -96,6 +98,7 @@ fn keys_in<A: Allocator + Copy>(
     trace: &Trace<A>,
 ) -> Result<NonZeroUsize, SimulationError>
     ensures keys { IfOk result (λ keys. non_zero_usize_get keys ≡ keys_of capacity trace.now.different) }
+    ensures devices { IfErr result IsOfNoDevice }
 {
     match NonZeroUsize::new(capacity.of(trace.key_count())) {
         Some(keys) if keys.get() <= MAX_CAPACITY => Ok(keys),
@@ -109,7 +112,9 @@ fn text_of<P: Write, A: Allocator + Copy>(
     options: &Options<A>,
     trace: &Trace<A>,
     progress: &mut Progress<P>,
-) -> Result<String<A>, SimulationError> {
+) -> Result<String<A>, SimulationError>
+    ensures devices { IfErr result IsOfNoDevice }
+{
     let policies = options.policies.as_slice();
     let capacities = options.capacities.as_slice();
     let rows = rows_of(alloc, trace, capacities, policies, options.shares, progress)?;

@@ -1,4 +1,4 @@
-use Rattle.std.proofs.Common.{◌∙◌, ap, sym, subst, map}
+use Rattle.std.proofs.Common.{◌∙◌, ap, sym, subst, map, rules}
 use Rattle.std.specs.NonZero.{non_zero_usize_get}
 use Rattle.std.proofs.lemmas.List.{take_all}
 use Rattle.clock2q_simulation.specs.Amounts.{keys_of}
@@ -23,4 +23,5 @@ returns g c = record {
     capacities = c.loop-asked.invariant.capacities ∙ ap (map (λ amount. keys_of amount c.args.trace.now.different)) (take_all c.loop-asked.asked-index c.args.capacities.now c.loop-asked-test.false);
     each = c.loop-asked.invariant.each;
   };
+  devices = search rules;
 }
