@@ -73,16 +73,16 @@ pub enum SimulationError {
     #[error("clock2q-simulate: --policy: shares that don't fit a capacity of {0}")]
     Shares(usize),
     /// A capacity is above [`MAX_CAPACITY`](clock2q_cache::MAX_CAPACITY).
-    #[error("capacity refused")]
+    #[error("clock2q-simulate: a capacity above 16777215")]
     Capacity,
     /// A request for memory was refused, at whatever step.
-    #[error("no memory")]
+    #[error("clock2q-simulate: no memory")]
     Memory,
     /// The trace could not be read to its end.
-    #[error("read failed")]
+    #[error("clock2q-simulate: read failed")]
     Read,
     /// A beginning of the result, or all of it, may have been written.
-    #[error("write failed")]
+    #[error("clock2q-simulate: write failed")]
     Write,
 }
 

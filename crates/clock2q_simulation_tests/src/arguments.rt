@@ -72,7 +72,10 @@ fn refused_capacities(rt: HostRuntime) -> Result<(), Fail> {
     }
     for line in ["5 16777216", "1..16777216", "99999999999999999999999"] {
         let (text, status) = complaint_of(rt.alloc(), line)?;
-        assert_eq!(rt; text.as_str(), "capacity refused");
+        assert_eq!(rt;
+            text.as_str(),
+            "clock2q-simulate: a capacity above 16777215"
+        );
         assert_eq!(rt; status, 3);
     }
     Ok(())
