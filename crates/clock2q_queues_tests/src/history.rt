@@ -1,9 +1,7 @@
 //! The history beside a plain list of keys.
-ghost use Rattle.std.specs.Prelude.{◌≡◌, ◌%◌, ◌<◌, false, nat_eq};
-ghost use Rattle.std.specs.List.{AllByRecursion};
-ghost use Rattle.clock2q_queues.specs.History.{is_remembered};
+ghost use Rattle.std.specs.Prelude.{◌<◌};
 
-use clock2q_queues::history::History;
+use crate::beside::Beside;
 use std::alloc::Global;
 use std::process::Abort;
 use std::test::Fail;
@@ -14,62 +12,39 @@ fn mixed(x: u64) -> u64 {
     (y ^ (y >> 29)).wrapping_mul(0xBF58_476D_1CE4_E5B9)
 }
 
-/// Discards a key. A key's hash is its remainder.
-fn forget(history: &mut History<u64>, key: u64, hashes: u64) -> bool
-    requires some { 0 < hashes }
-    requires hashed { AllByRecursion (λ e. e.0 ≡ e.1 % hashes) history.old.entries }
-    ensures hashed { AllByRecursion (λ e. e.0 ≡ e.1 % hashes) history.new.entries }
-    ensures absent { is_remembered nat_eq key history.new.entries ≡ false }
-{
-    history.discard(key % hashes, &key)
-}
-
-/// Discards a key, and pushes it. Returns true if it was there.
-fn renew(history: &mut History<u64>, key: u64, hashes: u64) -> bool
-    requires some { 0 < hashes }
-    requires hashed { AllByRecursion (λ e. e.0 ≡ e.1 % hashes) history.old.entries }
-    ensures hashed { AllByRecursion (λ e. e.0 ≡ e.1 % hashes) history.new.entries }
-{
-    let known = forget(history, key, hashes);
-    history.push(key % hashes, key);
-    known
-}
-
 /// One call in 97 clears the history, one of three others discards the key, and the rest renew it.
-/// Returns true if the key was there, where it was asked.
-fn call(history: &mut History<u64>, key: u64, hashes: u64, drawn: u64) -> Option<bool>
-    requires some { 0 < hashes }
-    requires hashed { AllByRecursion (λ e. e.0 ≡ e.1 % hashes) history.old.entries }
-    ensures hashed { AllByRecursion (λ e. e.0 ≡ e.1 % hashes) history.new.entries }
-{
+/// Returns true twice if the key was there, and if it was found where it had just become resident;
+/// `None` if the history was cleared.
+fn call(beside: &mut Beside, key: u64, drawn: u64) -> Option<(bool, bool)> {
     if drawn % 97 == 0 {
-        history.clear();
+        beside.clear();
         return None;
     }
     if drawn % 3 == 0 {
-        return Some(forget(history, key, hashes));
+        return Some((beside.forget(key), true));
     }
-    Some(renew(history, key, hashes))
+    Some(beside.renew(key))
 }
 
 /// Two keys fit: a third one takes the place of the oldest.
 #[test]
 fn two_keys(rt: HostRuntime) -> Result<(), Fail> {
-    let mut history: History<u64> = History::new(rt.alloc(), 2)?;
-    assert!(rt; !renew(&mut history, 1, 100));
-    assert!(rt; !renew(&mut history, 5, 100));
-    assert!(rt; forget(&mut history, 1, 100));
-    assert!(rt; !renew(&mut history, 6, 100));
-    assert!(rt; !renew(&mut history, 7, 100));
-    assert_eq!(rt; history.len(), 2);
-    assert!(rt; forget(&mut history, 6, 100));
-    assert!(rt; !forget(&mut history, 5, 100));
-    assert!(rt; !renew(&mut history, 8, 100));
-    assert_eq!(rt; history.len(), 2);
-    history.clear();
-    assert_eq!(rt; history.len(), 0);
-    assert!(rt; !renew(&mut history, 8, 100));
-    assert_eq!(rt; history.len(), 1);
+    let mut beside = Beside::new(rt.alloc(), 2, 100)?;
+    assert_eq!(rt; beside.renew(1), (false, true));
+    assert_eq!(rt; beside.renew(5), (false, true));
+    assert!(rt; beside.forget(1));
+    assert_eq!(rt; beside.renew(6), (false, true));
+    assert_eq!(rt; beside.renew(7), (false, true));
+    assert_eq!(rt; beside.len(), 2);
+    assert!(rt; beside.forget(6));
+    assert!(rt; !beside.forget(5));
+    assert_eq!(rt; beside.renew(8), (false, true));
+    assert_eq!(rt; beside.renew(8), (true, true));
+    assert_eq!(rt; beside.len(), 2);
+    beside.clear();
+    assert_eq!(rt; beside.len(), 0);
+    assert_eq!(rt; beside.renew(8), (false, true));
+    assert_eq!(rt; beside.len(), 1);
     Ok(())
 }
 
@@ -79,7 +54,7 @@ fn beside_a_list(rt: &impl Abort, alloc: Global, limit: usize, hashes: u64) -> R
     requires few { limit < 10 }
     requires some { 0 < hashes }
 {
-    let mut history: History<u64> = History::new(alloc, limit)?;
+    let mut beside = Beside::new(alloc, limit, hashes)?;
     let mut list: Vec<u64> = Vec::new(alloc);
     for turn in 0..2000u64 {
         let drawn = mixed(turn.wrapping_add(hashes));
@@ -88,8 +63,8 @@ fn beside_a_list(rt: &impl Abort, alloc: Global, limit: usize, hashes: u64) -> R
         if let Some(at) = known {
             list.remove(at);
         }
-        if let Some(asked) = call(&mut history, key, hashes, drawn) {
-            assert_eq!(rt; asked, known.is_some(), "turn {turn}");
+        if let Some(asked) = call(&mut beside, key, drawn) {
+            assert_eq!(rt; asked, (known.is_some(), true), "turn {turn}");
         }
         if drawn % 97 == 0 {
             list.clear();
@@ -97,7 +72,7 @@ fn beside_a_list(rt: &impl Abort, alloc: Global, limit: usize, hashes: u64) -> R
             list.insert(0, key)?;
             list.truncate(limit);
         }
-        assert_eq!(rt; history.len(), list.len(), "turn {turn}");
+        assert_eq!(rt; beside.len(), list.len(), "turn {turn}");
     }
     Ok(())
 }

@@ -1,12 +1,14 @@
 //! Keys by place: what each call writes, moves out and counts.
-ghost use Rattle.std.specs.Prelude.{◌≡◌, ℕ, ◌+◌, ◌*◌, ◌^◌, ◌<◌, ◌≤◌, List, length, IfSome, nat_eq, true};
+ghost use Rattle.std.specs.Prelude.{◌≡◌, ℕ, ◌+◌, ◌^◌, ◌<◌, ◌≤◌, List, length, IfSome, nat_eq, true};
+ghost use Rattle.clock2q_handles.specs.Homes.{capacity};
 ghost use Rattle.clock2q_queues.specs.Keys.{is_key_at, with_value};
 ghost use Rattle.clock2q_queues.specs.Rings.{AllBelow};
 ghost use Rattle.clock2q_queues.specs.Indexes.{IsIndex};
 
 use clock2q_count::Count;
 use clock2q_handles::Table;
-use clock2q_queues::keys::{Keys, index_room};
+use clock2q_queues::index::index_room;
+use clock2q_queues::keys::Keys;
 use std::test::Fail;
 
 /// Writes a value through the reference that is lent.
@@ -45,11 +47,11 @@ fn two_keys(rt: HostRuntime) -> Result<(), Fail> {
 fn put(keys: &mut Keys<u64, ()>, index: &mut Table<u32>, hash: u64, key: u64)
     requires room { length keys.old.entries < keys.old.room }
     requires short { keys.old.room < 2 ^ 24 }
-    requires half { 2 * keys.old.room ≤ length index.old.homes }
+    requires spacious { keys.old.room ≤ capacity (length index.old.homes) }
     requires indexed { (places : List ℕ) × IsIndex index.old.homes keys.old.entries places × AllBelow (length keys.old.entries) places × (length places ≡ length keys.old.entries) }
     ensures room { keys.new.room ≡ keys.old.room }
     ensures len { length keys.new.entries ≡ length keys.old.entries + 1 }
-    ensures half { 2 * keys.new.room ≤ length index.new.homes }
+    ensures spacious { keys.new.room ≤ capacity (length index.new.homes) }
     ensures indexed { (places : List ℕ) × IsIndex index.new.homes keys.new.entries places × AllBelow (length keys.new.entries) places × (length places ≡ length keys.new.entries) }
 {
     let place = keys.len() as u32;
@@ -86,13 +88,13 @@ fn keys_of_one_hash(rt: HostRuntime) -> Result<(), Fail> {
     Ok(())
 }
 
-/// A small index is made for twice as many, and a large one for half as many again.
+/// A small index is made for three times as many entries, and a large one for no more.
 #[test]
 fn room_of_an_index(rt: HostRuntime) -> Result<(), Fail> {
     assert_eq!(rt; index_room(0), 0);
-    assert_eq!(rt; index_room(1), 2);
-    assert_eq!(rt; index_room(12_288), 24_576);
-    assert_eq!(rt; index_room(12_289), 18_433);
-    assert_eq!(rt; index_room(1_000_000), 1_500_000);
+    assert_eq!(rt; index_room(1), 3);
+    assert_eq!(rt; index_room(16_384), 49_152);
+    assert_eq!(rt; index_room(16_385), 16_385);
+    assert_eq!(rt; index_room(16_777_215), 16_777_215);
     Ok(())
 }

@@ -1,6 +1,7 @@
-//! Tests of `clock2q_queues` over its public calls.
+//! Tests of `clock2q_queues` over its public calls, and a history that other tests use too.
 #![tactic(auto)]
 
+pub mod beside;
 #[cfg(test)]
 mod history;
 #[cfg(test)]

@@ -1,6 +1,8 @@
-use Rattle.std.proofs.Common.{◌≡◌, ℕ, Bool, true, eqb, Option, Some, None, List}
+use Rattle.std.proofs.Common.{◌≡◌, ℕ, Bool, true, eqb, ltb, Option, Some, None, List, [], ◌∷◌, inl, inr}
 use Rattle.std.specs.Prelude.{IfSome}
-use Rattle.std.specs.List.{find}
+use Rattle.std.specs.List.{find, AllByRecursion}
+use Rattle.std.proofs.lemmas.Bool.{cases_Bool}
+use Rattle.clock2q_queues.specs.Index.{first_remembered, slots_among}
 use Rattle.clock2q_queues.specs.Keys.{is_key_at}
 use Rattle.clock2q_queues.proofs.Indexes.{candidates_there}
 use Rattle.clock2q_queues.proofs.Lookups.{found_there}
@@ -10,11 +12,18 @@ found_passes : (test : ℕ → Bool) (cs : List ℕ) (o : Option ℕ) → o ≡ 
 found_passes test cs None e = tt
 found_passes test cs (Some p) e = (found_there test cs p e).1
 
+all_slots : (P : ℕ → Type 0) (cs : List ℕ) → AllByRecursion P cs → AllByRecursion P (slots_among cs)
+all_slots P [] a = tt
+all_slots P (c ∷ cs) a = elim (cases_Bool (ltb c first_remembered)) [
+  | inl e ↦ rw e ((a.0, all_slots P cs a.1))
+  | inr e ↦ rw e (all_slots P cs a.1)
+]
+
 pub find_untold-found-requires : goal.find_untold-found-requires
-find_untold-found-requires c = record { used = rw c.get.ensures.candidates (candidates_there c.args.index.now.homes c.args.keys.now.entries c.requires.indexed.0 c.args.hash c.requires.indexed.1) }
+find_untold-found-requires c = record { used = rw c.get.ensures.candidates (all_slots _ _ (candidates_there c.args.index.now.homes c.args.keys.now.entries c.requires.indexed.0 c.args.hash c.requires.indexed.1)) }
 
 pub find-again-requires : goal.find-again-requires
-find-again-requires c = record { used = rw c.get-2.ensures.candidates (candidates_there c.args.index.now.homes c.args.keys.now.entries c.requires.indexed.0 c.args.hash c.requires.indexed.1) }
+find-again-requires c = record { used = rw c.get-2.ensures.candidates (all_slots _ _ (candidates_there c.args.index.now.homes c.args.keys.now.entries c.requires.indexed.0 c.args.hash c.requires.indexed.1)) }
 
 pub returns-clause-has : goal.returns-clause-has
-returns-clause-has c = found_passes (λ p. is_key_at eqb c.args.key c.args.keys.now.entries p) c.get.result.left c.find_untold-found.result c.find_untold-found.ensures.found
+returns-clause-has c = found_passes (λ p. is_key_at eqb c.args.key c.args.keys.now.entries p) (slots_among c.get.result.left) c.find_untold-found.result c.find_untold-found.ensures.found

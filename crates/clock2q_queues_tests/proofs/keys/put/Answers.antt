@@ -12,7 +12,7 @@ use Rattle.clock2q_queues.specs.Indexes.{IsIndex}
 use Rattle.clock2q_queues.proofs.Rings.{differs}
 use Rattle.clock2q_queues.proofs.Orders.{absent_below}
 use Rattle.clock2q_queues.proofs.Entries.{slice_get-written, slice_get-written_other, written-push}
-use Rattle.clock2q_queues.proofs.Indexes.{room_in, length-put, IsIndex-put}
+use Rattle.clock2q_queues.proofs.Indexes.{length-put, IsIndex-put}
 use Rattle.clock2q_queues_tests.proofs.keys.put.Goals as goal
 
 below_more : (n m : ℕ) (ps : List ℕ) → n ≤ m → AllBelow n ps → AllBelow m ps
@@ -47,10 +47,10 @@ indexed_more index index' keys ps hash key i below count some is =
 pub insert_within_capacity-requires : goal.insert_within_capacity-requires
 insert_within_capacity-requires c =
     let p = c.requires.indexed in
-    record { room = room_in _ c.args.keys.now.room _ (omega (arith, p.1.counted, p.3, c.requires.room)) c.requires.half }
+    record { room = omega (arith, p.1.counted, p.3, c.requires.room, c.requires.spacious) }
 
-pub returns-clause-half : goal.returns-clause-half
-returns-clause-half c =
+pub returns-clause-spacious : goal.returns-clause-spacious
+returns-clause-spacious c =
     let p = c.requires.indexed in
     let e = c.insert_within_capacity.ensures in
     let index' : c.insert_within_capacity.new.self.homes ≡ with_handle c.args.index.now.homes c.args.hash c.len-place.result =
@@ -58,7 +58,7 @@ returns-clause-half c =
     (e.few (omega (arith, p.1.counted, p.3, c.requires.room, c.requires.short))) in
     let slots = ap (λ (z : List (List (ℕ × ℕ))). length z) index' ∙ length-put c.args.index.now.homes c.args.hash c.len-place.result in
     let room = ap (λ (z : KeyPlaces ℕ Unit). z.room) c.push.ensures.pushed in
-    omega (arith, slots, room, c.requires.half)
+    omega (arith, slots, room, c.requires.spacious)
 
 pub returns-clause-indexed : goal.returns-clause-indexed
 returns-clause-indexed c =
@@ -67,7 +67,7 @@ returns-clause-indexed c =
     let index' : c.insert_within_capacity.new.self.homes ≡ with_handle c.args.index.now.homes c.args.hash c.len-place.result =
     done c.args.index.now.homes c.insert_within_capacity.new.self.homes c.args.hash c.len-place.result c.insert_within_capacity.result e.put
     (e.few (omega (arith, p.1.counted, p.3, c.requires.room, c.requires.short))) in
-    let some : 0 < length c.args.index.now.homes = omega (arith, c.requires.room, c.requires.half) in
+    let some : 0 < length c.args.index.now.homes = omega (arith, c.requires.room, c.requires.spacious) in
     rw c.push.ensures.pushed
     (indexed_more c.args.index.now.homes c.insert_within_capacity.new.self.homes c.args.keys.now.entries p.0 c.args.hash c.args.key p.1 p.2 p.3 some
     (index' ∙ ap (λ n. with_handle c.args.index.now.homes c.args.hash n) c.len-place.ensures.len))

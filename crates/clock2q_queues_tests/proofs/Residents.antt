@@ -1,0 +1,150 @@
+-- What each call of a history, with one slot beside it, leaves.
+use Rattle.std.proofs.Common.{◌≡◌, ℕ, ◌+◌, ◌*◌, ◌%◌, ◌^◌, ◌<◌, ◌≤◌, Bool, true, false, eqb, Option, Some, None, List, [], ◌∷◌, length, take, refl, sym, ap, ◌∙◌, subst, arith}
+use Rattle.std.specs.Prelude.{IfSome, if◌then◌else◌}
+use Rattle.std.specs.List.{find, AllByRecursion}
+use Rattle.std.proofs.lemmas.Bool.{both_ways}
+use Rattle.clock2q_handles.specs.Homes.{candidates, capacity, with_handle, removed, no_entries}
+use Rattle.clock2q_queues.specs.declared.keys.store.Entry.{Entry}
+use Rattle.clock2q_queues.specs.Index.{IndexState, index_state, index_for, is_shared, slots, entered, first_remembered}
+use Rattle.clock2q_queues.specs.Indexes.{IsIndex, is_named}
+use Rattle.clock2q_queues.specs.Keys.{KeyPlaces, key_places, entry, written, hash_at}
+use Rattle.clock2q_queues.specs.History.{Remembered, Places, HasRoom, remembered, places_with, most_beside, freed_place, pushed_places}
+use Rattle.clock2q_queues.specs.Rings.{has}
+use Rattle.clock2q_queues.proofs.Emptied.{for-new, new-none, emptied-slots, cleared_like, slots-cleared}
+use Rattle.clock2q_queues.proofs.Entries.{slice_get-written}
+use Rattle.clock2q_queues.proofs.Indexes.{length-put, length-taken, named-own, IsIndex-put, IsIndex-taken}
+use Rattle.clock2q_queues.proofs.Remembering.{slots-pushed, shared-pushed, slots-freed, shared-freed}
+use Rattle.clock2q_queues.proofs.Rings.{has_first}
+use Rattle.clock2q_queues.proofs.Views.{slots-entered}
+use Rattle.clock2q_queues_tests.specs.Beside.{HasSlots, IsAlone, HasResident}
+
+none_there : (cs : List ℕ) → ((p : ℕ) → has p cs ≡ false) → cs ≡ []
+none_there [] h = refl
+none_there (c ∷ cs) h = absurd (both_ways (has c (c ∷ cs)) (h c) (has_first c cs))
+
+none_some : (x : ℕ) → None ≡ Some x → ⊥
+none_some x e = cc
+
+-- the same slots in an index with as much room
+pub kept : {taken : List ℕ} {hashes : ℕ} {h h' : Remembered ℕ} {r r' : KeyPlaces ℕ (Unit {0})} → HasSlots taken hashes h r → AllByRecursion (λ e. e.0 ≡ e.1 % hashes) h'.entries
+    → slots h'.places.index ≡ slots h.places.index → most_beside h' ≡ most_beside h → r'.entries ≡ r.entries → r'.room ≡ r.room → HasSlots taken hashes h' r'
+kept {taken} {hashes} {h} {h'} {r} {r'} k hashed same beside keys room = record {
+  some = k.some;
+  hashed = hashed;
+  indexed = rw (same, keys) k.indexed;
+  room = rw (same, beside) k.room;
+  few = rw beside k.few;
+  writable = rw room k.writable;
+}
+
+module _ {hashes : ℕ} {h : Remembered ℕ} {r : KeyPlaces ℕ (Unit {0})} (k : IsAlone hashes h r) where
+  -- a lookup finds no slot
+  pub no_candidates : (x : ℕ) → candidates (slots h.places.index) x ≡ []
+  no_candidates x = none_there (candidates (slots h.places.index) x) (λ p. k.indexed.listed x p)
+
+  pub finds_none : (test : ℕ → Bool) (x : ℕ) (o : Option ℕ) → IfSome o (λ slot. find test (candidates (slots h.places.index) x) ≡ Some slot) → o ≡ None
+  finds_none test x None f = refl
+  finds_none test x (Some slot) f = absurd (none_some slot (ap (λ z. find test z) (sym (no_candidates x)) ∙ f))
+
+  -- one more fits
+  pub fits : HasRoom h
+  fits = record { room = omega (arith, k.indexed.counted, k.room); few = omega (arith, k.indexed.counted, k.few) }
+
+  -- a key is written to the first place, and takes slot 0
+  module _ (hash key : ℕ) (h' : Remembered ℕ) (r' : KeyPlaces ℕ (Unit {0})) (wrote : r'.entries ≡ written 0 (entry hash key tt) r.entries) (room : r'.room ≡ r.room)
+      (added : h' ≡ record h { places = record h.places { index = entered hash 0 h.places.index } }) where
+    now : slots h'.places.index ≡ with_handle (slots h.places.index) hash 0
+    now = ap (λ (z : Remembered ℕ). slots z.places.index) added ∙ slots-entered h.places.index hash 0 (omega arith)
+
+    as_many : length (slots h'.places.index) ≡ length (slots h.places.index)
+    as_many = ap (λ (z : List (List (ℕ × ℕ))). length z) now ∙ length-put (slots h.places.index) hash 0
+
+    stands : hash_at r'.entries 0 ≡ Some hash
+    stands = ap (λ (z : List (Entry ℕ (Unit {0}))). hash_at z 0) wrote ∙ ap (λ z. elim z [ None ↦ None | Some e ↦ Some e.hash ]) (slice_get-written 0 (entry hash key tt) r.entries (omega arith))
+
+    pub entered-resident : HasResident hash hashes h' r'
+    entered-resident = record {
+      taken = record {
+        some = k.some;
+        hashed = subst (λ z. AllByRecursion (λ e. e.0 ≡ e.1 % hashes) z) (sym (ap (λ (z : Remembered ℕ). z.entries) added)) k.hashed;
+        indexed = subst (λ z. IsIndex z r'.entries (0 ∷ [])) (sym now)
+            (IsIndex-put (slots h.places.index) r.entries r'.entries [] 0 hash k.indexed (omega (arith, k.room)) refl (λ q there. absurd (both_ways false refl there)) stands);
+        room = omega (arith, k.room, as_many, ap (λ (z : Remembered ℕ). most_beside z) added);
+        few = omega (arith, k.few, ap (λ (z : Remembered ℕ). most_beside z) added);
+        writable = omega (arith, k.writable, room);
+      };
+      at = stands;
+    }
+
+-- a lookup changes nothing but what was asked
+pub kept_resident : {hash hashes : ℕ} {h h' : Remembered ℕ} {r r' : KeyPlaces ℕ (Unit {0})} → HasResident hash hashes h r
+    → h' ≡ record h { questions = h'.questions } → r' ≡ record r { questions = r'.questions } → HasResident hash hashes h' r'
+kept_resident {hash} {hashes} {h} {h'} {r} {r'} k same keys =
+    let entries = ap (λ (z : KeyPlaces ℕ (Unit {0})). z.entries) keys in
+    record {
+      taken = kept k.taken (rw (ap (λ (z : Remembered ℕ). z.entries) same) k.taken.hashed) (ap (λ (z : Remembered ℕ). slots z.places.index) same)
+          (ap (λ (z : Remembered ℕ). most_beside z) same) entries (ap (λ (z : KeyPlaces ℕ (Unit {0})). z.room) keys);
+      at = ap (λ (z : List (Entry ℕ (Unit {0}))). hash_at z 0) entries ∙ k.at;
+    }
+
+module _ {hash hashes : ℕ} {h : Remembered ℕ} {r : KeyPlaces ℕ (Unit {0})} (k : HasResident hash hashes h r) where
+  -- the slot stands under the hash
+  pub held : has 0 (candidates (slots h.places.index) hash) ≡ true
+  held = k.taken.indexed.listed hash 0 ∙ named-own (slots h.places.index) r.entries hash 0 k.at
+
+  -- the resident leaves, and is remembered
+  module _ (h' : Remembered ℕ) (r' : KeyPlaces ℕ (Unit {0})) (oldest : ℕ) (hashed : AllByRecursion (λ e. e.0 ≡ e.1 % hashes) h'.entries)
+      (places : h'.places ≡ pushed_places h.limit hash 0 oldest h.places) (limit : h'.limit ≡ h.limit) (keys : r'.entries ≡ r.entries) (room : r'.room ≡ r.room) where
+    now_left : slots h'.places.index ≡ removed eqb (slots h.places.index) hash 0
+    now_left = ap (λ (z : Places). slots z.index) places ∙ slots-pushed h.limit hash 0 oldest h.places (omega arith)
+
+    as_many_left : length (slots h'.places.index) ≡ length (slots h.places.index)
+    as_many_left = ap (λ (z : List (List (ℕ × ℕ))). length z) now_left ∙ length-taken (slots h.places.index) hash 0
+
+    beside : most_beside h' ≡ most_beside h
+    beside =
+        let shared : is_shared h'.places.index ≡ is_shared h.places.index = ap (λ (z : Places). is_shared z.index) places ∙ shared-pushed h.limit hash 0 oldest h.places (omega arith) in
+        ap (λ b. if b then h'.limit else 0) shared ∙ ap (λ n. if is_shared h.places.index then n else 0) limit
+
+    pub left-alone : IsAlone hashes h' r'
+    left-alone = record {
+      some = k.taken.some;
+      hashed = hashed;
+      indexed = rw (now_left, keys) (IsIndex-taken (slots h.places.index) r.entries (0 ∷ []) 0 hash k.taken.indexed (omega (arith, k.taken.room)) (refl, tt) k.at);
+      room = omega (arith, k.taken.room, as_many_left, beside);
+      few = omega (arith, k.taken.few, beside);
+      writable = omega (arith, k.taken.writable, room);
+    }
+
+-- a new history has no key beside it
+pub new-alone : (limit hashes : ℕ) (h : Remembered ℕ) (r : KeyPlaces ℕ (Unit {0})) → 0 < hashes → limit < 2 ^ 24 → h ≡ remembered [] limit (places_with (index_for 1 limit) [] []) 0 0
+    → r ≡ key_places [] 1 0 0 → IsAlone hashes h r
+new-alone limit hashes h r some short made keys =
+    let n = new-none 1 limit (omega arith) (omega arith) (omega (arith, short)) in
+    let room = for-new 1 limit (omega arith) (omega arith) (omega (arith, short)) in
+    rw (made, keys) (record {
+      some = some;
+      hashed = tt;
+      indexed = rw n.2 (emptied-slots n.0 n.1 []);
+      room = omega (arith, room.slots);
+      few = omega (arith, room.few);
+      writable = omega arith;
+    })
+
+-- neither has one that was cleared
+pub cleared-alone : {hashes : ℕ} {h h' : Remembered ℕ} {r r' : KeyPlaces ℕ (Unit {0})} → IsAlone hashes h r
+    → h' ≡ record h { entries = []; places = places_with (index_state (no_entries (length h.places.index.shared)) (no_entries (length h.places.index.own))) [] [] }
+    → r' ≡ record r { entries = [] } → IsAlone hashes h' r'
+cleared-alone {hashes} {h} {h'} {r} {r'} k cleared keys =
+    let index = h.places.index in
+    let like = cleared_like index in
+    let beside : most_beside h' ≡ most_beside h = ap (λ (z : Remembered ℕ). most_beside z) cleared ∙ ap (λ b. if b then h.limit else 0) like.shared in
+    let as_many : length (slots h'.places.index) ≡ length (slots h.places.index) = ap (λ (z : Remembered ℕ). length (slots z.places.index)) cleared ∙ like.slots in
+    record {
+      some = k.some;
+      hashed = subst (λ z. AllByRecursion (λ e. e.0 ≡ e.1 % hashes) z) (sym (ap (λ (z : Remembered ℕ). z.entries) cleared)) tt;
+      indexed = subst (λ (z : Remembered ℕ). IsIndex (slots z.places.index) r'.entries []) (sym cleared) (emptied-slots (length index.shared) (length index.own) r'.entries);
+      room = omega (arith, k.room, as_many, beside);
+      few = omega (arith, k.few, beside);
+      writable = omega (arith, k.writable, ap (λ (z : KeyPlaces ℕ (Unit {0})). z.room) keys);
+    }
