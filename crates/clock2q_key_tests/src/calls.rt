@@ -14,8 +14,8 @@ pub(crate) const ALIKE: Spread = Spread { times: 0, more: 0 };
 
 pub(crate) type Counting<'a> = Cache<Counted<'a>, u64, Spread>;
 
-/// Makes a cache of two keys. Three were put, so 2 and 3 are resident, in this order under one hash,
-/// 3 in the slot that 1 had. 1 is remembered.
+/// Makes a cache of two keys. Three were put, so 2 and 3 are resident, 3 in the slot that 1 had. 1 is
+/// remembered, and stands before 2 and 3, in this order, under one hash.
 pub(crate) fn two_of_three<'a>(
     alloc: Global,
     spread: Spread,
@@ -47,19 +47,19 @@ pub(crate) enum Call {
     Remove,
 }
 
-/// The calls that insert no key and forget none.
-pub(crate) const LOOKUPS: [Call; 7] = [
+/// The calls that look among the residents alone.
+pub(crate) const LOOKUPS: [Call; 5] = [
     Call::Get,
     Call::GetMut,
     Call::Slot,
     Call::Peek,
     Call::Contains,
-    Call::TryFailing,
-    Call::TryMutFailing,
 ];
 
-/// The others, which look into the history too.
-pub(crate) const CHANGES: [Call; 6] = [
+/// The others, which look into the history too. Two of them insert no key and forget none.
+pub(crate) const CHANGES: [Call; 8] = [
+    Call::TryFailing,
+    Call::TryMutFailing,
     Call::Put,
     Call::With,
     Call::Try,

@@ -50,7 +50,7 @@ fn call_all<'a>(cache: &mut Counting<'a>, counts: &'a Counts) {
     }
 }
 
-/// Three keys are made for the cache, and nineteen for the calls with each id.
+/// Three keys are made for the cache, and twenty-one for the calls with each id.
 #[test]
 fn no_key_outlives_its_cache(rt: HostRuntime) -> Result<(), Fail> {
     let counts = Counts::new();
@@ -58,6 +58,6 @@ fn no_key_outlives_its_cache(rt: HostRuntime) -> Result<(), Fail> {
     call_all(&mut cache, &counts);
     cache.retain(|_, value| *value > 0);
     drop(cache);
-    dropped(&rt, &counts, (98, 0));
+    dropped(&rt, &counts, (108, 0));
     Ok(())
 }
