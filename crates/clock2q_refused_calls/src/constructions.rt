@@ -52,10 +52,10 @@ fn memo_by_hasher<A: Allocator + Copy>(
     Ok(memo.capacity())
 }
 
-/// A cache asks for eleven vectors: two of each index; the records, places and bits of Small and
-/// Main; the records and keys of the history; the residents' keys and values; the free slots. One
-/// that keeps no history asks for none of the history's four.
-const REQUESTS: [(usize, u64); 3] = [(20, 11), (2, 11), (1, 6)];
+/// A cache asks for nine vectors: two of the index; the records, places and bits of Small and Main;
+/// the records and keys of the history; the residents' keys and values; the free slots. One that
+/// keeps no history asks for none of the history's two, and one without Small for no places.
+const REQUESTS: [(usize, u64); 3] = [(20, 9), (2, 9), (1, 6)];
 
 #[test]
 fn new(rt: HostRuntime) -> Result<(), Fail> {
@@ -95,7 +95,7 @@ fn with_hasher(rt: HostRuntime) -> Result<(), Fail> {
 fn with_policy(rt: HostRuntime) -> Result<(), Fail> {
     let wanted = NonZeroUsize::new(20).ok_or("not zero")?;
     // Without Small there are no window places.
-    for (small, requests) in [(19, 11), (1, 11), (0, 10)] {
+    for (small, requests) in [(19, 9), (1, 9), (0, 8)] {
         let alloc = Refusing::new(rt.alloc());
         let tried = try_in_turn(
             &alloc,
