@@ -1,10 +1,9 @@
 //! Queues and histories whose requests for memory are refused.
-ghost use Rattle.std.specs.Prelude.{◌≡◌, ◌%◌, false, [], nat_eq};
-ghost use Rattle.std.specs.List.{AllByRecursion};
-ghost use Rattle.clock2q_queues.specs.History.{is_remembered};
+ghost use Rattle.std.specs.Prelude.{◌≡◌, []};
 
 use clock2q_queues::history::History;
 use clock2q_queues::queues::Queues;
+use clock2q_queues_tests::beside::Beside;
 use clock2q_refusing::Refusing;
 use std::alloc::Global;
 use std::test::Fail;
@@ -36,27 +35,30 @@ fn queues(rt: HostRuntime) -> Result<(), Fail> {
     Ok(())
 }
 
-/// The two vectors of the index, the records of the order, and the keys.
+/// The two vectors of the index, the records of the order, and the keys. A history for no keys asks
+/// for the index alone, which has the residents.
 #[test]
 fn histories(rt: HostRuntime) -> Result<(), Fail> {
-    let alloc = Refusing::new(rt.alloc());
-    let mut enough = 0;
-    for granted in 0..MANY {
-        alloc.refuse_after(granted);
-        let made: Result<History<u64, &Refusing<Global>>, _> = History::new(&alloc, 7);
-        if made.is_ok() {
-            enough = granted;
-            break;
+    for (limit, requests) in [(7, 4), (0, 2)] {
+        let alloc = Refusing::new(rt.alloc());
+        let mut enough = 0;
+        for granted in 0..MANY {
+            alloc.refuse_after(granted);
+            let made: Result<History<u64, &Refusing<Global>>, _> = History::new(&alloc, 5, limit);
+            if made.is_ok() {
+                enough = granted;
+                break;
+            }
+            assert_eq!(rt; alloc.held(), 0, "{granted} granted");
         }
-        assert_eq!(rt; alloc.held(), 0, "{granted} granted");
+        assert_eq!(rt; enough, requests);
+        alloc.grant();
+        let made: History<u64, &Refusing<Global>> = History::new(&alloc, 5, limit)?;
+        assert_eq!(rt; made.len(), 0);
+        assert_ne!(rt; alloc.held(), 0);
+        drop(made);
+        assert_eq!(rt; alloc.held(), 0);
     }
-    assert_eq!(rt; enough, 4);
-    alloc.grant();
-    let made: History<u64, &Refusing<Global>> = History::new(&alloc, 7)?;
-    assert_eq!(rt; made.len(), 0);
-    assert_ne!(rt; alloc.held(), 0);
-    drop(made);
-    assert_eq!(rt; alloc.held(), 0);
     Ok(())
 }
 
@@ -97,44 +99,25 @@ fn queues_ask_for_nothing_more(rt: HostRuntime) -> Result<(), Fail> {
     Ok(())
 }
 
-/// Discards a key. A key's hash is its remainder by 3.
-fn forget(history: &mut History<u64, &Refusing<Global>>, key: u64) -> bool
-    requires { AllByRecursion (λ e. e.0 ≡ e.1 % 3) history.old.entries }
-    ensures hashed { AllByRecursion (λ e. e.0 ≡ e.1 % 3) history.new.entries }
-    ensures absent { is_remembered nat_eq key history.new.entries ≡ false }
-{
-    history.discard(key % 3, &key)
-}
-
-/// Discards a key, and pushes it. Returns true if it was there.
-fn renew(history: &mut History<u64, &Refusing<Global>>, key: u64) -> bool
-    requires { AllByRecursion (λ e. e.0 ≡ e.1 % 3) history.old.entries }
-    ensures { AllByRecursion (λ e. e.0 ≡ e.1 % 3) history.new.entries }
-{
-    let known = forget(history, key);
-    history.push(key % 3, key);
-    known
-}
-
-/// More keys than fit, of which each has the hash of others.
+/// More keys than fit, each of which has the hash of others.
 #[test]
 fn histories_ask_for_nothing_more(rt: HostRuntime) -> Result<(), Fail> {
     let alloc = Refusing::new(rt.alloc());
-    let mut history: History<u64, &Refusing<Global>> = History::new(&alloc, 7)?;
+    let mut beside = Beside::new(&alloc, 7, 3)?;
     let asked = alloc.requests();
     let held = alloc.held();
     alloc.refuse_after(0);
     for key in 0..20 {
-        assert!(rt; !renew(&mut history, key), "{key}");
+        assert_eq!(rt; beside.renew(key), (false, true), "{key}");
     }
-    assert_eq!(rt; history.len(), 7);
-    assert!(rt; forget(&mut history, 15));
-    assert!(rt; !forget(&mut history, 12));
-    assert!(rt; renew(&mut history, 13));
-    assert_eq!(rt; history.len(), 6);
-    history.clear();
-    assert!(rt; !renew(&mut history, 13));
-    assert_eq!(rt; history.len(), 1);
+    assert_eq!(rt; beside.len(), 7);
+    assert!(rt; beside.forget(15));
+    assert!(rt; !beside.forget(12));
+    assert_eq!(rt; beside.renew(13), (true, true));
+    assert_eq!(rt; beside.len(), 6);
+    beside.clear();
+    assert_eq!(rt; beside.renew(13), (false, true));
+    assert_eq!(rt; beside.len(), 1);
     assert_eq!(rt; alloc.requests(), asked);
     assert_eq!(rt; alloc.held(), held);
     Ok(())
