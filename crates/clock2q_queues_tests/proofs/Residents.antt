@@ -1,21 +1,21 @@
 -- What each call of a history, with one slot beside it, leaves.
-use Rattle.std.proofs.Common.{◌≡◌, ℕ, ◌+◌, ◌*◌, ◌%◌, ◌^◌, ◌<◌, ◌≤◌, Bool, true, false, eqb, Option, Some, None, List, [], ◌∷◌, length, take, refl, sym, ap, ◌∙◌, subst, arith}
+use Rattle.std.proofs.Common.{◌≡◌, ℕ, ◌%◌, ◌^◌, ◌<◌, Bool, true, false, eqb, Option, Some, None, List, [], ◌∷◌, length, refl, sym, ap, ◌∙◌, subst, arith}
 use Rattle.std.specs.Prelude.{IfSome, if◌then◌else◌}
 use Rattle.std.specs.List.{find, AllByRecursion}
 use Rattle.std.proofs.lemmas.Bool.{both_ways}
-use Rattle.clock2q_handles.specs.Homes.{candidates, capacity, with_handle, removed, no_entries}
+use Rattle.clock2q_handles.specs.Homes.{candidates, with_handle, removed, no_entries}
 use Rattle.clock2q_queues.specs.declared.keys.store.Entry.{Entry}
-use Rattle.clock2q_queues.specs.Index.{IndexState, index_state, index_for, is_shared, slots, entered, first_remembered}
-use Rattle.clock2q_queues.specs.Indexes.{IsIndex, is_named}
+use Rattle.clock2q_queues.specs.Index.{index_state, index_for, is_shared, slots, entered, left}
+use Rattle.clock2q_queues.specs.Indexes.{IsIndex}
 use Rattle.clock2q_queues.specs.Keys.{KeyPlaces, key_places, entry, written, hash_at}
-use Rattle.clock2q_queues.specs.History.{Remembered, Places, HasRoom, remembered, places_with, most_beside, freed_place, pushed_places}
+use Rattle.clock2q_queues.specs.History.{Remembered, Places, HasRoom, remembered, places_with, most_beside, pushed_places}
 use Rattle.clock2q_queues.specs.Rings.{has}
-use Rattle.clock2q_queues.proofs.Emptied.{for-new, new-none, emptied-slots, cleared_like, slots-cleared}
+use Rattle.clock2q_queues.proofs.Emptied.{for-new, new-none, emptied-slots, cleared_like}
 use Rattle.clock2q_queues.proofs.Entries.{slice_get-written}
 use Rattle.clock2q_queues.proofs.Indexes.{length-put, length-taken, named-own, IsIndex-put, IsIndex-taken}
-use Rattle.clock2q_queues.proofs.Remembering.{slots-pushed, shared-pushed, slots-freed, shared-freed}
+use Rattle.clock2q_queues.proofs.Remembering.{slots-pushed, shared-pushed}
 use Rattle.clock2q_queues.proofs.Rings.{has_first}
-use Rattle.clock2q_queues.proofs.Views.{slots-entered}
+use Rattle.clock2q_queues.proofs.Views.{slots-entered, slots-left}
 use Rattle.clock2q_queues_tests.specs.Beside.{HasSlots, IsAlone, HasResident}
 
 none_there : (cs : List ℕ) → ((p : ℕ) → has p cs ≡ false) → cs ≡ []
@@ -115,6 +115,23 @@ module _ {hash hashes : ℕ} {h : Remembered ℕ} {r : KeyPlaces ℕ (Unit {0})}
       few = omega (arith, k.taken.few, beside);
       writable = omega (arith, k.taken.writable, room);
     }
+
+  -- the resident leaves, and is not remembered
+  pub withdrawn-alone : (h' : Remembered ℕ) → h' ≡ record h { places = record h.places { index = left hash 0 h.places.index } } → IsAlone hashes h' r
+  withdrawn-alone h' is =
+      let slots_now : slots h'.places.index ≡ removed eqb (slots h.places.index) hash 0 =
+      ap (λ (z : Remembered ℕ). slots z.places.index) is ∙ slots-left h.places.index hash 0 (omega arith) in
+      let count : length (slots h'.places.index) ≡ length (slots h.places.index) =
+      ap (λ (z : List (List (ℕ × ℕ))). length z) slots_now ∙ length-taken (slots h.places.index) hash 0 in
+      let same : most_beside h' ≡ most_beside h = ap (λ (z : Remembered ℕ). most_beside z) is in
+      record {
+        some = k.taken.some;
+        hashed = subst (λ z. AllByRecursion (λ e. e.0 ≡ e.1 % hashes) z) (sym (ap (λ (z : Remembered ℕ). z.entries) is)) k.taken.hashed;
+        indexed = rw slots_now (IsIndex-taken (slots h.places.index) r.entries (0 ∷ []) 0 hash k.taken.indexed (omega (arith, k.taken.room)) (refl, tt) k.at);
+        room = omega (arith, k.taken.room, count, same);
+        few = omega (arith, k.taken.few, same);
+        writable = k.taken.writable;
+      }
 
 -- a new history has no key beside it
 pub new-alone : (limit hashes : ℕ) (h : Remembered ℕ) (r : KeyPlaces ℕ (Unit {0})) → 0 < hashes → limit < 2 ^ 24 → h ≡ remembered [] limit (places_with (index_for 1 limit) [] []) 0 0

@@ -65,6 +65,15 @@ impl<A: Allocator> Beside<A> {
         (known, matches!(found, Found::Resident(0)))
     }
 
+    /// Discards a key, gives it the slot, and takes it away again without remembering the key. Tells
+    /// whether it was remembered.
+    pub fn pass(&mut self, key: u64) -> bool {
+        let known = forget(&mut self.history, &mut self.residents, key, self.hashes);
+        enter(&mut self.history, &mut self.residents, key, self.hashes);
+        withdraw(&mut self.history, &self.residents, key, self.hashes);
+        known
+    }
+
     /// Forgets every key.
     pub fn clear(&mut self) {
         self.history.clear();
@@ -119,4 +128,17 @@ fn leave<A: Allocator>(
     let found = history.look(hash, &key, residents);
     history.push(hash, 0, key);
     found
+}
+
+/// Takes the slot away from the resident.
+fn withdraw<A: Allocator>(
+    history: &mut History<u64, A>,
+    residents: &Keys<u64, (), A>,
+    key: u64,
+    hashes: u64,
+)
+    requires resident { HasResident (key % hashes) hashes history.old residents.now }
+    ensures alone { IsAlone hashes history.new residents.now }
+{
+    history.remove(key % hashes, 0);
 }

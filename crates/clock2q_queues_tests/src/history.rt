@@ -12,13 +12,16 @@ fn mixed(x: u64) -> u64 {
     (y ^ (y >> 29)).wrapping_mul(0xBF58_476D_1CE4_E5B9)
 }
 
-/// One call in 97 clears the history, one of three others discards the key, and the rest renew it.
-/// Returns true twice if the key was there, and if it was found where it had just become resident;
-/// `None` if the history was cleared.
+/// One call in 97 clears the history, one of three others discards the key, half of which make it
+/// resident for a while too, and the rest renew it. Returns true twice if the key was there, and if
+/// it was found where it had just become resident; `None` if the history was cleared.
 fn call(beside: &mut Beside, key: u64, drawn: u64) -> Option<(bool, bool)> {
     if drawn % 97 == 0 {
         beside.clear();
         return None;
+    }
+    if drawn % 6 == 0 {
+        return Some((beside.pass(key), true));
     }
     if drawn % 3 == 0 {
         return Some((beside.forget(key), true));
@@ -36,7 +39,8 @@ fn two_keys(rt: HostRuntime) -> Result<(), Fail> {
     assert_eq!(rt; beside.renew(6), (false, true));
     assert_eq!(rt; beside.renew(7), (false, true));
     assert_eq!(rt; beside.len(), 2);
-    assert!(rt; beside.forget(6));
+    assert!(rt; beside.pass(6));
+    assert!(rt; !beside.forget(6));
     assert!(rt; !beside.forget(5));
     assert_eq!(rt; beside.renew(8), (false, true));
     assert_eq!(rt; beside.renew(8), (true, true));

@@ -1,4 +1,4 @@
-use Rattle.std.proofs.Common.{◌≡◌, ℕ, ◌%◌, ap, arith}
+use Rattle.std.proofs.Common.{ℕ, ◌%◌, ap, arith}
 use Rattle.clock2q_queues.specs.Keys.{KeyPlaces}
 use Rattle.clock2q_queues.specs.History.{Remembered}
 use Rattle.clock2q_queues_tests.proofs.Residents.{fits, entered-resident}

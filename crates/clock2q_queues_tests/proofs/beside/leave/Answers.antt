@@ -1,7 +1,6 @@
-use Rattle.std.proofs.Common.{◌≡◌, ℕ, ◌%◌, ◌∷◌, ap, ◌∙◌, refl, arith}
+use Rattle.std.proofs.Common.{◌≡◌, ℕ, ◌%◌, ◌∷◌, ap, refl, arith}
 use Rattle.std.specs.List.{AllByRecursion}
 use Rattle.clock2q_queues.specs.Index.{slots}
-use Rattle.clock2q_queues.specs.Keys.{KeyPlaces}
 use Rattle.clock2q_queues.specs.History.{Remembered}
 use Rattle.clock2q_queues.proofs.Hashed.{has_hash, all-take}
 use Rattle.clock2q_queues.proofs.Indexes.{candidates_there}
