@@ -1,10 +1,11 @@
-//! Requests for memory refused in turn, from the arguments to the text.
+//! Requests for memory refused in turn, while the arguments are fetched and from them to the text.
 
 use crate::arguments::words_of;
 use clock2q_refusing::{Refusing, Tried, try_in_turn};
 use clock2q_simulation::{Progress, SimulationError, parse_options, simulate};
 use clock2q_text::Device;
 use std::alloc::{Allocator, Global};
+use std::env;
 use std::test::Fail;
 
 const TRACE: &[u8] = b"a\nb\na\nc\nb\nd\na\nb\n";
@@ -30,6 +31,25 @@ fn written<A: Allocator + Copy>(
         Err(refusal) if bytes == 0 => Err(refusal),
         _ => Ok(bytes),
     }
+}
+
+/// Returns true if this program has arguments, of which its name is one.
+fn has_arguments<A: Allocator>(rt: &HostRuntime, alloc: &A) -> Result<bool, SimulationError> {
+    match env::args(&(rt, alloc)) {
+        Ok(arguments) => Ok(arguments.len() > 0),
+        Err(error) => Err(SimulationError::of_arguments(&error)),
+    }
+}
+
+/// Each request that fetching the arguments makes, as `main` fetches them.
+#[test]
+fn arguments_fetched(rt: HostRuntime) -> Result<(), Fail> {
+    let alloc = Refusing::new(rt.alloc());
+    let tried = try_in_turn(&alloc, true, SimulationError::Memory, || {
+        has_arguments(&rt, &alloc)
+    });
+    assert!(rt; matches!(tried, Tried::Done(_)), "{tried:?}");
+    Ok(())
 }
 
 /// Each form with all policies, over capacities of each kind.
