@@ -1,17 +1,20 @@
 -- What a lookup among residents and remembered keys finds, and how often it asks.
-use Rattle.std.proofs.Common.{◌≡◌, ℕ, ◌+◌, ◌-◌, ◌<◌, ◌≤◌, Bool, true, false, ltb, Some, None, List, [], ◌∷◌, length, inl, inr, refl, sym, ap, ◌∙◌, subst, arith}
+use Rattle.std.proofs.Common.{◌≡◌, ℕ, ◌+◌, ◌-◌, ◌<◌, ◌≤◌, Bool, true, false, ltb, Some, None, List, [], ◌∷◌, length, map, inl, inr, refl, sym, ap, ◌∙◌, subst, arith}
 use Rattle.std.specs.Prelude.{IfSome}
 use Rattle.std.specs.List.{find, AllByRecursion}
+use Rattle.std.specs.Cmp.{IsEquivalence}
 use Rattle.std.proofs.lemmas.Bool.{cases_Bool, lt-ltb, le-ltb, ltb-true, ltb-false}
 use Rattle.clock2q_queues.specs.declared.history.Found.{Found}
 use Rattle.clock2q_handles.specs.Homes.{candidates}
 use Rattle.clock2q_queues.specs.Index as known
 use Rattle.clock2q_queues.specs.Index.{IndexState, first_remembered, is_shared, slots_among, places_among}
 use Rattle.clock2q_queues.specs.Order.{PlaceOrder}
-use Rattle.clock2q_queues.specs.Keys.{KeyPlaces}
-use Rattle.clock2q_queues.specs.History.{IsHistory, found_slot, found_place, first_known}
+use Rattle.clock2q_queues.specs.Keys.{KeyPlaces, entries_of, is_key_at}
+use Rattle.clock2q_queues.specs.Indexes.{HasHash}
+use Rattle.clock2q_queues.specs.History.{Remembered, IsHistory, remembered, places_from, accesses_of, place_of, found_slot, found_place, first_known}
 use Rattle.clock2q_queues.proofs.Indexes.{candidates_there}
-use Rattle.clock2q_queues.proofs.Views.{candidates-places, candidates-own}
+use Rattle.clock2q_queues.proofs.Views.{candidates-slots, candidates-places, candidates-own}
+use Rattle.clock2q_queues.proofs.Forgetting.{placed}
 
 module _ (h : ℕ) (hs : List ℕ) where
   slots-first : h < first_remembered → slots_among (h ∷ hs) ≡ h ∷ slots_among hs
@@ -138,6 +141,24 @@ module _ (a b : ℕ → Bool) where
         omega (arith, on.asked_most),
         omega (arith, on.questions_most, ap (λ (z : List ℕ). length z) places_still),
       )
+
+-- what a history shows of its index under a hash, and of a key's place
+module _ {K V : Type 0} (index : IndexState) (order : PlaceOrder) (keys : KeyPlaces K V) {s : Remembered K}
+    (is : remembered (entries_of keys.entries order.places) order.limit (places_from index order) (accesses_of order keys) keys.questions ≡ s) (x : ℕ) where
+  pub slots-shown : {handles : List ℕ} → handles ≡ candidates index.shared x → slots_among handles ≡ candidates (known.slots s.places.index) x
+  slots-shown at = ap slots_among at ∙ sym (candidates-slots index x) ∙ ap (λ (z : Remembered K). candidates (known.slots z.places.index) x) is
+
+  pub places-shown : length (candidates (known.places index) x) ≡ length (candidates (known.places s.places.index) x)
+  places-shown = ap (λ (z : Remembered K). length (candidates (known.places z.places.index) x)) is
+
+  pub questions-shown : keys.questions ≡ s.questions
+  questions-shown = ap (λ (z : Remembered K). z.questions) is
+
+  pub place-shown : {eq : K → K → Bool} → IsEquivalence eq → IsHistory eq index order keys → (key : K) → HasHash eq x key s.entries
+      → place_of (eq key) (map (λ e. e.1) s.entries) s.places.taken ≡ find (is_key_at eq key keys.entries) (candidates (known.places index) x)
+  place-shown {eq} laws h key hash =
+      sym (ap (λ (z : Remembered K). place_of (eq key) (map (λ e. e.1) z.entries) z.places.taken) is)
+      ∙ placed eq laws x key index order keys h (rw (← is) at hash)
 
 -- what a history's index has under a hash
 module _ {K V : Type 0} {eq : K → K → Bool} {index : IndexState} {order : PlaceOrder} {keys : KeyPlaces K V} (h : IsHistory eq index order keys) (x : ℕ) where

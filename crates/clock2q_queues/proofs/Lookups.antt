@@ -85,6 +85,9 @@ questions-most test (c ∷ cs) = elim (cases_Bool (test c)) [
   | inr h ↦ rw h (omega (arith, questions-most test cs))
 ]
 
+pub questions-within : (test : ℕ → Bool) {places all : List ℕ} (n : ℕ) → places ≡ all → length all ≡ n → questions_of test places ≤ n
+questions-within test {places} n same is = omega (arith, questions-most test places, ap (λ (z : List ℕ). length z) same, is)
+
 -- none of the places asked so far has the key
 pub record Asked (test : ℕ → Bool) (n bound : ℕ) (all : List ℕ) (asked : ℕ) (left : List ℕ) : Type 0 where
   pub found : find test all ≡ find test left

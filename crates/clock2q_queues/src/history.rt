@@ -8,7 +8,7 @@ ghost use Rattle.clock2q_queues.specs.Order.{IsWholeOrder, used};
 ghost use Rattle.clock2q_queues.specs.Keys.{is_key_at};
 ghost use Rattle.clock2q_queues.specs.Indexes.{IsIndex, HasHash};
 ghost use Rattle.clock2q_queues.specs.Index as known;
-ghost use Rattle.clock2q_queues.specs.Index.{index_state, index_for, entered, left, slots_among, places_among};
+ghost use Rattle.clock2q_queues.specs.Index.{index_state, index_for, is_shared, entered, left, slots_among, places_among};
 ghost use Rattle.clock2q_queues.specs.History.{IsWholeHistory, MakesPlace, HasRoom, places_with, pushed_places, freed_place, place_of, oldest_hash, remembered, is_remembered, forgotten, found_slot, found_place, first_known};
 
 mod order;
@@ -139,10 +139,39 @@ impl<K: Eq, A: Allocator> History<K, A> {
         if self.index.is_shared() {
             return look_among(self.index.handles(hash), key, residents, &mut self.keys);
         }
+        self.look_apart(hash, key, residents)
+    }
+
+    /// Returns the place of a remembered key. Slots of residents are passed unasked.
+    pub fn find(&mut self, hash: u64, key: &K) -> Option<u32>
+        requires hash { HasHash K.eq hash key.now self.old.entries }
+        ensures place { result ≡ place_of (K.eq key.now) (map (λ e. e.1) self.old.entries) self.old.places.taken }
+        ensures kept { self.new ≡ record self.old { questions = self.new.questions } }
+        ensures questions { Rises 0 (length (candidates (known.places self.old.places.index) hash)) self.old.questions self.new.questions }
+    {
+        if self.index.is_shared() {
+            return self.keys.find_remembered(self.index.handles(hash), key);
+        }
+        self.keys.find(self.index.own_places(hash), key)
+    }
+
+    /// Looks a key up as `look` does, where the places have a table of their own.
+    fn look_apart<V>(&mut self, hash: u64, key: &K, residents: &mut Keys<K, V, A>) -> Found
+        requires apart { is_shared self.old.places.index ≡ false }
+        requires hash { HasHash K.eq hash key.now self.old.entries }
+        requires used { AllByRecursion (λ slot. slot < length residents.old.entries) (candidates (known.slots self.old.places.index) hash) }
+        ensures slot { IfSome (found_slot result) (λ slot. find (is_key_at K.eq key.now residents.old.entries) (candidates (known.slots self.old.places.index) hash) ≡ Some slot) }
+        ensures place { found_slot result ≡ None → found_place result ≡ place_of (K.eq key.now) (map (λ e. e.1) self.old.entries) self.old.places.taken }
+        ensures absent { found_slot result ≡ None → found_place result ≡ None → find (is_key_at K.eq key.now residents.old.entries) (candidates (known.slots self.old.places.index) hash) ≡ None }
+        ensures residents { residents.new ≡ record residents.old { questions = residents.new.questions } }
+        ensures kept { self.new ≡ record self.old { questions = self.new.questions } }
+        ensures asked { Rises 0 (length (candidates (known.slots self.old.places.index) hash)) residents.old.questions residents.new.questions }
+        ensures questions { Rises 0 (length (candidates (known.places self.old.places.index) hash)) self.old.questions self.new.questions }
+    {
         if let Some(slot) = residents.find(self.index.handles(hash), key) {
             return Found::Resident(slot);
         }
-        let Some(place) = self.keys.find(self.index.own_places(hash), key) else {
+        let Some(place) = self.find(hash, key) else {
             return Found::Absent;
         };
         Found::Remembered(place)

@@ -1,7 +1,7 @@
 //! Keys with their hashes and values, each at a place, and lookups through an index.
 ghost use Rattle.std.specs.Prelude.{◌≡◌, ◌+◌, ◌<◌, ◌≤◌, length};
 ghost use Rattle.std.specs.List.{find, AllByRecursion};
-ghost use Rattle.clock2q_queues.specs.Index.{slots_among};
+ghost use Rattle.clock2q_queues.specs.Index.{slots_among, places_among};
 
 mod store;
 
@@ -59,6 +59,24 @@ impl<K: Eq, V, A: Allocator> Keys<K, V, A> {
         let found = self.find_untold(handles, key, &mut asked);
         self.add_questions(&asked);
         found
+    }
+
+    /// Returns the place of the first of `handles` from [`REMEMBERED`] on at which `key` stands, and
+    /// counts each question. The slots are passed unasked.
+    pub fn find_remembered(&mut self, mut handles: Candidates<'_, u32>, key: &K) -> Option<u32>
+        requires used { AllByRecursion (λ place. place < length self.old.entries) (places_among handles.left) }
+        ensures found { result ≡ find (is_key_at K.eq key.now self.old.entries) (places_among handles.entry.left) }
+        ensures counted { self.new ≡ record self.old { questions = self.old.questions + questions_of (is_key_at K.eq key.now self.old.entries) (places_among handles.entry.left) } }
+    {
+        while let Some(handle) = handles.next() {
+            if handle >= REMEMBERED {
+                let place = handle - REMEMBERED;
+                if self.is(place, key) {
+                    return Some(place);
+                }
+            }
+        }
+        None
     }
 
     /// Returns the first of `handles` below [`REMEMBERED`] at which `key` stands. The questions are

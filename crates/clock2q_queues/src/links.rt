@@ -9,13 +9,13 @@ mod cells;
 mod flags;
 
 use cells::Bits;
-pub use cells::Cells;
+pub(crate) use cells::Cells;
 use std::alloc::{AllocError, Allocator, Global};
 use std::marker::Model;
 
 /// Where a slot stands, as its record says.
 #[derive(Clone, Copy, Debug, PartialEq, Eq)]
-pub enum Mark {
+pub(crate) enum Mark {
     /// In neither queue.
     Free,
     /// In Small, young, with the number of its place in the window.
@@ -40,16 +40,16 @@ impl Mark {
 
 /// The neighbours of a slot in its queue, and where it stands.
 #[derive(Clone, Copy, Debug)]
-pub struct Record {
-    pub previous: u32,
-    pub next: u32,
-    pub standing: Mark,
+pub(crate) struct Record {
+    pub(crate) previous: u32,
+    pub(crate) next: u32,
+    pub(crate) standing: Mark,
 }
 
 const _: () = prove!(size_of::<Record>() <= 16);
 
 /// The record of a slot that stands nowhere.
-pub const VACANT: Record = Record {
+pub(crate) const VACANT: Record = Record {
     previous: 0,
     next: 0,
     standing: Mark::Free,
@@ -73,7 +73,7 @@ impl<A: Allocator> Cells<Record, A> {
     }
 
     /// Writes where a slot stands.
-    pub fn set_standing(&mut self, slot: u32, standing: Mark)
+    pub(crate) fn set_standing(&mut self, slot: u32, standing: Mark)
         requires { slot < length self.old.items }
         ensures { self.new ≡ accessed (with_standing slot standing self.old) }
     {
@@ -82,7 +82,7 @@ impl<A: Allocator> Cells<Record, A> {
     }
 
     /// Puts a slot just before another.
-    pub fn attach(&mut self, slot: u32, before: u32, standing: Mark)
+    pub(crate) fn attach(&mut self, slot: u32, before: u32, standing: Mark)
         requires slot_in { slot < length self.old.items }
         requires before_in { before < length self.old.items }
         requires previous_in { previous_at self.old.items before < length self.old.items }
@@ -102,7 +102,7 @@ impl<A: Allocator> Cells<Record, A> {
     }
 
     /// Removes a slot from between its neighbours, and returns the record that it had.
-    pub fn detach(&mut self, slot: u32) -> Record
+    pub(crate) fn detach(&mut self, slot: u32) -> Record
         requires slot_in { slot < length self.old.items }
         requires next_in { next_at self.old.items slot < length self.old.items }
         requires previous_in { previous_at self.old.items slot < length self.old.items }
@@ -119,7 +119,7 @@ impl<A: Allocator> Cells<Record, A> {
 
 /// The records and the hit bits of the slots that both queues share, and the window's places.
 #[derive(Drop)]
-pub struct Links<A: Allocator = Global> {
+pub(crate) struct Links<A: Allocator = Global> {
     records: Cells<Record, A>,
     window: Cells<Option<u32>, A>,
     bits: Bits<A>,
@@ -138,7 +138,7 @@ impl<A: Allocator> Model for Links<A> {
 
 impl<A: Allocator> Links<A> {
     /// Returns links for `slots` slots, and a window of `window` places.
-    pub fn new(alloc: A, slots: u32, window: u32) -> Result<Self, AllocError>
+    pub(crate) fn new(alloc: A, slots: u32, window: u32) -> Result<Self, AllocError>
     where
         A: Clone,
         ensures { IfOk result (λ l. l ≡ fresh slots window) }
@@ -154,14 +154,14 @@ impl<A: Allocator> Links<A> {
     }
 
     /// Returns how many places the window has.
-    pub fn window(&self) -> u32
+    pub(crate) fn window(&self) -> u32
         ensures { result ≡ length self.now.window.items }
     {
         self.window.len() as u32
     }
 
     /// Raises the count of accesses by as many as the proof of the call picks.
-    pub fn charge(&mut self)
+    pub(crate) fn charge(&mut self)
         ghost more: { ℕ }
         ensures { self.new ≡ record self.old { records = cells_state self.old.records.items (self.old.records.accesses + more) } }
     {
@@ -169,7 +169,7 @@ impl<A: Allocator> Links<A> {
     }
 
     /// Returns the record of a slot.
-    pub fn read(&mut self, slot: u32) -> Record
+    pub(crate) fn read(&mut self, slot: u32) -> Record
         requires { slot < length self.old.records.items }
         ensures value { result ≡ record_at self.old.records.items slot }
         ensures counted { self.new ≡ record self.old { records = accessed self.old.records } }
@@ -178,7 +178,7 @@ impl<A: Allocator> Links<A> {
     }
 
     /// Writes the record of a slot.
-    pub fn write(&mut self, slot: u32, content: Record)
+    pub(crate) fn write(&mut self, slot: u32, content: Record)
         requires { slot < length self.old.records.items }
         ensures { self.new ≡ record self.old { records = written slot content self.old.records } }
     {
@@ -187,7 +187,7 @@ impl<A: Allocator> Links<A> {
     }
 
     /// Writes where a slot stands.
-    pub fn set_standing(&mut self, slot: u32, standing: Mark)
+    pub(crate) fn set_standing(&mut self, slot: u32, standing: Mark)
         requires { slot < length self.old.records.items }
         ensures { self.new ≡ record self.old { records = accessed (with_standing slot standing self.old.records) } }
     {
@@ -196,7 +196,7 @@ impl<A: Allocator> Links<A> {
     }
 
     /// Puts a slot just before another.
-    pub fn attach(&mut self, slot: u32, before: u32, standing: Mark)
+    pub(crate) fn attach(&mut self, slot: u32, before: u32, standing: Mark)
         requires slot_in { slot < length self.old.records.items }
         requires before_in { before < length self.old.records.items }
         requires previous_in { previous_at self.old.records.items before < length self.old.records.items }
@@ -208,7 +208,7 @@ impl<A: Allocator> Links<A> {
     }
 
     /// Removes a slot from between its neighbours, and returns the record that it had.
-    pub fn detach(&mut self, slot: u32) -> Record
+    pub(crate) fn detach(&mut self, slot: u32) -> Record
         requires slot_in { slot < length self.old.records.items }
         requires next_in { next_at self.old.records.items slot < length self.old.records.items }
         requires previous_in { previous_at self.old.records.items slot < length self.old.records.items }
@@ -221,7 +221,7 @@ impl<A: Allocator> Links<A> {
     }
 
     /// Returns the slot that stands at a place of the window.
-    pub fn place(&mut self, place: u32) -> Option<u32>
+    pub(crate) fn place(&mut self, place: u32) -> Option<u32>
         requires { place < length self.old.window.items }
         ensures value { result ≡ place_at self.old place }
         ensures counted { self.new ≡ record self.old { window = accessed self.old.window } }
@@ -230,7 +230,7 @@ impl<A: Allocator> Links<A> {
     }
 
     /// Puts a slot at a place of the window, or empties the place.
-    pub fn set_place(&mut self, place: u32, occupant: Option<u32>)
+    pub(crate) fn set_place(&mut self, place: u32, occupant: Option<u32>)
         requires { place < length self.old.window.items }
         ensures { self.new ≡ record self.old { window = written place occupant self.old.window } }
     {
@@ -238,7 +238,7 @@ impl<A: Allocator> Links<A> {
     }
 
     /// Returns true if a slot stands in a queue. It reads the byte of the slot's bit, and no record.
-    pub fn is_standing(&self, slot: u32) -> bool
+    pub(crate) fn is_standing(&self, slot: u32) -> bool
         requires { slot < length self.now.records.items }
         ensures { result ≡ is_queued (standing_at self.now.records.items slot) }
     {
@@ -246,7 +246,7 @@ impl<A: Allocator> Links<A> {
     }
 
     /// Sets or clears the hit bit of a slot.
-    pub fn set_bit(&mut self, slot: u32, bit: bool)
+    pub(crate) fn set_bit(&mut self, slot: u32, bit: bool)
         requires { slot < length self.old.records.items }
         ensures { SetsBit slot bit self.old self.new }
     {
@@ -254,7 +254,7 @@ impl<A: Allocator> Links<A> {
     }
 
     /// Returns true if a slot's bit was set, and clears it: the hand's inspection of a slot.
-    pub fn inspect(&mut self, slot: u32) -> bool
+    pub(crate) fn inspect(&mut self, slot: u32) -> bool
         requires { slot < length self.old.records.items }
         ensures value { result ≡ bit_at self.old slot }
         ensures bits { (t : ℕ) → bit_at self.new t ≡ (if t == slot then false else bit_at self.old t) }
@@ -265,7 +265,7 @@ impl<A: Allocator> Links<A> {
     }
 
     /// Reads a slot's record, and returns whether the slot is old and its bit set.
-    pub fn is_old_hit(&mut self, slot: u32) -> bool
+    pub(crate) fn is_old_hit(&mut self, slot: u32) -> bool
         requires { slot < length self.old.records.items }
         ensures value { result ≡ (is_old (standing_at self.old.records.items slot) && bit_at self.old slot) }
         ensures counted { self.new ≡ record self.old { records = accessed self.old.records } }
@@ -274,7 +274,7 @@ impl<A: Allocator> Links<A> {
     }
 
     /// Resets every record, every place and every bit to what the constructor makes.
-    pub fn reset(&mut self)
+    pub(crate) fn reset(&mut self)
         ensures records { self.new.records.items ≡ replicate (length self.old.records.items) vacant }
         ensures places { self.new.window.items ≡ replicate (length self.old.window.items) None }
         ensures inspections { self.new.bits.inspections ≡ self.old.bits.inspections }

@@ -11,7 +11,7 @@ use std::alloc::Allocator;
 /// A ring of slots. The hand stands at the next one that it will inspect, and a new one stands just
 /// before the hand.
 #[derive(Drop)]
-pub struct MainRing {
+pub(crate) struct MainRing {
     hand: Option<u32>,
     len: usize,
 }
@@ -20,7 +20,7 @@ impl MainRing {
     ghost use Rattle.clock2q_queues.specs.MainRing.{IsMainRing, main_slots, main_entries, inspections, from_victim};
 
     /// Returns an empty ring.
-    pub fn new() -> Self
+    pub(crate) fn new() -> Self
         ensures empty { (l : LinkState) → main_entries l result ≡ [] }
         ensures whole { (l : LinkState) → length l.records.items < 2 ^ 32 → IsMainRing l result }
     {
@@ -28,14 +28,14 @@ impl MainRing {
     }
 
     /// Returns how many slots there are.
-    pub fn len(&self) -> usize
+    pub(crate) fn len(&self) -> usize
         ensures { (l : LinkState) → IsMainRing l self.now → result ≡ length (main_slots l self.now) }
     {
         self.len
     }
 
     /// Puts a slot just before the hand, with a clear bit. In an empty ring the hand stands at it.
-    pub fn push<A: Allocator>(&mut self, links: &mut Links<A>, slot: u32)
+    pub(crate) fn push<A: Allocator>(&mut self, links: &mut Links<A>, slot: u32)
         requires whole { IsMainRing links.old self.old }
         requires slot_in { slot < length links.old.records.items }
         requires absent { has slot (main_slots links.old self.old) ≡ false }
@@ -63,7 +63,7 @@ impl MainRing {
     }
 
     /// Removes a slot. If the hand stood there, it moves on.
-    pub fn unlink<A: Allocator>(&mut self, links: &mut Links<A>, slot: u32)
+    pub(crate) fn unlink<A: Allocator>(&mut self, links: &mut Links<A>, slot: u32)
         requires whole { IsMainRing links.old self.old }
         requires present { has slot (main_slots links.old self.old) ≡ true }
         ensures whole { IsMainRing links.new self.new }
@@ -83,7 +83,7 @@ impl MainRing {
 
     /// Moves the hand on to the slot that Main gives up, and returns that slot. The hand passes
     /// each slot whose bit is set, and clears the bit.
-    pub fn select<A: Allocator>(&mut self, links: &mut Links<A>) -> u32
+    pub(crate) fn select<A: Allocator>(&mut self, links: &mut Links<A>) -> u32
         requires whole { IsMainRing links.old self.old }
         requires occupied { 0 < length (main_slots links.old self.old) }
         ensures whole { IsMainRing links.new self.new }
@@ -104,7 +104,7 @@ impl MainRing {
     }
 
     /// Empties the ring. The links reset the records.
-    pub fn clear(&mut self)
+    pub(crate) fn clear(&mut self)
         ensures empty { (l : LinkState) → main_entries l self.new ≡ [] }
         ensures whole { (l : LinkState) → length l.records.items < 2 ^ 32 → IsMainRing l self.new }
     {

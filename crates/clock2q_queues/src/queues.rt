@@ -130,6 +130,7 @@ impl<A: Allocator> Queues<A> {
     }
 
     /// Admits a slot to Small, as its newest. All young slots grow older, and one may become old.
+    #[inline(always)]
     pub fn admit(&mut self, slot: u32)
         requires slot_in { slot < self.old.slots }
         requires not_in_small { has slot (slots_of self.old.small) ≡ false }
@@ -203,6 +204,7 @@ impl<A: Allocator> Queues<A> {
     }
 
     /// Removes Small's oldest slot, and returns it. Returns `None` if Small is empty.
+    #[inline(always)]
     pub fn take_tail(&mut self) -> Option<u32>
         ensures tail { result ≡ last_or None (slots_of self.old.small) }
         ensures queues { self.new ≡ record self.old { small = take (length self.old.small - 1) self.old.small; accesses = self.new.accesses } }

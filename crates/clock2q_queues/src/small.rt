@@ -13,7 +13,7 @@ use std::alloc::Allocator;
 /// A queue of slots, the newest in front. The window's places hold the slots that are young, and
 /// the cursor stands on the place of the next admission.
 #[derive(Drop)]
-pub struct Small {
+pub(crate) struct Small {
     newest: Option<u32>,
     oldest: Option<u32>,
     len: usize,
@@ -24,7 +24,7 @@ impl Small {
     ghost use Rattle.clock2q_queues.specs.Small.{IsSmallQueue, IsInSmall, GrowsOld, age_at, small_slots, small_entries, next_cursor, admitted};
 
     /// Returns an empty queue.
-    pub fn new() -> Self
+    pub(crate) fn new() -> Self
         ensures empty { (l : LinkState) → small_entries l result ≡ [] }
         ensures whole { (l : LinkState) → IsBlank l → IsSmallQueue l result }
     {
@@ -37,14 +37,14 @@ impl Small {
     }
 
     /// Returns how many slots there are.
-    pub fn len(&self) -> usize
+    pub(crate) fn len(&self) -> usize
         ensures { (l : LinkState) → IsSmallQueue l self.now → result ≡ length (small_slots l self.now) }
     {
         self.len
     }
 
     /// Returns the oldest slot, or `None` if there is none.
-    pub fn tail(&self) -> Option<u32>
+    pub(crate) fn tail(&self) -> Option<u32>
         ensures { (l : LinkState) → IsSmallQueue l self.now → result ≡ last_or None (small_slots l self.now) }
     {
         self.oldest
@@ -76,7 +76,7 @@ impl Small {
     }
 
     /// Admits a slot, as the newest and young. All other young slots grow older.
-    pub fn push<A: Allocator>(&mut self, links: &mut Links<A>, slot: u32)
+    pub(crate) fn push<A: Allocator>(&mut self, links: &mut Links<A>, slot: u32)
         requires whole { IsSmallQueue links.old self.old }
         requires slot_in { slot < length links.old.records.items }
         requires absent { has slot (small_slots links.old self.old) ≡ false }
@@ -110,7 +110,7 @@ impl Small {
     }
 
     /// Removes a slot. If it was young, its place is free.
-    pub fn unlink<A: Allocator>(&mut self, links: &mut Links<A>, slot: u32)
+    pub(crate) fn unlink<A: Allocator>(&mut self, links: &mut Links<A>, slot: u32)
         requires whole { IsSmallQueue links.old self.old }
         requires present { has slot (small_slots links.old self.old) ≡ true }
         ensures whole { IsSmallQueue links.new self.new }
@@ -130,7 +130,7 @@ impl Small {
     }
 
     /// Returns true if a slot goes on to Main instead of leaving: it is old, and its bit is set.
-    pub fn is_promoted<A: Allocator>(&self, links: &mut Links<A>, slot: u32) -> bool
+    pub(crate) fn is_promoted<A: Allocator>(&self, links: &mut Links<A>, slot: u32) -> bool
         requires slot_in { slot < length links.old.records.items }
         requires in_small { IsInSmall (standing_at links.old.records.items slot) }
         ensures value { result ≡ is_promoted (age_at links.old self.now.cursor slot) }
@@ -140,7 +140,7 @@ impl Small {
     }
 
     /// Empties the queue. The links reset the records and the window's places.
-    pub fn clear(&mut self)
+    pub(crate) fn clear(&mut self)
         ensures empty { (l : LinkState) → small_entries l self.new ≡ [] }
         ensures whole { (l : LinkState) → IsBlank l → IsSmallQueue l self.new }
     {

@@ -57,7 +57,7 @@ impl Chain {
 /// The places that hold a key, the newest key's first, over records of their own. A place that is
 /// given up becomes the head of a chain, and new keys take their places from that chain first.
 #[derive(Drop)]
-pub struct Order<A: Allocator = Global> {
+pub(super) struct Order<A: Allocator = Global> {
     records: Cells<Record, A>,
     newest: Option<u32>,
     len: u32,
@@ -78,7 +78,7 @@ impl<A: Allocator> Order<A> {
     ghost use Rattle.clock2q_queues.specs.Order.{IsWholeOrder, unused, next_place};
 
     /// Returns an order of `limit` places, none of which holds a key.
-    pub fn new(alloc: A, limit: u32) -> Result<Self, AllocError>
+    pub(super) fn new(alloc: A, limit: u32) -> Result<Self, AllocError>
         ensures made { IfOk result (λ o. o ≡ unused limit) }
         ensures whole { IfOk result IsWholeOrder }
     {
@@ -91,7 +91,7 @@ impl<A: Allocator> Order<A> {
     }
 
     /// Returns how many places hold a key.
-    pub fn len(&self) -> u32
+    pub(super) fn len(&self) -> u32
         ensures len { result ≡ length self.now.places }
         ensures whole { IsWholeOrder self.now }
     {
@@ -99,7 +99,7 @@ impl<A: Allocator> Order<A> {
     }
 
     /// Returns how many places there are.
-    pub fn limit(&self) -> u32
+    pub(super) fn limit(&self) -> u32
         ensures { result ≡ self.now.limit }
     {
         self.records.len() as u32
@@ -107,7 +107,7 @@ impl<A: Allocator> Order<A> {
 
     /// Puts a free place in front, and returns it. It is the head of the chain, or the next unused
     /// place if the chain is empty.
-    pub fn push(&mut self) -> u32
+    pub(super) fn push(&mut self) -> u32
         requires { length self.old.places < self.old.limit }
         ensures whole { IsWholeOrder self.new }
         ensures place { result ≡ next_place self.old }
@@ -132,7 +132,7 @@ impl<A: Allocator> Order<A> {
     }
 
     /// Moves the last place to the front, and returns it: a new key takes the oldest key's place.
-    pub fn reuse_oldest(&mut self) -> u32
+    pub(super) fn reuse_oldest(&mut self) -> u32
         requires { 0 < length self.old.places }
         ensures whole { IsWholeOrder self.new }
         ensures oldest { last_or None self.old.places ≡ Some result }
@@ -146,7 +146,7 @@ impl<A: Allocator> Order<A> {
     }
 
     /// Moves a place to the head of the chain.
-    pub fn unlink(&mut self, place: u32)
+    pub(super) fn unlink(&mut self, place: u32)
         requires { has place self.old.places ≡ true }
         ensures whole { IsWholeOrder self.new }
         ensures order { self.new ≡ record self.old { places = without place self.old.places; free = place ∷ self.old.free; accesses = self.old.accesses + 7 } }
@@ -160,7 +160,7 @@ impl<A: Allocator> Order<A> {
     }
 
     /// Empties the order. Every place is unused again.
-    pub fn clear(&mut self)
+    pub(super) fn clear(&mut self)
         ensures whole { IsWholeOrder self.new }
         ensures order { self.new ≡ record self.old { places = []; free = [] } }
     {

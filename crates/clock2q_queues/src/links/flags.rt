@@ -6,7 +6,7 @@ const STANDING: u8 = 2;
 
 /// A slot's hit bit, and whether the slot stands in a queue.
 #[derive(Clone, Copy)]
-pub struct Flags {
+pub(super) struct Flags {
     byte: u8,
 }
 
@@ -14,7 +14,7 @@ impl Flags {
     ghost use Rattle.clock2q_queues.specs.Flags.{is_set, is_standing};
 
     /// Returns the flags of a slot that stands nowhere, with a clear bit.
-    pub fn clear() -> Self
+    pub(super) fn clear() -> Self
         ensures bit { is_set result ≡ false }
         ensures standing { is_standing result ≡ false }
     {
@@ -22,21 +22,21 @@ impl Flags {
     }
 
     /// Returns true if the bit is set.
-    pub fn is_set(self) -> bool
+    pub(super) fn is_set(self) -> bool
         ensures { result ≡ is_set self }
     {
         self.byte % 2 == 1
     }
 
     /// Returns true if the slot stands in a queue.
-    pub fn is_standing(self) -> bool
+    pub(super) fn is_standing(self) -> bool
         ensures { result ≡ is_standing self }
     {
         self.byte >= STANDING
     }
 
     /// Returns the flags with the bit set or clear.
-    pub fn with_bit(self, bit: bool) -> Self
+    pub(super) fn with_bit(self, bit: bool) -> Self
         ensures bit { is_set result ≡ bit }
         ensures standing { is_standing result ≡ is_standing self }
     {
@@ -46,7 +46,7 @@ impl Flags {
     }
 
     /// Returns the flags of a slot that stands in a queue, or in none.
-    pub fn with_standing(self, standing: bool) -> Self
+    pub(super) fn with_standing(self, standing: bool) -> Self
         ensures bit { is_set result ≡ is_set self }
         ensures standing { is_standing result ≡ standing }
     {

@@ -1,19 +1,14 @@
-use Rattle.std.proofs.Common.{◌≡◌, map, None, Some, refl, sym, ap, ◌∙◌, arith}
-use Rattle.std.specs.List.{find}
-use Rattle.clock2q_handles.specs.Homes.{candidates}
-use Rattle.clock2q_queues.specs.Index as known
-use Rattle.clock2q_queues.specs.Keys.{is_key_at}
+use Rattle.std.proofs.Common.{◌≡◌, map, refl, sym, ap, ◌∙◌, arith}
 use Rattle.clock2q_queues.specs.History.{Remembered, remembered, accesses_of, is_remembered, forgotten, places_from, place_of, freed_place}
-use Rattle.clock2q_queues.proofs.Forgetting.{placed, forgets, missed, place_there, place_held, place_short}
+use Rattle.clock2q_queues.proofs.Forgetting.{forgets, missed, place_there, place_held, place_short}
+use Rattle.clock2q_queues.proofs.Looking.{place-shown}
 use Rattle.clock2q_queues.proofs.history.History.discard.Goals as goal
 
 pub returns-in_default-clause-found : goal.returns-in_default-clause-found
 returns-in_default-clause-found g c =
     let i = c.self.inside in
     let hashed = rw (← c.self.view_is) at c.requires.hash in
-    let none : None ≡ find (is_key_at g.K.PartialEq.eq c.args.key.now i.keys.entries) (candidates (known.places i.index) c.args.hash) =
-    sym c.in_default.is ∙ c.requires.place ∙ sym (ap (λ (z : Remembered _). place_of (g.K.PartialEq.eq c.args.key.now) (map (λ e. e.1) z.entries) z.places.taken) c.self.view_is)
-    ∙ placed g.K.PartialEq.eq g.met.K.Eq.laws c.args.hash c.args.key.now i.index i.order i.keys c.self.invariant hashed in
+    let none = sym c.in_default.is ∙ c.requires.place ∙ place-shown i.index i.order i.keys c.self.view_is c.args.hash g.met.K.Eq.laws c.self.invariant c.args.key.now c.requires.hash in
     let m = missed g.K.PartialEq.eq g.met.K.Eq.laws c.args.hash c.args.key.now i.index i.order i.keys c.self.invariant hashed none in
     sym (sym (ap (λ (z : Remembered _). is_remembered g.K.PartialEq.eq c.args.key.now z.entries) c.self.view_is) ∙ m.0)
 
@@ -21,9 +16,7 @@ pub returns-in_default-clause-forgotten : goal.returns-in_default-clause-forgott
 returns-in_default-clause-forgotten g c =
     let i = c.self.inside in
     let hashed = rw (← c.self.view_is) at c.requires.hash in
-    let none : None ≡ find (is_key_at g.K.PartialEq.eq c.args.key.now i.keys.entries) (candidates (known.places i.index) c.args.hash) =
-    sym c.in_default.is ∙ c.requires.place ∙ sym (ap (λ (z : Remembered _). place_of (g.K.PartialEq.eq c.args.key.now) (map (λ e. e.1) z.entries) z.places.taken) c.self.view_is)
-    ∙ placed g.K.PartialEq.eq g.met.K.Eq.laws c.args.hash c.args.key.now i.index i.order i.keys c.self.invariant hashed in
+    let none = sym c.in_default.is ∙ c.requires.place ∙ place-shown i.index i.order i.keys c.self.view_is c.args.hash g.met.K.Eq.laws c.self.invariant c.args.key.now c.requires.hash in
     let m = missed g.K.PartialEq.eq g.met.K.Eq.laws c.args.hash c.args.key.now i.index i.order i.keys c.self.invariant hashed none in
     let same : forgotten g.K.PartialEq.eq c.args.key.now c.args.self.now.entries ≡ c.args.self.now.entries =
     sym (ap (λ (z : Remembered _). forgotten g.K.PartialEq.eq c.args.key.now z.entries) c.self.view_is) ∙ m.1 ∙ ap (λ (z : Remembered _). z.entries) c.self.view_is in
@@ -36,36 +29,28 @@ pub forget-requires-clause-short : goal.forget-requires-clause-short
 forget-requires-clause-short g c =
     let i = c.self.inside in
     let hashed = rw (← c.self.view_is) at c.requires.hash in
-    let found : Some c.in-Some.place ≡ find (is_key_at g.K.PartialEq.eq c.args.key.now i.keys.entries) (candidates (known.places i.index) c.args.hash) =
-    sym c.in-Some.is ∙ c.requires.place ∙ sym (ap (λ (z : Remembered _). place_of (g.K.PartialEq.eq c.args.key.now) (map (λ e. e.1) z.entries) z.places.taken) c.self.view_is)
-    ∙ placed g.K.PartialEq.eq g.met.K.Eq.laws c.args.hash c.args.key.now i.index i.order i.keys c.self.invariant hashed in
+    let found = sym c.in-Some.is ∙ c.requires.place ∙ place-shown i.index i.order i.keys c.self.view_is c.args.hash g.met.K.Eq.laws c.self.invariant c.args.key.now c.requires.hash in
     omega (arith, place_short g.K.PartialEq.eq g.met.K.Eq.laws c.args.hash c.args.key.now i.index i.order i.keys c.self.invariant hashed c.in-Some.place found)
 
 pub forget-requires-clause-held : goal.forget-requires-clause-held
 forget-requires-clause-held g c =
     let i = c.self.inside in
     let hashed = rw (← c.self.view_is) at c.requires.hash in
-    let found : Some c.in-Some.place ≡ find (is_key_at g.K.PartialEq.eq c.args.key.now i.keys.entries) (candidates (known.places i.index) c.args.hash) =
-    sym c.in-Some.is ∙ c.requires.place ∙ sym (ap (λ (z : Remembered _). place_of (g.K.PartialEq.eq c.args.key.now) (map (λ e. e.1) z.entries) z.places.taken) c.self.view_is)
-    ∙ placed g.K.PartialEq.eq g.met.K.Eq.laws c.args.hash c.args.key.now i.index i.order i.keys c.self.invariant hashed in
+    let found = sym c.in-Some.is ∙ c.requires.place ∙ place-shown i.index i.order i.keys c.self.view_is c.args.hash g.met.K.Eq.laws c.self.invariant c.args.key.now c.requires.hash in
     place_held g.K.PartialEq.eq g.met.K.Eq.laws c.args.hash c.args.key.now i.index i.order i.keys c.self.invariant hashed c.in-Some.place found
 
 pub unlink-requires : goal.unlink-requires
 unlink-requires g c =
     let i = c.self.inside in
     let hashed = rw (← c.self.view_is) at c.requires.hash in
-    let found : Some c.in-Some.place ≡ find (is_key_at g.K.PartialEq.eq c.args.key.now i.keys.entries) (candidates (known.places i.index) c.args.hash) =
-    sym c.in-Some.is ∙ c.requires.place ∙ sym (ap (λ (z : Remembered _). place_of (g.K.PartialEq.eq c.args.key.now) (map (λ e. e.1) z.entries) z.places.taken) c.self.view_is)
-    ∙ placed g.K.PartialEq.eq g.met.K.Eq.laws c.args.hash c.args.key.now i.index i.order i.keys c.self.invariant hashed in
+    let found = sym c.in-Some.is ∙ c.requires.place ∙ place-shown i.index i.order i.keys c.self.view_is c.args.hash g.met.K.Eq.laws c.self.invariant c.args.key.now c.requires.hash in
     place_there g.K.PartialEq.eq g.met.K.Eq.laws c.args.hash c.args.key.now i.index i.order i.keys c.self.invariant hashed c.in-Some.place found
 
 pub invariant_of-self : goal.invariant_of-self
 invariant_of-self g c =
     let i = c.self.inside in
     let hashed = rw (← c.self.view_is) at c.requires.hash in
-    let found : Some c.in-Some.place ≡ find (is_key_at g.K.PartialEq.eq c.args.key.now i.keys.entries) (candidates (known.places i.index) c.args.hash) =
-    sym c.in-Some.is ∙ c.requires.place ∙ sym (ap (λ (z : Remembered _). place_of (g.K.PartialEq.eq c.args.key.now) (map (λ e. e.1) z.entries) z.places.taken) c.self.view_is)
-    ∙ placed g.K.PartialEq.eq g.met.K.Eq.laws c.args.hash c.args.key.now i.index i.order i.keys c.self.invariant hashed in
+    let found = sym c.in-Some.is ∙ c.requires.place ∙ place-shown i.index i.order i.keys c.self.view_is c.args.hash g.met.K.Eq.laws c.self.invariant c.args.key.now c.requires.hash in
     let e = c.unlink.ensures in
     let f = forgets g.K.PartialEq.eq g.met.K.Eq.laws c.args.hash c.args.key.now i.index i.order i.keys c.self.invariant hashed c.in-Some.place found
     c.forget.new.self c.unlink.new.self i.keys c.forget.ensures.forgotten e.whole e.order refl in
@@ -75,9 +60,7 @@ pub returns-clause-found : goal.returns-clause-found
 returns-clause-found g c =
     let i = c.self.inside in
     let hashed = rw (← c.self.view_is) at c.requires.hash in
-    let found : Some c.in-Some.place ≡ find (is_key_at g.K.PartialEq.eq c.args.key.now i.keys.entries) (candidates (known.places i.index) c.args.hash) =
-    sym c.in-Some.is ∙ c.requires.place ∙ sym (ap (λ (z : Remembered _). place_of (g.K.PartialEq.eq c.args.key.now) (map (λ e. e.1) z.entries) z.places.taken) c.self.view_is)
-    ∙ placed g.K.PartialEq.eq g.met.K.Eq.laws c.args.hash c.args.key.now i.index i.order i.keys c.self.invariant hashed in
+    let found = sym c.in-Some.is ∙ c.requires.place ∙ place-shown i.index i.order i.keys c.self.view_is c.args.hash g.met.K.Eq.laws c.self.invariant c.args.key.now c.requires.hash in
     let e = c.unlink.ensures in
     let f = forgets g.K.PartialEq.eq g.met.K.Eq.laws c.args.hash c.args.key.now i.index i.order i.keys c.self.invariant hashed c.in-Some.place found
     c.forget.new.self c.unlink.new.self i.keys c.forget.ensures.forgotten e.whole e.order refl in
@@ -87,9 +70,7 @@ pub returns-clause-forgotten : goal.returns-clause-forgotten
 returns-clause-forgotten g c =
     let i = c.self.inside in
     let hashed = rw (← c.self.view_is) at c.requires.hash in
-    let found : Some c.in-Some.place ≡ find (is_key_at g.K.PartialEq.eq c.args.key.now i.keys.entries) (candidates (known.places i.index) c.args.hash) =
-    sym c.in-Some.is ∙ c.requires.place ∙ sym (ap (λ (z : Remembered _). place_of (g.K.PartialEq.eq c.args.key.now) (map (λ e. e.1) z.entries) z.places.taken) c.self.view_is)
-    ∙ placed g.K.PartialEq.eq g.met.K.Eq.laws c.args.hash c.args.key.now i.index i.order i.keys c.self.invariant hashed in
+    let found = sym c.in-Some.is ∙ c.requires.place ∙ place-shown i.index i.order i.keys c.self.view_is c.args.hash g.met.K.Eq.laws c.self.invariant c.args.key.now c.requires.hash in
     let e = c.unlink.ensures in
     let f = forgets g.K.PartialEq.eq g.met.K.Eq.laws c.args.hash c.args.key.now i.index i.order i.keys c.self.invariant hashed c.in-Some.place found
     c.forget.new.self c.unlink.new.self i.keys c.forget.ensures.forgotten e.whole e.order refl in
@@ -100,9 +81,7 @@ pub returns-clause-accesses : goal.returns-clause-accesses
 returns-clause-accesses g c =
     let i = c.self.inside in
     let hashed = rw (← c.self.view_is) at c.requires.hash in
-    let found : Some c.in-Some.place ≡ find (is_key_at g.K.PartialEq.eq c.args.key.now i.keys.entries) (candidates (known.places i.index) c.args.hash) =
-    sym c.in-Some.is ∙ c.requires.place ∙ sym (ap (λ (z : Remembered _). place_of (g.K.PartialEq.eq c.args.key.now) (map (λ e. e.1) z.entries) z.places.taken) c.self.view_is)
-    ∙ placed g.K.PartialEq.eq g.met.K.Eq.laws c.args.hash c.args.key.now i.index i.order i.keys c.self.invariant hashed in
+    let found = sym c.in-Some.is ∙ c.requires.place ∙ place-shown i.index i.order i.keys c.self.view_is c.args.hash g.met.K.Eq.laws c.self.invariant c.args.key.now c.requires.hash in
     let e = c.unlink.ensures in
     let f = forgets g.K.PartialEq.eq g.met.K.Eq.laws c.args.hash c.args.key.now i.index i.order i.keys c.self.invariant hashed c.in-Some.place found
     c.forget.new.self c.unlink.new.self i.keys c.forget.ensures.forgotten e.whole e.order refl in
@@ -112,9 +91,7 @@ pub returns-clause-places : goal.returns-clause-places
 returns-clause-places g c =
     let i = c.self.inside in
     let hashed = rw (← c.self.view_is) at c.requires.hash in
-    let found : Some c.in-Some.place ≡ find (is_key_at g.K.PartialEq.eq c.args.key.now i.keys.entries) (candidates (known.places i.index) c.args.hash) =
-    sym c.in-Some.is ∙ c.requires.place ∙ sym (ap (λ (z : Remembered _). place_of (g.K.PartialEq.eq c.args.key.now) (map (λ e. e.1) z.entries) z.places.taken) c.self.view_is)
-    ∙ placed g.K.PartialEq.eq g.met.K.Eq.laws c.args.hash c.args.key.now i.index i.order i.keys c.self.invariant hashed in
+    let found = sym c.in-Some.is ∙ c.requires.place ∙ place-shown i.index i.order i.keys c.self.view_is c.args.hash g.met.K.Eq.laws c.self.invariant c.args.key.now c.requires.hash in
     let e = c.unlink.ensures in
     let f = forgets g.K.PartialEq.eq g.met.K.Eq.laws c.args.hash c.args.key.now i.index i.order i.keys c.self.invariant hashed c.in-Some.place found
     c.forget.new.self c.unlink.new.self i.keys c.forget.ensures.forgotten e.whole e.order refl in
