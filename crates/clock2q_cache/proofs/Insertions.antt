@@ -21,9 +21,11 @@ use Rattle.clock2q_machine.specs.Machine.{Machine, slot_of, vacancy, goes_to_mai
 use Rattle.clock2q_machine.specs.Bounds.{goes_on, takes_victim, inspections_for}
 use Rattle.clock2q_cache.specs.Insertions.{placed_inspections, main_inspections, small_inspections}
 use Rattle.clock2q_cache.specs.CacheFields.{machine_of, IsKept, counts_of}
-use Rattle.clock2q_cache.specs.CacheState.{CacheState, Counts}
+use Rattle.clock2q_handles.specs.Homes.{candidates}
+use Rattle.clock2q_cache.specs.CacheState.{CacheState, Counts, residents_in, remembered_in}
+use Rattle.clock2q_cache.specs.Hashes.{hash_of}
 use Rattle.clock2q_cache.specs.Costs.{Spends, accesses_for, alike}
-use Rattle.clock2q_cache.proofs.Spent.{spends-both}
+use Rattle.clock2q_cache.proofs.Spent.{spends-both, spends-more}
 use Rattle.clock2q_cache.proofs.WithKeys.{main-inspections}
 use Rattle.clock2q_cache.proofs.Slots.{main_have}
 
@@ -153,3 +155,20 @@ module _ {K V S H : Type 0} (key : HashMembers K) (build : builder.Ghosts S H) (
       let links : accesses_for (key.eq k) old.machine ≡ inspections_for (key.eq k) old.machine + 36 = sym (ap (λ o. if is_some o then 0 else inspections_for (key.eq k) old.machine + 36) absent) in
       let looks = ap (λ (z : CacheState K V S). inspections_for (key.eq k) z.machine) kept in
       spends-both asked spent (omega (arith, looks)) (omega (arith, looks, links)) (omega arith)
+
+-- A key is looked up among the residents, and then in the history.
+module _ {K V S H : Type 0} (key : HashMembers K) (build : builder.Ghosts S H) (hash : hasher.Ghosts H) (k : K) (old : CacheState K V S) where
+  pub found-alike : {x : ℕ} (new : Counts) → x ≡ hash_of build hash old.hasher (key.hash_input k)
+      → Spends 0 0 (length (candidates (residents_in old.known) x)) old.counts new → Spends 0 0 (alike key build hash k old) old.counts new
+  found-alike new is asked = spends-more asked (omega arith) (rw is (omega arith))
+
+  pub absent-spends : {x : ℕ} (found : CacheState K V S) → found ≡ record old { counts = found.counts } → x ≡ hash_of build hash old.hasher (key.hash_input k)
+      → Spends 0 0 (length (candidates (residents_in old.known) x)) old.counts found.counts → None ≡ slot_of (key.eq k) old.machine → (new : Counts)
+      → Spends (inspections_for (key.eq k) found.machine) (inspections_for (key.eq k) found.machine + 36) (length (candidates (remembered_in found.known) x)) found.counts new
+      → Spends (inspections_for (key.eq k) old.machine) (accesses_for (key.eq k) old.machine) (alike key build hash k old) old.counts new
+  absent-spends {x} found kept is asked absent new spent =
+      let links : accesses_for (key.eq k) old.machine ≡ inspections_for (key.eq k) old.machine + 36 = sym (ap (λ o. if is_some o then 0 else inspections_for (key.eq k) old.machine + 36) absent) in
+      let looks = ap (λ (z : CacheState K V S). inspections_for (key.eq k) z.machine) kept in
+      let places = ap (λ (z : CacheState K V S). length (candidates (remembered_in z.known) x)) kept in
+      let all : length (candidates (residents_in old.known) x) + length (candidates (remembered_in old.known) x) ≤ alike key build hash k old = rw is (omega arith) in
+      spends-both asked spent (omega (arith, looks)) (omega (arith, looks, links)) (omega (arith, places, all))

@@ -1,11 +1,11 @@
 -- What a call costs a cache: inspections of the hand, accesses of links, questions to keys.
-use Rattle.std.specs.Prelude.{◌≡◌, ℕ, ◌+◌, ◌*◌, ◌≤◌, Bool, if◌then◌else◌, Some, is_some, length}
+use Rattle.std.specs.Prelude.{◌≡◌, ℕ, ◌+◌, ◌*◌, ◌≤◌, Bool, if◌then◌else◌, Some, None, is_some, length}
 use Rattle.std.specs.declared.hash.Hasher as hasher
 use Rattle.std.specs.declared.hash.BuildHasher as builder
 use Rattle.std.specs.HashMap.Lent.{HashMembers}
 use Rattle.clock2q_handles.specs.Homes.{candidates}
 use Rattle.clock2q_queues.specs.Cells.{Rises}
-use Rattle.clock2q_machine.specs.Calls.{Call, Put, Get, GetAt, Set, With, Try, SlotFor, Remove, Retain, Clear}
+use Rattle.clock2q_machine.specs.Calls.{Call, Put, Get, Peek, Contains, GetAt, Set, With, Try, SlotFor, Remove, Retain, Clear, Prefill, Len, IsEmpty, Capacity}
 use Rattle.clock2q_machine.specs.Machine.{Machine, slot_of}
 use Rattle.clock2q_machine.specs.Bounds.{set_bits, inspections_for, inspections_of, main_victims, settings}
 use Rattle.clock2q_cache.specs.CacheState.{CacheState, Counts, residents_in, remembered_in}
@@ -30,7 +30,16 @@ most_accesses eq (SlotFor key value) m = accesses_for (eq key) m
 most_accesses eq (Remove key) m = 8
 most_accesses eq (Retain bits) m = 8 * length m.values
 most_accesses eq Clear m = m.shares.capacity + m.shares.window
-most_accesses eq other m = 0
+most_accesses eq (Try key None) m = 0
+most_accesses eq (Get key) m = 0
+most_accesses eq (Peek key) m = 0
+most_accesses eq (Contains key) m = 0
+most_accesses eq (GetAt slot key) m = 0
+most_accesses eq (Set key value) m = 0
+most_accesses eq (Prefill values) m = 0
+most_accesses eq Len m = 0
+most_accesses eq IsEmpty m = 0
+most_accesses eq Capacity m = 0
 
 module _ {K V S H : Type 0} (key : HashMembers K) (build : builder.Ghosts S H) (hash : hasher.Ghosts H) where
   -- how many slots and places stand in the index under the hash of a key
@@ -47,7 +56,14 @@ module _ {K V S H : Type 0} (key : HashMembers K) (build : builder.Ghosts S H) (
   most_questions (Try k value) c = alike k c
   most_questions (SlotFor k value) c = alike k c
   most_questions (Remove k) c = alike k c
-  most_questions other c = 0
+  most_questions (Peek k) c = 0
+  most_questions (Contains k) c = 0
+  most_questions (Retain bits) c = 0
+  most_questions Clear c = 0
+  most_questions (Prefill values) c = 0
+  most_questions Len c = 0
+  most_questions IsEmpty c = 0
+  most_questions Capacity c = 0
 
   -- it spent no more than it may, and each inspection was paid for: by Main's victim, or by a bit of Main that was set before or by the call
   pub record Costs (call : Call K V) (old new : CacheState K V S) : Type 0 where

@@ -81,7 +81,7 @@ impl<K: Hash + Eq, V, S: BuildHasher, A: Allocator> Cache<K, V, S, A> {
     ghost use Rattle.clock2q_machine.specs.Whole.{IsWhole};
     ghost use Rattle.clock2q_handles.specs.Homes.{candidates};
     ghost use Rattle.clock2q_queues.specs.History.{found_slot, found_place, place_of};
-    ghost use Rattle.clock2q_cache.specs.CacheState.{residents_in};
+    ghost use Rattle.clock2q_cache.specs.CacheState.{residents_in, remembered_in};
     ghost use Rattle.clock2q_machine.specs.Calls.{Get, GetAt};
     ghost use Rattle.clock2q_cache.specs.CacheLends.{LeavesMachine, LendsHit, LendsSlot};
     ghost use Rattle.clock2q_cache.specs.Costs.{Becomes, Costs, Spends, alike};
@@ -273,6 +273,7 @@ impl<K: Hash + Eq, V, S: BuildHasher, A: Allocator> Cache<K, V, S, A> {
     }
 
     /// Looks a key up among the residents and in the history.
+    #[inline(always)]
     pub(crate) fn look(&mut self, hash: u64, key: &K) -> Found
         requires { hash ≡ hash_of S.BuildHasher S.Hasher.Hasher self.old.hasher (K.hash_input key.now) }
         ensures slot { found_slot result ≡ slot_of (K.eq key.now) self.old.machine }
@@ -285,6 +286,16 @@ impl<K: Hash + Eq, V, S: BuildHasher, A: Allocator> Cache<K, V, S, A> {
         ensures counts { Spends 0 0 (alike K.Hash S.BuildHasher S.Hasher.Hasher key.now self.old) self.old.counts self.new.counts }
     {
         self.history.look(hash, key, &mut self.keys)
+    }
+
+    /// Returns the place of a remembered key.
+    pub(crate) fn find_place(&mut self, hash: u64, key: &K) -> Option<u32>
+        requires { hash ≡ hash_of S.BuildHasher S.Hasher.Hasher self.old.hasher (K.hash_input key.now) }
+        ensures place { result ≡ place_of (K.eq key.now) self.old.machine.history self.old.known.taken }
+        ensures kept { self.new ≡ record self.old { counts = self.new.counts } }
+        ensures counts { Spends 0 0 (length (candidates (remembered_in self.old.known) hash)) self.old.counts self.new.counts }
+    {
+        self.history.find(hash, key)
     }
 
     /// Returns the slot of a resident key, and records a hit on it.

@@ -168,12 +168,11 @@ impl<K: Hash + Eq + Drop, V: Drop, S: BuildHasher, A: Allocator> Cache<K, V, S, 
         ensures hasher { self.new.hasher ≡ self.old.hasher }
         ensures counts { Spends (inspections_for (K.eq key) self.old.machine) (accesses_for (K.eq key) self.old.machine) (alike K.Hash S.BuildHasher S.Hasher.Hasher key self.old) self.old.counts self.new.counts }
     {
-        let found = self.look(hash, &key);
-        if let Found::Resident(slot) = found {
+        if let Some(slot) = self.find(hash, &key) {
             self.record_hit(slot, &key);
             return slot;
         }
-        self.insert_reusing(hash, key, found.place(), make)
+        self.insert_reusing(hash, key, make)
     }
 
     /// Does what `find_or_insert` does with an `f` that may fail. Nothing changes then.

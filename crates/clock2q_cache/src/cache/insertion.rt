@@ -12,9 +12,11 @@ impl<K: Hash + Eq + Drop, V: Drop, S: BuildHasher, A: Allocator> Cache<K, V, S, 
     ghost use Rattle.clock2q_machine.specs.Shares.{main_share};
     ghost use Rattle.clock2q_machine.specs.Ages.{is_promoted};
     ghost use Rattle.clock2q_machine.specs.Whole.{IsWhole, known_count};
+    ghost use Rattle.clock2q_handles.specs.Homes.{candidates};
     ghost use Rattle.clock2q_queues.specs.History.{place_of};
     ghost use Rattle.clock2q_machine.specs.Bounds.{inspections_for};
     ghost use Rattle.clock2q_cache.specs.Costs.{Spends};
+    ghost use Rattle.clock2q_cache.specs.CacheState.{remembered_in};
     ghost use Rattle.clock2q_machine.specs.Entries.{inspections};
     ghost use Rattle.clock2q_cache.specs.Hashes.{hash_of};
     ghost use Rattle.clock2q_cache.specs.Closures.{Reuses};
@@ -37,16 +39,12 @@ impl<K: Hash + Eq + Drop, V: Drop, S: BuildHasher, A: Allocator> Cache<K, V, S, 
         self.place(hash, key, Some(value), main)
     }
 
-    /// Inserts a key as `insert` does. A slot that was made before keeps its value; a new one gets
-    /// what `make` returns.
-    pub(crate) fn insert_reusing<F: FnOnce() -> V>(
-        &mut self,
-        hash: u64,
-        key: K,
-        place: Option<u32>,
-        make: F,
-    ) -> u32
-        requires place { place ≡ place_of (K.eq key) self.old.machine.history self.old.known.taken }
+    /// Inserts a key that is not resident, wherever it stands in the history. A slot that was made
+    /// before keeps its value; a new one gets what `make` returns. Out of line, it leaves a caller
+    /// that finds its key few registers to save.
+    #[cold]
+    #[inline(never)]
+    pub(crate) fn insert_reusing<F: FnOnce() -> V>(&mut self, hash: u64, key: K, make: F) -> u32
         requires hash { hash ≡ hash_of S.BuildHasher S.Hasher.Hasher self.old.hasher (K.hash_input key) }
         requires absent { slot_of (K.eq key) self.old.machine ≡ None }
         requires make { slice_get self.old.machine.values (placement (K.eq key) key self.old.machine).slot ≡ None → F.pre make }
@@ -54,8 +52,9 @@ impl<K: Hash + Eq + Drop, V: Drop, S: BuildHasher, A: Allocator> Cache<K, V, S, 
         ensures machine { Reuses (K.eq key) key (F.post make) self.old.machine self.new.machine }
         ensures known { let m = forgotten (K.eq key) self.old.machine in self.new.known ≡ entered (λ k. hash_of S.BuildHasher S.Hasher.Hasher self.old.hasher (K.hash_input k)) key result (out_of (goes_to_main (list_any (K.eq key) self.old.machine.history) self.old.machine) m) m (discarded (K.eq key) hash self.old) }
         ensures hasher { self.new.hasher ≡ self.old.hasher }
-        ensures counts { Spends (inspections_for (K.eq key) self.old.machine) (inspections_for (K.eq key) self.old.machine + 36) 0 self.old.counts self.new.counts }
+        ensures counts { Spends (inspections_for (K.eq key) self.old.machine) (inspections_for (K.eq key) self.old.machine + 36) (length (candidates (remembered_in self.old.known) hash)) self.old.counts self.new.counts }
     {
+        let place = self.find_place(hash, &key);
         let known = self.forget(hash, &key, place);
         let main = self.admits_to_main(known);
         let value = self.makes_slot(main).then(make);

@@ -1,9 +1,12 @@
 -- A slot is made where none is free and no one's is taken.
-use Rattle.std.proofs.Common.{not, sym, ap, ◌∙◌}
+use Rattle.std.proofs.Common.{not, arith, sym, ap, ◌∙◌}
 use Rattle.std.proofs.lemmas.Option.{slice_get_past}
 use Rattle.std.proofs.lemmas.Bool.{ltb-false}
 use Rattle.clock2q_machine.specs.Whole.{known_count}
-use Rattle.clock2q_machine.specs.Machine.{Placement}
+use Rattle.std.specs.List.{list_any}
+use Rattle.clock2q_machine.specs.Machine.{Placement, forgotten}
+use Rattle.clock2q_cache.specs.CacheState.{CacheState}
+use Rattle.clock2q_cache.proofs.Spent.{spends-both}
 use Rattle.clock2q_machine.proofs.Whole.{unknown_once_forgotten}
 use Rattle.clock2q_cache.proofs.Insertions.{IsSent, goes-there, placed-inspections, forgotten-spends}
 use Rattle.clock2q_cache.proofs.Making.{small-unknown, placed-there, fills-there, makes-here, makes-there, values-there, reuses, made-or-none}
@@ -13,7 +16,15 @@ use Rattle.clock2q_cache.proofs.cache.Cache.insert_reusing.Goals as goal
 
 -- where the key goes
 sent : (g : Over) (c : After-admits_to_main-main g) → IsSent (g.K.PartialEq.eq c.args.key) c.args.self.now.machine c.forget-known.new.self.machine c.admits_to_main-main.result
-sent g c = record { known = c.forget-known.result; had = c.forget-known.ensures.known; erased = c.forget-known.ensures.machine; goes = c.admits_to_main-main.ensures }
+sent g c =
+    let is = g.K.PartialEq.eq c.args.key in
+    let same = c.find_place-place.ensures.kept in
+    record {
+      known = c.forget-known.result;
+      had = c.forget-known.ensures.known ∙ ap (λ (z : CacheState _ _ _). list_any is z.machine.history) same;
+      erased = c.forget-known.ensures.machine ∙ ap (λ (z : CacheState _ _ _). forgotten is z.machine) same;
+      goes = c.admits_to_main-main.ensures;
+    }
 
 pub then-value-requires : goal.then-value-requires
 then-value-requires g c made =
@@ -23,7 +34,8 @@ then-value-requires g c made =
 
 pub place-requires-clause-absent : goal.place-requires-clause-absent
 place-requires-clause-absent g c =
-    ap (known_count (g.K.PartialEq.eq c.args.key)) c.forget-known.ensures.machine ∙ unknown_once_forgotten (g.K.PartialEq.eq c.args.key) c.args.self.now.machine c.requires.absent
+    let erased = c.forget-known.ensures.machine ∙ ap (λ (z : CacheState _ _ _). forgotten (g.K.PartialEq.eq c.args.key) z.machine) c.find_place-place.ensures.kept in
+    ap (known_count (g.K.PartialEq.eq c.args.key)) erased ∙ unknown_once_forgotten (g.K.PartialEq.eq c.args.key) c.args.self.now.machine c.requires.absent
 
 pub place-requires-clause-small : goal.place-requires-clause-small
 place-requires-clause-small g c = small-unknown g.K.PartialEq.eq c.args.key (sent g (goal.at.place-requires-clause-small g c).After-admits_to_main-main)
@@ -53,9 +65,10 @@ pub returns-clause-known : goal.returns-clause-known
 returns-clause-known g c =
     let f = c.forget-known.ensures in
     let goes = goes-there (sent g (goal.at.returns-clause-known g c).After-admits_to_main-main) in
-    rw (f.hasher, f.machine, goes, f.places) at c.place.ensures.indexes
+    rw (f.hasher, f.machine, goes, f.places, c.find_place-place.ensures.kept) at c.place.ensures.indexes
 
 pub returns-clause-counts : goal.returns-clause-counts
 returns-clause-counts g c =
     let s = sent g (goal.at.returns-clause-counts g c).After-admits_to_main-main in
-    rw (← placed-inspections s c.requires.absent) (forgotten-spends c.forget-known.ensures.counts c.place.ensures.counts)
+    rw (← placed-inspections s c.requires.absent)
+    (spends-both c.find_place-place.ensures.counts (forgotten-spends c.forget-known.ensures.counts c.place.ensures.counts) (omega arith) (omega arith) (omega arith))
