@@ -1,4 +1,4 @@
--- Walks and moves that keep a slot: how far it is from the home, and what the moves leave, told from the slot that they began at.
+-- Walks and moves that keep a slot: how far it is from the home, and what the moves leave, meaning from the slot that they began at.
 use Rattle.std.proofs.Common.{◌≡◌, ◌↔◌, Bool, true, false, IsTrue, ℕ, zero, suc, ◌+◌, ◌-◌, ◌%◌, ◌<◌, ◌≤◌, inl, inr, refl, ap, sym, ◌∙◌, subst, arith, List, length, set, length-set, Option, Some, None, IfSome}
 use Rattle.std.proofs.lemmas.Bool.{cases_lt}
 use Rattle.std.proofs.lemmas.Nat.{mod_below}
@@ -10,7 +10,7 @@ use Rattle.clock2q_handles.specs.Shifts.{Opens, Closes, HasCome, IsVacancy, move
 use Rattle.clock2q_handles.specs.Slots.{Mark, cell, mark_of, mark_on, mark_back, mark_reach}
 use Rattle.clock2q_handles.proofs.Periods.{lap, lap-lt, lap-same, rem-same}
 use Rattle.clock2q_handles.proofs.Reading.{slot-again}
-use Rattle.clock2q_handles.proofs.Moves.{apart_on_lap, at_written, at_other, less_than_lap, MovingBack, moving_back_more, closed, cell-mark_on, cell-mark_back, reach_told, vacant_told}
+use Rattle.clock2q_handles.proofs.Moves.{apart_on_lap, at_written, at_other, less_than_lap, MovingBack, moving_back_more, closed, cell-mark_on, cell-mark_back, reach_of_meaning, vacant_of_meaning}
 use Rattle.clock2q_handles.proofs.Cursors.{rem-plus, goes_on}
 
 -- how far past s the slot is that stands k past it
@@ -39,7 +39,7 @@ slot_begins m s within =
     sym (mod-eq_of_lt within) ∙ ap (λ y. y % m) e
 
 module _ {E : Type 0} (slots : List (Option (Placed E))) where
-  -- what stands in a slot that is told from another
+  -- what stands in a slot that is meaning from another
   pub slot_from : (s k t : ℕ) → t ≡ (s + k) % length slots → slot_at slots t ≡ slot_at slots (s + k)
   slot_from s k t at = ap (slot_at slots) at ∙ rem-same (slot_at slots) (length slots) (slot-again slots) (s + k)
 
@@ -50,7 +50,7 @@ module _ {E : Type 0} (slots : List (Option (Placed E))) where
       ∙ rem-same (λ y. slot_at slots (y + i)) (length slots) (λ y. let q : y + length slots + i ≡ y + i + length slots = omega arith in
       ap (slot_at slots) q ∙ slot-again slots (y + i)) (h + n) ∙ ap (slot_at slots) e
 
-  -- a slot before s, told from it the long way round
+  -- a slot before s, meaning from it the long way round
   pub slot_from_before : (h n s j : ℕ) → s ≡ (h + n) % length slots → n < length slots → j < n → slot_at slots (s + (length slots - n + j)) ≡ slot_at slots (h + j)
   slot_from_before h n s j at within l =
       let m : ℕ = length slots in
@@ -150,7 +150,7 @@ carried_opens slots slots' first h n s k e tidy same come is within occupied non
       },
     )
 
--- entries that moved back, told from the home
+-- entries that moved back, meaning from the home
 pub moving_back_home : {E : Type 0} (slots slots' : List (Option (Placed E))) (h n s k : ℕ) → length slots' ≡ length slots
     → HasCome slots h n s → n + k < length slots → MovingBack (slot_at slots) (slot_at slots') (length slots) s 0 k
     → MovingBack (slot_at slots) (slot_at slots') (length slots) h n (n + k)
@@ -222,7 +222,7 @@ module _ {H : Type 0} (old now : List (Option (Placed (ℕ × H)))) where
     carry_lap = lap-at (length old) s state.steps t state.within state.slot
 
     pub carry_room : ((n : ℕ) → reach (slot_at old n) ≤ 16777214) → mark_reach there ≤ 16777214
-    carry_room near = omega (arith, near (s + state.steps), reach_told there (slot_at old (s + state.steps)) state.there_is)
+    carry_room near = omega (arith, near (s + state.steps), reach_of_meaning there (slot_at old (s + state.steps)) state.there_is)
 
     written : (now' : List (Option (Placed (ℕ × H)))) → now' ≡ set now t next → Carrying (slot_at old) (slot_at now') first (length old) s (suc state.steps)
     written now' is =
@@ -234,7 +234,7 @@ module _ {H : Type 0} (old now : List (Option (Placed (ℕ × H)))) where
     pub carry_goes : (now' : List (Option (Placed (ℕ × H)))) (t' : ℕ) (held : H) (there' mark' : Mark)
         → (there ≡ None → ⊥) → now' ≡ set now t next → IfSome (slot_at now t) (λ p. held ≡ p.entry.1) → mark' ≡ mark_on there
         → t' ≡ (t + 1) % length now' → there' ≡ mark_of (slot_at now' t') → CarryState old now' first (cell mark' held) there' s t' w (w' + 1)
-    carry_goes now' t' held there' mark' occ is handle more on told' =
+    carry_goes now' t' held there' mark' occ is handle more on meaning' =
         let k : ℕ = state.steps in
         let len' : length now' ≡ length old = set_len now' t next is ∙ state.len in
         let full : (j : ℕ) → j < suc k → 0 < reach (slot_at old (s + j)) = λ j l. elim (cases_lt j k) [
@@ -254,7 +254,7 @@ module _ {H : Type 0} (old now : List (Option (Placed (ℕ × H)))) where
           occupied = full;
           carrying = carrying';
           next_is = cell-mark_on there mark' (slot_at old (s + k)) held state.there_is more (subst (λ o. IfSome o (λ p. held ≡ p.entry.1)) untouched handle);
-          there_is = told' ∙ ap mark_of (slot_from now' s (suc k) t' (at' ∙ ap (λ m. (s + suc k) % m) (sym len')) ∙ carrying'.rest (suc k) (omega arith) within');
+          there_is = meaning' ∙ ap mark_of (slot_from now' s (suc k) t' (at' ∙ ap (λ m. (s + suc k) % m) (sym len')) ∙ carrying'.rest (suc k) (omega arith) within');
           writes = omega (arith, state.writes);
         }
 
@@ -263,7 +263,7 @@ module _ {H : Type 0} (old now : List (Option (Placed (ℕ × H)))) where
         → (v : ℕ) × IsVacancy (slot_at old) h v × Opens (slot_at old) (slot_at now') (length old) h n v e × (w' + 1 + n ≡ w + v + 1)
     carry_ends now' none is h n e come first_is =
         let k : ℕ = state.steps in
-        let vacant : slot_at old (s + k) ≡ None = vacant_told there (slot_at old (s + k)) none state.there_is in
+        let vacant : slot_at old (s + k) ≡ None = vacant_of_meaning there (slot_at old (s + k)) none state.there_is in
         let opened = carried_opens old now' first h n s k e tidy (set_len now' t next is ∙ state.len) come first_is state.within state.occupied vacant (written now' is) in
         (n + k, opened.0, opened.1, omega (arith, state.writes))
 
@@ -294,13 +294,13 @@ module _ {H : Type 0} (old now : List (Option (Placed (ℕ × H)))) where
       pub close_goes : (now' : List (Option (Placed (ℕ × H)))) (mark mark' : Mark) (held : H) → mark ≡ mark_of (slot_at now t')
           → 1 < mark_reach mark → mark' ≡ mark_back mark → IfSome (slot_at now t') (λ p. held ≡ p.entry.1)
           → now' ≡ set now t (cell mark' held) → CloseState old now' s t' w (w' + 1)
-      close_goes now' mark mark' held told far less handle is =
+      close_goes now' mark mark' held meaning far less handle is =
           let k : ℕ = state.steps in
-          let reach_next : 1 < reach (slot_at now t') = omega (arith, far, reach_told mark (slot_at now t') told) in
+          let reach_next : 1 < reach (slot_at now t') = omega (arith, far, reach_of_meaning mark (slot_at now t') meaning) in
           let so_far = subst (λ m. MovingBack (slot_at old) (slot_at now) m s 0 k) (sym state.len) state.back in
           let at_next : slot_at now (s + suc k) ≡ slot_at now t' = sym (slot_from now s (suc k) t' (next_at ∙ ap (λ m. (s + suc k) % m) (sym state.len))) in
           let moved = moving_back_more (slot_at old) now now' (cell mark' held) s 0 k (suc k) refl (omega arith) (omega (arith, next_within, state.len)) so_far
-          (at_next ∙ cell-mark_back mark mark' (slot_at now t') held reach_next told less handle) (is ∙ ap (λ i. set now i (cell mark' held)) close_at) in
+          (at_next ∙ cell-mark_back mark mark' (slot_at now t') held reach_next meaning less handle) (is ∙ ap (λ i. set now i (cell mark' held)) close_at) in
           record {
             steps = suc k;
             slot = next_at;
@@ -347,7 +347,7 @@ module _ {H : Type 0} (old now : List (Option (Placed (ℕ × H)))) where
 
 module _ {H : Type 0} (old : List (Option (Placed (ℕ × H)))) where
   pub carry_begins : (first : Option (Placed (ℕ × H))) (there : Mark) (s w : ℕ) → s < length old → there ≡ mark_of (slot_at old s) → CarryState old old first first there s s w w
-  carry_begins first there s w within told =
+  carry_begins first there s w within meaning =
       let z : s ≡ s + 0 = omega arith in
       record {
         steps = 0;
@@ -357,7 +357,7 @@ module _ {H : Type 0} (old : List (Option (Placed (ℕ × H)))) where
         occupied = λ j l. absurd (omega (arith, l));
         carrying = record { moved = λ j l. absurd (omega (arith, l)); rest = λ j l u. refl };
         next_is = refl;
-        there_is = told ∙ ap (λ i. mark_of (slot_at old i)) z;
+        there_is = meaning ∙ ap (λ i. mark_of (slot_at old i)) z;
         writes = omega arith;
       }
 
@@ -382,19 +382,19 @@ module _ {H : Type 0} (slots : List (Option (Placed (ℕ × H)))) (tidy : IsTidy
   pub looks_on : (d s s' : ℕ) (b : Bool) (wanted next mark : Mark) → HasCome slots g d s → wanted ≡ Some (d, f)
       → IsTrue b ↔ (mark_reach mark < mark_reach wanted) → b ≡ false → mark ≡ mark_of (slot_at slots s) → s' ≡ (s + 1) % length slots → next ≡ mark_on wanted
       → HasCome slots g (suc d) s' × (next ≡ Some (suc d, f))
-  looks_on d s s' b wanted next mark come is test off told on more =
-      (come_on slots tidy g d s s' come (omega (arith, goes_on slots b wanted mark s test off told, ap mark_reach is)) on, more ∙ ap mark_on is)
+  looks_on d s s' b wanted next mark come is test off meaning on more =
+      (come_on slots tidy g d s s' come (omega (arith, goes_on slots b wanted mark s test off meaning, ap mark_reach is)) on, more ∙ ap mark_on is)
 
   -- and has room for that
   pub looks_room : (d s : ℕ) (b : Bool) (wanted mark : Mark) → IsTrue b ↔ (mark_reach mark < mark_reach wanted) → b ≡ false
       → mark ≡ mark_of (slot_at slots s) → AreNear slots → mark_reach wanted ≤ longest_reach
-  looks_room d s b wanted mark test off told near = omega (arith, goes_on slots b wanted mark s test off told, near s)
+  looks_room d s b wanted mark test off meaning near = omega (arith, goes_on slots b wanted mark s test off meaning, near s)
 
   -- a walk that is ended there
   pub looks_end : (d s : ℕ) (b : Bool) (wanted mark : Mark) → wanted ≡ Some (d, f)
       → IsTrue b ↔ (mark_reach mark < mark_reach wanted) → b ≡ true → mark ≡ mark_of (slot_at slots s) → reach (slot_at slots s) ≤ d
-  looks_end d s true wanted mark is test on told = omega (arith, test.0 refl, ap mark_reach is, reach_told mark (slot_at slots s) told)
-  looks_end d s false wanted mark is test on told = absurd (cc)
+  looks_end d s true wanted mark is test on meaning = omega (arith, test.0 refl, ap mark_reach is, reach_of_meaning mark (slot_at slots s) meaning)
+  looks_end d s false wanted mark is test on meaning = absurd (cc)
 
 module _ {H : Type 0} (slots : List (Option (Placed (ℕ × H)))) (tidy : IsTidy slots) where
   -- a walk for a hash goes on

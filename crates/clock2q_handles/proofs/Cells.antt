@@ -6,7 +6,7 @@ use Rattle.std.proofs.Math.Seq.{take-append_seam, set-get_or}
 use Rattle.std.proofs.lemmas.Nat.{and_mask}
 use Rattle.std.specs.Int.Bits.{bit_and}
 use Rattle.clock2q_handles.specs.Layout.{slot_at}
-use Rattle.clock2q_handles.specs.Slots.{Mark, told, cell, mark_of, cells, SlotsValue, slots_value, IsSlotCount}
+use Rattle.clock2q_handles.specs.Slots.{Mark, meaning, cell, mark_of, cells, SlotsValue, slots_value, IsSlotCount}
 use Rattle.clock2q_handles.specs.Readers.{ReaderValue, reader_value}
 use Rattle.clock2q_handles.specs.declared.metadata.Metadata.{Metadata}
 
@@ -45,26 +45,26 @@ module _ {H : Type 0} where
 
   -- what stands in a slot, read off the two vectors
   pub get_or-cells : (ms : List Metadata) (vs : List H) (n : ℕ) (m : Metadata) (v : H) → length vs ≡ length ms
-      → n < length ms → get_or (cells ms vs) n None ≡ cell (told (get_or ms n m)) (get_or vs n v)
+      → n < length ms → get_or (cells ms vs) n None ≡ cell (meaning (get_or ms n m)) (get_or vs n v)
   get_or-cells [] vs n m v e h = absurd (omega (arith, h))
   get_or-cells (x ∷ ms) [] n m v e h = absurd (omega (arith, e))
   get_or-cells (x ∷ ms) (y ∷ vs) zero m v e h = refl
   get_or-cells (x ∷ ms) (y ∷ vs) (suc n) m v e h = get_or-cells ms vs n m v (omega (arith, e)) (omega (arith, h))
 
   -- a slot written in both vectors is written in the list
-  pub set-cells : (ms : List Metadata) (vs : List H) (n : ℕ) (m : Metadata) (v : H) → length vs ≡ length ms → cells (set ms n m) (set vs n v) ≡ set (cells ms vs) n (cell (told m) v)
+  pub set-cells : (ms : List Metadata) (vs : List H) (n : ℕ) (m : Metadata) (v : H) → length vs ≡ length ms → cells (set ms n m) (set vs n v) ≡ set (cells ms vs) n (cell (meaning m) v)
   set-cells [] vs n m v e = refl
   set-cells (x ∷ ms) [] n m v e = absurd (omega (arith, e))
   set-cells (x ∷ ms) (y ∷ vs) zero m v e = refl
-  set-cells (x ∷ ms) (y ∷ vs) (suc n) m v e = ap (λ c. cell (told x) y ∷ c) (set-cells ms vs n m v (omega (arith, e)))
+  set-cells (x ∷ ms) (y ∷ vs) (suc n) m v e = ap (λ c. cell (meaning x) y ∷ c) (set-cells ms vs n m v (omega (arith, e)))
 
   -- empty marks make empty slots
-  pub cells-replicate : (n : ℕ) (m : Metadata) (v : H) → told m ≡ None → cells (replicate n m) (replicate n v) ≡ replicate n None
+  pub cells-replicate : (n : ℕ) (m : Metadata) (v : H) → meaning m ≡ None → cells (replicate n m) (replicate n v) ≡ replicate n None
   cells-replicate zero m v e = refl
   cells-replicate (suc n) m v e = ap (λ s. cell s v ∷ cells (replicate n m) (replicate n v)) e ∙ ap (λ c. None ∷ c) (cells-replicate n m v e)
 
   -- they do so whatever the handles are
-  pub cells-emptied : (ms : List Metadata) (vs : List H) (n : ℕ) (m : Metadata) → told m ≡ None → ms ≡ replicate n m → length vs ≡ n → cells ms vs ≡ replicate n None
+  pub cells-emptied : (ms : List Metadata) (vs : List H) (n : ℕ) (m : Metadata) → meaning m ≡ None → ms ≡ replicate n m → length vs ≡ n → cells ms vs ≡ replicate n None
   cells-emptied ms vs n m e is len = ap (λ x. cells x vs) is ∙ emptied n vs len
     where
       emptied : (n : ℕ) (vs : List H) → length vs ≡ n → cells (replicate n m) vs ≡ replicate n None
@@ -73,46 +73,46 @@ module _ {H : Type 0} where
       emptied (suc n) (v ∷ vs) l = ap (λ s. s ∷ cells (replicate n m) vs) (ap (λ s. cell s v) e) ∙ ap (λ c. None ∷ c) (emptied n vs (omega (arith, l)))
 
   -- vectors that are filled up with empty marks make empty slots
-  pub filled_cells : (n i j : ℕ) (ms ms' : List Metadata) (vs vs' : List H) (m : Metadata) (v : H) → told m ≡ None → ms ≡ [] → vs ≡ []
+  pub filled_cells : (n i j : ℕ) (ms ms' : List Metadata) (vs vs' : List H) (m : Metadata) (v : H) → meaning m ≡ None → ms ≡ [] → vs ≡ []
       → i ≡ 0 → j ≡ 0 → ms' ≡ take n ms ++ replicate (n - i) m → vs' ≡ take n vs ++ replicate (n - j) v → cells ms' vs' ≡ replicate n None
   filled_cells n i j ms ms' vs vs' m v e none-ms none-vs ei ej er es =
       ap (λ x. cells x vs') (er ∙ filled n i ms m none-ms ei) ∙ ap (λ x. cells (replicate n m) x) (es ∙ filled n j vs v none-vs ej) ∙ cells-replicate n m v e
 
   -- a slot that is written in both vectors, counted
   pub written_cells : (ms : List Metadata) (vs : List H) (n k w w' : ℕ) (m : Metadata) (v : H) → length vs ≡ length ms → k ≡ n % length (cells ms vs) → w' ≡ w + 1
-      → slots_value (cells (set ms k m) (set vs k v)) w' ≡ slots_value (set (cells ms vs) (n % length (cells ms vs)) (cell (told m) v)) (w + 1)
+      → slots_value (cells (set ms k m) (set vs k v)) w' ≡ slots_value (set (cells ms vs) (n % length (cells ms vs)) (cell (meaning m) v)) (w + 1)
   written_cells ms vs n k w w' m v same at more =
-      ap (λ c. slots_value c w') (set-cells ms vs k m v same ∙ ap (λ j. set (cells ms vs) j (cell (told m) v)) at)
-      ∙ ap (λ x. slots_value (set (cells ms vs) (n % length (cells ms vs)) (cell (told m) v)) x) more
+      ap (λ c. slots_value c w') (set-cells ms vs k m v same ∙ ap (λ j. set (cells ms vs) j (cell (meaning m) v)) at)
+      ∙ ap (λ x. slots_value (set (cells ms vs) (n % length (cells ms vs)) (cell (meaning m) v)) x) more
 
   -- the mark of a slot that is read
   pub mark_read : (ms : List Metadata) (vs : List H) (n k : ℕ) (m : Metadata) → length vs ≡ length ms
-      → k ≡ n % length (cells ms vs) → k < length ms → m ≡ get_or ms k m → told m ≡ mark_of (slot_at (cells ms vs) n)
+      → k ≡ n % length (cells ms vs) → k < length ms → m ≡ get_or ms k m → meaning m ≡ mark_of (slot_at (cells ms vs) n)
   mark_read ms [] n k m same at within is = absurd (omega (arith, same, within))
   mark_read ms (v ∷ vs) n k m same at within is =
-      ap told is ∙ sym (mark_of-cell (told (get_or ms k m)) (get_or (v ∷ vs) k v)) ∙ ap mark_of (sym (get_or-cells ms (v ∷ vs) k m v same within) ∙ ap (λ j. get_or (cells ms (v ∷ vs)) j None) at)
+      ap meaning is ∙ sym (mark_of-cell (meaning (get_or ms k m)) (get_or (v ∷ vs) k v)) ∙ ap mark_of (sym (get_or-cells ms (v ∷ vs) k m v same within) ∙ ap (λ j. get_or (cells ms (v ∷ vs)) j None) at)
 
   -- the handle of a slot that is read
   pub handle_read : (ms : List Metadata) (vs : List H) (n k : ℕ) (m : Metadata) (v : H) → length vs ≡ length ms
       → k ≡ n % length (cells ms vs) → k < length ms → v ≡ get_or vs k v → IfSome (slot_at (cells ms vs) n) (λ p. v ≡ p.entry.1)
   handle_read ms vs n k m v same at within is =
-      subst (λ s. IfSome s (λ p. v ≡ p.entry.1)) (ap (λ w. cell (told (get_or ms k m)) w) is
-      ∙ sym (get_or-cells ms vs k m v same within) ∙ ap (λ j. get_or (cells ms vs) j None) at) (handle_of_cell (told (get_or ms k m)) v)
+      subst (λ s. IfSome s (λ p. v ≡ p.entry.1)) (ap (λ w. cell (meaning (get_or ms k m)) w) is
+      ∙ sym (get_or-cells ms vs k m v same within) ∙ ap (λ j. get_or (cells ms vs) j None) at) (handle_of_cell (meaning (get_or ms k m)) v)
 
   -- the same at a slot that is named by its number
   pub at_slot : (ms : List Metadata) (vs : List H) (k : ℕ) → length vs ≡ length ms → k < length ms → k ≡ k % length (cells ms vs)
   at_slot ms vs k same within = sym (mod-eq_of_lt (omega (arith, within, length-cells ms vs same)))
 
-  pub mark_read_at : (ms : List Metadata) (vs : List H) (k : ℕ) (m : Metadata) → length vs ≡ length ms → k < length ms → m ≡ get_or ms k m → told m ≡ mark_of (slot_at (cells ms vs) k)
+  pub mark_read_at : (ms : List Metadata) (vs : List H) (k : ℕ) (m : Metadata) → length vs ≡ length ms → k < length ms → m ≡ get_or ms k m → meaning m ≡ mark_of (slot_at (cells ms vs) k)
   mark_read_at ms vs k m same within is = mark_read ms vs k k m same (at_slot ms vs k same within) within is
 
   pub handle_read_at : (ms : List Metadata) (vs : List H) (k : ℕ) (v : H) → length vs ≡ length ms → k < length ms → v ≡ get_or vs k v → IfSome (slot_at (cells ms vs) k) (λ p. v ≡ p.entry.1)
   handle_read_at ms vs k v same within is = handle_read ms vs k k (record { word = 0 }) v same (at_slot ms vs k same within) within is
 
-  pub mark_read_or : (ms : List Metadata) (vs : List H) (k : ℕ) (z : Metadata) → length vs ≡ length ms → k < length ms → told (get_or ms k z) ≡ mark_of (slot_at (cells ms vs) k)
+  pub mark_read_or : (ms : List Metadata) (vs : List H) (k : ℕ) (z : Metadata) → length vs ≡ length ms → k < length ms → meaning (get_or ms k z) ≡ mark_of (slot_at (cells ms vs) k)
   mark_read_or ms [] k z same within = absurd (omega (arith, same, within))
   mark_read_or ms (v ∷ vs) k z same within =
-      sym (mark_of-cell (told (get_or ms k z)) (get_or (v ∷ vs) k v))
+      sym (mark_of-cell (meaning (get_or ms k z)) (get_or (v ∷ vs) k v))
       ∙ ap mark_of (sym (get_or-cells ms (v ∷ vs) k z v same within) ∙ ap (λ j. get_or (cells ms (v ∷ vs)) j None) (at_slot ms (v ∷ vs) k same within))
 
 module _ {H : Type 0} where

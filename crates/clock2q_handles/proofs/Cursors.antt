@@ -11,7 +11,7 @@ use Rattle.clock2q_handles.specs.Slots.{Mark, mark_of, mark_on, mark_reach}
 use Rattle.clock2q_handles.proofs.Periods.{rem-same}
 use Rattle.clock2q_handles.proofs.Reading.{slot-again}
 use Rattle.clock2q_handles.proofs.Steps.{past_home}
-use Rattle.clock2q_handles.proofs.Moves.{less_than_lap, refused, reach_told}
+use Rattle.clock2q_handles.proofs.Moves.{less_than_lap, refused, reach_of_meaning}
 use Rattle.clock2q_handles.proofs.Yields.{left_end, left_skip, left_take, left_past, walk-home, walk-at, walk-le, walk-beyond}
 
 -- a remainder that is added to
@@ -181,7 +181,7 @@ module _ {H : Type 0} (slots : List (Option (Placed (ℕ × H)))) where
   pub goes_on : (b : Bool) (s t : Mark) (n : ℕ) → IsTrue b ↔ (mark_reach t < mark_reach s) → b ≡ false → t ≡ mark_of (slot_at slots n) → mark_reach s ≤ reach (slot_at slots n)
   goes_on b s t n test off is = elim (cases_lt (mark_reach t) (mark_reach s)) [
     | inl ends ↦ absurd (refused b test off ends)
-    | inr on ↦ omega (arith, on, reach_told t (slot_at slots n) is)
+    | inr on ↦ omega (arith, on, reach_of_meaning t (slot_at slots n) is)
   ]
 
 -- a walk that looked for s in slot n has found the handle r in slot n', where it looks for s', and has read slots on from w up to w'
@@ -194,7 +194,7 @@ pub has_found : {H : Type 0} (slots : List (Option (Placed (ℕ × H)))) {s s' :
     → IsSome s' → mark_of (slot_at slots n') ≡ s' → left_at slots s n ≡ left_at slots s' n' → IfSome (slot_at slots n') (λ p. r ≡ p.entry.1)
     → w' + unread_at slots s' n' ≡ w + unread_at slots s n + 1 → HasFound slots s s' n n' r w w'
 has_found slots {s' = s'} {n' = n'} r lookup some found left handle read =
-    let far : mark_reach s' ≤ reach (slot_at slots n') = omega (arith, reach_told s' (slot_at slots n') (sym found)) in
+    let far : mark_reach s' ≤ reach (slot_at slots n') = omega (arith, reach_of_meaning s' (slot_at slots n') (sym found)) in
     record {
       far = far;
       read = read;

@@ -41,9 +41,9 @@ mark_parts s t e = (cc, cc)
 module _ {H : Type 0} (x : ℕ) where
   -- the entry of a candidate
   pub candidate : (s : Mark) (o : Option (Placed (ℕ × H))) (d : ℕ) (w : H) → s ≡ mark_of o → s ≡ Some (d, top x) → IfSome o (λ p. w ≡ p.entry.1) → o ≡ Some (placed d (top x, w))
-  candidate s None d w is told handle = absurd (cc)
-  candidate s (Some p) d w is told handle =
-      let parts = mark_parts (d, top x) (p.displacement, p.entry.0) (sym told ∙ is) in
+  candidate s None d w is meaning handle = absurd (cc)
+  candidate s (Some p) d w is meaning handle =
+      let parts = mark_parts (d, top x) (p.displacement, p.entry.0) (sym meaning ∙ is) in
       (ap (λ n. Some (placed n p.entry)) (sym parts.0) ∙ ap (λ f. Some (placed d (f, p.entry.1))) (sym parts.1) ∙ ap (λ u. Some (placed d (top x, u))) (sym handle))
 
 module _ {H : Type 0} (eq : H → H → Bool) (x : ℕ) (v : H) where

@@ -40,30 +40,30 @@ module _ {H : Type 0} where
   mark_reach-mark_of None = refl
   mark_reach-mark_of (Some s) = refl
 
-  pub reach_told : (s : Mark) (o : Option (Placed (ℕ × H))) → s ≡ mark_of o → mark_reach s ≡ reach o
-  reach_told s o is = ap mark_reach is ∙ mark_reach-mark_of o
+  pub reach_of_meaning : (s : Mark) (o : Option (Placed (ℕ × H))) → s ≡ mark_of o → mark_reach s ≡ reach o
+  reach_of_meaning s o is = ap mark_reach is ∙ mark_reach-mark_of o
 
   -- a walk goes on past an entry at least as far from its home
   pub walk_goes_on : (b : Bool) (s : Mark) (o : Option (Placed (ℕ × H))) (d : ℕ) → IsTrue b ↔ (mark_reach s ≤ d) → b ≡ false → s ≡ mark_of o → d < reach o
   walk_goes_on b s o d test off is = elim (cases_lt d (reach o)) [
     | inl on ↦ on
-    | inr ends ↦ absurd (refused b test off (omega (arith, reach_told s o is, ends)))
+    | inr ends ↦ absurd (refused b test off (omega (arith, reach_of_meaning s o is, ends)))
   ]
 
   -- a slot that isn't empty
-  pub occupied_told : (b : Bool) (s : Mark) (o : Option (Placed (ℕ × H))) → IsTrue b ↔ (s ≡ None) → b ≡ false → s ≡ mark_of o → 0 < reach o
-  occupied_told b s None test off is = absurd (refused b test off is)
-  occupied_told b s (Some p) test off is = omega arith
+  pub occupied_of_meaning : (b : Bool) (s : Mark) (o : Option (Placed (ℕ × H))) → IsTrue b ↔ (s ≡ None) → b ≡ false → s ≡ mark_of o → 0 < reach o
+  occupied_of_meaning b s None test off is = absurd (refused b test off is)
+  occupied_of_meaning b s (Some p) test off is = omega arith
 
   -- a slot that is
-  pub vacant_told : (s : Mark) (o : Option (Placed (ℕ × H))) → s ≡ None → s ≡ mark_of o → o ≡ None
-  vacant_told s None e is = refl
-  vacant_told s (Some p) e is = absurd (cc)
+  pub vacant_of_meaning : (s : Mark) (o : Option (Placed (ℕ × H))) → s ≡ None → s ≡ mark_of o → o ≡ None
+  vacant_of_meaning s None e is = refl
+  vacant_of_meaning s (Some p) e is = absurd (cc)
 
   -- a slot whose entry can't move back
-  pub near_told : (b : Bool) (s : Mark) (o : Option (Placed (ℕ × H))) → IsTrue b ↔ (1 < mark_reach s) → b ≡ false → s ≡ mark_of o → reach o ≤ 1
-  near_told b s o test off is = elim (cases_lt 1 (reach o)) [
-    | inl far ↦ absurd (refused b test off (omega (arith, reach_told s o is, far)))
+  pub near_of_meaning : (b : Bool) (s : Mark) (o : Option (Placed (ℕ × H))) → IsTrue b ↔ (1 < mark_reach s) → b ≡ false → s ≡ mark_of o → reach o ≤ 1
+  near_of_meaning b s o test off is = elim (cases_lt 1 (reach o)) [
+    | inl far ↦ absurd (refused b test off (omega (arith, reach_of_meaning s o is, far)))
     | inr near ↦ near
   ]
 

@@ -65,7 +65,7 @@ module _ {E : Type 0} where
     ]
   ])
 
-  -- slots that were opened, told from any hash of the home
+  -- slots that were opened, meaning from any hash of the home
   pub opens-moved : (slots others : List (Option (Placed E))) (m g x n v : ℕ) (e : E) → length slots ≡ m → length others ≡ m → g ≡ x % m → Opens (slot_at slots) (slot_at others) m g n v e
       → ((j : ℕ) → n ≤ j → j < v → 0 < reach (slot_at slots (g + j))) → IsMovedOn (slot_at slots) (slot_at others) m x n v e
   opens-moved slots others m g x n v e len len' at opens full =

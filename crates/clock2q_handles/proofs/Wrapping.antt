@@ -1,4 +1,4 @@
--- What a call over a view of both vectors comes to, told of the vectors.
+-- What a call over a view of both vectors comes to, meaning of the vectors.
 use Rattle.std.proofs.Common.{◌≡◌, ℕ, ◌%◌, ◌++◌, Bool, ap, sym, ◌∙◌, subst, List, length, take, drop, Option}
 use Rattle.std.specs.Bool.{OnTrue}
 use Rattle.std.specs.Fn.{Mut}

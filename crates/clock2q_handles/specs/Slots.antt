@@ -15,9 +15,9 @@ abbrev pub mark_at : ℕ → ℕ → Mark
 mark_at zero f = None
 mark_at (suc d) f = Some (d, f)
 
--- what a word of metadata says
-abbrev pub told : Metadata → Mark
-told m = mark_at (m.word / 256) (m.word % 256)
+-- what a word of metadata means
+abbrev pub meaning : Metadata → Mark
+meaning m = mark_at (m.word / 256) (m.word % 256)
 
 -- what a walk looks for
 abbrev pub sought : Wanted → Mark
@@ -53,7 +53,7 @@ module _ {H : Type 0} where
   abbrev pub cells : List Metadata → List H → List (Option (Placed (ℕ × H)))
   cells [] vs = []
   cells (m ∷ ms) [] = []
-  cells (m ∷ ms) (v ∷ vs) = cell (told m) v ∷ cells ms vs
+  cells (m ∷ ms) (v ∷ vs) = cell (meaning m) v ∷ cells ms vs
 
 -- what contracts see of the two vectors: what stands in each slot, and how often a slot was written
 pub record SlotsValue (H : Type 0) : Type 0 where

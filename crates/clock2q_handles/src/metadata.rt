@@ -20,10 +20,10 @@ pub struct Metadata {
 }
 
 impl Metadata {
-    ghost use Rattle.clock2q_handles.specs.Slots.{told, sought, mark_reach, mark_on, mark_back};
+    ghost use Rattle.clock2q_handles.specs.Slots.{meaning, sought, mark_reach, mark_on, mark_back};
 
     pub(super) fn empty() -> Metadata
-        ensures { told result ≡ None }
+        ensures { meaning result ≡ None }
     {
         Metadata { word: EMPTY }
     }
@@ -31,7 +31,7 @@ impl Metadata {
     /// Returns the metadata of an entry of `hash` that stands `displacement` slots past its home.
     pub(super) fn new(hash: u64, displacement: usize) -> Metadata
         requires { displacement ≤ MAX_DISPLACEMENT }
-        ensures { told result ≡ Some (displacement, top hash) }
+        ensures { meaning result ≡ Some (displacement, top hash) }
     {
         Metadata {
             word: (displacement as u32 + 1) * UNIT + (hash >> 56) as u32,
@@ -39,7 +39,7 @@ impl Metadata {
     }
 
     pub(super) fn is_empty(self) -> bool
-        ensures { IsTrue result ↔ (told self ≡ None) }
+        ensures { IsTrue result ↔ (meaning self ≡ None) }
     {
         self.word < UNIT
     }
@@ -47,14 +47,14 @@ impl Metadata {
     /// Returns true if a walk that is `distance` slots past its home ends here: the slot is empty,
     /// or its entry is nearer to its own home.
     pub(super) fn ends_walk(self, distance: usize) -> bool
-        ensures { IsTrue result ↔ (mark_reach (told self) ≤ distance) }
+        ensures { IsTrue result ↔ (mark_reach (meaning self) ≤ distance) }
     {
         (self.word / UNIT) as usize <= distance
     }
 
     /// Returns true if a walk that looks for `wanted` in this slot ends here.
     pub(super) fn ends_walk_for(self, wanted: Wanted) -> bool
-        ensures { IsTrue result ↔ (mark_reach (told self) < mark_reach (sought wanted)) }
+        ensures { IsTrue result ↔ (mark_reach (meaning self) < mark_reach (sought wanted)) }
     {
         u64::from(self.word) < wanted.word / WANTED_UNIT * WANTED_UNIT
     }
@@ -62,30 +62,30 @@ impl Metadata {
     /// Returns true if the slot's entry is of the kind that is looked for.
     pub(super) fn is(self, wanted: Wanted) -> bool
         requires { IsSome (sought wanted) }
-        ensures { IsTrue result ↔ (told self ≡ sought wanted) }
+        ensures { IsTrue result ↔ (meaning self ≡ sought wanted) }
     {
         u64::from(self.word) == wanted.word
     }
 
     /// Returns true if the entry may move on by one slot.
     pub(super) fn can_move_on(self) -> bool
-        ensures { IsTrue result ↔ (mark_reach (told self) ≤ MAX_DISPLACEMENT) }
+        ensures { IsTrue result ↔ (mark_reach (meaning self) ≤ MAX_DISPLACEMENT) }
     {
         (self.word / UNIT) as usize <= MAX_DISPLACEMENT
     }
 
     /// Returns true if there is an entry, and it isn't at its home.
     pub(super) fn can_move_back(self) -> bool
-        ensures { IsTrue result ↔ (1 < mark_reach (told self)) }
+        ensures { IsTrue result ↔ (1 < mark_reach (meaning self)) }
     {
         2 * UNIT <= self.word
     }
 
     /// Returns the metadata of the same entry one slot further past its home.
     pub(super) fn one_further(self) -> Metadata
-        requires some { IsSome (told self) }
-        requires room { mark_reach (told self) ≤ MAX_DISPLACEMENT }
-        ensures { told result ≡ mark_on (told self) }
+        requires some { IsSome (meaning self) }
+        requires room { mark_reach (meaning self) ≤ MAX_DISPLACEMENT }
+        ensures { meaning result ≡ mark_on (meaning self) }
     {
         Metadata {
             word: self.word + UNIT,
@@ -94,8 +94,8 @@ impl Metadata {
 
     /// Returns the metadata of the same entry one slot nearer to its home.
     pub(super) fn one_nearer(self) -> Metadata
-        requires { 1 < mark_reach (told self) }
-        ensures { told result ≡ mark_back (told self) }
+        requires { 1 < mark_reach (meaning self) }
+        ensures { meaning result ≡ mark_back (meaning self) }
     {
         Metadata {
             word: self.word - UNIT,
@@ -115,7 +115,7 @@ pub struct Wanted {
 }
 
 impl Wanted {
-    ghost use Rattle.clock2q_handles.specs.Slots.{told, sought, mark_reach, mark_on};
+    ghost use Rattle.clock2q_handles.specs.Slots.{meaning, sought, mark_reach, mark_on};
 
     pub(super) fn nothing() -> Wanted
         ensures { sought result ≡ None }
@@ -152,7 +152,7 @@ impl Wanted {
     /// Returns the metadata of an entry that is inserted where the walk ends.
     pub(super) fn metadata(self) -> Metadata
         requires { mark_reach (sought self) ≤ MAX_DISPLACEMENT + 1 }
-        ensures { told result ≡ sought self }
+        ensures { meaning result ≡ sought self }
     {
         Metadata {
             word: self.word as u32,

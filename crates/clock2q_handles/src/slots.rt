@@ -5,7 +5,7 @@ ghost use Rattle.clock2q_handles.specs.Homes.{top, is_entry_of, listed};
 ghost use Rattle.clock2q_handles.specs.Layout.{IsTidy, slot_at, reach, homes_of};
 ghost use Rattle.clock2q_handles.specs.Moves.{MayMove, Moves};
 ghost use Rattle.clock2q_handles.specs.Shifts.{PutsIn};
-ghost use Rattle.clock2q_handles.specs.Slots.{cell, cells, told, sought, IsSlotCount};
+ghost use Rattle.clock2q_handles.specs.Slots.{cell, cells, meaning, sought, IsSlotCount};
 ghost use Rattle.std.specs.Bool.{OnTrue, OnFalse};
 ghost use Rattle.std.specs.List.{list_any};
 ghost use Rattle.std.specs.Prelude.{false, ◌≡◌, ◌+◌, ◌%◌, ◌^◌, ◌<◌, ◌≤◌, [], ℕ, None, IfOk, IfSome, length, replicate, set};
@@ -187,7 +187,7 @@ impl<H: Copy + Default, A: Allocator> Slots<H, A> {
     pub(super) fn metadata(&self, home: usize, distance: usize) -> Metadata
         requires home { home < length self.now.slots }
         requires distance { distance ≤ length self.now.slots }
-        ensures told { told result ≡ mark_of (slot_at self.now.slots (home + distance)) }
+        ensures meaning { meaning result ≡ mark_of (slot_at self.now.slots (home + distance)) }
         ensures small { length self.now.slots < 2 ^ 63 }
     {
         self.metadata[self.slot(home, distance)]
@@ -205,7 +205,7 @@ impl<H: Copy + Default, A: Allocator> Slots<H, A> {
     pub(super) fn write(&mut self, home: usize, distance: usize, metadata: Metadata, handle: H)
         requires home { home < length self.old.slots }
         requires distance { distance ≤ length self.old.slots }
-        ensures { self.new ≡ slots_value (set self.old.slots ((home + distance) % length self.old.slots) (cell (told metadata) handle)) (self.old.writes + 1) }
+        ensures { self.new ≡ slots_value (set self.old.slots ((home + distance) % length self.old.slots) (cell (meaning metadata) handle)) (self.old.writes + 1) }
     {
         let slot = self.slot(home, distance);
         write_into(
@@ -297,7 +297,7 @@ fn write_into<H: Copy>(
     requires same { length handles.old ≡ length metadata.old }
     requires slot_count { IsSlotCount (length metadata.old) }
     requires within { slot < length (cells metadata.old handles.old) }
-    ensures written { cells metadata.new handles.new ≡ set (cells metadata.old handles.old) slot (cell (told word) handle) }
+    ensures written { cells metadata.new handles.new ≡ set (cells metadata.old handles.old) slot (cell (meaning word) handle) }
     ensures counted { writes.new.total ≡ writes.old.total + 1 }
     ensures as_many { length handles.new ≡ length metadata.new }
     ensures len { length metadata.new ≡ length metadata.old }

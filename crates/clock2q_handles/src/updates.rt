@@ -5,7 +5,7 @@ ghost use Rattle.clock2q_handles.specs.Homes.{top, is_entry_of, listed};
 ghost use Rattle.clock2q_handles.specs.Layout.{IsTidy, reach, slot_at, placed, homes_of, AreNear};
 ghost use Rattle.clock2q_handles.specs.Moves.{MayMove, Moves};
 ghost use Rattle.clock2q_handles.specs.Shifts.{Opens, Closes, HasCome, IsVacancy, PutsIn};
-ghost use Rattle.clock2q_handles.specs.Slots.{cells, told, sought};
+ghost use Rattle.clock2q_handles.specs.Slots.{cells, meaning, sought};
 ghost use Rattle.clock2q_handles.specs.Views.{shown, IsView, IsSameView};
 ghost use Rattle.std.specs.Bool.{OnTrue, OnFalse};
 ghost use Rattle.std.specs.List.{list_any};
@@ -163,7 +163,7 @@ impl<'a, H: Copy + Default> SlotsMut<'a, H> {
         requires within { slot < length (shown self.old) }
         ensures same { IsSameView self.old self.new }
         ensures view { IsView self.new }
-        ensures opens { (h n f : ℕ) → HasCome (shown self.old) h n slot → told metadata ≡ Some (n, f) →
+        ensures opens { (h n f : ℕ) → HasCome (shown self.old) h n slot → meaning metadata ≡ Some (n, f) →
             (v : ℕ) × IsVacancy (slot_at (shown self.old)) h v × Opens (slot_at (shown self.old)) (slot_at (shown self.new)) (length (shown self.old)) h n v (f, handle)
             × (self.new.writes.now.total + n ≡ self.old.writes.now.total + v + 1) }
         ensures len { length (shown self.new) ≡ length (shown self.old) }

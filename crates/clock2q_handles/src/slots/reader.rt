@@ -32,7 +32,7 @@ impl<'a, H> Model for Reader<'a, H> {
 
 impl<'a, H: Copy + Default> Reader<'a, H> {
     ghost use Rattle.clock2q_handles.specs.Readers.{reader_value};
-    ghost use Rattle.clock2q_handles.specs.Slots.{told, mark_of};
+    ghost use Rattle.clock2q_handles.specs.Slots.{meaning, mark_of};
 
     /// Returns a reader that has read nothing yet.
     pub(crate) fn new<A: Allocator>(slots: &'a Slots<H, A>) -> Reader<'a, H>
@@ -56,7 +56,7 @@ impl<'a, H: Copy + Default> Reader<'a, H> {
     /// Reads the metadata of a slot.
     pub(crate) fn read(&mut self, slot: usize) -> Metadata
         requires { slot < length self.old.slots }
-        ensures told { told result ≡ mark_of (slot_at self.old.slots slot) }
+        ensures meaning { meaning result ≡ mark_of (slot_at self.old.slots slot) }
         ensures same { self.new.slots ≡ self.old.slots }
         ensures counted { self.new.reads ≡ self.old.reads + 1 }
         ensures handles { self.new.handles ≡ self.old.handles }

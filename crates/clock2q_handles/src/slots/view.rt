@@ -16,7 +16,7 @@ pub struct SlotsMut<'a, H> {
 }
 
 impl<'a, H: Copy> SlotsMut<'a, H> {
-    ghost use Rattle.clock2q_handles.specs.Slots.{cell, told, mark_of};
+    ghost use Rattle.clock2q_handles.specs.Slots.{cell, meaning, mark_of};
 
     pub(crate) fn new(
         metadata: &'a mut [Metadata],
@@ -67,7 +67,7 @@ impl<'a, H: Copy> SlotsMut<'a, H> {
     pub(crate) fn metadata(&self, slot: usize) -> Metadata
         requires view { IsView self.now }
         requires within { slot < length (shown self.now) }
-        ensures { told result ≡ mark_of (slot_at (shown self.now) slot) }
+        ensures { meaning result ≡ mark_of (slot_at (shown self.now) slot) }
     {
         self.metadata[slot]
     }
@@ -86,7 +86,7 @@ impl<'a, H: Copy> SlotsMut<'a, H> {
         requires within { slot < length (shown self.old) }
         ensures same { IsSameView self.old self.new }
         ensures view { IsView self.new }
-        ensures written { shown self.new ≡ set (shown self.old) slot (cell (told metadata) handle) }
+        ensures written { shown self.new ≡ set (shown self.old) slot (cell (meaning metadata) handle) }
         ensures counted { self.new.writes.now.total ≡ self.old.writes.now.total + 1 }
     {
         self.metadata[slot] = metadata;
@@ -103,7 +103,7 @@ pub struct SlotsRef<'a, H> {
 }
 
 impl<'a, H: Copy> SlotsRef<'a, H> {
-    ghost use Rattle.clock2q_handles.specs.Slots.{cells, told, mark_of};
+    ghost use Rattle.clock2q_handles.specs.Slots.{cells, meaning, mark_of};
 
     pub(crate) fn new(metadata: &'a [Metadata], handles: &'a [H]) -> SlotsRef<'a, H>
         ensures metadata { result.metadata.now ≡ metadata.now }
@@ -122,7 +122,7 @@ impl<'a, H: Copy> SlotsRef<'a, H> {
     pub(crate) fn metadata(&self, slot: usize) -> Metadata
         requires same { length self.now.handles.now ≡ length self.now.metadata.now }
         requires within { slot < length self.now.metadata.now }
-        ensures { told result ≡ mark_of (slot_at (cells self.now.metadata.now self.now.handles.now) slot) }
+        ensures { meaning result ≡ mark_of (slot_at (cells self.now.metadata.now self.now.handles.now) slot) }
     {
         self.metadata[slot]
     }

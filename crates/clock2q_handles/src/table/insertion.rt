@@ -163,7 +163,7 @@ impl<H: Copy + Eq + Default, A: Allocator> Table<H, A> {
     {
         let home = self.slots.home(hash);
         let distance = self.slots.end(home);
-        self.place(home, distance, hash, handle)
+        self.insert_at_distance(home, distance, hash, handle)
     }
 
     /// Returns the first candidate that is accepted, or inserts the handle where none is.
@@ -224,7 +224,7 @@ impl<H: Copy + Eq + Default, A: Allocator> Table<H, A> {
     }
 
     /// Inserts an entry where the walk for it ended.
-    fn place(
+    fn insert_at_distance(
         &mut self,
         home: usize,
         distance: usize,

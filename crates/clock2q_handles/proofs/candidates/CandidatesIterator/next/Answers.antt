@@ -2,7 +2,7 @@ use Rattle.std.proofs.Common.{◌≡◌, ◌+◌, ◌%◌, ◌≤◌, length, ar
 use Rattle.clock2q_handles.specs.Layout.{reach, slot_at}
 use Rattle.clock2q_handles.specs.Candidates.{left_at, unread_at, IsLookup}
 use Rattle.clock2q_handles.specs.Slots.{sought, mark_reach}
-use Rattle.clock2q_handles.proofs.Moves.{reach_told}
+use Rattle.clock2q_handles.proofs.Moves.{reach_of_meaning}
 use Rattle.clock2q_handles.proofs.Yields.{yields_progress}
 use Rattle.clock2q_handles.proofs.Cursors.{HasStepped, lookup_steps}
 use Rattle.clock2q_handles.proofs.candidates.CandidatesIterator.next.Given.{Over}
@@ -11,7 +11,7 @@ use Rattle.clock2q_handles.proofs.candidates.CandidatesIterator.next.Goals as go
 
 -- the candidate's slot doesn't end the walk
 far : (g : Over) (c : After-handle-handle g) → mark_reach (sought c.in-Ok.wanted) ≤ reach (slot_at c.self.inside.reader.slots c.in-Ok.slot)
-far g c = omega (arith, reach_told (sought c.in-Ok.wanted) (slot_at c.self.inside.reader.slots c.in-Ok.slot) (sym c.in-Ok.ensures.found))
+far g c = omega (arith, reach_of_meaning (sought c.in-Ok.wanted) (slot_at c.self.inside.reader.slots c.in-Ok.slot) (sym c.in-Ok.ensures.found))
 
 pub next-self-inside-requires-clause-room : goal.next-self-inside-requires-clause-room
 next-self-inside-requires-clause-room g c = omega (arith, far g (goal.at.next-self-inside-requires-clause-room g c).After-handle-handle, c.in-Ok.ensures.lookup.near c.in-Ok.slot)

@@ -1,11 +1,11 @@
 use Rattle.std.proofs.Common.{◌+◌, ◌%◌, length, set, ap, ◌∙◌, arith, sym}
-use Rattle.clock2q_handles.specs.Slots.{slots_value, cell, told}
+use Rattle.clock2q_handles.specs.Slots.{slots_value, cell, meaning}
 use Rattle.clock2q_handles.proofs.Wrapping.{cells_along, cells_back}
 use Rattle.clock2q_handles.proofs.slots.Slots.write.Goals as goal
 
 pub returns : goal.returns
 returns g c =
-    let x = cell (told c.args.metadata) c.args.handle in
+    let x = cell (meaning c.args.metadata) c.args.handle in
     let new = cells_back c.write_into.new.metadata c.self.inside.metadata.items c.write_into.new.handles c.self.inside.handles.items
     c.self.inside.metadata.len c.self.inside.handles.len
     (omega (arith, c.write_into.ensures.len, c.as_mut_slice.ensures.len, ap length c.as_mut_slice.ensures.value, c.self.inside.metadata.ok.0))

@@ -15,16 +15,16 @@ pub returns : goal.returns
 returns g c =
     let slots = c.self.inside.slots.slots in
     let homes = c.args.self.now.homes in
-    let after = c.place.new.self.homes in
+    let after = c.insert_at_distance.new.self.homes in
     record {
-      put = c.place.ensures.put;
-      refused = c.place.ensures.refused;
+      put = c.insert_at_distance.ensures.put;
+      refused = c.insert_at_distance.ensures.refused;
       few = λ few.
-          ok_where_no_error c.place.result (put_err homes after c.args.hash c.args.handle c.place.result c.place.ensures.put) (few_fit homes c.args.hash c.args.handle c.requires.room few);
-      writes = c.place.ensures.writes;
-      restores = on_ok c.place.result (λ is fresh.
+          ok_where_no_error c.insert_at_distance.result (put_err homes after c.args.hash c.args.handle c.insert_at_distance.result c.insert_at_distance.ensures.put) (few_fit homes c.args.hash c.args.handle c.requires.room few);
+      writes = c.insert_at_distance.ensures.writes;
+      restores = on_ok c.insert_at_distance.result (λ is fresh.
           restored_by g.H.PartialEq.eq slots homes after c.args.hash c.args.handle
           (ap (λ t. t.homes) c.self.view_is) c.self.invariant.tidy c.requires.room (g.met.H.Eq.laws.refl c.args.handle) is fresh
-          ∙ ap (λ t. t.slots) c.self.view_is) (put_ok homes after c.args.hash c.args.handle c.place.result c.place.ensures.put);
-      laid = c.place.ensures.laid;
+          ∙ ap (λ t. t.slots) c.self.view_is) (put_ok homes after c.args.hash c.args.handle c.insert_at_distance.result c.insert_at_distance.ensures.put);
+      laid = c.insert_at_distance.ensures.laid;
     }

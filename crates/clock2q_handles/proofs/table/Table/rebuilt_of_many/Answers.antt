@@ -10,7 +10,7 @@ use Rattle.clock2q_handles.specs.Table.{IsTable}
 use Rattle.clock2q_handles.proofs.TidyLayout.{tidy-layout}
 use Rattle.clock2q_handles.proofs.Hashes.{entries-all}
 use Rattle.clock2q_handles.proofs.Steps.{table-laid}
-use Rattle.clock2q_handles.proofs.Moves.{occupied_told, vacant_told}
+use Rattle.clock2q_handles.proofs.Moves.{occupied_of_meaning, vacant_of_meaning}
 use Rattle.clock2q_handles.proofs.Tables.{empty, table-empty, homes_of-empty}
 use Rattle.clock2q_handles.proofs.RebuildSteps.{Reaches-push, Asks-push, step_empty, handles_empty, step_held, handles_more, step_made, step_room, step_short, HasCome, Holds}
 use Rattle.clock2q_handles.proofs.table.Table.rebuilt_of_many.Given.{Over}
@@ -44,7 +44,7 @@ numbered n = omega arith
 -- the entry there
 holds : (g : Over) (c : After-handle-handle g) → Holds (cells c.view-old.result.metadata.now c.view-old.result.handles.now) c.loop-slot.slot c.handle-handle.result
 holds g c = record {
-  occupied = occupied_told c.is_empty.result _ (slot_at (cells c.view-old.result.metadata.now c.view-old.result.handles.now) (0 + c.loop-slot.slot)) c.is_empty.ensures c.if-not-is_empty.true (c.metadata.ensures ∙ ap (λ n. mark_of (slot_at (cells c.view-old.result.metadata.now c.view-old.result.handles.now) n)) (numbered c.loop-slot.slot));
+  occupied = occupied_of_meaning c.is_empty.result _ (slot_at (cells c.view-old.result.metadata.now c.view-old.result.handles.now) (0 + c.loop-slot.slot)) c.is_empty.ensures c.if-not-is_empty.true (c.metadata.ensures ∙ ap (λ n. mark_of (slot_at (cells c.view-old.result.metadata.now c.view-old.result.handles.now) n)) (numbered c.loop-slot.slot));
   handle = subst (λ n. IfSome (slot_at (cells c.view-old.result.metadata.now c.view-old.result.handles.now) n) (λ p. c.handle-handle.result ≡ p.entry.1)) (numbered c.loop-slot.slot) c.handle-handle.ensures;
 }
 
@@ -101,7 +101,7 @@ loop-slot-preserved g c =
           let v = w.handle-handle.result in
           let reached = c.loop-slot.invariant.reached in
           let entry : Holds slots c.loop-slot.slot v = record {
-            occupied = occupied_told c.is_empty.result _ (slot_at slots (0 + c.loop-slot.slot)) c.is_empty.ensures w.if-not-is_empty.true (c.metadata.ensures ∙ ap (λ n. mark_of (slot_at slots n)) (numbered c.loop-slot.slot));
+            occupied = occupied_of_meaning c.is_empty.result _ (slot_at slots (0 + c.loop-slot.slot)) c.is_empty.ensures w.if-not-is_empty.true (c.metadata.ensures ∙ ap (λ n. mark_of (slot_at slots n)) (numbered c.loop-slot.slot));
             handle = subst (λ n. IfSome (slot_at slots n) (λ p. w.handle-handle.result ≡ p.entry.1)) (numbered c.loop-slot.slot) w.handle-handle.ensures;
           } in
           let held = step_held c.args.self.now.homes slots c.self.inside.len c.args.count c.loop-slot.slot at v entry in
@@ -127,7 +127,7 @@ loop-slot-preserved g c =
                 (subst (λ hs. Asks g.F.FnMut key c.args.rehash.now hs w.rehash-hash.new.self) (sym more) pushed);
           }
       | else-not-is_empty w ↦
-          let empty = vacant_told _ (slot_at slots (0 + c.loop-slot.slot)) (c.is_empty.ensures.0 w.if-not-is_empty.false) (c.metadata.ensures ∙ ap (λ n. mark_of (slot_at slots n)) (numbered c.loop-slot.slot)) in
+          let empty = vacant_of_meaning _ (slot_at slots (0 + c.loop-slot.slot)) (c.is_empty.ensures.0 w.if-not-is_empty.false) (c.metadata.ensures ∙ ap (λ n. mark_of (slot_at slots n)) (numbered c.loop-slot.slot)) in
           let none = handles_empty c.args.self.now.homes slots c.self.inside.len c.args.count c.loop-slot.slot at empty in
           record {
             reached = (c.loop-slot.invariant.reached.0, subst (λ f. Reaches g.F.FnMut (IsHeld c.args.self.now.homes) c.args.rehash.now c.loop-slot.invariant.reached.0 f) (sym w.rehash-is) c.loop-slot.invariant.reached.1);

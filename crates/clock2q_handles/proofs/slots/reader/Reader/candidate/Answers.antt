@@ -1,8 +1,8 @@
 use Rattle.std.proofs.Common.{◌≡◌, ◌+◌, ◌%◌, ◌≤◌, length, ap, ◌∙◌, arith, subst}
 use Rattle.clock2q_handles.specs.Layout.{slot_at, reach}
-use Rattle.clock2q_handles.specs.Slots.{told, sought, mark_of, mark_on, mark_reach}
+use Rattle.clock2q_handles.specs.Slots.{meaning, sought, mark_of, mark_on, mark_reach}
 use Rattle.clock2q_handles.specs.declared.metadata.Wanted.{Wanted}
-use Rattle.clock2q_handles.proofs.Moves.{reach_told, refused}
+use Rattle.clock2q_handles.proofs.Moves.{reach_of_meaning, refused}
 use Rattle.clock2q_handles.proofs.Cursors.{lookup_ends, lookup_steps, goes_on, HasStepped}
 use Rattle.clock2q_handles.proofs.Carrying.{walks_on}
 use Rattle.clock2q_handles.proofs.slots.reader.Reader.candidate.Given.{Over}
@@ -10,8 +10,8 @@ use Rattle.clock2q_handles.proofs.slots.reader.Reader.candidate.Goals.{After-is,
 use Rattle.clock2q_handles.proofs.slots.reader.Reader.candidate.Goals as goal
 
 -- the slot that was read
-here : (g : Over) (c : After-is g) → told c.read-metadata.result ≡ mark_of (slot_at c.args.self.now.slots c.loop-metadata.slot)
-here g c = subst (λ s. told c.read-metadata.result ≡ mark_of (slot_at s c.loop-metadata.slot)) c.loop-metadata.invariant.same c.read-metadata.ensures.told
+here : (g : Over) (c : After-is g) → meaning c.read-metadata.result ≡ mark_of (slot_at c.args.self.now.slots c.loop-metadata.slot)
+here g c = subst (λ s. meaning c.read-metadata.result ≡ mark_of (slot_at s c.loop-metadata.slot)) c.loop-metadata.invariant.same c.read-metadata.ensures.meaning
 
 pub returns-then-ends_walk_for-clause-none : goal.returns-then-ends_walk_for-clause-none
 returns-then-ends_walk_for-clause-none g c =
@@ -19,7 +19,7 @@ returns-then-ends_walk_for-clause-none g c =
     let l = c.loop-metadata.invariant in
     let mark = here g (goal.at.returns-then-ends_walk_for-clause-none g c).After-is in
     l.left ∙ (lookup_ends slots (sought c.loop-metadata.wanted) c.loop-metadata.slot l.some l.lookup
-    (omega (arith, reach_told _ (slot_at slots c.loop-metadata.slot) mark, c.ends_walk_for.ensures.0 c.if-ends_walk_for.true))).0
+    (omega (arith, reach_of_meaning _ (slot_at slots c.loop-metadata.slot) mark, c.ends_walk_for.ensures.0 c.if-ends_walk_for.true))).0
 
 pub returns-then-ends_walk_for-clause-read_all : goal.returns-then-ends_walk_for-clause-read_all
 returns-then-ends_walk_for-clause-read_all g c =
@@ -28,7 +28,7 @@ returns-then-ends_walk_for-clause-read_all g c =
     let mark = here g (goal.at.returns-then-ends_walk_for-clause-read_all g c).After-is in
     let end =
     lookup_ends slots (sought c.loop-metadata.wanted) c.loop-metadata.slot l.some l.lookup
-    (omega (arith, reach_told _ (slot_at slots c.loop-metadata.slot) mark, c.ends_walk_for.ensures.0 c.if-ends_walk_for.true)) in
+    (omega (arith, reach_of_meaning _ (slot_at slots c.loop-metadata.slot) mark, c.ends_walk_for.ensures.0 c.if-ends_walk_for.true)) in
     omega (arith, l.read, end.1, c.read-metadata.ensures.counted)
 
 pub returns-then-ends_walk_for-clause-ends : goal.returns-then-ends_walk_for-clause-ends
@@ -37,14 +37,14 @@ returns-then-ends_walk_for-clause-ends g c x walk =
     let mark = here g (goal.at.returns-then-ends_walk_for-clause-ends g c).After-is in
     record {
       walk = c.loop-metadata.invariant.walks x walk;
-      stop = omega (arith, reach_told _ (slot_at slots c.loop-metadata.slot) mark, c.ends_walk_for.ensures.0 c.if-ends_walk_for.true);
+      stop = omega (arith, reach_of_meaning _ (slot_at slots c.loop-metadata.slot) mark, c.ends_walk_for.ensures.0 c.if-ends_walk_for.true);
     }
 
-on : (g : Over) (c : After-after-slot g) → told c.read-metadata.result ≡ mark_of (slot_at c.args.self.now.slots c.loop-metadata.slot)
+on : (g : Over) (c : After-after-slot g) → meaning c.read-metadata.result ≡ mark_of (slot_at c.args.self.now.slots c.loop-metadata.slot)
     → mark_reach (sought c.loop-metadata.wanted) ≤ reach (slot_at c.args.self.now.slots c.loop-metadata.slot)
 on g c mark =
     goes_on c.args.self.now.slots c.ends_walk_for.result (sought c.loop-metadata.wanted)
-    (told c.read-metadata.result) c.loop-metadata.slot c.ends_walk_for.ensures c.if-ends_walk_for.false mark
+    (meaning c.read-metadata.result) c.loop-metadata.slot c.ends_walk_for.ensures c.if-ends_walk_for.false mark
 
 pub next-wanted-requires-clause-room : goal.next-wanted-requires-clause-room
 next-wanted-requires-clause-room g c =
@@ -52,7 +52,7 @@ next-wanted-requires-clause-room g c =
     omega (arith, on g before.After-after-slot (here g before.After-is), c.loop-metadata.invariant.lookup.near c.loop-metadata.slot)
 
 -- the walk goes on to the next slot
-gone : (g : Over) (c : After-after-slot g) (mark : told c.read-metadata.result ≡ mark_of (slot_at c.args.self.now.slots c.loop-metadata.slot)) (wanted : Wanted)
+gone : (g : Over) (c : After-after-slot g) (mark : meaning c.read-metadata.result ≡ mark_of (slot_at c.args.self.now.slots c.loop-metadata.slot)) (wanted : Wanted)
     → sought wanted ≡ mark_on (sought c.loop-metadata.wanted)
     → HasStepped c.args.self.now.slots (sought c.loop-metadata.wanted) (sought wanted) c.loop-metadata.slot c.after-slot.result
 gone g c mark wanted is =

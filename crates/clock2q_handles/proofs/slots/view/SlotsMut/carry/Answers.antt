@@ -1,5 +1,5 @@
 use Rattle.std.proofs.Common.{rules, ◌≡◌, ◌+◌, length, arith, ap, sym, subst}
-use Rattle.clock2q_handles.specs.Slots.{cell, told}
+use Rattle.clock2q_handles.specs.Slots.{cell, meaning}
 use Rattle.clock2q_handles.specs.Views.{shown}
 use Rattle.clock2q_handles.proofs.Periods.{lap}
 use Rattle.clock2q_handles.proofs.Moves.{refused}
@@ -13,7 +13,7 @@ loop-there-init g c = record {
   same = search rules;
   view = c.requires.view;
   state =
-      carry_begins (shown c.args.self.now) (cell (told c.args.metadata) c.args.handle) (told c.metadata-there.result)
+      carry_begins (shown c.args.self.now) (cell (meaning c.args.metadata) c.args.handle) (meaning c.metadata-there.result)
       c.args.slot c.args.self.now.writes.now.total c.requires.within c.metadata-there.ensures;
 }
 
@@ -22,12 +22,12 @@ one_further-metadata-requires-clause-room g c =
     carry_room (shown c.args.self.now) (shown c.loop-there.self) c.requires.tidy c.loop-there.invariant.state c.requires.near
 
 more : (g : Over) (c : After-metadata-there-in-loop-there g)
-    → CarryState (shown c.args.self.now) (shown c.write.new.self) (cell (told c.args.metadata) c.args.handle)
-    (cell (told c.one_further-metadata.result) c.handle-held.result) (told c.metadata-there-in-loop-there.result) c.args.slot c.after-slot.result
+    → CarryState (shown c.args.self.now) (shown c.write.new.self) (cell (meaning c.args.metadata) c.args.handle)
+    (cell (meaning c.one_further-metadata.result) c.handle-held.result) (meaning c.metadata-there-in-loop-there.result) c.args.slot c.after-slot.result
     c.args.self.now.writes.now.total (c.loop-there.self.writes.now.total + 1)
 more g c = carry_goes (shown c.args.self.now) (shown c.loop-there.self) c.requires.tidy c.loop-there.invariant.state
     (shown c.write.new.self) c.after-slot.result c.handle-held.result
-    (told c.metadata-there-in-loop-there.result) (told c.one_further-metadata.result) (λ e. refused c.is_empty.result c.is_empty.ensures c.loop-there-test.true e)
+    (meaning c.metadata-there-in-loop-there.result) (meaning c.one_further-metadata.result) (λ e. refused c.is_empty.result c.is_empty.ensures c.loop-there-test.true e)
     c.write.ensures.written c.handle-held.ensures c.one_further-metadata.ensures c.after-slot.ensures.after c.metadata-there-in-loop-there.ensures
 
 pub loop-there-smaller : goal.loop-there-smaller
@@ -46,8 +46,8 @@ loop-there-preserved g c =
       same = search rules;
       view = c.write.ensures.view;
       state =
-          subst (λ w. CarryState (shown c.args.self.now) (shown c.write.new.self) (cell (told c.args.metadata) c.args.handle)
-          (cell (told c.one_further-metadata.result) c.handle-held.result) (told c.metadata-there-in-loop-there.result) c.args.slot c.after-slot.result
+          subst (λ w. CarryState (shown c.args.self.now) (shown c.write.new.self) (cell (meaning c.args.metadata) c.args.handle)
+          (cell (meaning c.one_further-metadata.result) c.handle-held.result) (meaning c.metadata-there-in-loop-there.result) c.args.slot c.after-slot.result
           c.args.self.now.writes.now.total w) (sym c.write.ensures.counted) next;
     }
 

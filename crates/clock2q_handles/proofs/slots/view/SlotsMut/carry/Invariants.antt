@@ -1,5 +1,5 @@
 use Rattle.std.proofs.Common.{◌-◌, length}
-use Rattle.clock2q_handles.specs.Slots.{cell, told}
+use Rattle.clock2q_handles.specs.Slots.{cell, meaning}
 use Rattle.clock2q_handles.specs.Views.{shown, IsView, IsSameView}
 use Rattle.clock2q_handles.proofs.Periods.{lap}
 use Rattle.clock2q_handles.proofs.Carrying.{CarryState}
@@ -9,8 +9,8 @@ abbrev pub invariant-loop-there : goal.invariant-loop-there
 invariant-loop-there g l = record {
   same : IsSameView l.initial.self l.self;
   view : IsView l.self;
-  state : CarryState (shown l.initial.self) (shown l.self) (cell (told l.initial.metadata) l.initial.handle)
-      (cell (told l.metadata) l.handle) (told l.there) l.initial.slot l.slot l.initial.self.writes.now.total l.self.writes.now.total;
+  state : CarryState (shown l.initial.self) (shown l.self) (cell (meaning l.initial.metadata) l.initial.handle)
+      (cell (meaning l.metadata) l.handle) (meaning l.there) l.initial.slot l.slot l.initial.self.writes.now.total l.self.writes.now.total;
 }
 
 abbrev pub decreases-loop-there : goal.decreases-loop-there

@@ -3,7 +3,7 @@ use Rattle.clock2q_handles.specs.Layout.{slot_at}
 use Rattle.clock2q_handles.specs.Slots.{cells, mark_of}
 use Rattle.clock2q_handles.specs.Views.{shown, IsView}
 use Rattle.clock2q_handles.proofs.Cells.{length-cells}
-use Rattle.clock2q_handles.proofs.Moves.{occupied_told, vacant_told}
+use Rattle.clock2q_handles.proofs.Moves.{occupied_of_meaning, vacant_of_meaning}
 use Rattle.clock2q_handles.proofs.RebuildOverView.{MovedSo, moving_begins, moving_past, moving_takes, moving_near, moving_some, moving_on, moving_ends}
 use Rattle.clock2q_handles.proofs.RebuildSteps.{Holds}
 use Rattle.clock2q_handles.specs.Slots.{IsSlotCount}
@@ -32,7 +32,7 @@ holds g c =
     let slots = cells c.args.old.metadata.now c.args.old.handles.now in
     record {
       occupied =
-          occupied_told c.is_empty.result _ (slot_at slots (0 + c.loop-slot.slot)) c.is_empty.ensures c.if-not-is_empty.true
+          occupied_of_meaning c.is_empty.result _ (slot_at slots (0 + c.loop-slot.slot)) c.is_empty.ensures c.if-not-is_empty.true
           (c.metadata.ensures ∙ ap (λ n. mark_of (slot_at slots n)) (numbered c.loop-slot.slot));
       handle = subst (λ n. IfSome (slot_at slots n) (λ p. c.handle-handle.result ≡ p.entry.1)) (numbered c.loop-slot.slot) c.handle-handle.ensures;
     }
@@ -69,7 +69,7 @@ loop-slot-preserved g c =
           let v = w.handle-handle.result in
           let entry : Holds slots c.loop-slot.slot v = record {
             occupied =
-                occupied_told c.is_empty.result _ (slot_at slots (0 + c.loop-slot.slot))
+                occupied_of_meaning c.is_empty.result _ (slot_at slots (0 + c.loop-slot.slot))
                 c.is_empty.ensures w.if-not-is_empty.true (c.metadata.ensures ∙ ap (λ n. mark_of (slot_at slots n)) (numbered c.loop-slot.slot));
             handle = subst (λ n. IfSome (slot_at slots n) (λ p. w.handle-handle.result ≡ p.entry.1)) (numbered c.loop-slot.slot) w.handle-handle.ensures;
           } in
@@ -83,7 +83,7 @@ loop-slot-preserved g c =
           }
       | else-not-is_empty w ↦
           let empty =
-          vacant_told _ (slot_at slots (0 + c.loop-slot.slot)) (c.is_empty.ensures.0 w.if-not-is_empty.false)
+          vacant_of_meaning _ (slot_at slots (0 + c.loop-slot.slot)) (c.is_empty.ensures.0 w.if-not-is_empty.false)
           (c.metadata.ensures ∙ ap (λ n. mark_of (slot_at slots n)) (numbered c.loop-slot.slot)) in
           let moved = moving_past g.F.FnMut c.args.rehash.now slots from c.requires.movable c.loop-slot.rehash (shown c.loop-slot.self) c.loop-slot.slot c.loop-slot.invariant.moved inside empty in
           record {

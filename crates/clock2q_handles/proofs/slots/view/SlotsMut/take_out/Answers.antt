@@ -1,10 +1,10 @@
 use Rattle.std.proofs.Common.{rules, ◌≡◌, ◌+◌, length, arith, ap, sym, ◌∙◌, subst}
 use Rattle.std.proofs.Math.ListN.{set}
 use Rattle.clock2q_handles.specs.Layout.{slot_at}
-use Rattle.clock2q_handles.specs.Slots.{cell, told}
+use Rattle.clock2q_handles.specs.Slots.{cell, meaning}
 use Rattle.clock2q_handles.specs.Views.{shown}
 use Rattle.clock2q_handles.proofs.Periods.{lap}
-use Rattle.clock2q_handles.proofs.Moves.{near_told}
+use Rattle.clock2q_handles.proofs.Moves.{near_of_meaning}
 use Rattle.clock2q_handles.proofs.Carrying.{CloseState, close_begins, close_lap, close_goes, close_ends}
 use Rattle.clock2q_handles.proofs.slots.view.SlotsMut.take_out.Given.{Over}
 use Rattle.clock2q_handles.proofs.slots.view.SlotsMut.take_out.Goals.{After-write}
@@ -22,7 +22,7 @@ more : (g : Over) (c : After-write g)
 more g c =
     close_goes (shown c.args.self.now) (shown c.loop-metadata.self)
     c.requires.tidy c.args.slot c.loop-metadata.hole _ _ c.loop-metadata.invariant.state c.after-next.result c.after-next.ensures.after (shown c.write.new.self)
-    (told c.metadata-metadata.result) (told c.one_nearer.result) c.handle-handle.result c.metadata-metadata.ensures
+    (meaning c.metadata-metadata.result) (meaning c.one_nearer.result) c.handle-handle.result c.metadata-metadata.ensures
     (c.can_move_back.ensures.0 c.if-not-can_move_back.false) c.one_nearer.ensures c.handle-handle.ensures c.write.ensures.written
 
 pub loop-metadata-smaller : goal.loop-metadata-smaller
@@ -45,7 +45,7 @@ loop-metadata-preserved g c =
 
 pub returns-clause-closes : goal.returns-clause-closes
 returns-clause-closes g c h n e come was =
-    let near = near_told c.can_move_back.result _ (slot_at (shown c.loop-metadata.self) c.after-next.result) c.can_move_back.ensures c.if-not-can_move_back.true c.metadata-metadata.ensures in
+    let near = near_of_meaning c.can_move_back.result _ (slot_at (shown c.loop-metadata.self) c.after-next.result) c.can_move_back.ensures c.if-not-can_move_back.true c.metadata-metadata.ensures in
     let written = c.write-2.ensures.written ∙ ap (λ m. set (shown c.loop-metadata.self) c.loop-metadata.hole (cell m c.default.result)) c.empty.ensures in
     let ended =
     close_ends (shown c.args.self.now) (shown c.loop-metadata.self) c.requires.tidy c.args.slot c.loop-metadata.hole _ _

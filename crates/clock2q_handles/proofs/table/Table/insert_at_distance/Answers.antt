@@ -5,9 +5,9 @@ use Rattle.clock2q_handles.specs.TableStep.{table_value}
 use Rattle.clock2q_handles.specs.Changes.{IsLaidOut}
 use Rattle.clock2q_handles.proofs.Steps.{table-laid}
 use Rattle.clock2q_handles.proofs.Insertions.{Insertion, HasEnded, has_ended, insertion, refusal}
-use Rattle.clock2q_handles.proofs.table.Table.place.Given.{Over}
-use Rattle.clock2q_handles.proofs.table.Table.place.Goals.{After-put_in, Else-not-put_in}
-use Rattle.clock2q_handles.proofs.table.Table.place.Goals as goal
+use Rattle.clock2q_handles.proofs.table.Table.insert_at_distance.Given.{Over}
+use Rattle.clock2q_handles.proofs.table.Table.insert_at_distance.Goals.{After-put_in, Else-not-put_in}
+use Rattle.clock2q_handles.proofs.table.Table.insert_at_distance.Goals as goal
 
 ended : (g : Over) (c : After-put_in g) → HasEnded c.self.inside.slots.slots c.args.hash c.args.home c.args.distance
 ended g c =
