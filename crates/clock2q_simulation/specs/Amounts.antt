@@ -33,9 +33,13 @@ keys_by Percent number keys = max (keys * min number 100 / 100) 1
 abbrev pub keys_of : Amount → ℕ → ℕ
 keys_of amount keys = keys_by amount.unit amount.number keys
 
+-- the most keys that a cache can hold
+abbrev pub most_keys : ℕ
+most_keys = 16777215
+
 -- the most that a capacity can be
 abbrev pub most_of : Counted → ℕ
-most_of Keys = 16777215
+most_of Keys = most_keys
 most_of Percent = 100
 
 pub record IsCapacity (amount : Amount) : Type 0 where

@@ -1,5 +1,5 @@
 -- A command of the library as the call that it makes, and a reply as the answer that it tells.
-use Rattle.std.specs.Prelude.{⊤, List, []}
+use Rattle.std.specs.Prelude.{⊤, List, [], ◌∷◌}
 use Rattle.std.specs.List.{AllByRecursion}
 use Rattle.clock2q_machine.specs.Calls as call
 use Rattle.clock2q_machine.specs.Calls.{Call, Answer}
@@ -41,7 +41,22 @@ module _ {K V : Type 0} where
   -- a call that makes slots brings a value for them
   abbrev pub IsSupplied : Call K V → Type 0
   IsSupplied (call.Prefill []) = ⊥
-  IsSupplied other = ⊤
+  IsSupplied (call.Prefill (value ∷ values)) = ⊤
+  IsSupplied (call.Put key value) = ⊤
+  IsSupplied (call.Get key) = ⊤
+  IsSupplied (call.Peek key) = ⊤
+  IsSupplied (call.Contains key) = ⊤
+  IsSupplied (call.GetAt slot key) = ⊤
+  IsSupplied (call.Set key value) = ⊤
+  IsSupplied (call.With key value) = ⊤
+  IsSupplied (call.Try key value) = ⊤
+  IsSupplied (call.SlotFor key value) = ⊤
+  IsSupplied (call.Remove key) = ⊤
+  IsSupplied (call.Retain bits) = ⊤
+  IsSupplied call.Clear = ⊤
+  IsSupplied call.Len = ⊤
+  IsSupplied call.IsEmpty = ⊤
+  IsSupplied call.Capacity = ⊤
 
   abbrev pub AreSupplied : List (Call K V) → Type 0
   AreSupplied = AllByRecursion IsSupplied
