@@ -63,15 +63,29 @@ fn each_asks(
 #[test]
 fn keys_apart_are_not_asked(rt: HostRuntime) -> Result<(), Fail> {
     each_asks(&rt, rt.alloc(), APART, &LOOKUPS, [(3, 1), (1, 0), (4, 0)])?;
-    each_asks(&rt, rt.alloc(), APART, &CHANGES, [(3, 1), (1, 1), (4, 0)])
+    each_asks(&rt, rt.alloc(), APART, &CHANGES, [(3, 1), (1, 1), (4, 0)])?;
+    each_asks(
+        &rt,
+        rt.alloc(),
+        APART,
+        &[Call::SlotFor],
+        [(3, 1), (1, 1), (4, 0)],
+    )
 }
 
 /// All residents before a key are asked, and the remembered keys before it where the call looks into
-/// the history too.
+/// the history too. `get_or_insert_mut` looks into the history after all residents were asked.
 #[test]
 fn keys_alike_are_asked_once(rt: HostRuntime) -> Result<(), Fail> {
     each_asks(&rt, rt.alloc(), ALIKE, &LOOKUPS, [(3, 2), (1, 2), (4, 2)])?;
-    each_asks(&rt, rt.alloc(), ALIKE, &CHANGES, [(3, 3), (1, 1), (4, 3)])
+    each_asks(&rt, rt.alloc(), ALIKE, &CHANGES, [(3, 3), (1, 1), (4, 3)])?;
+    each_asks(
+        &rt,
+        rt.alloc(),
+        ALIKE,
+        &[Call::SlotFor],
+        [(3, 2), (1, 3), (4, 3)],
+    )
 }
 
 /// The key at the slot is asked, if it is resident, and none is hashed.

@@ -56,15 +56,15 @@ pub(crate) const LOOKUPS: [Call; 5] = [
     Call::Contains,
 ];
 
-/// The others, which look into the history too. Two of them insert no key and forget none.
-pub(crate) const CHANGES: [Call; 8] = [
+/// The calls that look among the residents and into the history in one walk. Two of them insert no key
+/// and forget none.
+pub(crate) const CHANGES: [Call; 7] = [
     Call::TryFailing,
     Call::TryMutFailing,
     Call::Put,
     Call::With,
     Call::Try,
     Call::TryMut,
-    Call::SlotFor,
     Call::Remove,
 ];
 

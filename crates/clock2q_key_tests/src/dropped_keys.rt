@@ -47,6 +47,8 @@ fn call_all<'a>(cache: &mut Counting<'a>, counts: &'a Counts) {
             make(cache, call, counts.key(id));
             make(cache, Call::Put, counts.key(7));
         }
+        make(cache, Call::SlotFor, counts.key(id));
+        make(cache, Call::Put, counts.key(7));
     }
 }
 
