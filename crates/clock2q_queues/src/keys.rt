@@ -43,7 +43,7 @@ impl<K: Eq, V, A: Allocator> Keys<K, V, A> {
         ensures counted { self.new ≡ record self.old { questions = self.old.questions + 1 } }
     {
         let mut asked = Count::new();
-        let is_key = self.is_untold(place, key, &mut asked);
+        let is_key = self.is_counting_in(place, key, &mut asked);
         self.add_questions(&asked);
         is_key
     }
@@ -56,7 +56,7 @@ impl<K: Eq, V, A: Allocator> Keys<K, V, A> {
         ensures counted { self.new ≡ record self.old { questions = self.old.questions + questions_of (is_key_at K.eq key.now self.old.entries) (slots_among handles.entry.left) } }
     {
         let mut asked = Count::new();
-        let found = self.find_untold(handles, key, &mut asked);
+        let found = self.find_counting_in(handles, key, &mut asked);
         self.add_questions(&asked);
         found
     }
@@ -81,7 +81,7 @@ impl<K: Eq, V, A: Allocator> Keys<K, V, A> {
 
     /// Returns the first of `handles` below [`REMEMBERED`] at which `key` stands. The questions are
     /// counted in `asked` instead.
-    pub fn find_untold(
+    pub fn find_counting_in(
         &self,
         mut handles: Candidates<'_, u32>,
         key: &K,
@@ -93,7 +93,7 @@ impl<K: Eq, V, A: Allocator> Keys<K, V, A> {
     {
         while let Some(handle) = handles.next() {
             if handle < REMEMBERED {
-                if self.is_untold(handle, key, asked) {
+                if self.is_counting_in(handle, key, asked) {
                     return Some(handle);
                 }
             }

@@ -59,14 +59,14 @@ fn put(keys: &mut Keys<u64, ()>, index: &mut Table<u32>, hash: u64, key: u64)
     let _ = index.insert_within_capacity(hash, place);
 }
 
-/// Looks a key up through an index of all keys, told and untold.
+/// Looks a key up through an index of all keys: the keys count one look-up, and a count of its own the other.
 fn place_of(keys: &mut Keys<u64, ()>, index: &Table<u32>, hash: u64, key: u64) -> Option<u32>
     requires indexed { (places : List ℕ) × IsIndex index.now.homes keys.old.entries places }
     ensures has { IfSome result (λ place. is_key_at nat_eq key keys.old.entries place ≡ true) }
     ensures same { keys.new ≡ record keys.old { questions = keys.new.questions } }
 {
     let mut asked = Count::new();
-    let found = keys.find_untold(index.get(hash), &key, &mut asked);
+    let found = keys.find_counting_in(index.get(hash), &key, &mut asked);
     let again = keys.find(index.get(hash), &key);
     prove!(found == again);
     found

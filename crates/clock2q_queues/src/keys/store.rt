@@ -156,7 +156,7 @@ impl<K: Eq, V, A: Allocator> Keys<K, V, A> {
     ghost use Rattle.clock2q_queues.specs.Keys.{is_key_at};
 
     /// Returns true if `key` equals the key at a place, and counts the question in `asked`.
-    pub fn is_untold(&self, place: u32, key: &K, asked: &mut Count) -> bool
+    pub(super) fn is_counting_in(&self, place: u32, key: &K, asked: &mut Count) -> bool
         requires used { place < length self.now.entries }
         ensures value { result ≡ is_key_at K.eq key.now self.now.entries place }
         ensures counted { asked.new.total ≡ asked.old.total + 1 }
