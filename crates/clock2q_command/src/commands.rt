@@ -1,10 +1,10 @@
 //! The run of a list of commands.
 ghost use Rattle.std.specs.Prelude.{◌≡◌, ◌+◌, ◌<◌, ◌≤◌, IfOk, IfErr, OnOk, OnErr, true, drop, get_or, slice_get, length, map};
 ghost use Rattle.clock2q_cache.specs.Costs.{Costs, most_accesses};
-ghost use Rattle.clock2q_cache.specs.Indexed.{IsIndexed};
+ghost use Rattle.clock2q_cache.specs.Indexed.{IsIndexed, IsSpacious};
 ghost use Rattle.clock2q_cache.specs.Runs.{RunsAtCost};
 ghost use Rattle.clock2q_text.specs.Commands.{call_of, answer_of, IsSupplied, AreSupplied};
-ghost use Rattle.clock2q_machine.specs.Bounds.{inspections_for, inspections_of, summed, IsRunBounded};
+ghost use Rattle.clock2q_machine.specs.Bounds.{inspections_for, inspections_of, main_victims, settings, set_bits, summed};
 ghost use Rattle.clock2q_machine.specs.Calls.{Prefill, Retain, Set, SlotFor, Try, With};
 ghost use Rattle.clock2q_machine.specs.Machine.{slot_of, value_of};
 ghost use Rattle.clock2q_machine.specs.Steps.{answer, after, answers, after_all, replaced, fetched, fetched_value, tried, tried_value, slotted, slotted_at, retained, prefilled_with};
@@ -41,7 +41,7 @@ where
     ensures accesses { OnOk result (cache.new.counts.accesses ≤ cache.old.counts.accesses + summed K.eq (most_accesses K.eq) (map call_of commands.items) cache.old.machine) }
     ensures costs { OnOk result (RunsAtCost K.Hash S.BuildHasher S.Hasher.Hasher (map call_of commands.items) cache.old cache.new) }
     ensures hasher { cache.new.hasher ≡ cache.old.hasher }
-    ensures clock { OnOk result (IsRunBounded K.eq (map call_of commands.items) cache.old.machine) }
+    ensures clock { OnOk result (cache.new.counts.inspections + set_bits cache.new.machine ≤ cache.old.counts.inspections + (summed K.eq (main_victims K.eq) (map call_of commands.items) cache.old.machine + summed K.eq (settings K.eq) (map call_of commands.items) cache.old.machine + set_bits cache.old.machine)) }
     ensures memory { IfErr result (λ e. e ≡ CacheError.Memory) }
     ensures unchanged { OnErr result (cache.new ≡ cache.old) }
 {
@@ -65,8 +65,9 @@ where
     ensures hasher { cache.new.hasher ≡ cache.old.hasher }
     ensures costs { Costs K.Hash S.BuildHasher S.Hasher.Hasher (call_of command) cache.old cache.new }
     ensures indexed { IsIndexed K.Hash S.BuildHasher S.Hasher.Hasher cache.old }
+    ensures spacious { IsSpacious cache.old }
 {
-    let _ = cache.len(); // whose contract says what the index has
+    let _ = cache.len(); // whose contract says what the index has, and in how many slots
     match command {
         Command::Put(key, value) => Reply::Value(cache.put(key, value)),
         Command::Get(key) => Reply::Value(cache.get(&key).copied()),

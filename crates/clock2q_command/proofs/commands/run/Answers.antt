@@ -33,7 +33,7 @@ loop-command-preserved g c = record {
   ends = search rules;
   told = grind (arith, common_steps);
   rest = grind (arith, common_steps);
-  ran = λ end ran. c.loop-command.invariant.ran end (subst (λ items. RunsAtCost (members g) g.S.BuildHasher g.S.Hasher.Hasher (map call_of items) c.loop-command.cache end) (sym c.in-Some.ensures.steps.0) (c.execute.ensures.indexed, (c.execute.new.cache, (c.execute.ensures.machine, c.execute.ensures.hasher, c.execute.ensures.costs), ran)));
+  ran = λ end ran. c.loop-command.invariant.ran end (subst (λ items. RunsAtCost (members g) g.S.BuildHasher g.S.Hasher.Hasher (map call_of items) c.loop-command.cache end) (sym c.in-Some.ensures.steps.0) (c.execute.ensures.indexed, c.execute.ensures.spacious, (c.execute.new.cache, (c.execute.ensures.machine, c.execute.ensures.hasher, c.execute.ensures.costs), ran)));
   hasher = c.execute.ensures.hasher ∙ c.loop-command.invariant.hasher;
   linked = grind (arith, common_steps, c.execute.ensures.costs.counts.accesses.1);
   looked = grind (arith, common_steps, c.execute.ensures.costs.counts.inspections);
@@ -42,4 +42,4 @@ loop-command-preserved g c = record {
 }
 
 pub returns-clause-clock : goal.returns-clause-clock
-returns-clause-clock g c = run_bounded g.K.PartialEq.eq (map call_of c.args.commands.items) c.args.cache.now.machine
+returns-clause-clock g c = grind (arith, common_steps, run_bounded g.K.PartialEq.eq (map call_of c.args.commands.items) c.args.cache.now.machine)
