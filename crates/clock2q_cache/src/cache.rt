@@ -38,7 +38,8 @@ pub type DefaultHashBuilder = BuildHasherDefault<FoldHasher>;
 /// A call that takes a key, except [`get_at`](Cache::get_at), hashes it once and compares it only
 /// with its candidates: the resident and remembered keys whose hashes have the same home and
 /// fingerprint. Each inspection by the hand is paid for: since the cache was made there were no
-/// more of them than keys that Main evicted and bits of Main that hits set.
+/// more of them than keys that Main evicted and bits of Main that hits set. Of
+/// [`try_get_or_insert_with`](Cache::try_get_or_insert_with) no clause says so.
 ///
 /// # Example
 ///
@@ -255,7 +256,7 @@ impl<K: Hash + Eq, V, S: BuildHasher, A: Allocator> Cache<K, V, S, A> {
         let hash = hash_of(&self.hasher, key);
         let mut asked = Count::new();
         self.keys
-            .find_untold(self.history.handles(hash), key, &mut asked)
+            .find_counting_in(self.history.handles(hash), key, &mut asked)
     }
 
     /// Returns the slot of a resident key.

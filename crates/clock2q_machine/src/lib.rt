@@ -1,7 +1,8 @@
 //! The machine that says what a cache does: definitions, and what is shown of them alone.
 //!
 //! This crate has no code. The contracts of `clock2q_cache` say that each call of a `Cache` returns
-//! and leaves what a step of this machine does, and here is all that there is to read about it:
+//! and leaves what a step of this machine does (`try_get_or_insert_with` returns it, and what it
+//! leaves is tested), and here is all that there is to read about it:
 //!
 //! - A machine is three lists and a stack: Small, newest first; Main, from the hand; the history,
 //!   newest first; and the free slots. Beside them stand its shares and a value for each slot that

@@ -40,8 +40,8 @@ impl<K: Hash + Eq + Drop, V: Drop, S: BuildHasher, A: Allocator> Cache<K, V, S, 
     /// Returns the value of a key as [`get_or_insert_with`](Cache::get_or_insert_with) does, where
     /// `f` may fail.
     ///
-    /// What the call leaves of the cache and what it costs is tested, but no clause says it. A proof
-    /// that needs either calls
+    /// What the call leaves of the cache and which keys it compares and hashes is tested, but no
+    /// clause says it, nor how many links it accesses. A proof that needs either calls
     /// [`try_get_or_insert_with_mut`](Cache::try_get_or_insert_with_mut).
     ///
     /// # Errors

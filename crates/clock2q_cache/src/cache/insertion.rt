@@ -36,7 +36,7 @@ impl<K: Hash + Eq + Drop, V: Drop, S: BuildHasher, A: Allocator> Cache<K, V, S, 
     {
         let known = self.forget(hash, &key, place);
         let main = self.admits_to_main(known);
-        self.place(hash, key, Some(value), main)
+        self.insert_unknown(hash, key, Some(value), main)
     }
 
     /// Inserts a key that is not resident, wherever it stands in the history. A slot that was made
@@ -58,11 +58,11 @@ impl<K: Hash + Eq + Drop, V: Drop, S: BuildHasher, A: Allocator> Cache<K, V, S, 
         let known = self.forget(hash, &key, place);
         let main = self.admits_to_main(known);
         let value = self.makes_slot(main).then(make);
-        self.place(hash, key, value, main)
+        self.insert_unknown(hash, key, value, main)
     }
 
     /// Inserts a key that is not known into Main, or into Small.
-    fn place(&mut self, hash: u64, key: K, value: Option<V>, main: bool) -> u32
+    fn insert_unknown(&mut self, hash: u64, key: K, value: Option<V>, main: bool) -> u32
         requires hash { hash ≡ hash_of S.BuildHasher S.Hasher.Hasher self.old.hasher (K.hash_input key) }
         requires absent { known_count (K.eq key) self.old.machine ≡ 0 }
         requires small { main ≡ false → goes_to_main false self.old.machine ≡ false }

@@ -80,7 +80,7 @@ impl<'a, H: Copy> SlotsMut<'a, H> {
         self.handles[slot]
     }
 
-    /// Writes a slot in both vectors. There is no other way to write one.
+    /// Writes a slot in both vectors. Through a view there is no other way to write one.
     pub(crate) fn write(&mut self, slot: usize, metadata: Metadata, handle: H)
         requires view { IsView self.old }
         requires within { slot < length (shown self.old) }

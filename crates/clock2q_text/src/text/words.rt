@@ -5,8 +5,8 @@ ghost use Rattle.std.specs.Option.{option_map};
 ghost use Rattle.clock2q_text.specs.Text.{words_of, number_of, tried_of, with_one, with_two};
 ghost use Rattle.clock2q_text.specs.Cut.{parts_after, words_after, number_first};
 
-/// Returns the place of the first separator.
-fn place(bytes: &[u8], separator: u8) -> Option<usize>
+/// Returns the index of the first separator.
+fn index_of(bytes: &[u8], separator: u8) -> Option<usize>
     ensures { result ≡ position (λ b. b == separator) bytes.now }
 {
     bytes.iter().position(|byte| *byte == separator)
@@ -18,7 +18,7 @@ pub(super) fn cut(bytes: &[u8], separator: u8) -> (&[u8], Option<&[u8]>)
         ≡ result.0.now ∷ parts_after separator result.1 }
     ensures shorter { IfSome result.1 (λ rest. length rest.now < length bytes.now) }
 {
-    match place(bytes, separator) {
+    match index_of(bytes, separator) {
         Some(at) => {
             let (front, back) = bytes.split_at(at);
             (front, Some(&back[1..]))

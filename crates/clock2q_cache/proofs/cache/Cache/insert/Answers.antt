@@ -13,21 +13,21 @@ use Rattle.clock2q_cache.proofs.cache.Cache.insert.Goals as goal
 sent : (g : Over) (c : After-admits_to_main-main g) → IsSent (g.K.PartialEq.eq c.args.key) c.args.self.now.machine c.forget-known.new.self.machine c.admits_to_main-main.result
 sent g c = record { known = c.forget-known.result; had = c.forget-known.ensures.known; erased = c.forget-known.ensures.machine; goes = c.admits_to_main-main.ensures }
 
-pub place-requires-clause-absent : goal.place-requires-clause-absent
-place-requires-clause-absent g c =
+pub insert_unknown-requires-clause-absent : goal.insert_unknown-requires-clause-absent
+insert_unknown-requires-clause-absent g c =
     ap (known_count (g.K.PartialEq.eq c.args.key)) c.forget-known.ensures.machine ∙ unknown_once_forgotten (g.K.PartialEq.eq c.args.key) c.args.self.now.machine c.requires.absent
 
-pub place-requires-clause-small : goal.place-requires-clause-small
-place-requires-clause-small g c = small-unknown g.K.PartialEq.eq c.args.key (sent g (goal.at.place-requires-clause-small g c).After-admits_to_main-main)
+pub insert_unknown-requires-clause-small : goal.insert_unknown-requires-clause-small
+insert_unknown-requires-clause-small g c = small-unknown g.K.PartialEq.eq c.args.key (sent g (goal.at.insert_unknown-requires-clause-small g c).After-admits_to_main-main)
 
 pub returns-clause-slot : goal.returns-clause-slot
 returns-clause-slot g c =
     let s = sent g (goal.at.returns-clause-slot g c).After-admits_to_main-main in
-    c.place.ensures.slot ∙ ap (λ (p : Placement _ _). p.slot) (placed-there g.K.PartialEq.eq c.args.key s)
+    c.insert_unknown.ensures.slot ∙ ap (λ (p : Placement _ _). p.slot) (placed-there g.K.PartialEq.eq c.args.key s)
 
 pub returns-clause-machine : goal.returns-clause-machine
 returns-clause-machine g c =
-    let f = c.place.ensures.machine in
+    let f = c.insert_unknown.ensures.machine in
     let s = sent g (goal.at.returns-clause-machine g c).After-admits_to_main-main in
     f.becomes ∙ ap (λ (p : Placement _ _). stored p.slot f.held p.machine) (placed-there g.K.PartialEq.eq c.args.key s)
     ∙ ap (λ v. let p = placement (g.K.PartialEq.eq c.args.key) c.args.key c.args.self.now.machine in stored p.slot v p.machine) f.is
@@ -35,4 +35,4 @@ returns-clause-machine g c =
 pub returns-clause-counts : goal.returns-clause-counts
 returns-clause-counts g c =
     let s = sent g (goal.at.returns-clause-counts g c).After-admits_to_main-main in
-    rw (← placed-inspections s c.requires.absent) (forgotten-spends c.forget-known.ensures.counts c.place.ensures.counts)
+    rw (← placed-inspections s c.requires.absent) (forgotten-spends c.forget-known.ensures.counts c.insert_unknown.ensures.counts)

@@ -32,24 +32,24 @@ then-value-requires g c made =
     let there = makes-there g.K.PartialEq.eq c.args.key s c.makes_slot.ensures.whole c.makes_slot.result c.makes_slot.ensures.makes ∙ ap not made in
     c.requires.make (slice_get_past c.args.self.now.machine.values _ (ltb-false _ _ there))
 
-pub place-requires-clause-absent : goal.place-requires-clause-absent
-place-requires-clause-absent g c =
+pub insert_unknown-requires-clause-absent : goal.insert_unknown-requires-clause-absent
+insert_unknown-requires-clause-absent g c =
     let erased = c.forget-known.ensures.machine ∙ ap (λ (z : CacheState _ _ _). forgotten (g.K.PartialEq.eq c.args.key) z.machine) c.find_place-place.ensures.kept in
     ap (known_count (g.K.PartialEq.eq c.args.key)) erased ∙ unknown_once_forgotten (g.K.PartialEq.eq c.args.key) c.args.self.now.machine c.requires.absent
 
-pub place-requires-clause-small : goal.place-requires-clause-small
-place-requires-clause-small g c = small-unknown g.K.PartialEq.eq c.args.key (sent g (goal.at.place-requires-clause-small g c).After-admits_to_main-main)
+pub insert_unknown-requires-clause-small : goal.insert_unknown-requires-clause-small
+insert_unknown-requires-clause-small g c = small-unknown g.K.PartialEq.eq c.args.key (sent g (goal.at.insert_unknown-requires-clause-small g c).After-admits_to_main-main)
 
-pub place-requires-clause-had : goal.place-requires-clause-had
-place-requires-clause-had g c =
-    let s = sent g (goal.at.place-requires-clause-had g c).After-admits_to_main-main in
+pub insert_unknown-requires-clause-had : goal.insert_unknown-requires-clause-had
+insert_unknown-requires-clause-had g c =
+    let s = sent g (goal.at.insert_unknown-requires-clause-had g c).After-admits_to_main-main in
     let here = makes-here g.K.PartialEq.eq c.args.key s c.makes_slot.ensures.whole c.makes_slot.result c.makes_slot.ensures.makes in
     made-or-none c.then-value.result _ _ (here ∙ ap not (sym c.then-value.ensures.variant))
 
 pub returns-clause-slot : goal.returns-clause-slot
 returns-clause-slot g c =
     let s = sent g (goal.at.returns-clause-slot g c).After-admits_to_main-main in
-    c.place.ensures.slot ∙ ap (λ (p : Placement _ _). p.slot) (placed-there g.K.PartialEq.eq c.args.key s)
+    c.insert_unknown.ensures.slot ∙ ap (λ (p : Placement _ _). p.slot) (placed-there g.K.PartialEq.eq c.args.key s)
 
 pub returns-clause-machine : goal.returns-clause-machine
 returns-clause-machine g c =
@@ -57,18 +57,18 @@ returns-clause-machine g c =
     let s = sent g (goal.at.returns-clause-machine g c).After-admits_to_main-main in
     let there = makes-there eq c.args.key s c.makes_slot.ensures.whole c.makes_slot.result c.makes_slot.ensures.makes in
     let values = values-there eq c.args.key s c.makes_slot.ensures.whole c.makes_slot.result c.makes_slot.ensures.makes in
-    reuses (eq c.args.key) c.args.key (goal.F-post g c.args.make) c.args.self.now.machine values c.then-value.result c.place.new.self.machine
+    reuses (eq c.args.key) c.args.key (goal.F-post g c.args.make) c.args.self.now.machine values c.then-value.result c.insert_unknown.new.self.machine
     (there ∙ ap not (sym c.then-value.ensures.variant)) c.then-value.ensures.some
-    (fills-there eq c.args.key s c.then-value.result c.place.new.self.machine c.place.ensures.machine)
+    (fills-there eq c.args.key s c.then-value.result c.insert_unknown.new.self.machine c.insert_unknown.ensures.machine)
 
 pub returns-clause-known : goal.returns-clause-known
 returns-clause-known g c =
     let f = c.forget-known.ensures in
     let goes = goes-there (sent g (goal.at.returns-clause-known g c).After-admits_to_main-main) in
-    rw (f.hasher, f.machine, goes, f.places, c.find_place-place.ensures.kept) at c.place.ensures.indexes
+    rw (f.hasher, f.machine, goes, f.places, c.find_place-place.ensures.kept) at c.insert_unknown.ensures.indexes
 
 pub returns-clause-counts : goal.returns-clause-counts
 returns-clause-counts g c =
     let s = sent g (goal.at.returns-clause-counts g c).After-admits_to_main-main in
     rw (← placed-inspections s c.requires.absent)
-    (spends-both c.find_place-place.ensures.counts (forgotten-spends c.forget-known.ensures.counts c.place.ensures.counts) (omega arith) (omega arith) (omega arith))
+    (spends-both c.find_place-place.ensures.counts (forgotten-spends c.forget-known.ensures.counts c.insert_unknown.ensures.counts) (omega arith) (omega arith) (omega arith))
