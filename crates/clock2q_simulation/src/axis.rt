@@ -34,7 +34,7 @@ impl Axis {
 
     /// Returns where a capacity stands: 0 at the low end, 1 at the high end. An axis of one
     /// capacity has it in the middle.
-    pub(crate) fn place(&self, capacity: usize) -> f64 {
+    pub(crate) fn position(&self, capacity: usize) -> f64 {
         if self.low >= self.high {
             return 0.5;
         }

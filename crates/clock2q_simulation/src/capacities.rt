@@ -15,34 +15,34 @@ const ROUND_NUMBERS: [usize; 22] = [
 ];
 
 /// Returns the capacities that an argument stands for: an amount alone, or those of a range, as
-/// `10..1000` or `1%..50%`. `place` is the argument's among the others.
+/// `10..1000` or `1%..50%`. `index` is the argument's among the others.
 ///
 /// # Errors
 ///
 /// `Argument` if it is neither; `Capacity` if a number of keys in it is above
 /// `MAX_CAPACITY`; `Memory` if a request for memory is refused.
-pub fn capacities_of<A: Allocator>(
+pub(crate) fn capacities_of<A: Allocator>(
     alloc: A,
     argument: &str,
-    place: usize,
+    index: usize,
 ) -> Result<Vec<Amount, A>, SimulationError>
     ensures asked { IfOk result (λ capacities. capacities.items ≡ asked_by argument.now) }
     ensures within { IfOk result (λ capacities. All IsCapacity capacities.items) }
 {
     let Some((first, rest)) = argument.split_once('.') else {
-        let capacity = capacity_of(argument, Fault::NotCapacity, place)?;
+        let capacity = capacity_of(argument, Fault::NotCapacity, index)?;
         return Ok(Vec::from_slice(alloc, &[capacity])?);
     };
     let Some(last) = rest.strip_prefix('.') else {
-        return Err(SimulationError::Argument(Fault::NotRange, place));
+        return Err(SimulationError::Argument(Fault::NotRange, index));
     };
-    let first = capacity_of(first, Fault::NotRange, place)?;
-    let last = capacity_of(last, Fault::NotRange, place)?;
+    let first = capacity_of(first, Fault::NotRange, index)?;
+    let last = capacity_of(last, Fault::NotRange, index)?;
     if last.unit != first.unit {
-        return Err(SimulationError::Argument(Fault::NotRange, place));
+        return Err(SimulationError::Argument(Fault::NotRange, index));
     }
     if last.number < first.number {
-        return Err(SimulationError::Argument(Fault::ReversedRange, place));
+        return Err(SimulationError::Argument(Fault::ReversedRange, index));
     }
     Ok(range_of(alloc, first, last.number, &ROUND_NUMBERS)?)
 }
@@ -84,17 +84,17 @@ fn range_of<A: Allocator>(
 }
 
 /// Returns the capacity that a word writes. `fault` is what is wrong where it writes none.
-fn capacity_of(word: &str, fault: Fault, place: usize) -> Result<Amount, SimulationError>
+fn capacity_of(word: &str, fault: Fault, index: usize) -> Result<Amount, SimulationError>
     ensures asked { IfOk result (λ capacity. capacity ≡ capacity_in word.now) }
     ensures within { IfOk result IsCapacity }
 {
     let Some(capacity) = Amount::written(word) else {
-        return Err(SimulationError::Argument(fault, place));
+        return Err(SimulationError::Argument(fault, index));
     };
     match capacity.unit {
         Unit::Keys if capacity.number > MAX_CAPACITY => Err(SimulationError::Capacity),
-        Unit::Percent if capacity.number > 100 => Err(SimulationError::Argument(fault, place)),
-        _ if capacity.number == 0 => Err(SimulationError::Argument(fault, place)),
+        Unit::Percent if capacity.number > 100 => Err(SimulationError::Argument(fault, index)),
+        _ if capacity.number == 0 => Err(SimulationError::Argument(fault, index)),
         _ => Ok(capacity),
     }
 }

@@ -57,7 +57,7 @@ pub enum Fault {
 /// ```
 #[derive(Debug, Clone, Copy, PartialEq, Eq, Error)]
 pub enum SimulationError {
-    /// An argument is wrong: why, and its place among the others, from 0 on.
+    /// An argument is wrong: why, and its index among the others, from 0 on.
     #[error("argument {1}: {0}")]
     Argument(Fault, usize),
     /// An argument is not in UTF-8.
@@ -155,8 +155,8 @@ pub struct Complaint<'a> {
 impl fmt::Display for Complaint<'_> {
     fn fmt<W: fmt::Write>(&self, f: &mut fmt::Formatter<W>) -> fmt::Result {
         match self.refusal {
-            SimulationError::Argument(fault, place) => {
-                let argument = self.arguments.get(place).map_or("", |word| word.as_str());
+            SimulationError::Argument(fault, index) => {
+                let argument = self.arguments.get(index).map_or("", |word| word.as_str());
                 write!(f, "clock2q-simulate: {argument}: {fault}")
             }
             refusal => write!(f, "{refusal}"),

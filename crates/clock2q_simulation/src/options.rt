@@ -52,36 +52,29 @@ pub struct Options<A: Allocator> {
 
 /// What the program says of itself.
 pub const HELP: &str = "\
-usage: ./clock2q-simulate [--csv | --svg] [--policies NAMES] [--policy SHARES]
-                          CAPACITY.. < TRACE
+usage: ./clock2q-simulate [OPTION].. CAPACITY.. < TRACE
+Tells which part of a trace's accesses hit in a cache of each capacity.
 
-Replays a trace in a cache of each capacity, and tells which part of its
-accesses hit with Clock2Q+ and with other policies.
-
-A trace is a list of accesses, a key a line, in the order in which they were
-made: the names of the files, blocks or pages that were asked for. A key is a
-line of any bytes. A capacity is how many keys a cache holds, from 1 to
-16777215, or a part of the trace's different keys, as 10%; several of them give
-a row each. A range such as 10..1000 or 1%..50% stands for its ends and for the
-numbers 1, 2, 5, 10, 20, 50 and so on between them.
+A trace is a list of accesses in their order, a key a line: the names of the
+files, blocks or pages that were asked for. A capacity is how many keys a cache
+holds, from 1 to 16777215, or a part of the trace's different keys, as 10%. A
+range such as 10..1000 or 1%..50% adds 20, 50, 100 and so on between its ends.
 
     printf 'a\\nb\\na\\nc\\nb\\nd\\na\\nb\\n' | ./clock2q-simulate 2 75%
     ./clock2q-simulate --svg --policies clock2q,lru,opt 9 50 <trace >hits.svg
 
-  --csv             prints the rows with commas
-  --svg             prints a picture of the hit ratio over the capacity
-  --policies NAMES  compares these, with commas between them: clock2q, sieve,
-                    s3fifo, lru, opt, fifo, clock and arc; without it the first
-                    five. opt is the most that a policy hits that keeps each key
-                    that it misses
-  --policy SHARES   gives Clock2Q+ other shares than small=10%,window=50%: that
-                    of its small queue in the capacity, and that of its window
-                    in the queue, each in percent or as a number of keys
+  --csv, --svg      prints the rows with commas, or a picture of them
+  --policies NAMES  compares policies, with commas between them, of clock2q,
+                    sieve, s3fifo, lru, opt (without it these five), fifo, clock
+                    and arc; opt is the most that a policy can hit that keeps
+                    each key that it misses
+  --policy SHARES   gives Clock2Q+ other shares than small=10%,window=50%: the
+                    small queue's of the capacity and the window's of the queue,
+                    in percent or in keys
   -h, --help        prints this text
 
-Status: 0; 2 where an argument is wrong; 3 where a capacity is too large or
-memory ran out; 4 where reading or writing failed. The first start proves and
-builds the program, which takes minutes.
+Status: 2 if an argument is wrong, 3 if a capacity is too large or memory ran
+out, 4 if reading or writing failed. The first start proves and builds it.
 ";
 
 /// Reads arguments: capacities and ranges of them, at most one option that asks for a form, and at
@@ -90,7 +83,7 @@ builds the program, which takes minutes.
 /// # Errors
 ///
 /// `Argument` if an argument is none of these, is repeated, or contradicts an earlier one: what
-/// is wrong, and its place. `Capacity` if a capacity or an end of a range is above
+/// is wrong, and its index. `Capacity` if a capacity or an end of a range is above
 /// `MAX_CAPACITY` keys; `NoCapacity` if there is none; `UnusedShares` if there are shares, and
 /// policies without Clock2Q+; `Memory` if a request for memory is refused. The arguments are
 /// read in order, and the first bad one ends the call with its error.
@@ -107,8 +100,8 @@ pub fn parse_options<A: Allocator + Copy>(
     ensures asked { IfOk result (λ options. options.capacities.items ≡ asked_from false (map string_bytes arguments.now)) }
 {
     let mut asked = Asked::new(alloc);
-    for (place, argument) in arguments.iter().enumerate() {
-        asked.take(alloc, argument.as_str(), place)?;
+    for (index, argument) in arguments.iter().enumerate() {
+        asked.take(alloc, argument.as_str(), index)?;
     }
     if asked.awaited.is_some() {
         let last = arguments.len().saturating_sub(1);
@@ -150,18 +143,18 @@ impl<A: Allocator + Copy> Asked<A> {
     }
 
     /// Takes the argument that comes next.
-    fn take(&mut self, alloc: A, argument: &str, place: usize) -> Result<(), SimulationError>
+    fn take(&mut self, alloc: A, argument: &str, index: usize) -> Result<(), SimulationError>
         requires within { All IsCapacity self.old.capacities.items }
         ensures within { OnOk result (All IsCapacity self.new.capacities.items) }
         ensures asked { OnOk result ((rest : List (List ℕ)) → self.new.capacities.items ++ asked_from (is_some self.new.awaited) rest ≡ self.old.capacities.items ++ asked_from (is_some self.old.awaited) (argument.now ∷ rest)) }
     {
         if let Some(option) = self.awaited {
-            return self.take_value(alloc, option, argument, place);
+            return self.take_value(alloc, option, argument, index);
         }
         if argument.starts_with('-') {
-            return self.take_option(argument, place);
+            return self.take_option(argument, index);
         }
-        let more = capacities_of(alloc, argument, place)?;
+        let more = capacities_of(alloc, argument, index)?;
         self.capacities.extend_from_slice(&more)?;
         Ok(())
     }
@@ -172,16 +165,16 @@ impl<A: Allocator + Copy> Asked<A> {
         alloc: A,
         option: Valued,
         value: &str,
-        place: usize,
+        index: usize,
     ) -> Result<(), SimulationError>
         ensures capacities { self.new.capacities ≡ self.old.capacities }
         ensures awaited { OnOk result (is_some self.new.awaited ≡ false) }
     {
         match option {
-            Valued::Policies => self.policies = Some(policies_of(alloc, value, place)?),
+            Valued::Policies => self.policies = Some(policies_of(alloc, value, index)?),
             Valued::Shares => {
                 let Some(shares) = ChosenShares::written(value) else {
-                    return Err(SimulationError::Argument(Fault::NotShares, place));
+                    return Err(SimulationError::Argument(Fault::NotShares, index));
                 };
                 self.shares = Some(shares);
             }
@@ -191,7 +184,7 @@ impl<A: Allocator + Copy> Asked<A> {
     }
 
     /// Takes an option, without the value that it may have.
-    fn take_option(&mut self, option: &str, place: usize) -> Result<(), SimulationError>
+    fn take_option(&mut self, option: &str, index: usize) -> Result<(), SimulationError>
         ensures capacities { self.new.capacities ≡ self.old.capacities }
         ensures awaited { OnOk result (is_some self.new.awaited ≡ takes_value option.now) }
     {
@@ -203,16 +196,16 @@ impl<A: Allocator + Copy> Asked<A> {
             self.shares.is_some()
         } else {
             let Some(format) = format_of(option) else {
-                return Err(SimulationError::Argument(Fault::UnknownOption, place));
+                return Err(SimulationError::Argument(Fault::UnknownOption, index));
             };
             if self.format.is_some_and(|earlier| earlier != format) {
-                return Err(SimulationError::Argument(Fault::SecondForm, place));
+                return Err(SimulationError::Argument(Fault::SecondForm, index));
             }
             self.awaited = None;
             self.format.replace(format).is_some()
         };
         if is_repeated {
-            return Err(SimulationError::Argument(Fault::RepeatedOption, place));
+            return Err(SimulationError::Argument(Fault::RepeatedOption, index));
         }
         Ok(())
     }
@@ -252,15 +245,15 @@ impl<A: Allocator + Copy> Asked<A> {
 fn policies_of<A: Allocator>(
     alloc: A,
     names: &str,
-    place: usize,
+    index: usize,
 ) -> Result<Vec<Policy, A>, SimulationError> {
     let mut policies = Vec::new(alloc);
     for name in names.split(',') {
         let Some(policy) = Policy::named(name) else {
-            return Err(SimulationError::Argument(Fault::UnknownPolicy, place));
+            return Err(SimulationError::Argument(Fault::UnknownPolicy, index));
         };
         if policies.contains(&policy) {
-            return Err(SimulationError::Argument(Fault::RepeatedPolicy, place));
+            return Err(SimulationError::Argument(Fault::RepeatedPolicy, index));
         }
         policies.push(policy).map_err(AllocError::from)?;
     }

@@ -8,7 +8,8 @@ use std::alloc::{AllocError, Allocator};
 use std::fmt::Write;
 use std::num::nearest_usize_to_f64;
 
-/// The frame of the curves, in the units of the picture.
+/// The frame of the curves, in the units of the picture. On its right is room for half of a capacity's
+/// eight digits.
 const LEFT: f64 = 80.0;
 
 const RIGHT: f64 = 690.0;
@@ -18,8 +19,8 @@ const TOP: f64 = 84.0;
 const BOTTOM: f64 = 410.0;
 
 const HEAD: &str =
-    "<svg xmlns=\"http://www.w3.org/2000/svg\" width=\"720\" height=\"480\" viewBox=\"0 0 720 480\" font-family=\"sans-serif\" font-size=\"13\">
-<rect width=\"720\" height=\"480\" fill=\"white\"/>
+    "<svg xmlns=\"http://www.w3.org/2000/svg\" width=\"740\" height=\"480\" viewBox=\"0 0 740 480\" font-family=\"sans-serif\" font-size=\"13\">
+<rect width=\"740\" height=\"480\" fill=\"white\"/>
 ";
 
 /// How the curve of a policy is drawn. The colours are told apart by people with colour blindness.
@@ -54,8 +55,8 @@ fn pen_of(policy: Policy) -> Pen {
 #[derive(Drop)]
 struct Frame {
     axis: Axis,
-    floor: u32,
-    top: u32,
+    floor: u8,
+    top: u8,
 }
 
 impl Frame {
@@ -63,65 +64,62 @@ impl Frame {
     fn new<A: Allocator + Copy>(rows: &[Row<A>]) -> Frame {
         let low = rows.iter().map(|row| row.capacity.get()).min().unwrap_or(1);
         let high = rows.iter().map(|row| row.capacity.get()).max().unwrap_or(1);
+        let top = top_of(rows);
         Frame {
             axis: Axis::new(low, high),
-            floor: floor_of(rows),
-            top: top_of(rows),
+            floor: floor_of(rows, top),
+            top,
         }
     }
 
     fn x(&self, capacity: usize) -> f64 {
-        LEFT + self.axis.place(capacity) * (RIGHT - LEFT)
+        LEFT + self.axis.position(capacity) * (RIGHT - LEFT)
     }
 
     fn y(&self, percent: f64) -> f64 {
         let floor = f64::from(self.floor);
         BOTTOM - (percent - floor) / (f64::from(self.top) - floor) * (BOTTOM - TOP)
     }
+}
 
-    /// Returns how many percent there are from one line across the picture to the next.
-    fn step(&self) -> usize
-        ensures positive { 0 < result }
-    {
-        match self.top.saturating_sub(self.floor) {
-            0..=20 => 2,
-            21..=50 => 5,
-            _ => 10,
-        }
+/// Returns how many percent there are from one line across the picture to the next.
+fn step_between(floor: u8, top: u8) -> u8
+    ensures positive { 0 < result }
+{
+    match top.saturating_sub(floor) {
+        0..=20 => 2,
+        21..=50 => 5,
+        _ => 10,
     }
 }
 
 /// Returns the highest ratio of the rows in percent, rounded up to a multiple of ten.
-fn top_of<A: Allocator + Copy>(rows: &[Row<A>]) -> u32 {
+fn top_of<A: Allocator + Copy>(rows: &[Row<A>]) -> u8 {
     let mut most = 0.0;
     for row in rows {
-        for hits in row.hits.iter() {
-            most = row.ratio(hits.hits).max(most);
-        }
+        most = row.highest().max(most);
     }
-    for top in [10u8, 20, 30, 40, 50, 60, 70, 80, 90] {
-        if most * 100.0 <= f64::from(top) {
-            return u32::from(top);
-        }
-    }
-    100
+    [10u8, 20, 30, 40, 50, 60, 70, 80, 90]
+        .iter()
+        .copied()
+        .find(|top| most <= f64::from(*top))
+        .unwrap_or(100)
 }
 
-/// Returns the lowest ratio of the rows in percent, rounded down to a multiple of ten, where all lie
-/// above a half, and else 0.
-fn floor_of<A: Allocator + Copy>(rows: &[Row<A>]) -> u32 {
-    let mut least = 1.0;
+/// Returns the lowest ratio of the rows in percent, rounded down to a multiple of the step from there to
+/// the top, where all lie above a half, and else 0.
+fn floor_of<A: Allocator + Copy>(rows: &[Row<A>], top: u8) -> u8 {
+    let mut least = 100.0;
     for row in rows {
-        for hits in row.hits.iter() {
-            least = row.ratio(hits.hits).min(least);
-        }
+        least = row.lowest().min(least);
     }
-    for floor in [90u8, 80, 70, 60, 50] {
-        if least * 100.0 > f64::from(floor) {
-            return u32::from(floor);
-        }
+    match (50..100u8)
+        .rev()
+        .find(|percent| least > f64::from(*percent))
+    {
+        Some(percent) => percent - percent % step_between(percent, top),
+        None => 0,
     }
-    0
 }
 
 /// Returns the hit ratio of each policy over the capacities, as an SVG text.
@@ -140,10 +138,10 @@ pub(crate) fn picture<A: Allocator + Copy>(
     write_title(&mut text, rows)?;
     write_ratios(&mut text, &frame)?;
     write_capacities(alloc, &mut text, &frame)?;
-    for (place, policy) in policies.iter().enumerate() {
+    for (index, policy) in policies.iter().enumerate() {
         write_curve(&mut text, &frame, &order, *policy)?;
         write_rings(&mut text, &frame, &order, *policy)?;
-        write_legend(&mut text, place, *policy)?;
+        write_legend(&mut text, index, *policy)?;
     }
     text.push_str("</svg>\n")?;
     Ok(text)
@@ -166,7 +164,8 @@ fn write_ratios<A: Allocator + Copy>(
     text: &mut String<A>,
     frame: &Frame,
 ) -> Result<(), AllocError> {
-    for percent in (frame.floor..=frame.top).step_by(frame.step()) {
+    let step = step_between(frame.floor, frame.top);
+    for percent in (frame.floor..=frame.top).step_by(usize::from(step)) {
         write_ratio(text, frame.y(f64::from(percent)), percent)?;
     }
     let mark = if frame.floor > 0 {
@@ -184,7 +183,7 @@ fn write_ratios<A: Allocator + Copy>(
 fn write_ratio<A: Allocator + Copy>(
     text: &mut String<A>,
     y: f64,
-    percent: u32,
+    percent: u8,
 ) -> Result<(), AllocError> {
     let baseline = y + 4.5;
     writeln!(
@@ -310,11 +309,11 @@ fn write_pen<A: Allocator + Copy>(text: &mut String<A>, policy: Policy) -> Resul
 /// Writes a curve's name beside a piece of its line with a ring: four in a line, and two lines.
 fn write_legend<A: Allocator + Copy>(
     text: &mut String<A>,
-    place: usize,
+    index: usize,
     policy: Policy,
 ) -> Result<(), AllocError> {
-    let left = LEFT + nearest_usize_to_f64(place % 4) * 150.0;
-    let middle = if place < 4 { 50.0 } else { 70.0 };
+    let left = LEFT + nearest_usize_to_f64(index % 4) * 150.0;
+    let middle = if index < 4 { 50.0 } else { 70.0 };
     let name = policy.heading();
     write!(text, "<path d=\"M {left:.0} {middle:.0} h 40\" ")?;
     write_pen(text, policy)?;

@@ -55,6 +55,24 @@ impl<A: Allocator> Row<A> {
         }
         nearest_usize_to_f64(hits) / nearest_usize_to_f64(self.accesses)
     }
+
+    /// Returns the highest hit ratio of the policies in percent.
+    pub(crate) fn highest(&self) -> f64 {
+        let mut most = 0.0;
+        for hits in self.hits.iter() {
+            most = (self.ratio(hits.hits) * 100.0).max(most);
+        }
+        most
+    }
+
+    /// Returns the lowest hit ratio of the policies in percent.
+    pub(crate) fn lowest(&self) -> f64 {
+        let mut least = 100.0;
+        for hits in self.hits.iter() {
+            least = (self.ratio(hits.hits) * 100.0).min(least);
+        }
+        least
+    }
 }
 
 /// Replays a trace in a new cache of each policy, in the order of the policies. Clock2Q+ has the

@@ -70,13 +70,13 @@ fn many_keys(rt: HostRuntime) -> Result<(), Fail> {
     let trace = trace_of(rt.alloc(), &input)?;
     assert_eq!(rt; trace.key_count(), 65_537);
     assert_eq!(rt; trace.numbers().len(), 131_074);
-    for (place, number) in trace.numbers().iter().enumerate() {
-        let wanted = if place < 65_537 {
-            place
+    for (index, number) in trace.numbers().iter().enumerate() {
+        let wanted = if index < 65_537 {
+            index
         } else {
-            131_073 - place
+            131_073 - index
         };
-        assert_eq!(rt; *number as usize, wanted, "at {place}");
+        assert_eq!(rt; *number as usize, wanted, "at {index}");
     }
     Ok(())
 }

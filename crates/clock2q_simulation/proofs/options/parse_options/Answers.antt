@@ -5,16 +5,16 @@ use Rattle.std.proofs.lemmas.List.{drop_more, get_or-map, length-map}
 use Rattle.clock2q_simulation.specs.Amounts.{asked_from}
 use Rattle.clock2q_simulation.proofs.options.parse_options.Goals as goal
 
-pub loop-place-preserved : goal.loop-place-preserved
-loop-place-preserved g c =
+pub loop-index-preserved : goal.loop-index-preserved
+loop-index-preserved g c =
     let words : List (List ℕ) = map string_bytes c.args.arguments.now in
-    let place = c.loop-place.place in
-    let asked = c.loop-place.asked in
-    let within : place < length words = omega (arith, c.loop-place-test.true, length-map c.args.arguments.now string_bytes) in
-    let word : get_or words place [] ≡ c.as_str.result.now = get_or-map string_bytes c.args.arguments.now place c.index-arguments-place.result [] c.loop-place-test.true ∙ search (rules, c.index-arguments-place.is, c.as_str.ensures.value) in
+    let place = c.loop-index.index in
+    let asked = c.loop-index.asked in
+    let within : place < length words = omega (arith, c.loop-index-test.true, length-map c.args.arguments.now string_bytes) in
+    let word : get_or words place [] ≡ c.as_str.result.now = get_or-map string_bytes c.args.arguments.now place c.index-arguments-index.result [] c.loop-index-test.true ∙ search (rules, c.index-arguments-index.is, c.as_str.ensures.value) in
     record {
       within = c.in_ok-take.ensures.within;
       asked = c.in_ok-take.ensures.asked (drop (place + 1) words)
           ∙ sym (ap (λ ws. asked.capacities.items ++ asked_from (is_some asked.awaited) ws) (drop_more words place [] within ∙ ap (λ w. w ∷ drop (place + 1) words) word))
-          ∙ c.loop-place.invariant.asked;
+          ∙ c.loop-index.invariant.asked;
     }

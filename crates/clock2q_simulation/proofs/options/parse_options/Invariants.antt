@@ -6,8 +6,8 @@ use Rattle.std.specs.String.{string_bytes}
 use Rattle.clock2q_simulation.specs.Amounts.{IsCapacity, asked_from}
 use Rattle.clock2q_simulation.proofs.options.parse_options.Given as goal
 
-abbrev pub invariant-loop-place : goal.invariant-loop-place
-invariant-loop-place g l = record {
+abbrev pub invariant-loop-index : goal.invariant-loop-index
+invariant-loop-index g l = record {
   within : All IsCapacity l.asked.capacities.items;
-  asked : l.asked.capacities.items ++ asked_from (is_some l.asked.awaited) (drop l.place (map string_bytes l.arguments)) ≡ asked_from false (map string_bytes l.arguments);
+  asked : l.asked.capacities.items ++ asked_from (is_some l.asked.awaited) (drop l.index (map string_bytes l.arguments)) ≡ asked_from false (map string_bytes l.arguments);
 }
