@@ -38,33 +38,38 @@ fn complaint_of(alloc: Global, line: &str) -> Result<(String, u8), Fail> {
     Ok((format!(in alloc; "{complaint}")?, refusal.status()))
 }
 
+const NOT_CAPACITY: &str =
+    "not a capacity (keys from 1 to 16777215, or 1% to 100%, or a range as 10..1000)";
+
+const NOT_RANGE: &str =
+    "not a range (of keys from 1 to 16777215, as 10..1000, or of percents, as 1%..50%)";
+
+/// Words that are no capacities, and what is said of them.
+const REFUSED_CAPACITIES: [(&str, &str); 19] = [
+    ("0", NOT_CAPACITY),
+    ("+5", NOT_CAPACITY),
+    ("ten", NOT_CAPACITY),
+    ("%", NOT_CAPACITY),
+    ("0%", NOT_CAPACITY),
+    ("101%", NOT_CAPACITY),
+    ("5%%", NOT_CAPACITY),
+    ("..", NOT_RANGE),
+    ("1.5", NOT_RANGE),
+    ("1.5%", NOT_RANGE),
+    ("1..", NOT_RANGE),
+    ("a..9", NOT_RANGE),
+    ("0..9", NOT_RANGE),
+    ("1..2..3", NOT_RANGE),
+    ("1...3", NOT_RANGE),
+    ("1..50%", NOT_RANGE),
+    ("1%..101%", NOT_RANGE),
+    ("9..8", "range whose ends are the wrong way round"),
+    ("9%..8%", "range whose ends are the wrong way round"),
+];
+
 #[test]
 fn refused_capacities(rt: HostRuntime) -> Result<(), Fail> {
-    let capacity =
-        "not a capacity (keys from 1 to 16777215, or 1% to 100%, or a range as 10..1000)";
-    let range = "not a range (of keys from 1 to 16777215, as 10..1000, or of percents, as 1%..50%)";
-    let cases = [
-        ("0", capacity),
-        ("+5", capacity),
-        ("ten", capacity),
-        ("%", capacity),
-        ("0%", capacity),
-        ("101%", capacity),
-        ("5%%", capacity),
-        ("..", range),
-        ("1.5", range),
-        ("1.5%", range),
-        ("1..", range),
-        ("a..9", range),
-        ("0..9", range),
-        ("1..2..3", range),
-        ("1...3", range),
-        ("1..50%", range),
-        ("1%..101%", range),
-        ("9..8", "range whose ends are the wrong way round"),
-        ("9%..8%", "range whose ends are the wrong way round"),
-    ];
-    for (word, wanted) in cases {
+    for (word, wanted) in REFUSED_CAPACITIES {
         let (text, status) = complaint_of(rt.alloc(), word)?;
         let wanted = format!(in rt.alloc(); "clock2q-simulate: {word}: {wanted}")?;
         assert_eq!(rt; text.as_str(), wanted.as_str());
@@ -81,43 +86,45 @@ fn refused_capacities(rt: HostRuntime) -> Result<(), Fail> {
     Ok(())
 }
 
+/// Arguments with an option that is refused, and what is said of it.
+const REFUSED_OPTIONS: [(&str, &str); 14] = [
+    ("", "no capacity (--help tells what to write)"),
+    ("--csv", "no capacity (--help tells what to write)"),
+    ("--csv --svg 5", "--svg: a second form beside another one"),
+    ("--csv 5 --csv", "--csv: option given twice"),
+    ("--helpless 5", "--helpless: unknown option"),
+    ("-5", "-5: unknown option"),
+    ("5 --policies", "--policies: nothing after it"),
+    ("5 --policy", "--policy: nothing after it"),
+    (
+        "5 --policies lru,new",
+        "lru,new: unknown policy (--help names them)",
+    ),
+    (
+        "5 --policies lru,",
+        "lru,: unknown policy (--help names them)",
+    ),
+    (
+        "5 --policies lru,opt,lru",
+        "lru,opt,lru: policy named twice",
+    ),
+    (
+        "--policies lru --policies opt",
+        "--policies: option given twice",
+    ),
+    (
+        "--policy small=1,window=1 --policy small=1,window=1 5",
+        "--policy: option given twice",
+    ),
+    (
+        "--policy small=1,window=1 --policies lru 5",
+        "--policy: shares of clock2q, which --policies leaves out",
+    ),
+];
+
 #[test]
 fn refused_options(rt: HostRuntime) -> Result<(), Fail> {
-    let cases = [
-        ("", "no capacity (--help tells what to write)"),
-        ("--csv", "no capacity (--help tells what to write)"),
-        ("--csv --svg 5", "--svg: a second form beside another one"),
-        ("--csv 5 --csv", "--csv: option given twice"),
-        ("--helpless 5", "--helpless: unknown option"),
-        ("-5", "-5: unknown option"),
-        ("5 --policies", "--policies: nothing after it"),
-        ("5 --policy", "--policy: nothing after it"),
-        (
-            "5 --policies lru,new",
-            "lru,new: unknown policy (--help names them)",
-        ),
-        (
-            "5 --policies lru,",
-            "lru,: unknown policy (--help names them)",
-        ),
-        (
-            "5 --policies lru,opt,lru",
-            "lru,opt,lru: policy named twice",
-        ),
-        (
-            "--policies lru --policies opt",
-            "--policies: option given twice",
-        ),
-        (
-            "--policy small=1,window=1 --policy small=1,window=1 5",
-            "--policy: option given twice",
-        ),
-        (
-            "--policy small=1,window=1 --policies lru 5",
-            "--policy: shares of clock2q, which --policies leaves out",
-        ),
-    ];
-    for (line, wanted) in cases {
+    for (line, wanted) in REFUSED_OPTIONS {
         let (text, status) = complaint_of(rt.alloc(), line)?;
         let wanted = format!(in rt.alloc(); "clock2q-simulate: {wanted}")?;
         assert_eq!(rt; text.as_str(), wanted.as_str());

@@ -126,22 +126,28 @@ fn calls_for(bytes: usize, step: usize) -> usize {
     bytes.div_ceil(step.max(1))
 }
 
+/// Each read fails in turn.
+fn each_read_fails(rt: &HostRuntime, line: &str, step: usize, kind: ErrorKind) -> Result<(), Fail> {
+    for reads in 0..=calls_for(TRACE.len(), step) {
+        let plan = Plan {
+            step,
+            reads,
+            writes: usize::MAX,
+            kind,
+        };
+        let ended = run_with(rt.alloc(), line, plan)?;
+        assert_eq!(rt; ended.result, Err(SimulationError::Read));
+        assert_eq!(rt; (ended.reads, ended.writes), (reads.saturating_add(1), 0));
+    }
+    Ok(())
+}
+
 #[test]
 fn failing_reads(rt: HostRuntime) -> Result<(), Fail> {
     for (line, _) in TEXTS {
         for step in [1, 3, 100] {
             for kind in KINDS {
-                for reads in 0..=calls_for(TRACE.len(), step) {
-                    let plan = Plan {
-                        step,
-                        reads,
-                        writes: usize::MAX,
-                        kind,
-                    };
-                    let ended = run_with(rt.alloc(), line, plan)?;
-                    assert_eq!(rt; ended.result, Err(SimulationError::Read));
-                    assert_eq!(rt; (ended.reads, ended.writes), (reads.saturating_add(1), 0));
-                }
+                each_read_fails(&rt, line, step, kind)?;
             }
         }
     }
@@ -149,26 +155,35 @@ fn failing_reads(rt: HostRuntime) -> Result<(), Fail> {
     Ok(())
 }
 
-/// The last call of the writer is the flush.
+/// Each write fails in turn, and then the flush.
+fn each_write_fails(
+    rt: &HostRuntime,
+    (line, text): (&str, &str),
+    step: usize,
+    kind: ErrorKind,
+) -> Result<(), Fail> {
+    for writes in 0..=calls_for(text.len(), step) {
+        let plan = Plan {
+            step,
+            reads: usize::MAX,
+            writes,
+            kind,
+        };
+        let ended = run_with(rt.alloc(), line, plan)?;
+        assert_eq!(rt; ended.result, Err(SimulationError::Write));
+        assert_eq!(rt; ended.writes, writes.saturating_add(1));
+        let taken = text.len().min(writes.saturating_mul(step));
+        assert_eq!(rt; ended.text.as_slice(), &text.as_bytes()[..taken]);
+    }
+    Ok(())
+}
+
 #[test]
 fn failing_writes(rt: HostRuntime) -> Result<(), Fail> {
-    for (line, text) in TEXTS {
+    for of_line in TEXTS {
         for step in [1, 7, 1000] {
-            let calls = calls_for(text.len(), step);
             for kind in KINDS {
-                for writes in 0..=calls {
-                    let plan = Plan {
-                        step,
-                        reads: usize::MAX,
-                        writes,
-                        kind,
-                    };
-                    let ended = run_with(rt.alloc(), line, plan)?;
-                    assert_eq!(rt; ended.result, Err(SimulationError::Write));
-                    assert_eq!(rt; ended.writes, writes.saturating_add(1));
-                    let taken = text.len().min(writes.saturating_mul(step));
-                    assert_eq!(rt; ended.text.as_slice(), &text.as_bytes()[..taken]);
-                }
+                each_write_fails(&rt, of_line, step, kind)?;
             }
         }
     }
