@@ -175,6 +175,19 @@ impl Pair {
         yields(rt, self.tested.table.get(hash), &wanted, shown);
         Ok(())
     }
+
+    /// Looks drawn hashes up in both.
+    fn lookups_are_same(
+        &self,
+        rt: &impl Abort,
+        draws: &mut DrawnCalls,
+        shown: &str,
+    ) -> Result<(), AllocError> {
+        for _ in 0..8 {
+            self.lookup_is_same(rt, draws.hash(), shown)?;
+        }
+        Ok(())
+    }
 }
 
 #[test]
@@ -194,9 +207,7 @@ fn plain_lists(rt: HostRuntime) -> Result<(), Fail> {
                 pair.order_is_same(&rt, shown.as_str())?;
             }
             if number % 5 == 4 {
-                for _ in 0..8 {
-                    pair.lookup_is_same(&rt, draws.hash(), shown.as_str())?;
-                }
+                pair.lookups_are_same(&rt, &mut draws, shown.as_str())?;
             }
         }
     }

@@ -151,6 +151,7 @@ fn nothing_asked_before(rt: HostRuntime) -> Result<(), Fail> {
     let too_large = NonZeroUsize::new(16_777_216).ok_or("not zero")?;
     assert_eq!(rt; by_new(&alloc, too_large), Err(CacheError::Capacity));
     assert_eq!(rt; memo_by_new(&alloc, too_large), Err(CacheError::Capacity));
+    assert_eq!(rt; by_policy(&alloc, too_large, 1), Err(CacheError::Capacity));
     assert_eq!(rt;
         by_policy(&alloc, NonZeroUsize::MIN, 1),
         Err(CacheError::Policy)
