@@ -5,6 +5,7 @@ use clock2q_simulation::{Progress, SimulationError, simulate};
 use clock2q_text::Device;
 use std::alloc::Global;
 use std::io::{Error, ErrorKind, Read, Result as IoResult, Write};
+use std::process::Abort;
 use std::test::Fail;
 
 const TRACE: &[u8] = b"a\nbb\na\n\nbb\n";
@@ -127,7 +128,13 @@ fn calls_for(bytes: usize, step: usize) -> usize {
 }
 
 /// Each read fails in turn.
-fn each_read_fails(rt: &HostRuntime, line: &str, step: usize, kind: ErrorKind) -> Result<(), Fail> {
+fn each_read_fails(
+    rt: &impl Abort,
+    alloc: Global,
+    line: &str,
+    step: usize,
+    kind: ErrorKind,
+) -> Result<(), Fail> {
     for reads in 0..=calls_for(TRACE.len(), step) {
         let plan = Plan {
             step,
@@ -135,7 +142,7 @@ fn each_read_fails(rt: &HostRuntime, line: &str, step: usize, kind: ErrorKind) -
             writes: usize::MAX,
             kind,
         };
-        let ended = run_with(rt.alloc(), line, plan)?;
+        let ended = run_with(alloc, line, plan)?;
         assert_eq!(rt; ended.result, Err(SimulationError::Read));
         assert_eq!(rt; (ended.reads, ended.writes), (reads.saturating_add(1), 0));
     }
@@ -147,7 +154,7 @@ fn failing_reads(rt: HostRuntime) -> Result<(), Fail> {
     for (line, _) in TEXTS {
         for step in [1, 3, 100] {
             for kind in KINDS {
-                each_read_fails(&rt, line, step, kind)?;
+                each_read_fails(&rt, rt.alloc(), line, step, kind)?;
             }
         }
     }
@@ -157,7 +164,8 @@ fn failing_reads(rt: HostRuntime) -> Result<(), Fail> {
 
 /// Each write fails in turn, and then the flush.
 fn each_write_fails(
-    rt: &HostRuntime,
+    rt: &impl Abort,
+    alloc: Global,
     (line, text): (&str, &str),
     step: usize,
     kind: ErrorKind,
@@ -169,7 +177,7 @@ fn each_write_fails(
             writes,
             kind,
         };
-        let ended = run_with(rt.alloc(), line, plan)?;
+        let ended = run_with(alloc, line, plan)?;
         assert_eq!(rt; ended.result, Err(SimulationError::Write));
         assert_eq!(rt; ended.writes, writes.saturating_add(1));
         let taken = text.len().min(writes.saturating_mul(step));
@@ -183,7 +191,7 @@ fn failing_writes(rt: HostRuntime) -> Result<(), Fail> {
     for of_line in TEXTS {
         for step in [1, 7, 1000] {
             for kind in KINDS {
-                each_write_fails(&rt, of_line, step, kind)?;
+                each_write_fails(&rt, rt.alloc(), of_line, step, kind)?;
             }
         }
     }
