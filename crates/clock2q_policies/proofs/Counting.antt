@@ -1,5 +1,5 @@
 -- The hits of a trace, one key further.
-use Rattle.std.proofs.Common.{◌≡◌, ℕ, suc, ◌+◌, ◌<◌, refl, sym, ap, ◌∙◌, arith, add-one, Bool, cond, List, ◌∷◌, length, drop, drop-cons, get_or}
+use Rattle.std.proofs.Common.{◌≡◌, ℕ, ◌+◌, ◌<◌, ap, arith, add-one, Bool, cond, List, length, drop, drop-cons, get_or}
 use Rattle.clock2q_policies.specs.Policies.{hits}
 
 pub counted : {Cache : Type 0} (holds : ℕ → Cache → Bool) (after : ℕ → Cache → Cache) (trace : List ℕ) (i before now total : ℕ) (cache : Cache) → i < length trace

@@ -1,9 +1,9 @@
 -- A key of a trace comes to a plain cache: what its stamps tell then.
-use Rattle.std.proofs.Common.{◌≡◌, ℕ, suc, ◌+◌, ◌-◌, ◌<◌, ◌≤◌, refl, sym, ap, ◌∙◌, subst, arith, add-one, Bool, true, false, ltb, List, ◌∷◌, length, length-set, length-take, take, get_or, set}
+use Rattle.std.proofs.Common.{◌≡◌, ℕ, ◌+◌, ◌-◌, ◌<◌, ◌≤◌, refl, sym, ap, ◌∙◌, subst, arith, add-one, true, false, ltb, List, ◌∷◌, length, length-set, length-take, take, get_or, set}
 use Rattle.std.proofs.lemmas.List.{get_or_default}
 use Rattle.clock2q_policies.specs.declared.plain.Residents.{Residents}
 use Rattle.clock2q_policies.specs.Policies.{is_in, without, brought}
-use Rattle.clock2q_policies.specs.Stamps.{held_at, AreStamps, AreKnown}
+use Rattle.clock2q_policies.specs.Stamps.{held_at, AreStamps}
 use Rattle.clock2q_policies.specs.Residents.{held_by, IsHolding}
 use Rattle.clock2q_policies.proofs.Stamping.{without-absent, absent-taken, once, stamped-front, unstamped, stamps-later, stamps-set, brought-room, brought-full, is_in-stamp}
 
@@ -72,7 +72,7 @@ module _ {A : Type 0} (capacity : ℕ) (trace : List ℕ) (at : ℕ) (old : Resi
 
     holds : new.left ≤ at → new.count ≡ length (held_by trace (at + 1) new) → new.count ≤ capacity → IsHolding capacity trace (at + 1) new
     holds begun counted room = record {
-      known = λ place l. omega (arith, holding.known place l, ap length items, length-set old.stamps.items key (at + 1));
+      known = λ index l. omega (arith, holding.known index l, ap length items, length-set old.stamps.items key (at + 1));
       stamped = subst (λ s. AreStamps trace s (at + 1)) (sym items) (rw add-one (stamps-set trace old.stamps.items old.left key at holding.stamped refl (holding.known at before)));
       begun = omega (arith, begun);
       counted = counted;

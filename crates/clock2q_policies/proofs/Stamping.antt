@@ -1,6 +1,6 @@
 -- The list that stamps tell: who is in it, and what a new stamp or a later beginning makes of it.
-use Rattle.std.proofs.Common.{◌≡◌, ◌≢◌, ◌⊎◌, ℕ, zero, suc, ◌-◌, ◌<◌, ◌≤◌, inl, inr, refl, sym, ap, ◌∙◌, subst, arith, Bool, true, false, cond, ◌||◌, ◌&&◌, eqb, ltb, List, [], ◌∷◌, ◌++◌, length, length-append, take, get_or, set, get_or-set_same, get_or-set_other}
-use Rattle.std.proofs.lemmas.Bool.{cases_Bool, cases_eq, cases_lt, eqb-true, eqb-false, ltb-true, ltb-false, eq-eqb, ne_eqb, lt-ltb, le-ltb, and_parts, and_from, and_left, and_right, and_cases, or_left, or_from, or_cases, or_parts, or_right, false_from_ne_true}
+use Rattle.std.proofs.Common.{◌≡◌, ◌≢◌, ℕ, zero, suc, ◌-◌, ◌<◌, ◌≤◌, inl, inr, refl, sym, ap, ◌∙◌, subst, arith, true, false, cond, ◌&&◌, eqb, ltb, List, [], ◌∷◌, ◌++◌, length, length-append, take, get_or, set, get_or-set_same, get_or-set_other}
+use Rattle.std.proofs.lemmas.Bool.{cases_Bool, cases_eq, cases_lt, eqb-true, ltb-true, eq-eqb, ne_eqb, lt-ltb, le-ltb, and_parts, and_from, and_left, and_right, or_left, or_from, or_cases, or_parts, or_right, false_from_ne_true}
 use Rattle.clock2q_policies.specs.Policies.{is_in, without, brought}
 use Rattle.clock2q_policies.specs.Stamps.{is_newest, held_at, AreStamps}
 
@@ -13,50 +13,50 @@ without-absent key (first ∷ held) absent =
 
 module _ (trace stamps : List ℕ) (left : ℕ) where
   abbrev key_at : ℕ → ℕ
-  key_at place = get_or trace place 0
+  key_at index = get_or trace index 0
 
   abbrev stamp_of : ℕ → ℕ
   stamp_of key = get_or stamps key 0
 
-  newest_stamp : (place : ℕ) → is_newest trace stamps left place ≡ true → (stamp_of (key_at place) ≡ suc place) × (left < suc place)
-  newest_stamp place newest =
-      let parts = and_parts (eqb (stamp_of (key_at place)) (suc place)) (ltb left (suc place)) newest in
-      (eqb-true (stamp_of (key_at place)) (suc place) parts.0, ltb-true left (suc place) parts.1)
+  newest_stamp : (index : ℕ) → is_newest trace stamps left index ≡ true → (stamp_of (key_at index) ≡ suc index) × (left < suc index)
+  newest_stamp index newest =
+      let parts = and_parts (eqb (stamp_of (key_at index)) (suc index)) (ltb left (suc index)) newest in
+      (eqb-true (stamp_of (key_at index)) (suc index) parts.0, ltb-true left (suc index) parts.1)
 
-  stamp_newest : (place : ℕ) → stamp_of (key_at place) ≡ suc place → left < suc place → is_newest trace stamps left place ≡ true
-  stamp_newest place stamped later =
-      and_from (eqb (stamp_of (key_at place)) (suc place)) (ltb left (suc place)) (eq-eqb (stamp_of (key_at place)) (suc place) stamped) (lt-ltb left (suc place) later)
+  stamp_newest : (index : ℕ) → stamp_of (key_at index) ≡ suc index → left < suc index → is_newest trace stamps left index ≡ true
+  stamp_newest index stamped later =
+      and_from (eqb (stamp_of (key_at index)) (suc index)) (ltb left (suc index)) (eq-eqb (stamp_of (key_at index)) (suc index) stamped) (lt-ltb left (suc index) later)
 
   -- who is in the list has a stamp that says so
   pub in_stamped : (key at : ℕ) → is_in key (held_at trace stamps left at) ≡ true → (left < stamp_of key) × (stamp_of key ≤ at)
   in_stamped key zero is = absurd (cc)
-  in_stamped key (suc place) is = elim (cases_Bool (is_newest trace stamps left place)) [
+  in_stamped key (suc index) is = elim (cases_Bool (is_newest trace stamps left index)) [
     | inl newest ↦
-        let stamped = newest_stamp place newest in
-        elim (or_cases (eqb (key_at place) key) (is_in key (held_at trace stamps left place)) (rw newest at is)) [
+        let stamped = newest_stamp index newest in
+        elim (or_cases (eqb (key_at index) key) (is_in key (held_at trace stamps left index)) (rw newest at is)) [
           | inl first ↦
-              let same : key_at place ≡ key = eqb-true (key_at place) key first in
-              let stamp : stamp_of key ≡ suc place = sym (ap stamp_of same) ∙ stamped.0 in
+              let same : key_at index ≡ key = eqb-true (key_at index) key first in
+              let stamp : stamp_of key ≡ suc index = sym (ap stamp_of same) ∙ stamped.0 in
               (omega (arith, stamp, stamped.1), omega (arith, stamp))
           | inr later ↦
-              let below = in_stamped key place later in
+              let below = in_stamped key index later in
               (below.0, omega (arith, below.1))
         ]
     | inr old ↦
-        let below = in_stamped key place (rw old at is) in
+        let below = in_stamped key index (rw old at is) in
         (below.0, omega (arith, below.1))
   ]
 
   -- and who has such a stamp is in it
-  pub stamped_in : (key place at : ℕ) → key_at place ≡ key → stamp_of key ≡ suc place → left < suc place → place < at → is_in key (held_at trace stamps left at) ≡ true
-  stamped_in key place zero same stamp later before = absurd (omega arith)
-  stamped_in key place (suc last) same stamp later before = elim (cases_eq place last) [
+  pub stamped_in : (key index at : ℕ) → key_at index ≡ key → stamp_of key ≡ suc index → left < suc index → index < at → is_in key (held_at trace stamps left at) ≡ true
+  stamped_in key index zero same stamp later before = absurd (omega arith)
+  stamped_in key index (suc last) same stamp later before = elim (cases_eq index last) [
     | inl is ↦
         let here : key_at last ≡ key = sym (ap key_at is) ∙ same in
         let newest : is_newest trace stamps left last ≡ true = stamp_newest last (ap stamp_of here ∙ stamp ∙ ap suc is) (omega (arith, is, later)) in
         rw newest (or_left (eqb (key_at last) key) (is_in key (held_at trace stamps left last)) (eq-eqb (key_at last) key here))
     | inr other ↦
-        let inside : is_in key (held_at trace stamps left last) ≡ true = stamped_in key place last same stamp later (omega (arith, other, before)) in
+        let inside : is_in key (held_at trace stamps left last) ≡ true = stamped_in key index last same stamp later (omega (arith, other, before)) in
         elim (cases_Bool (is_newest trace stamps left last)) [
           | inl newest ↦ rw newest (or_right (eqb (key_at last) key) (is_in key (held_at trace stamps left last)) inside)
           | inr old ↦ rw old inside
@@ -73,24 +73,24 @@ module _ (trace stamps : List ℕ) (left : ℕ) where
         false_from_ne_true (is_in key (held_at trace stamps left at)) (λ is. omega (arith, gone, (in_stamped key at is).0)) ∙ sym (le-ltb left (stamp_of key) gone)
   ]
 
-  -- a new stamp takes a key out of its earlier place
+  -- a new stamp takes a key out of its earlier index
   pub held-stamped : (key stamp at : ℕ) → key < length stamps → at < stamp → held_at trace (set stamps key stamp) left at ≡ without key (held_at trace stamps left at)
   held-stamped key stamp zero within above = refl
-  held-stamped key stamp (suc place) within above =
-      let rest : held_at trace (set stamps key stamp) left place ≡ without key (held_at trace stamps left place) = held-stamped key stamp place within (omega (arith, above)) in
-      elim (cases_eq (key_at place) key) [
+  held-stamped key stamp (suc index) within above =
+      let rest : held_at trace (set stamps key stamp) left index ≡ without key (held_at trace stamps left index) = held-stamped key stamp index within (omega (arith, above)) in
+      elim (cases_eq (key_at index) key) [
         | inl same ↦
-            let changed : get_or (set stamps key stamp) (key_at place) 0 ≡ stamp = ap (λ k. get_or (set stamps key stamp) k 0) same ∙ get_or-set_same stamps key stamp 0 within in
-            let old : is_newest trace (set stamps key stamp) left place ≡ false = and_left (eqb (get_or (set stamps key stamp) (key_at place) 0) (suc place)) (ltb left (suc place)) (ne_eqb (get_or (set stamps key stamp) (key_at place) 0) (suc place) (λ e. omega (arith, changed, e, above))) in
-            rw old (rest ∙ sym (elim (cases_Bool (is_newest trace stamps left place)) as (λ w. without key (cond (is_newest trace stamps left place) (key_at place ∷ held_at trace stamps left place) (held_at trace stamps left place)) ≡ without key (held_at trace stamps left place)) [
-              | inl newest ↦ rw (newest, eq-eqb (key_at place) key same) refl
+            let changed : get_or (set stamps key stamp) (key_at index) 0 ≡ stamp = ap (λ k. get_or (set stamps key stamp) k 0) same ∙ get_or-set_same stamps key stamp 0 within in
+            let old : is_newest trace (set stamps key stamp) left index ≡ false = and_left (eqb (get_or (set stamps key stamp) (key_at index) 0) (suc index)) (ltb left (suc index)) (ne_eqb (get_or (set stamps key stamp) (key_at index) 0) (suc index) (λ e. omega (arith, changed, e, above))) in
+            rw old (rest ∙ sym (elim (cases_Bool (is_newest trace stamps left index)) as (λ w. without key (cond (is_newest trace stamps left index) (key_at index ∷ held_at trace stamps left index) (held_at trace stamps left index)) ≡ without key (held_at trace stamps left index)) [
+              | inl newest ↦ rw (newest, eq-eqb (key_at index) key same) refl
               | inr gone ↦ rw gone refl
             ]))
         | inr other ↦
-            let kept : get_or (set stamps key stamp) (key_at place) 0 ≡ stamp_of (key_at place) = get_or-set_other stamps key (key_at place) stamp 0 other in
-            let still : is_newest trace (set stamps key stamp) left place ≡ is_newest trace stamps left place = ap (λ s. eqb s (suc place) && ltb left (suc place)) kept in
-            elim (cases_Bool (is_newest trace stamps left place)) [
-              | inl newest ↦ rw (still, newest, ne_eqb (key_at place) key other) (ap (λ held. key_at place ∷ held) rest)
+            let kept : get_or (set stamps key stamp) (key_at index) 0 ≡ stamp_of (key_at index) = get_or-set_other stamps key (key_at index) stamp 0 other in
+            let still : is_newest trace (set stamps key stamp) left index ≡ is_newest trace stamps left index = ap (λ s. eqb s (suc index) && ltb left (suc index)) kept in
+            elim (cases_Bool (is_newest trace stamps left index)) [
+              | inl newest ↦ rw (still, newest, ne_eqb (key_at index) key other) (ap (λ held. key_at index ∷ held) rest)
               | inr gone ↦ rw (still, gone) rest
             ]
       ]
@@ -102,18 +102,18 @@ module _ (trace stamps : List ℕ) (left : ℕ) where
       counted at stamp.1 where
         counted : (upto : ℕ) → stamp_of key ≤ upto → suc (length (without key (held_at trace stamps left upto))) ≡ length (held_at trace stamps left upto)
         counted zero above = absurd (omega (arith, (in_stamped key at is).0, above))
-        counted (suc place) above = elim (cases_eq (stamp_of key) (suc place)) [
+        counted (suc index) above = elim (cases_eq (stamp_of key) (suc index)) [
           | inl here ↦
-              let same : key_at place ≡ key = are.own key place here in
-              let newest : is_newest trace stamps left place ≡ true = stamp_newest place (ap stamp_of same ∙ here) (omega (arith, here, (in_stamped key at is).0)) in
-              let absent : is_in key (held_at trace stamps left place) ≡ false = false_from_ne_true (is_in key (held_at trace stamps left place)) (λ inside. omega (arith, here, (in_stamped key place inside).1)) in
-              rw (newest, eq-eqb (key_at place) key same, without-absent key (held_at trace stamps left place) absent) refl
+              let same : key_at index ≡ key = are.own key index here in
+              let newest : is_newest trace stamps left index ≡ true = stamp_newest index (ap stamp_of same ∙ here) (omega (arith, here, (in_stamped key at is).0)) in
+              let absent : is_in key (held_at trace stamps left index) ≡ false = false_from_ne_true (is_in key (held_at trace stamps left index)) (λ inside. omega (arith, here, (in_stamped key index inside).1)) in
+              rw (newest, eq-eqb (key_at index) key same, without-absent key (held_at trace stamps left index) absent) refl
           | inr elsewhere ↦
-              let rest = counted place (omega (arith, elsewhere, above)) in
-              elim (cases_Bool (is_newest trace stamps left place)) [
+              let rest = counted index (omega (arith, elsewhere, above)) in
+              elim (cases_Bool (is_newest trace stamps left index)) [
                 | inl newest ↦
-                    let other : key_at place ≢ key = λ same. elsewhere (sym (ap stamp_of same) ∙ (newest_stamp place newest).0) in
-                    rw (newest, ne_eqb (key_at place) key other) (ap suc rest)
+                    let other : key_at index ≢ key = λ same. elsewhere (sym (ap stamp_of same) ∙ (newest_stamp index newest).0) in
+                    rw (newest, ne_eqb (key_at index) key other) (ap suc rest)
                 | inr old ↦ rw old rest
               ]
         ]
@@ -121,47 +121,47 @@ module _ (trace stamps : List ℕ) (left : ℕ) where
   -- nothing stands before the beginning
   pub held-none : (at : ℕ) → at ≤ left → held_at trace stamps left at ≡ []
   held-none zero before = refl
-  held-none (suc place) before =
-      rw (and_right (eqb (stamp_of (key_at place)) (suc place)) (ltb left (suc place)) (le-ltb left (suc place) before)) (held-none place (omega (arith, before)))
+  held-none (suc index) before =
+      rw (and_right (eqb (stamp_of (key_at index)) (suc index)) (ltb left (suc index)) (le-ltb left (suc index) before)) (held-none index (omega (arith, before)))
 
 module _ (trace stamps : List ℕ) (left : ℕ) where
-  same_test : (place : ℕ) → left ≢ place → is_newest trace stamps (suc left) place ≡ is_newest trace stamps left place
-  same_test place other = ap (λ b. eqb (get_or stamps (get_or trace place 0) 0) (suc place) && b) (elim (cases_lt left place) as (λ w. ltb (suc left) (suc place) ≡ ltb left (suc place)) [
-    | inl below ↦ lt-ltb (suc left) (suc place) (omega (arith, below)) ∙ sym (lt-ltb left (suc place) (omega (arith, below)))
+  same_test : (index : ℕ) → left ≢ index → is_newest trace stamps (suc left) index ≡ is_newest trace stamps left index
+  same_test index other = ap (λ b. eqb (get_or stamps (get_or trace index 0) 0) (suc index) && b) (elim (cases_lt left index) as (λ w. ltb (suc left) (suc index) ≡ ltb left (suc index)) [
+    | inl below ↦ lt-ltb (suc left) (suc index) (omega (arith, below)) ∙ sym (lt-ltb left (suc index) (omega (arith, below)))
     | inr above ↦
-        let past : place < left = omega (arith, above, other) in
-        le-ltb (suc left) (suc place) (omega (arith, past)) ∙ sym (le-ltb left (suc place) (omega (arith, past)))
+        let past : index < left = omega (arith, above, other) in
+        le-ltb (suc left) (suc index) (omega (arith, past)) ∙ sym (le-ltb left (suc index) (omega (arith, past)))
   ])
 
-  -- a place whose key has a later stamp is passed over
+  -- an index whose key has a later stamp is passed over
   pub held-stale : (at : ℕ) → get_or stamps (get_or trace left 0) 0 ≢ suc left → held_at trace stamps (suc left) at ≡ held_at trace stamps left at
   held-stale zero stale = refl
-  held-stale (suc place) stale = elim (cases_eq left place) [
+  held-stale (suc index) stale = elim (cases_eq left index) [
     | inl here ↦
-        let stamp : get_or stamps (get_or trace place 0) 0 ≢ suc place = λ e. stale (ap (λ p. get_or stamps (get_or trace p 0) 0) here ∙ e ∙ ap suc (sym here)) in
-        let no = ne_eqb (get_or stamps (get_or trace place 0) 0) (suc place) stamp in
-        rw (no) (held-stale place stale)
-    | inr other ↦ elim (cases_Bool (is_newest trace stamps left place)) [
-      | inl newest ↦ rw (same_test place other, newest) (ap (λ held. get_or trace place 0 ∷ held) (held-stale place stale))
-      | inr old ↦ rw (same_test place other, old) (held-stale place stale)
+        let stamp : get_or stamps (get_or trace index 0) 0 ≢ suc index = λ e. stale (ap (λ p. get_or stamps (get_or trace p 0) 0) here ∙ e ∙ ap suc (sym here)) in
+        let no = ne_eqb (get_or stamps (get_or trace index 0) 0) (suc index) stamp in
+        rw (no) (held-stale index stale)
+    | inr other ↦ elim (cases_Bool (is_newest trace stamps left index)) [
+      | inl newest ↦ rw (same_test index other, newest) (ap (λ held. get_or trace index 0 ∷ held) (held-stale index stale))
+      | inr old ↦ rw (same_test index other, old) (held-stale index stale)
     ]
   ]
 
   -- and one whose key has no later stamp has the last of the list
   pub held-oldest : (at : ℕ) → get_or stamps (get_or trace left 0) 0 ≡ suc left → left < at → held_at trace stamps left at ≡ held_at trace stamps (suc left) at ++ get_or trace left 0 ∷ []
   held-oldest zero stamp before = absurd (omega arith)
-  held-oldest (suc place) stamp before = elim (cases_eq left place) [
+  held-oldest (suc index) stamp before = elim (cases_eq left index) [
     | inl here ↦
-        let newest : is_newest trace stamps left place ≡ true = stamp_newest trace stamps left place (sym (ap (λ p. get_or stamps (get_or trace p 0) 0) here) ∙ stamp ∙ ap suc here) (omega (arith, here)) in
-        let first : held_at trace stamps left (suc place) ≡ get_or trace place 0 ∷ [] = rw (newest, held-none trace stamps left place (omega (arith, here))) refl in
-        let none : held_at trace stamps (suc left) (suc place) ≡ [] = held-none trace stamps (suc left) (suc place) (omega (arith, here)) in
-        let last : get_or trace place 0 ≡ get_or trace left 0 = ap (λ p. get_or trace p 0) (sym here) in
-        first ∙ subst (λ held. get_or trace place 0 ∷ [] ≡ held ++ get_or trace left 0 ∷ []) (sym none) (ap (λ key. key ∷ []) last)
+        let newest : is_newest trace stamps left index ≡ true = stamp_newest trace stamps left index (sym (ap (λ p. get_or stamps (get_or trace p 0) 0) here) ∙ stamp ∙ ap suc here) (omega (arith, here)) in
+        let first : held_at trace stamps left (suc index) ≡ get_or trace index 0 ∷ [] = rw (newest, held-none trace stamps left index (omega (arith, here))) refl in
+        let none : held_at trace stamps (suc left) (suc index) ≡ [] = held-none trace stamps (suc left) (suc index) (omega (arith, here)) in
+        let last : get_or trace index 0 ≡ get_or trace left 0 = ap (λ p. get_or trace p 0) (sym here) in
+        first ∙ subst (λ held. get_or trace index 0 ∷ [] ≡ held ++ get_or trace left 0 ∷ []) (sym none) (ap (λ key. key ∷ []) last)
     | inr other ↦
-        let rest = held-oldest place stamp (omega (arith, other, before)) in
-        elim (cases_Bool (is_newest trace stamps left place)) [
-          | inl newest ↦ rw (same_test place other, newest) (ap (λ held. get_or trace place 0 ∷ held) rest)
-          | inr old ↦ rw (same_test place other, old) rest
+        let rest = held-oldest index stamp (omega (arith, other, before)) in
+        elim (cases_Bool (is_newest trace stamps left index)) [
+          | inl newest ↦ rw (same_test index other, newest) (ap (λ held. get_or trace index 0 ∷ held) rest)
+          | inr old ↦ rw (same_test index other, old) rest
         ]
   ]
 
@@ -227,11 +227,11 @@ module _ (trace stamps : List ℕ) (left key at : ℕ) (are : AreStamps trace st
       | inl same ↦ omega (arith, ap (λ k. get_or (set stamps key (suc at)) k 0) same ∙ get_or-set_same stamps key (suc at) 0 within)
       | inr other ↦ omega (arith, are.bound k, get_or-set_other stamps key k (suc at) 0 other)
     ];
-    own = λ k place stamp. elim (cases_eq k key) [
+    own = λ k index stamp. elim (cases_eq k key) [
       | inl same ↦
           let new : get_or (set stamps key (suc at)) k 0 ≡ suc at = ap (λ k. get_or (set stamps key (suc at)) k 0) same ∙ get_or-set_same stamps key (suc at) 0 within in
-          let is : place ≡ at = omega (arith, new, stamp) in
+          let is : index ≡ at = omega (arith, new, stamp) in
           ap (λ p. get_or trace p 0) is ∙ here ∙ sym same
-      | inr other ↦ are.own k place (sym (get_or-set_other stamps key k (suc at) 0 other) ∙ stamp)
+      | inr other ↦ are.own k index (sym (get_or-set_other stamps key k (suc at) 0 other) ∙ stamp)
     ];
   }

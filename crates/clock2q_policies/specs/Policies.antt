@@ -1,5 +1,5 @@
 -- What a cache of each policy holds after a key of a trace, and how many keys of a trace hit.
-use Rattle.std.specs.Prelude.{ℕ, ◌+◌, ◌<◌, Bool, true, false, ◌||◌, ◌==◌, if◌then◌else◌, List, [], ◌∷◌, get_or, length, take}
+use Rattle.std.specs.Prelude.{ℕ, ◌+◌, ◌<◌, Bool, false, ◌||◌, ◌==◌, if◌then◌else◌, List, [], ◌∷◌, get_or, length, take}
 use Rattle.clock2q_policies.specs.declared.plain.PlainPolicy.{PlainPolicy}
 use Rattle.clock2q_policies.specs.declared.plain.PlainPolicy.TheVariants.{LeastRecentlyUsed, FirstInFirstOut}
 
@@ -32,7 +32,7 @@ plain_after policy capacity key held = if is_in key held then after_hit policy k
 
 -- every key of a trace is below a number
 abbrev pub AreBelow : ℕ → List ℕ → Type 0
-AreBelow keys trace = (place : ℕ) → place < length trace → get_or trace place 0 < keys
+AreBelow keys trace = (index : ℕ) → index < length trace → get_or trace index 0 < keys
 
 -- how many keys hit in a new cache
 abbrev pub plain_hits : PlainPolicy → ℕ → List ℕ → ℕ

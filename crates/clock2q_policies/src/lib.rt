@@ -6,10 +6,10 @@
 
 mod arc;
 mod clock;
+mod index_set;
 mod lists;
 mod marks;
 mod optimal;
-mod places;
 mod plain;
 mod replayed;
 mod s3_fifo;

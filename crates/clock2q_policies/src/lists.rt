@@ -69,8 +69,8 @@ impl<A: Allocator> Lists<A> {
         self.join(newest, key);
         self.join(key, ring);
         self.count(list, 1);
-        if let Some(place) = self.lists.get_mut(key as usize) {
-            *place = list;
+        if let Some(list_of) = self.lists.get_mut(key as usize) {
+            *list_of = list;
         }
     }
 
@@ -83,8 +83,8 @@ impl<A: Allocator> Lists<A> {
         let (older, newer) = (at(&self.older, key), at(&self.newer, key));
         self.join(older, newer);
         self.count(list, -1);
-        if let Some(place) = self.lists.get_mut(key as usize) {
-            *place = NONE;
+        if let Some(list_of) = self.lists.get_mut(key as usize) {
+            *list_of = NONE;
         }
     }
 

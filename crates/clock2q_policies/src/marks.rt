@@ -20,8 +20,8 @@ impl<A: Allocator> Marks<A> {
     }
 
     pub(crate) fn set(&mut self, key: u32, mark: u8) {
-        if let Some(place) = self.marks.get_mut(key as usize) {
-            *place = mark;
+        if let Some(old) = self.marks.get_mut(key as usize) {
+            *old = mark;
         }
     }
 }

@@ -1,6 +1,6 @@
 //! The most that any policy could hit.
 
-use crate::places::Places;
+use crate::index_set::IndexSet;
 use std::alloc::{AllocError, Allocator};
 use std::num::NonZeroUsize;
 
@@ -9,7 +9,7 @@ use std::num::NonZeroUsize;
 #[derive(Drop)]
 struct Rooms<A: Allocator> {
     /// Where each stay that is over ended; its room is free from there on.
-    ended: Places<A>,
+    ended: IndexSet<A>,
     /// How many rooms have had no stay yet.
     unused: usize,
 }
@@ -54,21 +54,21 @@ pub fn optimal_hits<A: Allocator + Copy>(
     trace: &[u32],
     keys: u32,
 ) -> Result<usize, AllocError> {
-    // one more than the place of each key's last access, and 0 where there was none
+    // one more than the index of each key's last access, and 0 where there was none
     let mut last = vec![in alloc; 0usize; keys as usize]?;
     let mut rooms = Rooms {
-        ended: Places::new(alloc, trace.len())?,
+        ended: IndexSet::new(alloc, trace.len())?,
         unused: capacity.get().saturating_sub(1),
     };
     let mut hits = 0usize;
-    for (place, key) in trace.iter().enumerate() {
+    for (index, key) in trace.iter().enumerate() {
         let Some(last) = last.get_mut(*key as usize) else {
             continue;
         };
-        if *last > 0 && rooms.keep(last.saturating_sub(1), place) {
+        if *last > 0 && rooms.keep(last.saturating_sub(1), index) {
             hits = hits.saturating_add(1);
         }
-        *last = place.saturating_add(1);
+        *last = index.saturating_add(1);
     }
     Ok(hits)
 }

@@ -28,7 +28,7 @@ pub enum PlainPolicy {
     FirstInFirstOut,
 }
 
-/// The keys that a plain cache holds. A key's stamp is one more than the place of the trace at which
+/// The keys that a plain cache holds. A key's stamp is one more than the index in the trace at which
 /// it was last put in front; it is held while its stamp is above `left`.
 #[derive(Drop)]
 struct Residents<A: Allocator> {
@@ -38,7 +38,7 @@ struct Residents<A: Allocator> {
 }
 
 impl<A: Allocator> Residents<A> {
-    /// Returns true if the key at a place of the trace is held, and does what the policy does then.
+    /// Returns true if the key at an index of the trace is held, and does what the policy does then.
     fn access(
         &mut self,
         policy: PlainPolicy,
@@ -106,9 +106,9 @@ fn after_oldest(trace: &[u32], stamps: &[usize], left: usize, at: usize) -> usiz
         (held_at trace.now stamps.now left at) }
     ensures within { result ≤ at }
 {
-    for place in left..at {
-        if stamps[trace[place] as usize] == place + 1 {
-            return place + 1;
+    for index in left..at {
+        if stamps[trace[index] as usize] == index + 1 {
+            return index + 1;
         }
     }
     at

@@ -155,10 +155,10 @@ impl Three {
                 self.evict(room)?;
             }
         }
-        let place = self.left.iter().position(|other| *other == key);
-        match place {
-            Some(place) => {
-                let _ = self.left.remove(place);
+        let index = self.left.iter().position(|other| *other == key);
+        match index {
+            Some(index) => {
+                let _ = self.left.remove(index);
                 push(&mut self.main, key, 0)?;
             }
             None => push(&mut self.small, key, 0)?,
@@ -196,7 +196,7 @@ struct Four {
 /// Takes a key out of a queue, and returns true if it was there.
 fn taken(queue: &mut Queue, key: u32) -> bool {
     match queue.iter().position(|(other, _)| *other == key) {
-        Some(place) => queue.remove(place).is_some(),
+        Some(index) => queue.remove(index).is_some(),
         None => false,
     }
 }
@@ -346,7 +346,7 @@ fn hits_are_those_of_lists(rt: HostRuntime) -> Result<(), Fail> {
     Ok(())
 }
 
-/// So long a trace has places whose words are on three levels.
+/// So long a trace has indices whose words are on three levels.
 #[test]
 fn optimal_hits_of_a_long_trace(rt: HostRuntime) -> Result<(), Fail> {
     let alloc = rt.alloc();

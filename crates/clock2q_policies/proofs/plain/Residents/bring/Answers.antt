@@ -1,4 +1,4 @@
-use Rattle.std.proofs.Common.{◌≡◌, ◌<◌, refl, arith, subst, length, take, ◌-◌}
+use Rattle.std.proofs.Common.{◌≡◌, refl, arith, subst, length, take, ◌-◌}
 use Rattle.clock2q_policies.specs.Stamps.{held_at}
 use Rattle.clock2q_policies.proofs.Holding.{came-room, came-full, holds-room, holds-full}
 use Rattle.clock2q_policies.proofs.plain.Residents.bring.Goals.{then-self-get, else-self-get}
