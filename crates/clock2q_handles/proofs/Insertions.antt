@@ -6,8 +6,6 @@ use Rattle.clock2q_handles.specs.Layout.{Placed, slot_at, reach, longest_reach, 
 use Rattle.clock2q_handles.specs.Shifts.{Opens, HasRoom, IsVacancy}
 use Rattle.clock2q_handles.specs.Slots.{IsSlotCount}
 use Rattle.clock2q_handles.specs.Table.{IsTable}
-use Rattle.clock2q_handles.specs.TableStep.{TableValue, table_value}
-use Rattle.clock2q_handles.proofs.TidyLayout.{length-homes_of}
 use Rattle.clock2q_handles.proofs.Walk.{Stops}
 use Rattle.clock2q_handles.proofs.Changes.{IsMovedOn, inserted-run, inserted-total, inserted-tidy, inserted-homes}
 use Rattle.clock2q_handles.proofs.TooLong.{first-vacant, long-by-new, long-by-moved}
@@ -62,20 +60,6 @@ pub record HasEnded {E : Type 0} (slots : List (Option (Placed E))) (x g n : ℕ
   pub home : g ≡ x % length slots
   pub passed : (j : ℕ) → j < n → j < reach (slot_at slots (g + j))
   pub stop : reach (slot_at slots (g + n)) ≤ n
-
--- the same, of slots that are seen as a table's
-pub has_ended : {H : Type 0} (slots : List (Option (Placed (ℕ × H)))) (t : TableValue H) (x g n writes : ℕ)
-    → table_value (homes_of slots) slots writes ≡ t → total t.homes < capacity (length t.homes) → g ≡ x % length t.slots
-    → ((j : ℕ) → j < n → j < reach (slot_at t.slots (g + j))) → reach (slot_at t.slots (g + n)) ≤ n → HasEnded slots x g n
-has_ended slots t x g n writes is room home passed stop =
-    let back = ap (λ u. u.slots) (sym is) in
-    let lists = ap (λ u. u.homes) (sym is) in
-    record {
-      fits = subst (λ m. total (homes_of slots) < capacity m) (length-homes_of slots) (subst (λ hs. total hs < capacity (length hs)) lists room);
-      home = subst (λ s. g ≡ x % length s) back home;
-      passed = subst (λ s. (j : ℕ) → j < n → j < reach (slot_at s (g + j))) back passed;
-      stop = subst (λ s. reach (slot_at s (g + n)) ≤ n) back stop;
-    }
 
 -- what an insertion comes to: the lists with the entry, none of which is too long, and the writes
 pub record Insertion {H : Type 0} (x : ℕ) (v : H) (slots others : List (Option (Placed (ℕ × H)))) (len before after : ℕ) : Type 0 where

@@ -5,7 +5,7 @@ ghost use Rattle.clock2q_handles.specs.Layout.{run};
 ghost use Rattle.clock2q_handles.specs.Offers.{FindsOrPuts, MayBeOffered};
 ghost use Rattle.clock2q_handles.specs.Positions.{gap_of};
 ghost use Rattle.clock2q_handles.specs.TableStep.{IsBelowCapacity};
-ghost use Rattle.std.specs.Prelude.{false, ◌≡◌, ◌≢◌, Err, ◌%◌, ◌^◌, ◌<◌, ◌≤◌, ◌+◌, ℕ, IsTrue, IsOk, OnOk, OnErr, IfOk, length};
+ghost use Rattle.std.specs.Prelude.{false, ◌≡◌, ◌≢◌, Err, ◌^◌, ◌<◌, ◌≤◌, ◌+◌, IsTrue, IsOk, OnOk, OnErr, IfOk};
 
 use crate::error::TableError;
 use crate::gap::Gap;
@@ -54,31 +54,7 @@ impl<H: Copy + Eq + Default, A: Allocator + Copy> Table<H, A> {
         ensures nearer { AfterGrowth F.FnMut rehash self.old.homes (IsNearer self.old.homes) }
         ensures counted { self.old.writes ≤ self.new.writes }
     {
-        self.insert_asking(hash, handle, &mut rehash)
-    }
-
-    /// Inserts an entry, and asks `rehash` where the table grows for it.
-    #[inline(always)]
-    fn insert_asking<F: FnMut(H) -> u64>(
-        &mut self,
-        hash: u64,
-        handle: H,
-        rehash: &mut F,
-    ) -> Result<(), TableError>
-        requires rehash { IsFull self.old.homes → HashesKnown F.FnMut rehash.old self.old.homes }
-        ensures put { result ≢ Err TableError.Memory → AfterGrowth F.FnMut rehash.old self.old.homes (λ homes. PutIn homes hash handle result self.new.homes) }
-        ensures memory { result ≡ Err TableError.Memory → IsFull self.old.homes × (self.new ≡ self.old) }
-        ensures few { total self.old.homes + 1 < 2 ^ 24 → result ≢ Err TableError.RunTooLong }
-        ensures asks { result ≢ Err TableError.Memory → IsFull self.old.homes → AsksHeld F.FnMut rehash.old self.old.homes rehash.new }
-        ensures unasked { result ≡ Err TableError.Memory → rehash.new ≡ rehash.old }
-        ensures quiet { IsBelowCapacity self.old.homes → rehash.new ≡ rehash.old }
-        ensures writes { IsBelowCapacity self.old.homes → WritesAtMost (run self.old.slots hash + 1) self.old self.new }
-        ensures restores { IsBelowCapacity self.old.homes → OnOk result (Restores H.PartialEq.eq hash handle self.old self.new) }
-        ensures laid { IsLaidOut self.new }
-        ensures nearer { AfterGrowth F.FnMut rehash.old self.old.homes (IsNearer self.old.homes) }
-        ensures counted { self.old.writes ≤ self.new.writes }
-    {
-        self.make_room(rehash)?;
+        self.make_room(&mut rehash)?;
         self.insert_within_capacity(hash, handle)
     }
 
@@ -123,7 +99,6 @@ impl<H: Copy + Eq + Default, A: Allocator + Copy> Table<H, A> {
 
 impl<H: Copy + Eq + Default, A: Allocator> Table<H, A> {
     ghost use Rattle.clock2q_handles.specs.Changes.{Inserts};
-    ghost use Rattle.clock2q_handles.specs.Layout.{slot_at, reach};
 
     /// Inserts `handle` under `hash`, last among the entries of its home, in a table that is below
     /// [capacity](Table::capacity). It takes no memory, and asks for no hash of a held handle. A
@@ -163,7 +138,11 @@ impl<H: Copy + Eq + Default, A: Allocator> Table<H, A> {
     {
         let home = self.slots.home(hash);
         let distance = self.slots.end(home);
-        self.insert_at_distance(home, distance, hash, handle)
+        if !self.slots.put_in(home, distance, hash, handle) {
+            return Err(TableError::RunTooLong);
+        }
+        self.len += 1;
+        Ok(())
     }
 
     /// Returns the first candidate that is accepted, or inserts the handle where none is.
@@ -221,30 +200,5 @@ impl<H: Copy + Eq + Default, A: Allocator> Table<H, A> {
             return Ok(());
         }
         self.insert_among_many(hash, handle)
-    }
-
-    /// Inserts an entry where the walk for it ended.
-    fn insert_at_distance(
-        &mut self,
-        home: usize,
-        distance: usize,
-        hash: u64,
-        handle: H,
-    ) -> Result<(), TableError>
-        requires room { IsBelowCapacity self.old.homes }
-        requires home { home ≡ hash % length self.old.slots }
-        requires within { distance < length self.old.slots }
-        requires passed { (j : ℕ) → j < distance → j < reach (slot_at self.old.slots (home + j)) }
-        requires stop { reach (slot_at self.old.slots (home + distance)) ≤ distance }
-        ensures put { PutIn self.old.homes hash handle result self.new.homes }
-        ensures refused { OnErr result (self.new ≡ self.old) }
-        ensures writes { WritesAtMost (run self.old.slots hash + 1) self.old self.new }
-        ensures laid { IsLaidOut self.new }
-    {
-        if !self.slots.put_in(home, distance, hash, handle) {
-            return Err(TableError::RunTooLong);
-        }
-        self.len += 1;
-        Ok(())
     }
 }
