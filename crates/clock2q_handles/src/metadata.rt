@@ -15,7 +15,7 @@ pub(super) const MAX_DISPLACEMENT: usize = (1 << 24) - 2;
 
 /// A slot's displacement and fingerprint, or that the slot is empty: a reach of 0.
 #[derive(Clone, Copy)]
-pub struct Metadata {
+pub(crate) struct Metadata {
     word: u32,
 }
 
@@ -110,7 +110,7 @@ const WANTED_UNIT: u64 = 1 << 8;
 /// past it, with the fingerprint of its hash; or nothing, where it has ended. The word is longer
 /// than a slot's, since a walk comes one slot further than an entry may stand.
 #[derive(Clone, Copy)]
-pub struct Wanted {
+pub(crate) struct Wanted {
     word: u64,
 }
 

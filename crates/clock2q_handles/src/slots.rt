@@ -27,7 +27,7 @@ pub(super) use view::{SlotsMut, SlotsRef};
 /// The slots: a power of two of them, or none. Some methods name a slot by a home and a distance
 /// from it, and slot 0 follows the last.
 #[derive(Drop)]
-pub struct Slots<H, A: Allocator> {
+pub(crate) struct Slots<H, A: Allocator> {
     metadata: Vec<Metadata, A>,
     handles: Vec<H, A>,
     writes: Count,

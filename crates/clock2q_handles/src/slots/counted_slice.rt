@@ -6,7 +6,7 @@ use clock2q_count::Count;
 /// One of the vectors of a table's slots. There is no other way to its elements than
 /// [read](CountedSlice::read), which counts each.
 #[derive(Drop)]
-pub struct CountedSlice<'a, T> {
+pub(crate) struct CountedSlice<'a, T> {
     items: &'a [T],
     reads: Count,
 }

@@ -11,7 +11,7 @@ use std::marker::Model;
 /// A table's slots, as a lookup sees them: both vectors, each read of which is counted, and the
 /// number of slots less one.
 #[derive(Drop)]
-pub struct Reader<'a, H> {
+pub(crate) struct Reader<'a, H> {
     metadata: CountedSlice<'a, Metadata>,
     handles: CountedSlice<'a, H>,
     mask: usize,

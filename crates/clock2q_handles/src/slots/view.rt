@@ -9,7 +9,7 @@ use clock2q_count::Count;
 /// Both vectors of the slots as slices, and the number of slots that were written. It has no other
 /// way to write a slot than [write](SlotsMut::write), which counts it.
 #[derive(Drop)]
-pub struct SlotsMut<'a, H> {
+pub(crate) struct SlotsMut<'a, H> {
     metadata: &'a mut [Metadata],
     handles: &'a mut [H],
     writes: &'a mut Count,
@@ -97,7 +97,7 @@ impl<'a, H: Copy> SlotsMut<'a, H> {
 
 /// Both vectors of the slots as slices, to be read from one end to the other.
 #[derive(Clone, Copy)]
-pub struct SlotsRef<'a, H> {
+pub(crate) struct SlotsRef<'a, H> {
     metadata: &'a [Metadata],
     handles: &'a [H],
 }
