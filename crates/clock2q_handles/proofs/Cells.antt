@@ -90,7 +90,8 @@ module _ {H : Type 0} where
       → k ≡ n % length (cells ms vs) → k < length ms → m ≡ get_or ms k m → meaning m ≡ mark_of (slot_at (cells ms vs) n)
   mark_read ms [] n k m same at within is = absurd (omega (arith, same, within))
   mark_read ms (v ∷ vs) n k m same at within is =
-      ap meaning is ∙ sym (mark_of-cell (meaning (get_or ms k m)) (get_or (v ∷ vs) k v)) ∙ ap mark_of (sym (get_or-cells ms (v ∷ vs) k m v same within) ∙ ap (λ j. get_or (cells ms (v ∷ vs)) j None) at)
+      ap meaning is ∙ sym (mark_of-cell (meaning (get_or ms k m)) (get_or (v ∷ vs) k v))
+      ∙ ap mark_of (sym (get_or-cells ms (v ∷ vs) k m v same within) ∙ ap (λ j. get_or (cells ms (v ∷ vs)) j None) at)
 
   -- the handle of a slot that is read
   pub handle_read : (ms : List Metadata) (vs : List H) (n k : ℕ) (m : Metadata) (v : H) → length vs ≡ length ms

@@ -65,7 +65,11 @@ module _ {E : Type 0} where
       here_come s at = record {
         slot = at ∙ sym (rem-plus (length slots) x d);
         within = here_within;
-        passed = λ j l. omega (arith, passed (slot_at slots) tidy.ordered x 0 d (omega (arith, ap reach here)) j (omega (arith, l)), ap reach (past_home slots (length slots) (x % length slots) x refl refl j));
+        passed = λ j l. omega (
+          arith,
+          passed (slot_at slots) tidy.ordered x 0 d (omega (arith, ap reach here)) j (omega (arith, l)),
+          ap reach (past_home slots (length slots) (x % length slots) x refl refl j),
+        );
       }
 
       -- the entries of its home before it

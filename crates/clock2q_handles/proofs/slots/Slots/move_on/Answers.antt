@@ -13,7 +13,9 @@ loop-distance-preserved g c =
     let e = ap (λ s. s.slots) c.write.ensures in
     let more = moving_more (slot_at c.args.self.now.slots) now c.write.new.self.slots x c.args.home d c.args.vacancy
     (omega arith) c.loop-distance.invariant.upto (omega (arith, c.loop-distance.invariant.len, c.requires.upto))
-    c.loop-distance.invariant.moving (cell-mark_on _ _ (slot_at now (c.args.home + (d - 1))) c.handle-handle.result c.metadata-metadata.ensures.meaning c.one_further.ensures c.handle-handle.ensures) e in
+    c.loop-distance.invariant.moving
+    (cell-mark_on _ _ (slot_at now (c.args.home + (d - 1))) c.handle-handle.result
+    c.metadata-metadata.ensures.meaning c.one_further.ensures c.handle-handle.ensures) e in
     let len : length c.write.new.self.slots ≡ length now = ap length e ∙ length-set now ((c.args.home + d) % length now) x in
     record {
       from = omega arith;

@@ -62,7 +62,9 @@ returns-then-self-le-MAX_DISPLACEMENT-clause-writes g c =
 
 pub returns-then-self-le-MAX_DISPLACEMENT-clause-laid : goal.returns-then-self-le-MAX_DISPLACEMENT-clause-laid
 returns-then-self-le-MAX_DISPLACEMENT-clause-laid g c =
-    table-laid c.put_at.new.self.slots (c.self.inside.len + 1) (let at = goal.at.returns-then-self-le-MAX_DISPLACEMENT-clause-laid g c in step g at.After-put_at (room g at.After-self) (ends g at.After-wanted)).table c.put_at.new.self.writes
+    let at = goal.at.returns-then-self-le-MAX_DISPLACEMENT-clause-laid g c in
+    let done = step g at.After-put_at (room g at.After-self) (ends g at.After-wanted) in
+    table-laid c.put_at.new.self.slots (c.self.inside.len + 1) done.table c.put_at.new.self.writes
 
 pub returns-then-self-le-MAX_DISPLACEMENT-clause-restores : goal.returns-then-self-le-MAX_DISPLACEMENT-clause-restores
 returns-then-self-le-MAX_DISPLACEMENT-clause-restores g c fresh =

@@ -12,6 +12,8 @@ invariant-loop-slot g l = record {
   reached : (hs : List g.row.H.Denot) × Reaches g.F.FnMut (IsHeld l.self.homes) l.initial.rehash hs l.rehash;
   laid : IsLaidOut l.table;
   counted : l.self.writes ≤ l.table.writes;
-  built : (key : g.row.H.Denot → ℕ) → AnswersBy g.F.FnMut key (IsHeld l.self.homes) l.initial.rehash → IsHashOf key l.self.homes → l.table.homes ≡ put_all key (no_entries l.count) (entries (take l.slot (cells l.old.metadata.now l.old.handles.now)));
-  asked : (key : g.row.H.Denot → ℕ) → AnswersBy g.F.FnMut key (IsHeld l.self.homes) l.initial.rehash → IsHashOf key l.self.homes → Asks g.F.FnMut key l.initial.rehash (map (λ s. s.entry.1) (entries (take l.slot (cells l.old.metadata.now l.old.handles.now)))) l.rehash;
+  built : (key : g.row.H.Denot → ℕ) → AnswersBy g.F.FnMut key (IsHeld l.self.homes) l.initial.rehash → IsHashOf key l.self.homes
+      → l.table.homes ≡ put_all key (no_entries l.count) (entries (take l.slot (cells l.old.metadata.now l.old.handles.now)));
+  asked : (key : g.row.H.Denot → ℕ) → AnswersBy g.F.FnMut key (IsHeld l.self.homes) l.initial.rehash → IsHashOf key l.self.homes
+      → Asks g.F.FnMut key l.initial.rehash (map (λ s. s.entry.1) (entries (take l.slot (cells l.old.metadata.now l.old.handles.now)))) l.rehash;
 }

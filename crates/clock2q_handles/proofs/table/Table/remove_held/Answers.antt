@@ -16,8 +16,12 @@ remove_held-requires-clause-held g c =
     ap (list_any test) (listed-home slots (c.args.hash % length slots) c.args.hash (λ _. refl)) ∙ subst (λ t. list_any test (listed t.homes c.args.hash) ≡ true) (sym c.self.view_is) c.requires.held
 
 -- what was taken out
-step : (g : Over) (c : After-remove_held g) → Removal g.H.PartialEq.eq c.args.hash c.args.handle c.self.inside.slots.slots c.remove_held.new.self.slots c.self.inside.len c.self.inside.slots.writes c.remove_held.new.self.writes
-step g c = removal g.H.PartialEq.eq c.args.hash c.args.handle c.self.inside.slots.slots c.remove_held.new.self.slots c.self.inside.len c.self.inside.slots.writes c.remove_held.new.self.writes c.self.invariant c.remove_held.ensures.taken
+step : (g : Over) (c : After-remove_held g)
+    → Removal g.H.PartialEq.eq c.args.hash c.args.handle c.self.inside.slots.slots c.remove_held.new.self.slots
+    c.self.inside.len c.self.inside.slots.writes c.remove_held.new.self.writes
+step g c =
+    removal g.H.PartialEq.eq c.args.hash c.args.handle c.self.inside.slots.slots c.remove_held.new.self.slots
+    c.self.inside.len c.self.inside.slots.writes c.remove_held.new.self.writes c.self.invariant c.remove_held.ensures.taken
 
 pub overflow_sub-self : goal.overflow_sub-self
 overflow_sub-self g c = omega (arith, (step g (goal.at.overflow_sub-self g c).After-remove_held).total_less)
@@ -40,4 +44,5 @@ pub returns-clause-shorter : goal.returns-clause-shorter
 returns-clause-shorter g c x =
     let homes = homes_of c.self.inside.slots.slots in
     subst (λ t. walk (homes_of c.remove_held.new.self.slots) x ≤ walk t.homes x) c.self.view_is
-    (subst (λ hs. walk hs x ≤ walk homes x) (sym (step g (goal.at.returns-clause-shorter g c).After-remove_held).homes) (removed-walk g.H.PartialEq.eq homes c.args.hash c.args.handle (tidy-room c.self.inside.slots.slots c.self.invariant.tidy) x))
+    (subst (λ hs. walk hs x ≤ walk homes x) (sym (step g (goal.at.returns-clause-shorter g c).After-remove_held).homes)
+    (removed-walk g.H.PartialEq.eq homes c.args.hash c.args.handle (tidy-room c.self.inside.slots.slots c.self.invariant.tidy) x))

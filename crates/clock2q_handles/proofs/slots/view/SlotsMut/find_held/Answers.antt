@@ -22,7 +22,8 @@ pub loop-handle-init : goal.loop-handle-init
 loop-handle-init g c =
     let slots = shown c.args.self.now in
     let home : ℕ = c.args.hash % length slots in
-    record { come = (0, come_home slots c.requires.tidy home (top c.args.hash) c.home-slot.result c.home-slot.ensures.home (omega (arith, c.home-slot.ensures.home, c.home-slot.ensures.within)), c.new-wanted.ensures, refl) }
+    let within : home < length slots = omega (arith, c.home-slot.ensures.home, c.home-slot.ensures.within) in
+    record { come = (0, come_home slots c.requires.tidy home (top c.args.hash) c.home-slot.result c.home-slot.ensures.home within, c.new-wanted.ensures, refl) }
 
 pub returns-then-eq : goal.returns-then-eq
 returns-then-eq g c =
@@ -56,7 +57,8 @@ next-wanted-requires-clause-room g c =
     omega (arith, further g (goal.at.next-wanted-requires-clause-room g c).After-metadata-metadata, c.requires.near c.loop-handle.slot, ap mark_reach c.loop-handle.invariant.come.2)
 
 more : (g : Over) (c : After-next-wanted g)
-    → HasCome (shown c.args.self.now) (c.args.hash % length (shown c.args.self.now)) (suc c.loop-handle.invariant.come.0) c.after-slot.result × (sought c.next-wanted.result ≡ Some (suc c.loop-handle.invariant.come.0, top c.args.hash))
+    → HasCome (shown c.args.self.now) (c.args.hash % length (shown c.args.self.now)) (suc c.loop-handle.invariant.come.0) c.after-slot.result
+    × (sought c.next-wanted.result ≡ Some (suc c.loop-handle.invariant.come.0, top c.args.hash))
 more g c =
     let slots = shown c.args.self.now in
     let l = c.loop-handle.invariant.come in
@@ -81,7 +83,8 @@ loop-handle-preserved g c =
     let test = is_entry_of g.H.PartialEq.eq c.args.hash c.args.handle in
     let none = none_more test A home d l.3 (elim c.else-is.branch [
       | else-is-via-then-is+else-eq w ↦
-          any-failed _ (A (home + d)) d (top c.args.hash, w.handle.result) (sym at ∙ candidate c.args.hash _ (A c.loop-handle.slot) d w.handle.result c.metadata-metadata.ensures (c.is.ensures.0 w.if-is.true ∙ l.2) w.handle.ensures)
+          any-failed _ (A (home + d)) d (top c.args.hash, w.handle.result)
+          (sym at ∙ candidate c.args.hash _ (A c.loop-handle.slot) d w.handle.result c.metadata-metadata.ensures (c.is.ensures.0 w.if-is.true ∙ l.2) w.handle.ensures)
           (is_entry_of-candidate g.H.PartialEq.eq c.args.hash c.args.handle w.handle.result ∙ sym w.eq.ensures ∙ w.if-eq.false)
       | else-is-via-else-is w ↦
           any-other g.H.PartialEq.eq c.args.hash c.args.handle (A (home + d)) d (λ e. refused c.is.result c.is.ensures w.if-is.false (c.metadata-metadata.ensures ∙ ap mark_of at ∙ e ∙ sym l.2))

@@ -14,7 +14,8 @@ pub returns-clause-taken : goal.returns-clause-taken
 returns-clause-taken g c =
     let slots = shown c.args.self.now in
     let found = c.find_held-slot.ensures.found in
-    let closed = c.take_out.ensures.closes (c.args.hash % length slots) found.distance found.finds.entry (record { slot = found.slot; within = found.within; passed = found.passed }) found.finds.here in
+    let closed = c.take_out.ensures.closes (c.args.hash % length slots) found.distance found.finds.entry
+    (record { slot = found.slot; within = found.within; passed = found.passed }) found.finds.here in
     record {
       distance = found.distance;
       vacancy = closed.0;
