@@ -1,14 +1,11 @@
 //! A table's slots, as two vectors side by side.
 ghost use Rattle.clock2q_handles.specs.Candidates.{EndsAt};
-ghost use Rattle.clock2q_handles.specs.Found.{TakesOut};
-ghost use Rattle.clock2q_handles.specs.Homes.{top, is_entry_of, listed};
-ghost use Rattle.clock2q_handles.specs.Layout.{IsTidy, slot_at, reach, homes_of};
+ghost use Rattle.clock2q_handles.specs.Homes.{top};
+ghost use Rattle.clock2q_handles.specs.Layout.{IsTidy, slot_at, reach};
 ghost use Rattle.clock2q_handles.specs.Moves.{MayMove, Moves};
 ghost use Rattle.clock2q_handles.specs.Shifts.{PutsIn};
 ghost use Rattle.clock2q_handles.specs.Slots.{cell, cells, meaning, sought, IsSlotCount};
-ghost use Rattle.std.specs.Bool.{OnTrue, OnFalse};
-ghost use Rattle.std.specs.List.{list_any};
-ghost use Rattle.std.specs.Prelude.{false, ◌≡◌, ◌+◌, ◌%◌, ◌^◌, ◌<◌, ◌≤◌, [], ℕ, None, IfOk, IfSome, length, replicate, set};
+ghost use Rattle.std.specs.Prelude.{◌≡◌, ◌+◌, ◌%◌, ◌^◌, ◌<◌, ◌≤◌, [], ℕ, None, IfOk, IfSome, length, replicate, set};
 
 mod clearing;
 mod counted_slice;
@@ -282,7 +279,13 @@ fn put_all_into<H: Copy + Default, F: FnMut(H) -> u64>(
     ensures len { length metadata.new ≡ length metadata.old }
 {
     let mut slots = SlotsMut::new(metadata, handles, writes);
-    slots.put_all(old, rehash);
+    for slot in 0..old.count() {
+        if !old.metadata(slot).is_empty() {
+            let handle = old.handle(slot);
+            let hash = rehash(handle);
+            slots.put(hash, handle);
+        }
+    }
 }
 
 /// Writes a slot over a view of both vectors.

@@ -1,23 +1,21 @@
 //! Insertion and removal of entries, over a view of both vectors of the slots.
 ghost use Rattle.clock2q_handles.specs.Candidates.{EndsAt};
-ghost use Rattle.clock2q_handles.specs.Found.{FindsAt, TakesOut};
+ghost use Rattle.clock2q_handles.specs.Found.{FindsAt};
 ghost use Rattle.clock2q_handles.specs.Homes.{top, is_entry_of, listed};
 ghost use Rattle.clock2q_handles.specs.Layout.{IsTidy, reach, slot_at, placed, homes_of, AreNear};
-ghost use Rattle.clock2q_handles.specs.Moves.{MayMove, Moves};
 ghost use Rattle.clock2q_handles.specs.Shifts.{Opens, Closes, HasCome, IsVacancy, PutsIn};
-ghost use Rattle.clock2q_handles.specs.Slots.{cells, meaning, sought};
+ghost use Rattle.clock2q_handles.specs.Slots.{meaning, sought};
 ghost use Rattle.clock2q_handles.specs.Views.{shown, IsView, IsSameView};
-ghost use Rattle.std.specs.Bool.{OnTrue, OnFalse};
 ghost use Rattle.std.specs.List.{list_any};
 ghost use Rattle.std.specs.Prelude.{◌≡◌, ◌+◌, ◌%◌, ◌<◌, ◌≤◌, ℕ, true, false, Some, IfSome, IfNone, length};
 
 use crate::metadata::{MAX_DISPLACEMENT, Metadata, Wanted};
-use crate::slots::{SlotsMut, SlotsRef};
+use crate::slots::SlotsMut;
 
 impl<'a, H: Copy + Default> SlotsMut<'a, H> {
     /// Returns the slot of the first candidate of `hash` that equals `handle`.
     #[inline(always)]
-    fn find(&self, hash: u64, handle: H) -> Option<usize>
+    pub(super) fn find(&self, hash: u64, handle: H) -> Option<usize>
     where
         H: PartialEq,
         requires view { IsView self.now }
@@ -67,23 +65,6 @@ impl<'a, H: Copy + Default> SlotsMut<'a, H> {
         }
     }
 
-    /// Removes the first candidate of `hash` that equals `handle`, where there is one.
-    #[inline(always)]
-    pub(super) fn remove_held(&mut self, hash: u64, handle: H)
-    where
-        H: PartialEq,
-        requires view { IsView self.old }
-        requires tidy { IsTidy (shown self.old) }
-        requires near { AreNear (shown self.old) }
-        requires held { list_any (is_entry_of H.PartialEq.eq hash handle) (listed (homes_of (shown self.old)) (hash % length (shown self.old))) ≡ true }
-        ensures same { IsSameView self.old self.new }
-        ensures view { IsView self.new }
-        ensures taken { TakesOut (is_entry_of H.PartialEq.eq hash handle) (shown self.old) (shown self.new) (hash % length (shown self.old)) self.old.writes.now.total self.new.writes.now.total }
-    {
-        let slot = self.find_held(hash, handle);
-        self.take_out(slot);
-    }
-
     /// Removes the entry in a slot. The entries after it move back by one slot, up to an empty slot
     /// or an entry at its home.
     #[inline(always)]
@@ -111,28 +92,6 @@ impl<'a, H: Copy + Default> SlotsMut<'a, H> {
             hole = next;
         }
         self.write(hole, Metadata::empty(), H::default());
-    }
-
-    /// Removes the first candidate of `hash` that equals `handle`, and returns true if there was
-    /// one.
-    #[inline(always)]
-    pub(super) fn remove(&mut self, hash: u64, handle: H) -> bool
-    where
-        H: PartialEq,
-        requires view { IsView self.old }
-        requires tidy { IsTidy (shown self.old) }
-        requires near { AreNear (shown self.old) }
-        ensures same { IsSameView self.old self.new }
-        ensures view { IsView self.new }
-        ensures taken { OnTrue result (TakesOut (is_entry_of H.PartialEq.eq hash handle) (shown self.old) (shown self.new) (hash % length (shown self.old)) self.old.writes.now.total self.new.writes.now.total) }
-        ensures none { OnFalse result (list_any (is_entry_of H.PartialEq.eq hash handle) (listed (homes_of (shown self.old)) (hash % length (shown self.old))) ≡ false) }
-        ensures kept { OnFalse result (self.new ≡ self.old) }
-    {
-        let Some(slot) = self.find(hash, handle) else {
-            return false;
-        };
-        self.take_out(slot);
-        true
     }
 
     /// Returns the slot where a walk for `hash` ends, and what it looks for there.
@@ -207,25 +166,5 @@ impl<'a, H: Copy + Default> SlotsMut<'a, H> {
         ensures put { (x : ℕ) → EndsAt (shown self.old) x (sought wanted) slot → PutsIn (shown self.old) (shown self.new) (x % length (shown self.old)) (top x, handle) self.old.writes.now.total self.new.writes.now.total }
     {
         self.carry(slot, wanted.metadata(), handle);
-    }
-
-    /// Inserts each entry of other slots, in the order of those slots, under the hash that `rehash`
-    /// returns for its handle.
-    #[inline(always)]
-    pub(super) fn put_all<F: FnMut(H) -> u64>(&mut self, old: SlotsRef<'_, H>, rehash: &mut F)
-        requires view { IsView self.old }
-        requires same { length old.handles.now ≡ length old.metadata.now }
-        requires movable { MayMove F.FnMut rehash.old (cells old.metadata.now old.handles.now) (shown self.old) }
-        ensures same { IsSameView self.old self.new }
-        ensures view { IsView self.new }
-        ensures moved { Moves F.FnMut rehash.old rehash.new (cells old.entry.metadata.now old.entry.handles.now) (shown self.old) (shown self.new) }
-    {
-        for slot in 0..old.count() {
-            if !old.metadata(slot).is_empty() {
-                let handle = old.handle(slot);
-                let hash = rehash(handle);
-                self.put(hash, handle);
-            }
-        }
     }
 }

@@ -1,10 +1,10 @@
 //! Handles written over.
 ghost use Rattle.clock2q_handles.specs.Found.{FindsAt};
 ghost use Rattle.clock2q_handles.specs.Homes.{is_entry_of, listed};
-ghost use Rattle.clock2q_handles.specs.Layout.{IsTidy, slot_at, reach, homes_of, AreNear};
+ghost use Rattle.clock2q_handles.specs.Layout.{IsTidy, slot_at, homes_of, AreNear};
 ghost use Rattle.clock2q_handles.specs.Slots.{cell, cells, mark_of, slots_value, IsSlotCount};
 ghost use Rattle.std.specs.List.{list_any};
-ghost use Rattle.std.specs.Prelude.{true, ◌≡◌, ◌+◌, ◌%◌, ◌<◌, ◌≤◌, ℕ, length, set};
+ghost use Rattle.std.specs.Prelude.{true, ◌≡◌, ◌+◌, ◌%◌, ◌<◌, length, set};
 
 use crate::metadata::Metadata;
 use crate::slots::{Slots, SlotsMut};

@@ -5,7 +5,7 @@ ghost use Rattle.clock2q_handles.specs.Layout.{IsTidy, slot_at, reach, homes_of,
 ghost use Rattle.clock2q_handles.specs.Slots.{cells, IsSlotCount};
 ghost use Rattle.std.specs.Bool.{OnTrue, OnFalse};
 ghost use Rattle.std.specs.List.{list_any};
-ghost use Rattle.std.specs.Prelude.{true, false, ◌≡◌, ◌%◌, ◌<◌, ◌≤◌, ℕ, length};
+ghost use Rattle.std.specs.Prelude.{true, false, ◌≡◌, ◌%◌, ◌<◌, length};
 
 use crate::metadata::Metadata;
 use crate::slots::{Slots, SlotsMut};
@@ -113,7 +113,11 @@ fn remove_from<H: Copy + Default + PartialEq>(
     ensures len { length metadata.new ≡ length metadata.old }
 {
     let mut slots = SlotsMut::new(metadata, handles, writes);
-    slots.remove(hash, handle)
+    let Some(found) = slots.find(hash, handle) else {
+        return false;
+    };
+    slots.take_out(found);
+    true
 }
 
 /// Removes an entry that is there over a view of both vectors.
@@ -135,5 +139,6 @@ fn remove_held_from<H: Copy + Default + PartialEq>(
     ensures len { length metadata.new ≡ length metadata.old }
 {
     let mut slots = SlotsMut::new(metadata, handles, writes);
-    slots.remove_held(hash, handle);
+    let held = slots.find_held(hash, handle);
+    slots.take_out(held);
 }
