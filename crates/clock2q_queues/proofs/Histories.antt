@@ -66,7 +66,8 @@ module _ {K V : Type 0} (eq : K → K → Bool) where
       let l = cleared_like index in
       record {
         whole = w;
-        indexed = subst (λ z. IsIndex (known.places (index_state (no_entries (length index.shared)) (no_entries (length index.own)))) keys'.entries z) (sym places) (emptied-places (length index.shared) (length index.own) keys'.entries);
+        indexed = subst (λ z. IsIndex (known.places (index_state (no_entries (length index.shared)) (no_entries (length index.own)))) keys'.entries z) (sym places)
+            (emptied-places (length index.shared) (length index.own) keys'.entries);
         distinct = subst (λ z. AllDistinct eq (entries_of keys'.entries z)) (sym places) tt;
         as_many = omega (arith, ap (λ (z : List (Entry K V)). length z) none, ap (λ (z : List ℕ). length z) places, ap (λ (z : List ℕ). length z) free);
         room = rw (limit, room) h.room;

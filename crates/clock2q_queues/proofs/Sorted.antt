@@ -62,7 +62,8 @@ pub place_is_few : (v : IndexState) → is_shared v ≡ false → HasPlaceRoom v
 place_is_few v h r = subst (λ b. total (if b then places_in v.shared else v.own) + 1 < 2 ^ 24) h (r.few h)
 
 -- few entries are put in
-pub put_done : (homes new : List (List (ℕ × ℕ))) (x h : ℕ) (r : Result (Unit {0}) TableError) → PutIn homes x h r new → (total homes + 1 < 2 ^ 24 → IsOk r) → total homes + 1 < 2 ^ 24 → new ≡ with_handle homes x h
+pub put_done : (homes new : List (List (ℕ × ℕ))) (x h : ℕ) (r : Result (Unit {0}) TableError) → PutIn homes x h r new
+    → (total homes + 1 < 2 ^ 24 → IsOk r) → total homes + 1 < 2 ^ 24 → new ≡ with_handle homes x h
 put_done homes new x h (Ok u) put few short = put.0
 put_done homes new x h (Err e) put few short = let ok = few short in cc
 

@@ -124,7 +124,8 @@ pub record IsPutBetween (x p : ℕ) (es es' : List (ℕ × ℕ)) : Type 0 where
   pub old : place_entries es ≡ before ++ after
   pub new : place_entries es' ≡ before ++ (top x, p) ∷ after
 
-put_between : (x s p : ℕ) (es : List (ℕ × ℕ)) → s < first_remembered → list_any (is_entry_of eqb x s) es ≡ true → IsPutBetween x p es (with_first (is_entry_of eqb x s) (top x, first_remembered + p) es)
+put_between : (x s p : ℕ) (es : List (ℕ × ℕ)) → s < first_remembered → list_any (is_entry_of eqb x s) es ≡ true
+    → IsPutBetween x p es (with_first (is_entry_of eqb x s) (top x, first_remembered + p) es)
 put_between x s p [] below h = absurd (both_ways false refl h)
 put_between x s p (e ∷ es) below h = elim (cases_Bool (is_entry_of eqb x s e)) [
   | inl t ↦ record {

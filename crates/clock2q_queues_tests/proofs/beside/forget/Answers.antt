@@ -31,7 +31,8 @@ returns g c =
     let entries = ap (λ (z : Remembered ℕ). z.entries) d.forgotten in
     let before = ap (λ (z : Remembered ℕ). z.entries) e.kept in
     let limit : c.discard.new.self.limit ≡ h.limit = ap (λ (z : Remembered ℕ). z.limit) d.forgotten ∙ ap (λ (z : Remembered ℕ). z.limit) e.kept in
-    let hashed : AllByRecursion (λ e. e.0 ≡ e.1 % c.args.hashes) c.discard.new.self.entries = rw entries (all-forgotten (λ e. e.0 ≡ e.1 % c.args.hashes) c.args.key c.look-found.new.self.entries (rw before k.hashed)) in
+    let hashed : AllByRecursion (λ e. e.0 ≡ e.1 % c.args.hashes) c.discard.new.self.entries =
+    rw entries (all-forgotten (λ e. e.0 ≡ e.1 % c.args.hashes) c.args.key c.look-found.new.self.entries (rw before k.hashed)) in
     let same : slots c.discard.new.self.places.index ≡ slots h.places.index =
     ap (λ (z : Places). slots z.index) d.places ∙ slots-freed _ _ c.look-found.new.self.places ∙ ap (λ (z : Remembered ℕ). slots z.places.index) e.kept in
     let shared : is_shared c.discard.new.self.places.index ≡ is_shared h.places.index =

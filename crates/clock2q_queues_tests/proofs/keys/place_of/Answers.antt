@@ -20,10 +20,18 @@ all_slots P (c ∷ cs) a = elim (cases_Bool (ltb c first_remembered)) [
 ]
 
 pub find_counting_in-found-requires : goal.find_counting_in-found-requires
-find_counting_in-found-requires c = record { used = rw c.get.ensures.candidates (all_slots _ _ (candidates_there c.args.index.now.homes c.args.keys.now.entries c.requires.indexed.0 c.args.hash c.requires.indexed.1)) }
+find_counting_in-found-requires c =
+    record {
+      used = rw c.get.ensures.candidates
+          (all_slots _ _ (candidates_there c.args.index.now.homes c.args.keys.now.entries c.requires.indexed.0 c.args.hash c.requires.indexed.1));
+    }
 
 pub find-again-requires : goal.find-again-requires
-find-again-requires c = record { used = rw c.get-2.ensures.candidates (all_slots _ _ (candidates_there c.args.index.now.homes c.args.keys.now.entries c.requires.indexed.0 c.args.hash c.requires.indexed.1)) }
+find-again-requires c =
+    record {
+      used = rw c.get-2.ensures.candidates
+          (all_slots _ _ (candidates_there c.args.index.now.homes c.args.keys.now.entries c.requires.indexed.0 c.args.hash c.requires.indexed.1));
+    }
 
 pub returns-clause-has : goal.returns-clause-has
 returns-clause-has c = found_passes (λ p. is_key_at eqb c.args.key c.args.keys.now.entries p) (slots_among c.get.result.left) c.find_counting_in-found.result c.find_counting_in-found.ensures.found

@@ -13,7 +13,10 @@ pub remember-requires-clause-short : goal.remember-requires-clause-short
 remember-requires-clause-short g c =
     let i = c.self.inside in
     let some : 0 < i.order.limit = omega (arith, c.if-limit-eq0.false, c.limit.ensures) in
-    omega (arith, place_below g.K.PartialEq.eq c.args.hash c.args.slot c.args.key tt i.index c.make_place-place.new.index c.make_place-place.new.index i.order c.make_place-place.new.order i.keys i.keys c.make_place-place.result c.self.invariant some c.make_place-place.ensures.made)
+    let below =
+    place_below g.K.PartialEq.eq c.args.hash c.args.slot c.args.key tt i.index c.make_place-place.new.index c.make_place-place.new.index
+    i.order c.make_place-place.new.order i.keys i.keys c.make_place-place.result c.self.invariant some c.make_place-place.ensures.made in
+    omega (arith, below)
 
 pub remember-requires-clause-held : goal.remember-requires-clause-held
 remember-requires-clause-held g c =
@@ -21,13 +24,15 @@ remember-requires-clause-held g c =
     let some : 0 < i.order.limit = omega (arith, c.if-limit-eq0.false, c.limit.ensures) in
     let held : has c.args.slot (candidates (known.slots i.index) c.args.hash) ≡ true =
     ap (λ (z : Remembered _). has c.args.slot (candidates (known.slots z.places.index) c.args.hash)) c.self.view_is ∙ c.requires.held in
-    still_held g.K.PartialEq.eq c.args.hash c.args.slot c.args.key tt i.index c.make_place-place.new.index c.make_place-place.new.index i.order c.make_place-place.new.order i.keys i.keys c.make_place-place.result c.self.invariant some c.make_place-place.ensures.made held
+    still_held g.K.PartialEq.eq c.args.hash c.args.slot c.args.key tt i.index c.make_place-place.new.index c.make_place-place.new.index
+    i.order c.make_place-place.new.order i.keys i.keys c.make_place-place.result c.self.invariant some c.make_place-place.ensures.made held
 
 pub remember-requires-clause-room : goal.remember-requires-clause-room
 remember-requires-clause-room g c =
     let i = c.self.inside in
     let some : 0 < i.order.limit = omega (arith, c.if-limit-eq0.false, c.limit.ensures) in
-    place_room g.K.PartialEq.eq c.args.hash c.args.slot c.args.key tt i.index c.make_place-place.new.index c.make_place-place.new.index i.order c.make_place-place.new.order i.keys i.keys c.make_place-place.result c.self.invariant some c.make_place-place.ensures.made
+    place_room g.K.PartialEq.eq c.args.hash c.args.slot c.args.key tt i.index c.make_place-place.new.index c.make_place-place.new.index
+    i.order c.make_place-place.new.order i.keys i.keys c.make_place-place.result c.self.invariant some c.make_place-place.ensures.made
 
 pub invariant_of-self-2 : goal.invariant_of-self-2
 invariant_of-self-2 g c =

@@ -5,4 +5,6 @@ use Rattle.clock2q_queues.proofs.Lookups.{Asked}
 use Rattle.clock2q_queues.proofs.keys.store.Keys.find_counting_in.Given as goal
 
 abbrev pub invariant-loop-handle : goal.invariant-loop-handle
-invariant-loop-handle g l = Asked (is_key_at g.K.PartialEq.eq l.fn.key l.fn.self.entries) l.fn.asked.total (length l.fn.self.entries) (slots_among l.fn.handles.left) l.asked.total (slots_among l.handles.left)
+invariant-loop-handle g l =
+    Asked (is_key_at g.K.PartialEq.eq l.fn.key l.fn.self.entries) l.fn.asked.total (length l.fn.self.entries)
+    (slots_among l.fn.handles.left) l.asked.total (slots_among l.handles.left)
