@@ -1,14 +1,14 @@
 -- An index that has nothing: a new one, or one that was cleared.
-use Rattle.std.proofs.Common.{◌≡◌, ℕ, zero, suc, ◌+◌, ◌^◌, ◌<◌, ◌≤◌, ◌⊎◌, ◌==◌, ltb, true, false, List, [], ◌∷◌, length, inl, inr, refl, sym, ap, ◌∙◌, arith}
+use Rattle.std.proofs.Common.{◌≡◌, ℕ, zero, suc, ◌+◌, ◌^◌, ◌<◌, ◌≤◌, ◌⊎◌, ◌==◌, true, false, List, [], ◌∷◌, length, inl, inr, refl, sym, ap, ◌∙◌, arith}
 use Rattle.std.specs.Prelude.{if◌then◌else◌}
-use Rattle.std.proofs.lemmas.Bool.{both_ways, cases_Bool, eqb-true, ltb-true, ltb-false}
+use Rattle.std.proofs.lemmas.Bool.{both_ways, cases_Bool, eqb-true}
 use Rattle.std.proofs.lemmas.Bool.Decides.{leb_tells}
 use Rattle.std.proofs.lemmas.List.{length-replicate, length-map}
 use Rattle.clock2q_handles.specs.Homes.{capacity, no_entries}
 use Rattle.clock2q_handles.specs.TableStep.{made_for, fit}
 use Rattle.clock2q_queues.specs.declared.keys.store.Entry.{Entry}
 use Rattle.clock2q_queues.specs.Indexes.{IsIndex}
-use Rattle.clock2q_queues.specs.Index.{IndexState, index_state, index_for, index_room, is_shared, slots, places, slots_in, places_in, slot_entries, place_entries}
+use Rattle.clock2q_queues.specs.Index.{IndexState, index_state, index_for, index_room, small_table, most_entries, is_shared, slots, places, slots_in, places_in, slot_entries, place_entries}
 use Rattle.clock2q_queues.proofs.Views.{IsLikeBefore}
 use Rattle.clock2q_queues.proofs.Indexes.{IsIndex-cleared, fits_new}
 
@@ -36,7 +36,7 @@ made-none zero = (0, refl)
 made-none (suc k) = (fit (suc k), refl)
 
 room_enough : (n : ℕ) → n ≤ index_room n
-room_enough n = elim (leb_tells n 16384) [
+room_enough n = elim (leb_tells n small_table) [
   | inl q ↦ rw q.0 (omega arith)
   | inr q ↦ rw q.0 (omega arith)
 ]
@@ -57,25 +57,25 @@ as_many m = ap (λ (z : List (List (ℕ × ℕ))). length z) (slots_in-none m)
 module _ (s p : ℕ) (least : 0 < s) (slots_few : s < 2 ^ 24) (places_few : p < 2 ^ 24) where
   -- a new index has nothing
   pub new-none : (m : ℕ) × (n : ℕ) × (index_for s p ≡ index_state (no_entries m) (no_entries n))
-  new-none = elim (cases_Bool (ltb (s + p) 16777216)) [
-    | inl q ↦ let t = made-none (index_room (s + p)) in (t.0, 0, rw (q, t.1) refl)
+  new-none = elim (leb_tells (s + p) most_entries) [
+    | inl q ↦ let t = made-none (index_room (s + p)) in (t.0, 0, rw (q.0, t.1) refl)
     | inr q ↦
         let t = made-none (index_room s) in
         let u = made-none (index_room p) in
-        (t.0, u.0, rw (q, t.1, u.1) refl)
+        (t.0, u.0, rw (q.0, t.1, u.1) refl)
   ]
 
   pub for-new : IsFor s p (index_for s p)
-  for-new = elim (cases_Bool (ltb (s + p) 16777216)) [
+  for-new = elim (leb_tells (s + p) most_entries) [
     | inl q ↦
         let t = made-none (index_room (s + p)) in
         let enough = made_enough (s + p) in
         let n = ap (λ (z : List (List (ℕ × ℕ))). length z) t.1 in
         let l = as_many t.0 in
         let k = ap (λ (z : List (List (ℕ × ℕ))). length z) (places_in-none t.0) in
-        rw (q, t.1) (record {
+        rw (q.0, t.1) (record {
           slots = omega (arith, enough, ap capacity n, ap capacity l);
-          few = omega (arith, ltb-true (s + p) 16777216 q);
+          few = omega (arith, q.1);
           own = λ e. absurd (both_ways true e refl);
           some = inl (omega (arith, enough, n, k, least));
         })
@@ -87,8 +87,8 @@ module _ (s p : ℕ) (least : 0 < s) (slots_few : s < 2 ^ 24) (places_few : p < 
         let n = ap (λ (z : List (List (ℕ × ℕ))). length z) t.1 in
         let k = ap (λ (z : List (List (ℕ × ℕ))). length z) u.1 in
         let l = as_many t.0 in
-        let some_own : 0 < length (no_entries {E = ℕ × ℕ} u.0) = omega (arith, own_enough, k, ltb-false (s + p) 16777216 q, slots_few) in
-        rw (q, t.1, u.1) (record {
+        let some_own : 0 < length (no_entries {E = ℕ × ℕ} u.0) = omega (arith, own_enough, k, q.1, slots_few) in
+        rw (q.0, t.1, u.1) (record {
           slots = elim (cases_Bool (is_shared (index_state (no_entries t.0) (no_entries u.0)))) [
             | inl e ↦ absurd (omega (arith, some_own, eqb-true (length (no_entries {E = ℕ × ℕ} u.0)) 0 e))
             | inr e ↦ rw e (omega (arith, enough, ap capacity n, ap capacity l))

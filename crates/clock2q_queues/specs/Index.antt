@@ -85,14 +85,22 @@ forgotten_at hash place v =
     if is_shared v then record v { shared = removed nat_eq v.shared hash (first_remembered + place) }
     else record v { own = removed nat_eq v.own hash place }
 
+-- the most entries for which a table gets room for three times as many
+abbrev pub small_table : ℕ
+small_table = 16384
+
 -- how many entries a table is made for that holds at most so many: three times as many in a small table, and no more in a large one
 abbrev pub index_room : ℕ → ℕ
-index_room most = if nat_le most 16384 then 3 * most else most
+index_room most = if nat_le most small_table then 3 * most else most
 
--- an empty index for at most so many residents and remembered keys: one table has the entries of both, if there are fewer than 2^24
+-- the most entries of a table that can't have a run which is too long: fewer than 2^24
+abbrev pub most_entries : ℕ
+most_entries = 16777215
+
+-- an empty index for at most so many residents and remembered keys: one table has the entries of both, if it may have so many
 abbrev pub index_for : (slots places : ℕ) → IndexState
 index_for slots places =
-    if nat_lt (slots + places) 16777216 then index_state (made_for (index_room (slots + places))) []
+    if nat_le (slots + places) most_entries then index_state (made_for (index_room (slots + places))) []
     else index_state (made_for (index_room slots)) (made_for (index_room places))
 
 -- where the places have a table of their own, it takes some, and none stands among the slots

@@ -1,10 +1,7 @@
-use Rattle.std.proofs.Common.{◌≡◌, true, false, length, ap, sym, ◌∙◌, arith}
+use Rattle.std.proofs.Common.{◌≡◌, true, false, ap, sym, ◌∙◌, arith}
 use Rattle.std.specs.List.{find}
-use Rattle.clock2q_handles.specs.Homes.{candidates}
-use Rattle.clock2q_queues.specs.Index as known
 use Rattle.clock2q_queues.specs.Index.{is_shared, slots_among, places_among}
 use Rattle.clock2q_queues.specs.Keys.{KeyPlaces, is_key_at}
-use Rattle.clock2q_queues.specs.History.{Remembered}
 use Rattle.clock2q_queues.proofs.Lookups.{questions-within}
 use Rattle.clock2q_queues.proofs.Looking.{shared-places, own-places, own-there, places-shown, questions-shown, place-shown}
 use Rattle.clock2q_queues.proofs.Views.{candidates-places}
