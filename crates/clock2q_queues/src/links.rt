@@ -73,7 +73,7 @@ impl<A: Allocator> Cells<Record, A> {
     }
 
     /// Writes where a slot stands.
-    pub(crate) fn set_standing(&mut self, slot: u32, standing: Mark)
+    fn set_standing(&mut self, slot: u32, standing: Mark)
         requires { slot < length self.old.items }
         ensures { self.new ≡ accessed (with_standing slot standing self.old) }
     {

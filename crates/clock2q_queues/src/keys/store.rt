@@ -166,7 +166,7 @@ impl<K: Eq, V, A: Allocator> Keys<K, V, A> {
     }
 
     /// Adds questions that were counted elsewhere.
-    pub fn add_questions(&mut self, asked: &Count)
+    pub(super) fn add_questions(&mut self, asked: &Count)
         ensures added { self.new ≡ record self.old { questions = self.old.questions + asked.now.total } }
     {
         self.questions.raise(asked);

@@ -64,7 +64,7 @@ impl<T: Copy, A: Allocator> Cells<T, A> {
     }
 
     /// Raises the count of accesses by as many as the proof of the call picks.
-    pub(crate) fn charge(&mut self)
+    pub(super) fn charge(&mut self)
         ghost more: { ℕ }
         ensures { self.new ≡ cells_state self.old.items (self.old.accesses + more) }
     {
@@ -72,7 +72,7 @@ impl<T: Copy, A: Allocator> Cells<T, A> {
     }
 
     /// Writes the same item to every cell.
-    pub(crate) fn fill(&mut self, item: T)
+    pub(super) fn fill(&mut self, item: T)
         ensures items { self.new.items ≡ replicate (length self.old.items) item }
         ensures accesses { self.new.accesses ≡ self.old.accesses + length self.old.items }
     {
@@ -94,7 +94,7 @@ fn overwrite<T: Copy>(items: &mut [T], item: T, accesses: &mut Count)
 /// The hit bits by slot, and whether each slot stands in a queue, with the number of inspections
 /// that the hand made.
 #[derive(Drop)]
-pub(crate) struct Bits<A: Allocator = Global> {
+pub(super) struct Bits<A: Allocator = Global> {
     flags: Vec<Flags, A>,
     inspections: Count,
 }
@@ -113,7 +113,7 @@ impl<A: Allocator> Bits<A> {
     ghost use Rattle.clock2q_queues.specs.Links.{vacant, is_old};
 
     /// Returns clear bits for `slots` slots that stand nowhere. The hand has inspected none yet.
-    pub(crate) fn new(alloc: A, slots: u32) -> Result<Self, AllocError>
+    pub(super) fn new(alloc: A, slots: u32) -> Result<Self, AllocError>
         ensures made { IfOk result (λ b. b ≡ flag_state (hit_bits (replicate slots false) 0) (replicate slots false)) }
     {
         Ok(Bits {
@@ -123,7 +123,7 @@ impl<A: Allocator> Bits<A> {
     }
 
     /// Returns true if a slot stands in a queue.
-    pub(crate) fn is_standing(&self, slot: u32) -> bool
+    pub(super) fn is_standing(&self, slot: u32) -> bool
         requires { slot < length self.now.bits.items }
         ensures { result ≡ standing_in self.now.standing slot }
     {
@@ -131,7 +131,7 @@ impl<A: Allocator> Bits<A> {
     }
 
     /// Tells that a slot stands in a queue, or in none.
-    pub(crate) fn set_standing(&mut self, slot: u32, standing: bool)
+    pub(super) fn set_standing(&mut self, slot: u32, standing: bool)
         requires { slot < length self.old.bits.items }
         ensures bits { self.new.bits ≡ self.old.bits }
         ensures standing { self.new.standing ≡ slice_set self.old.standing slot standing }
@@ -141,7 +141,7 @@ impl<A: Allocator> Bits<A> {
     }
 
     /// Sets or clears the bit of a slot.
-    pub(crate) fn set(&mut self, slot: u32, bit: bool)
+    pub(super) fn set(&mut self, slot: u32, bit: bool)
         requires { slot < length self.old.bits.items }
         ensures bits { self.new.bits ≡ with_bit slot bit self.old.bits }
         ensures standing { self.new.standing ≡ self.old.standing }
@@ -151,7 +151,7 @@ impl<A: Allocator> Bits<A> {
     }
 
     /// Returns true if a slot's bit was set, and clears it: the hand's inspection of a slot.
-    pub(crate) fn inspect(&mut self, slot: u32) -> bool
+    pub(super) fn inspect(&mut self, slot: u32) -> bool
         requires { slot < length self.old.bits.items }
         ensures value { result ≡ bit_in self.old.bits.items slot }
         ensures counted { self.new.bits ≡ inspected (with_bit slot false self.old.bits) }
@@ -165,7 +165,7 @@ impl<A: Allocator> Bits<A> {
     }
 
     /// Reads a slot's record, and returns whether the slot is old and its bit set.
-    pub(crate) fn is_old_hit<B: Allocator>(&self, records: &mut Cells<Record, B>, slot: u32) -> bool
+    pub(super) fn is_old_hit<B: Allocator>(&self, records: &mut Cells<Record, B>, slot: u32) -> bool
         requires slot_in { slot < length records.old.items }
         requires bit_in { slot < length self.now.bits.items }
         ensures value { result ≡ (is_old (slice_index_or records.old.items slot vacant).standing && bit_in self.now.bits.items slot) }
@@ -178,7 +178,7 @@ impl<A: Allocator> Bits<A> {
     }
 
     /// Clears every bit, and tells that no slot stands in a queue.
-    pub(crate) fn clear(&mut self)
+    pub(super) fn clear(&mut self)
         ensures { self.new ≡ flag_state (hit_bits (replicate (length self.old.bits.items) false) self.old.bits.inspections) (replicate (length self.old.bits.items) false) }
     {
         self.flags.fill(Flags::clear());
