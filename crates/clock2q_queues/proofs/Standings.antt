@@ -1,5 +1,5 @@
--- What a slot's record tells of the queue that it stands in, and of Small's oldest slot.
-use Rattle.std.proofs.Common.{◌≡◌, ◌⊎◌, ℕ, ◌<◌, ◌≢◌, Bool, true, false, ◌||◌, ◌++◌, Some, None, length, inl, inr, refl, sym, ap, ◌∙◌, subst}
+-- What a slot's record tells of the queue that it stands in, and of the slots at the queues' ends.
+use Rattle.std.proofs.Common.{◌≡◌, ◌⊎◌, ℕ, ◌-◌, ◌<◌, ◌≢◌, Bool, true, false, ◌||◌, ◌&&◌, ◌++◌, Some, None, length, take, drop, slice_get, inl, inr, refl, sym, ap, ◌∙◌, subst}
 use Rattle.std.specs.List.{last_or}
 use Rattle.std.proofs.lemmas.Bool.{cases_Bool}
 use Rattle.clock2q_machine.specs.Ages.{is_promoted}
@@ -10,14 +10,14 @@ use Rattle.clock2q_queues.specs.declared.main_ring.MainRing.{MainRing}
 use Rattle.clock2q_queues.specs.declared.small.Small.{Small}
 use Rattle.clock2q_queues.specs.Rings.{has}
 use Rattle.clock2q_queues.specs.Flags.{is_queued}
-use Rattle.clock2q_queues.specs.Links.{LinkState, standing_at}
+use Rattle.clock2q_queues.specs.Links.{LinkState, standing_at, bit_at, is_old}
 use Rattle.clock2q_queues.specs.MainRing.{main_slots, main_entries}
-use Rattle.clock2q_queues.specs.Small.{IsInSmall, small_slots, small_entries, age_at}
-use Rattle.clock2q_queues.specs.Queues.{AreQueues, IsStanding, queues_shown, slots_of, tail_promoted}
+use Rattle.clock2q_queues.specs.Small.{IsInSmall, small_slots, small_entries, age_of, age_at}
+use Rattle.clock2q_queues.specs.Queues.{AreQueues, IsStanding, queues_shown, slots_of, without_slot, tail_promoted}
 use Rattle.clock2q_queues.proofs.Joining.{in_bounds}
 use Rattle.clock2q_queues.proofs.Rings.{has-append}
 use Rattle.clock2q_queues.proofs.Sharing.{small_slots-of, main_slots-of}
-use Rattle.clock2q_queues.proofs.SlotLists.{tail_among, tail_entry, no_entry}
+use Rattle.clock2q_queues.proofs.SlotLists.{tail_among, tail_entry, no_entry, first_out, last_out, none_last}
 
 Free≢Main : Free ≢ Main
 Free≢Main e = cc
@@ -68,17 +68,45 @@ module _ (l : LinkState) (small : Small) (main : MainRing) (q : AreQueues l smal
       of Old e = let at = stands_small Old e (inr refl) in rw at.0 refl
       of Main e = let at = stands_main e in rw (at.0, at.1) refl
 
--- Small's oldest slot
+-- The slots at the ends
 
-module _ (l : LinkState) (small : Small) (main : MainRing) (q : AreQueues l small main) (tail : ℕ) (is : last_or None (small_slots l small) ≡ Some tail) where
-  pub tail_in : tail < length l.records.items
-  tail_in = in_bounds l.records.items (small_slots l small) tail q.small.queue.linked (tail_among (small_slots l small) tail is)
+promoted-is : (window cursor : ℕ) (m : Mark) (bit : Bool) → IsInSmall m → (is_old m && bit) ≡ is_promoted (age_of window cursor m bit)
+promoted-is window cursor (Young place) bit s = refl
+promoted-is window cursor Old bit s = refl
+promoted-is window cursor Free bit s = absurd s
+promoted-is window cursor Main bit s = absurd s
 
-  pub tail_standing : IsInSmall (standing_at l.records.items tail)
-  tail_standing = q.small.standing tail (tail_among (small_slots l small) tail is)
+module _ (l : LinkState) (small : Small) (main : MainRing) (q : AreQueues l small main) where
+  -- Small's oldest slot stands there
+  module _ (tail : ℕ) (is : last_or None (small_slots l small) ≡ Some tail) where
+    pub tail_there : has tail (small_slots l small) ≡ true
+    tail_there = tail_among (small_slots l small) tail is
 
-  pub tail_promoted-some : tail_promoted (last_or None (small_entries l small)) ≡ is_promoted (age_at l small.cursor tail)
-  tail_promoted-some = ap tail_promoted (tail_entry (λ s. age_at l small.cursor s) (small_slots l small) tail is)
+    pub tail_in : tail < length l.records.items
+    tail_in = in_bounds l.records.items (small_slots l small) tail q.small.queue.linked tail_there
 
-pub tail_promoted-none : (l : LinkState) (small : Small) → last_or None (small_slots l small) ≡ None → tail_promoted (last_or None (small_entries l small)) ≡ false
-tail_promoted-none l small e = ap tail_promoted (no_entry (λ s. age_at l small.cursor s) (small_slots l small) e)
+    -- it goes on to Main if it is old and its bit is set
+    pub tail_promoted-some : (is_old (standing_at l.records.items tail) && bit_at l tail) ≡ tail_promoted (last_or None (small_entries l small))
+    tail_promoted-some =
+        promoted-is (length l.window.items) small.cursor (standing_at l.records.items tail) (bit_at l tail) (q.small.standing tail tail_there)
+        ∙ sym (ap tail_promoted (tail_entry (λ s. age_at l small.cursor s) (small_slots l small) tail is))
+
+    -- without it, all but the last entry are left
+    pub tail_out : without_slot tail (small_entries l small) ≡ take (length (small_entries l small) - 1) (small_entries l small)
+    tail_out =
+        (last_out tail (small_entries l small) (ap (λ z. last_or None z) (small_slots-of l small) ∙ is)
+        (rw (small_slots-of l small) q.small.queue.linked.apart)).1
+
+  -- Main's first slot stands there, and without it the others are left
+  pub first_there : (slot : ℕ) (bit : Bool) → slice_get (main_entries l main) 0 ≡ Some (slot, bit)
+      → (has slot (main_slots l main) ≡ true) × (without_slot slot (main_entries l main) ≡ drop 1 (main_entries l main))
+  first_there slot bit is =
+      let out = first_out slot bit (main_entries l main) is (rw (main_slots-of l main) q.main.queue.linked.apart) in
+      (ap (λ z. has slot z) (sym (main_slots-of l main)) ∙ out.0, out.1)
+
+module _ (l : LinkState) (small : Small) (is : last_or None (small_slots l small) ≡ None) where
+  pub tail_promoted-none : tail_promoted (last_or None (small_entries l small)) ≡ false
+  tail_promoted-none = ap tail_promoted (no_entry (λ s. age_at l small.cursor s) (small_slots l small) is)
+
+  pub no_tail : small_entries l small ≡ take (length (small_entries l small) - 1) (small_entries l small)
+  no_tail = none_last (small_entries l small) (ap (λ z. last_or None z) (small_slots-of l small) ∙ is)

@@ -270,7 +270,10 @@ impl<A: Allocator> Links<A> {
         ensures value { result ≡ (is_old (standing_at self.old.records.items slot) && bit_at self.old slot) }
         ensures counted { self.new ≡ record self.old { records = accessed self.old.records } }
     {
-        self.bits.is_old_hit(&mut self.records, slot)
+        match self.records.read(slot).standing {
+            Mark::Old => self.bits.is_set(slot),
+            _ => false,
+        }
     }
 
     /// Resets every record, every place and every bit to what the constructor makes.

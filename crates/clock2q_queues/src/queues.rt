@@ -125,7 +125,7 @@ impl<A: Allocator> Queues<A> {
     {
         match self.small.tail() {
             None => false,
-            Some(tail) => self.small.is_promoted(&mut self.links, tail),
+            Some(tail) => self.links.is_old_hit(tail),
         }
     }
 
@@ -174,35 +174,6 @@ impl<A: Allocator> Queues<A> {
         self.links.is_standing(slot)
     }
 
-    /// Moves the hand on to the slot that Main gives up next, and leaves the slot in Main. The hand
-    /// passes each slot whose bit is set, and clears the bit; the cost is linear in those.
-    fn select(&mut self) -> u32
-        requires some { 0 < length self.old.main }
-        ensures victim { slice_get self.new.main 0 ≡ Some (result, false) }
-        ensures whole { IsWholeQueues self.new }
-        ensures queues { self.new ≡ record self.old { main = from_victim self.old.main; accesses = self.new.accesses; inspections = self.old.inspections + inspections self.old.main } }
-        ensures accesses { self.new.accesses + 1 ≡ self.old.accesses + inspections self.old.main }
-    {
-        self.main.select(&mut self.links)
-    }
-
-    /// Removes a slot from Small.
-    fn leave_small(&mut self, slot: u32)
-        requires resident { has slot (slots_of self.old.small) ≡ true }
-        ensures queues { self.new ≡ record self.old { small = without_slot slot self.old.small; accesses = self.new.accesses } }
-        ensures accesses { Rises 6 7 self.old.accesses self.new.accesses }
-    {
-        self.small.unlink(&mut self.links, slot);
-    }
-
-    /// Removes a slot from Main. If the hand stood there, it moves on.
-    fn leave_main(&mut self, slot: u32)
-        requires resident { has slot (slots_of self.old.main) ≡ true }
-        ensures queues { self.new ≡ record self.old { main = without_slot slot self.old.main; accesses = self.old.accesses + 6 } }
-    {
-        self.main.unlink(&mut self.links, slot);
-    }
-
     /// Removes Small's oldest slot, and returns it. Returns `None` if Small is empty.
     #[inline(always)]
     pub fn take_tail(&mut self) -> Option<u32>
@@ -210,8 +181,8 @@ impl<A: Allocator> Queues<A> {
         ensures queues { self.new ≡ record self.old { small = take (length self.old.small - 1) self.old.small; accesses = self.new.accesses } }
         ensures accesses { Rises 0 7 self.old.accesses self.new.accesses }
     {
-        let tail = self.tail()?;
-        self.leave_small(tail);
+        let tail = self.small.tail()?;
+        self.small.unlink(&mut self.links, tail);
         Some(tail)
     }
 
@@ -230,8 +201,8 @@ impl<A: Allocator> Queues<A> {
         ensures inspections { self.new.inspections ≡ self.old.inspections + inspections self.old.main }
         ensures accesses { self.new.accesses ≡ self.old.accesses + inspections self.old.main + 5 }
     {
-        let victim = self.select();
-        self.leave_main(victim);
+        let victim = self.main.select(&mut self.links);
+        self.main.unlink(&mut self.links, victim);
         victim
     }
 
@@ -243,8 +214,8 @@ impl<A: Allocator> Queues<A> {
     {
         match self.standing(slot) {
             Standing::Free => {}
-            Standing::Small => self.leave_small(slot),
-            Standing::Main => self.leave_main(slot),
+            Standing::Small => self.small.unlink(&mut self.links, slot),
+            Standing::Main => self.main.unlink(&mut self.links, slot),
         }
     }
 

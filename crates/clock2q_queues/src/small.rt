@@ -1,8 +1,7 @@
 //! Small: the queue of the newest residents, of which the last admitted ones are young.
 ghost use Rattle.std.specs.Prelude.{◌≡◌, ℕ, ◌+◌, ◌^◌, ◌<◌, ◌≤◌, ◌==◌, true, false, not, [], ◌∷◌, length, None};
 ghost use Rattle.std.specs.List.{filter, last_or};
-ghost use Rattle.clock2q_machine.specs.Ages.{is_promoted};
-ghost use Rattle.clock2q_queues.specs.Cells.{Rises, accessed};
+ghost use Rattle.clock2q_queues.specs.Cells.{Rises};
 ghost use Rattle.clock2q_queues.specs.Rings.{has};
 ghost use Rattle.clock2q_queues.specs.Ends.{end_after, place_freed};
 ghost use Rattle.clock2q_queues.specs.Links.{LinkState, IsBlank, IsSameBut, accesses_of, standing_at};
@@ -21,7 +20,7 @@ pub(crate) struct Small {
 }
 
 impl Small {
-    ghost use Rattle.clock2q_queues.specs.Small.{IsSmallQueue, IsInSmall, GrowsOld, age_at, small_slots, small_entries, next_cursor, admitted};
+    ghost use Rattle.clock2q_queues.specs.Small.{IsSmallQueue, GrowsOld, small_slots, small_entries, next_cursor, admitted};
 
     /// Returns an empty queue.
     pub(crate) fn new() -> Self
@@ -127,16 +126,6 @@ impl Small {
         self.len -= 1;
         self.newest = end_after(self.newest, slot, self.len, was.next);
         self.oldest = end_after(self.oldest, slot, self.len, was.previous);
-    }
-
-    /// Returns true if a slot goes on to Main instead of leaving: it is old, and its bit is set.
-    pub(crate) fn is_promoted<A: Allocator>(&self, links: &mut Links<A>, slot: u32) -> bool
-        requires slot_in { slot < length links.old.records.items }
-        requires in_small { IsInSmall (standing_at links.old.records.items slot) }
-        ensures value { result ≡ is_promoted (age_at links.old self.now.cursor slot) }
-        ensures counted { links.new ≡ record links.old { records = accessed links.old.records } }
-    {
-        links.is_old_hit(slot)
     }
 
     /// Empties the queue. The links reset the records and the window's places.

@@ -1,10 +1,9 @@
 //! The vectors that the links stand on. Only these accessors reach what the vectors hold, and each
 //! read or write of a cell, and each inspection of a bit by the hand, raises a count.
-ghost use Rattle.std.specs.Prelude.{◌≡◌, ℕ, ◌+◌, ◌<◌, ◌&&◌, false, IfOk, length, replicate, slice_index_or, slice_set};
+ghost use Rattle.std.specs.Prelude.{◌≡◌, ℕ, ◌+◌, ◌<◌, false, IfOk, length, replicate, slice_index_or, slice_set};
 ghost use Rattle.clock2q_queues.specs.Cells.{cells_state, accessed, written};
 
 use crate::links::flags::Flags;
-use crate::links::{Mark, Record};
 use clock2q_count::Count;
 use std::alloc::{AllocError, Allocator, Global};
 use std::marker::Model;
@@ -110,7 +109,6 @@ impl<A: Allocator> Model for Bits<A> {
 impl<A: Allocator> Bits<A> {
     ghost use Rattle.clock2q_queues.specs.Cells.{hit_bits, bit_in, inspected, with_bit};
     ghost use Rattle.clock2q_queues.specs.Flags.{flag_state, standing_in};
-    ghost use Rattle.clock2q_queues.specs.Links.{vacant, is_old};
 
     /// Returns clear bits for `slots` slots that stand nowhere. The hand has inspected none yet.
     pub(super) fn new(alloc: A, slots: u32) -> Result<Self, AllocError>
@@ -140,6 +138,14 @@ impl<A: Allocator> Bits<A> {
         self.flags[slot as usize] = flags.with_standing(standing);
     }
 
+    /// Returns true if a slot's bit is set.
+    pub(super) fn is_set(&self, slot: u32) -> bool
+        requires { slot < length self.now.bits.items }
+        ensures { result ≡ bit_in self.now.bits.items slot }
+    {
+        self.flags[slot as usize].is_set()
+    }
+
     /// Sets or clears the bit of a slot.
     pub(super) fn set(&mut self, slot: u32, bit: bool)
         requires { slot < length self.old.bits.items }
@@ -162,19 +168,6 @@ impl<A: Allocator> Bits<A> {
         let was_set = flags.is_set();
         self.flags[slot as usize] = flags.with_bit(false);
         was_set
-    }
-
-    /// Reads a slot's record, and returns whether the slot is old and its bit set.
-    pub(super) fn is_old_hit<B: Allocator>(&self, records: &mut Cells<Record, B>, slot: u32) -> bool
-        requires slot_in { slot < length records.old.items }
-        requires bit_in { slot < length self.now.bits.items }
-        ensures value { result ≡ (is_old (slice_index_or records.old.items slot vacant).standing && bit_in self.now.bits.items slot) }
-        ensures counted { records.new ≡ accessed records.old }
-    {
-        match records.read(slot).standing {
-            Mark::Old => self.flags[slot as usize].is_set(),
-            _ => false,
-        }
     }
 
     /// Clears every bit, and tells that no slot stands in a queue.

@@ -1,8 +1,34 @@
-use Rattle.std.proofs.Common.{◌+◌, refl, sym, ap, ◌∙◌}
-use Rattle.clock2q_queues.specs.Queues.{QueueState, without_slot}
-use Rattle.clock2q_queues.proofs.Sharing.{queues_equal}
+use Rattle.std.proofs.Common.{true, refl, sym, ap, ◌∙◌}
+use Rattle.clock2q_queues.specs.Rings.{has}
+use Rattle.clock2q_queues.specs.Links.{LinkState, accesses_of}
+use Rattle.clock2q_queues.specs.Queues.{QueueState, slots_of, without_slot}
+use Rattle.clock2q_queues.proofs.Sharing.{after_small_left, after_main_left, in_small, in_main, queues_equal}
 use Rattle.clock2q_queues.proofs.SlotLists.{without_slot-absent}
 use Rattle.clock2q_queues.proofs.queues.Queues.leave.Goals as goal
+
+pub unlink-requires-clause-present : goal.unlink-requires-clause-present
+unlink-requires-clause-present g c =
+    let read = c.in-Small.ensures in
+    in_small c.self.inside.links c.self.inside.small c.self.inside.main _ c.args.slot true c.self.view_is
+    (ap (λ (q : QueueState). has c.args.slot (slots_of q.small)) read.queues ∙ read.value.0)
+
+pub unlink-requires-in-Main-clause-present : goal.unlink-requires-in-Main-clause-present
+unlink-requires-in-Main-clause-present g c =
+    let read = c.in-Main.ensures in
+    in_main c.self.inside.links c.self.inside.small c.self.inside.main _ c.args.slot true c.self.view_is
+    (ap (λ (q : QueueState). has c.args.slot (slots_of q.main)) read.queues ∙ read.value.1)
+
+pub invariant_of-self : goal.invariant_of-self
+invariant_of-self g c =
+    let u = c.unlink in
+    (after_small_left c.self.inside.links c.self.inside.small c.self.inside.main c.self.invariant u.new.links u.new.self c.args.slot
+    u.ensures.whole u.ensures.freed u.ensures.entries u.ensures.others u.ensures.window u.ensures.inspections).queues
+
+pub invariant_of-self-in-Main : goal.invariant_of-self-in-Main
+invariant_of-self-in-Main g c =
+    let u = c.unlink-in-Main in
+    (after_main_left c.self.inside.links c.self.inside.small c.self.inside.main c.self.invariant u.new.links u.new.self c.args.slot
+    u.ensures.whole u.ensures.freed u.ensures.entries u.ensures.others (ap (λ (z : LinkState). z.window) u.ensures.rest)).queues
 
 pub returns-in-Free-clause-queues : goal.returns-in-Free-clause-queues
 returns-in-Free-clause-queues g c =
@@ -13,15 +39,20 @@ returns-in-Free-clause-queues g c =
 
 pub returns-in-Small-clause-queues : goal.returns-in-Small-clause-queues
 returns-in-Small-clause-queues g c =
-    let q = c.args.self.now in
     let read = c.in-Small.ensures in
-    c.leave_small.ensures.queues ∙ ap (λ (z : QueueState). record z { small = without_slot c.args.slot z.small; accesses = c.leave_small.new.self.accesses }) read.queues
-    ∙ queues_equal _ _ refl (without_slot-absent c.args.slot q.main read.value.1) refl refl refl refl
+    let u = c.unlink in
+    (after_small_left c.self.inside.links c.self.inside.small c.self.inside.main c.self.invariant u.new.links u.new.self c.args.slot
+    u.ensures.whole u.ensures.freed u.ensures.entries u.ensures.others u.ensures.window u.ensures.inspections).is
+    ∙ ap (λ (z : QueueState). record z { small = without_slot c.args.slot z.small; accesses = accesses_of u.new.links }) (c.self.view_is ∙ read.queues)
+    ∙ queues_equal _ _ refl (without_slot-absent c.args.slot c.args.self.now.main read.value.1) refl refl refl refl
 
 pub returns-in-Main-clause-queues : goal.returns-in-Main-clause-queues
 returns-in-Main-clause-queues g c =
-    let q = c.args.self.now in
     let read = c.in-Main.ensures in
-    c.leave_main.ensures.queues ∙ ap (λ (z : QueueState). record z { main = without_slot c.args.slot z.main; accesses = z.accesses + 6 }) read.queues
-    ∙ queues_equal _ _ (without_slot-absent c.args.slot q.small read.value.0) refl refl refl
-    (sym (ap (λ (z : QueueState). z.accesses) c.leave_main.ensures.queues ∙ ap (λ (z : QueueState). z.accesses + 6) read.queues)) refl
+    let u = c.unlink-in-Main in
+    let l = u.new.links in
+    (after_main_left c.self.inside.links c.self.inside.small c.self.inside.main c.self.invariant l u.new.self c.args.slot
+    u.ensures.whole u.ensures.freed u.ensures.entries u.ensures.others (ap (λ (z : LinkState). z.window) u.ensures.rest)).is
+    ∙ ap (λ (z : QueueState). record z { main = without_slot c.args.slot z.main; accesses = accesses_of l; inspections = l.bits.inspections }) (c.self.view_is ∙ read.queues)
+    ∙ queues_equal _ _ (without_slot-absent c.args.slot c.args.self.now.small read.value.0) refl refl refl refl
+    (ap (λ (z : LinkState). z.bits.inspections) u.ensures.rest ∙ ap (λ (z : QueueState). z.inspections) (c.self.view_is ∙ read.queues))

@@ -1,21 +1,43 @@
-use Rattle.std.proofs.Common.{sym, ap, ◌∙◌}
-use Rattle.clock2q_queues.specs.Queues.{slots_of}
-use Rattle.clock2q_queues.proofs.Rings.{AllApart-left}
-use Rattle.clock2q_queues.proofs.SlotLists.{last_out, none_last}
+use Rattle.std.proofs.Common.{None, sym, ap, ◌∙◌}
+use Rattle.std.specs.List.{last_or}
+use Rattle.clock2q_queues.specs.Links.{accesses_of}
+use Rattle.clock2q_queues.specs.Queues.{QueueState, slots_of, queues_shown}
+use Rattle.clock2q_queues.proofs.Sharing.{after_small_left, small_slots-of}
+use Rattle.clock2q_queues.proofs.Standings.{tail_there, tail_out, no_tail}
 use Rattle.clock2q_queues.proofs.queues.Queues.take_tail.Goals as goal
 
-pub leave_small-requires : goal.leave_small-requires
-leave_small-requires g c =
-    let q = c.args.self.now in
-    record { resident = (last_out c.in_ok-tail.tail q.small (sym c.in_ok-tail.ensures.tail) (AllApart-left (slots_of q.small) (slots_of q.main) c.in_ok-tail.ensures.whole.apart)).0 }
+pub unlink-requires-clause-present : goal.unlink-requires-clause-present
+unlink-requires-clause-present g c =
+    let i = c.self.inside in
+    tail_there i.links i.small i.main c.self.invariant c.in_ok-tail.tail (sym (c.in_ok-tail.ensures i.links c.self.invariant.small))
+
+pub invariant_of-self : goal.invariant_of-self
+invariant_of-self g c =
+    (after_small_left c.self.inside.links c.self.inside.small c.self.inside.main c.self.invariant c.unlink.new.links c.unlink.new.self c.in_ok-tail.tail
+    c.unlink.ensures.whole c.unlink.ensures.freed c.unlink.ensures.entries c.unlink.ensures.others c.unlink.ensures.window c.unlink.ensures.inspections).queues
+
+pub returns-in_err-tail-clause-tail : goal.returns-in_err-tail-clause-tail
+returns-in_err-tail-clause-tail g c =
+    let i = c.self.inside in
+    c.from_residual.ensures ∙ c.in_err-tail.ensures i.links c.self.invariant.small ∙ ap (λ z. last_or None z) (sym (small_slots-of i.links i.small))
+    ∙ ap (λ (q : QueueState). last_or None (slots_of q.small)) c.self.view_is
+
+pub returns-clause-tail : goal.returns-clause-tail
+returns-clause-tail g c =
+    let i = c.self.inside in
+    c.in_ok-tail.ensures i.links c.self.invariant.small ∙ ap (λ z. last_or None z) (sym (small_slots-of i.links i.small))
+    ∙ ap (λ (q : QueueState). last_or None (slots_of q.small)) c.self.view_is
 
 pub returns-in_err-tail-clause-queues : goal.returns-in_err-tail-clause-queues
 returns-in_err-tail-clause-queues g c =
-    let q = c.args.self.now in
-    ap (λ z. record q { small = z }) (none_last q.small (sym c.in_err-tail.ensures.tail))
+    let i = c.self.inside in
+    rw (← c.self.view_is) (ap (λ z. record (queues_shown i.links i.small i.main) { small = z }) (no_tail i.links i.small (sym (c.in_err-tail.ensures i.links c.self.invariant.small))))
 
 pub returns-clause-queues : goal.returns-clause-queues
 returns-clause-queues g c =
-    let q = c.args.self.now in
-    let last = (last_out c.in_ok-tail.tail q.small (sym c.in_ok-tail.ensures.tail) (AllApart-left (slots_of q.small) (slots_of q.main) c.in_ok-tail.ensures.whole.apart)).1 in
-    c.leave_small.ensures.queues ∙ ap (λ z. record q { small = z; accesses = c.leave_small.new.self.accesses }) last
+    let i = c.self.inside in
+    let left =
+    after_small_left i.links i.small i.main c.self.invariant c.unlink.new.links c.unlink.new.self c.in_ok-tail.tail
+    c.unlink.ensures.whole c.unlink.ensures.freed c.unlink.ensures.entries c.unlink.ensures.others c.unlink.ensures.window c.unlink.ensures.inspections in
+    rw (← c.self.view_is) (left.is ∙ ap (λ z. record (queues_shown i.links i.small i.main) { small = z; accesses = accesses_of c.unlink.new.links })
+    (tail_out i.links i.small i.main c.self.invariant c.in_ok-tail.tail (sym (c.in_ok-tail.ensures i.links c.self.invariant.small))))

@@ -1,24 +1,38 @@
-use Rattle.std.proofs.Common.{false, drop, refl, ap, ◌∙◌}
-use Rattle.clock2q_queues.specs.Queues.{QueueState, slots_of}
-use Rattle.clock2q_queues.proofs.Rings.{AllApart-right}
-use Rattle.clock2q_queues.proofs.Sharing.{queues_equal}
-use Rattle.clock2q_queues.proofs.SlotLists.{first_out}
+use Rattle.std.proofs.Common.{ℕ, Bool, false, List, drop, ap, ◌∙◌}
+use Rattle.clock2q_queues.specs.Links.{LinkState, accesses_of}
+use Rattle.clock2q_queues.specs.MainRing.{main_entries, from_victim}
+use Rattle.clock2q_queues.specs.Queues.{QueueState, queues_shown}
+use Rattle.clock2q_queues.proofs.Sharing.{after_choice, after_main_left}
+use Rattle.clock2q_queues.proofs.Standings.{first_there}
 use Rattle.clock2q_queues.proofs.queues.Queues.take_victim.Goals as goal
 
-pub leave_main-requires : goal.leave_main-requires
-leave_main-requires g c =
-    let q = c.select-victim.new.self in
-    record { resident = (first_out c.select-victim.result false q.main c.select-victim.ensures.victim (AllApart-right (slots_of q.small) (slots_of q.main) c.select-victim.ensures.whole.apart)).0 }
+pub unlink-requires-clause-present : goal.unlink-requires-clause-present
+unlink-requires-clause-present g c =
+    let i = c.self.inside in
+    let s = c.select-victim in
+    let chosen = after_choice i.links i.small i.main c.self.invariant s.new.links s.new.self s.ensures.whole s.ensures.entries s.ensures.others s.ensures.window in
+    (first_there s.new.links i.small s.new.self chosen.queues s.result false s.ensures.victim).0
+
+pub invariant_of-self : goal.invariant_of-self
+invariant_of-self g c =
+    let i = c.self.inside in
+    let s = c.select-victim in
+    let u = c.unlink in
+    let chosen = after_choice i.links i.small i.main c.self.invariant s.new.links s.new.self s.ensures.whole s.ensures.entries s.ensures.others s.ensures.window in
+    (after_main_left s.new.links i.small s.new.self chosen.queues u.new.links u.new.self s.result
+    u.ensures.whole u.ensures.freed u.ensures.entries u.ensures.others (ap (λ (z : LinkState). z.window) u.ensures.rest)).queues
 
 pub returns-clause-queues : goal.returns-clause-queues
 returns-clause-queues g c =
-    let mid = c.select-victim.new.self in
-    let chosen = c.select-victim.ensures.queues in
-    let gone = c.leave_main.ensures.queues in
-    let first = (first_out c.select-victim.result false mid.main c.select-victim.ensures.victim (AllApart-right (slots_of mid.small) (slots_of mid.main) c.select-victim.ensures.whole.apart)).1 in
-    queues_equal _ _
-    (ap (λ (q : QueueState). q.small) gone ∙ ap (λ (q : QueueState). q.small) chosen)
-    (ap (λ (q : QueueState). q.main) gone ∙ first ∙ ap (λ (q : QueueState). drop 1 q.main) chosen)
-    (ap (λ (q : QueueState). q.slots) gone ∙ ap (λ (q : QueueState). q.slots) chosen)
-    (ap (λ (q : QueueState). q.window) gone ∙ ap (λ (q : QueueState). q.window) chosen)
-    refl refl
+    let i = c.self.inside in
+    let s = c.select-victim in
+    let u = c.unlink in
+    let chosen = after_choice i.links i.small i.main c.self.invariant s.new.links s.new.self s.ensures.whole s.ensures.entries s.ensures.others s.ensures.window in
+    let left =
+    after_main_left s.new.links i.small s.new.self chosen.queues u.new.links u.new.self s.result
+    u.ensures.whole u.ensures.freed u.ensures.entries u.ensures.others (ap (λ (z : LinkState). z.window) u.ensures.rest) in
+    let first = (first_there s.new.links i.small s.new.self chosen.queues s.result false s.ensures.victim).1 in
+    let now = (λ (q : QueueState) (main : List (ℕ × Bool)). record q { main = main; accesses = accesses_of u.new.links; inspections = u.new.links.bits.inspections }) in
+    rw (← c.self.view_is) (left.is
+    ∙ ap (λ z. now (queues_shown s.new.links i.small s.new.self) z) (first ∙ ap (λ (z : List (ℕ × Bool)). drop 1 z) s.ensures.entries)
+    ∙ ap (λ q. now q (drop 1 (from_victim (main_entries i.links i.main)))) chosen.is)
