@@ -75,18 +75,10 @@ impl<T: Copy, A: Allocator> Cells<T, A> {
         ensures items { self.new.items ≡ replicate (length self.old.items) item }
         ensures accesses { self.new.accesses ≡ self.old.accesses + length self.old.items }
     {
-        overwrite(self.items.as_mut_slice(), item, &mut self.accesses);
-    }
-}
-
-/// Writes the same item to each cell of a slice, and counts each as an access.
-fn overwrite<T: Copy>(items: &mut [T], item: T, accesses: &mut Count)
-    ensures items { items.new ≡ replicate (length items.old) item }
-    ensures counted { accesses.new.total ≡ accesses.old.total + length items.old }
-{
-    for at in 0..items.len() {
-        accesses.tick();
-        items[at] = item;
+        for at in 0..self.items.len() {
+            self.accesses.tick();
+            self.items[at] = item;
+        }
     }
 }
 
