@@ -1,5 +1,5 @@
 -- A cache that is made with the shares of a script, or refused, and what it replies.
-use Rattle.std.proofs.Common.{◌≡◌, ℕ, ◌+◌, ◌/◌, ◌<◌, ◌≤◌, Bool, true, false, cond, ltb, max, List, Result, Ok, Err, refl, ap, ◌∙◌, arith, nat_eq, ⊎_elim, ◌⊎◌, inl, inr}
+use Rattle.std.proofs.Common.{◌≡◌, ℕ, suc, ◌+◌, ◌/◌, ◌<◌, ◌≤◌, Bool, true, false, cond, ltb, max, List, Result, Ok, Err, refl, ap, ◌∙◌, arith, nat_eq, ⊎_elim, ◌⊎◌, inl, inr}
 use Rattle.std.specs.Prelude.{◌↔◌, ◌≢◌, IfOk, IsErrOf}
 use Rattle.std.proofs.lemmas.Bool.{cases_lt, ltb-true}
 use Rattle.clock2q_machine.specs.Shares.{Shares, usual_shares, usual_small}
@@ -17,8 +17,8 @@ abbrev most_keys : ℕ
 most_keys = 16777215
 
 -- where more would be refused, and isn't, there's no more
-within : (n : ℕ) (Refused : Type 0) → (most_keys < n → Refused) → (Refused → ⊥) → n < 16777216
-within n Refused refuses h = ⊎_elim (λ less. less) (λ more. absurd (h (refuses (omega arith)))) (cases_lt n 16777216)
+within : (n : ℕ) (Refused : Type 0) → (most_keys < n → Refused) → (Refused → ⊥) → n < suc most_keys
+within n Refused refuses h = ⊎_elim (λ less. less) (λ more. absurd (h (refuses (omega arith)))) (cases_lt n (suc most_keys))
 
 -- the usual shares can be had together
 usual_policy : (n small : ℕ) → 0 < n → small ≡ usual_small n → IsPolicy (record { capacity = n; small = small; window = (small + 1) / 2 })
@@ -56,12 +56,12 @@ module _ {X K V : Type 0} (machine : X → Machine K V) where
   -- one that `with_policy` did
   pub Makes-chosen : (shares : Shares) (r : Result X CacheError) → IfOk r (λ cache. machine cache ≡ empty shares) → IsErrOf r Capacity ↔ (most_keys < shares.capacity) → IsErrOf r Policy ↔ ((shares.capacity ≤ most_keys) × (IsPolicy shares → ⊥)) → Makes shares machine r
   Makes-chosen shares (Ok cache) made capacity policy =
-      let few : shares.capacity < 16777216 = within shares.capacity _ capacity.1 (λ e. cc) in
+      let few : shares.capacity < suc most_keys = within shares.capacity _ capacity.1 (λ e. cc) in
       ((few, ⊎_elim (λ p. p) (λ no_policy. absurd (no (policy.1 (omega (arith, few), no_policy)))) (policy_cases shares)), made) where
         no : IsErrOf {T = X} (Ok cache) Policy → ⊥
         no e = cc
   Makes-chosen shares (Err Memory) made capacity policy =
-      let few : shares.capacity < 16777216 = within shares.capacity _ capacity.1 (λ e. cc) in
+      let few : shares.capacity < suc most_keys = within shares.capacity _ capacity.1 (λ e. cc) in
       (few, ⊎_elim (λ p. p) (λ no_policy. absurd (no (policy.1 (omega (arith, few), no_policy)))) (policy_cases shares)) where
         no : IsErrOf {T = X} (Err Memory) Policy → ⊥
         no e = cc

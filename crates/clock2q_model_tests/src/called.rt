@@ -1,6 +1,6 @@
-//! The calls of a cache, each made of a step.
+//! A cache whose calls are made from small values.
 
-use crate::steps::{Reply, Step, is_kept, made_value};
+use crate::calls::{Answer, Call, is_kept, made_value};
 use clock2q_cache::Cache;
 use std::alloc::{AllocError, Global};
 use std::hash::BuildHasher;
@@ -16,26 +16,26 @@ impl<S: BuildHasher> Called<S> {
         Called { cache }
     }
 
-    /// Makes the call, and returns its reply.
-    pub(crate) fn reply(&mut self, step: Step) -> Reply {
-        match step {
-            Step::Put(key, value) => Reply::Value(self.put(key, value)),
-            Step::Get(key) => Reply::Value(self.get(key)),
-            Step::GetAt(slot, key) => Reply::Value(self.get_at(slot, key)),
-            Step::Set(key, value) => Reply::Value(self.set(key, value)),
-            Step::With(key, value) => Reply::Stored(self.fetch(key, value)),
-            Step::Try(key, offered) => Reply::Tried(self.try_fetch(key, offered)),
-            Step::Write(key, offered, value) => Reply::Tried(self.write(key, offered, value)),
-            Step::Slot(key, value) => self.take_slot(key, value),
-            Step::Remove(key) => Reply::Flag(self.remove(key)),
-            Step::Retain(bits, count) => self.retain(bits, count),
-            Step::Clear => self.clear(),
-            Step::Prefill(first, more) => self.prefill(first, more),
-            Step::Peek(key) => Reply::Value(self.peek(key)),
-            Step::Contains(key) => Reply::Flag(self.contains(key)),
-            Step::Len => Reply::Number(self.len()),
-            Step::IsEmpty => Reply::Flag(self.is_empty()),
-            Step::Capacity => Reply::Number(self.capacity()),
+    /// Makes the call, and returns its answer.
+    pub(crate) fn answer(&mut self, call: Call) -> Answer {
+        match call {
+            Call::Put(key, value) => Answer::Value(self.put(key, value)),
+            Call::Get(key) => Answer::Value(self.get(key)),
+            Call::GetAt(slot, key) => Answer::Value(self.get_at(slot, key)),
+            Call::Set(key, value) => Answer::Value(self.set(key, value)),
+            Call::With(key, value) => Answer::Stored(self.fetch(key, value)),
+            Call::Try(key, offered) => Answer::Tried(self.try_fetch(key, offered)),
+            Call::Write(key, offered, value) => Answer::Tried(self.write(key, offered, value)),
+            Call::Slot(key, value) => self.take_slot(key, value),
+            Call::Remove(key) => Answer::Flag(self.remove(key)),
+            Call::Retain(bits, count) => self.retain(bits, count),
+            Call::Clear => self.clear(),
+            Call::Prefill(first, more) => self.prefill(first, more),
+            Call::Peek(key) => Answer::Value(self.peek(key)),
+            Call::Contains(key) => Answer::Flag(self.contains(key)),
+            Call::Len => Answer::Number(self.len()),
+            Call::IsEmpty => Answer::Flag(self.is_empty()),
+            Call::Capacity => Answer::Number(self.capacity()),
         }
     }
 
@@ -83,38 +83,38 @@ impl<S: BuildHasher> Called<S> {
         }
     }
 
-    fn take_slot(&mut self, key: u64, value: u64) -> Reply {
+    fn take_slot(&mut self, key: u64, value: u64) -> Answer {
         let (slot, held) = self.cache.get_or_insert_mut(key, || value);
-        Reply::Slot(slot, *held)
+        Answer::Slot(slot, *held)
     }
 
     fn remove(&mut self, key: u64) -> bool {
         self.cache.remove(&key)
     }
 
-    fn retain(&mut self, bits: u64, count: u32) -> Reply {
+    fn retain(&mut self, bits: u64, count: u32) -> Answer {
         let mut asked = 0u32;
         self.cache.retain(|_, _| {
             let stays = is_kept(bits, count, asked);
             asked = asked.saturating_add(1);
             stays
         });
-        Reply::Done
+        Answer::Done
     }
 
-    fn clear(&mut self) -> Reply {
+    fn clear(&mut self) -> Answer {
         self.cache.clear();
-        Reply::Done
+        Answer::Done
     }
 
-    fn prefill(&mut self, first: u64, more: u64) -> Reply {
+    fn prefill(&mut self, first: u64, more: u64) -> Answer {
         let mut made = 0u64;
         self.cache.prefill(|| {
             let value = made_value(first, more, made);
             made = made.saturating_add(1);
             value
         });
-        Reply::Done
+        Answer::Done
     }
 
     fn peek(&self, key: u64) -> Option<u64> {

@@ -1,21 +1,21 @@
-//! Calls of a cache as small values, and what they reply.
+//! Calls of a cache as small values, and what they answer.
 
 use crate::model::Model;
 use clock2q_refusing::Draws;
 
 /// A call of a cache whose keys and values are numbers.
 #[derive(Clone, Copy, Debug)]
-pub(crate) enum Step {
+pub(crate) enum Call {
     Put(u64, u64),
     Get(u64),
     Peek(u64),
     Contains(u64),
     GetAt(usize, u64),
-    /// Writes a value through a lent place.
+    /// Writes a value through a lent reference.
     Set(u64, u64),
     With(u64, u64),
     Try(u64, Option<u64>),
-    /// Writes a value through the place that a fetch lends.
+    /// Writes a value through the reference that a fetch lends.
     Write(u64, Option<u64>, u64),
     /// Offers a value to a slot that has none yet.
     Slot(u64, u64),
@@ -30,9 +30,9 @@ pub(crate) enum Step {
     Capacity,
 }
 
-/// What a step replies.
+/// What a call answers.
 #[derive(Clone, Copy, Debug, PartialEq)]
-pub(crate) enum Reply {
+pub(crate) enum Answer {
     Value(Option<u64>),
     Stored(u64),
     Tried(Option<u64>),
@@ -53,40 +53,40 @@ pub(crate) fn made_value(first: u64, more: u64, made: u64) -> u64 {
     first.wrapping_add(made.min(more))
 }
 
-impl Step {
-    /// The step of that number in a list: mostly one that looks a key up or brings it in.
-    pub(crate) fn drawn(draws: &mut Draws, model: &Model, number: u64) -> Step {
+impl Call {
+    /// The call of that number in a list: mostly one that looks a key up or brings it in.
+    pub(crate) fn drawn(draws: &mut Draws, model: &Model, number: u64) -> Call {
         let key = draws.below(model.keys());
         match draws.below(400) {
-            0..=79 => Step::Put(key, number),
-            80..=99 => Step::Slot(key, number),
-            100..=199 => Step::Get(key),
-            200..=229 => Step::With(key, number),
-            230..=239 => Step::Write(key, Some(number), number.wrapping_add(1)),
-            240..=259 => Step::Try(key, Some(number)),
-            260..=269 => Step::Try(key, None),
-            270..=279 => Step::Write(key, None, number),
-            280..=309 => Step::Set(key, number),
-            310..=349 => Step::GetAt(model.hint(key, draws.below(4)), key),
-            350..=379 => Step::Remove(key),
-            380 => Step::Clear,
-            381 | 382 => Step::Prefill(number, draws.below(4)),
-            kind => Step::aside(draws, key, kind),
+            0..=79 => Call::Put(key, number),
+            80..=99 => Call::Slot(key, number),
+            100..=199 => Call::Get(key),
+            200..=229 => Call::With(key, number),
+            230..=239 => Call::Write(key, Some(number), number.wrapping_add(1)),
+            240..=259 => Call::Try(key, Some(number)),
+            260..=269 => Call::Try(key, None),
+            270..=279 => Call::Write(key, None, number),
+            280..=309 => Call::Set(key, number),
+            310..=349 => Call::GetAt(model.hint(key, draws.below(4)), key),
+            350..=379 => Call::Remove(key),
+            380 => Call::Clear,
+            381 | 382 => Call::Prefill(number, draws.below(4)),
+            kind => Call::aside(draws, key, kind),
         }
     }
 
-    /// A step that changes nothing, or one that asks which residents stay.
-    fn aside(draws: &mut Draws, key: u64, kind: u64) -> Step {
+    /// A call that changes nothing, or one that asks which residents stay.
+    fn aside(draws: &mut Draws, key: u64, kind: u64) -> Call {
         match kind {
             383..=386 => {
                 let bits = draws.next() | draws.next();
-                Step::Retain(bits, draws.below(65) as u32)
+                Call::Retain(bits, draws.below(65) as u32)
             }
-            387..=389 => Step::Peek(key),
-            390..=392 => Step::Contains(key),
-            393..=395 => Step::Len,
-            396 | 397 => Step::IsEmpty,
-            _ => Step::Capacity,
+            387..=389 => Call::Peek(key),
+            390..=392 => Call::Contains(key),
+            393..=395 => Call::Len,
+            396 | 397 => Call::IsEmpty,
+            _ => Call::Capacity,
         }
     }
 }

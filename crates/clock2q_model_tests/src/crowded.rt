@@ -1,7 +1,7 @@
 //! Large caches whose keys hash alike, in part or in full, beside plain lists.
 
-use crate::steps::Step;
-use crate::tested::{Place, Tested};
+use crate::calls::Call;
+use crate::tested::{Position, Tested};
 use clock2q_refusing::{Draws, Spread};
 use std::alloc::Global;
 use std::process::Abort;
@@ -12,20 +12,20 @@ type Crowded = Tested<Spread>;
 /// Puts a quarter more keys than the cache can hold.
 fn fill(rt: &impl Abort, tested: &mut Crowded, capacity: u64, list: u64) -> Result<(), Fail> {
     for number in 0..capacity.saturating_add(capacity / 4) {
-        tested.step(rt, Step::Put(number, number), Place { list, number })?;
+        tested.call(rt, Call::Put(number, number), Position { list, number })?;
     }
     Ok(())
 }
 
-/// Makes drawn steps, but none that empties the cache.
-fn drive(rt: &impl Abort, tested: &mut Crowded, steps: u64, list: u64) -> Result<(), Fail> {
+/// Makes drawn calls, but none that empties the cache.
+fn drive(rt: &impl Abort, tested: &mut Crowded, calls: u64, list: u64) -> Result<(), Fail> {
     let mut draws = Draws::new(list);
-    for number in 0..steps {
-        let place = Place { list, number };
-        match Step::drawn(&mut draws, &tested.model, number) {
-            Step::Clear => tested.residents_are_same(rt, place)?,
-            step => {
-                tested.step(rt, step, place)?;
+    for number in 0..calls {
+        let position = Position { list, number };
+        match Call::drawn(&mut draws, &tested.model, number) {
+            Call::Clear => tested.residents_are_same(rt, position)?,
+            call => {
+                tested.call(rt, call, position)?;
             }
         }
     }
@@ -40,7 +40,7 @@ fn agrees(rt: &impl Abort, alloc: Global, capacity: u64, spread: Spread) -> Resu
     drive(rt, &mut tested, 1_000, list)?;
     tested.slots_are_same(
         rt,
-        Place {
+        Position {
             list,
             number: capacity,
         },

@@ -13,7 +13,7 @@ mod seeded;
 #[cfg(test)]
 mod states;
 #[cfg(test)]
-mod steps;
+mod calls;
 #[cfg(test)]
 mod tested;
 #[cfg(test)]

@@ -1,7 +1,7 @@
 //! A cache as plain lists: who is in Small, in Main and remembered, which slots are free, and the
 //! value of each slot. Every lookup reads the lists from their first entry on.
 
-use crate::steps::{Reply, Step, is_kept, made_value};
+use crate::calls::{Answer, Call, is_kept, made_value};
 use std::alloc::{AllocError, Global};
 
 /// How a capacity is shared out.
@@ -68,7 +68,7 @@ impl Model {
         }
     }
 
-    /// From which number on no key is used in a list of steps.
+    /// From which number on no key is used in a list of calls.
     pub(crate) fn keys(&self) -> u64 {
         (self.shares.capacity as u64)
             .saturating_mul(2)
@@ -96,35 +96,35 @@ impl Model {
         Some(entry.key)
     }
 
-    /// Makes the call, and returns the reply that it is to have.
-    pub(crate) fn reply(&mut self, step: Step) -> Result<Reply, AllocError> {
-        Ok(match step {
-            Step::Put(key, value) => Reply::Value(self.put(key, value)?),
-            Step::Get(key) => Reply::Value(self.get(key)),
-            Step::Peek(key) => Reply::Value(self.peek(key)),
-            Step::Contains(key) => Reply::Flag(self.find(key).is_some()),
-            Step::GetAt(slot, key) => Reply::Value(self.get_at(slot, key)),
-            Step::Set(key, value) => Reply::Value(self.replace(key, value)),
-            Step::With(key, value) => Reply::Stored(self.fetch(key, value)?),
-            Step::Try(key, offered) => Reply::Tried(self.try_fetch(key, offered)?),
-            Step::Write(key, offered, value) => Reply::Tried(self.write(key, offered, value)?),
-            Step::Slot(key, value) => self.take_slot(key, value)?,
-            Step::Remove(key) => Reply::Flag(self.remove(key)?),
-            Step::Retain(bits, count) => {
+    /// Makes the call, and returns the answer that it is to have.
+    pub(crate) fn answer(&mut self, call: Call) -> Result<Answer, AllocError> {
+        Ok(match call {
+            Call::Put(key, value) => Answer::Value(self.put(key, value)?),
+            Call::Get(key) => Answer::Value(self.get(key)),
+            Call::Peek(key) => Answer::Value(self.peek(key)),
+            Call::Contains(key) => Answer::Flag(self.find(key).is_some()),
+            Call::GetAt(slot, key) => Answer::Value(self.get_at(slot, key)),
+            Call::Set(key, value) => Answer::Value(self.replace(key, value)),
+            Call::With(key, value) => Answer::Stored(self.fetch(key, value)?),
+            Call::Try(key, offered) => Answer::Tried(self.try_fetch(key, offered)?),
+            Call::Write(key, offered, value) => Answer::Tried(self.write(key, offered, value)?),
+            Call::Slot(key, value) => self.take_slot(key, value)?,
+            Call::Remove(key) => Answer::Flag(self.remove(key)?),
+            Call::Retain(bits, count) => {
                 self.retain(bits, count)?;
-                Reply::Done
+                Answer::Done
             }
-            Step::Clear => {
+            Call::Clear => {
                 self.clear();
-                Reply::Done
+                Answer::Done
             }
-            Step::Prefill(first, more) => {
+            Call::Prefill(first, more) => {
                 self.prefill(first, more)?;
-                Reply::Done
+                Answer::Done
             }
-            Step::Len => Reply::Number(self.len()),
-            Step::IsEmpty => Reply::Flag(self.len() == 0),
-            Step::Capacity => Reply::Number(self.shares.capacity),
+            Call::Len => Answer::Number(self.len()),
+            Call::IsEmpty => Answer::Flag(self.len() == 0),
+            Call::Capacity => Answer::Number(self.shares.capacity),
         })
     }
 
@@ -150,8 +150,8 @@ impl Model {
     pub(crate) fn residents(&self) -> Result<Vec<(u64, u64)>, AllocError> {
         let mut keys = vec![in self.alloc; None; self.values.len()]?;
         for entry in self.small.iter().chain(self.main.iter()) {
-            if let Some(place) = keys.get_mut(entry.slot) {
-                *place = Some(entry.key);
+            if let Some(stored) = keys.get_mut(entry.slot) {
+                *stored = Some(entry.key);
             }
         }
         let mut residents = Vec::with_capacity(self.alloc, self.len())?;
@@ -192,8 +192,8 @@ impl Model {
     }
 
     fn store(&mut self, slot: usize, value: u64) {
-        if let Some(place) = self.values.get_mut(slot) {
-            *place = value;
+        if let Some(stored) = self.values.get_mut(slot) {
+            *stored = value;
         }
     }
 
@@ -266,17 +266,17 @@ impl Model {
     }
 
     /// A slot that was made before keeps its value.
-    fn take_slot(&mut self, key: u64, value: u64) -> Result<Reply, AllocError> {
+    fn take_slot(&mut self, key: u64, value: u64) -> Result<Answer, AllocError> {
         if let Some(entry) = self.find(key) {
             self.hit(key);
-            return Ok(Reply::Slot(entry.slot, self.value(entry.slot)));
+            return Ok(Answer::Slot(entry.slot, self.value(entry.slot)));
         }
         let made = self.made();
         let slot = self.enter(key)?;
         if slot >= made {
             self.store(slot, value);
         }
-        Ok(Reply::Slot(slot, self.value(slot)))
+        Ok(Answer::Slot(slot, self.value(slot)))
     }
 
     fn remove(&mut self, key: u64) -> Result<bool, AllocError> {

@@ -1,8 +1,8 @@
-//! Lists of steps from seeds, each reply and what it leaves compared with plain lists.
+//! Lists of calls from seeds, each answer and what it leaves compared with plain lists.
 
 use crate::model::Shares;
-use crate::steps::Step;
-use crate::tested::{Place, Tested};
+use crate::calls::Call;
+use crate::tested::{Position, Tested};
 use clock2q_cache::DefaultHashBuilder;
 use clock2q_refusing::Draws;
 use std::alloc::Global;
@@ -12,8 +12,8 @@ use std::test::Fail;
 /// How often a list is looked at closely.
 const LOOKS: u64 = 10;
 
-/// How many steps more it has each time.
-const STEPS: u64 = 100;
+/// How many calls more it has each time.
+const CALLS: u64 = 100;
 
 const CAPACITIES: u64 = 60;
 
@@ -58,27 +58,27 @@ fn made(alloc: Global, kind: Kind, shares: Shares) -> Result<Usual, Fail> {
     }
 }
 
-/// Makes the first steps of a list, and compares after each.
-fn drive(rt: &impl Abort, tested: &mut Usual, end: Place, draws: &mut Draws) -> Result<(), Fail> {
+/// Makes the first calls of a list, and compares after each.
+fn drive(rt: &impl Abort, tested: &mut Usual, end: Position, draws: &mut Draws) -> Result<(), Fail> {
     let list = end.list;
     for number in 0..end.number {
-        let step = Step::drawn(draws, &tested.model, number);
-        let place = Place { list, number };
-        tested.step(rt, step, place)?;
-        tested.sizes_are_same(rt, place)?;
-        tested.residents_are_same(rt, place)?;
+        let call = Call::drawn(draws, &tested.model, number);
+        let position = Position { list, number };
+        tested.call(rt, call, position)?;
+        tested.sizes_are_same(rt, position)?;
+        tested.residents_are_same(rt, position)?;
     }
     Ok(())
 }
 
 /// Looks at what only calls show that change it: the slots, and who is remembered.
-fn look_closely(rt: &impl Abort, tested: &mut Usual, end: Place) -> Result<(), Fail> {
+fn look_closely(rt: &impl Abort, tested: &mut Usual, end: Position) -> Result<(), Fail> {
     tested.slots_are_same(rt, end)?;
     tested.take_apart(rt, end)
 }
 
 /// Begins a list anew and looks closely where it comes to.
-fn beginning_is_same(rt: &impl Abort, alloc: Global, kind: Kind, end: Place) -> Result<(), Fail> {
+fn beginning_is_same(rt: &impl Abort, alloc: Global, kind: Kind, end: Position) -> Result<(), Fail> {
     let mut draws = Draws::new(end.list);
     let shares = shares_of(&mut draws, kind, end.list as usize);
     let mut tested = made(alloc, kind, shares)?;
@@ -89,9 +89,9 @@ fn beginning_is_same(rt: &impl Abort, alloc: Global, kind: Kind, end: Place) -> 
 /// A close look ends a run, so each has a run of its own.
 fn list_is_same(rt: &impl Abort, alloc: Global, kind: Kind, list: u64) -> Result<(), Fail> {
     for look in 1..=LOOKS {
-        let end = Place {
+        let end = Position {
             list,
-            number: look * STEPS,
+            number: look * CALLS,
         };
         beginning_is_same(rt, alloc, kind, end)?;
     }

@@ -1,7 +1,7 @@
-//! A run worked out by hand, and what each of its steps leaves: who stands where, and how many.
+//! A run worked out by hand, and what each of its calls leaves: who stands where, and how many.
 
-use crate::steps::{Reply, Step};
-use crate::tested::{Place, Tested};
+use crate::calls::{Answer, Call};
+use crate::tested::{Position, Tested};
 use clock2q_cache::DefaultHashBuilder;
 use std::alloc::Global;
 use std::process::Abort;
@@ -9,10 +9,10 @@ use std::test::Fail;
 
 type Usual = Tested<DefaultHashBuilder>;
 
-/// A step, its reply, and what it leaves of a cache of twenty keys.
+/// A call, its answer, and what it leaves of a cache of twenty keys.
 struct State {
-    step: Step,
-    reply: Reply,
+    call: Call,
+    answer: Answer,
     /// The keys of Small, newest first. All others are in Main.
     small: [u64; 2],
     remembered: Option<u64>,
@@ -23,8 +23,8 @@ struct State {
 /// The keys 1 to 20 were put before, each with itself as its value.
 const STATES: &[State] = &[
     State {
-        step: Step::Len,
-        reply: Reply::Number(20),
+        call: Call::Len,
+        answer: Answer::Number(20),
         small: [2, 1],
         remembered: None,
         residents: [
@@ -33,8 +33,8 @@ const STATES: &[State] = &[
     },
     // A hit moves no key.
     State {
-        step: Step::Get(1),
-        reply: Reply::Value(Some(1)),
+        call: Call::Get(1),
+        answer: Answer::Value(Some(1)),
         small: [2, 1],
         remembered: None,
         residents: [
@@ -43,8 +43,8 @@ const STATES: &[State] = &[
     },
     // The key that was hit goes to Main, and Main's first one leaves its slot to the new key.
     State {
-        step: Step::Put(21, 21),
-        reply: Reply::Value(None),
+        call: Call::Put(21, 21),
+        answer: Answer::Value(None),
         small: [21, 2],
         remembered: None,
         residents: [
@@ -53,8 +53,8 @@ const STATES: &[State] = &[
     },
     // A key that Main evicted isn't remembered. The oldest key of Small is evicted for it.
     State {
-        step: Step::Put(3, 3),
-        reply: Reply::Value(None),
+        call: Call::Put(3, 3),
+        answer: Answer::Value(None),
         small: [3, 21],
         remembered: Some(2),
         residents: [
@@ -63,8 +63,8 @@ const STATES: &[State] = &[
     },
     // A remembered key enters Main.
     State {
-        step: Step::Put(2, 2),
-        reply: Reply::Value(None),
+        call: Call::Put(2, 2),
+        answer: Answer::Value(None),
         small: [3, 21],
         remembered: None,
         residents: [
@@ -95,33 +95,33 @@ impl State {
     }
 }
 
-/// A step has the reply worked out.
-fn replies(
+/// A call has the answer worked out.
+fn answers(
     rt: &impl Abort,
     tested: &mut Usual,
-    step: Step,
-    wanted: Reply,
-    place: Place,
+    call: Call,
+    wanted: Answer,
+    position: Position,
 ) -> Result<(), Fail> {
-    let reply = tested.step(rt, step, place)?;
-    assert_eq!(rt; reply, wanted, "{place:?}: {step:?}");
+    let answer = tested.call(rt, call, position)?;
+    assert_eq!(rt; answer, wanted, "{position:?}: {call:?}");
     Ok(())
 }
 
-/// A cache after the first so many steps.
-fn cache_after(rt: &impl Abort, alloc: Global, steps: usize, place: Place) -> Result<Usual, Fail> {
+/// A cache after the first so many calls.
+fn cache_after(rt: &impl Abort, alloc: Global, calls: usize, position: Position) -> Result<Usual, Fail> {
     let mut tested = Tested::usual(alloc, 20, DefaultHashBuilder::new())?;
     for key in 1..21 {
-        replies(
+        answers(
             rt,
             &mut tested,
-            Step::Put(key, key),
-            Reply::Value(None),
-            place,
+            Call::Put(key, key),
+            Answer::Value(None),
+            position,
         )?;
     }
-    for state in STATES.iter().take(steps) {
-        replies(rt, &mut tested, state.step, state.reply, place)?;
+    for state in STATES.iter().take(calls) {
+        answers(rt, &mut tested, state.call, state.answer, position)?;
     }
     Ok(tested)
 }
@@ -131,11 +131,11 @@ fn residents_stand(
     rt: &impl Abort,
     tested: &mut Usual,
     state: &State,
-    place: Place,
+    position: Position,
 ) -> Result<(), Fail> {
     for (slot, key) in state.residents.iter().enumerate() {
-        let hit = Reply::Value(Some(*key));
-        replies(rt, tested, Step::GetAt(slot, *key), hit, place)?;
+        let hit = Answer::Value(Some(*key));
+        answers(rt, tested, Call::GetAt(slot, *key), hit, position)?;
     }
     Ok(())
 }
@@ -145,33 +145,33 @@ fn leave_main(
     rt: &impl Abort,
     tested: &mut Usual,
     state: &State,
-    place: Place,
+    position: Position,
 ) -> Result<(), Fail> {
     for key in &state.small {
-        replies(rt, tested, Step::Remove(*key), Reply::Flag(true), place)?;
+        answers(rt, tested, Call::Remove(*key), Answer::Flag(true), position)?;
     }
     if let Some(key) = state.remembered {
-        replies(rt, tested, Step::Remove(key), Reply::Flag(false), place)?;
+        answers(rt, tested, Call::Remove(key), Answer::Flag(false), position)?;
     }
-    tested.shows(rt, MAIN_ALONE, place)
+    tested.shows(rt, MAIN_ALONE, position)
 }
 
 /// Each key stands where the state says.
-fn stands(rt: &impl Abort, tested: &mut Usual, state: &State, place: Place) -> Result<(), Fail> {
-    residents_stand(rt, tested, state, place)?;
-    leave_main(rt, tested, state, place)
+fn stands(rt: &impl Abort, tested: &mut Usual, state: &State, position: Position) -> Result<(), Fail> {
+    residents_stand(rt, tested, state, position)?;
+    leave_main(rt, tested, state, position)
 }
 
-/// The step of a state, after so many others, leaves what the state says.
+/// The call of a state, after so many others, leaves what the state says.
 fn leaves(rt: &impl Abort, alloc: Global, before: usize, state: &State) -> Result<(), Fail> {
-    let place = Place {
+    let position = Position {
         list: 0,
         number: before as u64,
     };
-    let mut tested = cache_after(rt, alloc, before, place)?;
-    replies(rt, &mut tested, state.step, state.reply, place)?;
-    tested.shows(rt, state.text(), place)?;
-    stands(rt, &mut tested, state, place)
+    let mut tested = cache_after(rt, alloc, before, position)?;
+    answers(rt, &mut tested, state.call, state.answer, position)?;
+    tested.shows(rt, state.text(), position)?;
+    stands(rt, &mut tested, state, position)
 }
 
 #[test]
@@ -184,14 +184,14 @@ fn state_by_state(rt: HostRuntime) -> Result<(), Fail> {
 
 #[test]
 fn text_of_one_key(rt: HostRuntime) -> Result<(), Fail> {
-    let place = Place { list: 0, number: 0 };
+    let position = Position { list: 0, number: 0 };
     let mut tested = Tested::usual(rt.alloc(), 2, DefaultHashBuilder::new())?;
-    replies(
+    answers(
         &rt,
         &mut tested,
-        Step::Put(1, 10),
-        Reply::Value(None),
-        place,
+        Call::Put(1, 10),
+        Answer::Value(None),
+        position,
     )?;
-    tested.shows(&rt, ONE_KEY, place)
+    tested.shows(&rt, ONE_KEY, position)
 }

@@ -1,8 +1,8 @@
-//! A cache beside its plain lists, driven by the same steps.
+//! A cache beside its plain lists, driven by the same calls.
 
 use crate::called::Called;
 use crate::model::{Model, Shares};
-use crate::steps::{Reply, Step};
+use crate::calls::{Answer, Call};
 use clock2q_cache::Cache;
 use std::alloc::Global;
 use std::hash::BuildHasher;
@@ -12,7 +12,7 @@ use std::test::Fail;
 
 /// Where in which list a test is.
 #[derive(Clone, Copy, Debug)]
-pub(crate) struct Place {
+pub(crate) struct Position {
     pub(crate) list: u64,
     pub(crate) number: u64,
 }
@@ -50,54 +50,54 @@ impl<S: BuildHasher + Drop> Tested<S> {
         })
     }
 
-    /// Makes the call of both. The reply is the same.
-    pub(crate) fn step(
+    /// Makes the call of both. The answer is the same.
+    pub(crate) fn call(
         &mut self,
         rt: &impl Abort,
-        step: Step,
-        place: Place,
-    ) -> Result<Reply, Fail> {
-        let reply = self.called.reply(step);
-        let wanted = self.model.reply(step)?;
-        assert_eq!(rt; reply, wanted, "{place:?}: {step:?}");
-        Ok(reply)
+        call: Call,
+        position: Position,
+    ) -> Result<Answer, Fail> {
+        let answer = self.called.answer(call);
+        let wanted = self.model.answer(call)?;
+        assert_eq!(rt; answer, wanted, "{position:?}: {call:?}");
+        Ok(answer)
     }
 
     /// The cache shows this text of itself.
-    pub(crate) fn shows(&self, rt: &impl Abort, wanted: &str, place: Place) -> Result<(), Fail> {
+    pub(crate) fn shows(&self, rt: &impl Abort, wanted: &str, position: Position) -> Result<(), Fail> {
         let shown = self.called.text(self.alloc)?;
-        assert_eq!(rt; shown.as_str(), wanted, "{place:?}");
+        assert_eq!(rt; shown.as_str(), wanted, "{position:?}");
         Ok(())
     }
 
     /// The cache shows the same numbers of keys.
-    pub(crate) fn sizes_are_same(&self, rt: &impl Abort, place: Place) -> Result<(), Fail> {
+    pub(crate) fn sizes_are_same(&self, rt: &impl Abort, position: Position) -> Result<(), Fail> {
         let wanted = self.model.text()?;
-        self.shows(rt, wanted.as_str(), place)
+        self.shows(rt, wanted.as_str(), position)
     }
 
     /// The cache holds the same keys with the same values, slot by slot.
-    pub(crate) fn residents_are_same(&mut self, rt: &impl Abort, place: Place) -> Result<(), Fail> {
+    pub(crate) fn residents_are_same(&mut self, rt: &impl Abort, position: Position) -> Result<(), Fail> {
         let wanted = self.model.residents()?;
-        assert!(rt; self.called.holds(&wanted), "{place:?}");
+        assert!(rt; self.called.holds(&wanted), "{position:?}");
         Ok(())
     }
 
     /// Looks each resident up at its slot and at the next one.
-    pub(crate) fn slots_are_same(&mut self, rt: &impl Abort, place: Place) -> Result<(), Fail> {
+    pub(crate) fn slots_are_same(&mut self, rt: &impl Abort, position: Position) -> Result<(), Fail> {
         for slot in 0..self.model.made() {
             let key = self.model.key_at(slot).unwrap_or(0);
-            self.step(rt, Step::GetAt(slot, key), place)?;
-            self.step(rt, Step::GetAt(slot + 1, key), place)?;
+            self.call(rt, Call::GetAt(slot, key), position)?;
+            self.call(rt, Call::GetAt(slot + 1, key), position)?;
         }
         Ok(())
     }
 
     /// Takes each key out, or makes the cache forget it. Its text tells after each which it was.
-    pub(crate) fn take_apart(&mut self, rt: &impl Abort, place: Place) -> Result<(), Fail> {
+    pub(crate) fn take_apart(&mut self, rt: &impl Abort, position: Position) -> Result<(), Fail> {
         for key in 0..self.model.keys() {
-            self.step(rt, Step::Remove(key), place)?;
-            self.sizes_are_same(rt, place)?;
+            self.call(rt, Call::Remove(key), position)?;
+            self.sizes_are_same(rt, position)?;
         }
         Ok(())
     }

@@ -1,7 +1,7 @@
 //! Runs worked out by hand, under hashers that spread the keys well and badly.
 
-use crate::steps::{Reply, Step};
-use crate::tested::{Place, Tested};
+use crate::calls::{Answer, Call};
+use crate::tested::{Position, Tested};
 use clock2q_cache::DefaultHashBuilder;
 use clock2q_refusing::Spread;
 use std::alloc::Global;
@@ -15,7 +15,7 @@ struct Run {
     capacity: usize,
     puts: (u64, u64),
     hits: (u64, u64),
-    steps: &'static [(Step, Reply)],
+    calls: &'static [(Call, Answer)],
 }
 
 const RUNS: &[Run] = &[
@@ -24,11 +24,11 @@ const RUNS: &[Run] = &[
         capacity: 2,
         puts: (0, 0),
         hits: (0, 0),
-        steps: &[
-            (Step::Put(1, 10), Reply::Value(None)),
-            (Step::Put(1, 11), Reply::Value(Some(10))),
-            (Step::Get(1), Reply::Value(Some(11))),
-            (Step::Len, Reply::Number(1)),
+        calls: &[
+            (Call::Put(1, 10), Answer::Value(None)),
+            (Call::Put(1, 11), Answer::Value(Some(10))),
+            (Call::Get(1), Answer::Value(Some(11))),
+            (Call::Len, Answer::Number(1)),
         ],
     },
     // A single slot.
@@ -36,13 +36,13 @@ const RUNS: &[Run] = &[
         capacity: 1,
         puts: (0, 0),
         hits: (0, 0),
-        steps: &[
-            (Step::Put(1, 10), Reply::Value(None)),
-            (Step::Get(1), Reply::Value(Some(10))),
-            (Step::Put(2, 20), Reply::Value(None)),
-            (Step::Contains(1), Reply::Flag(false)),
-            (Step::Get(2), Reply::Value(Some(20))),
-            (Step::Len, Reply::Number(1)),
+        calls: &[
+            (Call::Put(1, 10), Answer::Value(None)),
+            (Call::Get(1), Answer::Value(Some(10))),
+            (Call::Put(2, 20), Answer::Value(None)),
+            (Call::Contains(1), Answer::Flag(false)),
+            (Call::Get(2), Answer::Value(Some(20))),
+            (Call::Len, Answer::Number(1)),
         ],
     },
     // A key that comes back.
@@ -50,15 +50,15 @@ const RUNS: &[Run] = &[
         capacity: 2,
         puts: (0, 0),
         hits: (0, 0),
-        steps: &[
-            (Step::Put(1, 10), Reply::Value(None)),
-            (Step::Put(2, 20), Reply::Value(None)),
-            (Step::Put(3, 30), Reply::Value(None)),
-            (Step::Put(1, 11), Reply::Value(None)),
-            (Step::GetAt(0, 3), Reply::Value(Some(30))),
-            (Step::GetAt(1, 1), Reply::Value(Some(11))),
-            (Step::Contains(2), Reply::Flag(false)),
-            (Step::Len, Reply::Number(2)),
+        calls: &[
+            (Call::Put(1, 10), Answer::Value(None)),
+            (Call::Put(2, 20), Answer::Value(None)),
+            (Call::Put(3, 30), Answer::Value(None)),
+            (Call::Put(1, 11), Answer::Value(None)),
+            (Call::GetAt(0, 3), Answer::Value(Some(30))),
+            (Call::GetAt(1, 1), Answer::Value(Some(11))),
+            (Call::Contains(2), Answer::Flag(false)),
+            (Call::Len, Answer::Number(2)),
         ],
     },
     // A key that comes back to a full Main though a slot is free.
@@ -66,14 +66,14 @@ const RUNS: &[Run] = &[
         capacity: 2,
         puts: (0, 0),
         hits: (0, 0),
-        steps: &[
-            (Step::Put(1, 10), Reply::Value(None)),
-            (Step::Put(2, 20), Reply::Value(None)),
-            (Step::Put(3, 30), Reply::Value(None)),
-            (Step::Remove(3), Reply::Flag(true)),
-            (Step::Put(1, 11), Reply::Value(None)),
-            (Step::Len, Reply::Number(1)),
-            (Step::GetAt(1, 1), Reply::Value(Some(11))),
+        calls: &[
+            (Call::Put(1, 10), Answer::Value(None)),
+            (Call::Put(2, 20), Answer::Value(None)),
+            (Call::Put(3, 30), Answer::Value(None)),
+            (Call::Remove(3), Answer::Flag(true)),
+            (Call::Put(1, 11), Answer::Value(None)),
+            (Call::Len, Answer::Number(1)),
+            (Call::GetAt(1, 1), Answer::Value(Some(11))),
         ],
     },
     // A key that is forgotten.
@@ -81,15 +81,15 @@ const RUNS: &[Run] = &[
         capacity: 2,
         puts: (0, 0),
         hits: (0, 0),
-        steps: &[
-            (Step::Put(1, 10), Reply::Value(None)),
-            (Step::Put(2, 20), Reply::Value(None)),
-            (Step::Put(3, 30), Reply::Value(None)),
-            (Step::Remove(1), Reply::Flag(false)),
-            (Step::Put(1, 11), Reply::Value(None)),
-            (Step::GetAt(0, 1), Reply::Value(Some(11))),
-            (Step::Contains(2), Reply::Flag(true)),
-            (Step::Contains(3), Reply::Flag(false)),
+        calls: &[
+            (Call::Put(1, 10), Answer::Value(None)),
+            (Call::Put(2, 20), Answer::Value(None)),
+            (Call::Put(3, 30), Answer::Value(None)),
+            (Call::Remove(1), Answer::Flag(false)),
+            (Call::Put(1, 11), Answer::Value(None)),
+            (Call::GetAt(0, 1), Answer::Value(Some(11))),
+            (Call::Contains(2), Answer::Flag(true)),
+            (Call::Contains(3), Answer::Flag(false)),
         ],
     },
     // A key that stays remembered though no value came.
@@ -97,14 +97,14 @@ const RUNS: &[Run] = &[
         capacity: 2,
         puts: (0, 0),
         hits: (0, 0),
-        steps: &[
-            (Step::Put(1, 10), Reply::Value(None)),
-            (Step::Put(2, 20), Reply::Value(None)),
-            (Step::Put(3, 30), Reply::Value(None)),
-            (Step::Try(1, None), Reply::Tried(None)),
-            (Step::Put(1, 11), Reply::Value(None)),
-            (Step::GetAt(1, 1), Reply::Value(Some(11))),
-            (Step::Contains(2), Reply::Flag(false)),
+        calls: &[
+            (Call::Put(1, 10), Answer::Value(None)),
+            (Call::Put(2, 20), Answer::Value(None)),
+            (Call::Put(3, 30), Answer::Value(None)),
+            (Call::Try(1, None), Answer::Tried(None)),
+            (Call::Put(1, 11), Answer::Value(None)),
+            (Call::GetAt(1, 1), Answer::Value(Some(11))),
+            (Call::Contains(2), Answer::Flag(false)),
         ],
     },
     // A key of Small that was hit.
@@ -112,12 +112,12 @@ const RUNS: &[Run] = &[
         capacity: 20,
         puts: (1, 21),
         hits: (0, 0),
-        steps: &[
-            (Step::Get(1), Reply::Value(Some(1))),
-            (Step::Put(21, 21), Reply::Value(None)),
-            (Step::GetAt(2, 21), Reply::Value(Some(21))),
-            (Step::GetAt(0, 1), Reply::Value(Some(1))),
-            (Step::Contains(3), Reply::Flag(false)),
+        calls: &[
+            (Call::Get(1), Answer::Value(Some(1))),
+            (Call::Put(21, 21), Answer::Value(None)),
+            (Call::GetAt(2, 21), Answer::Value(Some(21))),
+            (Call::GetAt(0, 1), Answer::Value(Some(1))),
+            (Call::Contains(3), Answer::Flag(false)),
         ],
     },
     // The same key, only looked at.
@@ -125,12 +125,12 @@ const RUNS: &[Run] = &[
         capacity: 20,
         puts: (1, 21),
         hits: (0, 0),
-        steps: &[
-            (Step::Peek(1), Reply::Value(Some(1))),
-            (Step::Put(21, 21), Reply::Value(None)),
-            (Step::GetAt(0, 21), Reply::Value(Some(21))),
-            (Step::Contains(1), Reply::Flag(false)),
-            (Step::Contains(3), Reply::Flag(true)),
+        calls: &[
+            (Call::Peek(1), Answer::Value(Some(1))),
+            (Call::Put(21, 21), Answer::Value(None)),
+            (Call::GetAt(0, 21), Answer::Value(Some(21))),
+            (Call::Contains(1), Answer::Flag(false)),
+            (Call::Contains(3), Answer::Flag(true)),
         ],
     },
     // Bits that are all set.
@@ -138,11 +138,11 @@ const RUNS: &[Run] = &[
         capacity: 20,
         puts: (1, 21),
         hits: (3, 21),
-        steps: &[
-            (Step::Get(1), Reply::Value(Some(1))),
-            (Step::Put(21, 21), Reply::Value(None)),
-            (Step::Contains(3), Reply::Flag(false)),
-            (Step::GetAt(2, 21), Reply::Value(Some(21))),
+        calls: &[
+            (Call::Get(1), Answer::Value(Some(1))),
+            (Call::Put(21, 21), Answer::Value(None)),
+            (Call::Contains(3), Answer::Flag(false)),
+            (Call::GetAt(2, 21), Answer::Value(Some(21))),
         ],
     },
     // Keys that come back to Main and to Small.
@@ -150,9 +150,9 @@ const RUNS: &[Run] = &[
         capacity: 20,
         puts: (0, 31),
         hits: (0, 0),
-        steps: &[
-            (Step::Slot(1, 0), Reply::Slot(2, 2)),
-            (Step::Slot(0, 0), Reply::Slot(1, 29)),
+        calls: &[
+            (Call::Slot(1, 0), Answer::Slot(2, 2)),
+            (Call::Slot(0, 0), Answer::Slot(1, 29)),
         ],
     },
     // An admission that was taken back counts for the ages.
@@ -160,16 +160,16 @@ const RUNS: &[Run] = &[
         capacity: 40,
         puts: (0, 40),
         hits: (0, 0),
-        steps: &[
-            (Step::Remove(3), Reply::Flag(true)),
-            (Step::Put(40, 40), Reply::Value(None)),
-            (Step::Get(2), Reply::Value(Some(2))),
-            (Step::Put(41, 41), Reply::Value(None)),
-            (Step::Put(42, 42), Reply::Value(None)),
-            (Step::Put(43, 43), Reply::Value(None)),
-            (Step::GetAt(2, 2), Reply::Value(Some(2))),
-            (Step::GetAt(4, 43), Reply::Value(Some(43))),
-            (Step::Contains(4), Reply::Flag(false)),
+        calls: &[
+            (Call::Remove(3), Answer::Flag(true)),
+            (Call::Put(40, 40), Answer::Value(None)),
+            (Call::Get(2), Answer::Value(Some(2))),
+            (Call::Put(41, 41), Answer::Value(None)),
+            (Call::Put(42, 42), Answer::Value(None)),
+            (Call::Put(43, 43), Answer::Value(None)),
+            (Call::GetAt(2, 2), Answer::Value(Some(2))),
+            (Call::GetAt(4, 43), Answer::Value(Some(43))),
+            (Call::Contains(4), Answer::Flag(false)),
         ],
     },
     // Slots made beforehand, and older free ones.
@@ -177,18 +177,18 @@ const RUNS: &[Run] = &[
         capacity: 6,
         puts: (0, 0),
         hits: (0, 0),
-        steps: &[
-            (Step::Slot(0, 10), Reply::Slot(0, 10)),
-            (Step::Slot(1, 11), Reply::Slot(1, 11)),
-            (Step::Slot(2, 12), Reply::Slot(2, 12)),
-            (Step::Remove(1), Reply::Flag(true)),
-            (Step::Remove(2), Reply::Flag(true)),
-            (Step::Prefill(13, 2), Reply::Done),
-            (Step::Slot(3, 0), Reply::Slot(3, 13)),
-            (Step::Slot(4, 0), Reply::Slot(4, 14)),
-            (Step::Slot(5, 0), Reply::Slot(5, 15)),
-            (Step::Slot(2, 0), Reply::Slot(2, 12)),
-            (Step::Slot(1, 0), Reply::Slot(1, 11)),
+        calls: &[
+            (Call::Slot(0, 10), Answer::Slot(0, 10)),
+            (Call::Slot(1, 11), Answer::Slot(1, 11)),
+            (Call::Slot(2, 12), Answer::Slot(2, 12)),
+            (Call::Remove(1), Answer::Flag(true)),
+            (Call::Remove(2), Answer::Flag(true)),
+            (Call::Prefill(13, 2), Answer::Done),
+            (Call::Slot(3, 0), Answer::Slot(3, 13)),
+            (Call::Slot(4, 0), Answer::Slot(4, 14)),
+            (Call::Slot(5, 0), Answer::Slot(5, 15)),
+            (Call::Slot(2, 0), Answer::Slot(2, 12)),
+            (Call::Slot(1, 0), Answer::Slot(1, 11)),
         ],
     },
     // Residents that are not kept.
@@ -196,16 +196,16 @@ const RUNS: &[Run] = &[
         capacity: 4,
         puts: (0, 0),
         hits: (0, 0),
-        steps: &[
-            (Step::Put(0, 0), Reply::Value(None)),
-            (Step::Put(1, 10), Reply::Value(None)),
-            (Step::Put(2, 20), Reply::Value(None)),
-            (Step::Put(3, 30), Reply::Value(None)),
-            (Step::Retain(0b101, 4), Reply::Done),
-            (Step::Len, Reply::Number(2)),
-            (Step::Slot(10, 5), Reply::Slot(3, 30)),
-            (Step::Slot(12, 5), Reply::Slot(1, 10)),
-            (Step::Len, Reply::Number(4)),
+        calls: &[
+            (Call::Put(0, 0), Answer::Value(None)),
+            (Call::Put(1, 10), Answer::Value(None)),
+            (Call::Put(2, 20), Answer::Value(None)),
+            (Call::Put(3, 30), Answer::Value(None)),
+            (Call::Retain(0b101, 4), Answer::Done),
+            (Call::Len, Answer::Number(2)),
+            (Call::Slot(10, 5), Answer::Slot(3, 30)),
+            (Call::Slot(12, 5), Answer::Slot(1, 10)),
+            (Call::Len, Answer::Number(4)),
         ],
     },
     // Slots made beforehand and cleared.
@@ -213,10 +213,10 @@ const RUNS: &[Run] = &[
         capacity: 3,
         puts: (0, 0),
         hits: (0, 0),
-        steps: &[
-            (Step::Prefill(7, 0), Reply::Done),
-            (Step::Clear, Reply::Done),
-            (Step::Slot(1, 9), Reply::Slot(0, 9)),
+        calls: &[
+            (Call::Prefill(7, 0), Answer::Done),
+            (Call::Clear, Answer::Done),
+            (Call::Slot(1, 9), Answer::Slot(0, 9)),
         ],
     },
     // Hints.
@@ -224,15 +224,15 @@ const RUNS: &[Run] = &[
         capacity: 2,
         puts: (0, 0),
         hits: (0, 0),
-        steps: &[
-            (Step::Slot(1, 10), Reply::Slot(0, 10)),
-            (Step::Remove(1), Reply::Flag(true)),
-            (Step::GetAt(0, 1), Reply::Value(None)),
-            (Step::Slot(2, 20), Reply::Slot(0, 10)),
-            (Step::Set(2, 20), Reply::Value(Some(10))),
-            (Step::GetAt(0, 1), Reply::Value(None)),
-            (Step::GetAt(0, 2), Reply::Value(Some(20))),
-            (Step::GetAt(usize::MAX, 2), Reply::Value(None)),
+        calls: &[
+            (Call::Slot(1, 10), Answer::Slot(0, 10)),
+            (Call::Remove(1), Answer::Flag(true)),
+            (Call::GetAt(0, 1), Answer::Value(None)),
+            (Call::Slot(2, 20), Answer::Slot(0, 10)),
+            (Call::Set(2, 20), Answer::Value(Some(10))),
+            (Call::GetAt(0, 1), Answer::Value(None)),
+            (Call::GetAt(0, 2), Answer::Value(Some(20))),
+            (Call::GetAt(usize::MAX, 2), Answer::Value(None)),
         ],
     },
     // Values that are fetched.
@@ -240,15 +240,15 @@ const RUNS: &[Run] = &[
         capacity: 2,
         puts: (0, 0),
         hits: (0, 0),
-        steps: &[
-            (Step::With(1, 100), Reply::Stored(100)),
-            (Step::With(1, 200), Reply::Stored(100)),
-            (Step::Try(2, None), Reply::Tried(None)),
-            (Step::Contains(2), Reply::Flag(false)),
-            (Step::Try(2, Some(20)), Reply::Tried(Some(20))),
-            (Step::Get(3), Reply::Value(None)),
-            (Step::IsEmpty, Reply::Flag(false)),
-            (Step::Capacity, Reply::Number(2)),
+        calls: &[
+            (Call::With(1, 100), Answer::Stored(100)),
+            (Call::With(1, 200), Answer::Stored(100)),
+            (Call::Try(2, None), Answer::Tried(None)),
+            (Call::Contains(2), Answer::Flag(false)),
+            (Call::Try(2, Some(20)), Answer::Tried(Some(20))),
+            (Call::Get(3), Answer::Value(None)),
+            (Call::IsEmpty, Answer::Flag(false)),
+            (Call::Capacity, Answer::Number(2)),
         ],
     },
     // Bits that the hand leaves.
@@ -256,18 +256,18 @@ const RUNS: &[Run] = &[
         capacity: 4,
         puts: (1, 5),
         hits: (0, 0),
-        steps: &[
-            (Step::Get(4), Reply::Value(Some(4))),
-            (Step::Get(3), Reply::Value(Some(3))),
-            (Step::Put(5, 5), Reply::Value(None)),
-            (Step::Put(1, 1), Reply::Value(None)),
-            (Step::Put(6, 6), Reply::Value(None)),
-            (Step::Put(5, 5), Reply::Value(None)),
-            (Step::Peek(1), Reply::Value(None)),
-            (Step::Peek(2), Reply::Value(None)),
-            (Step::Peek(3), Reply::Value(Some(3))),
-            (Step::Peek(4), Reply::Value(Some(4))),
-            (Step::Len, Reply::Number(4)),
+        calls: &[
+            (Call::Get(4), Answer::Value(Some(4))),
+            (Call::Get(3), Answer::Value(Some(3))),
+            (Call::Put(5, 5), Answer::Value(None)),
+            (Call::Put(1, 1), Answer::Value(None)),
+            (Call::Put(6, 6), Answer::Value(None)),
+            (Call::Put(5, 5), Answer::Value(None)),
+            (Call::Peek(1), Answer::Value(None)),
+            (Call::Peek(2), Answer::Value(None)),
+            (Call::Peek(3), Answer::Value(Some(3))),
+            (Call::Peek(4), Answer::Value(Some(4))),
+            (Call::Len, Answer::Number(4)),
         ],
     },
     // A younger key that is removed.
@@ -275,14 +275,14 @@ const RUNS: &[Run] = &[
         capacity: 20,
         puts: (0, 20),
         hits: (0, 0),
-        steps: &[
-            (Step::Get(0), Reply::Value(Some(0))),
-            (Step::Remove(1), Reply::Flag(true)),
-            (Step::Put(20, 20), Reply::Value(None)),
-            (Step::Put(21, 21), Reply::Value(None)),
-            (Step::GetAt(0, 0), Reply::Value(Some(0))),
-            (Step::GetAt(2, 21), Reply::Value(Some(21))),
-            (Step::Contains(2), Reply::Flag(false)),
+        calls: &[
+            (Call::Get(0), Answer::Value(Some(0))),
+            (Call::Remove(1), Answer::Flag(true)),
+            (Call::Put(20, 20), Answer::Value(None)),
+            (Call::Put(21, 21), Answer::Value(None)),
+            (Call::GetAt(0, 0), Answer::Value(Some(0))),
+            (Call::GetAt(2, 21), Answer::Value(Some(21))),
+            (Call::Contains(2), Answer::Flag(false)),
         ],
     },
     // Bits that run out.
@@ -290,15 +290,15 @@ const RUNS: &[Run] = &[
         capacity: 3,
         puts: (0, 0),
         hits: (0, 0),
-        steps: &[
-            (Step::Put(1, 1), Reply::Value(None)),
-            (Step::Put(2, 2), Reply::Value(None)),
-            (Step::Put(3, 3), Reply::Value(None)),
-            (Step::Retain(0, 1), Reply::Done),
-            (Step::Len, Reply::Number(2)),
-            (Step::Retain(0, 2), Reply::Done),
-            (Step::Len, Reply::Number(0)),
-            (Step::Slot(9, 0), Reply::Slot(2, 3)),
+        calls: &[
+            (Call::Put(1, 1), Answer::Value(None)),
+            (Call::Put(2, 2), Answer::Value(None)),
+            (Call::Put(3, 3), Answer::Value(None)),
+            (Call::Retain(0, 1), Answer::Done),
+            (Call::Len, Answer::Number(2)),
+            (Call::Retain(0, 2), Answer::Done),
+            (Call::Len, Answer::Number(0)),
+            (Call::Slot(9, 0), Answer::Slot(2, 3)),
         ],
     },
     // Keys that are not kept, and those remembered.
@@ -306,18 +306,18 @@ const RUNS: &[Run] = &[
         capacity: 2,
         puts: (0, 0),
         hits: (0, 0),
-        steps: &[
-            (Step::Put(1, 1), Reply::Value(None)),
-            (Step::Put(2, 2), Reply::Value(None)),
-            (Step::Put(3, 3), Reply::Value(None)),
-            (Step::Retain(0, 2), Reply::Done),
-            (Step::Len, Reply::Number(0)),
-            (Step::Put(1, 9), Reply::Value(None)),
-            (Step::Put(4, 4), Reply::Value(None)),
-            (Step::Put(5, 5), Reply::Value(None)),
-            (Step::Contains(1), Reply::Flag(true)),
-            (Step::Contains(4), Reply::Flag(false)),
-            (Step::GetAt(1, 1), Reply::Value(Some(9))),
+        calls: &[
+            (Call::Put(1, 1), Answer::Value(None)),
+            (Call::Put(2, 2), Answer::Value(None)),
+            (Call::Put(3, 3), Answer::Value(None)),
+            (Call::Retain(0, 2), Answer::Done),
+            (Call::Len, Answer::Number(0)),
+            (Call::Put(1, 9), Answer::Value(None)),
+            (Call::Put(4, 4), Answer::Value(None)),
+            (Call::Put(5, 5), Answer::Value(None)),
+            (Call::Contains(1), Answer::Flag(true)),
+            (Call::Contains(4), Answer::Flag(false)),
+            (Call::GetAt(1, 1), Answer::Value(Some(9))),
         ],
     },
     // A place of the history used again.
@@ -325,33 +325,33 @@ const RUNS: &[Run] = &[
         capacity: 4,
         puts: (1, 7),
         hits: (0, 0),
-        steps: &[
-            (Step::Remove(1), Reply::Flag(false)),
-            (Step::Put(7, 7), Reply::Value(None)),
-            (Step::Put(8, 8), Reply::Value(None)),
-            (Step::Slot(6, 0), Reply::Slot(1, 2)),
-            (Step::Slot(5, 0), Reply::Slot(0, 8)),
-            (Step::Contains(2), Reply::Flag(false)),
-            (Step::Len, Reply::Number(4)),
+        calls: &[
+            (Call::Remove(1), Answer::Flag(false)),
+            (Call::Put(7, 7), Answer::Value(None)),
+            (Call::Put(8, 8), Answer::Value(None)),
+            (Call::Slot(6, 0), Answer::Slot(1, 2)),
+            (Call::Slot(5, 0), Answer::Slot(0, 8)),
+            (Call::Contains(2), Answer::Flag(false)),
+            (Call::Len, Answer::Number(4)),
         ],
     },
-    // A place of the window that was emptied.
+    // A position of the window that was emptied.
     Run {
         capacity: 40,
         puts: (0, 40),
         hits: (0, 0),
-        steps: &[
-            (Step::Remove(3), Reply::Flag(true)),
-            (Step::Put(40, 40), Reply::Value(None)),
-            (Step::Remove(40), Reply::Flag(true)),
-            (Step::Put(41, 41), Reply::Value(None)),
-            (Step::Put(42, 42), Reply::Value(None)),
-            (Step::Get(41), Reply::Value(Some(41))),
-            (Step::Put(43, 43), Reply::Value(None)),
-            (Step::Put(44, 44), Reply::Value(None)),
-            (Step::Put(45, 45), Reply::Value(None)),
-            (Step::Contains(41), Reply::Flag(false)),
-            (Step::GetAt(3, 45), Reply::Value(Some(45))),
+        calls: &[
+            (Call::Remove(3), Answer::Flag(true)),
+            (Call::Put(40, 40), Answer::Value(None)),
+            (Call::Remove(40), Answer::Flag(true)),
+            (Call::Put(41, 41), Answer::Value(None)),
+            (Call::Put(42, 42), Answer::Value(None)),
+            (Call::Get(41), Answer::Value(Some(41))),
+            (Call::Put(43, 43), Answer::Value(None)),
+            (Call::Put(44, 44), Answer::Value(None)),
+            (Call::Put(45, 45), Answer::Value(None)),
+            (Call::Contains(41), Answer::Flag(false)),
+            (Call::GetAt(3, 45), Answer::Value(Some(45))),
         ],
     },
     // Hints at slots that were never made, and at free ones.
@@ -359,13 +359,13 @@ const RUNS: &[Run] = &[
         capacity: 4,
         puts: (0, 0),
         hits: (0, 0),
-        steps: &[
-            (Step::Slot(7, 70), Reply::Slot(0, 70)),
-            (Step::GetAt(4, 7), Reply::Value(None)),
-            (Step::GetAt(3, 7), Reply::Value(None)),
-            (Step::GetAt(0, 7), Reply::Value(Some(70))),
-            (Step::Remove(7), Reply::Flag(true)),
-            (Step::GetAt(0, 7), Reply::Value(None)),
+        calls: &[
+            (Call::Slot(7, 70), Answer::Slot(0, 70)),
+            (Call::GetAt(4, 7), Answer::Value(None)),
+            (Call::GetAt(3, 7), Answer::Value(None)),
+            (Call::GetAt(0, 7), Answer::Value(Some(70))),
+            (Call::Remove(7), Answer::Flag(true)),
+            (Call::GetAt(0, 7), Answer::Value(None)),
         ],
     },
     // A slot made beforehand holds no key.
@@ -373,11 +373,11 @@ const RUNS: &[Run] = &[
         capacity: 2,
         puts: (0, 0),
         hits: (0, 0),
-        steps: &[
-            (Step::Prefill(5, 1), Reply::Done),
-            (Step::GetAt(0, 0), Reply::Value(None)),
-            (Step::Contains(0), Reply::Flag(false)),
-            (Step::Slot(0, 9), Reply::Slot(0, 5)),
+        calls: &[
+            (Call::Prefill(5, 1), Answer::Done),
+            (Call::GetAt(0, 0), Answer::Value(None)),
+            (Call::Contains(0), Answer::Flag(false)),
+            (Call::Slot(0, 9), Answer::Slot(0, 5)),
         ],
     },
     // A cache that is emptied while it is full.
@@ -385,16 +385,16 @@ const RUNS: &[Run] = &[
         capacity: 2,
         puts: (1, 4),
         hits: (0, 0),
-        steps: &[
-            (Step::Clear, Reply::Done),
-            (Step::IsEmpty, Reply::Flag(true)),
-            (Step::Contains(3), Reply::Flag(false)),
-            (Step::Put(1, 11), Reply::Value(None)),
-            (Step::Put(2, 12), Reply::Value(None)),
-            (Step::Put(3, 13), Reply::Value(None)),
-            (Step::Contains(1), Reply::Flag(false)),
-            (Step::GetAt(0, 3), Reply::Value(Some(13))),
-            (Step::Len, Reply::Number(2)),
+        calls: &[
+            (Call::Clear, Answer::Done),
+            (Call::IsEmpty, Answer::Flag(true)),
+            (Call::Contains(3), Answer::Flag(false)),
+            (Call::Put(1, 11), Answer::Value(None)),
+            (Call::Put(2, 12), Answer::Value(None)),
+            (Call::Put(3, 13), Answer::Value(None)),
+            (Call::Contains(1), Answer::Flag(false)),
+            (Call::GetAt(0, 3), Answer::Value(Some(13))),
+            (Call::Len, Answer::Number(2)),
         ],
     },
     // Values written where a fetch lends them.
@@ -402,30 +402,30 @@ const RUNS: &[Run] = &[
         capacity: 2,
         puts: (0, 0),
         hits: (0, 0),
-        steps: &[
-            (Step::Write(1, Some(10), 11), Reply::Tried(Some(10))),
-            (Step::Write(2, Some(20), 21), Reply::Tried(Some(20))),
-            (Step::Write(3, None, 31), Reply::Tried(None)),
-            (Step::Contains(3), Reply::Flag(false)),
-            (Step::Peek(1), Reply::Value(Some(11))),
-            (Step::Write(2, None, 22), Reply::Tried(Some(21))),
-            (Step::Peek(2), Reply::Value(Some(22))),
+        calls: &[
+            (Call::Write(1, Some(10), 11), Answer::Tried(Some(10))),
+            (Call::Write(2, Some(20), 21), Answer::Tried(Some(20))),
+            (Call::Write(3, None, 31), Answer::Tried(None)),
+            (Call::Contains(3), Answer::Flag(false)),
+            (Call::Peek(1), Answer::Value(Some(11))),
+            (Call::Write(2, None, 22), Answer::Tried(Some(21))),
+            (Call::Peek(2), Answer::Value(Some(22))),
         ],
     },
 ];
 
-/// Makes the steps of a run, and compares each reply with the one worked out.
-fn replies_are_worked<S: BuildHasher + Drop>(
+/// Makes the calls of a run, and compares each answer with the one worked out.
+fn answers_are_worked<S: BuildHasher + Drop>(
     rt: &impl Abort,
     tested: &mut Tested<S>,
     run: &Run,
-    place: Place,
+    position: Position,
 ) -> Result<(), Fail> {
-    for (step, wanted) in run.steps {
-        let reply = tested.step(rt, *step, place)?;
-        assert_eq!(rt; reply, *wanted, "{place:?}: {step:?}");
+    for (call, wanted) in run.calls {
+        let answer = tested.call(rt, *call, position)?;
+        assert_eq!(rt; answer, *wanted, "{position:?}: {call:?}");
     }
-    tested.residents_are_same(rt, place)
+    tested.residents_are_same(rt, position)
 }
 
 /// Puts the keys from one to another, each with itself as its value.
@@ -433,10 +433,10 @@ fn put_all<S: BuildHasher + Drop>(
     rt: &impl Abort,
     tested: &mut Tested<S>,
     (first, end): (u64, u64),
-    place: Place,
+    position: Position,
 ) -> Result<(), Fail> {
     for key in first..end {
-        tested.step(rt, Step::Put(key, key), place)?;
+        tested.call(rt, Call::Put(key, key), position)?;
     }
     Ok(())
 }
@@ -446,44 +446,44 @@ fn hit_all<S: BuildHasher + Drop>(
     rt: &impl Abort,
     tested: &mut Tested<S>,
     (first, end): (u64, u64),
-    place: Place,
+    position: Position,
 ) -> Result<(), Fail> {
     for key in first..end {
-        tested.step(rt, Step::Get(key), place)?;
+        tested.call(rt, Call::Get(key), position)?;
     }
     Ok(())
 }
 
-/// The runs reply so under a hasher.
-fn runs_reply<S: BuildHasher + Copy + Drop>(
+/// The runs answer so under a hasher.
+fn runs_answer<S: BuildHasher + Copy + Drop>(
     rt: &impl Abort,
     alloc: Global,
     hasher: S,
     list: u64,
 ) -> Result<(), Fail> {
     for (number, run) in RUNS.iter().enumerate() {
-        let place = Place {
+        let position = Position {
             list,
             number: number as u64,
         };
         let mut tested = Tested::usual(alloc, run.capacity, hasher)?;
-        put_all(rt, &mut tested, run.puts, place)?;
-        hit_all(rt, &mut tested, run.hits, place)?;
-        replies_are_worked(rt, &mut tested, run, place)?;
+        put_all(rt, &mut tested, run.puts, position)?;
+        hit_all(rt, &mut tested, run.hits, position)?;
+        answers_are_worked(rt, &mut tested, run, position)?;
     }
     Ok(())
 }
 
 #[test]
 fn usual_hasher(rt: HostRuntime) -> Result<(), Fail> {
-    runs_reply(&rt, rt.alloc(), DefaultHashBuilder::new(), 0)
+    runs_answer(&rt, rt.alloc(), DefaultHashBuilder::new(), 0)
 }
 
 /// Hashers that answer one number for all keys, and one that answers the key.
 #[test]
 fn bad_hashers(rt: HostRuntime) -> Result<(), Fail> {
     for (times, more) in [(0, 0), (0, 0xAB00_0000_0000_000F), (0, u64::MAX), (1, 0)] {
-        runs_reply(&rt, rt.alloc(), Spread { times, more }, more)?;
+        runs_answer(&rt, rt.alloc(), Spread { times, more }, more)?;
     }
     Ok(())
 }
