@@ -1,29 +1,11 @@
 -- What holds of a cache's fields goes on to hold after each change of the layers, and the machine becomes what it should.
-use Rattle.clock2q_queues.proofs.Entries.{key_at-own, key_at-others, values-written, length-values}
-use Rattle.std.proofs.Common.{◌≡◌, ℕ, suc, ◌+◌, ◌^◌, ◌<◌, ◌≤◌, Bool, true, false, Option, Some, None, List, [], ◌∷◌, ◌++◌, map, length, drop, reverse, refl, sym, ap, ◌∙◌, subst, arith, ne_eqb, length-append}
-use Rattle.std.specs.Prelude.{if◌then◌else◌, IfNone}
-use Rattle.std.specs.Cmp.{IsEquivalence}
-use Rattle.std.specs.List.{last_or, AllByRecursion}
-use Rattle.clock2q_handles.specs.Homes.{total, capacity, candidates, with_handle}
-use Rattle.clock2q_queues.specs.Rings.{has}
-use Rattle.clock2q_queues.specs.Keys.{KeyPlaces, entry, written, hash_at, key_at}
-use Rattle.clock2q_queues.specs.Small.{admitted}
-use Rattle.clock2q_queues.specs.Queues.{QueueState, slots_of}
-use Rattle.clock2q_queues.specs.Index.{IndexState, is_shared, slots}
-use Rattle.clock2q_queues.specs.History.{Remembered, most_beside}
-use Rattle.clock2q_queues.proofs.Rings.{has-append}
-use Rattle.clock2q_queues.proofs.Indexes.{length-put, named-own}
-use Rattle.clock2q_queues.proofs.Booleans.{or_parts}
-use Rattle.clock2q_machine.specs.Shares.{Shares, main_share}
+use Rattle.std.proofs.Common.{◌≡◌, ℕ, suc, ◌+◌, ◌^◌, ◌<◌, ◌≤◌, Bool, true, false, Option, Some, None, List, [], ◌∷◌, ◌++◌, map, length, drop, reverse, refl, sym, ap, ◌∙◌, subst, arith, ne_eqb, length-append, eqb}
+use Rattle.clock2q_cache.proofs.Names.{key_at-own, key_at-others, values-written, length-values, if◌then◌else◌, IfNone, IsEquivalence, last_or, AllByRecursion, total, capacity, candidates, with_handle, has, KeyPlaces, entry, written, hash_at, key_at, admitted, QueueState, slots_of, IndexState, is_shared, slots, Remembered, most_beside, has-append, length-put, named-own, or_parts, Shares, main_share, Machine, Placement, vacancy, vacant_slot, into_main, into_small, into_small_at, joining_main, replacing_victim, stored, IsWhole, known_count, IsValueFor, Fills, Writes, machine_of, places_of, with_keys_small, with_keys_main, IsStored, IsSized, IsKept, IsPlaced, whole-stored, placed-admitted, placed-joining, slots-entered, slots-left, removed, left}
+use Rattle.clock2q_queues.specs.Index as known
 use Rattle.clock2q_machine.specs.Entries as machine
-use Rattle.clock2q_machine.specs.Machine.{Machine, Placement, vacancy, vacant_slot, into_main, into_small, into_small_at, joining_main, replacing_victim, stored}
-use Rattle.clock2q_machine.specs.Whole.{IsWhole, known_count}
-use Rattle.clock2q_cache.specs.Insertions.{IsValueFor, Fills, Writes}
-use Rattle.clock2q_cache.specs.CacheFields.{machine_of, places_of, with_keys_small, with_keys_main, IsStored, IsSized, IsKept}
 use Rattle.clock2q_cache.proofs.WithKeys.{small-admitted, main-behind, small_with, main_with, keys-agree, length-small, length-main}
 use Rattle.clock2q_cache.proofs.Stored.{stored-entered}
 use Rattle.clock2q_cache.proofs.Slots.{times, times-cons, times-both, times-pushed, times-admitted, length-admitted, stored-moved, vacant, vacancy-taken, vacancy-there, small_have, main_have, length-places}
-use Rattle.clock2q_machine.proofs.Whole.{IsPlaced, whole-stored, placed-admitted, placed-joining}
 
 -- a history of which the index alone changed
 pub record IsReindexed {K : Type 0} (h h' : Remembered K) : Type 0 where
@@ -44,10 +26,17 @@ module _ {K : Type 0} (h : Remembered K) {h' : Remembered K} {index : IndexState
   pub now-slots : {homes : List (List (ℕ × ℕ))} → slots index ≡ homes → slots h'.places.index ≡ homes
   now-slots same = ap (λ (z : Remembered K). slots z.places.index) is ∙ same
 
+-- the slots where one took the place of another
+pub slots-renewed : {K : Type 0} (h : Remembered K) {h' : Remembered K} (old hsh : ℕ) {slot : ℕ}
+    → h' ≡ record h { places = record h.places { index = known.entered hsh slot (left old slot h.places.index) } } → slot < 2 ^ 24
+    → slots h'.places.index ≡ with_handle (removed eqb (slots h.places.index) old slot) hsh slot
+slots-renewed h old hsh {slot} is below = now-slots h is (slots-entered (left old slot h.places.index) hsh slot (omega (arith, below))
+    ∙ ap (λ z. with_handle z hsh slot) (slots-left h.places.index old slot (omega (arith, below))))
+
 -- the layers are as large as they were
-pub sized-same : {shares : Shares} {q q' : QueueState} {limit limit' beside beside' homes homes' keys_room keys_room' free_room free_room' : ℕ} → IsSized shares q limit beside homes keys_room free_room
-    → q'.slots ≡ q.slots → q'.window ≡ q.window → limit' ≡ limit → beside' ≡ beside → homes' ≡ homes → keys_room' ≡ keys_room → free_room' ≡ free_room
-    → IsSized shares q' limit' beside' homes' keys_room' free_room'
+pub sized-same : {shares : Shares} {q q' : QueueState} {limit limit' beside beside' homes homes' keys_room keys_room' free_room free_room' : ℕ}
+    → IsSized shares q limit beside homes keys_room free_room → q'.slots ≡ q.slots → q'.window ≡ q.window → limit' ≡ limit → beside' ≡ beside → homes' ≡ homes
+    → keys_room' ≡ keys_room → free_room' ≡ free_room → IsSized shares q' limit' beside' homes' keys_room' free_room'
 sized-same s slots window limit beside homes keys_room free_room = record {
   as_many = slots ∙ s.as_many;
   window = window ∙ s.window;
@@ -103,8 +92,7 @@ module _ {K V : Type 0} {eq : K → K → Bool} {hash : K → ℕ} {shares : Sha
   -- the slot that is picked is one where a queue has room
   is-free : {slot made : ℕ} → made ≡ length keys.entries → vacant_slot (reverse free) made (made + 1) ≡ Some slot → length q.small + length q.main < shares.capacity → IsFree slot
   is-free {slot} {made} is picked few =
-      let some = vacancy-there laws kept few in
-      let taken = vacancy-taken laws kept slot some (subst (λ z. vacant_slot (reverse free) z (z + 1) ≡ Some slot) is picked) in
+      let taken = vacancy-taken laws kept slot (vacancy-there laws kept few) (subst (λ z. vacant_slot (reverse free) z (z + 1) ≡ Some slot) is picked) in
       let v = vacant laws kept slot taken in
       let apart = or_parts (has slot (slots_of q.small)) (has slot (slots_of q.main)) (sym (has-append slot (slots_of q.small) (slots_of q.main)) ∙ v.absent) in
       record {
@@ -211,9 +199,7 @@ module _ {K V : Type 0} {eq : K → K → Bool} {hash : K → ℕ} {shares : Sha
         let s : with_keys_small (key_at keys'.entries) q1.small ≡ machine.small_admitted shares.window key slot m.small =
         small-admitted (key_at keys'.entries) q.window slot key q.small own ∙ ap (λ z. machine.small_admitted q.window key slot z) small_same
         ∙ ap (λ z. machine.small_admitted z key slot m.small) kept.sized.window in
-        let t = main_same in
-        let v = values in
-        let e : machine_of shares q1 keys'.entries h.entries free' ≡ stored slot w.held (into_small_at key (Some slot) None m).machine = cc in
+        let e : machine_of shares q1 keys'.entries h.entries free' ≡ stored slot w.held (into_small_at key (Some slot) None m).machine = cc (main_same, values) in
         rw queues (subst (λ p. IsDone slot value p q1 h index' keys' free' room') (sym (into-small key f.taken))
         (done q1 free' (placed-admitted eq m kept.whole key slot None f.taken some) refl free_room refl refl e
         (λ t. omega (arith, times-both t q1, times-admitted t q.window slot q.small, times-cons t slot (places_of q), times-both t q))
@@ -223,11 +209,9 @@ module _ {K V : Type 0} {eq : K → K → Bool} {hash : K → ℕ} {shares : Sha
         → reverse free' ≡ drop 1 (reverse free) → room' ≡ room → IsDone slot value (into_main key m) q' h index' keys' free' room'
     main-done {q'} {free'} {room'} some queues others free_room =
         let q1 : QueueState = record q { main = q.main ++ (slot, false) ∷ []; accesses = q'.accesses } in
-        let s = small_same in
         let t : with_keys_main (key_at keys'.entries) q1.main ≡ machine.behind_hand key slot m.main =
         main-behind (key_at keys'.entries) slot key q.main own ∙ ap (λ z. machine.behind_hand key slot z) main_same in
-        let v = values in
-        let e : machine_of shares q1 keys'.entries h.entries free' ≡ stored slot w.held (joining_main key (Some slot) m).machine = cc in
+        let e : machine_of shares q1 keys'.entries h.entries free' ≡ stored slot w.held (joining_main key (Some slot) m).machine = cc (small_same, values) in
         rw queues (subst (λ p. IsDone slot value p q1 h index' keys' free' room') (sym (into-main key f.taken some))
         (done q1 free' (placed-joining eq m kept.whole key slot f.taken some) refl free_room refl refl e
         (λ t. omega (arith, times-both t q1, times-pushed t q.main (slot, false), times-cons t slot (places_of q), times-both t q))

@@ -1,31 +1,10 @@
 -- What holds of a cache's fields goes on to hold where a key's history is erased or a value is replaced, and holds of a new cache.
 use Rattle.std.proofs.Common.{◌≡◌, ℕ, zero, suc, ◌<◌, ◌==◌, Bool, true, false, not, ◌||◌, ◌&&◌, eqb, Option, Some, None, slice_get, List, [], ◌∷◌, ◌++◌, map, length, reverse, inl, inr, refl, sym, ap, ◌∙◌, subst, arith, eqb-true, eq-eqb, ne_eqb}
-use Rattle.std.specs.Prelude.{nat_le, is_some, slice_set, IfSome}
-use Rattle.std.specs.Cmp.{IsEquivalence}
-use Rattle.std.specs.List.{filter, list_any, last_or, AllByRecursion}
-use Rattle.std.proofs.lemmas.Bool.{cases_Bool, both_ways}
-use Rattle.clock2q_machine.specs.Ages.{Age, is_promoted}
-use Rattle.clock2q_queues.specs.declared.keys.store.Entry.{Entry}
-use Rattle.clock2q_queues.specs.Rings.{has}
-use Rattle.clock2q_queues.proofs.Rings.{has_first, has_later, below-more}
-use Rattle.clock2q_queues.specs.Keys.{KeyPlaces, entry, written, hash_at, key_at, with_value}
-use Rattle.clock2q_queues.specs.Indexes.{IsIndex, HasHash}
-use Rattle.clock2q_handles.specs.Homes.{no_entries}
-use Rattle.clock2q_queues.specs.Queues.{QueueState, slots_of, tail_promoted}
-use Rattle.clock2q_queues.specs.History.{Remembered, forgotten, most_beside}
-use Rattle.clock2q_queues.proofs.Entries.{slice_get-written, slice_get-written_other, length-written, set-written, all-written, values-written, length-values}
-use Rattle.clock2q_queues.proofs.Indexes.{IsIndex-cleared, length-cleared, IsIndex-kept}
-use Rattle.clock2q_machine.specs.Shares.{Shares}
+use Rattle.clock2q_cache.proofs.Names.{nat_le, is_some, slice_set, IsEquivalence, filter, list_any, AllByRecursion, cases_Bool, both_ways, Entry, below-more, KeyPlaces, entry, written, hash_at, key_at, with_value, IsIndex, HasHash, no_entries, QueueState, slots_of, Remembered, most_beside, slice_get-written, slice_get-written_other, length-written, set-written, all-written, values-written, length-values, IsIndex-cleared, length-cleared, IsIndex-kept, Shares, Machine, stored, empty, vacancy, goes_to_main, IsWhole, machine_of, places_of, IsStored, IsSized, IsKept, some_is, whole-forgotten, all_resident, small_share, whole-changed, lasting-empty, All-from_recursion, recursion_from_All, All-filter, slice_get_some}
+use Rattle.clock2q_queues.specs.History.{forgotten}
 use Rattle.clock2q_machine.specs.Machine as cache
-use Rattle.clock2q_machine.specs.Machine.{Machine, stored, empty, vacancy, goes_to_main}
-use Rattle.clock2q_machine.specs.Whole.{IsWhole}
-use Rattle.clock2q_cache.specs.CacheFields.{machine_of, places_of, with_keys_small, with_keys_main, IsStored, IsSized, IsKept}
-use Rattle.clock2q_cache.proofs.WithKeys.{small_with, main_with, keys-agree, small-last}
-use Rattle.clock2q_cache.proofs.Insertions.{no_last}
-use Rattle.clock2q_cache.proofs.CacheInvariant.{length_in_small, sized-same}
-use Rattle.clock2q_cache.proofs.Slots.{small_have}
-use Rattle.clock2q_machine.proofs.Whole.{some_is, whole-forgotten, all_resident, small_share}
-use Rattle.clock2q_machine.proofs.MachineInvariant.{whole-changed, lasting-empty}
+use Rattle.clock2q_cache.proofs.WithKeys.{small_with, main_with, keys-agree}
+use Rattle.clock2q_cache.proofs.CacheInvariant.{sized-same}
 
 module _ {K : Type 0} (is : K → Bool) where
   pub known-any : (es : List (ℕ × K)) → list_any (λ (e : ℕ × K). is e.1) es ≡ list_any is (map (λ (e : ℕ × K). e.1) es)
@@ -40,11 +19,8 @@ module _ {K : Type 0} (is : K → Bool) where
   ]
 
   all-filtered : (P : ℕ × K → Type 0) (es : List (ℕ × K)) → AllByRecursion P es → AllByRecursion P (filter (λ (e : ℕ × K). not (is e.1)) es)
-  all-filtered P [] a = tt
-  all-filtered P (e ∷ es) a = elim (cases_Bool (is e.1)) [
-    | inl t ↦ rw t (all-filtered P es a.1)
-    | inr f ↦ rw f ((a.0, all-filtered P es a.1))
-  ]
+  all-filtered P es a =
+      recursion_from_All P (filter (λ (e : ℕ × K). not (is e.1)) es) (All-filter (λ (e : ℕ × K). not (is e.1)) P es (All-from_recursion P es a))
 
 hash-there : {K : Type 0} (eq : K → K → Bool) (hash : K → ℕ) (key : K) (hsh : ℕ) (es : List (ℕ × K))
     → ((x y : K) → eq x y ≡ true → hash x ≡ hash y) → hsh ≡ hash key → AllByRecursion (λ (e : ℕ × K). e.0 ≡ hash e.1) es → HasHash eq hsh key es
@@ -59,20 +35,10 @@ module _ {K V : Type 0} where
     pub written : with_value slot value es ≡ written slot (record entry { value = value }) es
 
   replaces : (slot : ℕ) (value : V) (es : List (Entry K V)) → slot < length es → Replaces slot value es
-  replaces slot value es below = of (slice_get es slot) refl
-    where
-      inside : (xs : List (Entry K V)) (s : ℕ) → None ≡ slice_get xs s → s < length xs → ⊥
-      inside [] s e h = omega arith
-      inside (x ∷ xs) zero e h = cc
-      inside (x ∷ xs) (suc s) e h = inside xs s e (omega arith)
-
-      of : (o : Option (Entry K V)) → slice_get es slot ≡ o → Replaces slot value es
-      of None is = absurd (inside es slot (sym is) below)
-      of (Some e) is = record {
-        entry = e;
-        at = is;
-        written = ap (λ z. elim z [ None ↦ es | Some e ↦ slice_set es slot (entry e.hash e.key value) ]) is ∙ set-written slot (record e { value = value }) es below;
-      }
+  replaces slot value es below =
+      let e = slice_get_some es slot below in
+      let is = ap (λ z. elim z [ None ↦ es | Some e ↦ slice_set es slot (entry e.hash e.key value) ]) e.1 in
+      record { entry = e.0; at = e.1; written = is ∙ set-written slot (record e.0 { value = value }) es below }
 
   -- nothing else of the entries changes
   entry-same : {Y : Type 0} (f : Option (Entry K V) → Y) (slot : ℕ) (value : V) (es : List (Entry K V)) (r : Replaces slot value es) → slot < length es
@@ -96,14 +62,6 @@ module _ {K V : Type 0} where
   all-at P (x ∷ xs) zero e a h = subst P (some_is x e h) a.0
   all-at P (x ∷ xs) (suc slot) e a h = all-at P xs slot e a.1 h
 
-tail-has_from : (t : ℕ) (x : ℕ × Age) (xs : List (ℕ × Age)) (a : Age) → last_or (Some x) xs ≡ Some (t, a) → has t (x.0 ∷ slots_of xs) ≡ true
-tail-has_from t x [] a l = subst (λ (z : ℕ × Age). has t (z.0 ∷ []) ≡ true) (sym (some_is x (t, a) l)) (has_first t [])
-tail-has_from t x (y ∷ xs) a l = has_later t x.0 (slots_of (y ∷ xs)) (tail-has_from t y xs a l)
-
-tail-has : (t : ℕ) (xs : List (ℕ × Age)) (a : Age) → last_or None xs ≡ Some (t, a) → has t (slots_of xs) ≡ true
-tail-has t [] a l = absurd (cc)
-tail-has t (x ∷ xs) a l = tail-has_from t x xs a l
-
 module _ {K V : Type 0} {eq : K → K → Bool} {hash : K → ℕ} {shares : Shares} {q : QueueState} {h : Remembered K} {index : List (List (ℕ × ℕ))} {keys : KeyPlaces K V} {free : List ℕ} {room : ℕ}
     (laws : IsEquivalence eq) (kept : IsKept eq hash shares q h index keys free room) where
   abbrev m : Machine K V
@@ -121,9 +79,7 @@ module _ {K V : Type 0} {eq : K → K → Bool} {hash : K → ℕ} {shares : Sha
   -- the key's history is erased
   module _ (key : K) (h' : Remembered K) (entries : h'.entries ≡ forgotten eq key h.entries) where
     pub forgotten-machine : machine_of shares q keys.entries h'.entries free ≡ cache.forgotten (eq key) m
-    forgotten-machine =
-        let r : map (λ (e : ℕ × K). e.1) h'.entries ≡ filter (λ k. not (eq key k)) m.history = ap (λ z. map (λ (e : ℕ × K). e.1) z) entries ∙ keys-filtered (eq key) h.entries in
-        cc
+    forgotten-machine = let r = ap (λ z. map (λ (e : ℕ × K). e.1) z) entries ∙ keys-filtered (eq key) h.entries in cc
 
     pub kept-forgotten : h'.limit ≡ h.limit → most_beside h' ≡ most_beside h → {index' : List (List (ℕ × ℕ))} → index' ≡ index → IsKept eq hash shares q h' index' keys free room
     kept-forgotten limit beside same = rw same (record {
@@ -146,10 +102,8 @@ module _ {K V : Type 0} {eq : K → K → Bool} {hash : K → ℕ} {shares : Sha
 
     pub replaced-machine : machine_of shares q (with_value slot value keys.entries) h.entries free ≡ stored slot value m
     replaced-machine =
-        let s : with_keys_small (key_at (with_value slot value keys.entries)) q.small ≡ m.small =
-        keys-agree small_with (key_at keys.entries) (key_at (with_value slot value keys.entries)) q.small (λ t g. key-same slot value keys.entries r made t) in
-        let t : with_keys_main (key_at (with_value slot value keys.entries)) q.main ≡ m.main =
-        keys-agree main_with (key_at keys.entries) (key_at (with_value slot value keys.entries)) q.main (λ t g. key-same slot value keys.entries r made t) in
+        let s = keys-agree small_with (key_at keys.entries) (key_at (with_value slot value keys.entries)) q.small (λ t g. key-same slot value keys.entries r made t) in
+        let t = keys-agree main_with (key_at keys.entries) (key_at (with_value slot value keys.entries)) q.main (λ t g. key-same slot value keys.entries r made t) in
         let v = ap (λ z. map (λ (e : Entry K V). e.value) z) r.written ∙ values-written slot (record r.entry { value = value }) keys.entries (omega (arith, made)) in
         cc
 
@@ -170,26 +124,14 @@ module _ {K V : Type 0} {eq : K → K → Bool} {hash : K → ℕ} {shares : Sha
       sized = sized-same kept.sized refl refl refl refl refl keys_room refl;
     }
 
-  -- whether Small's tail goes on
-  pub tail-tells : 0 < length m.small → (b : Bool) → b ≡ tail_promoted (last_or None q.small) → IfSome (last_or None m.small) (λ tail. b ≡ is_promoted tail.age)
-  tail-tells some b is = of (last_or None q.small) refl
-    where
-      of : (o : Option (ℕ × Age)) → last_or None q.small ≡ o → IfSome (last_or None m.small) (λ tail. b ≡ is_promoted tail.age)
-      of None none = absurd (no_last q.small (omega (arith, some, length_in_small laws kept)) none)
-      of (Some e) last =
-          let k = small_have laws kept e.0 (tail-has e.0 q.small e.1 last) in
-          let l = small-last (key_at keys.entries) q.small e k.0 (small_have laws kept) last k.1 in
-          rw l (is ∙ ap (λ z. tail_promoted z) last)
-
 module _ {K V : Type 0} where
   -- whether a key enters Main, where Small has a share and there is a vacancy
   pub admits : (m : Machine K V) (known : Bool) (share n : ℕ) → share ≡ m.shares.small → known ≡ false
       → (share ≡ 0 → ⊥) → is_some (vacancy m) ≡ true → n ≡ length m.small → nat_le share n ≡ goes_to_main known m
   admits m known share n at new some vacant is =
-      let share_some : (m.shares.small == 0) ≡ false = ne_eqb m.shares.small 0 (λ e. some (at ∙ e)) in
       ap (λ z. nat_le z n) at ∙ ap (λ z. nat_le m.shares.small z) is
       ∙ sym (ap (λ a. a || (m.shares.small == 0) || (is_some (vacancy m) && nat_le m.shares.small (length m.small))) new
-      ∙ ap (λ b. false || b || (is_some (vacancy m) && nat_le m.shares.small (length m.small))) share_some
+      ∙ ap (λ b. false || b || (is_some (vacancy m) && nat_le m.shares.small (length m.small))) (ne_eqb m.shares.small 0 (λ e. some (at ∙ e)))
       ∙ ap (λ v. false || false || (v && nat_le m.shares.small (length m.small))) vacant)
 
   -- a full cache has an entry in Small, where that has a share
@@ -229,13 +171,11 @@ module _ {K V : Type 0} where
       places = ap (λ z. slots_of z ++ slots_of q.main) small ∙ ap (λ z. slots_of z) main
 
       is : machine_of shares q keys.entries h.entries free ≡ empty shares
-      is =
-          let a : with_keys_small (key_at keys.entries) q.small ≡ [] = ap (λ z. with_keys_small (key_at keys.entries) z) small in
-          let b : with_keys_main (key_at keys.entries) q.main ≡ [] = ap (λ z. with_keys_main (key_at keys.entries) z) main in
-          let d : map (λ (e : ℕ × K). e.1) h.entries ≡ [] = ap (λ z. map (λ (e : ℕ × K). e.1) z) entries in
-          let e : reverse free ≡ [] = ap (λ (z : List ℕ). reverse z) none in
-          let f : map (λ (e : Entry K V). e.value) keys.entries ≡ [] = ap (λ z. map (λ (e : Entry K V). e.value) z) keyed in
-          cc
+      is = cc (
+        ap (λ z. map (λ (e : ℕ × K). e.1) z) entries,
+        ap (λ (z : List ℕ). reverse z) none,
+        ap (λ z. map (λ (e : Entry K V). e.value) z) keyed,
+      )
 
   -- a cache that is emptied
   pub kept-cleared : {eq : K → K → Bool} {hash : K → ℕ} {shares : Shares} {q q' : QueueState} {h h' : Remembered K} {index index' : List (List (ℕ × ℕ))} {keys keys' : KeyPlaces K V}

@@ -1,42 +1,29 @@
 -- A cache whose counts are brought to their bounds before a value of it is lent.
 use Rattle.std.proofs.Common.{◌≡◌, ℕ, ◌+◌, ◌-◌, Bool, refl, sym, ◌∙◌, arith}
+use Rattle.clock2q_cache.proofs.Names.{HashMembers, inspections_for, CacheState, cache_state, Put, most_links, most_keys, with_slot, Takes, Costs, Spends, accesses_for, alike, Machine, stored, known_with, put, slotted, stored_same}
 use Rattle.std.specs.declared.hash.Hasher as hasher
 use Rattle.std.specs.declared.hash.BuildHasher as builder
-use Rattle.std.specs.HashMap.Lent.{HashMembers}
-use Rattle.clock2q_machine.specs.Bounds.{inspections_for}
-use Rattle.clock2q_cache.specs.CacheState.{CacheState, cache_state}
-use Rattle.clock2q_machine.specs.Calls.{Put}
-use Rattle.clock2q_cache.specs.Charged.{most_links, most_keys, with_slot}
-use Rattle.clock2q_cache.specs.Closures.{Takes}
-use Rattle.clock2q_cache.specs.Costs.{Costs, Spends, accesses_for, alike}
-use Rattle.clock2q_machine.specs.Machine.{Machine, stored}
-use Rattle.clock2q_cache.specs.Places.{known_with}
-use Rattle.clock2q_machine.specs.Steps.{put, slotted}
-use Rattle.clock2q_machine.proofs.Storing.{stored_same}
 use Rattle.clock2q_cache.proofs.Spent.{costs-of}
 
-module _ {K V S H : Type 0} (key : HashMembers K) (build : builder.Ghosts S H) (hash : hasher.Ghosts H) (k : K) (made : V → Type 0) (old new : CacheState K V S) (slot : ℕ)
+module _ {K V S H : Type 0} (key : HashMembers K) (build : builder.Ghosts S H) (hash : hasher.Ghosts H) {k : K} {made : V → Type 0} {slot : ℕ} (old new : CacheState K V S)
     (taken : Takes (key.eq k) k made old.machine slot new.machine) (known : new.known ≡ known_with key build hash k old) (same : new.hasher ≡ old.hasher)
     (spent : Spends (inspections_for (key.eq k) old.machine) (accesses_for (key.eq k) old.machine) (alike key build hash k old) old.counts new.counts) where
   -- what the caller leaves behind the reference is then the key's value
-  pub lent : (links keys : ℕ) → links ≡ most_links key build hash k old → keys ≡ most_keys key build hash k old → (w : V)
+  pub lent : {links keys : ℕ} → links ≡ most_links key build hash k old → keys ≡ most_keys key build hash k old → (w : V)
       → cache_state (stored slot w new.machine) new.known new.hasher
       (record { inspections = new.counts.inspections; accesses = new.counts.accesses + (links - new.counts.accesses); questions = new.counts.questions + (keys - new.counts.questions) })
       ≡ with_slot key build hash k w old
-  lent links keys is_links is_keys w =
-      let machine = taken.writes w in
-      let looks = spent.inspections in
+  lent {links} {keys} is_links is_keys w =
       let links_are : new.counts.accesses + (links - new.counts.accesses) ≡ most_links key build hash k old = omega (arith, is_links, spent.accesses.1) in
       let keys_are : new.counts.questions + (keys - new.counts.questions) ≡ most_keys key build hash k old = omega (arith, is_keys, spent.questions.1) in
-      cc
+      cc (taken.writes w, spent.inspections)
 
 -- counts at their bounds are those of a put
-pub charged-costs : {K V S H : Type 0} (key : HashMembers K) (build : builder.Ghosts S H) (hash : hasher.Ghosts H) (k : K) (w : V) (old : CacheState K V S)
+pub charged-costs : {K V S H : Type 0} {key : HashMembers K} {build : builder.Ghosts S H} {hash : hasher.Ghosts H} {k : K} (w : V) (old : CacheState K V S)
     → Costs key build hash (Put k w) old (with_slot key build hash k w old)
-charged-costs key build hash k w old =
-    costs-of key build hash (Put k w) old (with_slot key build hash k w old) refl (record { inspections = refl; accesses = (omega arith, omega arith); questions = (omega arith, omega arith) })
+charged-costs w old = costs-of refl (record { inspections = refl; accesses = (omega arith, omega arith); questions = (omega arith, omega arith) })
 
 -- what was taken and is not written to is as it was taken
-pub unwritten : {K V : Type 0} (is : K → Bool) (key : K) (made : V → Type 0) (old new : Machine K V) (slot : ℕ) (t : Takes is key made old slot new)
+pub unwritten : {K V : Type 0} {is : K → Bool} {key : K} {made : V → Type 0} {old new : Machine K V} {slot : ℕ} (t : Takes is key made old slot new)
     → put is key t.value old ≡ slotted is key t.value old
-unwritten is key made old new slot t = sym (t.writes t.value) ∙ stored_same new slot t.value t.there ∙ t.becomes
+unwritten {new = new} {slot} t = sym (t.writes t.value) ∙ stored_same new slot t.value t.there ∙ t.becomes

@@ -1,21 +1,11 @@
 -- A key that is hit, or else inserted with a value that was made.
 use Rattle.std.proofs.Common.{◌≡◌, ℕ, Bool, Some, None, refl, sym, ap, ◌∙◌, subst}
-use Rattle.std.specs.Prelude.{is_some, if◌then◌else◌, slice_get}
-use Rattle.std.specs.Cmp.{IsEquivalence}
-use Rattle.std.specs.Option.{UnwrapsOrElse, option_and_then}
-use Rattle.clock2q_machine.specs.Machine.{Machine, slot_of, value_of, hit, inserted, placement}
-use Rattle.clock2q_machine.specs.Steps.{put, fetched, replaced_at}
-use Rattle.clock2q_machine.specs.Whole.{IsWhole}
-use Rattle.clock2q_cache.specs.Closures.{Fetches}
-use Rattle.clock2q_machine.proofs.MachineInvariant.{resident_made}
-use Rattle.clock2q_machine.proofs.Storing.{stored_again, stored_same}
-use Rattle.clock2q_machine.proofs.Standing.{get-within}
-use Rattle.clock2q_machine.proofs.Laws.{slot_at_most, inserted_value}
+use Rattle.clock2q_cache.proofs.Names.{is_some, if◌then◌else◌, slice_get, IsEquivalence, UnwrapsOrElse, option_and_then, Machine, slot_of, value_of, hit, inserted, placement, put, fetched, replaced_at, IsWhole, Fetches, resident_made, stored_again, stored_same, get-within, slot_at_most, inserted_value}
 
 -- so what was fetched and is not written to is as it was fetched
-pub unwritten : {K V : Type 0} (is : K → Bool) (key : K) (made : V → Type 0) (old new : Machine K V) (slot : ℕ) (f : Fetches is key made old slot new)
+pub unwritten : {K V : Type 0} {is : K → Bool} {key : K} {made : V → Type 0} {old new : Machine K V} {slot : ℕ} (f : Fetches is key made old slot new)
     → put is key f.value old ≡ fetched is key f.value old
-unwritten is key made old new slot f = sym (f.writes f.value) ∙ stored_same new slot f.value f.there ∙ f.becomes
+unwritten {new = new} {slot} f = sym (f.writes f.value) ∙ stored_same new slot f.value f.there ∙ f.becomes
 
 module _ {K V : Type 0} (eq : K → K → Bool) (laws : IsEquivalence eq) (m : Machine K V) (h : IsWhole eq m) (key : K) (made : V → Type 0) where
   pub hit-fetches : (slot : ℕ) → slot_of (eq key) m ≡ Some slot → Fetches (eq key) key made m slot (hit (eq key) m)

@@ -1,41 +1,13 @@
 -- Slots that were never made are made and free.
-use Rattle.clock2q_queues.proofs.Entries.{length-values}
-use Rattle.std.proofs.Common.{◌≡◌, ℕ, zero, suc, ◌+◌, ◌-◌, ◌<◌, Bool, true, Some, None, slice_get, List, [], ◌∷◌, ◌++◌, map, length, reverse, refl, sym, ap, ◌∙◌, subst, arith, length-append}
-use Rattle.std.specs.Cmp.{IsEquivalence}
-use Rattle.std.specs.Fn.{Mut, Called}
-use Rattle.std.specs.List.{FoldsTo, AllByRecursion, range_with_len}
-use Rattle.std.proofs.lemmas.List.{append-nil, append_assoc, map-append, reverse-append, reverse-reverse}
-use Rattle.clock2q_queues.proofs.Booleans.{or_true}
-use Rattle.clock2q_queues.specs.declared.keys.store.Entry.{Entry}
-use Rattle.clock2q_queues.specs.Rings.{has}
-use Rattle.clock2q_queues.specs.Keys.{KeyPlaces, entry, hash_at, key_at}
-use Rattle.clock2q_queues.specs.Queues.{QueueState, slots_of}
-use Rattle.clock2q_queues.specs.History.{Remembered}
-use Rattle.clock2q_queues.proofs.Rings.{has-append, below_of, below-has}
-use Rattle.clock2q_queues.proofs.Indexes.{IsIndex-kept}
-use Rattle.clock2q_cache.specs.Closures.{FillsUp}
-use Rattle.clock2q_machine.specs.Shares.{Shares}
-use Rattle.clock2q_machine.specs.Machine.{Machine, prefilled}
-use Rattle.clock2q_machine.specs.Whole.{IsWhole}
-use Rattle.clock2q_cache.specs.CacheFields.{machine_of, places_of, with_keys_small, with_keys_main, IsStored, IsKept}
+use Rattle.std.proofs.Common.{◌≡◌, ℕ, suc, ◌+◌, ◌-◌, ◌<◌, Bool, true, Option, Some, None, slice_get, List, [], ◌∷◌, ◌++◌, map, length, reverse, refl, sym, ap, ◌∙◌, subst, arith, length-append, ◌||◌}
+use Rattle.clock2q_cache.proofs.Names.{length-values, IsEquivalence, Mut, Called, FoldsTo, AllByRecursion, range_with_len, append-nil, append_assoc, map-append, reverse-append, reverse-reverse, or_true, Entry, has, KeyPlaces, entry, key_at, QueueState, slots_of, Remembered, has-append, below_of, below-has, IsIndex-kept, FillsUp, Shares, Machine, prefilled, IsWhole, machine_of, places_of, with_keys_small, with_keys_main, IsStored, IsKept, lasting-prefilled, get-append}
 use Rattle.clock2q_cache.proofs.WithKeys.{small_with, main_with, keys-agree}
 use Rattle.clock2q_cache.proofs.CacheInvariant.{sized-same}
-use Rattle.clock2q_machine.proofs.MachineInvariant.{lasting-prefilled}
-
--- Lists
-
-folds-more : {P X : Type 0} (R : P → X → P → Type 0) (p : P) (xs : List X) (q : P) (x : X) (last : P) → FoldsTo R p xs q → R q x last → FoldsTo R p (xs ++ x ∷ []) last
-folds-more R p [] q x last h r = (last, subst (λ z. R z x last) (sym h) r, refl)
-folds-more R p (y ∷ xs) q x last h r = (h.0, h.1, folds-more R h.0 xs q x last h.2 r)
+use Rattle.std.proofs.lemmas.Fn.{FoldsTo-push}
 
 all-append : {X : Type 0} (P : X → Type 0) (xs ys : List X) → AllByRecursion P xs → AllByRecursion P ys → AllByRecursion P (xs ++ ys)
 all-append P [] ys a b = b
 all-append P (x ∷ xs) ys a b = (a.0, all-append P xs ys a.1 b)
-
-get-append : {X : Type 0} (xs ys : List X) (n : ℕ) → n < length xs → slice_get (xs ++ ys) n ≡ slice_get xs n
-get-append [] ys n h = absurd (omega arith)
-get-append (x ∷ xs) ys zero h = refl
-get-append (x ∷ xs) ys (suc n) h = get-append xs ys n (omega arith)
 
 -- one slot more is freed, below the others
 pub freed-more : (free : List ℕ) (slot to : ℕ) → slot < to → (free ++ reverse (range_with_len (slot + 1) (to - (slot + 1)))) ++ slot ∷ [] ≡ free ++ reverse (range_with_len slot (to - slot))
@@ -56,23 +28,12 @@ module _ {F K V : Type 0} {g : Mut F Unit V} {f : F} {hash : K → ℕ} {old : L
     as_many = omega (arith, s.as_many, length-append s.added (entry h key value ∷ []));
     hashed = all-append (λ e. e.hash ≡ hash e.key) s.added (entry h key value ∷ []) s.hashed (is, tt);
     called = subst (λ z. FoldsTo (λ p value q. Called g p tt value q) f z last) (sym (map-append (λ (e : Entry K V). e.value) s.added (entry h key value ∷ [])))
-        (folds-more (λ p value q. Called g p tt value q) f (map (λ (e : Entry K V). e.value) s.added) p value last s.called called);
+        (FoldsTo-push (λ p value q. Called g p tt value q) f (map (λ (e : Entry K V). e.value) s.added) p value last s.called called);
   }
 
   -- as many as there are
   pub FillsUp-length : {n : ℕ} {now : List (Entry K V)} {p : F} → FillsUp g f hash n old now p → length now ≡ n
   FillsUp-length s = ap (λ (z : List (Entry K V)). length z) s.is ∙ length-append old s.added ∙ s.as_many
-
--- An index stays one where entries come behind its places.
-module _ {K V : Type 0} (entries added : List (Entry K V)) where
-  abbrev more : List (Entry K V)
-  more = entries ++ added
-
-  key-before : (t : ℕ) → t < length entries → key_at more t ≡ key_at entries t
-  key-before t h = ap (λ z. elim z [ None ↦ None | Some e ↦ Some e.key ]) (get-append entries added t h)
-
-  hash-before : (t : ℕ) → t < length entries → hash_at more t ≡ hash_at entries t
-  hash-before t h = ap (λ z. elim z [ None ↦ None | Some e ↦ Some e.hash ]) (get-append entries added t h)
 
 module _ {K V : Type 0} {eq : K → K → Bool} {hash : K → ℕ} {shares : Shares} {q : QueueState} {h : Remembered K} {index : List (List (ℕ × ℕ))} {keys : KeyPlaces K V} {free : List ℕ} {room : ℕ}
     (laws : IsEquivalence eq) (kept : IsKept eq hash shares q h index keys free room)
@@ -88,19 +49,20 @@ module _ {K V : Type 0} {eq : K → K → Bool} {hash : K → ℕ} {shares : Sha
   pub made-count : length m.values + length made ≡ shares.capacity
   made-count = omega (arith, as_many, length-values keys.entries, length-values added)
 
-  in_small : (t : ℕ) → has t (slots_of q.small) ≡ true → t < length keys.entries
-  in_small t g = below_of (length keys.entries) (places_of q) kept.stored.made t (has-append t (slots_of q.small) (slots_of q.main) ∙ rw g refl)
+  -- the entries that were there stand where they stood
+  before : {Y : Type 0} (f : Option (Entry K V) → Y) (t : ℕ) → has t (places_of q) ≡ true → f (slice_get (keys.entries ++ added) t) ≡ f (slice_get keys.entries t)
+  before f t g = ap f (get-append keys.entries added t (below_of (length keys.entries) (places_of q) kept.stored.made t g))
 
-  in_main : (t : ℕ) → has t (slots_of q.main) ≡ true → t < length keys.entries
-  in_main t g = below_of (length keys.entries) (places_of q) kept.stored.made t (has-append t (slots_of q.small) (slots_of q.main) ∙ rw g (or_true (has t (slots_of q.small))))
+  key-before : (t : ℕ) → (has t (slots_of q.small) || has t (slots_of q.main)) ≡ true → key_at (keys.entries ++ added) t ≡ key_at keys.entries t
+  key-before t g = before (λ z. elim z [ None ↦ None | Some e ↦ Some e.key ]) t (has-append t (slots_of q.small) (slots_of q.main) ∙ g)
 
   pub machine-prefilled : machine_of shares q keys'.entries h.entries free' ≡ prefilled made m
   machine-prefilled =
-      let s : with_keys_small (key_at keys'.entries) q.small ≡ m.small =
-      ap (λ z. with_keys_small (key_at z) q.small) is ∙ keys-agree small_with (key_at keys.entries) (key_at (keys.entries ++ added)) q.small (λ t g. key-before keys.entries added t (in_small t g)) in
-      let t : with_keys_main (key_at keys'.entries) q.main ≡ m.main =
-      ap (λ z. with_keys_main (key_at z) q.main) is ∙ keys-agree main_with (key_at keys.entries) (key_at (keys.entries ++ added)) q.main (λ t g. key-before keys.entries added t (in_main t g)) in
-      let v : map (λ (e : Entry K V). e.value) keys'.entries ≡ m.values ++ made = ap (λ z. map (λ (e : Entry K V). e.value) z) is ∙ map-append (λ (e : Entry K V). e.value) keys.entries added in
+      let s = ap (λ z. with_keys_small (key_at z) q.small) is
+      ∙ keys-agree small_with (key_at keys.entries) (key_at (keys.entries ++ added)) q.small (λ t g. key-before t (rw g refl)) in
+      let t = ap (λ z. with_keys_main (key_at z) q.main) is
+      ∙ keys-agree main_with (key_at keys.entries) (key_at (keys.entries ++ added)) q.main (λ t g. key-before t (rw g (or_true (has t (slots_of q.small))))) in
+      let v = ap (λ z. map (λ (e : Entry K V). e.value) z) is ∙ map-append (λ (e : Entry K V). e.value) keys.entries added in
       let n : shares.capacity - length keys.entries ≡ length made = omega (arith, as_many, length-values added) in
       let f : reverse free' ≡ range_with_len (length m.values) (length made) ++ reverse free =
       ap (λ z. reverse z) freed ∙ reverse-append free (reverse (range_with_len (length keys.entries) (shares.capacity - length keys.entries)))
@@ -113,8 +75,7 @@ module _ {K V : Type 0} {eq : K → K → Bool} {hash : K → ℕ} {shares : Sha
     whole = subst (IsWhole eq) (sym machine-prefilled) (lasting-prefilled eq laws made m (omega (arith, made-count)) kept.whole);
     stored = subst (λ z. IsStored hash index z (places_of q)) (sym is) (record {
       made = below-has (length (keys.entries ++ added)) (places_of q) (λ t g. omega (arith, below_of (length keys.entries) (places_of q) kept.stored.made t g, length-append keys.entries added));
-      indexed = IsIndex-kept index keys.entries (keys.entries ++ added) (places_of q)
-          (λ t g. hash-before keys.entries added t (below_of (length keys.entries) (places_of q) kept.stored.made t g)) kept.stored.indexed;
+      indexed = IsIndex-kept index keys.entries (keys.entries ++ added) (places_of q) (before (λ z. elim z [ None ↦ None | Some e ↦ Some e.hash ])) kept.stored.indexed;
       hashed = all-append (λ e. e.hash ≡ hash e.key) keys.entries added kept.stored.hashed hashed;
     });
     hashed = kept.hashed;

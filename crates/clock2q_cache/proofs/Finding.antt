@@ -1,46 +1,13 @@
 -- What a lookup through the index finds is the machine's slot of the key, and what a hit there makes of the machine.
 use Rattle.std.proofs.Common.{◌≡◌, ℕ, zero, suc, ◌+◌, ◌<◌, ◌≤◌, ◌⊎◌, Bool, true, false, ◌&&◌, cond, eqb, Option, Some, None, slice_get, List, [], ◌∷◌, ◌++◌, map, length, inl, inr, refl, sym, ap, ◌∙◌, subst, arith, eqb-true}
-use Rattle.std.specs.Prelude.{IfSome}
-use Rattle.std.specs.Cmp.{IsEquivalence}
-use Rattle.std.specs.Option.{option_map}
-use Rattle.std.specs.List.{count_by, find, list_any, cons_option, AllByRecursion}
-use Rattle.std.proofs.lemmas.Bool.{cases_Bool, both_ways, or_cases}
-use Rattle.std.proofs.lemmas.List.Sums.{sum_by-cons, sum_by-append}
-use Rattle.clock2q_handles.specs.Homes.{candidates}
-use Rattle.clock2q_queues.proofs.Booleans.{or_true}
-use Rattle.clock2q_machine.specs.Ages.{touched}
-use Rattle.clock2q_queues.proofs.SlotLists.{slots_of-hit}
-use Rattle.clock2q_queues.specs.declared.keys.store.Entry.{Entry}
-use Rattle.clock2q_queues.specs.Rings.{has}
-use Rattle.clock2q_queues.specs.Keys.{KeyPlaces, key_at, hashed_at, entries_of, is_key_at}
-use Rattle.clock2q_queues.specs.Indexes.{AllDistinct, HasHash}
-use Rattle.clock2q_queues.specs.Small.{small_hit_at}
-use Rattle.clock2q_queues.specs.MainRing.{main_hit_at}
-use Rattle.std.specs.Bool.{then_some}
-use Rattle.clock2q_queues.specs.Queues.{QueueState, slots_of}
+use Rattle.clock2q_cache.proofs.Names.{IfSome, IsEquivalence, option_map, count_by, find, list_any, cons_option, AllByRecursion, cases_Bool, both_ways, or_cases, sum_by-cons, sum_by-append, candidates, or_true, touched, slots_of-hit, Entry, has, KeyPlaces, key_at, hashed_at, entries_of, is_key_at, AllDistinct, HasHash, small_hit_at, main_hit_at, then_some, QueueState, slots_of, Remembered, place_of, found_slot, found_place, has-append, has_first, below_of, same_place, key_there, any_entry, length-values, lookup, found_there, not_found, Shares, SmallEntry, MainEntry, Machine, slot_of, hit, is_at, IsWhole, machine_of, places_of, with_keys_small, with_keys_main, IsStored, IsKept, whole-hit, some_is, candidates_there}
 use Rattle.clock2q_queues.specs.declared.history.Found.{Found}
-use Rattle.clock2q_queues.specs.History.{Remembered, place_of, found_slot, found_place}
-use Rattle.clock2q_queues.proofs.Rings.{has-append, has_first, has_later, below_of}
-use Rattle.clock2q_queues.proofs.Indexes.{candidate_there}
-use Rattle.clock2q_queues.proofs.Entries.{same_place, key_there, any_entry, length-values}
-use Rattle.clock2q_queues.proofs.Lookups.{lookup, found_there, not_found}
-use Rattle.clock2q_machine.specs.Shares.{Shares}
 use Rattle.clock2q_machine.specs.Entries as machine
-use Rattle.clock2q_machine.specs.Entries.{SmallEntry, MainEntry}
-use Rattle.clock2q_machine.specs.Machine.{Machine, slot_of, hit}
-use Rattle.clock2q_machine.specs.Steps.{is_at}
-use Rattle.clock2q_machine.specs.Whole.{IsWhole, known_count}
-use Rattle.clock2q_cache.specs.CacheFields.{machine_of, places_of, with_keys_small, with_keys_main, IsStored, IsKept}
 use Rattle.clock2q_cache.proofs.WithKeys.{HaveKeys, have_later, paired, paired-cons, small-hit, main-hit}
 use Rattle.clock2q_cache.proofs.Indexed.{residents-paired}
 use Rattle.clock2q_cache.proofs.Stored.{have_keys}
 use Rattle.clock2q_cache.proofs.CacheInvariant.{sized-same}
 use Rattle.clock2q_cache.proofs.Slots.{small_have, main_have}
-use Rattle.clock2q_machine.proofs.Whole.{whole-hit, some_is}
-
-pub all-has : (P : ℕ → Type 0) (xs : List ℕ) → ((t : ℕ) → has t xs ≡ true → P t) → AllByRecursion P xs
-all-has P [] h = tt
-all-has P (x ∷ xs) h = (h x (has_first x xs), all-has P xs (λ t g. h t (has_later t x xs g)))
 
 pub none-has : {X : Type 0} (is : X → Bool) (es : List X) → count_by is es ≡ 0 → list_any is es ≡ false
 none-has is [] h = refl
@@ -141,7 +108,7 @@ module _ {K V : Type 0} {eq : K → K → Bool} {hash : K → ℕ} {shares : Sha
 
   -- each candidate has a key
   pub candidates-there : (x : ℕ) → AllByRecursion (λ place. place < length keys.entries) (candidates index x)
-  candidates-there x = all-has (λ place. place < length keys.entries) (candidates index x) (λ t g. (candidate_there index keys.entries (places_of q) x t kept.stored.indexed g).1)
+  candidates-there x = candidates_there index keys.entries (places_of q) x kept.stored.indexed
 
   known_residents : (is : K → Bool) → count_by (λ (e : ℕ × K). is e.1) (entries_of keys.entries (places_of q)) ≤ count_by (λ e. is e.key) m.small + count_by (λ e. is e.key) m.main
   known_residents is = omega (
@@ -153,11 +120,8 @@ module _ {K V : Type 0} {eq : K → K → Bool} {hash : K → ℕ} {shares : Sha
     counted-map (λ (r : K × ℕ). is r.0) (λ (e : MainEntry K). (e.key, e.slot)) m.main,
   )
 
-  known_at : (is : K → Bool) → count_by (λ (e : ℕ × K). is e.1) (entries_of keys.entries (places_of q)) ≤ known_count is m
-  known_at is = omega (arith, known_residents is)
-
   pub distinct : AllDistinct eq (entries_of keys.entries (places_of q))
-  distinct = distinct-once eq laws (entries_of keys.entries (places_of q)) (λ k. omega (arith, known_at (eq k), kept.whole.keys_once k))
+  distinct = distinct-once eq laws (entries_of keys.entries (places_of q)) (λ k. omega (arith, known_residents (eq k), kept.whole.keys_once k))
 
   module _ (key : K) where
     slot-among : slot_of (eq key) m ≡ find (is_key_at eq key keys.entries) (places_of q)
@@ -216,11 +180,7 @@ module _ {K V : Type 0} {eq : K → K → Bool} {hash : K → ℕ} {shares : Sha
         of (Some p) some =
             let f = found-there p some in
             elim (cases_Bool (eqb p slot)) [
-              | inl e ↦
-                  let same : p ≡ slot = eqb-true p slot e in
-                  let a : has slot (places_of q) ≡ true = subst (λ z. has z (places_of q) ≡ true) same f.0 in
-                  let b : is_key_at eq key keys.entries slot ≡ true = subst (λ z. is_key_at eq key keys.entries z ≡ true) same f.1 in
-                  rw (e, a, b) refl
+              | inl e ↦ rw (e, rw (eqb-true p slot e) at f.0, rw (eqb-true p slot e) at f.1) refl
               | inr e ↦ e ∙ nothing (has slot (places_of q)) (is_key_at eq key keys.entries slot)
                   (λ there it. both_ways (eqb p slot) e (same_place eq laws key keys.entries (places_of q) distinct p slot f.0 there f.1 it))
             ]
@@ -229,9 +189,7 @@ module _ {K V : Type 0} {eq : K → K → Bool} {hash : K → ℕ} {shares : Sha
     at-places slot there = sym (at-slot slot ∙ rw there refl)
 
     pub not-at : (slot : ℕ) → has slot (places_of q) ≡ false → None ≡ then_some (is_at slot (slot_of (eq key) m)) slot
-    not-at slot absent =
-        let none : is_at slot (slot_of (eq key) m) ≡ false = at-slot slot ∙ rw absent refl in
-        sym (ap (λ b. then_some b slot) none)
+    not-at slot absent = sym (ap (λ b. then_some b slot) (at-slot slot ∙ ap (λ b. b && is_key_at eq key keys.entries slot) absent))
 
     pub past-all : (slot : ℕ) → length keys.entries ≤ slot → has slot (places_of q) ≡ false
     past-all slot past = elim (cases_Bool (has slot (places_of q))) [
@@ -255,9 +213,7 @@ module _ {K V : Type 0} {eq : K → K → Bool} {hash : K → ℕ} {shares : Sha
     module _ (slot : ℕ) (is : slot_of (eq key) m ≡ Some slot) where
       key-there : (k : K) (t : ℕ) → has t (places_of q) ≡ true → key_at keys.entries t ≡ Some k → eq key k ≡ eqb t slot
       key-there k t g at = elim (cases_Bool (eqb t slot)) [
-        | inl e ↦
-            let s : is_key_at eq key keys.entries t ≡ true = subst (λ z. is_key_at eq key keys.entries z ≡ true) (sym (eqb-true t slot e)) (found-there slot is).1 in
-            sym passed ∙ s ∙ sym e
+        | inl e ↦ sym passed ∙ subst (λ z. is_key_at eq key keys.entries z ≡ true) (sym (eqb-true t slot e)) (found-there slot is).1 ∙ sym e
         | inr e ↦ elim (cases_Bool (eq key k)) [
           | inl p ↦ absurd (both_ways (eqb t slot) e (same_place eq laws key keys.entries (places_of q) distinct t slot g (found-there slot is).0 (passed ∙ p) (found-there slot is).1))
           | inr p ↦ p ∙ sym e

@@ -1,24 +1,8 @@
 -- What stands in the index, in terms of the machine.
-use Rattle.clock2q_queues.proofs.Entries.{slice_get_some}
 use Rattle.std.proofs.Common.{◌≡◌, ℕ, suc, ◌≤◌, ◌==◌, Bool, true, false, ◌||◌, ◌&&◌, eqb, Option, Some, None, slice_get, List, [], ◌∷◌, map, length, inl, inr, refl, sym, ap, ◌∙◌, subst, arith, eqb-true}
-use Rattle.std.specs.List.{list_any, zip, cons_option, AllByRecursion}
-use Rattle.std.proofs.lemmas.Bool.{cases_Bool}
-use Rattle.std.proofs.lemmas.List.{length-map}
-use Rattle.std.specs.Cmp.{IsEquivalence}
-use Rattle.clock2q_queues.specs.declared.keys.store.Entry.{Entry}
-use Rattle.clock2q_queues.specs.Rings.{has, AllBelow}
-use Rattle.clock2q_queues.specs.Keys.{KeyPlaces, key_at, hash_at, hashed_at, entries_of}
-use Rattle.clock2q_queues.specs.Indexes.{IsIndex, is_named, is_alike}
+use Rattle.clock2q_cache.proofs.Names.{slice_get_some, list_any, zip, cons_option, AllByRecursion, cases_Bool, length-map, IsEquivalence, Entry, has, AllBelow, KeyPlaces, key_at, hash_at, hashed_at, entries_of, IsIndex, is_named, is_alike, QueueState, Remembered, IsWholeHistory, has_first, Shares, residents, machine_of, places_of, IsKept, HasPlaces, some_is}
 use Rattle.clock2q_queues.specs.Index as known
-use Rattle.clock2q_queues.specs.Queues.{QueueState}
-use Rattle.clock2q_queues.specs.History.{Remembered, IsWholeHistory}
-use Rattle.clock2q_queues.proofs.Rings.{has_first}
-use Rattle.clock2q_machine.specs.Shares.{Shares}
-use Rattle.clock2q_machine.specs.Machine.{residents}
-use Rattle.clock2q_cache.specs.CacheFields.{machine_of, places_of, IsKept}
-use Rattle.clock2q_cache.specs.Indexed.{HasPlaces}
 use Rattle.clock2q_cache.proofs.WithKeys.{HaveKeys, have_later, paired, paired-cons, residents-keyed}
-use Rattle.clock2q_machine.proofs.Whole.{some_is}
 use Rattle.clock2q_cache.proofs.Stored.{hash-of-key}
 use Rattle.clock2q_cache.proofs.Slots.{small_have, main_have}
 
@@ -144,11 +128,10 @@ module _ {K V : Type 0} {eq : K → K → Bool} {hash : K → ℕ} {shares : Sha
   pub remembers : IsWholeHistory eq h → Remembers
   remembers whole =
       let w = whole.indexed in
-      let taken = h.places.taken in
-      let t = told hash w.0 taken (ap (λ (z : List (ℕ × K)). length z) (sym w.1) ∙ w.2) (subst (λ z. AllByRecursion (λ (e : ℕ × K). e.0 ≡ hash e.1) z) w.1 kept.hashed) in
+      let t = told hash w.0 h.places.taken (ap (λ (z : List (ℕ × K)). length z) (sym w.1) ∙ w.2) (subst (λ z. AllByRecursion (λ (e : ℕ × K). e.0 ≡ hash e.1) z) w.1 kept.hashed) in
       record {
         as_many = sym w.2 ∙ sym (length-map h.entries (λ (e : ℕ × K). e.1));
         have =
-            subst (λ z. HasPlaces hash (known.places h.places.index) z) (sym (ap (λ (z : List (ℕ × K)). zip (map (λ (e : ℕ × K). e.1) z) taken) w.1 ∙ t.zipped))
-            (has-places hash w.0 (known.places h.places.index) taken t.stand w.3);
+            subst (λ z. HasPlaces hash (known.places h.places.index) z) (sym (ap (λ (z : List (ℕ × K)). zip (map (λ (e : ℕ × K). e.1) z) h.places.taken) w.1 ∙ t.zipped))
+            (has-places hash w.0 (known.places h.places.index) h.places.taken t.stand w.3);
       }

@@ -1,30 +1,8 @@
 -- What the insertion of a key spends.
 use Rattle.std.proofs.Common.{◌≡◌, ℕ, ◌+◌, ◌<◌, ◌≤◌, ◌==◌, Bool, true, false, not, ◌&&◌, List, [], ◌∷◌, length, Option, Some, None, refl, ap, sym, ◌∙◌, arith, eq-eqb, ne_eqb}
-use Rattle.std.specs.Prelude.{if◌then◌else◌, is_some, IfSome}
-use Rattle.std.specs.List.{list_any, last_or}
-use Rattle.std.specs.Cmp.{IsEquivalence}
+use Rattle.clock2q_cache.proofs.Names.{if◌then◌else◌, is_some, IfSome, list_any, last_or, IsEquivalence, KeyPlaces, key_at, inspections, QueueState, Entry, Remembered, Places, Age, is_promoted, last_some, none_is, Shares, main_share, SmallEntry, Machine, slot_of, vacancy, goes_to_main, forgotten, goes_on, takes_victim, inspections_for, placed_inspections, main_inspections, small_inspections, machine_of, IsKept, counts_of, Counts, Spends, accesses_for}
 use Rattle.clock2q_queues.specs.Cells.{Rises}
-use Rattle.clock2q_queues.specs.Keys.{KeyPlaces, key_at}
-use Rattle.clock2q_queues.specs.MainRing.{inspections}
-use Rattle.clock2q_queues.specs.Queues.{QueueState}
-use Rattle.clock2q_queues.specs.declared.keys.store.Entry.{Entry}
-use Rattle.clock2q_queues.specs.History.{Remembered, Places}
-use Rattle.std.specs.declared.hash.Hasher as hasher
-use Rattle.std.specs.declared.hash.BuildHasher as builder
-use Rattle.std.specs.HashMap.Lent.{HashMembers}
-use Rattle.clock2q_machine.specs.Ages.{Age, is_promoted}
-use Rattle.clock2q_machine.proofs.Whole.{last_some, none_is}
-use Rattle.clock2q_machine.specs.Shares.{Shares, main_share}
 use Rattle.clock2q_machine.specs.Entries as machine
-use Rattle.clock2q_machine.specs.Entries.{SmallEntry}
-use Rattle.clock2q_machine.specs.Machine.{Machine, slot_of, vacancy, goes_to_main, forgotten}
-use Rattle.clock2q_machine.specs.Bounds.{goes_on, takes_victim, inspections_for}
-use Rattle.clock2q_cache.specs.Insertions.{placed_inspections, main_inspections, small_inspections}
-use Rattle.clock2q_cache.specs.CacheFields.{machine_of, IsKept, counts_of}
-use Rattle.clock2q_handles.specs.Homes.{candidates}
-use Rattle.clock2q_cache.specs.CacheState.{CacheState, Counts, residents_in, remembered_in}
-use Rattle.clock2q_cache.specs.Hashes.{hash_of}
-use Rattle.clock2q_cache.specs.Costs.{Spends, accesses_for, alike}
 use Rattle.clock2q_cache.proofs.Spent.{spends-both, spends-more}
 use Rattle.clock2q_cache.proofs.WithKeys.{main-inspections}
 use Rattle.clock2q_cache.proofs.Slots.{main_have}
@@ -138,37 +116,16 @@ pub forgotten-spends : {looks : ℕ} {a b c : Counts} → Spends 0 7 0 a b → S
 forgotten-spends before after = spends-both before after (omega arith) (omega arith) (omega arith)
 
 -- A key is looked up, and is hit or inserted.
-module _ {K V S H : Type 0} (key : HashMembers K) (build : builder.Ghosts S H) (hash : hasher.Ghosts H)
-    (k : K) (old found : CacheState K V S) (kept : found ≡ record old { counts = found.counts }) (asked : Spends 0 0 (alike key build hash k old) old.counts found.counts) where
-  pub hit-spends : (slot : ℕ) → Some slot ≡ slot_of (key.eq k) old.machine → (new : Counts) → new ≡ found.counts
-      → Spends (inspections_for (key.eq k) old.machine) (accesses_for (key.eq k) old.machine) (alike key build hash k old) old.counts new
-  hit-spends slot there new is =
-      let none : inspections_for (key.eq k) old.machine ≡ 0 =
-      sym (ap (λ o. if is_some o then 0 else (if takes_victim (key.eq k) old.machine then machine.inspections old.machine.main else 0)) there) in
-      let no_link : accesses_for (key.eq k) old.machine ≡ 0 = sym (ap (λ o. if is_some o then 0 else inspections_for (key.eq k) old.machine + 36) there) in
-      rw (is, no_link, none) asked
+module _ {K V : Type 0} (is : K → Bool) (m : Machine K V) {r n : ℕ} {old found new : Counts} (asked : Spends 0 0 r old found) where
+  pub hit-spends : {slot : ℕ} → Some slot ≡ slot_of is m → new ≡ found → r ≤ n → Spends (inspections_for is m) (accesses_for is m) n old new
+  hit-spends there same few =
+      let none : inspections_for is m ≡ 0 = sym (ap (λ o. if is_some o then 0 else (if takes_victim is m then machine.inspections m.main else 0)) there) in
+      let no_link : accesses_for is m ≡ 0 = sym (ap (λ o. if is_some o then 0 else inspections_for is m + 36) there) in
+      rw (same, no_link, none) (spends-more asked (omega arith) few)
 
-  pub insert-spends : None ≡ slot_of (key.eq k) old.machine → (new : Counts)
-      → Spends (inspections_for (key.eq k) found.machine) (inspections_for (key.eq k) found.machine + 36) 0 found.counts new
-      → Spends (inspections_for (key.eq k) old.machine) (accesses_for (key.eq k) old.machine) (alike key build hash k old) old.counts new
-  insert-spends absent new spent =
-      let links : accesses_for (key.eq k) old.machine ≡ inspections_for (key.eq k) old.machine + 36 = sym (ap (λ o. if is_some o then 0 else inspections_for (key.eq k) old.machine + 36) absent) in
-      let looks = ap (λ (z : CacheState K V S). inspections_for (key.eq k) z.machine) kept in
-      spends-both asked spent (omega (arith, looks)) (omega (arith, looks, links)) (omega arith)
-
--- A key is looked up among the residents, and then in the history.
-module _ {K V S H : Type 0} (key : HashMembers K) (build : builder.Ghosts S H) (hash : hasher.Ghosts H) (k : K) (old : CacheState K V S) where
-  pub found-alike : {x : ℕ} (new : Counts) → x ≡ hash_of build hash old.hasher (key.hash_input k)
-      → Spends 0 0 (length (candidates (residents_in old.known) x)) old.counts new → Spends 0 0 (alike key build hash k old) old.counts new
-  found-alike new is asked = spends-more asked (omega arith) (rw is (omega arith))
-
-  pub absent-spends : {x : ℕ} (found : CacheState K V S) → found ≡ record old { counts = found.counts } → x ≡ hash_of build hash old.hasher (key.hash_input k)
-      → Spends 0 0 (length (candidates (residents_in old.known) x)) old.counts found.counts → None ≡ slot_of (key.eq k) old.machine → (new : Counts)
-      → Spends (inspections_for (key.eq k) found.machine) (inspections_for (key.eq k) found.machine + 36) (length (candidates (remembered_in found.known) x)) found.counts new
-      → Spends (inspections_for (key.eq k) old.machine) (accesses_for (key.eq k) old.machine) (alike key build hash k old) old.counts new
-  absent-spends {x} found kept is asked absent new spent =
-      let links : accesses_for (key.eq k) old.machine ≡ inspections_for (key.eq k) old.machine + 36 = sym (ap (λ o. if is_some o then 0 else inspections_for (key.eq k) old.machine + 36) absent) in
-      let looks = ap (λ (z : CacheState K V S). inspections_for (key.eq k) z.machine) kept in
-      let places = ap (λ (z : CacheState K V S). length (candidates (remembered_in z.known) x)) kept in
-      let all : length (candidates (residents_in old.known) x) + length (candidates (remembered_in old.known) x) ≤ alike key build hash k old = rw is (omega arith) in
-      spends-both asked spent (omega (arith, looks)) (omega (arith, looks, links)) (omega (arith, places, all))
+  pub insert-spends : {m1 : Machine K V} {p : ℕ} → None ≡ slot_of is m → m1 ≡ m
+      → Spends (inspections_for is m1) (inspections_for is m1 + 36) p found new → r + p ≤ n → Spends (inspections_for is m) (accesses_for is m) n old new
+  insert-spends absent same spent few =
+      let links : accesses_for is m ≡ inspections_for is m + 36 = sym (ap (λ o. if is_some o then 0 else inspections_for is m + 36) absent) in
+      let looks = ap (λ z. inspections_for is z) same in
+      spends-both asked spent (omega (arith, looks)) (omega (arith, looks, links)) few

@@ -8,6 +8,7 @@ pub mod Indexed
 pub mod Insertions
 pub mod Makers
 pub mod Making
+pub mod Names
 pub mod Places
 pub mod Renewed
 pub mod Retained

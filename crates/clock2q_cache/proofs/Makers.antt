@@ -1,9 +1,7 @@
 -- A closure may be called so often in turn where what it needs lasts through its calls.
 use Rattle.std.proofs.Common.{◌≡◌, ℕ, zero, suc, ◌+◌, ◌-◌, ◌<◌, [], ◌∷◌, length, refl, subst, arith}
-use Rattle.std.specs.Fn.{Mut, Called, Takes}
-use denote.Param.Always.{always_mut, mut_next}
-use Rattle.clock2q_machine.specs.Machine.{Machine}
-use Rattle.clock2q_cache.specs.Makers.{TakesTimes, MayMake}
+use Rattle.clock2q_cache.proofs.Names.{Mut, Called, always_mut, mut_next, Machine, TakesTimes, MayMake}
+use Rattle.std.specs.Fn.{Takes}
 
 module _ {F V : Type 0} (g : Mut F Unit V) where
   times_by : (I : F → Type 0) (takes : (f : F) → I f → Takes g f tt) (keeps : (f : F) (value : V) (next : F) → I f → Called g f tt value next → I next)

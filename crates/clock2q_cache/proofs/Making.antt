@@ -1,27 +1,8 @@
 -- Where a key that is placed makes a slot, and where it finds the value of one.
 use Rattle.std.proofs.Common.{◌≡◌, ℕ, ◌<◌, ◌==◌, Bool, true, false, not, ◌&&◌, List, [], ◌∷◌, length, inl, inr, Option, Some, None, refl, sym, ap, ◌∙◌, subst, arith, eq-eqb, eqb-true, ne_eqb}
-use Rattle.std.specs.Prelude.{if◌then◌else◌, nat_lt, is_some, slice_get, IfSome, IfNone}
-use Rattle.std.specs.Cmp.{IsEquivalence}
-use Rattle.std.specs.List.{count_by, last_or}
-use Rattle.std.specs.Option.{UnwrapsOrElse}
-use Rattle.std.proofs.lemmas.Bool.{cases_lt, lt-ltb, le-ltb, eqb-false, ltb-true, ltb-false}
-use Rattle.std.proofs.lemmas.Option.{slice_get_within, slice_get_past}
-use Rattle.std.proofs.lemmas.List.Sums.{sum_by-cons}
-use Rattle.clock2q_queues.proofs.Booleans.{and_true, and_false}
-use Rattle.clock2q_machine.specs.Shares.{main_share}
-use Rattle.clock2q_machine.specs.Entries.{MainEntry, from_victim}
-use Rattle.clock2q_machine.specs.Machine.{Machine, Placement, vacancy, vacant_slot, goes_to_main, into_main, into_small, into_small_at, joining_main, replacing_victim, placement, forgotten, slot_of, stored, reused, inserted, hit}
-use Rattle.clock2q_machine.specs.Steps.{slotted_at, fetched_value, replaced_at}
-use Rattle.clock2q_machine.specs.Whole.{IsWhole}
-use Rattle.clock2q_cache.specs.Closures.{Reuses, Takes}
-use Rattle.clock2q_cache.specs.Insertions.{IsValueFor, Fills, placed, next_is_vacant, makes_slot}
-use Rattle.clock2q_machine.proofs.Whole.{one_if, some_is, none_is, stands_made, victim_made, no_vacancy, all_resident, placed-main, placed-small}
-use Rattle.clock2q_machine.proofs.Weights.{length-from_victim}
-use Rattle.clock2q_machine.proofs.MachineInvariant.{resident_made}
-use Rattle.clock2q_machine.proofs.Standing.{get-within}
-use Rattle.clock2q_machine.proofs.Laws.{slot_at_most, reused_value}
+use Rattle.clock2q_cache.proofs.Names.{if◌then◌else◌, nat_lt, is_some, slice_get, IfSome, IfNone, IsEquivalence, count_by, last_or, UnwrapsOrElse, cases_lt, lt-ltb, le-ltb, eqb-false, ltb-true, ltb-false, slice_get_within, slice_get_past, sum_by-cons, and_true, and_false, main_share, MainEntry, Machine, Placement, vacancy, vacant_slot, goes_to_main, into_main, into_small, into_small_at, joining_main, replacing_victim, placement, forgotten, slot_of, stored, reused, inserted, hit, slotted_at, fetched_value, replaced_at, IsWhole, Reuses, Takes, IsValueFor, Fills, placed, next_is_vacant, makes_slot, one_if, some_is, none_is, stands_made, victim_made, no_vacancy, all_resident, placed-main, placed-small, length-from_victim, resident_made, get-within, slot_at_most, reused_value, stored_again, stored_same}
+use Rattle.clock2q_machine.specs.Entries.{from_victim}
 use Rattle.clock2q_cache.proofs.Insertions.{IsSent, goes-there}
-use Rattle.clock2q_machine.proofs.Storing.{stored_again, stored_same}
 
 module _ {K V : Type 0} (eq : K → K → Bool) (m : Machine K V) (h : IsWhole eq m) where
   -- the vacancy is a new slot where none is free

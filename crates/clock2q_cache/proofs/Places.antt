@@ -1,22 +1,7 @@
 -- Which resident stands at a slot, and what an insertion makes of the index.
 use Rattle.std.proofs.Common.{◌≡◌, ℕ, ◌==◌, Bool, true, false, eqb, Option, Some, None, List, [], ◌∷◌, map, inl, inr, refl, sym, ap, ◌∙◌, eqb-true, eq-eqb}
-use Rattle.std.specs.List.{find, last_or, AllByRecursion}
-use Rattle.std.specs.Cmp.{IsEquivalence}
-use Rattle.std.proofs.lemmas.Bool.{cases_Bool}
-use Rattle.clock2q_queues.specs.Rings.{has}
-use Rattle.clock2q_queues.specs.Keys.{KeyPlaces, key_at, hash_at}
-use Rattle.clock2q_queues.specs.Queues.{QueueState, slots_of}
-use Rattle.clock2q_queues.specs.History.{Remembered, Places, oldest_hash, pushed_places}
-use Rattle.clock2q_queues.proofs.Rings.{has_first, eqb_swap}
-use Rattle.clock2q_machine.specs.Shares.{Shares, history_share}
-use Rattle.clock2q_machine.specs.Machine.{Machine, resident_at}
-use Rattle.clock2q_cache.specs.CacheFields.{machine_of, places_of, IsKept}
-use Rattle.std.specs.Prelude.{if◌then◌else◌, IfSome}
-use Rattle.std.specs.Option.{option_map}
-use Rattle.clock2q_machine.specs.Ages.{is_promoted}
-use Rattle.clock2q_machine.specs.Entries.{SmallEntry}
+use Rattle.clock2q_cache.proofs.Names.{find, last_or, AllByRecursion, IsEquivalence, cases_Bool, has, KeyPlaces, key_at, hash_at, QueueState, slots_of, Remembered, Places, oldest_hash, pushed_places, has_first, eqb_swap, Shares, history_share, Machine, resident_at, machine_of, places_of, IsKept, if◌then◌else◌, IfSome, option_map, is_promoted, SmallEntry, remembering, left_by, entered, key_out}
 use Rattle.clock2q_queues.specs.Index as known
-use Rattle.clock2q_cache.specs.Places.{remembering, left_by, entered, key_out}
 use Rattle.clock2q_cache.proofs.WithKeys.{HaveKeys, have_later, paired, paired-cons}
 use Rattle.clock2q_cache.proofs.Stored.{have_keys, hash-of-key}
 use Rattle.clock2q_cache.proofs.Renewed.{last_entry, tail_key}

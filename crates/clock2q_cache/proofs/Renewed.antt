@@ -1,39 +1,14 @@
 -- A key that takes the slot of another: Main's victim's, or that of Small's tail.
-use Rattle.clock2q_queues.proofs.Entries.{key_at-own, key_at-others, values-written, length-values}
-use Rattle.std.proofs.Common.{◌≡◌, ℕ, zero, suc, ◌+◌, ◌-◌, ◌^◌, ◌<◌, ◌≤◌, ◌==◌, Bool, true, false, cond, eqb, Option, Some, None, List, [], ◌∷◌, ◌++◌, map, length, take, drop, refl, sym, ap, ◌∙◌, subst, arith, eq-eqb, length-append}
-use Rattle.std.specs.Prelude.{if◌then◌else◌, slice_get, IfSome}
-use Rattle.std.specs.Cmp.{IsEquivalence}
-use Rattle.std.specs.List.{last_or, AllByRecursion}
-use Rattle.std.proofs.lemmas.List.{take-map, length-map, take-append-drop}
-use Rattle.clock2q_queues.proofs.SlotLists.{slots_of-append, slots_of-mapped}
+use Rattle.std.proofs.Common.{◌≡◌, ℕ, suc, ◌+◌, ◌-◌, ◌^◌, ◌<◌, ◌≤◌, ◌==◌, Bool, true, false, cond, eqb, Option, Some, None, List, [], ◌∷◌, ◌++◌, map, length, take, drop, refl, sym, ap, ◌∙◌, subst, arith, eq-eqb, length-append}
+use Rattle.clock2q_cache.proofs.Names.{key_at-own, key_at-others, values-written, length-values, if◌then◌else◌, slice_get, IfSome, IsEquivalence, last_or, AllByRecursion, take-map, length-map, take-append-drop, slots_of-append, slots_of-mapped, sum_by-append, total, capacity, with_handle, removed, Age, is_promoted, has, AllApart, KeyPlaces, entry, hash_at, key_at, IsIndex, admitted, set_front, from_victim, QueueState, slots_of, Remembered, is_remembered, most_beside, has-append, eqb_self, has_first, below_of, length-put, length-taken, Shares, main_share, history_share, SmallEntry, MainEntry, Machine, Placement, vacancy, into_main, into_small, into_small_at, joining_main, replacing_victim, evicting_tail, promoting_tail, stored, known_count, machine_of, places_of, with_keys_small, with_keys_main, IsStored, IsKept, Writes, IsPlaced, some_is, placed-replacing, placed-evicting, placed-promoting, weight-last, All-from_recursion, recursion_from_All, All-take, tail_promoted}
 use Rattle.clock2q_cache.proofs.Changed.{known-any}
 use Rattle.clock2q_cache.proofs.Finding.{none-has, counted-map}
 use Rattle.clock2q_cache.proofs.Insertions.{no_last}
-use Rattle.std.proofs.lemmas.List.Sums.{sum_by-append}
-use Rattle.clock2q_handles.specs.Homes.{total, capacity, with_handle, removed}
-use Rattle.clock2q_machine.specs.Ages.{Age, is_promoted}
-use Rattle.clock2q_queues.specs.Rings.{has, AllApart}
-use Rattle.clock2q_queues.specs.Keys.{KeyPlaces, entry, hash_at, key_at}
-use Rattle.clock2q_queues.specs.Indexes.{IsIndex}
-use Rattle.clock2q_queues.specs.Small.{admitted}
-use Rattle.clock2q_queues.specs.MainRing.{set_front, from_victim}
-use Rattle.clock2q_queues.specs.Queues.{QueueState, slots_of}
-use Rattle.clock2q_queues.specs.History.{Remembered, is_remembered, most_beside}
-use Rattle.clock2q_queues.proofs.Rings.{has-append, eqb_self, has_first, below_of}
-use Rattle.clock2q_queues.proofs.Indexes.{length-put, length-taken}
-use Rattle.clock2q_machine.specs.Shares.{Shares, main_share, history_share}
 use Rattle.clock2q_machine.specs.Entries as machine
-use Rattle.clock2q_machine.specs.Entries.{SmallEntry, MainEntry}
-use Rattle.clock2q_machine.specs.Machine.{Machine, Placement, vacancy, into_main, into_small, into_small_at, joining_main, replacing_victim, evicting_tail, promoting_tail, stored}
-use Rattle.clock2q_machine.specs.Whole.{known_count}
-use Rattle.clock2q_cache.specs.CacheFields.{machine_of, places_of, with_keys_small, with_keys_main, IsStored, IsKept}
 use Rattle.clock2q_cache.proofs.WithKeys.{keys-cons, small-admitted, main-behind, small_with, main_with, keys-agree, small-take, small-last, main-from_victim}
 use Rattle.clock2q_cache.proofs.Stored.{stored-renewed, hash-of-key}
 use Rattle.clock2q_cache.proofs.Slots.{small_have, main_have, apart, times, times-cons, times-none, has-times, times-both, times-pushed, times-admitted, length-admitted, stored-moved, at_most_once, length-places, length-swept}
 use Rattle.clock2q_cache.proofs.CacheInvariant.{length_in_small, length_in_main, index_some, IsDone, placed-done, sized-same}
-use Rattle.clock2q_cache.specs.Insertions.{Writes}
-use Rattle.clock2q_machine.proofs.Whole.{IsPlaced, some_is, placed-replacing, placed-evicting, placed-promoting}
-use Rattle.clock2q_machine.proofs.Weights.{weight-last}
 
 -- Lists
 
@@ -63,11 +38,6 @@ times-split t n main =
 some-last : {X : Type 0} (xs : List X) (x : X) → last_or None xs ≡ Some x → 0 < length xs
 some-last [] x e = absurd (cc)
 some-last (y ∷ xs) x e = omega arith
-
-pub all-taken : {E : Type 0} (P : E → Type 0) (n : ℕ) (es : List E) → AllByRecursion P es → AllByRecursion P (take n es)
-all-taken P zero es a = tt
-all-taken P (suc n) [] a = tt
-all-taken P (suc n) (e ∷ es) a = (a.0, all-taken P n es a.1)
 
 pub no-tail : {X : Type 0} (xs : List (ℕ × X)) → 0 < length xs → None ≡ last_or None (slots_of xs) → ⊥
 no-tail xs some none = no_last (slots_of xs) (omega (arith, some, length-map xs (λ e. e.0))) (sym none)
@@ -227,6 +197,14 @@ module _ {K V : Type 0} {eq : K → K → Bool} {hash : K → ℕ} {shares : Sha
     into-tail : (key : K) → vacancy m ≡ None → into_small key m ≡ onto key (is_promoted tail_at.0)
     into-tail key none = ap (λ z. into_small_at key z (last_or None m.small) m) none ∙ ap (λ z. into_small_at key None z m) last_entry
 
+  -- whether Small's tail goes on
+  pub tail-tells : 0 < length m.small → (b : Bool) → b ≡ tail_promoted (last_or None q.small) → IfSome (last_or None m.small) (λ tail. b ≡ is_promoted tail.age)
+  tail-tells some b is = of (last_or None (slots_of q.small)) refl
+    where
+      of : (o : Option ℕ) → last_or None (slots_of q.small) ≡ o → IfSome (last_or None m.small) (λ tail. b ≡ is_promoted tail.age)
+      of None none = absurd (no-tail q.small (omega (arith, some, length_in_small laws kept)) (sym none))
+      of (Some tail) last = rw (last_entry tail last) (is ∙ ap (λ z. tail_promoted z) (tail_at tail last).1)
+
   -- a key takes a resident's slot
   module _ {key : K} {value : Option V} {hsh slot old n : ℕ} {index' : List (List (ℕ × ℕ))} {keys' : KeyPlaces K V} (is : hsh ≡ hash key) (absent : known_count (eq key) m ≡ 0)
       (there : has slot (places_of q) ≡ true) (at : hash_at keys.entries slot ≡ Some old) (indexed : index' ≡ with_handle (removed eqb index old slot) hsh slot)
@@ -252,8 +230,8 @@ module _ {K V : Type 0} {eq : K → K → Bool} {hash : K → ℕ} {shares : Sha
     values : map (λ e. e.value) keys'.entries ≡ (stored slot w.held m).values
     values = rw w.becomes (values-written slot (entry hsh key w.held) keys.entries next)
 
-    done : {p : Placement K V} {h' : Remembered K} (q' : QueueState) → IsPlaced key m p → slot ≡ p.slot → q'.slots ≡ q.slots → q'.window ≡ q.window → h'.limit ≡ h.limit → most_beside h' ≡ most_beside h
-        → machine_of shares q' keys'.entries h'.entries free ≡ stored p.slot w.held p.machine → AllByRecursion (λ e. e.0 ≡ hash e.1) h'.entries
+    done : {p : Placement K V} {h' : Remembered K} (q' : QueueState) → IsPlaced key m p → slot ≡ p.slot → q'.slots ≡ q.slots → q'.window ≡ q.window
+        → h'.limit ≡ h.limit → most_beside h' ≡ most_beside h → machine_of shares q' keys'.entries h'.entries free ≡ stored p.slot w.held p.machine → AllByRecursion (λ e. e.0 ≡ hash e.1) h'.entries
         → ((t : ℕ) → times t (places_of q') ≡ times t (places_of q)) → length q'.small + length q'.main ≡ length q.small + length q.main
         → IsDone laws kept slot value p q' h' index' keys' free room
     done q' placed own_slot slots window limit beside e hashed as_often as_many =
@@ -275,12 +253,10 @@ module _ {K V : Type 0} {eq : K → K → Bool} {hash : K → ℕ} {shares : Sha
         → IsDone laws kept slot value (into_main key m) q' h index' keys' free room
     replaced-done {q'} {looks} first full queues =
         let q1 : QueueState = record q { main = rest slot first ++ (slot, false) ∷ []; accesses = q'.accesses; inspections = looks } in
-        let s = small_other q.small (victim-not_in_small slot first) in
         let t : with_keys_main (key_at keys'.entries) q1.main ≡ machine.behind_hand key slot (others slot first) =
         main-behind (key_at keys'.entries) slot key (rest slot first) own ∙ ap (λ z. machine.behind_hand key slot z) (main_other (rest slot first) (victim-not_in_rest slot first)) in
-        let v = values in
         let p = replacing_victim key (victim_entry slot first ∷ others slot first) m in
-        let e : machine_of shares q1 keys'.entries h.entries free ≡ stored p.slot w.held p.machine = cc in
+        let e : machine_of shares q1 keys'.entries h.entries free ≡ stored p.slot w.held p.machine = cc (small_other q.small (victim-not_in_small slot first), values) in
         let is_p : into_main key m ≡ p =
         ap (λ b. if b then replacing_victim key (machine.from_victim m.main) m else joining_main key (vacancy m) m) (eq-eqb (length m.main) (main_share shares) full)
         ∙ ap (λ z. replacing_victim key z m) (choice slot first) in
@@ -299,19 +275,17 @@ module _ {K V : Type 0} {eq : K → K → Bool} {hash : K → ℕ} {shares : Sha
         let q1 : QueueState = record q { small = admitted q.window slot (front slot last); accesses = q'.accesses } in
         let h1 : Remembered K = record h { entries = take h.limit ((old, old_key) ∷ h.entries); places = h'.places; accesses = h'.accesses } in
         let beside : most_beside h1 ≡ most_beside h = sym (ap (λ (z : Remembered K). most_beside z) pushed) ∙ beside_is in
-        let s : with_keys_small (key_at keys'.entries) q1.small ≡ machine.small_admitted shares.window key slot (take (length m.small - 1) m.small) =
-        small_joined slot last (tail-not_in_front slot last) in
-        let t = main_other q.main (tail-not_in_main slot last) in
         let r : map (λ (e : ℕ × K). e.1) h1.entries ≡ take (history_share shares) ((tail_key slot last).0 ∷ m.history) =
         sym (take-map (λ (e : ℕ × K). e.1) h.limit ((old, old_key) ∷ h.entries)) ∙ ap (λ n. take n (old_key ∷ m.history)) kept.sized.remembers
         ∙ ap (λ z. take (history_share shares) (z ∷ m.history)) (sym (tail_is slot last old_key key_is)) in
-        let v = values in
         let p = evicting_tail key (tail_entry slot last) m in
-        let e : machine_of shares q1 keys'.entries h1.entries free ≡ stored p.slot w.held p.machine = cc in
+        let e : machine_of shares q1 keys'.entries h1.entries free ≡ stored p.slot w.held p.machine =
+        cc (small_joined slot last (tail-not_in_front slot last), main_other q.main (tail-not_in_main slot last), values) in
         let out' : is_promoted (tail_at slot last).0 ≡ false = subst (λ z. IfSome z (λ tail. is_promoted tail.age ≡ false)) (last_entry slot last) out in
         rw (queues, pushed) (subst (λ z. IsDone laws kept slot value z q1 h1 index' keys' free room) (sym (into-tail slot last key none ∙ ap (λ b. onto slot last key b) out'))
         (done q1 (placed-evicting eq m kept.whole key (tail_entry slot last) (last_entry slot last) (small_some slot last)) refl refl refl refl beside e
-        (all-taken (λ e. e.0 ≡ hash e.1) h.limit ((old, old_key) ∷ h.entries) (hash-of-key hash keys.entries slot old old_key kept.stored.hashed at key_is, kept.hashed))
+        (recursion_from_All (λ e. e.0 ≡ hash e.1) h1.entries (All-take (λ e. e.0 ≡ hash e.1) h.limit ((old, old_key) ∷ h.entries)
+        (All-from_recursion (λ e. e.0 ≡ hash e.1) ((old, old_key) ∷ h.entries) (hash-of-key hash keys.entries slot old old_key kept.stored.hashed at key_is, kept.hashed))))
         (λ u. omega (arith, times-both u q1, times-admitted u q.window slot (front slot last), front_times slot last u, times-both u q))
         (omega (arith, length-admitted q.window slot (front slot last), length-front slot last))))
 
@@ -322,16 +296,13 @@ module _ {K V : Type 0} {eq : K → K → Bool} {hash : K → ℕ} {shares : Sha
         → IsDone laws kept slot value (into_small key m) q' h index' keys' free room
     promoted-done {q'} {tail} {looks} last first none on queues =
         let q1 : QueueState = record q { small = admitted q.window slot (front tail last); main = rest slot first ++ (tail, false) ∷ []; accesses = q'.accesses; inspections = looks } in
-        let s : with_keys_small (key_at keys'.entries) q1.small ≡ machine.small_admitted shares.window key slot (take (length m.small - 1) m.small) =
-        small_joined tail last (victim-not_in_front tail last slot first) in
         let tail_kept : key_at keys'.entries tail ≡ Some (tail_key tail last).0 =
         others_keep (slots_of q.small) (victim-not_in_small slot first) tail (tail-there_in_small tail last) ∙ (tail_key tail last).1 in
         let t : with_keys_main (key_at keys'.entries) q1.main ≡ machine.behind_hand (tail_key tail last).0 tail (others slot first) =
         main-behind (key_at keys'.entries) tail (tail_key tail last).0 (rest slot first) tail_kept
         ∙ ap (λ z. machine.behind_hand (tail_key tail last).0 tail z) (main_other (rest slot first) (victim-not_in_rest slot first)) in
-        let v = values in
         let p = promoting_tail key (tail_entry tail last) (victim_entry slot first ∷ others slot first) m in
-        let e : machine_of shares q1 keys'.entries h.entries free ≡ stored p.slot w.held p.machine = cc in
+        let e : machine_of shares q1 keys'.entries h.entries free ≡ stored p.slot w.held p.machine = cc (small_joined tail last (victim-not_in_front tail last slot first), values) in
         let on' : is_promoted (tail_at tail last).0 ≡ true = subst (λ z. IfSome z (λ tail. is_promoted tail.age ≡ true)) (last_entry tail last) on in
         let is_p = into-tail tail last key none ∙ ap (λ b. onto tail last key b) on' ∙ ap (λ z. promoting_tail key (tail_entry tail last) z m) (choice slot first) in
         rw queues (subst (λ z. IsDone laws kept slot value z q1 h index' keys' free room) (sym is_p)

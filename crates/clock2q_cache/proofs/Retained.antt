@@ -1,19 +1,9 @@
 -- The residents of the first slots were asked, and those that were refused left: one slot more, until all were asked.
 use Rattle.std.proofs.Common.{◌≡◌, ℕ, zero, suc, ◌+◌, ◌-◌, ◌<◌, ◌≤◌, ◌==◌, Bool, true, false, not, cond, eqb, Option, Some, None, List, [], ◌∷◌, ◌++◌, map, length, inl, inr, refl, sym, ap, ◌∙◌, subst, arith, eqb-true, ne_eqb, length-append}
-use Rattle.std.specs.Prelude.{slice_get}
+use Rattle.clock2q_cache.proofs.Names.{slice_get, Mut, Called, always_mut, mut_next, filter, filter_map, cons_option, find, range_with_len, cases_Bool, append-nil, map-append, length-map, filter_map-append, fold-append, AsksResident, MayBeAsked, Retains, TakesInTurn, SmallEntry, MainEntry, Machine, by_slot, resident_at, vacated, vacated_all, refused_slots, retained}
 use Rattle.std.specs.Borrow.{Bor}
-use Rattle.std.specs.Fn.{Mut, Called, Takes}
-use denote.Param.Always.{always_mut, mut_next}
-use Rattle.std.specs.List.{filter, filter_map, cons_option, find, range_with_len}
+use Rattle.std.specs.Fn.{Takes}
 use Rattle.std.specs.List.Retain.{ReturnsInTurn}
-use Rattle.std.proofs.lemmas.Bool.{cases_Bool}
-use Rattle.std.proofs.lemmas.List.{append-nil, map-append, length-map}
-use Rattle.std.proofs.lemmas.List.Elements.{filter_map-append}
-use Rattle.std.proofs.lemmas.List.Sums.{fold-append}
-use Rattle.clock2q_cache.specs.Closures.{AsksResident, MayBeAsked, Retains, TakesInTurn}
-use Rattle.clock2q_machine.specs.Entries.{SmallEntry, MainEntry}
-use Rattle.clock2q_machine.specs.Machine.{Machine, by_slot, resident_at, vacated, vacated_all}
-use Rattle.clock2q_machine.specs.Steps.{refused_slots, retained}
 
 range-last : (a n : ℕ) → range_with_len a (suc n) ≡ range_with_len a n ++ (a + n) ∷ []
 range-last a zero = let e : a ≡ a + 0 = omega arith in ap (λ z. z ∷ []) e
@@ -87,8 +77,7 @@ module _ {F K V : Type 0} (g : Mut F (Bor K × (Bor V × Unit {0})) Bool) where
     bits_of [] (r ∷ rs) f last many i asked = absurd (omega (arith, many))
     bits_of (b ∷ bits) [] f last many i asked = absurd (omega (arith, many))
     bits_of (b ∷ bits) (r ∷ rs) f last many i asked =
-        let a = asked.1 in
-        let s = says f a.key a.value r b asked.0 i a.shows.0 a.shows.1 a.called in
+        let s = says f asked.1.key asked.1.value r b asked.0 i asked.1.shows.0 asked.1.shows.1 asked.1.called in
         ap (λ z. z ∷ bits) s.0 ∙ ap (λ z. test r ∷ z) (bits_of bits rs asked.0 last (omega (arith, many)) s.1 asked.2)
 
     pub retained_by : (f : F) (new : Machine K V) → I f → Retains g f m new → new ≡ retained (map test (by_slot m)) m

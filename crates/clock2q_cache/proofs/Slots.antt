@@ -1,28 +1,6 @@
 -- How often a slot stands in a cache's queues, and which slots are apart.
-use Rattle.clock2q_queues.proofs.Entries.{length-values}
 use Rattle.std.proofs.Common.{◌≡◌, ℕ, zero, suc, ◌+◌, ◌<◌, ◌≤◌, ◌==◌, Bool, true, false, cond, eqb, Option, Some, None, List, [], ◌∷◌, ◌++◌, map, length, take, drop, reverse, inl, inr, refl, sym, ap, ◌∙◌, subst, arith, eqb-true, eq-eqb, length-append}
-use Rattle.std.specs.Prelude.{if◌then◌else◌, nat_lt, is_some}
-use Rattle.std.specs.List.{count_by}
-use Rattle.std.proofs.lemmas.Bool.{cases_Bool, cases_lt, both_ways, lt-ltb, le-ltb}
-use Rattle.std.proofs.lemmas.List.{length-map}
-use Rattle.std.proofs.lemmas.List.Sums.{sum_by-cons, sum_by-append}
-use Rattle.clock2q_queues.proofs.SlotLists.{slots_of-mapped}
-use Rattle.clock2q_machine.proofs.Whole.{some_is, none_is}
-use Rattle.clock2q_queues.proofs.Booleans.{or_true, or_parts}
-use Rattle.clock2q_queues.specs.declared.keys.store.Entry.{Entry}
-use Rattle.clock2q_queues.specs.Rings.{has, AllApart}
-use Rattle.clock2q_queues.specs.Keys.{KeyPlaces, key_at}
-use Rattle.clock2q_queues.specs.History.{Remembered}
-use Rattle.std.specs.Cmp.{IsEquivalence}
-use Rattle.clock2q_machine.specs.Ages.{Age, grown}
-use Rattle.clock2q_queues.specs.Small.{admitted}
-use Rattle.clock2q_queues.specs.MainRing.{set_front, from_victim}
-use Rattle.clock2q_queues.specs.Queues.{QueueState, slots_of}
-use Rattle.clock2q_queues.proofs.Rings.{has-append, eqb_self, eqb_swap}
-use Rattle.clock2q_machine.specs.Shares.{Shares}
-use Rattle.clock2q_machine.specs.Machine.{Machine, vacancy, vacant_slot}
-use Rattle.clock2q_machine.specs.Whole.{standings}
-use Rattle.clock2q_cache.specs.CacheFields.{machine_of, places_of, IsStored, IsKept}
+use Rattle.clock2q_cache.proofs.Names.{length-values, if◌then◌else◌, nat_lt, is_some, count_by, cases_Bool, cases_lt, both_ways, lt-ltb, le-ltb, length-map, sum_by-cons, sum_by-append, slots_of-mapped, some_is, none_is, or_true, or_parts, Entry, has, AllApart, KeyPlaces, key_at, Remembered, IsEquivalence, Age, grown, admitted, set_front, from_victim, QueueState, slots_of, has-append, eqb_self, eqb_swap, Shares, Machine, vacancy, vacant_slot, standings, machine_of, places_of, IsStored, IsKept}
 use Rattle.clock2q_cache.proofs.WithKeys.{HaveKeys, standing-keyed, length-small, length-main}
 use Rattle.clock2q_cache.proofs.Stored.{have_keys, stored-same}
 
@@ -50,8 +28,7 @@ times-some t (x ∷ xs) h = elim (cases_Bool (eqb t x)) [
 pub times-apart : (xs : List ℕ) → ((t : ℕ) → times t xs ≤ 1) → AllApart xs
 times-apart [] h = tt
 times-apart (x ∷ xs) h =
-    let own = times-cons x x xs in
-    (times-none x xs (omega (arith, h x, own, ap {B = ℕ} (λ b. cond b 1 0) (eqb_self x))), times-apart xs (λ t. omega (arith, h t, times-cons t x xs)))
+    (times-none x xs (omega (arith, h x, times-cons x x xs, ap {B = ℕ} (λ b. cond b 1 0) (eqb_self x))), times-apart xs (λ t. omega (arith, h t, times-cons t x xs)))
 
 -- a slot that stands as often stands as well
 pub times-absent : (t : ℕ) (xs : List ℕ) → has t xs ≡ false → times t xs ≡ 0

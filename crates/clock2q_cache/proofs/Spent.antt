@@ -1,24 +1,9 @@
 -- What the parts of a call spend.
 use Rattle.std.proofs.Common.{◌≡◌, ℕ, ◌+◌, ◌*◌, ◌≤◌, Bool, true, false, List, length, Some, None, refl, ap, sym, ◌∙◌, subst, arith}
+use Rattle.clock2q_cache.proofs.Names.{HashMembers, candidates, KeyPlaces, questions_of, Remembered, QueueState, questions-most, set_bits, inspections_of, Call, Get, GetAt, Set, Remove, Retain, Prefill, counts_of, CacheState, Counts, residents_in, Spends, Costs, Becomes, most_accesses, most_questions, hash_of, slot_of, hit, stored, prefilled, vacated, removed_at, then_some, is_at, after, hit_at, retained, replaced, replaced_at, hit-absent}
 use Rattle.std.specs.declared.hash.Hasher as hasher
 use Rattle.std.specs.declared.hash.BuildHasher as builder
-use Rattle.std.specs.HashMap.Lent.{HashMembers}
-use Rattle.clock2q_handles.specs.Homes.{candidates}
-use Rattle.clock2q_queues.specs.Keys.{KeyPlaces, questions_of}
-use Rattle.clock2q_queues.specs.History.{Remembered}
-use Rattle.clock2q_queues.specs.Queues.{QueueState}
-use Rattle.clock2q_queues.proofs.Lookups.{questions-most}
-use Rattle.clock2q_machine.specs.Bounds.{set_bits, inspections_of}
-use Rattle.clock2q_machine.specs.Calls.{Call, Get, GetAt, Set, Remove, Retain, Prefill}
-use Rattle.clock2q_cache.specs.CacheFields.{counts_of}
-use Rattle.clock2q_cache.specs.CacheState.{CacheState, Counts, residents_in}
-use Rattle.clock2q_cache.specs.Costs.{Spends, Costs, Becomes, most_accesses, most_questions}
-use Rattle.clock2q_cache.specs.Hashes.{hash_of}
-use Rattle.clock2q_machine.specs.Machine.{slot_of, hit, stored, prefilled, vacated, removed_at, removed}
-use Rattle.std.specs.Bool.{then_some}
-use Rattle.clock2q_machine.specs.Steps.{is_at, after, hit_at, retained, replaced, replaced_at}
 use Rattle.clock2q_machine.proofs.Clock.{clock_bounded}
-use Rattle.clock2q_machine.proofs.Residents.{hit-absent}
 
 -- two parts of a call, of which each spends its own
 pub spends-both : {i j n l k x l' k' x' : ℕ} {a b c : Counts} → Spends i l k a b → Spends j l' k' b c → i + j ≡ n → l + l' ≤ x → k + k' ≤ x' → Spends n x x' a c
@@ -36,15 +21,18 @@ spends-more spent links keys = record {
   questions = (spent.questions.0, omega (arith, spent.questions.1, keys));
 }
 
-module _ {K V : Type 0} (q : QueueState) (h : Remembered K) (keys : KeyPlaces K V) where
+module _ {K V : Type 0} (q : QueueState) (h : Remembered K) (keys keys' : KeyPlaces K V) where
   -- a lookup asks at most as many keys as there are places to look at
-  pub asked-spends : (keys' : KeyPlaces K V) (test : ℕ → Bool) (places all : List ℕ) → places ≡ all
+  pub asked-spends : (test : ℕ → Bool) {places all : List ℕ} → places ≡ all
       → keys' ≡ record keys { questions = keys.questions + questions_of test places } → Spends 0 0 (length all) (counts_of q h keys) (counts_of q h keys')
-  asked-spends keys' test places all same is = record {
-    inspections = omega arith;
-    accesses = (omega arith, omega arith);
-    questions = (omega (arith, ap (λ (z : KeyPlaces K V). z.questions) is), omega (arith, ap (λ (z : KeyPlaces K V). z.questions) is, questions-most test places, ap (λ (z : List ℕ). length z) same));
-  }
+  asked-spends test {places} same is =
+      let asked = ap (λ (z : KeyPlaces K V). z.questions) is in
+      let most = ap (λ (z : List ℕ). length z) same in
+      record { inspections = omega arith; accesses = (omega arith, omega arith); questions = (omega (arith, asked), omega (arith, asked, most, questions-most test places)) }
+
+  -- keys that are only made ask none
+  pub made-spends : keys'.questions ≡ keys.questions → Spends 0 0 0 (counts_of q h keys) (counts_of q h keys')
+  made-spends same = record { inspections = omega arith; accesses = (omega arith, omega arith); questions = (omega (arith, same), omega (arith, same)) }
 
 none-some : (b : Bool) (slot : ℕ) → None ≡ then_some b slot → b ≡ false
 none-some true slot e = cc
@@ -54,107 +42,92 @@ some-some : (b : Bool) (slot resident : ℕ) → Some resident ≡ then_some b s
 some-some true slot resident e = refl
 some-some false slot resident e = cc
 
-module _ {K V : Type 0} (q : QueueState) (h : Remembered K) (keys : KeyPlaces K V) where
-  -- keys that are only made ask none
-  pub made-spends : (keys' : KeyPlaces K V) → keys'.questions ≡ keys.questions → Spends 0 0 0 (counts_of q h keys) (counts_of q h keys')
-  made-spends keys' same = record { inspections = omega arith; accesses = (omega arith, omega arith); questions = (omega (arith, same), omega (arith, same)) }
-
 -- one slot more of all: its resident stays or leaves
-pub slot-stays : (slot : ℕ) (a b : Counts) → Spends 0 (8 * slot) 0 a b → Spends 0 (8 * (slot + 1)) 0 a b
-slot-stays slot a b before = spends-more before (omega arith) (omega arith)
+pub slot-stays : (slot : ℕ) {a b : Counts} → Spends 0 (8 * slot) 0 a b → Spends 0 (8 * (slot + 1)) 0 a b
+slot-stays slot before = spends-more before (omega arith) (omega arith)
 
-pub slot-leaves : (slot : ℕ) (a b c : Counts) → Spends 0 (8 * slot) 0 a b → Spends 0 8 0 b c → Spends 0 (8 * (slot + 1)) 0 a c
-slot-leaves slot a b c before left = spends-both before left (omega arith) (omega arith) (omega arith)
+pub slot-leaves : (slot : ℕ) {a b c : Counts} → Spends 0 (8 * slot) 0 a b → Spends 0 8 0 b c → Spends 0 (8 * (slot + 1)) 0 a c
+slot-leaves slot before left = spends-both before left (omega arith) (omega arith) (omega arith)
 
-module _ {K V S H : Type 0} (key : HashMembers K) (build : builder.Ghosts S H) (hash : hasher.Ghosts H) where
+module _ {K V S H : Type 0} {key : HashMembers K} {build : builder.Ghosts S H} {hash : hasher.Ghosts H} where
   -- a call that leaves the machine's next state has paid for its inspections
-  pub costs-of : (call : Call K V) (old new : CacheState K V S) → new.machine ≡ after key.eq call old.machine
+  pub costs-of : {call : Call K V} {old new : CacheState K V S} → new.machine ≡ after key.eq call old.machine
       → Spends (inspections_of key.eq call old.machine) (most_accesses key.eq call old.machine) (most_questions key build hash call old) old.counts new.counts
       → Costs key build hash call old new
-  costs-of call old new is spent = record { counts = spent; clock = omega (arith, spent.inspections, clock_bounded key.eq call old.machine, ap set_bits is) }
+  costs-of {call} {old} {new} is spent = record { counts = spent; clock = omega (arith, spent.inspections, clock_bounded key.eq call old.machine, ap set_bits is) }
 
   -- a call that lets the hand inspect nothing, and sets no bit
-  costs-unlooked : (call : Call K V) (old new : CacheState K V S) → inspections_of key.eq call old.machine ≡ 0 → set_bits new.machine ≤ set_bits old.machine
-      → Spends 0 (most_accesses key.eq call old.machine) (most_questions key build hash call old) old.counts new.counts
-      → Costs key build hash call old new
-  costs-unlooked call old new none fewer spent = record { counts = rw none spent; clock = omega (arith, spent.inspections, fewer) }
-
-  pub prefill-costs : (values made : List V) (old new : CacheState K V S) → new.machine ≡ prefilled made old.machine
+  pub prefill-costs : {values : List V} (made : List V) {old new : CacheState K V S} → new.machine ≡ prefilled made old.machine
       → Spends 0 0 0 old.counts new.counts → Costs key build hash (Prefill values) old new
-  prefill-costs values made old new is spent = costs-unlooked (Prefill values) old new refl (omega (arith, ap set_bits is)) spent
+  prefill-costs made is spent = record { counts = spent; clock = omega (arith, spent.inspections, ap set_bits is) }
 
-  pub retain-costs : (bits asked : List Bool) (old new : CacheState K V S) → new.machine ≡ retained asked old.machine
+  pub retain-costs : {bits : List Bool} (asked : List Bool) {old new : CacheState K V S} → new.machine ≡ retained asked old.machine
       → Spends 0 (8 * length old.machine.values) 0 old.counts new.counts → Costs key build hash (Retain bits) old new
-  retain-costs bits asked old new is spent = costs-unlooked (Retain bits) old new refl (omega (arith, ap set_bits is, clock_bounded key.eq (Retain asked) old.machine)) spent
-
-  -- a lookup under the key's hash asks no more than a call with the key may
-  found-spends : (k : K) (x : ℕ) (old : CacheState K V S) (new : Counts) → x ≡ hash_of build hash old.hasher (key.hash_input k) → Spends 0 0 (length (candidates (residents_in old.known) x)) old.counts new
-      → Spends 0 0 (most_questions key build hash (Get k) old) old.counts new
-  found-spends k x old new same spent = spends-more spent (omega arith) (omega (arith, ap (λ y. length (candidates (residents_in old.known) y)) same))
+  retain-costs asked {old} is spent = record { counts = spent; clock = omega (arith, spent.inspections, ap set_bits is, clock_bounded key.eq (Retain asked) old.machine) }
 
   -- a lookup that finds no resident
-  pub missed-becomes : (k : K) (x : ℕ) (old new : CacheState K V S) → x ≡ hash_of build hash old.hasher (key.hash_input k) → slot_of (key.eq k) old.machine ≡ None
+  pub missed-becomes : {k : K} {x : ℕ} {old new : CacheState K V S} → x ≡ hash_of build hash old.hasher (key.hash_input k) → slot_of (key.eq k) old.machine ≡ None
       → new ≡ record old { counts = new.counts } → Spends 0 0 (length (candidates (residents_in old.known) x)) old.counts new.counts
       → Becomes key build hash (Get k) (hit (key.eq k) old.machine) old new
-  missed-becomes k x old new same absent kept spent =
+  missed-becomes {k} {old = old} same absent kept spent =
       let m = ap (λ (z : CacheState K V S). z.machine) kept ∙ sym (hit-absent (key.eq k) old.machine absent) in
-      (m, ap (λ (z : CacheState K V S). z.hasher) kept, costs-of (Get k) old new m (found-spends k x old new.counts same spent))
+      let asked = ap (λ y. length (candidates (residents_in old.known) y)) same in
+      (m, ap (λ (z : CacheState K V S). z.hasher) kept, costs-of m (spends-more spent (omega arith) (omega (arith, asked))))
 
-  pub unhit-becomes : (k : K) (old new : CacheState K V S) → slot_of (key.eq k) old.machine ≡ None
+  pub unhit-becomes : {k : K} {old new : CacheState K V S} → slot_of (key.eq k) old.machine ≡ None
       → Becomes key build hash (Get k) (hit (key.eq k) old.machine) old new → Becomes key build hash (Get k) old.machine old new
-  unhit-becomes k old new absent missed = subst (λ m. Becomes key build hash (Get k) m old new) (hit-absent (key.eq k) old.machine absent) missed
+  unhit-becomes {k} {old} {new} absent missed = subst (λ m. Becomes key build hash (Get k) m old new) (hit-absent (key.eq k) old.machine absent) missed
 
   -- a lookup that finds one, which is hit
-  pub hit-becomes : (k : K) (x : ℕ) (old found new : CacheState K V S) → x ≡ hash_of build hash old.hasher (key.hash_input k)
+  pub hit-becomes : {k : K} {x : ℕ} {old found new : CacheState K V S} → x ≡ hash_of build hash old.hasher (key.hash_input k)
       → found ≡ record old { counts = found.counts } → Spends 0 0 (length (candidates (residents_in old.known) x)) old.counts found.counts
       → new ≡ record found { machine = new.machine } → new.machine ≡ hit (key.eq k) found.machine
       → Becomes key build hash (Get k) (hit (key.eq k) old.machine) old new
-  hit-becomes k x old found new same kept spent after_hit is =
+  hit-becomes {k} {old = old} same kept spent after_hit is =
       let m = is ∙ ap (λ (z : CacheState K V S). hit (key.eq k) z.machine) kept in
       let c = ap (λ (z : CacheState K V S). z.counts) after_hit in
-      (m, ap (λ (z : CacheState K V S). z.hasher) after_hit ∙ ap (λ (z : CacheState K V S). z.hasher) kept, costs-of (Get k) old new m (rw c (found-spends k x old found.counts same spent)))
+      let asked = ap (λ y. length (candidates (residents_in old.known) y)) same in
+      (m, ap (λ (z : CacheState K V S). z.hasher) after_hit ∙ ap (λ (z : CacheState K V S). z.hasher) kept, costs-of m (rw c (spends-more spent (omega arith) (omega (arith, asked)))))
 
   -- a lookup that finds a resident, which leaves
-  pub remove-costs : (k : K) (slot : ℕ) (old found new : CacheState K V S) → Some slot ≡ slot_of (key.eq k) old.machine
+  pub remove-costs : {k : K} {slot : ℕ} {old found new : CacheState K V S} → Some slot ≡ slot_of (key.eq k) old.machine
       → found ≡ record old { counts = found.counts } → Spends 0 0 (most_questions key build hash (Remove k) old) old.counts found.counts
       → new.machine ≡ vacated slot found.machine → Spends 0 8 0 found.counts new.counts
       → Costs key build hash (Remove k) old new
-  remove-costs k slot old found new there kept asked is left =
-      let m : new.machine ≡ removed (key.eq k) old.machine = is ∙ ap (λ (z : CacheState K V S). vacated slot z.machine) kept ∙ ap (λ o. removed_at (key.eq k) o old.machine) there in
-      costs-of (Remove k) old new m (spends-both asked left (omega arith) (omega arith) (omega arith))
+  remove-costs {k} {slot} {old} there kept asked is left = costs-of
+      (is ∙ ap (λ (z : CacheState K V S). vacated slot z.machine) kept ∙ ap (λ o. removed_at (key.eq k) o old.machine) there)
+      (spends-both asked left (omega arith) (omega arith) (omega arith))
 
   -- the value of the key that is hit is lent, and this is left behind the reference
-  pub lent-becomes : (k : K) (slot : ℕ) (value : V) (old new : CacheState K V S) → Some slot ≡ slot_of (key.eq k) old.machine
+  pub lent-becomes : {k : K} {slot : ℕ} {value : V} {old new : CacheState K V S} → Some slot ≡ slot_of (key.eq k) old.machine
       → Becomes key build hash (Get k) (hit (key.eq k) old.machine) old new
       → Becomes key build hash (Set k value) (replaced (key.eq k) value old.machine) old (record new { machine = stored slot value new.machine })
-  lent-becomes k slot value old new there found =
-      let m : stored slot value new.machine ≡ replaced (key.eq k) value old.machine
-      = ap (λ z. stored slot value z) found.0 ∙ ap (λ o. replaced_at (key.eq k) value o old.machine) there in
-      (m, found.1, costs-of (Set k value) old (record new { machine = stored slot value new.machine }) m found.2.counts)
+  lent-becomes {k} {slot} {value} {old} there found =
+      let m = ap (λ z. stored slot value z) found.0 ∙ ap (λ o. replaced_at (key.eq k) value o old.machine) there in (m, found.1, costs-of m found.2.counts)
 
   -- none is lent
-  pub unlent-becomes : (k : K) (value : V) (old new : CacheState K V S) → slot_of (key.eq k) old.machine ≡ None
+  pub unlent-becomes : {k : K} {value : V} {old new : CacheState K V S} → slot_of (key.eq k) old.machine ≡ None
       → Becomes key build hash (Get k) (hit (key.eq k) old.machine) old new
       → Becomes key build hash (Set k value) (replaced (key.eq k) value old.machine) old new
-  unlent-becomes k value old new absent missed =
-      let m : new.machine ≡ replaced (key.eq k) value old.machine = missed.0 ∙ hit-absent (key.eq k) old.machine absent ∙ ap (λ o. replaced_at (key.eq k) value o old.machine) (sym absent) in
-      (m, missed.1, costs-of (Set k value) old new m missed.2.counts)
+  unlent-becomes {k} {value} {old} absent missed =
+      let m = missed.0 ∙ hit-absent (key.eq k) old.machine absent ∙ ap (λ o. replaced_at (key.eq k) value o old.machine) (sym absent) in
+      (m, missed.1, costs-of m missed.2.counts)
 
   -- the same at a slot
-  pub missed_at-becomes : (slot : ℕ) (k : K) (old new : CacheState K V S) → None ≡ then_some (is_at slot (slot_of (key.eq k) old.machine)) slot
+  pub missed_at-becomes : {slot : ℕ} {k : K} {old new : CacheState K V S} → None ≡ then_some (is_at slot (slot_of (key.eq k) old.machine)) slot
       → new ≡ record old { counts = new.counts } → Spends 0 0 1 old.counts new.counts
       → Becomes key build hash (GetAt slot k) (hit_at slot (key.eq k) old.machine) old new
-  missed_at-becomes slot k old new absent kept spent =
-      let other = none-some (is_at slot (slot_of (key.eq k) old.machine)) slot absent in
-      let m : new.machine ≡ hit_at slot (key.eq k) old.machine = rw other (ap (λ (z : CacheState K V S). z.machine) kept) in
-      (m, ap (λ (z : CacheState K V S). z.hasher) kept, costs-of (GetAt slot k) old new m spent)
+  missed_at-becomes {slot} {k} {old} {new} absent kept spent =
+      let m : new.machine ≡ hit_at slot (key.eq k) old.machine =
+      rw (none-some (is_at slot (slot_of (key.eq k) old.machine)) slot absent) (ap (λ (z : CacheState K V S). z.machine) kept) in
+      (m, ap (λ (z : CacheState K V S). z.hasher) kept, costs-of m spent)
 
-  pub hit_at-becomes : (slot resident : ℕ) (k : K) (old found new : CacheState K V S) → Some resident ≡ then_some (is_at slot (slot_of (key.eq k) old.machine)) slot
+  pub hit_at-becomes : {slot resident : ℕ} {k : K} {old found new : CacheState K V S} → Some resident ≡ then_some (is_at slot (slot_of (key.eq k) old.machine)) slot
       → found ≡ record old { counts = found.counts } → Spends 0 0 1 old.counts found.counts
       → new ≡ record found { machine = new.machine } → new.machine ≡ hit (key.eq k) found.machine
       → Becomes key build hash (GetAt slot k) (hit_at slot (key.eq k) old.machine) old new
-  hit_at-becomes slot resident k old found new at kept spent after_hit is =
-      let there = some-some (is_at slot (slot_of (key.eq k) old.machine)) slot resident at in
-      let m : new.machine ≡ hit_at slot (key.eq k) old.machine = rw there (is ∙ ap (λ (z : CacheState K V S). hit (key.eq k) z.machine) kept) in
+  hit_at-becomes {slot} {resident} {k} {old} {new = new} at kept spent after_hit is =
+      let m : new.machine ≡ hit_at slot (key.eq k) old.machine =
+      rw (some-some (is_at slot (slot_of (key.eq k) old.machine)) slot resident at) (is ∙ ap (λ (z : CacheState K V S). hit (key.eq k) z.machine) kept) in
       let c = ap (λ (z : CacheState K V S). z.counts) after_hit in
-      (m, ap (λ (z : CacheState K V S). z.hasher) after_hit ∙ ap (λ (z : CacheState K V S). z.hasher) kept, costs-of (GetAt slot k) old new m (rw c spent))
+      (m, ap (λ (z : CacheState K V S). z.hasher) after_hit ∙ ap (λ (z : CacheState K V S). z.hasher) kept, costs-of m (rw c spent))

@@ -1,21 +1,7 @@
 -- The keys by slot and their index: what becomes of them where a key enters or one is replaced.
 use Rattle.std.proofs.Common.{◌≡◌, ℕ, zero, suc, ◌+◌, ◌^◌, ◌<◌, ◌≤◌, true, false, ◌&&◌, eqb, Some, None, List, [], ◌∷◌, length, inl, inr, refl, sym, ap, ◌∙◌, subst, arith, eqb-true}
-use Rattle.std.specs.Prelude.{slice_set}
-use Rattle.std.specs.List.{AllByRecursion}
-use Rattle.std.proofs.lemmas.Bool.{cases_Bool}
-use Rattle.clock2q_handles.specs.Homes.{total, capacity, with_handle, removed}
-use Rattle.clock2q_queues.specs.declared.keys.store.Entry.{Entry}
-use Rattle.clock2q_queues.specs.Rings.{has, without, AllApart, AllBelow}
-use Rattle.clock2q_queues.specs.Keys.{entry, written, with_key, hash_at, key_at}
-use Rattle.clock2q_queues.specs.Indexes.{IsIndex, is_named}
-use Rattle.clock2q_queues.proofs.Rings.{eqb_self, below_of, has-without, has-without_test, below-has, below-more}
-use Rattle.clock2q_queues.proofs.Booleans.{and_true, and_false}
-use Rattle.clock2q_machine.proofs.Whole.{some_is}
+use Rattle.clock2q_cache.proofs.Names.{slice_set, AllByRecursion, cases_Bool, total, capacity, with_handle, removed, Entry, has, without, AllApart, AllBelow, entry, written, with_key, hash_at, key_at, IsIndex, is_named, eqb_self, below_of, has-without, has-without_test, below-has, below-more, and_true, and_false, some_is, length-written, slice_get_some, set-written, all-written, value-there, hash_at-own, hash_at-others, IsIndex-put, IsIndex-taken, length-taken, IsStored, Writes}
 use Rattle.clock2q_queues.proofs.Joining.{length-without}
-use Rattle.clock2q_queues.proofs.Entries.{length-written, slice_get_some, set-written, all-written, value-there, hash_at-own, hash_at-others}
-use Rattle.clock2q_queues.proofs.Indexes.{IsIndex-put, IsIndex-taken, length-taken}
-use Rattle.clock2q_cache.specs.CacheFields.{IsStored}
-use Rattle.clock2q_cache.specs.Insertions.{Writes}
 use Rattle.clock2q_cache.proofs.WithKeys.{HaveKeys}
 
 module _ {K V : Type 0} where
@@ -98,9 +84,8 @@ pub left-room : {K V : Type 0} (index index' : List (List (ℕ × ℕ))) (entrie
 left-room index index' entries places slot old i apart there at beside few room is =
     let n = length-without slot places apart there in
     let some : 0 < length index = some_homes (length index) (omega (arith, n, i.counted, room)) in
-    let left = IsIndex-taken index entries places slot old i some apart at in
     let homes : length index' ≡ length index = ap (λ (z : List (List (ℕ × ℕ))). length z) is ∙ length-taken index old slot in
-    let count : total index' ≡ length (without slot places) = ap (λ z. total z) is ∙ left.counted in
+    let count : total index' ≡ length (without slot places) = ap (λ z. total z) is ∙ (IsIndex-taken index entries places slot old i some apart at).counted in
     (rw homes (omega (arith, n, count, i.counted, room)), omega (arith, n, count, i.counted, few))
   where
     some_homes : (n : ℕ) → 0 < capacity n → 0 < n
@@ -112,7 +97,5 @@ module _ {K V : Type 0} (hash : K → ℕ) where
   pub hash-of-key : (entries : List (Entry K V)) (t old : ℕ) (key : K) → AllByRecursion (λ e. e.hash ≡ hash e.key) entries → hash_at entries t ≡ Some old → key_at entries t ≡ Some key → old ≡ hash key
   hash-of-key [] t old key a h k = absurd (cc)
   hash-of-key (e ∷ es) zero old key a h k =
-      let x = some_is e.hash old h in
-      let y = some_is e.key key k in
-      sym x ∙ a.0 ∙ ap hash y
+      sym (some_is e.hash old h) ∙ a.0 ∙ ap hash (some_is e.key key k)
   hash-of-key (e ∷ es) (suc t) old key a h k = hash-of-key es t old key a.1 h k

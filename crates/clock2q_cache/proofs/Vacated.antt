@@ -1,32 +1,11 @@
 -- Which slots have a resident, and what a cache's fields become where one of them leaves.
-use Rattle.clock2q_queues.proofs.Entries.{length-values}
 use Rattle.std.proofs.Common.{◌≡◌, ℕ, ◌+◌, ◌<◌, ◌==◌, Bool, true, not, cond, eqb, Option, Some, List, [], ◌∷◌, ◌++◌, length, reverse, inl, inr, refl, sym, ap, ◌∙◌, subst, arith, eq-eqb}
-use Rattle.std.specs.Prelude.{is_some, IsSome}
-use Rattle.std.specs.Cmp.{IsEquivalence}
-use Rattle.std.specs.Option.{option_map}
-use Rattle.std.specs.List.{filter, find, count_by}
-use Rattle.std.proofs.lemmas.Bool.{cases_Bool, both_ways}
-use Rattle.clock2q_queues.proofs.SlotLists.{slots_of-filter}
-use Rattle.clock2q_machine.proofs.Whole.{some_is}
-use Rattle.std.proofs.lemmas.List.Elements.{filter-append}
-use Rattle.std.proofs.lemmas.List.Sums.{sum_by-append}
-use Rattle.clock2q_handles.specs.Homes.{removed}
-use Rattle.clock2q_queues.specs.Rings.{has, without}
-use Rattle.clock2q_queues.specs.Keys.{KeyPlaces, hash_at, key_at}
-use Rattle.clock2q_queues.specs.Queues.{QueueState, slots_of, without_slot}
-use Rattle.clock2q_queues.specs.History.{Remembered}
-use Rattle.clock2q_queues.proofs.Rings.{below_of}
-use Rattle.clock2q_queues.proofs.Indexes.{length-taken}
-use Rattle.clock2q_machine.specs.Shares.{Shares}
-use Rattle.clock2q_machine.specs.Machine.{Machine, residents, resident_at, slot_of, vacated}
-use Rattle.clock2q_machine.specs.Whole.{IsWhole}
-use Rattle.clock2q_cache.specs.CacheFields.{machine_of, places_of, with_keys_small, with_keys_main, IsStored, IsKept}
+use Rattle.clock2q_cache.proofs.Names.{length-values, is_some, IsSome, IsEquivalence, option_map, filter, find, count_by, cases_Bool, both_ways, slots_of-filter, some_is, filter-append, sum_by-append, removed, has, without, KeyPlaces, hash_at, key_at, QueueState, slots_of, without_slot, Remembered, below_of, length-taken, Shares, Machine, residents, resident_at, slot_of, vacated, IsWhole, machine_of, places_of, with_keys_small, with_keys_main, IsStored, IsKept, whole-vacated}
 use Rattle.clock2q_cache.proofs.WithKeys.{standing-keyed, small-without, main-without}
 use Rattle.clock2q_cache.proofs.Stored.{stored-left, have_keys}
 use Rattle.clock2q_cache.proofs.Slots.{small_have, main_have, apart, times-some}
 use Rattle.clock2q_cache.proofs.Places.{resident-there, resident-none}
 use Rattle.clock2q_cache.proofs.CacheInvariant.{index_some, sized-same}
-use Rattle.clock2q_machine.proofs.MachineInvariant.{whole-vacated}
 
 -- a key that is found stands at its slot
 pub found-resident : {K V : Type 0} (is : K → Bool) (m : Machine K V) (slot : ℕ) → slot_of is m ≡ Some slot → IsSome (resident_at m slot)

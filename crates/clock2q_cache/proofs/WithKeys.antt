@@ -1,21 +1,8 @@
 -- What becomes of the queues' lists of slots is what becomes of the machine's, with the keys that stand at the slots.
 use Rattle.std.proofs.Common.{◌≡◌, ℕ, zero, suc, ◌+◌, ◌==◌, Bool, true, false, not, cond, eqb, Option, Some, None, List, [], ◌∷◌, ◌++◌, map, length, take, drop, inl, inr, refl, sym, ap, ◌∙◌, subst, arith}
-use Rattle.std.specs.Prelude.{if◌then◌else◌}
-use Rattle.std.specs.List.{last_or, count_by, cons_option, filter, filter_map}
-use Rattle.std.specs.Option.{option_map}
-use Rattle.std.proofs.lemmas.Bool.{cases_Bool}
-use Rattle.std.proofs.lemmas.List.Elements.{filter_map-append}
-use Rattle.std.proofs.lemmas.List.Sums.{sum_by-cons}
+use Rattle.clock2q_cache.proofs.Names.{if◌then◌else◌, last_or, count_by, cons_option, filter, filter_map, option_map, cases_Bool, filter_map-append, sum_by-cons, Age, grown, touched, has, admitted, small_hit_at, set_front, inspections, from_victim, main_hit_at, slots_of, without_slot, has_first, has_later, SmallEntry, MainEntry, with_keys_small, with_keys_main}
 use Rattle.clock2q_machine.specs.Ages as ages
-use Rattle.clock2q_machine.specs.Ages.{Age, grown, touched}
-use Rattle.clock2q_queues.specs.Rings.{has}
-use Rattle.clock2q_queues.specs.Small.{admitted, small_hit_at}
-use Rattle.clock2q_queues.specs.MainRing.{set_front, inspections, from_victim, main_hit_at}
-use Rattle.clock2q_queues.specs.Queues.{slots_of, without_slot}
-use Rattle.clock2q_queues.proofs.Rings.{has_first, has_later}
 use Rattle.clock2q_machine.specs.Entries as machine
-use Rattle.clock2q_machine.specs.Entries.{SmallEntry, MainEntry}
-use Rattle.clock2q_cache.specs.CacheFields.{with_keys_small, with_keys_main}
 
 -- an entry of Small or of Main, and its key
 abbrev pub small_with : {K : Type 0} → ℕ × Age → K → SmallEntry K
@@ -217,9 +204,8 @@ module _ {K : Type 0} (key : ℕ → Option K) where
       → count_by (λ (e : SmallEntry K). e.slot == t) (with_keys_small key small) + count_by (λ (e : MainEntry K). e.slot == t) (with_keys_main key main)
       ≡ count_by (λ s. s == t) (slots_of small) + count_by (λ s. s == t) (slots_of main)
   standing-keyed t small main s m =
-      let a = keyed-standing (λ (e : SmallEntry K). e.slot) (λ e k. refl) t (have-keyed small_with key small s) in
       let b = keyed-standing (λ (e : MainEntry K). e.slot) (λ e k. refl) t (have-keyed main_with key main m) in
-      omega (arith, a, b)
+      omega (arith, keyed-standing (λ (e : SmallEntry K). e.slot) (λ e k. refl) t (have-keyed small_with key small s), b)
 
   -- the queues without a slot
   pub small-without : (t : ℕ) (es : List (ℕ × Age)) → HaveKeys key (slots_of es) → with_keys_small key (without_slot t es) ≡ filter (λ e. not (e.slot == t)) (with_keys_small key es)

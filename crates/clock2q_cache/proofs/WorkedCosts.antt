@@ -1,7 +1,6 @@
 -- How many link accesses a call makes at most, worked out by hand.
 use Rattle.std.proofs.Common.{◌≡◌, false, eqb, None, [], ◌∷◌, ◌++◌, refl}
-use Rattle.clock2q_machine.specs.Calls.{Put, Get, GetAt, Try, Retain, Clear}
-use Rattle.clock2q_cache.specs.Costs.{most_accesses}
+use Rattle.clock2q_cache.proofs.Names.{Put, Get, GetAt, Try, Retain, Clear, most_accesses}
 use Rattle.clock2q_machine.proofs.WorkedRuns.{puts, gets, state}
 
 links_of_a_whole_round : let m = state 20 (puts 1 20 ++ gets 3 18 ++ Get 1 ∷ []) in

@@ -13,4 +13,5 @@ module _ {K V S H : Type 0} (key : HashMembers K) (build : builder.Ghosts S H) (
   -- the cache went through the calls in order, each at its cost, and before each the index had the known keys and nothing else, in few enough of its slots
   abbrev pub RunsAtCost : List (Call K V) → CacheState K V S → CacheState K V S → Type 0
   RunsAtCost [] old new = new ≡ old
-  RunsAtCost (call ∷ calls) old new = IsIndexed key build hash old × IsSpacious old × ((next : CacheState K V S) × Becomes key build hash call (after key.eq call old.machine) old next × RunsAtCost calls next new)
+  RunsAtCost (call ∷ calls) old new = IsIndexed key build hash old × IsSpacious old
+      × ((next : CacheState K V S) × Becomes key build hash call (after key.eq call old.machine) old next × RunsAtCost calls next new)

@@ -1,9 +1,6 @@
 -- One entry more, with the next value.
 use Rattle.std.proofs.Common.{◌≡◌, ◌+◌, ◌-◌, arith, refl, sym, ap, ◌∙◌, subst}
-use Rattle.clock2q_queues.specs.Keys.{KeyPlaces}
-use Rattle.clock2q_cache.specs.Closures.{FillsUp}
-use Rattle.clock2q_cache.specs.Hashes.{hash_of}
-use Rattle.clock2q_cache.specs.Makers.{TakesTimes}
+use Rattle.clock2q_cache.proofs.Names.{KeyPlaces, FillsUp, hash_of, TakesTimes}
 use Rattle.clock2q_cache.proofs.Filled.{FillsUp-none, FillsUp-more, FillsUp-length}
 use Rattle.clock2q_cache.proofs.Makers.{next_call}
 use Rattle.clock2q_cache.proofs.filling.fill.Goals as goal
@@ -12,23 +9,19 @@ pub loop-init : goal.loop-init
 loop-init g c = (subst (λ n. TakesTimes g.F.FnMut (c.args.many - n) c.args.make) (sym c.len-counter.ensures.len) c.requires.callable, FillsUp-none c.len-counter.ensures.len, refl, refl)
 
 pub push-requires : goal.push-requires
-push-requires g c =
-    let i = c.loop.invariant in
-    record { room = omega (arith, c.loop-test.true, c.requires.room, FillsUp-length i.1, i.2) }
+push-requires g c = record { room = omega (arith, c.loop-test.true, c.requires.room, FillsUp-length c.loop.invariant.1, c.loop.invariant.2) }
 
 pub make-requires : goal.make-requires
 make-requires g c = (next_call g.F.FnMut c.args.many c.loop.counter c.loop.make c.loop-test.true c.loop.invariant.0).0
 
 pub loop-preserved : goal.loop-preserved
 loop-preserved g c =
-    let i = c.loop.invariant in
-    let more = FillsUp-more i.1 c.hash_of-hash.ensures c.make.ensures in
     let pushed = ap (λ (z : KeyPlaces _ _). z.entries) c.push.ensures.pushed in (
-      (next_call g.F.FnMut c.args.many c.loop.counter c.loop.make c.loop-test.true i.0).1 c.make.result c.make.new.self c.make.ensures,
+      (next_call g.F.FnMut c.args.many c.loop.counter c.loop.make c.loop-test.true c.loop.invariant.0).1 c.make.result c.make.new.self c.make.ensures,
       subst (λ z. FillsUp g.F.FnMut c.args.make (λ k. hash_of g.S.BuildHasher g.S.Hasher.Hasher c.args.hasher.now (g.K.Hash.hash_input k))
-          (c.loop.counter + 1) c.args.keys.now.entries z c.make.new.self) (sym pushed) more,
-      ap (λ (z : KeyPlaces _ _). z.room) c.push.ensures.pushed ∙ i.2,
-      ap (λ (z : KeyPlaces _ _). z.questions) c.push.ensures.pushed ∙ i.3,
+          (c.loop.counter + 1) c.args.keys.now.entries z c.make.new.self) (sym pushed) (FillsUp-more c.loop.invariant.1 c.hash_of-hash.ensures c.make.ensures),
+      ap (λ (z : KeyPlaces _ _). z.room) c.push.ensures.pushed ∙ c.loop.invariant.2,
+      ap (λ (z : KeyPlaces _ _). z.questions) c.push.ensures.pushed ∙ c.loop.invariant.3,
     )
 
 pub returns-clause-filled : goal.returns-clause-filled

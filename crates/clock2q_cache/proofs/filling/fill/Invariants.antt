@@ -1,7 +1,5 @@
 use Rattle.std.proofs.Common.{◌≡◌, ◌-◌}
-use Rattle.clock2q_cache.specs.Closures.{FillsUp}
-use Rattle.clock2q_cache.specs.Hashes.{hash_of}
-use Rattle.clock2q_cache.specs.Makers.{TakesTimes}
+use Rattle.clock2q_cache.proofs.Names.{FillsUp, hash_of, TakesTimes}
 use Rattle.clock2q_cache.proofs.filling.fill.Given as goal
 
 abbrev pub invariant-loop : goal.invariant-loop

@@ -1,5 +1,5 @@
 use Rattle.std.proofs.Common.{◌≡◌, ◌+◌, ◌-◌, ◌≤◌, ◌++◌, reverse, vec_len, vec_capacity}
-use Rattle.std.specs.List.{range_with_len}
+use Rattle.clock2q_cache.proofs.Names.{range_with_len}
 use Rattle.clock2q_cache.proofs.filling.free_down.Given as goal
 
 abbrev pub invariant-loop-slot : goal.invariant-loop-slot

@@ -1,24 +1,16 @@
 -- Nothing is left anywhere.
 use Rattle.std.proofs.Common.{◌≡◌, ap, ◌∙◌}
-use Rattle.std.specs.Prelude.{if◌then◌else◌}
-use Rattle.clock2q_queues.specs.Index.{slots}
-use Rattle.clock2q_queues.specs.Keys.{KeyPlaces}
-use Rattle.clock2q_queues.specs.Queues.{QueueState}
-use Rattle.clock2q_queues.specs.History.{Remembered, most_beside}
-use Rattle.clock2q_queues.proofs.Emptied.{cleared_like, slots-cleared}
+use Rattle.clock2q_cache.proofs.Names.{if◌then◌else◌, slots, KeyPlaces, QueueState, Remembered, most_beside, cleared_like, slots-cleared}
 use Rattle.clock2q_cache.proofs.Changed.{kept-cleared}
 use Rattle.clock2q_cache.proofs.cache.Cache.clear.Goals as goal
 
 pub invariant_of-self : goal.invariant_of-self
 invariant_of-self g c =
-    let i = c.self.inside in
-    let keys = c.clear.ensures.cleared in
     let q = c.clear-2.ensures.queues in
     let h = c.clear-3.ensures.cleared in
-    let index = i.history.places.index in
-    let beside : most_beside c.clear-3.new.self ≡ most_beside i.history =
-    ap (λ (z : Remembered _). most_beside z) h ∙ ap (λ b. if b then i.history.limit else 0) (cleared_like index).shared in
+    let beside : most_beside c.clear-3.new.self ≡ most_beside c.self.inside.history =
+    ap (λ (z : Remembered _). most_beside z) h ∙ ap (λ b. if b then c.self.inside.history.limit else 0) (cleared_like c.self.inside.history.places.index).shared in
     kept-cleared g.met.K.Eq.laws c.self.invariant (ap (λ (z : QueueState). z.small) q)
-    (ap (λ (z : QueueState). z.main) q) (ap (λ (z : Remembered _). z.entries) h) (ap (λ (z : KeyPlaces _ _). z.entries) keys) c.clear-4.ensures.items
-    (ap (λ (z : Remembered _). slots z.places.index) h ∙ slots-cleared index) (ap (λ (z : QueueState). z.slots) q) (ap (λ (z : QueueState). z.window) q)
-    (ap (λ (z : Remembered _). z.limit) h) beside (ap (λ (z : KeyPlaces _ _). z.room) keys) c.clear-4.ensures.capacity
+    (ap (λ (z : QueueState). z.main) q) (ap (λ (z : Remembered _). z.entries) h) (ap (λ (z : KeyPlaces _ _). z.entries) c.clear.ensures.cleared) c.clear-4.ensures.items
+    (ap (λ (z : Remembered _). slots z.places.index) h ∙ slots-cleared c.self.inside.history.places.index) (ap (λ (z : QueueState). z.slots) q) (ap (λ (z : QueueState). z.window) q)
+    (ap (λ (z : Remembered _). z.limit) h) beside (ap (λ (z : KeyPlaces _ _). z.room) c.clear.ensures.cleared) c.clear-4.ensures.capacity

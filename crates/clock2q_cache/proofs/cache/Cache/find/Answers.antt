@@ -1,10 +1,6 @@
 -- What the lookup through the index finds is the slot of the resident.
 use Rattle.std.proofs.Common.{◌<◌, length, ap, sym, ◌∙◌, subst}
-use Rattle.std.specs.List.{find, AllByRecursion}
-use Rattle.clock2q_queues.specs.Keys.{KeyPlaces, is_key_at}
-use Rattle.clock2q_cache.specs.Hashes.{hash_of}
-use Rattle.clock2q_cache.specs.CacheState.{CacheState}
-use Rattle.clock2q_machine.specs.Machine.{slot_of}
+use Rattle.clock2q_cache.proofs.Names.{find, AllByRecursion, KeyPlaces, is_key_at, hash_of, CacheState, slot_of}
 use Rattle.clock2q_cache.proofs.Changed.{kept-asked}
 use Rattle.clock2q_cache.proofs.Finding.{candidates-there, found, found-made}
 use Rattle.clock2q_cache.proofs.Spent.{asked-spends}
@@ -17,9 +13,8 @@ find-requires g c =
 
 pub invariant_of-self : goal.invariant_of-self
 invariant_of-self g c =
-    let k = c.self.invariant in
     let r = c.find.ensures.counted in
-    kept-asked g.met.K.Eq.laws k c.find.new.self (ap (λ (z : KeyPlaces _ _). z.entries) r) (ap (λ (z : KeyPlaces _ _). z.room) r)
+    kept-asked g.met.K.Eq.laws c.self.invariant c.find.new.self (ap (λ (z : KeyPlaces _ _). z.entries) r) (ap (λ (z : KeyPlaces _ _). z.room) r)
 
 pub returns-clause-slot : goal.returns-clause-slot
 returns-clause-slot g c =
@@ -34,5 +29,4 @@ returns-clause-made g c = rw (← c.self.view_is) (found-made g.met.K.Eq.laws c.
 
 pub returns-clause-counts : goal.returns-clause-counts
 returns-clause-counts g c =
-    let i = c.self.inside in
-    rw (← c.self.view_is) (asked-spends i.queues i.history i.keys c.find.new.self (is_key_at g.K.PartialEq.eq c.args.key.now i.keys.entries) _ _ c.handles.ensures.slots c.find.ensures.counted)
+    rw (← c.self.view_is) (asked-spends c.self.inside.queues c.self.inside.history c.self.inside.keys _ _ c.handles.ensures.slots c.find.ensures.counted)

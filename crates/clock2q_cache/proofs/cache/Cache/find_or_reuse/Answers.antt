@@ -1,11 +1,8 @@
 -- The key stands at the slot where it was found, or at the one that it took.
-use Rattle.std.proofs.Common.{sym, ap, ◌∙◌}
-use Rattle.std.proofs.lemmas.Option.{slice_get_within}
-use Rattle.std.specs.HashMap.Lent.{HashMembers}
-use Rattle.clock2q_machine.specs.Machine.{hit}
+use Rattle.std.proofs.Common.{sym, ap, ◌∙◌, arith}
+use Rattle.clock2q_cache.proofs.Names.{slice_get_within, hit, CacheState}
 use Rattle.clock2q_cache.proofs.Making.{hit-takes, new-takes}
-use Rattle.clock2q_cache.specs.CacheState.{CacheState}
-use Rattle.clock2q_cache.proofs.Insertions.{hit-spends, found-alike, absent-spends}
+use Rattle.clock2q_cache.proofs.Insertions.{hit-spends, insert-spends}
 use Rattle.clock2q_cache.proofs.cache.Cache.find_or_reuse.Goals as goal
 
 pub returns-in-Some-clause-taken : goal.returns-in-Some-clause-taken
@@ -26,15 +23,13 @@ returns-clause-made g c = let t = returns-clause-taken g c in slice_get_within _
 
 pub returns-in-Some-clause-counts : goal.returns-in-Some-clause-counts
 returns-in-Some-clause-counts g c =
-    let key : HashMembers _ = record { eq = g.K.PartialEq.eq; hash_input = g.K.Hash.hash_input } in
-    let asked = found-alike key g.S.BuildHasher g.S.Hasher.Hasher c.args.key c.args.self.now c.find.new.self.counts c.requires.hash c.find.ensures.counts in
-    hit-spends key g.S.BuildHasher g.S.Hasher.Hasher c.args.key c.args.self.now c.find.new.self c.find.ensures.kept asked
-    c.in-Some.slot c.in-Some.ensures.slot c.record_hit.new.self.counts (ap (λ (z : CacheState _ _ _). z.counts) c.record_hit.ensures.kept)
+    hit-spends (g.K.PartialEq.eq c.args.key) c.args.self.now.machine c.find.ensures.counts c.in-Some.ensures.slot
+    (ap (λ (z : CacheState _ _ _). z.counts) c.record_hit.ensures.kept) (rw c.requires.hash (omega arith))
 
 pub returns-clause-counts : goal.returns-clause-counts
 returns-clause-counts g c =
-    absent-spends (record { eq = g.K.PartialEq.eq; hash_input = g.K.Hash.hash_input }) g.S.BuildHasher g.S.Hasher.Hasher c.args.key c.args.self.now c.find.new.self c.find.ensures.kept
-    c.requires.hash c.find.ensures.counts c.in_default.ensures.slot c.insert_reusing.new.self.counts c.insert_reusing.ensures.counts
+    insert-spends (g.K.PartialEq.eq c.args.key) c.args.self.now.machine c.find.ensures.counts c.in_default.ensures.slot
+    c.find.ensures.machine c.insert_reusing.ensures.counts (rw (c.find.ensures.kept, c.requires.hash) (omega arith))
 
 pub returns-in-Some-clause-known : goal.returns-in-Some-clause-known
 returns-in-Some-clause-known g c =

@@ -5,12 +5,12 @@ use Rattle.clock2q_cache.proofs.cache.Cache.get_at.Goals as goal
 
 pub returns-in_err-found : goal.returns-in_err-found
 returns-in_err-found g c = (
-  (refl, λ _. tt, missed_at-becomes (record { eq = g.K.PartialEq.eq; hash_input = g.K.Hash.hash_input }) g.S.BuildHasher g.S.Hasher.Hasher c.args.slot c.args.key.now c.args.self.now c.find_at.new.self c.in_err-found.ensures.slot c.find_at.ensures.kept c.find_at.ensures.counts),
+  (refl, λ _. tt, missed_at-becomes c.in_err-found.ensures.slot c.find_at.ensures.kept c.find_at.ensures.counts),
   record { machine = tt; value = search rules },
 )
 
 pub returns : goal.returns
 returns g c = (
-  (refl, λ _. tt, hit_at-becomes (record { eq = g.K.PartialEq.eq; hash_input = g.K.Hash.hash_input }) g.S.BuildHasher g.S.Hasher.Hasher c.args.slot c.in_ok-found.found c.args.key.now c.args.self.now c.find_at.new.self c.record_hit.new.self c.in_ok-found.ensures.slot c.find_at.ensures.kept c.find_at.ensures.counts c.record_hit.ensures.kept c.record_hit.ensures.machine),
+  (refl, λ _. tt, hit_at-becomes c.in_ok-found.ensures.slot c.find_at.ensures.kept c.find_at.ensures.counts c.record_hit.ensures.kept c.record_hit.ensures.machine),
   record { machine = tt; value = search rules },
 )

@@ -5,26 +5,17 @@ use Rattle.clock2q_cache.proofs.cache.Cache.get_mut.Goals as goal
 
 pub returns : goal.returns
 returns g c = (
-  (
-    refl,
-    (λ w. lent-becomes (record { eq = g.K.PartialEq.eq; hash_input = g.K.Hash.hash_input })
-        g.S.BuildHasher g.S.Hasher.Hasher c.args.key.now c.in_ok-resident.resident w c.args.self.now c.hit.new.self c.in_ok-resident.ensures.slot c.hit.ensures.becomes),
-    tt,
-  ),
+  (refl, (λ w. lent-becomes c.in_ok-resident.ensures.slot c.hit.ensures.becomes), tt),
   record { writes_back = tt; value = search rules; missed = tt },
 )
 
 pub returns-in_err-resident : goal.returns-in_err-resident
 returns-in_err-resident g c =
-    let absent = sym c.in_err-resident.ensures.slot in
-    let unhit =
-    unhit-becomes (record { eq = g.K.PartialEq.eq; hash_input = g.K.Hash.hash_input })
-    g.S.BuildHasher g.S.Hasher.Hasher c.args.key.now c.args.self.now c.hit.new.self absent c.hit.ensures.becomes in (
+    let absent = sym c.in_err-resident.ensures.slot in (
       (
         search rules,
-        (λ w. unlent-becomes (record { eq = g.K.PartialEq.eq; hash_input = g.K.Hash.hash_input })
-            g.S.BuildHasher g.S.Hasher.Hasher c.args.key.now w c.args.self.now c.hit.new.self absent c.hit.ensures.becomes),
-        rw c.from_residual.ensures unhit,
+        (λ w. unlent-becomes absent c.hit.ensures.becomes),
+        rw c.from_residual.ensures (unhit-becomes absent c.hit.ensures.becomes),
       ),
       record { writes_back = tt; value = search rules; missed = rw c.from_residual.ensures absent },
     )

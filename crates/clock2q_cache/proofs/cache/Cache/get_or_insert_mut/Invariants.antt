@@ -1,5 +1,4 @@
-use Rattle.std.specs.Prelude.{◌-◌}
-use Rattle.clock2q_cache.specs.Charged.{most_links, most_keys}
+use Rattle.clock2q_cache.proofs.Names.{◌-◌, most_links, most_keys}
 use Rattle.clock2q_cache.proofs.cache.Cache.get_or_insert_mut.Given as goal
 
 abbrev pub ghost-most : goal.ghost-most

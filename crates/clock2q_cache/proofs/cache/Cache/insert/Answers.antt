@@ -1,8 +1,6 @@
 -- A key that is not resident is not known once its history is erased.
 use Rattle.std.proofs.Common.{ap, ◌∙◌}
-use Rattle.clock2q_machine.specs.Whole.{known_count}
-use Rattle.clock2q_machine.specs.Machine.{Placement, placement, stored}
-use Rattle.clock2q_machine.proofs.Whole.{unknown_once_forgotten}
+use Rattle.clock2q_cache.proofs.Names.{known_count, Placement, placement, stored, unknown_once_forgotten}
 use Rattle.clock2q_cache.proofs.Insertions.{IsSent, placed-inspections, forgotten-spends}
 use Rattle.clock2q_cache.proofs.Making.{small-unknown, placed-there}
 use Rattle.clock2q_cache.proofs.cache.Cache.insert.Given.{Over}
@@ -22,15 +20,13 @@ insert_unknown-requires-clause-small g c = small-unknown g.K.PartialEq.eq c.args
 
 pub returns-clause-slot : goal.returns-clause-slot
 returns-clause-slot g c =
-    let s = sent g (goal.at.returns-clause-slot g c).After-admits_to_main-main in
-    c.insert_unknown.ensures.slot ∙ ap (λ (p : Placement _ _). p.slot) (placed-there g.K.PartialEq.eq c.args.key s)
+    c.insert_unknown.ensures.slot ∙ ap (λ (p : Placement _ _). p.slot) (placed-there g.K.PartialEq.eq c.args.key (sent g (goal.at.returns-clause-slot g c).After-admits_to_main-main))
 
 pub returns-clause-machine : goal.returns-clause-machine
 returns-clause-machine g c =
-    let f = c.insert_unknown.ensures.machine in
     let s = sent g (goal.at.returns-clause-machine g c).After-admits_to_main-main in
-    f.becomes ∙ ap (λ (p : Placement _ _). stored p.slot f.held p.machine) (placed-there g.K.PartialEq.eq c.args.key s)
-    ∙ ap (λ v. let p = placement (g.K.PartialEq.eq c.args.key) c.args.key c.args.self.now.machine in stored p.slot v p.machine) f.is
+    c.insert_unknown.ensures.machine.becomes ∙ ap (λ (p : Placement _ _). stored p.slot c.insert_unknown.ensures.machine.held p.machine) (placed-there g.K.PartialEq.eq c.args.key s)
+    ∙ ap (λ v. let p = placement (g.K.PartialEq.eq c.args.key) c.args.key c.args.self.now.machine in stored p.slot v p.machine) c.insert_unknown.ensures.machine.is
 
 pub returns-clause-counts : goal.returns-clause-counts
 returns-clause-counts g c =

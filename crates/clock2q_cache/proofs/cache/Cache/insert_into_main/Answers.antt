@@ -1,30 +1,24 @@
 -- Main has as many entries as slots.
 use Rattle.std.proofs.Common.{◌≡◌, ◌<◌, length, arith}
-use Rattle.clock2q_machine.specs.Shares.{main_share}
+use Rattle.clock2q_cache.proofs.Names.{main_share}
 use Rattle.clock2q_cache.proofs.CacheInvariant.{length_in_main}
 use Rattle.clock2q_cache.proofs.Insertions.{full-inspections, room-inspections}
 use Rattle.clock2q_cache.proofs.cache.Cache.insert_into_main.Goals as goal
 
 pub replace_victim-requires-clause-full : goal.replace_victim-requires-clause-full
-replace_victim-requires-clause-full g c =
-    let k = c.self.invariant in
-    rw (← c.self.view_is) (omega (arith, length_in_main g.met.K.Eq.laws k))
+replace_victim-requires-clause-full g c = rw (← c.self.view_is) (omega (arith, length_in_main g.met.K.Eq.laws c.self.invariant))
 
 pub join_main-requires-clause-room : goal.join_main-requires-clause-room
-join_main-requires-clause-room g c =
-    let k = c.self.invariant in
-    rw (← c.self.view_is) (omega (arith, length_in_main g.met.K.Eq.laws k, k.whole.main_within))
+join_main-requires-clause-room g c = rw (← c.self.view_is) (omega (arith, length_in_main g.met.K.Eq.laws c.self.invariant, c.self.invariant.whole.main_within))
 
 pub returns-then-main_len-main-clause-counts : goal.returns-then-main_len-main-clause-counts
 returns-then-main_len-main-clause-counts g c =
-    let k = c.self.invariant in
     let m = c.args.self.now.machine in
-    let full : length m.main ≡ main_share m.shares = rw (← c.self.view_is) (omega (arith, length_in_main g.met.K.Eq.laws k)) in
+    let full : length m.main ≡ main_share m.shares = rw (← c.self.view_is) (omega (arith, length_in_main g.met.K.Eq.laws c.self.invariant)) in
     rw (full-inspections m full) c.replace_victim.ensures.counts
 
 pub returns-else-main_len-main-clause-counts : goal.returns-else-main_len-main-clause-counts
 returns-else-main_len-main-clause-counts g c =
-    let k = c.self.invariant in
     let m = c.args.self.now.machine in
-    let room : length m.main < main_share m.shares = rw (← c.self.view_is) (omega (arith, length_in_main g.met.K.Eq.laws k, k.whole.main_within)) in
+    let room : length m.main < main_share m.shares = rw (← c.self.view_is) (omega (arith, length_in_main g.met.K.Eq.laws c.self.invariant, c.self.invariant.whole.main_within)) in
     rw (room-inspections m room) c.join_main.ensures.counts

@@ -1,14 +1,13 @@
 -- A full cache has an entry in Small, where that has a share.
 use Rattle.std.proofs.Common.{true, false, None, sym}
-use Rattle.std.specs.List.{last_or}
+use Rattle.clock2q_cache.proofs.Names.{last_or}
 use Rattle.clock2q_cache.proofs.Places.{key-out}
 use Rattle.clock2q_cache.proofs.Changed.{small-some}
 use Rattle.clock2q_cache.proofs.Insertions.{tail-inspections, looked-spends}
 use Rattle.clock2q_cache.proofs.cache.Cache.insert_into_small.Goals as goal
 
 pub tail_is_promoted-requires : goal.tail_is_promoted-requires
-tail_is_promoted-requires g c =
-    small-some _ c.args.self.now.machine c.has_vacancy.ensures.whole (sym c.if-has_vacancy.ensures.vacant) c.requires.small
+tail_is_promoted-requires g c = small-some _ c.args.self.now.machine c.has_vacancy.ensures.whole (sym c.if-has_vacancy.ensures.vacant) c.requires.small
 
 pub promote_tail-requires-clause-some : goal.promote_tail-requires-clause-some
 promote_tail-requires-clause-some g c =
@@ -20,31 +19,25 @@ evict_tail-requires-clause-some g c =
 
 pub returns-then-tail_is_promoted-clause-counts : goal.returns-then-tail_is_promoted-clause-counts
 returns-then-tail_is_promoted-clause-counts g c =
-    let m = c.args.self.now.machine in
-    let some = small-some _ m c.has_vacancy.ensures.whole (sym c.if-has_vacancy.ensures.vacant) c.requires.small in
-    rw (tail-inspections m true (sym c.if-has_vacancy.ensures.vacant) some c.if-tail_is_promoted.ensures.value)
+    let some = small-some _ c.args.self.now.machine c.has_vacancy.ensures.whole (sym c.if-has_vacancy.ensures.vacant) c.requires.small in
+    rw (tail-inspections c.args.self.now.machine true (sym c.if-has_vacancy.ensures.vacant) some c.if-tail_is_promoted.ensures.value)
     (looked-spends c.tail_is_promoted.ensures.counts (rw c.tail_is_promoted.ensures.machine at c.promote_tail.ensures.counts))
 
 pub returns-else-tail_is_promoted-clause-counts : goal.returns-else-tail_is_promoted-clause-counts
 returns-else-tail_is_promoted-clause-counts g c =
-    let m = c.args.self.now.machine in
-    let some = small-some _ m c.has_vacancy.ensures.whole (sym c.if-has_vacancy.ensures.vacant) c.requires.small in
-    rw (tail-inspections m false (sym c.if-has_vacancy.ensures.vacant) some c.if-tail_is_promoted.ensures.value)
+    let some = small-some _ c.args.self.now.machine c.has_vacancy.ensures.whole (sym c.if-has_vacancy.ensures.vacant) c.requires.small in
+    rw (tail-inspections c.args.self.now.machine false (sym c.if-has_vacancy.ensures.vacant) some c.if-tail_is_promoted.ensures.value)
     (looked-spends c.tail_is_promoted.ensures.counts c.evict_tail.ensures.counts)
 
 pub returns-then-has_vacancy-clause-indexes : goal.returns-then-has_vacancy-clause-indexes
-returns-then-has_vacancy-clause-indexes g c =
-    let x = c.join_small.ensures.indexes in
-    rw (← c.if-has_vacancy.ensures.vacant) x
+returns-then-has_vacancy-clause-indexes g c = rw (← c.if-has_vacancy.ensures.vacant) c.join_small.ensures.indexes
 
 pub returns-then-tail_is_promoted-clause-indexes : goal.returns-then-tail_is_promoted-clause-indexes
 returns-then-tail_is_promoted-clause-indexes g c =
-    let x = rw c.tail_is_promoted.ensures.kept at c.promote_tail.ensures.indexes in
     let out = key-out true (last_or None c.args.self.now.machine.small) c.if-tail_is_promoted.ensures.value in
-    rw (← c.if-has_vacancy.ensures.vacant, out) x
+    rw (← c.if-has_vacancy.ensures.vacant, out) (rw c.tail_is_promoted.ensures.kept at c.promote_tail.ensures.indexes)
 
 pub returns-else-tail_is_promoted-clause-indexes : goal.returns-else-tail_is_promoted-clause-indexes
 returns-else-tail_is_promoted-clause-indexes g c =
-    let x = rw c.tail_is_promoted.ensures.kept at c.evict_tail.ensures.indexes in
     let out = key-out false (last_or None c.args.self.now.machine.small) c.if-tail_is_promoted.ensures.value in
-    rw (← c.if-has_vacancy.ensures.vacant, out) x
+    rw (← c.if-has_vacancy.ensures.vacant, out) (rw c.tail_is_promoted.ensures.kept at c.evict_tail.ensures.indexes)

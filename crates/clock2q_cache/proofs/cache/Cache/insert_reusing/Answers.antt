@@ -1,13 +1,7 @@
 -- A slot is made where none is free and no one's is taken.
 use Rattle.std.proofs.Common.{not, arith, sym, ap, ◌∙◌}
-use Rattle.std.proofs.lemmas.Option.{slice_get_past}
-use Rattle.std.proofs.lemmas.Bool.{ltb-false}
-use Rattle.clock2q_machine.specs.Whole.{known_count}
-use Rattle.std.specs.List.{list_any}
-use Rattle.clock2q_machine.specs.Machine.{Placement, forgotten}
-use Rattle.clock2q_cache.specs.CacheState.{CacheState}
+use Rattle.clock2q_cache.proofs.Names.{slice_get_past, ltb-false, known_count, list_any, Placement, forgotten, CacheState, unknown_once_forgotten}
 use Rattle.clock2q_cache.proofs.Spent.{spends-both}
-use Rattle.clock2q_machine.proofs.Whole.{unknown_once_forgotten}
 use Rattle.clock2q_cache.proofs.Insertions.{IsSent, goes-there, placed-inspections, forgotten-spends}
 use Rattle.clock2q_cache.proofs.Making.{small-unknown, placed-there, fills-there, makes-here, makes-there, values-there, reuses, made-or-none}
 use Rattle.clock2q_cache.proofs.cache.Cache.insert_reusing.Given.{Over}
@@ -18,11 +12,10 @@ use Rattle.clock2q_cache.proofs.cache.Cache.insert_reusing.Goals as goal
 sent : (g : Over) (c : After-admits_to_main-main g) → IsSent (g.K.PartialEq.eq c.args.key) c.args.self.now.machine c.forget-known.new.self.machine c.admits_to_main-main.result
 sent g c =
     let is = g.K.PartialEq.eq c.args.key in
-    let same = c.find_place-place.ensures.kept in
     record {
       known = c.forget-known.result;
-      had = c.forget-known.ensures.known ∙ ap (λ (z : CacheState _ _ _). list_any is z.machine.history) same;
-      erased = c.forget-known.ensures.machine ∙ ap (λ (z : CacheState _ _ _). forgotten is z.machine) same;
+      had = c.forget-known.ensures.known ∙ ap (λ (z : CacheState _ _ _). list_any is z.machine.history) c.find_place-place.ensures.kept;
+      erased = c.forget-known.ensures.machine ∙ ap (λ (z : CacheState _ _ _). forgotten is z.machine) c.find_place-place.ensures.kept;
       goes = c.admits_to_main-main.ensures;
     }
 
@@ -48,27 +41,23 @@ insert_unknown-requires-clause-had g c =
 
 pub returns-clause-slot : goal.returns-clause-slot
 returns-clause-slot g c =
-    let s = sent g (goal.at.returns-clause-slot g c).After-admits_to_main-main in
-    c.insert_unknown.ensures.slot ∙ ap (λ (p : Placement _ _). p.slot) (placed-there g.K.PartialEq.eq c.args.key s)
+    c.insert_unknown.ensures.slot ∙ ap (λ (p : Placement _ _). p.slot) (placed-there g.K.PartialEq.eq c.args.key (sent g (goal.at.returns-clause-slot g c).After-admits_to_main-main))
 
 pub returns-clause-machine : goal.returns-clause-machine
 returns-clause-machine g c =
-    let eq = g.K.PartialEq.eq in
     let s = sent g (goal.at.returns-clause-machine g c).After-admits_to_main-main in
-    let there = makes-there eq c.args.key s c.makes_slot.ensures.whole c.makes_slot.result c.makes_slot.ensures.makes in
-    let values = values-there eq c.args.key s c.makes_slot.ensures.whole c.makes_slot.result c.makes_slot.ensures.makes in
-    reuses (eq c.args.key) c.args.key (goal.F-post g c.args.make) c.args.self.now.machine values c.then-value.result c.insert_unknown.new.self.machine
+    let there = makes-there g.K.PartialEq.eq c.args.key s c.makes_slot.ensures.whole c.makes_slot.result c.makes_slot.ensures.makes in
+    let values = values-there g.K.PartialEq.eq c.args.key s c.makes_slot.ensures.whole c.makes_slot.result c.makes_slot.ensures.makes in
+    reuses (g.K.PartialEq.eq c.args.key) c.args.key (goal.F-post g c.args.make) c.args.self.now.machine values c.then-value.result c.insert_unknown.new.self.machine
     (there ∙ ap not (sym c.then-value.ensures.variant)) c.then-value.ensures.some
-    (fills-there eq c.args.key s c.then-value.result c.insert_unknown.new.self.machine c.insert_unknown.ensures.machine)
+    (fills-there g.K.PartialEq.eq c.args.key s c.then-value.result c.insert_unknown.new.self.machine c.insert_unknown.ensures.machine)
 
 pub returns-clause-known : goal.returns-clause-known
 returns-clause-known g c =
-    let f = c.forget-known.ensures in
     let goes = goes-there (sent g (goal.at.returns-clause-known g c).After-admits_to_main-main) in
-    rw (f.hasher, f.machine, goes, f.places, c.find_place-place.ensures.kept) at c.insert_unknown.ensures.indexes
+    rw (c.forget-known.ensures.hasher, c.forget-known.ensures.machine, goes, c.forget-known.ensures.places, c.find_place-place.ensures.kept) at c.insert_unknown.ensures.indexes
 
 pub returns-clause-counts : goal.returns-clause-counts
 returns-clause-counts g c =
-    let s = sent g (goal.at.returns-clause-counts g c).After-admits_to_main-main in
-    rw (← placed-inspections s c.requires.absent)
+    rw (← placed-inspections (sent g (goal.at.returns-clause-counts g c).After-admits_to_main-main) c.requires.absent)
     (spends-both c.find_place-place.ensures.counts (forgotten-spends c.forget-known.ensures.counts c.insert_unknown.ensures.counts) (omega arith) (omega arith) (omega arith))

@@ -1,8 +1,6 @@
 -- The slot has a resident where it stands in a queue.
 use Rattle.std.proofs.Common.{ap, sym, ◌∙◌}
-use Rattle.std.specs.Prelude.{is_some}
-use Rattle.clock2q_cache.specs.CacheState.{CacheState}
-use Rattle.clock2q_machine.specs.Machine.{resident_at}
+use Rattle.clock2q_cache.proofs.Names.{is_some, CacheState, resident_at}
 use Rattle.clock2q_cache.proofs.Vacated.{resident-some}
 use Rattle.clock2q_cache.proofs.cache.Cache.is_resident.Goals as goal
 

@@ -1,9 +1,6 @@
 -- The new key's slot is the vacancy.
 use Rattle.std.proofs.Common.{refl, ap, vec_capacity, arith}
-use Rattle.clock2q_queues.specs.Index.{slots}
-use Rattle.clock2q_queues.specs.History.{Remembered}
-use Rattle.clock2q_queues.proofs.Views.{slots-entered}
-use Rattle.clock2q_machine.specs.Machine.{into_main}
+use Rattle.clock2q_cache.proofs.Names.{slots, Remembered, slots-entered, into_main}
 use Rattle.clock2q_cache.proofs.CacheInvariant.{m, IsFree, IsDone, done-reindexed, reindexed, now-slots, free-main, made-main, main-done}
 use Rattle.clock2q_cache.proofs.Insertions.{joined-spends}
 use Rattle.clock2q_cache.proofs.Places.{entered-vacant}
@@ -58,5 +55,6 @@ returns g c =
       indexes = entered-vacant g.met.K.Eq.laws c.self.invariant c.self.inside.history.places c.args.key c.take_vacancy-slot.result
           (rw (← c.self.view_is) at c.requires.hash) f.absent (ap (λ (z : Remembered _). z.places) c.enter.ensures.index);
       hasher = refl;
-      counts = joined-spends c.self.inside.queues c.self.inside.history c.self.inside.keys 1 6 c.append.ensures.queues c.append.ensures.accesses (omega arith) c.enter.ensures.index c.enter.ensures.kept;
+      counts = joined-spends c.self.inside.queues c.self.inside.history c.self.inside.keys 1 6 c.append.ensures.queues c.append.ensures.accesses
+          (omega arith) c.enter.ensures.index c.enter.ensures.kept;
     })

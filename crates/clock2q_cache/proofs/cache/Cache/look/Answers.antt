@@ -1,20 +1,16 @@
 -- What the lookup finds is the slot of the resident, or else the place of the remembered key.
 use Rattle.std.proofs.Common.{ap, ◌∙◌}
-use Rattle.clock2q_queues.specs.History.{found_slot}
-use Rattle.clock2q_cache.specs.Hashes.{hash_of}
-use Rattle.clock2q_cache.specs.CacheState.{CacheState}
-use Rattle.clock2q_machine.specs.Machine.{slot_of}
+use Rattle.clock2q_cache.proofs.Names.{found_slot, hash_of, CacheState, slot_of}
 use Rattle.clock2q_cache.proofs.Changed.{discard-hash}
 use Rattle.clock2q_cache.proofs.Finding.{candidates-there, found-made, looked}
 use Rattle.clock2q_cache.proofs.cache.Cache.look.Goals as goal
 
 pub look-requires : goal.look-requires
 look-requires g c =
-    let k = c.self.invariant in
     record {
-      hash = discard-hash g.met.K.Eq.laws k c.args.key.now c.args.hash
+      hash = discard-hash g.met.K.Eq.laws c.self.invariant c.args.key.now c.args.hash
           (λ x y e. ap (λ z. hash_of g.S.BuildHasher g.S.Hasher.Hasher c.self.inside.hasher z) (g.met.K.Hash.respects_eq x y e)) (rw (← c.self.view_is) at c.requires);
-      used = candidates-there g.met.K.Eq.laws k c.args.hash;
+      used = candidates-there g.met.K.Eq.laws c.self.invariant c.args.hash;
     }
 
 pub returns-clause-slot : goal.returns-clause-slot

@@ -1,8 +1,6 @@
 -- Main has as many entries as slots.
 use Rattle.std.proofs.Common.{ℕ, ◌==◌, length, ap, ◌∙◌, sym}
-use Rattle.clock2q_machine.specs.Shares.{main_share}
-use Rattle.clock2q_cache.specs.CacheFields.{machine_of}
-use Rattle.clock2q_cache.specs.CacheState.{CacheState}
+use Rattle.clock2q_cache.proofs.Names.{main_share, machine_of, CacheState}
 use Rattle.clock2q_cache.proofs.CacheInvariant.{length_in_main}
 use Rattle.clock2q_cache.proofs.cache.Cache.main_is_full.Goals as goal
 

@@ -1,7 +1,6 @@
 -- The slots that were never made are made and free.
-use Rattle.clock2q_queues.proofs.Entries.{length-values}
 use Rattle.std.proofs.Common.{◌≡◌, ◌-◌, ◌++◌, length, map, reverse, ◌∙◌}
-use Rattle.std.specs.List.{range_with_len}
+use Rattle.clock2q_cache.proofs.Names.{length-values, range_with_len}
 use Rattle.clock2q_cache.proofs.Filled.{made-count, machine-prefilled, kept-prefilled}
 use Rattle.clock2q_cache.proofs.Spent.{made-spends, prefill-costs}
 use Rattle.clock2q_cache.proofs.cache.Cache.prefill.Given.{Over}
@@ -9,9 +8,7 @@ use Rattle.clock2q_cache.proofs.cache.Cache.prefill.Goals.{After-free_down}
 use Rattle.clock2q_cache.proofs.cache.Cache.prefill.Goals as goal
 
 pub fill-requires-clause-callable : goal.fill-requires-clause-callable
-fill-requires-clause-callable g c =
-    let takes = rw (← c.self.view_is) at c.requires.callable.in_turn in
-    rw (c.capacity-capacity.ensures, ← length-values c.self.inside.keys.entries) takes
+fill-requires-clause-callable g c = rw (c.capacity-capacity.ensures, ← length-values c.self.inside.keys.entries) (rw (← c.self.view_is) at c.requires.callable.in_turn)
 
 -- the free slots, and those that follow the ones that were made
 freed : (g : Over) (c : After-free_down g) → c.free_down.new.free.items
@@ -26,22 +23,19 @@ invariant_of-self g c =
 
 pub returns-clause-made : goal.returns-clause-made
 returns-clause-made g c =
-    let filled = c.fill.ensures.filled.1 in
-    let as_many = filled.as_many ∙ c.capacity-capacity.ensures in
+    let as_many = c.fill.ensures.filled.1.as_many ∙ c.capacity-capacity.ensures in
     let down = freed g (goal.at.returns-clause-made g c).After-free_down in
     rw (← c.self.view_is) (record {
-      made = map (λ e. e.value) filled.added;
+      made = map (λ e. e.value) c.fill.ensures.filled.1.added;
       last = c.fill.ensures.filled.0;
-      as_many = made-count g.met.K.Eq.laws c.self.invariant filled.added c.fill.new.keys c.free_down.new.free.items 0 filled.is as_many down;
-      called = filled.called;
-      becomes = machine-prefilled g.met.K.Eq.laws c.self.invariant filled.added c.fill.new.keys c.free_down.new.free.items 0 filled.is as_many down;
+      as_many = made-count g.met.K.Eq.laws c.self.invariant c.fill.ensures.filled.1.added c.fill.new.keys c.free_down.new.free.items 0 c.fill.ensures.filled.1.is as_many down;
+      called = c.fill.ensures.filled.1.called;
+      becomes = machine-prefilled g.met.K.Eq.laws c.self.invariant c.fill.ensures.filled.1.added c.fill.new.keys c.free_down.new.free.items 0 c.fill.ensures.filled.1.is as_many down;
     })
 
 pub returns-clause-costs : goal.returns-clause-costs
 returns-clause-costs g c values =
-    let i = c.self.inside in
     let filled = c.fill.ensures.filled.1 in
     let machine = machine-prefilled g.met.K.Eq.laws c.self.invariant filled.added c.fill.new.keys c.free_down.new.free.items 0 filled.is (filled.as_many ∙ c.capacity-capacity.ensures)
     (freed g (goal.at.returns-clause-costs g c).After-free_down) in
-    rw (← c.self.view_is) (prefill-costs (record { eq = g.K.PartialEq.eq; hash_input = g.K.Hash.hash_input })
-    g.S.BuildHasher g.S.Hasher.Hasher values _ _ _ machine (made-spends i.queues i.history i.keys c.fill.new.keys c.fill.ensures.questions))
+    rw (← c.self.view_is) (prefill-costs _ machine (made-spends c.self.inside.queues c.self.inside.history c.self.inside.keys c.fill.new.keys c.fill.ensures.questions))

@@ -1,13 +1,7 @@
 -- The tail goes on to Main, and the slot of Main's victim to the new key.
-use Rattle.std.proofs.Common.{◌≡◌, Some, None, refl, sym, arith, vec_capacity, ap, ◌∙◌}
-use Rattle.std.specs.List.{last_or}
-use Rattle.clock2q_queues.specs.Queues.{slots_of}
-use Rattle.clock2q_handles.specs.Homes.{with_handle}
-use Rattle.clock2q_queues.specs.Index.{left, slots}
-use Rattle.clock2q_queues.specs.History.{Remembered}
-use Rattle.clock2q_queues.proofs.Views.{slots-entered, slots-left}
-use Rattle.clock2q_machine.specs.Machine.{into_small}
-use Rattle.clock2q_cache.proofs.CacheInvariant.{m, IsDone, done-reindexed, reindexed, now-slots, length_in_small}
+use Rattle.std.proofs.Common.{◌≡◌, Some, None, refl, sym, arith, vec_capacity, ap}
+use Rattle.clock2q_cache.proofs.Names.{last_or, slots_of, slots, Remembered, into_small}
+use Rattle.clock2q_cache.proofs.CacheInvariant.{m, IsDone, done-reindexed, reindexed, slots-renewed, length_in_small}
 use Rattle.clock2q_cache.proofs.Renewed.{resident-there, room-there, slot-below, no-tail, victim-in, victim-not_in_front, victim-not_behind, tail-in, tail-not_in_front, tail-not_in_rest, promoted-done}
 use Rattle.clock2q_cache.proofs.Insertions.{victim-spends}
 use Rattle.clock2q_cache.proofs.Places.{entered-renewed}
@@ -26,39 +20,36 @@ last g c = sym (rw c.take_victim-slot.ensures.queues at c.in-Some.ensures.tail)
 
 pub append-requires : goal.append-requires
 append-requires g c =
-    let k = c.self.invariant in
     let tail = last g (goal.at.append-requires g c).In-Some in
-    let b = slot-below g.met.K.Eq.laws k c.in-Some.tail (tail-in g.met.K.Eq.laws k c.in-Some.tail tail) in
+    let b = slot-below g.met.K.Eq.laws c.self.invariant c.in-Some.tail (tail-in g.met.K.Eq.laws c.self.invariant c.in-Some.tail tail) in
     rw (c.in-Some.ensures.queues, c.take_victim-slot.ensures.queues) (record {
-      slot_in = omega (arith, b.1, k.sized.as_many);
-      not_in_small = tail-not_in_front g.met.K.Eq.laws k c.in-Some.tail tail;
-      not_in_main = tail-not_in_rest g.met.K.Eq.laws k c.in-Some.tail tail c.take_victim-slot.result c.take_victim-slot.ensures.victim;
+      slot_in = omega (arith, b.1, c.self.invariant.sized.as_many);
+      not_in_small = tail-not_in_front g.met.K.Eq.laws c.self.invariant c.in-Some.tail tail;
+      not_in_main = tail-not_in_rest g.met.K.Eq.laws c.self.invariant c.in-Some.tail tail c.take_victim-slot.result c.take_victim-slot.ensures.victim;
     })
 
 pub renew-requires : goal.renew-requires
 renew-requires g c =
-    let k = c.self.invariant in
-    let there = victim-in g.met.K.Eq.laws k c.take_victim-slot.result c.take_victim-slot.ensures.victim in
+    let there = victim-in g.met.K.Eq.laws c.self.invariant c.take_victim-slot.result c.take_victim-slot.ensures.victim in
     record {
-      resident = resident-there g.met.K.Eq.laws k c.take_victim-slot.result there;
-      made = (slot-below g.met.K.Eq.laws k c.take_victim-slot.result there).0;
-      below = (slot-below g.met.K.Eq.laws k c.take_victim-slot.result there).2;
-      room = (room-there g.met.K.Eq.laws k).0;
-      few = (room-there g.met.K.Eq.laws k).1;
+      resident = resident-there g.met.K.Eq.laws c.self.invariant c.take_victim-slot.result there;
+      made = (slot-below g.met.K.Eq.laws c.self.invariant c.take_victim-slot.result there).0;
+      below = (slot-below g.met.K.Eq.laws c.self.invariant c.take_victim-slot.result there).2;
+      room = (room-there g.met.K.Eq.laws c.self.invariant).0;
+      few = (room-there g.met.K.Eq.laws c.self.invariant).1;
     }
 
 pub admit-requires : goal.admit-requires
 admit-requires g c =
-    let k = c.self.invariant in
     let victim = c.take_victim-slot.ensures.victim in
     let tail = last g (goal.at.admit-requires g c).In-Some in
-    let b = slot-below g.met.K.Eq.laws k c.take_victim-slot.result (victim-in g.met.K.Eq.laws k c.take_victim-slot.result victim) in
+    let b = slot-below g.met.K.Eq.laws c.self.invariant c.take_victim-slot.result (victim-in g.met.K.Eq.laws c.self.invariant c.take_victim-slot.result victim) in
     let some = rw (← c.self.view_is) at c.requires.some in
     rw (c.append.ensures.queues, c.in-Some.ensures.queues, c.take_victim-slot.ensures.queues) (record {
-      slot_in = omega (arith, b.1, k.sized.as_many);
-      not_in_small = victim-not_in_front g.met.K.Eq.laws k c.in-Some.tail tail c.take_victim-slot.result victim;
-      not_in_main = victim-not_behind g.met.K.Eq.laws k c.in-Some.tail tail c.take_victim-slot.result victim;
-      window = omega (arith, k.sized.window, k.sized.windowed (omega (arith, some, k.whole.small_within)));
+      slot_in = omega (arith, b.1, c.self.invariant.sized.as_many);
+      not_in_small = victim-not_in_front g.met.K.Eq.laws c.self.invariant c.in-Some.tail tail c.take_victim-slot.result victim;
+      not_in_main = victim-not_behind g.met.K.Eq.laws c.self.invariant c.in-Some.tail tail c.take_victim-slot.result victim;
+      window = omega (arith, c.self.invariant.sized.window, c.self.invariant.sized.windowed (omega (arith, some, c.self.invariant.whole.small_within)));
     })
 
 -- the key has the slot
@@ -72,10 +63,7 @@ done g c tail =
     done-reindexed g.met.K.Eq.laws c.self.invariant (reindexed c.self.inside.history r.index refl)
     (promoted-done g.met.K.Eq.laws c.self.invariant (rw (← c.self.view_is) at c.requires.hash) (rw (← c.self.view_is) at c.requires.absent)
     (victim-in g.met.K.Eq.laws c.self.invariant c.take_victim-slot.result victim) r.hash
-    (now-slots c.self.inside.history r.index (slots-entered (left c.renew.result.0 c.take_victim-slot.result c.self.inside.history.places.index) c.args.hash c.take_victim-slot.result (omega (arith, below))
-    ∙ ap (λ z. with_handle z c.args.hash c.take_victim-slot.result) (slots-left c.self.inside.history.places.index c.renew.result.0 c.take_victim-slot.result (omega (arith, below)))))
-    r.entries r.kept
-    tail victim (rw (← c.self.view_is) at c.requires.full) (rw (← c.self.view_is) at c.requires.on)
+    (slots-renewed c.self.inside.history c.renew.result.0 c.args.hash r.index below) r.entries r.kept tail victim (rw (← c.self.view_is) at c.requires.full) (rw (← c.self.view_is) at c.requires.on)
     (rw (c.append.ensures.queues, c.in-Some.ensures.queues, c.take_victim-slot.ensures.queues) at c.admit.ensures.queues))
 
 pub invariant_of-self : goal.invariant_of-self
@@ -83,21 +71,18 @@ invariant_of-self g c = let at = goal.at.invariant_of-self g c in (done g at.Aft
 
 pub returns : goal.returns
 returns g c =
-    let k = c.self.invariant in
     let at = goal.at.returns g c in
     let d = done g at.After-admit (last g at.In-Some) in
-    let v = c.take_victim-slot.ensures in
     let r = c.renew.ensures in
-    let taken = c.in-Some.ensures.accesses in
     let appended = c.append.ensures.accesses in
     let admitted = c.admit.ensures.accesses in
     rw (← c.self.view_is) (record {
       slot = d.at;
       machine = d.fills;
-      indexes = entered-renewed g.met.K.Eq.laws k c.self.inside.history.places c.args.key c.take_victim-slot.result (rw (← c.self.view_is) at c.requires.hash)
-          (victim-in g.met.K.Eq.laws k c.take_victim-slot.result v.victim) r.hash (ap (λ (z : Remembered _). z.places) r.index);
+      indexes = entered-renewed g.met.K.Eq.laws c.self.invariant c.self.inside.history.places c.args.key c.take_victim-slot.result (rw (← c.self.view_is) at c.requires.hash)
+          (victim-in g.met.K.Eq.laws c.self.invariant c.take_victim-slot.result c.take_victim-slot.ensures.victim) r.hash (ap (λ (z : Remembered _). z.places) r.index);
       hasher = refl;
-      counts = victim-spends g.met.K.Eq.laws k c.take_victim-slot.new.self v.inspections v.accesses
-          (rw (c.append.ensures.queues, c.in-Some.ensures.queues, v.queues) at c.admit.ensures.queues)
-          (omega (arith, taken.0, appended.0, admitted.0), omega (arith, taken.1, appended.1, admitted.1)) r.index r.kept;
+      counts = victim-spends g.met.K.Eq.laws c.self.invariant c.take_victim-slot.new.self c.take_victim-slot.ensures.inspections c.take_victim-slot.ensures.accesses
+          (rw (c.append.ensures.queues, c.in-Some.ensures.queues, c.take_victim-slot.ensures.queues) at c.admit.ensures.queues)
+          (omega (arith, c.in-Some.ensures.accesses.0, appended.0, admitted.0), omega (arith, c.in-Some.ensures.accesses.1, appended.1, admitted.1)) r.index r.kept;
     })

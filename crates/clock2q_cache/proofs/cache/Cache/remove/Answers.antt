@@ -1,6 +1,6 @@
 -- The key that is found stands at its slot.
 use Rattle.std.proofs.Common.{sym, ap, ◌∙◌}
-use Rattle.clock2q_machine.specs.Machine.{Machine, slot_of}
+use Rattle.clock2q_cache.proofs.Names.{Machine, slot_of}
 use Rattle.clock2q_cache.proofs.Vacated.{found-resident}
 use Rattle.clock2q_cache.proofs.Spent.{remove-costs}
 use Rattle.clock2q_cache.proofs.cache.Cache.remove.Goals as goal
@@ -12,5 +12,4 @@ vacate-requires g c =
 
 pub returns-clause-costs : goal.returns-clause-costs
 returns-clause-costs g c =
-    remove-costs (record { eq = g.K.PartialEq.eq; hash_input = g.K.Hash.hash_input }) g.S.BuildHasher g.S.Hasher.Hasher c.args.key.now c.in-Resident.slot
-    c.args.self.now c.look-found.new.self c.vacate.new.self c.in-Resident.ensures.slot c.look-found.ensures.kept c.look-found.ensures.counts c.vacate.ensures.machine c.vacate.ensures.counts
+    remove-costs c.in-Resident.ensures.slot c.look-found.ensures.kept c.look-found.ensures.counts c.vacate.ensures.machine c.vacate.ensures.counts

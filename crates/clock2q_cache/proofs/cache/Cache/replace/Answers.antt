@@ -1,10 +1,6 @@
 -- The value of a slot is replaced.
-use Rattle.clock2q_queues.proofs.Entries.{value-there}
 use Rattle.std.proofs.Common.{ap, sym, ◌∙◌, slice_get}
-use Rattle.clock2q_queues.specs.Keys.{KeyPlaces}
-use Rattle.clock2q_cache.specs.CacheState.{CacheState}
-use Rattle.clock2q_cache.specs.CacheFields.{machine_of}
-use Rattle.clock2q_machine.specs.Machine.{stored}
+use Rattle.clock2q_cache.proofs.Names.{value-there, KeyPlaces, CacheState, machine_of, stored}
 use Rattle.clock2q_cache.proofs.Changed.{replaced-machine, kept-replaced}
 use Rattle.clock2q_cache.proofs.cache.Cache.replace.Goals as goal
 
@@ -21,9 +17,6 @@ returns-clause-value g c =
 
 pub returns-clause-machine : goal.returns-clause-machine
 returns-clause-machine g c =
-    let k = c.self.invariant in
-    let below = rw (← c.self.view_is) at c.requires in
-    let i = c.self.inside in
-    ap (λ (z : KeyPlaces _ _). machine_of i.shares i.queues z.entries i.history.entries i.free.items) c.replace_value.ensures.replaced
-    ∙ replaced-machine g.met.K.Eq.laws k c.args.slot c.args.value below
+    ap (λ (z : KeyPlaces _ _). machine_of c.self.inside.shares c.self.inside.queues z.entries c.self.inside.history.entries c.self.inside.free.items) c.replace_value.ensures.replaced
+    ∙ replaced-machine g.met.K.Eq.laws c.self.invariant c.args.slot c.args.value (rw (← c.self.view_is) at c.requires)
     ∙ ap (λ (z : CacheState _ _ _). stored c.args.slot c.args.value z.machine) c.self.view_is

@@ -1,11 +1,7 @@
 -- The key goes to the end of Main, at the victim's slot.
-use Rattle.std.proofs.Common.{arith, refl, vec_capacity, ap, ◌∙◌}
-use Rattle.clock2q_handles.specs.Homes.{with_handle}
-use Rattle.clock2q_queues.specs.Index.{left, slots}
-use Rattle.clock2q_queues.specs.History.{Remembered}
-use Rattle.clock2q_queues.proofs.Views.{slots-entered, slots-left}
-use Rattle.clock2q_machine.specs.Machine.{into_main}
-use Rattle.clock2q_cache.proofs.CacheInvariant.{m, IsDone, done-reindexed, reindexed, now-slots}
+use Rattle.std.proofs.Common.{arith, refl, vec_capacity, ap}
+use Rattle.clock2q_cache.proofs.Names.{slots, Remembered, into_main}
+use Rattle.clock2q_cache.proofs.CacheInvariant.{m, IsDone, done-reindexed, reindexed, slots-renewed}
 use Rattle.clock2q_cache.proofs.Renewed.{resident-there, room-there, slot-below, victim-in, victim-not_in_rest, victim-not_in_small, replaced-done}
 use Rattle.clock2q_cache.proofs.Insertions.{victim-spends}
 use Rattle.clock2q_cache.proofs.Places.{entered-renewed}
@@ -15,25 +11,23 @@ use Rattle.clock2q_cache.proofs.cache.Cache.replace_victim.Goals as goal
 
 pub renew-requires : goal.renew-requires
 renew-requires g c =
-    let k = c.self.invariant in
-    let there = victim-in g.met.K.Eq.laws k c.take_victim-victim.result c.take_victim-victim.ensures.victim in
+    let there = victim-in g.met.K.Eq.laws c.self.invariant c.take_victim-victim.result c.take_victim-victim.ensures.victim in
     record {
-      resident = resident-there g.met.K.Eq.laws k c.take_victim-victim.result there;
-      made = (slot-below g.met.K.Eq.laws k c.take_victim-victim.result there).0;
-      below = (slot-below g.met.K.Eq.laws k c.take_victim-victim.result there).2;
-      room = (room-there g.met.K.Eq.laws k).0;
-      few = (room-there g.met.K.Eq.laws k).1;
+      resident = resident-there g.met.K.Eq.laws c.self.invariant c.take_victim-victim.result there;
+      made = (slot-below g.met.K.Eq.laws c.self.invariant c.take_victim-victim.result there).0;
+      below = (slot-below g.met.K.Eq.laws c.self.invariant c.take_victim-victim.result there).2;
+      room = (room-there g.met.K.Eq.laws c.self.invariant).0;
+      few = (room-there g.met.K.Eq.laws c.self.invariant).1;
     }
 
 pub append-requires : goal.append-requires
 append-requires g c =
-    let k = c.self.invariant in
     let victim = c.take_victim-victim.ensures.victim in
-    let b = slot-below g.met.K.Eq.laws k c.take_victim-victim.result (victim-in g.met.K.Eq.laws k c.take_victim-victim.result victim) in
+    let b = slot-below g.met.K.Eq.laws c.self.invariant c.take_victim-victim.result (victim-in g.met.K.Eq.laws c.self.invariant c.take_victim-victim.result victim) in
     rw c.take_victim-victim.ensures.queues (record {
-      slot_in = omega (arith, b.1, k.sized.as_many);
-      not_in_small = victim-not_in_small g.met.K.Eq.laws k c.take_victim-victim.result victim;
-      not_in_main = victim-not_in_rest g.met.K.Eq.laws k c.take_victim-victim.result victim;
+      slot_in = omega (arith, b.1, c.self.invariant.sized.as_many);
+      not_in_small = victim-not_in_small g.met.K.Eq.laws c.self.invariant c.take_victim-victim.result victim;
+      not_in_main = victim-not_in_rest g.met.K.Eq.laws c.self.invariant c.take_victim-victim.result victim;
     })
 
 -- the key has the slot
@@ -45,26 +39,22 @@ done g c =
     done-reindexed g.met.K.Eq.laws c.self.invariant (reindexed c.self.inside.history c.renew.ensures.index refl)
     (replaced-done g.met.K.Eq.laws c.self.invariant (rw (← c.self.view_is) at c.requires.hash) (rw (← c.self.view_is) at c.requires.absent)
     (victim-in g.met.K.Eq.laws c.self.invariant c.take_victim-victim.result victim) c.renew.ensures.hash
-    (now-slots c.self.inside.history c.renew.ensures.index (slots-entered (left c.renew.result.0 c.take_victim-victim.result c.self.inside.history.places.index) c.args.hash c.take_victim-victim.result (omega (arith, below))
-    ∙ ap (λ z. with_handle z c.args.hash c.take_victim-victim.result) (slots-left c.self.inside.history.places.index c.renew.result.0 c.take_victim-victim.result (omega (arith, below)))))
-    c.renew.ensures.entries c.renew.ensures.kept
-    victim (rw (← c.self.view_is) at c.requires.full) (rw c.take_victim-victim.ensures.queues at c.append.ensures.queues))
+    (slots-renewed c.self.inside.history c.renew.result.0 c.args.hash c.renew.ensures.index below) c.renew.ensures.entries c.renew.ensures.kept victim (rw (← c.self.view_is) at c.requires.full) (rw c.take_victim-victim.ensures.queues at c.append.ensures.queues))
 
 pub invariant_of-self : goal.invariant_of-self
 invariant_of-self g c = (done g (goal.at.invariant_of-self g c).After-append).holds
 
 pub returns : goal.returns
 returns g c =
-    let k = c.self.invariant in
     let d = done g (goal.at.returns g c).After-append in
-    let there = victim-in g.met.K.Eq.laws k c.take_victim-victim.result c.take_victim-victim.ensures.victim in
+    let there = victim-in g.met.K.Eq.laws c.self.invariant c.take_victim-victim.result c.take_victim-victim.ensures.victim in
     let links = c.append.ensures.accesses in
     rw (← c.self.view_is) (record {
       slot = d.at;
       machine = d.fills;
-      indexes = entered-renewed g.met.K.Eq.laws k c.self.inside.history.places c.args.key c.take_victim-victim.result
+      indexes = entered-renewed g.met.K.Eq.laws c.self.invariant c.self.inside.history.places c.args.key c.take_victim-victim.result
           (rw (← c.self.view_is) at c.requires.hash) there c.renew.ensures.hash (ap (λ (z : Remembered _). z.places) c.renew.ensures.index);
       hasher = refl;
-      counts = victim-spends g.met.K.Eq.laws k c.take_victim-victim.new.self c.take_victim-victim.ensures.inspections c.take_victim-victim.ensures.accesses
+      counts = victim-spends g.met.K.Eq.laws c.self.invariant c.take_victim-victim.new.self c.take_victim-victim.ensures.inspections c.take_victim-victim.ensures.accesses
           (rw c.take_victim-victim.ensures.queues at c.append.ensures.queues) (omega (arith, links.0), omega (arith, links.1)) c.renew.ensures.index c.renew.ensures.kept;
     })

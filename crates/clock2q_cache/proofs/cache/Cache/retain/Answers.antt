@@ -1,8 +1,6 @@
 -- Each resident is asked, and leaves where it is refused.
 use Rattle.std.proofs.Common.{◌≡◌, ◌*◌, ◌<◌, false, Option, None, Some, arith, List, length, refl, ap, sym, ◌∙◌, subst}
-use Rattle.std.specs.Prelude.{is_some}
-use Rattle.clock2q_cache.specs.Costs.{Spends}
-use Rattle.clock2q_machine.specs.Machine.{resident_at}
+use Rattle.clock2q_cache.proofs.Names.{is_some, Spends, resident_at}
 use Rattle.clock2q_cache.proofs.Retained.{retains-none, retains-past, retains-asks, retains-kept, retains-refused, retains-all}
 use Rattle.clock2q_cache.proofs.Spent.{slot-stays, slot-leaves, retain-costs}
 use Rattle.clock2q_cache.proofs.cache.Cache.retain.Goals.{then-is_resident+then-not-stays, then-is_resident+else-not-stays, else-is_resident}
@@ -23,35 +21,32 @@ value-requires g c = omega (arith, c.loop-slot-test.true, c.made-slot-end.ensure
 
 pub keep-stays-requires : goal.keep-stays-requires
 keep-stays-requires g c =
-    let h = c.loop-slot.invariant.0 in
     let made : c.loop-slot.slot < length c.args.self.now.machine.values = omega (arith, c.loop-slot-test.true, c.made-slot-end.ensures) in
-    retains-asks g.F.FnMut c.args.keep c.args.self.now.machine c.loop-slot.slot c.loop-slot.keep c.loop-slot.self.machine h made
+    retains-asks g.F.FnMut c.args.keep c.args.self.now.machine c.loop-slot.slot c.loop-slot.keep c.loop-slot.self.machine c.loop-slot.invariant.0 made
     c.key.result c.value.result c.key.ensures c.value.ensures
 
 pub loop-slot-preserved : goal.loop-slot-preserved
 loop-slot-preserved g c =
     let h = c.loop-slot.invariant.0 in
-    let hashes = c.loop-slot.invariant.1 in
-    let spent = c.loop-slot.invariant.2 in
     let made : c.loop-slot.slot < length c.args.self.now.machine.values = omega (arith, c.loop-slot-test.true, c.made-slot-end.ensures) in
     elim c.if-is_resident.branch [
       | then-is_resident+then-not-stays w ↦ rw (w.keep-is, w.self-is) (
         rw w.vacate.ensures.machine (retains-refused g.F.FnMut c.args.keep c.args.self.now.machine c.loop-slot.slot c.loop-slot.keep c.loop-slot.self.machine h made
             w.key.result w.value.result w.key.ensures w.value.ensures w.keep-stays.new.self (rw w.if-not-stays.true at w.keep-stays.ensures)),
-        w.vacate.ensures.hasher ∙ hashes,
-        slot-leaves c.loop-slot.slot _ _ _ spent w.vacate.ensures.counts,
+        w.vacate.ensures.hasher ∙ c.loop-slot.invariant.1,
+        slot-leaves c.loop-slot.slot c.loop-slot.invariant.2 w.vacate.ensures.counts,
       )
       | then-is_resident+else-not-stays w ↦ rw (w.keep-is, w.self-is) (
         retains-kept g.F.FnMut c.args.keep c.args.self.now.machine c.loop-slot.slot c.loop-slot.keep c.loop-slot.self.machine h made
             w.key.result w.value.result w.key.ensures w.value.ensures w.keep-stays.new.self (rw w.if-not-stays.false at w.keep-stays.ensures),
-        hashes,
-        slot-stays c.loop-slot.slot _ _ spent,
+        c.loop-slot.invariant.1,
+        slot-stays c.loop-slot.slot c.loop-slot.invariant.2,
       )
       | else-is_resident w ↦ rw (w.keep-is, w.self-is) (
         retains-past g.F.FnMut c.args.keep c.args.self.now.machine c.loop-slot.slot c.loop-slot.keep c.loop-slot.self.machine h made
             (none-there (resident_at c.loop-slot.self.machine c.loop-slot.slot) (sym c.is_resident.ensures ∙ w.if-is_resident.false)),
-        hashes,
-        slot-stays c.loop-slot.slot _ _ spent,
+        c.loop-slot.invariant.1,
+        slot-stays c.loop-slot.slot c.loop-slot.invariant.2,
       )
     ]
   where
@@ -67,6 +62,5 @@ returns g c =
     record {
       retained = r;
       hasher = c.loop-slot.invariant.1;
-      costs = λ bits. retain-costs (record { eq = g.K.PartialEq.eq; hash_input = g.K.Hash.hash_input }) g.S.BuildHasher g.S.Hasher.Hasher bits r.bits
-          c.args.self.now c.loop-slot.self r.becomes (subst (λ n. Spends 0 (8 * n) 0 c.args.self.now.counts c.loop-slot.self.counts) all c.loop-slot.invariant.2);
+      costs = λ bits. retain-costs r.bits r.becomes (subst (λ n. Spends 0 (8 * n) 0 c.args.self.now.counts c.loop-slot.self.counts) all c.loop-slot.invariant.2);
     }

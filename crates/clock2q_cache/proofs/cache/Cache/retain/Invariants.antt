@@ -1,5 +1,4 @@
-use Rattle.std.specs.Prelude.{◌≡◌, ◌*◌}
-use Rattle.clock2q_cache.specs.Costs.{Spends}
+use Rattle.clock2q_cache.proofs.Names.{◌≡◌, ◌*◌, Spends}
 use Rattle.clock2q_cache.proofs.Retained.{RetainsBelow}
 use Rattle.clock2q_cache.proofs.cache.Cache.retain.Given as goal
 

@@ -1,10 +1,6 @@
 -- What the lookup through the index finds is the slot of the resident.
 use Rattle.std.proofs.Common.{◌<◌, length, ap, sym, ◌∙◌, subst}
-use Rattle.std.specs.List.{find, AllByRecursion}
-use Rattle.clock2q_queues.specs.Keys.{is_key_at}
-use Rattle.clock2q_cache.specs.Hashes.{hash_of}
-use Rattle.clock2q_cache.specs.CacheState.{CacheState}
-use Rattle.clock2q_machine.specs.Machine.{slot_of}
+use Rattle.clock2q_cache.proofs.Names.{find, AllByRecursion, is_key_at, hash_of, CacheState, slot_of}
 use Rattle.clock2q_cache.proofs.Finding.{candidates-there, found, found-made}
 use Rattle.clock2q_cache.proofs.cache.Cache.slot_of.Goals as goal
 

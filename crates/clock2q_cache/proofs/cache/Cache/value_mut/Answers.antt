@@ -1,28 +1,21 @@
 -- Whatever is left behind the reference is the slot's value.
-use Rattle.clock2q_queues.proofs.Entries.{value-there}
 use Rattle.std.proofs.Common.{refl, ap, sym, ◌∙◌, slice_get}
-use Rattle.clock2q_queues.specs.Keys.{with_value}
-use Rattle.clock2q_machine.specs.Machine.{stored}
-use Rattle.clock2q_cache.specs.CacheState.{CacheState, cache_state}
-use Rattle.clock2q_cache.specs.CacheFields.{counts_of}
+use Rattle.clock2q_cache.proofs.Names.{value-there, with_value, stored, CacheState, cache_state, counts_of}
 use Rattle.clock2q_cache.proofs.Changed.{replaced-machine, kept-replaced}
 use Rattle.clock2q_cache.proofs.cache.Cache.value_mut.Goals as goal
 
 pub invariant_of-self-lent : goal.invariant_of-self-lent
 invariant_of-self-lent g c w =
-    let k = c.self.invariant in
-    let below = rw (← c.self.view_is) at c.requires in
     let i = c.self.inside in
-    kept-replaced g.met.K.Eq.laws k c.args.slot w below (record i.keys { entries = with_value c.args.slot w i.keys.entries }) refl refl
+    kept-replaced g.met.K.Eq.laws c.self.invariant c.args.slot w (rw (← c.self.view_is) at c.requires) (record i.keys { entries = with_value c.args.slot w i.keys.entries }) refl refl
 
 pub returns : goal.returns
 returns g c =
-    let k = c.self.invariant in
     let below = rw (← c.self.view_is) at c.requires in
     let i = c.self.inside in (
       (
         refl,
-        λ w. ap (λ z. cache_state z i.history.places i.hasher (counts_of i.queues i.history i.keys)) (replaced-machine g.met.K.Eq.laws k c.args.slot w below)
+        λ w. ap (λ z. cache_state z i.history.places i.hasher (counts_of i.queues i.history i.keys)) (replaced-machine g.met.K.Eq.laws c.self.invariant c.args.slot w below)
             ∙ ap (λ (z : CacheState _ _ _). record z { machine = stored c.args.slot w z.machine }) c.self.view_is,
       ),
       record {
