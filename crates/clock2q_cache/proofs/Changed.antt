@@ -137,13 +137,7 @@ module _ {K V : Type 0} where
   -- a full cache has an entry in Small, where that has a share
   pub small-some : (eq : K → K → Bool) (m : Machine K V) → IsWhole eq m → is_some (vacancy m) ≡ false → goes_to_main false m ≡ false → 0 < length m.small
   small-some eq m whole none small =
-      omega (
-        arith,
-        all_resident eq m whole (nothing (vacancy m) none),
-        whole.main_within,
-        whole.small_below,
-        small_share m.shares.small (is_some (vacancy m) && nat_le m.shares.small (length m.small)) small,
-      )
+      omega (arith, all_resident eq m whole (nothing (vacancy m) none), small_share m.shares.small (is_some (vacancy m) && nat_le m.shares.small (length m.small)) small)
     where
       nothing : (o : Option ℕ) → is_some o ≡ false → o ≡ None
       nothing None h = refl
@@ -171,11 +165,7 @@ module _ {K V : Type 0} where
       places = ap (λ z. slots_of z ++ slots_of q.main) small ∙ ap (λ z. slots_of z) main
 
       is : machine_of shares q keys.entries h.entries free ≡ empty shares
-      is = cc (
-        ap (λ z. map (λ (e : ℕ × K). e.1) z) entries,
-        ap (λ (z : List ℕ). reverse z) none,
-        ap (λ z. map (λ (e : Entry K V). e.value) z) keyed,
-      )
+      is = cc (ap (λ z. map (λ (e : ℕ × K). e.1) z) entries, ap (λ (z : List ℕ). reverse z) none, ap (λ z. map (λ (e : Entry K V). e.value) z) keyed)
 
   -- a cache that is emptied
   pub kept-cleared : {eq : K → K → Bool} {hash : K → ℕ} {shares : Shares} {q q' : QueueState} {h h' : Remembered K} {index index' : List (List (ℕ × ℕ))} {keys keys' : KeyPlaces K V}

@@ -56,16 +56,7 @@ module _ {K V : Type 0} {eq : K → K → Bool} {hash : K → ℕ} {shares : Sha
 
   pub room-there : (total index + most_beside h ≤ capacity (length index)) × (total index + most_beside h < 2 ^ 24)
   room-there =
-      let few : total index ≤ shares.capacity = omega (
-        arith,
-        kept.stored.indexed.counted,
-        length-places q,
-        kept.whole.small_within,
-        kept.whole.main_within,
-        kept.whole.small_below,
-        length_in_small laws kept,
-        length_in_main laws kept,
-      ) in
+      let few : total index ≤ shares.capacity = omega (arith, length-places q, length_in_small laws kept, length_in_main laws kept) in
       (omega (arith, few, kept.sized.spacious), omega (arith, few, kept.sized.few))
 
   -- a resident's slot was made, and is below the capacity
@@ -311,16 +302,10 @@ module _ {K V : Type 0} {eq : K → K → Bool} {hash : K → ℕ} {shares : Sha
         (λ u. omega (
           arith,
           times-both u q1,
+          times-both u q,
           times-admitted u q.window slot (front tail last),
           times-pushed u (rest slot first) (tail, false),
           front_times tail last u,
           rest_times slot first u,
-          times-both u q,
         ))
-        (omega (
-          arith,
-          length-admitted q.window slot (front tail last),
-          length-front tail last,
-          length-append (rest slot first) ((tail, false) ∷ []),
-          length-rest slot first,
-        ))))
+        (omega (arith, length-admitted q.window slot (front tail last), length-front tail last, length-append (rest slot first) ((tail, false) ∷ []), length-rest slot first))))

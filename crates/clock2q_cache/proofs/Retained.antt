@@ -165,12 +165,7 @@ module _ {F K V : Type 0} (g : Mut F (Bor K × (Bor V × Unit {0})) Bool) (f : F
 
       module _ (last : F) where
         asks : (b : Bool) → Called g f' (key, (value, tt)) b last → AsksResident g old.values f' (key.now, n) b last
-        asks b called = record {
-          key = key;
-          value = value;
-          shows = (refl, there);
-          called = called;
-        }
+        asks b called = record { key = key; value = value; shows = (refl, there); called = called }
 
         among : below (n + 1) ≡ below n ++ (key.now, n) ∷ []
         among = below-more n (Some (key.now, n)) (sym (h.later n (omega arith)) ∙ here)

@@ -88,12 +88,7 @@ module _ {K V : Type 0} {eq : K → K → Bool} {hash : K → ℕ} {shares : Sha
   main_have = λ t g. have_keys keys.entries (places_of q) kept.stored.made t (has-append t (slots_of q.small) (slots_of q.main) ∙ rw g (or_true (has t (slots_of q.small))))
 
   pub standing-times : (t : ℕ) → standings t m ≡ times t (places_of q) + times t (reverse free)
-  standing-times t =
-      omega (
-        arith,
-        standing-keyed (key_at keys.entries) t q.small q.main small_have main_have,
-        sum_by-append (λ s. cond (s == t) 1 0) (slots_of q.small) (slots_of q.main),
-      )
+  standing-times t = omega (arith, standing-keyed (key_at keys.entries) t q.small q.main small_have main_have, times-both t q)
 
   once_at_most : (b : Bool) → (if b then 1 else 0) ≤ 1
   once_at_most true = omega arith

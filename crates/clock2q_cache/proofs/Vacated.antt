@@ -1,9 +1,9 @@
 -- Which slots have a resident, and what a cache's fields become where one of them leaves.
-use Rattle.std.proofs.Common.{◌≡◌, ℕ, ◌+◌, ◌<◌, ◌==◌, Bool, true, not, cond, eqb, Option, Some, List, [], ◌∷◌, ◌++◌, length, reverse, inl, inr, refl, sym, ap, ◌∙◌, subst, arith, eq-eqb}
-use Rattle.clock2q_cache.proofs.Names.{length-values, is_some, IsSome, IsEquivalence, option_map, filter, find, count_by, cases_Bool, both_ways, slots_of-filter, some_is, filter-append, sum_by-append, removed, has, without, KeyPlaces, hash_at, key_at, QueueState, slots_of, without_slot, Remembered, below_of, length-taken, Shares, Machine, residents, resident_at, slot_of, vacated, IsWhole, machine_of, places_of, with_keys_small, with_keys_main, IsStored, IsKept, whole-vacated}
+use Rattle.std.proofs.Common.{◌≡◌, ℕ, ◌+◌, ◌<◌, ◌==◌, Bool, true, not, eqb, Option, Some, List, [], ◌∷◌, ◌++◌, length, reverse, inl, inr, refl, sym, ap, ◌∙◌, subst, arith, eq-eqb}
+use Rattle.clock2q_cache.proofs.Names.{length-values, is_some, IsSome, IsEquivalence, option_map, filter, find, count_by, cases_Bool, both_ways, slots_of-filter, some_is, filter-append, removed, has, without, KeyPlaces, hash_at, key_at, QueueState, slots_of, without_slot, Remembered, below_of, length-taken, Shares, Machine, residents, resident_at, slot_of, vacated, IsWhole, machine_of, places_of, with_keys_small, with_keys_main, IsStored, IsKept, whole-vacated}
 use Rattle.clock2q_cache.proofs.WithKeys.{standing-keyed, small-without, main-without}
 use Rattle.clock2q_cache.proofs.Stored.{stored-left, have_keys}
-use Rattle.clock2q_cache.proofs.Slots.{small_have, main_have, apart, times-some}
+use Rattle.clock2q_cache.proofs.Slots.{small_have, main_have, apart, times-some, times-both}
 use Rattle.clock2q_cache.proofs.Places.{resident-there, resident-none}
 use Rattle.clock2q_cache.proofs.CacheInvariant.{index_some, sized-same}
 
@@ -50,7 +50,7 @@ module _ {K V : Type 0} {eq : K → K → Bool} {hash : K → ℕ} {shares : Sha
     standing-counted = omega (
       arith,
       times-some slot (places_of q) stands,
-      sum_by-append (λ s. cond (s == slot) 1 0) (slots_of q.small) (slots_of q.main),
+      times-both slot q,
       standing-keyed (key_at keys.entries) slot q.small q.main (small_have laws kept) (main_have laws kept),
     )
 

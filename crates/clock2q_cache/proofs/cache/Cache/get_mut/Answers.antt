@@ -4,18 +4,11 @@ use Rattle.clock2q_cache.proofs.Spent.{unhit-becomes, unlent-becomes, lent-becom
 use Rattle.clock2q_cache.proofs.cache.Cache.get_mut.Goals as goal
 
 pub returns : goal.returns
-returns g c = (
-  (refl, (λ w. lent-becomes c.in_ok-resident.ensures.slot c.hit.ensures.becomes), tt),
-  record { writes_back = tt; value = search rules; missed = tt },
-)
+returns g c = ((refl, (λ w. lent-becomes c.in_ok-resident.ensures.slot c.hit.ensures.becomes), tt), record { writes_back = tt; value = search rules; missed = tt })
 
 pub returns-in_err-resident : goal.returns-in_err-resident
 returns-in_err-resident g c =
     let absent = sym c.in_err-resident.ensures.slot in (
-      (
-        search rules,
-        (λ w. unlent-becomes absent c.hit.ensures.becomes),
-        rw c.from_residual.ensures (unhit-becomes absent c.hit.ensures.becomes),
-      ),
+      (search rules, (λ w. unlent-becomes absent c.hit.ensures.becomes), rw c.from_residual.ensures (unhit-becomes absent c.hit.ensures.becomes)),
       record { writes_back = tt; value = search rules; missed = rw c.from_residual.ensures absent },
     )

@@ -1,6 +1,6 @@
 -- The value that the key was fetched with stands at its slot.
-use Rattle.std.proofs.Common.{refl, sym, ap, ◌∙◌, subst}
-use Rattle.clock2q_cache.proofs.Names.{UnwrapsOrElse, value_of, fetched, some_is}
+use Rattle.std.proofs.Common.{refl, sym, ◌∙◌}
+use Rattle.clock2q_cache.proofs.Names.{some_is}
 use Rattle.clock2q_cache.proofs.Spent.{costs-of}
 use Rattle.clock2q_cache.proofs.cache.Cache.get_or_insert_with.Goals as goal
 
