@@ -42,14 +42,15 @@ TookSome-unflushed old mid new held holds then text took flushed kept =
     }
 
 -- a script that was read is answered, or there's no text
-pub Answers-replied : {X : Type 0} (old new : Traffic) (left remain : Option (List ℕ)) (input : List ℕ) (script : Script) (bytes : X → List ℕ) (r : Result X ServeError) → IsReadWhole old new left remain input → script_of input ≡ Ok script → RepliesTo script bytes r → Answers old new left remain bytes r
-Answers-replied old new left remain input script bytes (Ok text) whole is h = record { input = input; script = script; read = whole; spelled = is; served = h.0; told = h.1 }
-Answers-replied old new left remain input script bytes (Err (BadLine line)) whole is h = absurd h
-Answers-replied old new left remain input script bytes (Err Memory) whole is h = inr (record { input = input; read = whole; good = λ line e. cc })
-Answers-replied old new left remain input script bytes (Err Capacity) whole is h = record { input = input; script = script; read = whole; spelled = is; large = h }
-Answers-replied old new left remain input script bytes (Err Policy) whole is h = record { input = input; script = script; read = whole; spelled = is; within = h.0; no_policy = h.1 }
-Answers-replied old new left remain input script bytes (Err Read) whole is h = absurd h
-Answers-replied old new left remain input script bytes (Err Write) whole is h = absurd h
+pub Answers-replied : {X : Type 0} {old new : Traffic} {left remain : Option (List ℕ)} (input : List ℕ) (script : Script) (bytes : X → List ℕ) (r : Result X ServeError)
+    → IsReadWhole old new left remain input → script_of input ≡ Ok script → RepliesTo script bytes r → Answers old new left remain bytes r
+Answers-replied input script bytes (Ok text) whole is h = record { input = input; script = script; read = whole; spelled = is; served = h.0; told = h.1 }
+Answers-replied input script bytes (Err (BadLine line)) whole is h = absurd h
+Answers-replied input script bytes (Err Memory) whole is h = inr (record { input = input; read = whole; good = λ line e. cc })
+Answers-replied input script bytes (Err Capacity) whole is h = record { input = input; script = script; read = whole; spelled = is; large = h }
+Answers-replied input script bytes (Err Policy) whole is h = record { input = input; script = script; read = whole; spelled = is; within = h.0; no_policy = h.1 }
+Answers-replied input script bytes (Err Read) whole is h = absurd h
+Answers-replied input script bytes (Err Write) whole is h = absurd h
 
 -- what passed through a port in a call, and what it held
 pub record Passage : Type 0 where

@@ -12,7 +12,7 @@ reply_to-requires g c =
 
 pub returns : goal.returns
 returns g c =
-    Answers-replied _ _ _ _ c.in_ok-input.input.items
+    Answers-replied c.in_ok-input.input.items
     (script_value (shares_value c.in_ok-script.script.capacity c.in_ok-script.script.chosen) c.in_ok-script.script.commands.items)
     _ c.reply_to.result (record { given = c.in_ok-input.ensures.given; known = c.in_ok-input.ensures.bytes; at_end = c.in_ok-input.ensures.end })
     (ap script_of (sym c.deref.ensures.value) ∙ c.in_ok-script.ensures) c.reply_to.ensures
