@@ -5,6 +5,8 @@
 #[cfg(test)]
 mod called;
 #[cfg(test)]
+mod calls;
+#[cfg(test)]
 mod crowded;
 #[cfg(test)]
 mod model;
@@ -12,8 +14,6 @@ mod model;
 mod seeded;
 #[cfg(test)]
 mod states;
-#[cfg(test)]
-mod calls;
 #[cfg(test)]
 mod tested;
 #[cfg(test)]

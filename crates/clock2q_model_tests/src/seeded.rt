@@ -1,7 +1,7 @@
 //! Lists of calls from seeds, each answer and what it leaves compared with plain lists.
 
-use crate::model::Shares;
 use crate::calls::Call;
+use crate::model::Shares;
 use crate::tested::{Position, Tested};
 use clock2q_cache::DefaultHashBuilder;
 use clock2q_refusing::Draws;
@@ -59,7 +59,12 @@ fn made(alloc: Global, kind: Kind, shares: Shares) -> Result<Usual, Fail> {
 }
 
 /// Makes the first calls of a list, and compares after each.
-fn drive(rt: &impl Abort, tested: &mut Usual, end: Position, draws: &mut Draws) -> Result<(), Fail> {
+fn drive(
+    rt: &impl Abort,
+    tested: &mut Usual,
+    end: Position,
+    draws: &mut Draws,
+) -> Result<(), Fail> {
     let list = end.list;
     for number in 0..end.number {
         let call = Call::drawn(draws, &tested.model, number);
@@ -78,7 +83,12 @@ fn look_closely(rt: &impl Abort, tested: &mut Usual, end: Position) -> Result<()
 }
 
 /// Begins a list anew and looks closely where it comes to.
-fn beginning_is_same(rt: &impl Abort, alloc: Global, kind: Kind, end: Position) -> Result<(), Fail> {
+fn beginning_is_same(
+    rt: &impl Abort,
+    alloc: Global,
+    kind: Kind,
+    end: Position,
+) -> Result<(), Fail> {
     let mut draws = Draws::new(end.list);
     let shares = shares_of(&mut draws, kind, end.list as usize);
     let mut tested = made(alloc, kind, shares)?;

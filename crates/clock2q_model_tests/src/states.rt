@@ -109,7 +109,12 @@ fn answers(
 }
 
 /// A cache after the first so many calls.
-fn cache_after(rt: &impl Abort, alloc: Global, calls: usize, position: Position) -> Result<Usual, Fail> {
+fn cache_after(
+    rt: &impl Abort,
+    alloc: Global,
+    calls: usize,
+    position: Position,
+) -> Result<Usual, Fail> {
     let mut tested = Tested::usual(alloc, 20, DefaultHashBuilder::new())?;
     for key in 1..21 {
         answers(
@@ -157,7 +162,12 @@ fn leave_main(
 }
 
 /// Each key stands where the state says.
-fn stands(rt: &impl Abort, tested: &mut Usual, state: &State, position: Position) -> Result<(), Fail> {
+fn stands(
+    rt: &impl Abort,
+    tested: &mut Usual,
+    state: &State,
+    position: Position,
+) -> Result<(), Fail> {
     residents_stand(rt, tested, state, position)?;
     leave_main(rt, tested, state, position)
 }

@@ -1,8 +1,8 @@
 //! A cache beside its plain lists, driven by the same calls.
 
 use crate::called::Called;
-use crate::model::{Model, Shares};
 use crate::calls::{Answer, Call};
+use crate::model::{Model, Shares};
 use clock2q_cache::Cache;
 use std::alloc::Global;
 use std::hash::BuildHasher;
@@ -64,7 +64,12 @@ impl<S: BuildHasher + Drop> Tested<S> {
     }
 
     /// The cache shows this text of itself.
-    pub(crate) fn shows(&self, rt: &impl Abort, wanted: &str, position: Position) -> Result<(), Fail> {
+    pub(crate) fn shows(
+        &self,
+        rt: &impl Abort,
+        wanted: &str,
+        position: Position,
+    ) -> Result<(), Fail> {
         let shown = self.called.text(self.alloc)?;
         assert_eq!(rt; shown.as_str(), wanted, "{position:?}");
         Ok(())
@@ -77,14 +82,22 @@ impl<S: BuildHasher + Drop> Tested<S> {
     }
 
     /// The cache holds the same keys with the same values, slot by slot.
-    pub(crate) fn residents_are_same(&mut self, rt: &impl Abort, position: Position) -> Result<(), Fail> {
+    pub(crate) fn residents_are_same(
+        &mut self,
+        rt: &impl Abort,
+        position: Position,
+    ) -> Result<(), Fail> {
         let wanted = self.model.residents()?;
         assert!(rt; self.called.holds(&wanted), "{position:?}");
         Ok(())
     }
 
     /// Looks each resident up at its slot and at the next one.
-    pub(crate) fn slots_are_same(&mut self, rt: &impl Abort, position: Position) -> Result<(), Fail> {
+    pub(crate) fn slots_are_same(
+        &mut self,
+        rt: &impl Abort,
+        position: Position,
+    ) -> Result<(), Fail> {
         for slot in 0..self.model.made() {
             let key = self.model.key_at(slot).unwrap_or(0);
             self.call(rt, Call::GetAt(slot, key), position)?;
