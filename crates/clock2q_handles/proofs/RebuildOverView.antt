@@ -46,7 +46,7 @@ module _ {F H : Type 0} (g : Mut F (H × Unit {0}) ℕ) where
         }
 
     module _ (last : F) (new : List (Option (Placed (ℕ × H)))) (i : ℕ) (so_far : MovedSo f last old from new i) where
-      pub moving_past : i < length old → slot_at old (0 + i) ≡ None → MovedSo f last old from new (i + 1)
+      pub moving_past : i < length old → slot_at old i ≡ None → MovedSo f last old from new (i + 1)
       moving_past within empty = record {
         reached = so_far.reached;
         table = so_far.table;

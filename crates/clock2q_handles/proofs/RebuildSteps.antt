@@ -1,5 +1,5 @@
 -- A rebuild, entry by entry: the calls of the closure, and the table that has been made so far.
-use Rattle.std.proofs.Common.{◌≡◌, ℕ, suc, ◌+◌, ◌*◌, ◌%◌, ◌<◌, ◌≤◌, refl, ap, sym, ◌∙◌, subst, arith, List, [], ◌∷◌, ◌++◌, map, take, length, get_or, Option, Some, None, IfSome, mod-eq_of_lt, length-append}
+use Rattle.std.proofs.Common.{◌≡◌, ℕ, suc, ◌+◌, ◌*◌, ◌<◌, ◌≤◌, refl, ap, sym, ◌∙◌, subst, arith, List, [], ◌∷◌, ◌++◌, map, take, length, get_or, Option, Some, None, IfSome, mod-eq_of_lt, length-append}
 use Rattle.std.proofs.lemmas.List.{map-append}
 use Rattle.std.specs.Fn.{Called, Mut}
 use Rattle.clock2q_handles.specs.Homes.{capacity, total, no_entries, with_handle, put_last}
@@ -27,18 +27,16 @@ module _ {H : Type 0} (slots : List (Option (Placed (ℕ × H)))) (len : ℕ) (t
   abbrev made : ℕ → List (List (ℕ × H))
   made n = put_all key (no_entries m) (entries (take n slots))
 
-  here : slot_at slots (0 + i) ≡ get_or slots i None
-  here =
-      let z : 0 + i ≡ i = omega arith in
-      ap (λ n. get_or slots (n % length slots) None) z ∙ ap (λ n. get_or slots n None) (mod-eq_of_lt within)
+  here : slot_at slots i ≡ get_or slots i None
+  here = ap (λ n. get_or slots n None) (mod-eq_of_lt within)
 
   -- an empty slot adds nothing
-  pub passed_empty : slot_at slots (0 + i) ≡ None → made (i + 1) ≡ made i
+  pub passed_empty : slot_at slots i ≡ None → made (i + 1) ≡ made i
   passed_empty empty =
       let e : i + 1 ≡ suc i = omega arith in
       ap made e ∙ ap (put_all key (no_entries m)) (entries-none slots i within (sym here ∙ empty))
 
-  module _ (s : Placed (ℕ × H)) (is : slot_at slots (0 + i) ≡ Some s) where
+  module _ (s : Placed (ℕ × H)) (is : slot_at slots i ≡ Some s) where
     more : entries (take (suc i) slots) ≡ entries (take i slots) ++ s ∷ []
     more = entries-some slots i s within (sym here ∙ is)
 
@@ -47,7 +45,7 @@ module _ {H : Type 0} (slots : List (Option (Placed (ℕ × H)))) (len : ℕ) (t
     entry_held =
         let homes = homes_of slots in
         let room : total homes < length homes = omega (arith, tidy-room slots table.tidy, capacity-lt (length homes) (omega (arith, within, length-homes_of slots))) in
-        let r = layout-only homes room (0 + i) s (ap (λ x. slot_at x (0 + i)) (sym (tidy-layout slots table.tidy)) ∙ is) in
+        let r = layout-only homes room i s (ap (λ x. slot_at x i) (sym (tidy-layout slots table.tidy)) ∙ is) in
         (r.0, r.1, s.entry, r.2, refl)
 
     -- the entries that were put in and this one are no more than there are
@@ -58,7 +56,7 @@ module _ {H : Type 0} (slots : List (Option (Placed (ℕ × H)))) (len : ℕ) (t
     pub put_next : IsHashOf key (homes_of slots) → with_handle (made i) (key s.entry.1) s.entry.1 ≡ made (i + 1)
     put_next hashes =
         let e : i + 1 ≡ suc i = omega arith in
-        ap (λ t. put_last (made i) (key s.entry.1) (t, s.entry.1)) (hash-slot key slots table.tidy hashes (0 + i) s is)
+        ap (λ t. put_last (made i) (key s.entry.1) (t, s.entry.1)) (hash-slot key slots table.tidy hashes i s is)
         ∙ sym (ap made e ∙ ap (put_all key (no_entries m)) more ∙ put_all-push key (no_entries m) (entries (take i slots)) s)
 
     -- there is room for it
@@ -100,24 +98,24 @@ pub record HasCome {H : Type 0} (homes : List (List (ℕ × H))) (slots : List (
 
 -- and there stands an entry, with the handle v
 pub record Holds {H : Type 0} (slots : List (Option (Placed (ℕ × H)))) (i : ℕ) (v : H) : Type 0 where
-  pub occupied : 0 < reach (slot_at slots (0 + i))
-  pub handle : IfSome (slot_at slots (0 + i)) (λ p. v ≡ p.entry.1)
+  pub occupied : 0 < reach (slot_at slots i)
+  pub handle : IfSome (slot_at slots i) (λ p. v ≡ p.entry.1)
 
 module _ {H : Type 0} (homes : List (List (ℕ × H))) (slots : List (Option (Placed (ℕ × H)))) (len m i : ℕ) (come : HasCome homes slots len i) where
   -- a slot that is empty
-  pub step_empty : (key : H → ℕ) (made_so : List (List (ℕ × H))) → slot_at slots (0 + i) ≡ None
+  pub step_empty : (key : H → ℕ) (made_so : List (List (ℕ × H))) → slot_at slots i ≡ None
       → made_so ≡ put_all key (no_entries m) (entries (take i slots)) → made_so ≡ put_all key (no_entries m) (entries (take (i + 1) slots))
   step_empty key made_so empty so_far = so_far ∙ sym (passed_empty slots len come.table key m i come.within empty)
 
   -- and adds no handle
-  pub handles_empty : slot_at slots (0 + i) ≡ None → map (λ s. s.entry.1) (entries (take (i + 1) slots)) ≡ map (λ s. s.entry.1) (entries (take i slots))
+  pub handles_empty : slot_at slots i ≡ None → map (λ s. s.entry.1) (entries (take (i + 1) slots)) ≡ map (λ s. s.entry.1) (entries (take i slots))
   handles_empty empty =
       let e : i + 1 ≡ suc i = omega arith in
       ap (λ n. map (λ s. s.entry.1) (entries (take n slots))) e ∙ ap (map (λ s. s.entry.1)) (entries-none slots i come.within (sym (here slots len come.table (λ _. 0) m i come.within) ∙ empty))
 
   module _ (v : H) (holds : Holds slots i v) where
-    found : (s : Placed (ℕ × H)) × (slot_at slots (0 + i) ≡ Some s)
-    found = some_of (slot_at slots (0 + i)) holds.occupied
+    found : (s : Placed (ℕ × H)) × (slot_at slots i ≡ Some s)
+    found = some_of (slot_at slots i) holds.occupied
 
     same : v ≡ found.0.entry.1
     same = subst (λ o. IfSome o (λ p. v ≡ p.entry.1)) found.1 holds.handle

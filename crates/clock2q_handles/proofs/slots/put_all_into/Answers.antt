@@ -1,7 +1,7 @@
-use Rattle.std.proofs.Common.{rules, ◌≡◌, ℕ, ◌+◌, ◌<◌, IfSome, length, ap, ◌∙◌, subst, sym, arith}
+use Rattle.std.proofs.Common.{rules, ◌≡◌, ◌+◌, ◌<◌, length, subst, sym, arith}
 use Rattle.clock2q_handles.specs.Layout.{slot_at}
 use Rattle.clock2q_handles.specs.Moves.{MayMove}
-use Rattle.clock2q_handles.specs.Slots.{cells, mark_of, IsSlotCount}
+use Rattle.clock2q_handles.specs.Slots.{cells, IsSlotCount}
 use Rattle.clock2q_handles.specs.Views.{shown, IsView}
 use Rattle.clock2q_handles.proofs.Cells.{length-cells}
 use Rattle.clock2q_handles.proofs.Moves.{occupied_of_meaning, vacant_of_meaning}
@@ -27,10 +27,6 @@ loop-slot-init g c =
           (subst IsSlotCount (sym (length-cells c.new-slots.result.metadata.now c.new-slots.result.handles.now view.same)) view.slot_count);
     }
 
--- the slot by its number
-numbered : (n : ℕ) → n ≡ 0 + n
-numbered n = omega arith
-
 within : (g : Over) (c : After-is_empty g) → c.loop-slot.slot < length (cells c.args.old.metadata.now c.args.old.handles.now)
 within g c = omega (arith, c.loop-slot-test.true, c.count-slot-end.ensures, length-cells c.args.old.metadata.now c.args.old.handles.now c.requires.same_old)
 
@@ -40,9 +36,8 @@ holds g c =
     let slots = cells c.args.old.metadata.now c.args.old.handles.now in
     record {
       occupied =
-          occupied_of_meaning c.is_empty.result _ (slot_at slots (0 + c.loop-slot.slot)) c.is_empty.ensures c.if-not-is_empty.true
-          (c.metadata.ensures ∙ ap (λ n. mark_of (slot_at slots n)) (numbered c.loop-slot.slot));
-      handle = subst (λ n. IfSome (slot_at slots n) (λ p. c.handle-handle.result ≡ p.entry.1)) (numbered c.loop-slot.slot) c.handle-handle.ensures;
+          occupied_of_meaning c.is_empty.result _ (slot_at slots c.loop-slot.slot) c.is_empty.ensures c.if-not-is_empty.true c.metadata.ensures;
+      handle = c.handle-handle.ensures;
     }
 
 pub rehash-hash-requires : goal.rehash-hash-requires
@@ -78,9 +73,8 @@ loop-slot-preserved g c =
           let v = w.handle-handle.result in
           let entry : Holds slots c.loop-slot.slot v = record {
             occupied =
-                occupied_of_meaning c.is_empty.result _ (slot_at slots (0 + c.loop-slot.slot))
-                c.is_empty.ensures w.if-not-is_empty.true (c.metadata.ensures ∙ ap (λ n. mark_of (slot_at slots n)) (numbered c.loop-slot.slot));
-            handle = subst (λ n. IfSome (slot_at slots n) (λ p. w.handle-handle.result ≡ p.entry.1)) (numbered c.loop-slot.slot) w.handle-handle.ensures;
+                occupied_of_meaning c.is_empty.result _ (slot_at slots c.loop-slot.slot) c.is_empty.ensures w.if-not-is_empty.true c.metadata.ensures;
+            handle = w.handle-handle.ensures;
           } in
           let moved = moving_on g.F.FnMut c.args.rehash.now slots from may c.loop-slot.rehash (shown c.loop-slot.slots) c.loop-slot.slot c.loop-slot.invariant.moved
           inside v entry w.rehash-hash.result w.rehash-hash.new.self w.rehash-hash.ensures (shown w.put.new.self) _ _ w.put.ensures.put in
@@ -92,8 +86,7 @@ loop-slot-preserved g c =
           }
       | else-not-is_empty w ↦
           let empty =
-          vacant_of_meaning _ (slot_at slots (0 + c.loop-slot.slot)) (c.is_empty.ensures.0 w.if-not-is_empty.false)
-          (c.metadata.ensures ∙ ap (λ n. mark_of (slot_at slots n)) (numbered c.loop-slot.slot)) in
+          vacant_of_meaning _ (slot_at slots c.loop-slot.slot) (c.is_empty.ensures.0 w.if-not-is_empty.false) c.metadata.ensures in
           let moved = moving_past g.F.FnMut c.args.rehash.now slots from may c.loop-slot.rehash (shown c.loop-slot.slots) c.loop-slot.slot c.loop-slot.invariant.moved inside empty in
           record {
             same = search rules;

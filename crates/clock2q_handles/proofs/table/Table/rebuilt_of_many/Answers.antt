@@ -1,8 +1,8 @@
-use Rattle.std.proofs.Common.{◌≡◌, ℕ, IfSome, ◌+◌, [], ◌∷◌, ◌++◌, map, take, length, refl, sym, ap, ◌∙◌, subst, arith}
+use Rattle.std.proofs.Common.{◌≡◌, ◌+◌, [], ◌∷◌, ◌++◌, map, take, length, refl, sym, ap, ◌∙◌, subst, arith}
 use Rattle.std.specs.Fn.{Called}
 use Rattle.clock2q_handles.specs.Homes.{no_entries}
 use Rattle.clock2q_handles.specs.Layout.{homes_of, entries, slot_at, layout, IsTidy}
-use Rattle.clock2q_handles.specs.Slots.{cells, mark_of, slots_value}
+use Rattle.clock2q_handles.specs.Slots.{cells, slots_value}
 use Rattle.clock2q_handles.specs.TableStep.{table_value, put_all}
 use Rattle.clock2q_handles.specs.Changes.{IsLaidOut}
 use Rattle.clock2q_handles.specs.Rehash.{Asks, Reaches, IsHeld, held_handles}
@@ -42,19 +42,14 @@ come g c = record {
   within = omega (arith, c.loop-slot-test.true, c.count-slot-end.ensures, c.view-old.ensures.count, ap length c.view-old.ensures.shown);
 }
 
--- the slot by its number
-numbered : (n : ℕ) → n ≡ 0 + n
-numbered n = omega arith
-
 -- the entry there
 holds : (g : Over) (c : After-handle-handle g) → Holds (cells c.view-old.result.metadata.now c.view-old.result.handles.now) c.loop-slot.slot c.handle-handle.result
 holds g c =
     let slots = cells c.view-old.result.metadata.now c.view-old.result.handles.now in
     record {
       occupied =
-          occupied_of_meaning c.is_empty.result _ (slot_at slots (0 + c.loop-slot.slot)) c.is_empty.ensures c.if-not-is_empty.true
-          (c.metadata.ensures ∙ ap (λ n. mark_of (slot_at slots n)) (numbered c.loop-slot.slot));
-      handle = subst (λ n. IfSome (slot_at slots n) (λ p. c.handle-handle.result ≡ p.entry.1)) (numbered c.loop-slot.slot) c.handle-handle.ensures;
+          occupied_of_meaning c.is_empty.result _ (slot_at slots c.loop-slot.slot) c.is_empty.ensures c.if-not-is_empty.true c.metadata.ensures;
+      handle = c.handle-handle.ensures;
     }
 
 held : (g : Over) (c : After-handle-handle g)
@@ -119,9 +114,8 @@ loop-slot-preserved g c =
           let reached = c.loop-slot.invariant.reached in
           let entry : Holds slots c.loop-slot.slot v = record {
             occupied =
-                occupied_of_meaning c.is_empty.result _ (slot_at slots (0 + c.loop-slot.slot)) c.is_empty.ensures w.if-not-is_empty.true
-                (c.metadata.ensures ∙ ap (λ n. mark_of (slot_at slots n)) (numbered c.loop-slot.slot));
-            handle = subst (λ n. IfSome (slot_at slots n) (λ p. w.handle-handle.result ≡ p.entry.1)) (numbered c.loop-slot.slot) w.handle-handle.ensures;
+                occupied_of_meaning c.is_empty.result _ (slot_at slots c.loop-slot.slot) c.is_empty.ensures w.if-not-is_empty.true c.metadata.ensures;
+            handle = w.handle-handle.ensures;
           } in
           let held = step_held c.args.self.now.homes slots c.self.inside.len c.args.count c.loop-slot.slot at v entry in
           let held_is = IsHeld c.args.self.now.homes in
@@ -147,8 +141,7 @@ loop-slot-preserved g c =
           }
       | else-not-is_empty w ↦
           let empty =
-          vacant_of_meaning _ (slot_at slots (0 + c.loop-slot.slot)) (c.is_empty.ensures.0 w.if-not-is_empty.false)
-          (c.metadata.ensures ∙ ap (λ n. mark_of (slot_at slots n)) (numbered c.loop-slot.slot)) in
+          vacant_of_meaning _ (slot_at slots c.loop-slot.slot) (c.is_empty.ensures.0 w.if-not-is_empty.false) c.metadata.ensures in
           let reached = c.loop-slot.invariant.reached in
           let none = handles_empty c.args.self.now.homes slots c.self.inside.len c.args.count c.loop-slot.slot at empty in
           record {
