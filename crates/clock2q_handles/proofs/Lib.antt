@@ -38,6 +38,7 @@ pub mod Walk
 pub mod Yields
 pub mod Cursors
 pub mod Carrying
+pub mod PuttingAndTaking
 pub mod Wrapping
 pub mod FewEntries
-pub mod RebuildOverView
+pub mod RebuildOfFew

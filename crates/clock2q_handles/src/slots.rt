@@ -235,7 +235,8 @@ fn put_into<H: Copy + Default>(
     ensures len { length metadata.new ≡ length metadata.old }
 {
     let mut slots = SlotsMut::new(metadata, handles, writes);
-    slots.put(hash, handle);
+    let (end, wanted) = slots.end(hash);
+    slots.carry(end, wanted.metadata(), handle);
 }
 
 /// Inserts an entry where the walk for it ends, over a view of both vectors.
@@ -258,10 +259,10 @@ fn put_at_into<H: Copy + Default>(
     ensures len { length metadata.new ≡ length metadata.old }
 {
     let mut slots = SlotsMut::new(metadata, handles, writes);
-    slots.put_at(slot, wanted, handle);
+    slots.carry(slot, wanted.metadata(), handle);
 }
 
-/// Inserts each entry of other slots over one view of both vectors.
+/// Inserts each entry of other slots.
 #[inline(always)]
 fn put_all_into<H: Copy + Default, F: FnMut(H) -> u64>(
     metadata: &mut [Metadata],
@@ -278,13 +279,13 @@ fn put_all_into<H: Copy + Default, F: FnMut(H) -> u64>(
     ensures as_many { length handles.new ≡ length metadata.new }
     ensures len { length metadata.new ≡ length metadata.old }
 {
-    let mut slots = SlotsMut::new(metadata, handles, writes);
     for slot in 0..old.count() {
-        if !old.metadata(slot).is_empty() {
-            let handle = old.handle(slot);
-            let hash = rehash(handle);
-            slots.put(hash, handle);
+        if old.metadata(slot).is_empty() {
+            continue;
         }
+        let handle = old.handle(slot);
+        let hash = rehash(handle);
+        put_into(metadata, handles, writes, hash, handle);
     }
 }
 

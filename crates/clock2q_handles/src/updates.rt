@@ -1,9 +1,9 @@
 //! Insertion and removal of entries, over a view of both vectors of the slots.
 ghost use Rattle.clock2q_handles.specs.Candidates.{EndsAt};
 ghost use Rattle.clock2q_handles.specs.Found.{FindsAt};
-ghost use Rattle.clock2q_handles.specs.Homes.{top, is_entry_of, listed};
+ghost use Rattle.clock2q_handles.specs.Homes.{is_entry_of, listed};
 ghost use Rattle.clock2q_handles.specs.Layout.{IsTidy, reach, slot_at, placed, homes_of, AreNear};
-ghost use Rattle.clock2q_handles.specs.Shifts.{Opens, Closes, HasCome, IsVacancy, PutsIn};
+ghost use Rattle.clock2q_handles.specs.Shifts.{Opens, Closes, HasCome, IsVacancy};
 ghost use Rattle.clock2q_handles.specs.Slots.{meaning, sought};
 ghost use Rattle.clock2q_handles.specs.Views.{shown, IsView, IsSameView};
 ghost use Rattle.std.specs.List.{list_any};
@@ -96,7 +96,7 @@ impl<'a, H: Copy + Default> SlotsMut<'a, H> {
 
     /// Returns the slot where a walk for `hash` ends, and what it looks for there.
     #[inline(always)]
-    fn end(&self, hash: u64) -> (usize, Wanted)
+    pub(super) fn end(&self, hash: u64) -> (usize, Wanted)
         requires view { IsView self.now }
         requires tidy { IsTidy (shown self.now) }
         requires near { AreNear (shown self.now) }
@@ -115,7 +115,7 @@ impl<'a, H: Copy + Default> SlotsMut<'a, H> {
     /// Writes an entry to a slot, and moves the entries from there on by one slot, up to an empty
     /// slot.
     #[inline(always)]
-    fn carry(&mut self, mut slot: usize, mut metadata: Metadata, mut handle: H)
+    pub(super) fn carry(&mut self, mut slot: usize, mut metadata: Metadata, mut handle: H)
         requires view { IsView self.old }
         requires tidy { IsTidy (shown self.old) }
         requires near { (n : ℕ) → reach (slot_at (shown self.old) n) ≤ MAX_DISPLACEMENT }
@@ -137,34 +137,5 @@ impl<'a, H: Copy + Default> SlotsMut<'a, H> {
             there = self.metadata(slot);
         }
         self.write(slot, metadata, handle);
-    }
-
-    /// Inserts an entry into slots of which no entry is too far past its home to move on.
-    #[inline(always)]
-    pub(super) fn put(&mut self, hash: u64, handle: H)
-        requires view { IsView self.old }
-        requires tidy { IsTidy (shown self.old) }
-        requires near { (n : ℕ) → reach (slot_at (shown self.old) n) ≤ MAX_DISPLACEMENT }
-        requires some { 0 < length (shown self.old) }
-        ensures same { IsSameView self.old self.new }
-        ensures view { IsView self.new }
-        ensures put { PutsIn (shown self.old) (shown self.new) (hash % length (shown self.old)) (top hash, handle) self.old.writes.now.total self.new.writes.now.total }
-    {
-        let (slot, wanted) = self.end(hash);
-        self.put_at(slot, wanted, handle);
-    }
-
-    /// Inserts an entry in the slot where the walk for it ends.
-    #[inline(always)]
-    pub(super) fn put_at(&mut self, slot: usize, wanted: Wanted, handle: H)
-        requires view { IsView self.old }
-        requires tidy { IsTidy (shown self.old) }
-        requires near { (n : ℕ) → reach (slot_at (shown self.old) n) ≤ MAX_DISPLACEMENT }
-        requires ends { (x : ℕ) × EndsAt (shown self.old) x (sought wanted) slot }
-        ensures same { IsSameView self.old self.new }
-        ensures view { IsView self.new }
-        ensures put { (x : ℕ) → EndsAt (shown self.old) x (sought wanted) slot → PutsIn (shown self.old) (shown self.new) (x % length (shown self.old)) (top x, handle) self.old.writes.now.total self.new.writes.now.total }
-    {
-        self.carry(slot, wanted.metadata(), handle);
     }
 }

@@ -1,4 +1,4 @@
--- A rebuild of few entries over one view of the new slots, slot by slot.
+-- A rebuild of few entries, slot by slot.
 use Rattle.std.proofs.Common.{◌≡◌, ℕ, ◌+◌, ◌%◌, ◌<◌, ◌≤◌, inl, inr, refl, ap, sym, ◌∙◌, subst, arith, List, [], ◌∷◌, ◌++◌, map, take, length, Option, None}
 use Rattle.std.proofs.lemmas.Bool.{cases_lt}
 use Rattle.std.specs.Fn.{Called, Takes, Mut}
@@ -26,7 +26,7 @@ module _ {F H : Type 0} (g : Mut F (H × Unit {0}) ℕ) where
     pub built : (key : H → ℕ) → AnswersBy g key (IsHeld (homes_of old)) f → IsHashOf key (homes_of old) → homes_of new ≡ put_all key (no_entries (length from)) (entries (take i old))
     pub asked : (key : H → ℕ) → AnswersBy g key (IsHeld (homes_of old)) f → IsHashOf key (homes_of old) → Asks g key f (map (λ s. s.entry.1) (entries (take i old))) last
 
-  module _ (f : F) (old from : List (Option (Placed (ℕ × H)))) (may : MayMove g f old from) where
+  module _ {f : F} {old from : List (Option (Placed (ℕ × H)))} (may : MayMove g f old from) where
     abbrev homes : List (List (ℕ × H))
     homes = homes_of old
 
@@ -45,7 +45,7 @@ module _ {F H : Type 0} (g : Mut F (H × Unit {0}) ℕ) where
           asked = λ key answers hashes. refl;
         }
 
-    module _ (last : F) (new : List (Option (Placed (ℕ × H)))) (i : ℕ) (so_far : MovedSo f last old from new i) where
+    module _ {last : F} {new : List (Option (Placed (ℕ × H)))} {i : ℕ} (so_far : MovedSo f last old from new i) where
       pub moving_past : i < length old → slot_at old i ≡ None → MovedSo f last old from new (i + 1)
       moving_past within empty = record {
         reached = so_far.reached;
@@ -55,7 +55,7 @@ module _ {F H : Type 0} (g : Mut F (H × Unit {0}) ℕ) where
         asked = λ key answers hashes. subst (λ hs. Asks g key f hs last) (sym (handles_empty homes old (total homes) (length from) i (come i within) empty)) (so_far.asked key answers hashes);
       }
 
-      module _ (within : i < length old) (v : H) (holds : Holds old i v) where
+      module _ (within : i < length old) {v : H} (holds : Holds old i v) where
         held : IsHeld homes v
         held = step_held homes old (total homes) (length from) i (come i within) v holds
 
@@ -63,7 +63,7 @@ module _ {F H : Type 0} (g : Mut F (H × Unit {0}) ℕ) where
         pub moving_takes : Takes g last (v, tt)
         moving_takes = may.asked.1.answers.takes so_far.reached.0 last v so_far.reached.1 held
 
-        module _ (r : ℕ) (next : F) (called : Called g last (v, tt) r next) where
+        module _ {r : ℕ} {next : F} (called : Called g last (v, tt) r next) where
           answered : (key : H → ℕ) → AnswersBy g key (IsHeld homes) f → r ≡ key v
           answered key answers = answers.answers so_far.reached.0 last v r next so_far.reached.1 held called
 
@@ -93,8 +93,8 @@ module _ {F H : Type 0} (g : Mut F (H × Unit {0}) ℕ) where
           pub moving_some : 0 < length new
           moving_some = omega (arith, room)
 
-          pub moving_on : (others : List (Option (Placed (ℕ × H)))) (before after : ℕ) → PutsIn new others (r % length new) (top r, v) before after → MovedSo f next old from others (i + 1)
-          moving_on others before after puts =
+          pub moving_on : {others : List (Option (Placed (ℕ × H)))} {before after : ℕ} → PutsIn new others (r % length new) (top r, v) before after → MovedSo f next old from others (i + 1)
+          moving_on {others} {before} {after} puts =
               let done : Insertion r v new others (total (homes_of new)) before after = insertion_few r v new others (total (homes_of new)) before after so_far.table few room puts in
               record {
                 reached = (so_far.reached.0 ++ v ∷ [], Reaches-push g (IsHeld homes) f so_far.reached.0 last v r next so_far.reached.1 held called);
@@ -110,8 +110,8 @@ module _ {F H : Type 0} (g : Mut F (H × Unit {0}) ℕ) where
               }
 
     -- once every slot has been moved, so has every entry
-    pub moving_ends : (last : F) (new : List (Option (Placed (ℕ × H)))) (i : ℕ) → i ≡ length old → MovedSo f last old from new i → Moves g f last old from new
-    moving_ends last new i all so_far =
+    pub moving_ends : {last : F} {new : List (Option (Placed (ℕ × H)))} {i : ℕ} → i ≡ length old → MovedSo f last old from new i → Moves g f last old from new
+    moving_ends {last = last} {new = new} {i = i} all so_far =
         let front : entries (take i old) ≡ entries (layout homes) = ap (λ n. entries (take n old)) all ∙ entries-all old ∙ ap entries (tidy-layout old may.table.tidy) in
         let built : (key : H → ℕ) → AnswersBy g key (IsHeld homes) f → IsHashOf key homes → homes_of new ≡ rebuilt key (length from) homes =
         λ key answers hashes. so_far.built key answers hashes ∙ ap (put_all key (no_entries (length from))) front in
