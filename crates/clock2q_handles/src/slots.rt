@@ -205,14 +205,9 @@ impl<H: Copy + Default, A: Allocator> Slots<H, A> {
         ensures { self.new ≡ slots_value (set self.old.slots ((home + distance) % length self.old.slots) (cell (meaning metadata) handle)) (self.old.writes + 1) }
     {
         let slot = self.slot(home, distance);
-        write_into(
-            self.metadata.as_mut_slice(),
-            self.handles.as_mut_slice(),
-            &mut self.writes,
-            slot,
-            metadata,
-            handle,
-        );
+        self.metadata[slot] = metadata;
+        self.handles[slot] = handle;
+        self.writes.tick();
     }
 }
 
@@ -287,25 +282,4 @@ fn put_all_into<H: Copy + Default, F: FnMut(H) -> u64>(
         let hash = rehash(handle);
         put_into(metadata, handles, writes, hash, handle);
     }
-}
-
-/// Writes a slot over a view of both vectors.
-fn write_into<H: Copy>(
-    metadata: &mut [Metadata],
-    handles: &mut [H],
-    writes: &mut Count,
-    slot: usize,
-    word: Metadata,
-    handle: H,
-)
-    requires same { length handles.old ≡ length metadata.old }
-    requires slot_count { IsSlotCount (length metadata.old) }
-    requires within { slot < length (cells metadata.old handles.old) }
-    ensures written { cells metadata.new handles.new ≡ set (cells metadata.old handles.old) slot (cell (meaning word) handle) }
-    ensures counted { writes.new.total ≡ writes.old.total + 1 }
-    ensures as_many { length handles.new ≡ length metadata.new }
-    ensures len { length metadata.new ≡ length metadata.old }
-{
-    let mut slots = SlotsMut::new(metadata, handles, writes);
-    slots.write(slot, word, handle);
 }
