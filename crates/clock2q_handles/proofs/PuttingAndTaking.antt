@@ -1,12 +1,13 @@
--- What moving entries from a slot on comes to, where a walk ended there.
-use Rattle.std.proofs.Common.{◌≡◌, ℕ, ◌+◌, ◌-◌, ◌%◌, ◌≤◌, inl, inr, ap, ◌∙◌, arith, List, length, Option, Some}
+-- What moving entries from a slot on comes to, where a walk ended there or found an entry there.
+use Rattle.std.proofs.Common.{◌≡◌, ℕ, ◌+◌, ◌-◌, ◌%◌, ◌<◌, ◌≤◌, inl, inr, ap, ◌∙◌, arith, Bool, List, length, Option, Some}
 use Rattle.std.proofs.lemmas.Bool.{cases_lt}
 use Rattle.clock2q_handles.specs.Candidates.{EndsAt}
+use Rattle.clock2q_handles.specs.Found.{FindsAt, TakesOut, TakesOutAt}
 use Rattle.clock2q_handles.specs.Homes.{top}
 use Rattle.clock2q_handles.specs.Layout.{Placed, slot_at, reach}
 use Rattle.clock2q_handles.specs.Shifts.{Opens, HasCome, IsVacancy, PutsIn}
 use Rattle.clock2q_handles.specs.Slots.{Mark, mark_reach}
-use Rattle.clock2q_handles.proofs.Carrying.{come_here}
+use Rattle.clock2q_handles.proofs.Carrying.{slot_from, come_here}
 
 module _ {H : Type 0} {slots : List (Option (Placed (ℕ × H)))} {s : ℕ} {wanted : Mark} where
   -- where a walk ends, a slot's metadata can tell an entry that is put in
@@ -36,4 +37,24 @@ module _ {H : Type 0} {slots : List (Option (Placed (ℕ × H)))} {s : ℕ} {wan
         opens = opened.2;
         written = opened.3;
         len = len;
+      }
+
+module _ {E : Type 0} {test : E → Bool} {slots : List (Option (Placed E))} {h s : ℕ} (found : FindsAt test slots h s) where
+  -- where an entry is found, one stands
+  pub found_occupied : 0 < reach (slot_at slots s)
+  found_occupied = omega (arith, ap reach (slot_from slots h found.distance s found.slot), ap reach found.finds.here)
+
+  -- taking out what stands there takes out the first that passes
+  pub found_taken : {new : List (Option (Placed E))} {before after : ℕ} → TakesOutAt slots new s before after → TakesOut test slots new h before after
+  found_taken taken =
+      let come : HasCome slots h found.distance s = record { slot = found.slot; within = found.within; passed = found.passed } in
+      let closed = taken.closes h found.distance found.finds.entry come found.finds.here in
+      record {
+        distance = found.distance;
+        vacancy = closed.0;
+        within = found.within;
+        finds = found.finds;
+        closes = closed.1;
+        written = closed.2;
+        len = taken.len;
       }

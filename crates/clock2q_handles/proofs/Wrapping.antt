@@ -28,9 +28,9 @@ module _ {E : Type 0} where
       subst (λ s. PutsIn s new' (x % length s) e b' a') o (subst (λ s. PutsIn old s (x % length old) e b' a') n
       (subst (λ k. PutsIn old new (x % length old) e k a') f (subst (λ k. PutsIn old new (x % length old) e b k) g puts)))
 
-  pub takes_out_along : (test : E → Bool) {old old' new new' : List (Option (Placed E))} (x : ℕ) {b b' a a' : ℕ}
+  pub takes_out_along : {test : E → Bool} {old old' new new' : List (Option (Placed E))} (x : ℕ) {b b' a a' : ℕ}
       → TakesOut test old new (x % length old) b a → old ≡ old' → new ≡ new' → b ≡ b' → a ≡ a' → TakesOut test old' new' (x % length old') b' a'
-  takes_out_along test {old = old} {old' = old'} {new = new} {new' = new'} x {b = b} {b' = b'} {a = a} {a' = a'} takes o n f g =
+  takes_out_along {test} {old = old} {old' = old'} {new = new} {new' = new'} x {b = b} {b' = b'} {a = a} {a' = a'} takes o n f g =
       subst (λ s. TakesOut test s new' (x % length s) b' a') o (subst (λ s. TakesOut test old s (x % length old) b' a') n
       (subst (λ k. TakesOut test old new (x % length old) k a') f (subst (λ k. TakesOut test old new (x % length old) b k) g takes)))
 

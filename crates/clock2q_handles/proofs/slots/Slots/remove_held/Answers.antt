@@ -1,5 +1,4 @@
 use Rattle.std.proofs.Common.{length, refl, ap, ◌∙◌, arith}
-use Rattle.clock2q_handles.specs.Homes.{is_entry_of}
 use Rattle.clock2q_handles.proofs.Wrapping.{cells_along, cells_back, takes_out_along}
 use Rattle.clock2q_handles.proofs.slots.Slots.remove_held.Goals as goal
 
@@ -10,4 +9,4 @@ returns g c =
     (omega (arith, c.remove_held_from.ensures.len, c.as_mut_slice.ensures.len, ap length c.as_mut_slice.ensures.value, c.self.inside.metadata.ok.0))
     (omega (arith, c.remove_held_from.ensures.len, c.remove_held_from.ensures.as_many, ap length c.as_mut_slice.ensures.value, c.self.invariant.0, c.self.inside.handles.ok.0)) in
     let old = cells_along c.as_mut_slice.ensures.value c.as_mut_slice-2.ensures.value ∙ ap (λ s. s.slots) c.self.view_is in
-    record { taken = takes_out_along (is_entry_of g.H.PartialEq.eq c.args.hash c.args.handle) c.args.hash c.remove_held_from.ensures.taken old new (ap (λ s. s.writes) c.self.view_is) refl }
+    record { taken = takes_out_along c.args.hash c.remove_held_from.ensures.taken old new (ap (λ s. s.writes) c.self.view_is) refl }

@@ -1,33 +1,12 @@
-use Rattle.std.proofs.Common.{rules, ◌%◌, length, arith, ap}
-use Rattle.clock2q_handles.specs.Found.{TakesOut}
-use Rattle.clock2q_handles.specs.Homes.{is_entry_of}
-use Rattle.clock2q_handles.specs.Layout.{reach}
-use Rattle.clock2q_handles.specs.Views.{shown}
-use Rattle.clock2q_handles.proofs.Carrying.{slot_from}
+use Rattle.std.proofs.Common.{rules}
+use Rattle.clock2q_handles.proofs.PuttingAndTaking.{found_occupied, found_taken}
 use Rattle.clock2q_handles.proofs.Wrapping.{cells_along, takes_out_along}
 use Rattle.clock2q_handles.proofs.slots.removal.remove_held_from.Goals as goal
 
 pub take_out-requires-clause-occupied : goal.take_out-requires-clause-occupied
-take_out-requires-clause-occupied g c =
-    let slots = shown c.new-slots.result in
-    let found = c.find_held-held.ensures.found in
-    omega (arith, ap reach (slot_from slots (c.args.hash % length slots) found.distance c.find_held-held.result found.slot), ap reach found.finds.here)
+take_out-requires-clause-occupied g c = found_occupied c.find_held-held.ensures.found
 
 pub returns-clause-taken : goal.returns-clause-taken
 returns-clause-taken g c =
-    let slots = shown c.new-slots.result in
-    let test = is_entry_of g.H.PartialEq.eq c.args.hash c.args.handle in
-    let found = c.find_held-held.ensures.found in
-    let closed =
-    c.take_out.ensures.closes (c.args.hash % length slots) found.distance found.finds.entry
-    (record { slot = found.slot; within = found.within; passed = found.passed }) found.finds.here in
-    let taken : TakesOut test slots (shown c.take_out.new.self) (c.args.hash % length slots) c.new-slots.result.writes.now.total c.take_out.new.self.writes.now.total = record {
-      distance = found.distance;
-      vacancy = closed.0;
-      within = found.within;
-      finds = found.finds;
-      closes = closed.1;
-      written = closed.2;
-      len = c.take_out.ensures.len;
-    } in
-    takes_out_along test c.args.hash taken (cells_along (search rules) (search rules)) (cells_along (search rules) (search rules)) (search rules) (search rules)
+    takes_out_along c.args.hash (found_taken c.find_held-held.ensures.found (record { closes = c.take_out.ensures.closes; len = c.take_out.ensures.len }))
+    (cells_along (search rules) (search rules)) (cells_along (search rules) (search rules)) (search rules) (search rules)
