@@ -51,13 +51,13 @@ module _ {F H : Type 0} (g : Mut F (H × Unit {0}) ℕ) where
         reached = so_far.reached;
         table = so_far.table;
         len = so_far.len;
-        built = λ key answers hashes. step_empty homes old (total homes) (length from) i (come i within) key (homes_of new) empty (so_far.built key answers hashes);
-        asked = λ key answers hashes. subst (λ hs. Asks g key f hs last) (sym (handles_empty homes old (total homes) (length from) i (come i within) empty)) (so_far.asked key answers hashes);
+        built = λ key answers hashes. step_empty (come i within) (length from) key empty (so_far.built key answers hashes);
+        asked = λ key answers hashes. subst (λ hs. Asks g key f hs last) (sym (handles_empty (come i within) empty)) (so_far.asked key answers hashes);
       }
 
       module _ (within : i < length old) {v : H} (holds : Holds old i v) where
         held : IsHeld homes v
-        held = step_held homes old (total homes) (length from) i (come i within) v holds
+        held = step_held (come i within) holds
 
         -- f may be called on the handle there
         pub moving_takes : Takes g last (v, tt)
@@ -72,8 +72,7 @@ module _ {F H : Type 0} (g : Mut F (H × Unit {0}) ℕ) where
               let key = may.asked.0 in
               let gives = may.asked.1 in
               subst (λ m. total (homes_of new) < capacity m) (length-homes_of new)
-              (step_room homes old (total homes) (length from) i (come i within) v holds key gives.hashes
-              (homes_of new) (so_far.built key gives.answers gives.hashes) r (answered key gives.answers) may.fits)
+              (step_room (come i within) holds (length from) key gives.hashes (so_far.built key gives.answers gives.hashes) (answered key gives.answers) may.fits)
 
           few : total (homes_of new) ≤ 16777214
           few =
@@ -82,8 +81,7 @@ module _ {F H : Type 0} (g : Mut F (H × Unit {0}) ℕ) where
               omega (
                 arith,
                 may.few,
-                step_few homes old (total homes) (length from) i (come i within) v holds key gives.hashes
-                    (homes_of new) (so_far.built key gives.answers gives.hashes) r (answered key gives.answers) may.fits,
+                step_few (come i within) holds (length from) key gives.hashes (so_far.built key gives.answers gives.hashes) (answered key gives.answers) may.fits,
               )
 
           -- the new slots take one entry more
@@ -101,9 +99,9 @@ module _ {F H : Type 0} (g : Mut F (H × Unit {0}) ℕ) where
                 table = subst (IsTable others) done.table.counted done.table;
                 len = puts.len ∙ so_far.len;
                 built = λ key answers hashes.
-                    done.homes ∙ step_made homes old (total homes) (length from) i (come i within) v holds key hashes (homes_of new) (so_far.built key answers hashes) r (answered key answers);
+                    done.homes ∙ step_made (come i within) holds (length from) key hashes (so_far.built key answers hashes) (answered key answers);
                 asked = λ key answers hashes.
-                    let more = handles_more homes old (total homes) (length from) i (come i within) v holds in
+                    let more = handles_more (come i within) holds in
                     subst (λ hs. Asks g key f hs next) (sym more)
                     (Asks-push g key f (map (λ s. s.entry.1) (entries (take i old))) last v next
                     (so_far.asked key answers hashes) (subst (λ n. Called g last (v, tt) n next) (answered key answers) called));

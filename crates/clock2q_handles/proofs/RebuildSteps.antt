@@ -101,19 +101,19 @@ pub record Holds {H : Type 0} (slots : List (Option (Placed (ℕ × H)))) (i : �
   pub occupied : 0 < reach (slot_at slots i)
   pub handle : IfSome (slot_at slots i) (λ p. v ≡ p.entry.1)
 
-module _ {H : Type 0} (homes : List (List (ℕ × H))) (slots : List (Option (Placed (ℕ × H)))) (len m i : ℕ) (come : HasCome homes slots len i) where
+module _ {H : Type 0} {homes : List (List (ℕ × H))} {slots : List (Option (Placed (ℕ × H)))} {len i : ℕ} (come : HasCome homes slots len i) where
   -- a slot that is empty
-  pub step_empty : (key : H → ℕ) (made_so : List (List (ℕ × H))) → slot_at slots i ≡ None
+  pub step_empty : (m : ℕ) (key : H → ℕ) {made_so : List (List (ℕ × H))} → slot_at slots i ≡ None
       → made_so ≡ put_all key (no_entries m) (entries (take i slots)) → made_so ≡ put_all key (no_entries m) (entries (take (i + 1) slots))
-  step_empty key made_so empty so_far = so_far ∙ sym (passed_empty slots len come.table key m i come.within empty)
+  step_empty m key empty so_far = so_far ∙ sym (passed_empty slots len come.table key m i come.within empty)
 
   -- and adds no handle
   pub handles_empty : slot_at slots i ≡ None → map (λ s. s.entry.1) (entries (take (i + 1) slots)) ≡ map (λ s. s.entry.1) (entries (take i slots))
   handles_empty empty =
       let e : i + 1 ≡ suc i = omega arith in
-      ap (λ n. map (λ s. s.entry.1) (entries (take n slots))) e ∙ ap (map (λ s. s.entry.1)) (entries-none slots i come.within (sym (here slots len come.table (λ _. 0) m i come.within) ∙ empty))
+      ap (λ n. map (λ s. s.entry.1) (entries (take n slots))) e ∙ ap (map (λ s. s.entry.1)) (entries-none slots i come.within (sym (here slots len come.table (λ _. 0) 0 i come.within) ∙ empty))
 
-  module _ (v : H) (holds : Holds slots i v) where
+  module _ {v : H} (holds : Holds slots i v) where
     found : (s : Placed (ℕ × H)) × (slot_at slots i ≡ Some s)
     found = some_of (slot_at slots i) holds.occupied
 
@@ -121,16 +121,17 @@ module _ {H : Type 0} (homes : List (List (ℕ × H))) (slots : List (Option (Pl
     same = subst (λ o. IfSome o (λ p. v ≡ p.entry.1)) found.1 holds.handle
 
     pub step_held : IsHeld homes v
-    step_held = subst (λ hs. IsHeld hs v) (sym come.lists) (subst (λ w. IsHeld (homes_of slots) w) (sym same) (entry_held slots len come.table (λ _. 0) m i come.within found.0 found.1))
+    step_held = subst (λ hs. IsHeld hs v) (sym come.lists) (subst (λ w. IsHeld (homes_of slots) w) (sym same) (entry_held slots len come.table (λ _. 0) 0 i come.within found.0 found.1))
 
     pub handles_more : map (λ s. s.entry.1) (entries (take (i + 1) slots)) ≡ map (λ s. s.entry.1) (entries (take i slots)) ++ v ∷ []
     handles_more =
         let e : i + 1 ≡ suc i = omega arith in
-        ap (λ n. map (λ s. s.entry.1) (entries (take n slots))) e ∙ ap (map (λ s. s.entry.1)) (more slots len come.table (λ _. 0) m i come.within found.0 found.1)
+        ap (λ n. map (λ s. s.entry.1) (entries (take n slots))) e ∙ ap (map (λ s. s.entry.1)) (more slots len come.table (λ _. 0) 0 i come.within found.0 found.1)
         ∙ map-append (λ s. s.entry.1) (entries (take i slots)) (found.0 ∷ [])
         ∙ ap (λ w. map (λ s. s.entry.1) (entries (take i slots)) ++ w ∷ []) (sym same)
 
-    module _ (key : H → ℕ) (hashes : IsHashOf key homes) (made_so : List (List (ℕ × H))) (so_far : made_so ≡ put_all key (no_entries m) (entries (take i slots))) (r : ℕ) (answered : r ≡ key v) where
+    module _ (m : ℕ) (key : H → ℕ) (hashes : IsHashOf key homes)
+        {made_so : List (List (ℕ × H))} (so_far : made_so ≡ put_all key (no_entries m) (entries (take i slots))) {r : ℕ} (answered : r ≡ key v) where
       hashes_read : IsHashOf key (homes_of slots)
       hashes_read = subst (IsHashOf key) come.lists hashes
 

@@ -176,11 +176,12 @@ impl<H: Copy + Eq + Default, A: Allocator + Copy> Table<H, A> {
         let mut table = Table { slots, len: 0 };
         let old = self.slots.view();
         for slot in 0..old.count() {
-            if !old.metadata(slot).is_empty() {
-                let handle = old.handle(slot);
-                let hash = rehash(handle);
-                table.insert_within_capacity(hash, handle)?;
+            if old.metadata(slot).is_empty() {
+                continue;
             }
+            let handle = old.handle(slot);
+            let hash = rehash(handle);
+            table.insert_within_capacity(hash, handle)?;
         }
         Ok(table)
     }
