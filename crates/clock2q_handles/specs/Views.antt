@@ -1,4 +1,4 @@
--- A view of both vectors of a table's slots, taken once a call.
+-- A view of both vectors of a table's slots.
 use Rattle.std.specs.Prelude.{◌≡◌, ℕ, List, Option, length}
 use Rattle.clock2q_handles.specs.Layout.{Placed}
 use Rattle.clock2q_handles.specs.Slots.{cells, IsSlotCount}

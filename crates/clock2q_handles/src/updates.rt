@@ -1,4 +1,4 @@
-//! Insertion and removal of entries, over a view of both vectors of the slots.
+//! The steps of an insertion and of a removal, over a view of both vectors of the slots.
 ghost use Rattle.clock2q_handles.specs.Candidates.{EndsAt};
 ghost use Rattle.clock2q_handles.specs.Found.{FindsAt};
 ghost use Rattle.clock2q_handles.specs.Homes.{is_entry_of, listed};

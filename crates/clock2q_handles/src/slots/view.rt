@@ -1,4 +1,4 @@
-//! Views of a table's slots. A call that moves entries takes one once.
+//! Views of a table's slots, which a call takes to move entries.
 ghost use Rattle.clock2q_handles.specs.Layout.{slot_at};
 ghost use Rattle.clock2q_handles.specs.Views.{shown, IsView, IsSameView};
 ghost use Rattle.std.specs.Prelude.{◌≡◌, ◌+◌, ◌%◌, ◌<◌, IfSome, length, set};
