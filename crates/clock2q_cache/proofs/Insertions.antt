@@ -23,16 +23,15 @@ module _ {K V : Type 0} (q : QueueState) (h : Remembered K) (keys : KeyPlaces K 
       }
 
   -- one that takes the slot of Small's tail, which goes out
-  pub evicted-spends : {small : List (ℕ × Age)} {main : List (ℕ × Bool)} {kept : List (ℕ × K)} {places : Places} {h' : Remembered K} (q1 : QueueState) → Rises 0 7 q.accesses q1.accesses
-      → q' ≡ record q { small = small; main = main; accesses = q'.accesses } → Rises 3 10 q1.accesses q'.accesses
+  pub evicted-spends : {small : List (ℕ × Age)} {main : List (ℕ × Bool)} {kept : List (ℕ × K)} {places : Places} {h' : Remembered K} → q' ≡ record q { small = small; main = main; accesses = q'.accesses } → Rises 5 8 q.accesses q'.accesses
       → h' ≡ record h { entries = kept; places = places; accesses = h'.accesses } → Rises 0 8 h.accesses h'.accesses
       → keys' ≡ record keys { entries = es; writes = n } → Spends 0 28 0 (counts_of q h keys) (counts_of q' h' keys')
-  evicted-spends q1 taken queues admitted pushed remembered renewed =
+  evicted-spends queues reused pushed remembered renewed =
       let asked = ap (λ (z : KeyPlaces K V). z.questions) renewed in
       let told = ap (λ (z : Remembered K). z.questions) pushed in
       record {
         inspections = omega (arith, ap (λ (z : QueueState). z.inspections) queues);
-        accesses = (omega (arith, taken.0, admitted.0, remembered.0), omega (arith, taken.1, admitted.1, remembered.1));
+        accesses = (omega (arith, reused.0, remembered.0), omega (arith, reused.1, remembered.1));
         questions = (omega (arith, asked, told), omega (arith, asked, told));
       }
 

@@ -13,6 +13,7 @@ use clock2q_queues::keys::Keys;
 use std::alloc::Allocator;
 
 /// Puts a key into a slot without a resident: with a new value, or with the one that the slot had.
+#[inline(always)]
 pub(crate) fn enter<K: Eq + Drop, V: Drop, A: Allocator>(
     history: &mut History<K, A>,
     keys: &mut Keys<K, V, A>,

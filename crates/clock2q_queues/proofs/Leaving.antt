@@ -17,17 +17,17 @@ use Rattle.clock2q_queues.specs.Small.{IsSmall, IsSmallQueue, small_slots, small
 use Rattle.clock2q_queues.proofs.Records.{changed}
 use Rattle.clock2q_queues.proofs.Rings.{eqb_self, has-without, has-without-back}
 use Rattle.clock2q_queues.proofs.Joining.{Removes, Removes-detached, map-agree, first_gone, first_stays, last_gone, last_stays, filter-entries, length-without}
-use Rattle.clock2q_queues.proofs.Window.{small_slots-is, IsSmallQueue-from}
+use Rattle.clock2q_queues.proofs.Window.{AreStaying, aged_slots, small_slots-is, IsSmallQueue-from}
 
 -- Places
 
-records-freed : (standing : Mark) (l : LinkState) → (place_freed standing l).records ≡ l.records
+pub records-freed : (standing : Mark) (l : LinkState) → (place_freed standing l).records ≡ l.records
 records-freed Free l = refl
 records-freed (Young place) l = refl
 records-freed Old l = refl
 records-freed Main l = refl
 
-bits-freed : (standing : Mark) (l : LinkState) → (place_freed standing l).bits ≡ l.bits
+pub bits-freed : (standing : Mark) (l : LinkState) → (place_freed standing l).bits ≡ l.bits
 bits-freed Free l = refl
 bits-freed (Young place) l = refl
 bits-freed Old l = refl
@@ -83,6 +83,66 @@ cases_end (Some s) slot = elim (cases_Bool (eqb s slot)) [
   | inr e ↦ inr (λ h. let q : s ≡ slot = cc in both_ways (eqb s slot) e (eq-eqb s slot q))
 ]
 
+-- The slots that stay
+
+module _ (slot : ℕ) {old : LinkState} {small : Small} (mid : LinkState) {new : LinkState} (m : IsSmallQueue old small) (h : has slot (small_slots old small) ≡ true)
+    (kept : (t : ℕ) → eqb t slot ≡ false → standing_at mid.records.items t ≡ standing_at old.records.items t)
+    (as_many : length mid.records.items ≡ length old.records.items) (places : mid.window.items ≡ old.window.items)
+    {standing : Mark} (was : standing ≡ standing_at old.records.items slot) (e : new ≡ place_freed standing mid) where
+  pub records_now : new.records.items ≡ mid.records.items
+  records_now = ap (λ (l : LinkState). l.records.items) e ∙ ap (λ (r : CellsState Record). r.items) (records-freed standing mid)
+
+  pub window_now : length new.window.items ≡ length old.window.items
+  window_now = ap (λ (l : LinkState). length l.window.items) e ∙ window-freed standing mid ∙ ap (λ (z : List (Option ℕ)). length z) places
+
+  pub standing_now : (t : ℕ) → eqb t slot ≡ false → standing_at new.records.items t ≡ standing_at old.records.items t
+  standing_now t g = ap (λ (z : List Record). standing_at z t) records_now ∙ kept t g
+
+  placed_now : (t place : ℕ) → has t (without slot (small_slots old small)) ≡ true → standing_at new.records.items t ≡ Young place → (place < length new.window.items) × (place_at new place ≡ Some t)
+  placed_now t place g y =
+      let w = has-without t slot (small_slots old small) g in
+      let z : standing_at old.records.items t ≡ Young place = sym (standing_now t w.1) ∙ y in
+      let p = m.placed t place w.0 z in
+      let k : place_at mid place ≡ Some t = ap (λ q. get_or q place None) places ∙ p.1 in (
+        rw window_now p.0,
+        ap (λ l. place_at l place) e ∙ place_kept standing mid place t k (λ q s c.
+            let o = (m.placed slot q h (sym was ∙ s)).1 in
+            let f : place_at old place ≡ Some slot = ap (λ r. place_at old r) c ∙ o in
+            let x : t ≡ slot = let a = p.1 in cc in
+            both_ways (eqb t slot) w.1 (eq-eqb t slot x)),
+      )
+
+  occupied_now : (place t : ℕ) → place_at new place ≡ Some t → (has t (without slot (small_slots old small)) ≡ true) × (standing_at new.records.items t ≡ Young place)
+  occupied_now place t g =
+      let w = place_was standing mid place t (sym (ap (λ l. place_at l place) e) ∙ g) in
+      let p = m.occupied place t (sym (ap (λ q. get_or q place None) places) ∙ w.0) in
+      let n : eqb t slot ≡ false = elim (cases_Bool (eqb t slot)) [
+        | inl q ↦ absurd (w.1 place (was ∙ ap (λ z. standing_at old.records.items z) (sym (eqb-true t slot q)) ∙ p.1) refl)
+        | inr q ↦ q
+      ] in
+      (has-without-back t slot (small_slots old small) p.0 n, standing_now t n ∙ p.1)
+
+  -- all but the slot whose place was emptied
+  pub others_stay : AreStaying new small.cursor (without slot (small_slots old small))
+  others_stay = record {
+    standing = λ t g. let w = has-without t slot (small_slots old small) g in rw (standing_now t w.1) (m.standing t w.0);
+    placed = placed_now;
+    occupied = occupied_now;
+    cursor_in = λ p. rw window_now (m.cursor_in (rw window_now at p));
+    countable = rw (ap (λ (z : List Record). length z) records_now ∙ as_many) m.queue.countable;
+    countable_places = rw window_now m.countable_places;
+  }
+
+  -- they are as old as they were
+  pub ages_kept : (bits : mid.bits ≡ old.bits) → aged_slots new small.cursor (without slot (small_slots old small)) ≡ filter (λ e. not (eqb e.0 slot)) (small_entries old small)
+  ages_kept bits =
+      map-agree {X = ℕ × Age} (λ s. (s, age_at new small.cursor s)) (λ s. (s, age_at old small.cursor s)) (without slot (small_slots old small))
+      (λ t g.
+          let w = has-without t slot (small_slots old small) g in
+          let b : bit_at new t ≡ bit_at old t = ap (λ (l : LinkState). bit_at l t) e ∙ ap (λ (b : HitBits). bit_in b.items t) (bits-freed standing mid ∙ bits) in
+          ap (λ z. (t, z)) (rw (window_now, standing_now t w.1, b) refl))
+      ∙ sym (filter-entries slot (λ s. age_at old small.cursor s) (small_slots old small))
+
 -- a slot was taken out of Small
 pub record UnlinksSmall (slot : ℕ) (old : LinkState) (small : Small) (new : LinkState) (small' : Small) : Type 0 where
   pub whole : IsSmallQueue new small'
@@ -97,50 +157,26 @@ module _ (slot : ℕ) (old : LinkState) (small : Small) (mid new : LinkState) (m
   removed : Removes slot (small_slots old small) old.records.items mid.records.items
   removed = Removes-detached old.records mid.records (small_slots old small) slot m.queue.linked h d
 
-  records_now : new.records.items ≡ mid.records.items
-  records_now = ap (λ (l : LinkState). l.records.items) e ∙ ap (λ (r : CellsState Record). r.items) (records-freed standing mid)
-
   places_mid : mid.window.items ≡ old.window.items
   places_mid = ap (λ (l : LinkState). l.window.items) rest
 
-  window_now : length new.window.items ≡ length old.window.items
-  window_now = ap (λ (l : LinkState). length l.window.items) e ∙ window-freed standing mid ∙ ap (λ (z : List (Option ℕ)). length z) places_mid
+  records_left : new.records.items ≡ mid.records.items
+  records_left = records_now slot mid m h removed.standings removed.as_many places_mid was e
 
-  as_many : length new.records.items ≡ length old.records.items
-  as_many = ap (λ (z : List Record). length z) records_now ∙ removed.as_many
+  window_left : length new.window.items ≡ length old.window.items
+  window_left = window_now slot mid m h removed.standings removed.as_many places_mid was e
 
-  linked_now : IsLinked new.records.items (without slot (small_slots old small))
-  linked_now = subst (λ (z : List Record). IsLinked z (without slot (small_slots old small))) (sym records_now) removed.linked
+  stay : AreStaying new small.cursor (without slot (small_slots old small))
+  stay = others_stay slot mid m h removed.standings removed.as_many places_mid was e
 
-  standing_now : (t : ℕ) → eqb t slot ≡ false → standing_at new.records.items t ≡ standing_at old.records.items t
-  standing_now t g = ap (λ (z : List Record). standing_at z t) records_now ∙ removed.standings t g
+  as_many_left : length new.records.items ≡ length old.records.items
+  as_many_left = ap (λ (z : List Record). length z) records_left ∙ removed.as_many
 
-  bit_now : (t : ℕ) → bit_at new t ≡ bit_at old t
-  bit_now t = ap (λ (l : LinkState). bit_at l t) e ∙ ap (λ (b : HitBits). bit_in b.items t) (bits-freed standing mid) ∙ ap (λ (l : LinkState). bit_at l t) rest
+  linked_left : IsLinked new.records.items (without slot (small_slots old small))
+  linked_left = subst (λ (z : List Record). IsLinked z (without slot (small_slots old small))) (sym records_left) removed.linked
 
-  placed_now : (t place : ℕ) → has t (without slot (small_slots old small)) ≡ true → standing_at new.records.items t ≡ Young place → (place < length new.window.items) × (place_at new place ≡ Some t)
-  placed_now t place g y =
-      let w = has-without t slot (small_slots old small) g in
-      let z : standing_at old.records.items t ≡ Young place = sym (standing_now t w.1) ∙ y in
-      let p = m.placed t place w.0 z in
-      let k : place_at mid place ≡ Some t = ap (λ q. get_or q place None) places_mid ∙ p.1 in (
-        rw window_now p.0,
-        ap (λ l. place_at l place) e ∙ place_kept standing mid place t k (λ q s c.
-            let o = (m.placed slot q h (sym was ∙ s)).1 in
-            let f : place_at old place ≡ Some slot = ap (λ r. place_at old r) c ∙ o in
-            let x : t ≡ slot = let a = p.1 in cc in
-            both_ways (eqb t slot) w.1 (eq-eqb t slot x)),
-      )
-
-  occupied_now : (place t : ℕ) → place_at new place ≡ Some t → (has t (without slot (small_slots old small)) ≡ true) × (standing_at new.records.items t ≡ Young place)
-  occupied_now place t g =
-      let w = place_was standing mid place t (sym (ap (λ l. place_at l place) e) ∙ g) in
-      let p = m.occupied place t (sym (ap (λ q. get_or q place None) places_mid) ∙ w.0) in
-      let n : eqb t slot ≡ false = elim (cases_Bool (eqb t slot)) [
-        | inl q ↦ absurd (w.1 place (was ∙ ap (λ z. standing_at old.records.items z) (sym (eqb-true t slot q)) ∙ p.1) refl)
-        | inr q ↦ q
-      ] in
-      (has-without-back t slot (small_slots old small) p.0 n, standing_now t n ∙ p.1)
+  bit_left : (t : ℕ) → bit_at new t ≡ bit_at old t
+  bit_left t = ap (λ (l : LinkState). bit_at l t) e ∙ ap (λ (b : HitBits). bit_in b.items t) (bits-freed standing mid) ∙ ap (λ (l : LinkState). bit_at l t) rest
 
   module _ (small' : Small) (len : small'.len ≡ small.len - 1) (cursor : small'.cursor ≡ small.cursor)
       (newest : small'.newest ≡ end_after small.newest slot (small.len - 1) (next_at old.records.items slot))
@@ -158,36 +194,35 @@ module _ (slot : ℕ) (old : LinkState) (small : Small) (mid new : LinkState) (m
       | inr f ↦ oldest ∙ end_stays small.oldest slot (small.len - 1) (previous_at old.records.items slot) f ∙ m.ends ∙ last_stays (small_slots old small) slot (λ g. f (m.ends ∙ g))
     ]
 
-    whole_now : IsSmall new small' (without slot (small_slots old small))
-    whole_now = record {
+    whole_left : IsSmall new small' (without slot (small_slots old small))
+    whole_left = record {
       queue = record {
-        linked = linked_now;
+        linked = linked_left;
         starts = newest_is;
         counted = let n = length-without slot (small_slots old small) m.queue.linked.apart h in let c = m.queue.counted in omega arith;
-        countable = rw as_many m.queue.countable;
+        countable = stay.countable;
       };
       ends = oldest_is;
-      standing = λ t g. let w = has-without t slot (small_slots old small) g in rw (standing_now t w.1) (m.standing t w.0);
-      placed = placed_now;
-      occupied = occupied_now;
-      cursor_in = λ p. rw (cursor, window_now) (m.cursor_in (rw window_now at p));
-      countable_places = rw window_now m.countable_places;
+      standing = stay.standing;
+      placed = stay.placed;
+      occupied = stay.occupied;
+      cursor_in = λ p. rw cursor (stay.cursor_in p);
+      countable_places = stay.countable_places;
     }
 
     pub UnlinksSmall-from : UnlinksSmall slot old small new small'
     UnlinksSmall-from = record {
-      whole = IsSmallQueue-from new small' (without slot (small_slots old small)) whole_now;
+      whole = IsSmallQueue-from new small' (without slot (small_slots old small)) whole_left;
       entries =
-          ap (λ z. map {B = ℕ × Age} (λ s. (s, age_at new small'.cursor s)) z) (small_slots-is new small' (without slot (small_slots old small)) whole_now)
-          ∙ map-agree {X = ℕ × Age} (λ s. (s, age_at new small'.cursor s)) (λ s. (s, age_at old small.cursor s)) (without slot (small_slots old small))
-          (λ t g. ap (λ z. (t, z)) (let w = has-without t slot (small_slots old small) g in rw (window_now, cursor, standing_now t w.1, bit_now t) refl))
-          ∙ sym (filter-entries slot (λ s. age_at old small.cursor s) (small_slots old small));
-      freed = ap (λ (z : List Record). standing_at z slot) records_now ∙ ap (λ r. r.standing) removed.freed;
+          ap (λ z. map {B = ℕ × Age} (λ s. (s, age_at new small'.cursor s)) z) (small_slots-is new small' (without slot (small_slots old small)) whole_left)
+          ∙ ap (λ z. aged_slots new z (without slot (small_slots old small))) cursor
+          ∙ ages_kept slot mid m h removed.standings removed.as_many places_mid was e (ap (λ (l : LinkState). l.bits) rest);
+      freed = ap (λ (z : List Record). standing_at z slot) records_left ∙ ap (λ r. r.standing) removed.freed;
       others =
           record {
-            others = λ t g. ap (λ z. (z, bit_at new t)) (ap (λ (z : List Record). record_at z t) records_now ∙ removed.others t g)
-                ∙ ap (λ z. (record_at old.records.items t, z)) (bit_now t);
-            as_many = as_many;
+            others = λ t g. ap (λ z. (z, bit_at new t)) (ap (λ (z : List Record). record_at z t) records_left ∙ removed.others t g)
+                ∙ ap (λ z. (record_at old.records.items t, z)) (bit_left t);
+            as_many = as_many_left;
           };
-      window = window_now;
+      window = window_left;
     }

@@ -24,6 +24,7 @@ pub mod Views
 pub mod SlotLists
 pub mod Sorted
 pub mod Standings
+pub mod Turning
 pub mod Window
 mod WorkedQueues
 mod WorkedPlaces

@@ -153,6 +153,26 @@ module _ (l : LinkState) (small : Small) (main : MainRing) (q : AreQueues l smal
       } in
       small_changed new small' (without_slot slot (small_entries l small)) queues k.entries e s.as_many p i
 
+  -- the oldest slot of Small became its newest
+  pub after_reuse : (new : LinkState) (small' : Small) (slot window : ℕ) → IsSmallQueue new small'
+      → small_entries new small' ≡ admitted window slot (without_slot slot (small_entries l small)) → IsSameBut (small_slots l small) l new
+      → length new.window.items ≡ length l.window.items → new.bits.inspections ≡ l.bits.inspections
+      → Becomes new small' main (record (queues_shown l small main) { small = admitted window slot (without_slot slot (small_entries l small)); accesses = accesses_of new })
+  after_reuse new small' slot window w e s p i =
+      let k = KeepsMain-from l main new (small_slots l small) q.main s (main_apart l small main q.small q.main) in
+      let slots : small_slots new small' ≡ slot ∷ without slot (small_slots l small) =
+      sym (small_slots-of new small') ∙ ap (λ (z : List (ℕ × Age)). slots_of z) e
+      ∙ ap (λ zs. slot ∷ zs) (slots_of-mapped (λ a. grown window a) (without_slot slot (small_entries l small)) ∙ slots_of-filter slot (small_entries l small) ∙ ap (λ z. without slot z) (small_slots-of l small)) in
+      let queues : AreQueues new small' main = record {
+        small = w;
+        main = k.whole;
+        elsewhere = λ t a b.
+            let a' = or_parts (eqb t slot) (has t (without slot (small_slots l small))) (subst (λ z. has t z ≡ false) slots a) in
+            let n : has t (small_slots l small) ≡ false = not_among t slot (small_slots l small) a'.0 a'.1 in
+            stays_free new (small_slots l small) t s n n (subst (λ z. has t z ≡ false) k.slots b);
+      } in
+      small_changed new small' (admitted window slot (without_slot slot (small_entries l small))) queues k.entries e s.as_many p i
+
   pub after_main_left : (new : LinkState) (main' : MainRing) (slot : ℕ) → IsMainRing new main' → standing_at new.records.items slot ≡ Free
       → main_entries new main' ≡ filter (λ e. not (eqb e.0 slot)) (main_entries l main) → IsSameBut (main_slots l main) l new → new.window ≡ l.window
       → Becomes new small main' (record (queues_shown l small main) { main = without_slot slot (main_entries l main); accesses = accesses_of new; inspections = new.bits.inspections })

@@ -1,5 +1,5 @@
 -- Small: what an admission, and a slot that leaves, make of its list and of the window.
-use Rattle.std.proofs.Common.{◌≡◌, ℕ, ◌+◌, ◌<◌, ◌≢◌, Bool, true, false, cond, eqb, Option, Some, None, slice_get, List, [], ◌∷◌, length, map, set, get_or, inl, inr, refl, sym, ap, ◌∙◌, subst, arith}
+use Rattle.std.proofs.Common.{◌≡◌, ℕ, ◌+◌, ◌^◌, ◌<◌, ◌≢◌, Bool, true, false, cond, eqb, Option, Some, None, slice_get, IfSome, List, [], ◌∷◌, length, map, set, get_or, inl, inr, refl, sym, ap, ◌∙◌, subst, arith}
 use Rattle.std.specs.List.{last_or}
 use Rattle.std.proofs.lemmas.Bool.{eqb-true, eq-eqb, ne_eqb, both_ways, cases_Bool, or_cases, lt-ltb, le-ltb, cases_lt}
 use Rattle.std.proofs.lemmas.List.{length-set}
@@ -14,7 +14,7 @@ use Rattle.clock2q_queues.specs.Cells.{CellsState, written}
 use Rattle.clock2q_queues.specs.Links.{LinkState, IsBlank, IsLinked, IsSameBut, Attaches, record_at, next_at, previous_at, standing_at, bit_at, place_at}
 use Rattle.clock2q_queues.specs.Small.{IsSmall, IsSmallQueue, IsInSmall, GrowsOld, small_slots, small_entries, admissions_since, next_cursor, age_of, age_at, admitted, is_there}
 use Rattle.clock2q_queues.proofs.Records.{changed}
-use Rattle.clock2q_queues.proofs.Rings.{IsRing-kept, eqb_self, has_first, has_later, differs}
+use Rattle.clock2q_queues.proofs.Rings.{IsRing-kept, eqb_self, has_first, has_later, differs, below_of}
 use Rattle.clock2q_queues.proofs.Joining.{Inserts, Inserts-before, Inserts-first, slots_from-is, IsLinked-turned, first_in, neighbours_fit, same_record}
 use Rattle.clock2q_queues.proofs.Booleans.{or_left, or_parts}
 
@@ -99,125 +99,151 @@ linked_still old mid ss cursor k o = record {
   below = subst (λ z. AllBelow z ss) (sym o.as_many) k.below;
 }
 
--- a slot was admitted to Small
-pub record Admits (slot : ℕ) (old : LinkState) (small : Small) (new : LinkState) (small' : Small) : Type 0 where
-  pub whole : IsSmallQueue new small'
-  pub entries : small_entries new small' ≡ admitted (length old.window.items) slot (small_entries old small)
-  pub others : IsSameBut (slot ∷ small_slots old small) old new
+-- the slots of Small, but perhaps for one that goes out: where they stand, and what the window's places hold
+pub record AreStaying (l : LinkState) (cursor : ℕ) (ss : List ℕ) : Type 0 where
+  pub standing : (t : ℕ) → has t ss ≡ true → IsInSmall (standing_at l.records.items t)
+  pub placed : (t place : ℕ) → has t ss ≡ true → standing_at l.records.items t ≡ Young place → (place < length l.window.items) × (place_at l place ≡ Some t)
+  pub occupied : (place t : ℕ) → place_at l place ≡ Some t → (has t ss ≡ true) × (standing_at l.records.items t ≡ Young place)
+  pub cursor_in : 0 < length l.window.items → cursor < length l.window.items
+  pub countable : length l.records.items < 2 ^ 32
+  pub countable_places : length l.window.items < 2 ^ 32
 
-module _ (slot : ℕ) (old : LinkState) (small : Small) (mid aged new : LinkState) (small' : Small)
-    (m : IsSmallQueue old small) (b : slot < length old.records.items) (absent : has slot (small_slots old small) ≡ false) (w : 0 < length old.window.items)
-    (o : GrowsOld small.cursor old mid) (e : aged ≡ record mid { window = written small.cursor (Some slot) mid.window })
-    (i : Inserts slot (Young small.cursor) (small_slots old small) mid.records.items new.records.items) (rest : new ≡ record aged { records = new.records })
-    (newest : small'.newest ≡ Some slot) (oldest : small'.oldest ≡ last_or None (slot ∷ small_slots old small))
-    (count : small'.len ≡ small.len + 1) (cursor : small'.cursor ≡ next_cursor (length old.window.items) small.cursor) where
-  within : small.cursor < length old.window.items
+-- all of them, where none goes out
+pub all_stay : {l : LinkState} {small : Small} → IsSmallQueue l small → AreStaying l small.cursor (small_slots l small)
+all_stay m = record { standing = m.standing; placed = m.placed; occupied = m.occupied; cursor_in = m.cursor_in; countable = m.queue.countable; countable_places = m.countable_places }
+
+-- one that stands at the cursor is among the records
+pub cursor_fits : {l : LinkState} {cursor : ℕ} {ss : List ℕ} → AreStaying l cursor ss → AllBelow (length l.records.items) ss → IfSome (place_at l cursor) (λ slot. slot < length l.records.items)
+cursor_fits {l} {cursor} {ss} m b = of (place_at l cursor) refl
+  where
+    of : (o : Option ℕ) → place_at l cursor ≡ o → IfSome o (λ slot. slot < length l.records.items)
+    of None e = tt
+    of (Some t) e = below_of (length l.records.items) ss b t (m.occupied cursor t e).0
+
+-- the slots with their ages
+abbrev pub aged_slots : LinkState → ℕ → List ℕ → List (ℕ × Age)
+aged_slots l cursor ss = map (λ s. (s, age_at l cursor s)) ss
+
+-- a slot was admitted to Small, of which these stay
+pub record Admits (slot : ℕ) (old : LinkState) (cursor : ℕ) (ss : List ℕ) (new : LinkState) (small' : Small) : Type 0 where
+  pub whole : IsSmallQueue new small'
+  pub slots : small_slots new small' ≡ slot ∷ ss
+  pub entries : small_entries new small' ≡ admitted (length old.window.items) slot (aged_slots old cursor ss)
+  pub others : IsSameBut (slot ∷ ss) old new
+
+module _ {slot : ℕ} {old : LinkState} {cursor : ℕ} {ss : List ℕ} {mid aged new : LinkState} {small' : Small}
+    (m : AreStaying old cursor ss) (absent : has slot ss ≡ false) (w : 0 < length old.window.items)
+    (o : GrowsOld cursor old mid) (e : aged ≡ record mid { window = written cursor (Some slot) mid.window })
+    (i : Inserts slot (Young cursor) ss mid.records.items new.records.items) (rest : new ≡ record aged { records = new.records })
+    (newest : small'.newest ≡ Some slot) (oldest : small'.oldest ≡ last_or None (slot ∷ ss))
+    (count : small'.len ≡ length ss + 1) (moved : small'.cursor ≡ next_cursor (length old.window.items) cursor) where
+  within : cursor < length old.window.items
   within = m.cursor_in w
 
-  places_new : new.window.items ≡ set old.window.items small.cursor (Some slot)
-  places_new = ap (λ (l : LinkState). l.window.items) rest ∙ ap (λ (l : LinkState). l.window.items) e ∙ ap (λ (z : List (Option ℕ)). set z small.cursor (Some slot)) o.places
+  places_new : new.window.items ≡ set old.window.items cursor (Some slot)
+  places_new = ap (λ (l : LinkState). l.window.items) rest ∙ ap (λ (l : LinkState). l.window.items) e ∙ ap (λ (z : List (Option ℕ)). set z cursor (Some slot)) o.places
 
   window_new : length new.window.items ≡ length old.window.items
-  window_new = ap (λ (z : List (Option ℕ)). length z) places_new ∙ length-set old.window.items small.cursor (Some slot)
+  window_new = ap (λ (z : List (Option ℕ)). length z) places_new ∙ length-set old.window.items cursor (Some slot)
 
   slots_new : length new.records.items ≡ length old.records.items
   slots_new = i.as_many ∙ o.as_many
 
-  place_new : (p : ℕ) → place_at new p ≡ cond (eqb p small.cursor) (Some slot) (place_at old p)
-  place_new p = ap (λ z. get_or z p None) places_new ∙ changed (λ z. z) old.window.items small.cursor (Some slot) None p within
+  place_new : (p : ℕ) → place_at new p ≡ cond (eqb p cursor) (Some slot) (place_at old p)
+  place_new p = ap (λ z. get_or z p None) places_new ∙ changed (λ z. z) old.window.items cursor (Some slot) None p within
 
-  standing_new : (t : ℕ) → standing_at new.records.items t ≡ cond (eqb t slot) (Young small.cursor) (cond (is_there (place_at old small.cursor) t) Old (standing_at old.records.items t))
-  standing_new t = i.standings t ∙ ap (λ z. cond (eqb t slot) (Young small.cursor) z) (o.standings t)
+  standing_new : (t : ℕ) → standing_at new.records.items t ≡ cond (eqb t slot) (Young cursor) (cond (is_there (place_at old cursor) t) Old (standing_at old.records.items t))
+  standing_new t = i.standings t ∙ ap (λ z. cond (eqb t slot) (Young cursor) z) (o.standings t)
 
-  bit_new : (t : ℕ) → bit_at new t ≡ cond (is_there (place_at old small.cursor) t) false (bit_at old t)
+  bit_new : (t : ℕ) → bit_at new t ≡ cond (is_there (place_at old cursor) t) false (bit_at old t)
   bit_new t = ap (λ (l : LinkState). bit_at l t) rest ∙ ap (λ (l : LinkState). bit_at l t) e ∙ o.bits t
 
   -- a young slot of the queue that isn't at the cursor has another place
-  elsewhere : (t place : ℕ) → has t (small_slots old small) ≡ true → is_there (place_at old small.cursor) t ≡ false
-      → standing_at old.records.items t ≡ Young place → (place < length old.window.items) × (place ≢ small.cursor)
+  elsewhere : (t place : ℕ) → has t ss ≡ true → is_there (place_at old cursor) t ≡ false
+      → standing_at old.records.items t ≡ Young place → (place < length old.window.items) × (place ≢ cursor)
   elsewhere t place h n y =
       let p = m.placed t place h y in
-      (p.0, λ q. both_ways (is_there (place_at old small.cursor) t) n (is_there-own _ t (subst (λ z. place_at old z ≡ Some t) q p.1)))
+      (p.0, λ q. both_ways (is_there (place_at old cursor) t) n (is_there-own _ t (subst (λ z. place_at old z ≡ Some t) q p.1)))
 
-  aged_at : (t : ℕ) → has t (small_slots old small) ≡ true → age_at new small'.cursor t ≡ grown (length old.window.items) (age_at old small.cursor t)
+  aged_at : (t : ℕ) → has t ss ≡ true → age_at new small'.cursor t ≡ grown (length old.window.items) (age_at old cursor t)
   aged_at t h =
-      let d : eqb t slot ≡ false = differs t slot (small_slots old small) h absent in
-      elim (cases_Bool (is_there (place_at old small.cursor) t)) [
+      let d : eqb t slot ≡ false = differs t slot ss h absent in
+      elim (cases_Bool (is_there (place_at old cursor) t)) [
         | inl g ↦
-            let y = (m.occupied small.cursor t (is_there-true _ t g)).1 in
-            rw (cursor, window_new, standing_new t, bit_new t, d, g, y) (sym (grown-at_cursor (length old.window.items) small.cursor (bit_at old t) within))
+            let y = (m.occupied cursor t (is_there-true _ t g)).1 in
+            rw (moved, window_new, standing_new t, bit_new t, d, g, y) (sym (grown-at_cursor (length old.window.items) cursor (bit_at old t) within))
         | inr g ↦
-            rw (cursor, window_new, standing_new t, bit_new t, d, g)
-            (aged_standing (length old.window.items) small.cursor (standing_at old.records.items t) (bit_at old t) within (λ place y. elsewhere t place h g y))
+            rw (moved, window_new, standing_new t, bit_new t, d, g)
+            (aged_standing (length old.window.items) cursor (standing_at old.records.items t) (bit_at old t) within (λ place y. elsewhere t place h g y))
       ]
 
-  own_standing : standing_at new.records.items slot ≡ Young small.cursor
+  own_standing : standing_at new.records.items slot ≡ Young cursor
   own_standing = standing_new slot ∙ rw (eqb_self slot) refl
 
   -- what stands in the queue now, stood there before unless it is new
-  young_new : (t place : ℕ) → has t (slot ∷ small_slots old small) ≡ true → standing_at new.records.items t ≡ Young place → (place < length new.window.items) × (place_at new place ≡ Some t)
+  young_new : (t place : ℕ) → has t (slot ∷ ss) ≡ true → standing_at new.records.items t ≡ Young place → (place < length new.window.items) × (place_at new place ≡ Some t)
   young_new t place h y = elim (cases_Bool (eqb t slot)) [
     | inl g ↦
         let q : t ≡ slot = eqb-true t slot g in
-        let p : place ≡ small.cursor = let r = own_standing in let y' = subst (λ z. standing_at new.records.items z ≡ Young place) q y in cc in
-        (rw (p, window_new) within, place_new place ∙ rw (p, eqb_self small.cursor) (ap (λ z. Some z) (sym q)))
+        let p : place ≡ cursor = let r = own_standing in let y' = subst (λ z. standing_at new.records.items z ≡ Young place) q y in cc in
+        (rw (p, window_new) within, place_new place ∙ rw (p, eqb_self cursor) (ap (λ z. Some z) (sym q)))
     | inr g ↦
-        let k : has t (small_slots old small) ≡ true = elim (or_cases (eqb t slot) (has t (small_slots old small)) h) [ inl z ↦ absurd (both_ways (eqb t slot) g z) | inr z ↦ z ] in
-        elim (cases_Bool (is_there (place_at old small.cursor) t)) [
+        let k : has t ss ≡ true = elim (or_cases (eqb t slot) (has t ss) h) [ inl z ↦ absurd (both_ways (eqb t slot) g z) | inr z ↦ z ] in
+        elim (cases_Bool (is_there (place_at old cursor) t)) [
           | inl f ↦ let z : standing_at new.records.items t ≡ Old = standing_new t ∙ rw (g, f) refl in absurd (cc)
           | inr f ↦
               let z : standing_at old.records.items t ≡ Young place = sym (standing_new t ∙ rw (g, f) refl) ∙ y in
               let p = elsewhere t place k f z in
-              (rw window_new p.0, place_new place ∙ rw (ne_eqb place small.cursor p.1) (m.placed t place k z).1)
+              (rw window_new p.0, place_new place ∙ rw (ne_eqb place cursor p.1) (m.placed t place k z).1)
         ]
   ]
 
-  occupied_new : (place t : ℕ) → place_at new place ≡ Some t → (has t (slot ∷ small_slots old small) ≡ true) × (standing_at new.records.items t ≡ Young place)
-  occupied_new place t h = elim (cases_Bool (eqb place small.cursor)) [
+  occupied_new : (place t : ℕ) → place_at new place ≡ Some t → (has t (slot ∷ ss) ≡ true) × (standing_at new.records.items t ≡ Young place)
+  occupied_new place t h = elim (cases_Bool (eqb place cursor)) [
     | inl g ↦
         let q : Some slot ≡ Some t = sym (place_new place ∙ rw g refl) ∙ h in
         let r : t ≡ slot = cc in (
-          or_left (eqb t slot) (has t (small_slots old small)) (eq-eqb t slot r),
-          subst (λ z. standing_at new.records.items z ≡ Young place) (sym r) (own_standing ∙ ap (λ z. Young z) (sym (eqb-true place small.cursor g))),
+          or_left (eqb t slot) (has t ss) (eq-eqb t slot r),
+          subst (λ z. standing_at new.records.items z ≡ Young place) (sym r) (own_standing ∙ ap (λ z. Young z) (sym (eqb-true place cursor g))),
         )
     | inr g ↦
         let q : place_at old place ≡ Some t = sym (place_new place ∙ rw g refl) ∙ h in
         let p = m.occupied place t q in
-        let d : eqb t slot ≡ false = differs t slot (small_slots old small) p.0 absent in
-        let f : is_there (place_at old small.cursor) t ≡ false = elim (cases_Bool (is_there (place_at old small.cursor) t)) [
+        let d : eqb t slot ≡ false = differs t slot ss p.0 absent in
+        let f : is_there (place_at old cursor) t ≡ false = elim (cases_Bool (is_there (place_at old cursor) t)) [
           | inl z ↦
-              let y = (m.occupied small.cursor t (is_there-true _ t z)).1 in
-              let c : place ≡ small.cursor = let x = p.1 in cc in
-              absurd (both_ways (eqb place small.cursor) g (eq-eqb place small.cursor c))
+              let y = (m.occupied cursor t (is_there-true _ t z)).1 in
+              let c : place ≡ cursor = let x = p.1 in cc in
+              absurd (both_ways (eqb place cursor) g (eq-eqb place cursor c))
           | inr z ↦ z
         ] in
-        (has_later t slot (small_slots old small) p.0, standing_new t ∙ rw (d, f) p.1)
+        (has_later t slot ss p.0, standing_new t ∙ rw (d, f) p.1)
   ]
 
-  in_small_new : (t : ℕ) → has t (slot ∷ small_slots old small) ≡ true → IsInSmall (standing_at new.records.items t)
+  in_small_new : (t : ℕ) → has t (slot ∷ ss) ≡ true → IsInSmall (standing_at new.records.items t)
   in_small_new t h = elim (cases_Bool (eqb t slot)) [
     | inl g ↦ rw (standing_new t, g) tt
     | inr g ↦
-        let k : has t (small_slots old small) ≡ true = elim (or_cases (eqb t slot) (has t (small_slots old small)) h) [ inl z ↦ absurd (both_ways (eqb t slot) g z) | inr z ↦ z ] in
-        elim (cases_Bool (is_there (place_at old small.cursor) t)) [
+        let k : has t ss ≡ true = elim (or_cases (eqb t slot) (has t ss) h) [ inl z ↦ absurd (both_ways (eqb t slot) g z) | inr z ↦ z ] in
+        elim (cases_Bool (is_there (place_at old cursor) t)) [
           | inl f ↦ rw (standing_new t, g, f) tt
           | inr f ↦ rw (standing_new t, g, f) (m.standing t k)
         ]
   ]
 
   cursor_new : small'.cursor < length new.window.items
-  cursor_new = elim (cases_lt (small.cursor + 1) (length old.window.items)) [
-    | inl l ↦ rw (cursor, window_new, lt-ltb (small.cursor + 1) (length old.window.items) l) l
-    | inr l ↦ rw (cursor, window_new, le-ltb (small.cursor + 1) (length old.window.items) l) w
+  cursor_new = elim (cases_lt (cursor + 1) (length old.window.items)) [
+    | inl l ↦ rw (moved, window_new, lt-ltb (cursor + 1) (length old.window.items) l) l
+    | inr l ↦ rw (moved, window_new, le-ltb (cursor + 1) (length old.window.items) l) w
   ]
 
-  whole_new : IsSmall new small' (slot ∷ small_slots old small)
+  whole_new : IsSmall new small' (slot ∷ ss)
   whole_new = record {
     queue = record {
-      linked = IsLinked-turned new.records.items (small_slots old small) (slot ∷ []) i.linked;
+      linked = IsLinked-turned new.records.items ss (slot ∷ []) i.linked;
       starts = newest;
-      counted = let c = m.queue.counted in omega arith;
-      countable = rw slots_new m.queue.countable;
+      counted = omega (arith, count);
+      countable = rw slots_new m.countable;
     };
     ends = oldest;
     standing = in_small_new;
@@ -227,21 +253,22 @@ module _ (slot : ℕ) (old : LinkState) (small : Small) (mid aged new : LinkStat
     countable_places = rw window_new m.countable_places;
   }
 
-  pub Admits-from : Admits slot old small new small'
+  pub Admits-from : Admits slot old cursor ss new small'
   Admits-from = record {
-    whole = IsSmallQueue-from new small' (slot ∷ small_slots old small) whole_new;
+    whole = IsSmallQueue-from new small' (slot ∷ ss) whole_new;
+    slots = small_slots-is new small' (slot ∷ ss) whole_new;
     entries =
-        ap (λ z. map {B = ℕ × Age} (λ s. (s, age_at new small'.cursor s)) z) (small_slots-is new small' (slot ∷ small_slots old small) whole_new)
-        ∙ ap (λ z. (slot, z) ∷ map {B = ℕ × Age} (λ s. (s, age_at new small'.cursor s)) (small_slots old small))
-        (rw (own_standing, window_new, cursor) (ap (λ z. ages.Young z) (admissions_since-own (length old.window.items) small.cursor within)))
+        ap (λ z. map {B = ℕ × Age} (λ s. (s, age_at new small'.cursor s)) z) (small_slots-is new small' (slot ∷ ss) whole_new)
+        ∙ ap (λ z. (slot, z) ∷ map {B = ℕ × Age} (λ s. (s, age_at new small'.cursor s)) ss)
+        (rw (own_standing, window_new, moved) (ap (λ z. ages.Young z) (admissions_since-own (length old.window.items) cursor within)))
         ∙ ap (λ z. (slot, ages.Young 0) ∷ z)
-        (entries-mapped (λ s. age_at new small'.cursor s) (λ s. age_at old small.cursor s) (λ a. grown (length old.window.items) a) (small_slots old small) aged_at);
+        (entries-mapped (λ s. age_at new small'.cursor s) (λ s. age_at old cursor s) (λ a. grown (length old.window.items) a) ss aged_at);
     others = record {
       others = λ t h.
-          let d : eqb t slot ≡ false = (or_parts (eqb t slot) (has t (small_slots old small)) h).0 in
-          let k : has t (small_slots old small) ≡ false = (or_parts (eqb t slot) (has t (small_slots old small)) h).1 in
-          let f : is_there (place_at old small.cursor) t ≡ false = elim (cases_Bool (is_there (place_at old small.cursor) t)) [
-            | inl z ↦ absurd (both_ways (has t (small_slots old small)) k (m.occupied small.cursor t (is_there-true _ t z)).0)
+          let d : eqb t slot ≡ false = (or_parts (eqb t slot) (has t ss) h).0 in
+          let k : has t ss ≡ false = (or_parts (eqb t slot) (has t ss) h).1 in
+          let f : is_there (place_at old cursor) t ≡ false = elim (cases_Bool (is_there (place_at old cursor) t)) [
+            | inl z ↦ absurd (both_ways (has t ss) k (m.occupied cursor t (is_there-true _ t z)).0)
             | inr z ↦ z
           ] in
           ap (λ z. (z, bit_at new t)) (i.others t h ∙ same_record (record_at mid.records.items t) (record_at old.records.items t) (o.previouses t) (o.nexts t) (o.standings t ∙ rw f refl))
@@ -291,21 +318,24 @@ module _ (slot : ℕ) (old : LinkState) (small : Small) (mid aged : LinkState) (
   module _ (new : LinkState) (small' : Small) (b : slot < length old.records.items) (absent : has slot (small_slots old small) ≡ false) (w : 0 < length old.window.items)
       (rest : new ≡ record aged { records = new.records }) (n : small'.newest ≡ Some slot)
       (c : small'.len ≡ small.len + 1) (r : small'.cursor ≡ next_cursor (length old.window.items) small.cursor) where
+    counted : small'.len ≡ length (small_slots old small) + 1
+    counted = omega (arith, c, m.queue.counted)
+
     pub Admits-attached : (newest : ℕ) → small.newest ≡ Some newest
-        → Attaches slot newest (Young small.cursor) aged.records new.records → small'.oldest ≡ small.oldest → Admits slot old small new small'
+        → Attaches slot newest (Young small.cursor) aged.records new.records → small'.oldest ≡ small.oldest → Admits slot old small.cursor (small_slots old small) new small'
     Admits-attached newest h a d =
         let k = linked_still old mid (small_slots old small) small.cursor m.queue.linked o in
         let s = sym h ∙ m.queue.starts in
         let a' : Attaches slot newest (Young small.cursor) mid.records new.records = subst (λ (z : CellsState Record). Attaches slot newest (Young small.cursor) z new.records) records_aged a in
-        Admits-from slot old small mid aged new small' m b absent w o e
+        Admits-from (all_stay m) absent w o e
         (Inserts-before mid.records new.records (small_slots old small) slot (Young small.cursor) newest k s absent (rw o.as_many b) a') rest
-        n (d ∙ m.ends ∙ last_behind (small_slots old small) slot newest s) c r
+        n (d ∙ m.ends ∙ last_behind (small_slots old small) slot newest s) counted r
 
     pub Admits-alone : small.newest ≡ None → new.records ≡ written slot (record { previous = slot; next = slot; standing = Young small.cursor }) aged.records
-        → small'.oldest ≡ Some slot → Admits slot old small new small'
+        → small'.oldest ≡ Some slot → Admits slot old small.cursor (small_slots old small) new small'
     Admits-alone h a d =
         let s = sym h ∙ m.queue.starts in
-        Admits-from slot old small mid aged new small' m b absent w o e
+        Admits-from (all_stay m) absent w o e
         (Inserts-first mid.records new.records (small_slots old small) slot (Young small.cursor) s (rw o.as_many b)
         (a ∙ ap (λ z. written slot (record { previous = slot; next = slot; standing = Young small.cursor }) z) records_aged)) rest
-        n (d ∙ last_alone (small_slots old small) slot s) c r
+        n (d ∙ last_alone (small_slots old small) slot s) counted r

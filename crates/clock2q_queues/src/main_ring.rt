@@ -46,9 +46,9 @@ impl MainRing {
         ensures inspections { links.new.bits.inspections ≡ links.old.bits.inspections }
         ensures accesses { Rises 1 6 links.old.records.accesses links.new.records.accesses }
     {
-        links.set_bit(slot, false);
         match self.hand {
             None => {
+                links.set_bit(slot, false);
                 let alone = Record {
                     previous: slot,
                     next: slot,
@@ -57,7 +57,10 @@ impl MainRing {
                 links.write(slot, alone);
                 self.hand = Some(slot);
             }
-            Some(hand) => links.attach(slot, hand, Mark::Main),
+            Some(hand) => {
+                links.set_bit(slot, false);
+                links.attach(slot, hand, Mark::Main);
+            }
         }
         self.len += 1;
     }

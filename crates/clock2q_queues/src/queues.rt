@@ -186,6 +186,19 @@ impl<A: Allocator> Queues<A> {
         Some(tail)
     }
 
+    /// Makes Small's oldest slot its newest, and returns it: a new key takes the slot of the oldest
+    /// one. All young slots grow older, and one may become old.
+    #[inline(always)]
+    pub fn reuse_tail(&mut self) -> u32
+        requires some { 0 < length self.old.small }
+        requires window { 0 < self.old.window }
+        ensures tail { last_or None (slots_of self.old.small) ≡ Some result }
+        ensures queues { self.new ≡ record self.old { small = admitted self.old.window result (take (length self.old.small - 1) self.old.small); accesses = self.new.accesses } }
+        ensures accesses { Rises 5 8 self.old.accesses self.new.accesses }
+    {
+        self.small.reuse_oldest(&mut self.links)
+    }
+
     /// Removes the slot that the hand chooses from Main, and returns it.
     ///
     /// The hand passes each slot whose bit is set, and clears the bit. It chooses the first slot

@@ -1,10 +1,10 @@
 //! Small: the queue of the newest residents, of which the last admitted ones are young.
-ghost use Rattle.std.specs.Prelude.{◌≡◌, ℕ, ◌+◌, ◌^◌, ◌<◌, ◌≤◌, ◌==◌, true, false, not, [], ◌∷◌, length, None};
+ghost use Rattle.std.specs.Prelude.{◌≡◌, ℕ, ◌+◌, ◌^◌, ◌<◌, ◌≤◌, ◌==◌, true, false, not, [], ◌∷◌, length, Some, None, IfSome};
 ghost use Rattle.std.specs.List.{filter, last_or};
 ghost use Rattle.clock2q_queues.specs.Cells.{Rises};
 ghost use Rattle.clock2q_queues.specs.Rings.{has};
 ghost use Rattle.clock2q_queues.specs.Ends.{end_after, place_freed};
-ghost use Rattle.clock2q_queues.specs.Links.{LinkState, IsBlank, IsSameBut, accesses_of, standing_at};
+ghost use Rattle.clock2q_queues.specs.Links.{LinkState, IsBlank, IsSameBut, accesses_of, standing_at, place_at};
 
 use crate::links::{Links, Mark, Record};
 use std::alloc::Allocator;
@@ -51,14 +51,14 @@ impl Small {
 
     /// Makes old, with a clear bit, the slot whose place is used next.
     fn free_place<A: Allocator>(&self, links: &mut Links<A>)
-        requires whole { IsSmallQueue links.old self.now }
-        requires window { 0 < length links.old.window.items }
+        requires cursor { self.now.cursor < length links.old.window.items }
+        requires slot { IfSome (place_at links.old self.now.cursor) (λ slot. slot < length links.old.records.items) }
         ensures older { GrowsOld self.now.cursor links.old links.new }
         ensures accesses { Rises 1 3 (accesses_of links.old) (accesses_of links.new) }
     {
         if let Some(slot) = links.place(self.cursor) {
-            links.set_standing(slot, Mark::Old);
             links.set_bit(slot, false);
+            links.set_standing(slot, Mark::Old);
         }
     }
 
@@ -106,6 +106,35 @@ impl Small {
         self.newest = Some(slot);
         self.cursor = self.next_place(links.window());
         self.len += 1;
+    }
+
+    /// Makes the oldest slot the newest, and returns it: as if it left and was admitted again. The
+    /// ring stays as it is, since the newest slot stands behind the oldest.
+    #[inline(always)]
+    pub(crate) fn reuse_oldest<A: Allocator>(&mut self, links: &mut Links<A>) -> u32
+        requires whole { IsSmallQueue links.old self.old }
+        requires some { 0 < length (small_slots links.old self.old) }
+        requires window { 0 < length links.old.window.items }
+        ensures oldest { last_or None (small_slots links.old self.old) ≡ Some result }
+        ensures whole { IsSmallQueue links.new self.new }
+        ensures entries { small_entries links.new self.new
+            ≡ admitted (length links.old.window.items) result (filter (λ e. not (e.0 == result)) (small_entries links.old self.old)) }
+        ensures others { IsSameBut (small_slots links.old self.old) links.old links.new }
+        ensures window { length links.new.window.items ≡ length links.old.window.items }
+        ensures inspections { links.new.bits.inspections ≡ links.old.bits.inspections }
+        ensures accesses { Rises 5 8 (accesses_of links.old) (accesses_of links.new) }
+    {
+        // a queue with a slot has an oldest one
+        let slot = self.oldest.unwrap();
+        let was = links.read(slot);
+        leave_place(links, was.standing);
+        self.free_place(links);
+        links.set_place(self.cursor, Some(slot));
+        links.set_standing(slot, Mark::Young(self.cursor));
+        self.newest = Some(slot);
+        self.oldest = Some(was.previous);
+        self.cursor = self.next_place(links.window());
+        slot
     }
 
     /// Removes a slot. If it was young, its place is free.

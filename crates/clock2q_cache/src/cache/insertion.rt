@@ -238,14 +238,10 @@ impl<K: Hash + Eq + Drop, V: Drop, S: BuildHasher, A: Allocator> Cache<K, V, S, 
         ensures hasher { self.new.hasher ≡ self.old.hasher }
         ensures counts { Spends 0 28 0 self.old.counts self.new.counts }
     {
-        // the caller saw that Small isn't empty
-        let Some(tail) = self.queues.take_tail() else {
-            unreachable!()
-        };
+        let tail = self.queues.reuse_tail();
         let (old_hash, old_key) = refill(&mut self.keys, tail, hash, key, value);
         self.history.push(old_hash, tail, old_key);
         self.history.add(hash, tail);
-        self.queues.admit(tail);
         tail
     }
 

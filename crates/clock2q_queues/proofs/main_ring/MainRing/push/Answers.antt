@@ -8,10 +8,10 @@ use Rattle.clock2q_queues.proofs.main_ring.MainRing.push.Goals as goal
 use Rattle.clock2q_queues.proofs.main_ring.MainRing.push.Goals.{in-None, in-Some}
 
 pub attach-requires-clause-before_in : goal.attach-requires-clause-before_in
-attach-requires-clause-before_in g c = (hand_fits c.args.links.now c.set_bit.new.self c.args.self.now c.in-Some.hand c.requires.whole c.set_bit.ensures.records c.in-Some.is).0
+attach-requires-clause-before_in g c = (hand_fits c.args.links.now c.set_bit-in-Some.new.self c.args.self.now c.in-Some.hand c.requires.whole c.set_bit-in-Some.ensures.records c.in-Some.is).0
 
 pub attach-requires-clause-previous_in : goal.attach-requires-clause-previous_in
-attach-requires-clause-previous_in g c = (hand_fits c.args.links.now c.set_bit.new.self c.args.self.now c.in-Some.hand c.requires.whole c.set_bit.ensures.records c.in-Some.is).1
+attach-requires-clause-previous_in g c = (hand_fits c.args.links.now c.set_bit-in-Some.new.self c.args.self.now c.in-Some.hand c.requires.whole c.set_bit-in-Some.ensures.records c.in-Some.is).1
 
 pub overflow_add-self : goal.overflow_add-self
 overflow_add-self g c =
@@ -27,18 +27,18 @@ pub returns : goal.returns
 returns g c =
     let l = c.args.links.now in
     let main = c.args.self.now in
-    let mid = c.set_bit.new.self in
     let main' : MainRing = record { hand = c.match-self.self.hand; len = c.match-self.self.len + 1 } in
     let pushed : PushesMain c.args.slot l main c.match-self.links main' =
     elim c.match-self.branch [
       | in-None w ↦
+          let mid = w.set_bit.new.self in
           let e = w.links-is ∙ w.write.ensures in
           let records = ap (λ (z : LinkState). z.records) e in
-          PushesMain-alone c.args.slot l main mid c.match-self.links main' c.requires.whole c.requires.slot_in c.requires.absent c.set_bit.ensures
+          PushesMain-alone c.args.slot l main mid c.match-self.links main' c.requires.whole c.requires.slot_in c.requires.absent w.set_bit.ensures
           (e ∙ ap (λ r. record mid { records = r }) (sym records)) (ap (λ (m : MainRing). m.len + 1) w.self-is)
           w.in-None.is records (ap (λ (m : MainRing). m.hand) w.self-is)
       | in-Some w ↦
-          PushesMain-attached c.args.slot l main mid c.match-self.links main' c.requires.whole c.requires.slot_in c.requires.absent c.set_bit.ensures
+          PushesMain-attached c.args.slot l main w.set_bit-in-Some.new.self c.match-self.links main' c.requires.whole c.requires.slot_in c.requires.absent w.set_bit-in-Some.ensures
           (rw w.links-is w.attach.ensures.rest) (ap (λ (m : MainRing). m.len + 1) w.self-is)
           w.in-Some.hand w.in-Some.is (rw w.links-is w.attach.ensures.attached) (ap (λ (m : MainRing). m.hand) w.self-is ∙ w.in-Some.is)
     ] in

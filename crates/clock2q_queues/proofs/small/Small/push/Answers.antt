@@ -3,9 +3,12 @@ use Rattle.clock2q_queues.specs.declared.small.Small.{Small}
 use Rattle.clock2q_queues.specs.Links.{LinkState}
 use Rattle.clock2q_queues.specs.Small.{small_slots, next_cursor}
 use Rattle.clock2q_queues.proofs.Joining.{count_fits}
-use Rattle.clock2q_queues.proofs.Window.{Admits, Admits-attached, Admits-alone, window_aged, first_fits}
+use Rattle.clock2q_queues.proofs.Window.{Admits, Admits-attached, Admits-alone, all_stay, cursor_fits, window_aged, first_fits}
 use Rattle.clock2q_queues.proofs.small.Small.push.Goals as goal
 use Rattle.clock2q_queues.proofs.small.Small.push.Goals.{in-None, in-Some}
+
+pub free_place-requires-clause-slot : goal.free_place-requires-clause-slot
+free_place-requires-clause-slot g c = cursor_fits (all_stay c.requires.whole) c.requires.whole.queue.linked.below
 
 pub attach-requires-clause-before_in : goal.attach-requires-clause-before_in
 attach-requires-clause-before_in g c =
@@ -37,7 +40,7 @@ returns g c =
     let window = window_aged c.args.slot old small mid aged c.requires.whole c.free_place.ensures.older c.set_place.ensures in
     let moved = (λ (n : length c.match-self.links.window.items ≡ length old.window.items) (k : c.match-self.self.cursor ≡ small.cursor).
     c.next_place-self.ensures ∙ ap (λ z. next_cursor z c.match-self.self.cursor) (c.window.ensures ∙ n) ∙ ap (λ z. next_cursor (length old.window.items) z) k) in
-    let pushed : Admits c.args.slot old small c.match-self.links small' =
+    let pushed : Admits c.args.slot old small.cursor (small_slots old small) c.match-self.links small' =
     elim c.match-self.branch [
       | in-None w ↦
           let e = w.links-is ∙ w.write.ensures in

@@ -1,0 +1,179 @@
+-- Small, whose oldest slot became its newest.
+use Rattle.std.proofs.Common.{◌≡◌, ℕ, ◌+◌, ◌<◌, true, false, not, cond, eqb, Option, Some, None, IfSome, IsSome, rules, List, [], ◌∷◌, ◌++◌, length, inl, inr, refl, sym, ap, ◌∙◌, subst, arith}
+use Rattle.std.specs.List.{filter, last_or}
+use Rattle.std.proofs.lemmas.Bool.{cases_Bool, eqb-true}
+use Rattle.std.proofs.lemmas.List.{append-nil, length-set}
+use Rattle.clock2q_machine.proofs.Whole.{last_some}
+use Rattle.clock2q_queues.specs.declared.links.Record.{Record}
+use Rattle.clock2q_queues.specs.declared.links.Mark.{Mark}
+use Rattle.clock2q_queues.specs.declared.links.Mark.TheVariants.{Young}
+use Rattle.clock2q_queues.specs.declared.small.Small.{Small}
+use Rattle.clock2q_queues.specs.Cells.{CellsState, HitBits, accessed, bit_in, written}
+use Rattle.clock2q_queues.specs.Rings.{has, without, AllApart, AllBelow}
+use Rattle.clock2q_queues.specs.Links.{LinkState, IsLinked, IsSameBut, record_at, place_at, next_at, previous_at, standing_at, bit_at, with_standing, vacant}
+use Rattle.clock2q_queues.specs.Ends.{place_freed}
+use Rattle.clock2q_queues.specs.Small.{IsSmallQueue, GrowsOld, small_slots, small_entries, admitted, next_cursor}
+use Rattle.clock2q_queues.proofs.Booleans.{and_false, or_parts, or_neither}
+use Rattle.clock2q_queues.proofs.Records.{changed}
+use Rattle.clock2q_queues.proofs.Rings.{IsRing-kept, AllBelow-left, eqb_self, has-append, has-without_test, without-parted}
+use Rattle.clock2q_queues.proofs.Joining.{Inserts, IsLinked-turned, in_bounds, last_before, length-without, same_record, split_last}
+use Rattle.clock2q_queues.proofs.Leaving.{others_stay, ages_kept, records_now, window_now, records-freed, bits-freed}
+use Rattle.clock2q_queues.proofs.SlotLists.{tail_among}
+use Rattle.clock2q_queues.proofs.Window.{AreStaying, Admits, Admits-from, aged_slots, cursor_fits}
+
+-- a list that ends in this slot is the others and the slot
+ends_in : (ss : List ℕ) (slot : ℕ) → AllApart ss → last_or None ss ≡ Some slot → ss ≡ without slot ss ++ slot ∷ []
+ends_in [] slot a e = absurd (cc)
+ends_in (s ∷ ss) slot a e =
+    let p = split_last ss s slot e in
+    let w : without slot (s ∷ ss) ≡ p.0 = ap (λ z. without slot z) p.1 ∙ without-parted p.0 slot [] (subst (λ z. AllApart z) p.1 a) ∙ append-nil p.0 in
+    p.1 ∙ ap (λ z. z ++ slot ∷ []) (sym w)
+
+-- where there is a slot, there is a last one
+pub has_last : (ss : List ℕ) → 0 < length ss → IsSome (last_or None ss)
+has_last [] h = absurd (omega (arith, h))
+has_last (s ∷ ss) h = let x = last_some ss s in subst (λ o. IsSome o) (sym x.1) (search rules)
+
+-- the slot is none of the others
+pub gone : (slot : ℕ) (ss : List ℕ) → has slot (without slot ss) ≡ false
+gone slot ss = has-without_test slot slot ss ∙ rw (eqb_self slot) (and_false (has slot ss))
+
+-- where a slot stands was changed, and nothing else
+pub restood : (rs : CellsState Record) (slot : ℕ) (standing : Mark) (t : ℕ) → slot < length rs.items
+    → (next_at (with_standing slot standing rs).items t ≡ next_at rs.items t) × (previous_at (with_standing slot standing rs).items t ≡ previous_at rs.items t)
+    × (standing_at (with_standing slot standing rs).items t ≡ cond (eqb t slot) standing (standing_at rs.items t))
+restood rs slot standing t fits =
+    let r : Record = record (record_at rs.items slot) { standing = standing } in
+    let nexts = changed (λ p. p.next) rs.items slot r vacant t fits in
+    let previouses = changed (λ p. p.previous) rs.items slot r vacant t fits in
+    let standings = changed (λ p. p.standing) rs.items slot r vacant t fits in
+    elim (cases_Bool (eqb t slot)) [
+      | inl g ↦
+          let q : t ≡ slot = eqb-true t slot g in
+          (nexts ∙ rw g (ap (λ z. next_at rs.items z) (sym q)), previouses ∙ rw g (ap (λ z. previous_at rs.items z) (sym q)), standings)
+      | inr g ↦ (nexts ∙ rw g refl, previouses ∙ rw g refl, standings)
+    ]
+
+-- the oldest slot of Small became its newest
+pub record Turns (slot : ℕ) (old : LinkState) (small : Small) (new : LinkState) (small' : Small) : Type 0 where
+  pub whole : IsSmallQueue new small'
+  pub entries : small_entries new small' ≡ admitted (length old.window.items) slot (filter (λ e. not (eqb e.0 slot)) (small_entries old small))
+  pub others : IsSameBut (small_slots old small) old new
+  pub window : length new.window.items ≡ length old.window.items
+
+module _ (slot : ℕ) (old : LinkState) (small : Small) (m : IsSmallQueue old small) (is : last_or None (small_slots old small) ≡ Some slot) where
+  abbrev rest : List ℕ
+  rest = without slot (small_slots old small)
+
+  pub there : has slot (small_slots old small) ≡ true
+  there = tail_among (small_slots old small) slot is
+
+  pub slot_fits : slot < length old.records.items
+  slot_fits = in_bounds old.records.items (small_slots old small) slot m.queue.linked there
+
+  parted : small_slots old small ≡ rest ++ slot ∷ []
+  parted = ends_in (small_slots old small) slot m.queue.linked.apart is
+
+  linked_before : IsLinked old.records.items (rest ++ slot ∷ [])
+  linked_before = subst (λ z. IsLinked old.records.items z) parted m.queue.linked
+
+  -- the one before it is the last of the others, or itself
+  last_is : Some (previous_at old.records.items slot) ≡ last_or None (slot ∷ rest)
+  last_is = sym (last_before (next_at old.records.items) (previous_at old.records.items) slot rest slot (IsLinked-turned old.records.items rest (slot ∷ []) linked_before).ring)
+
+  module _ (read left : LinkState) (r : read ≡ record old { records = accessed old.records })
+      (standing : Mark) (was : standing ≡ standing_at old.records.items slot) (e : left ≡ place_freed standing read) where
+    kept : (t : ℕ) → eqb t slot ≡ false → standing_at read.records.items t ≡ standing_at old.records.items t
+    kept t g = ap (λ (l : LinkState). standing_at l.records.items t) r
+
+    as_many : length read.records.items ≡ length old.records.items
+    as_many = ap (λ (l : LinkState). length l.records.items) r
+
+    places : read.window.items ≡ old.window.items
+    places = ap (λ (l : LinkState). l.window.items) r
+
+    stay : AreStaying left small.cursor rest
+    stay = others_stay slot read m there kept as_many places was e
+
+    pub window_left : length left.window.items ≡ length old.window.items
+    window_left = window_now slot read m there kept as_many places was e
+
+    records_left : left.records.items ≡ old.records.items
+    records_left = records_now slot read m there kept as_many places was e ∙ ap (λ (l : LinkState). l.records.items) r
+
+    bits_left : left.bits ≡ old.bits
+    bits_left = ap (λ (l : LinkState). l.bits) e ∙ bits-freed standing read ∙ ap (λ (l : LinkState). l.bits) r
+
+    -- the place of the cursor is free for it, and holds another slot at most
+    pub others_fit : IfSome (place_at left small.cursor) (λ t. t < length left.records.items)
+    others_fit =
+        let below : AllBelow (length left.records.items) rest = subst (λ (rs : List Record). AllBelow (length rs) rest) (sym records_left) (AllBelow-left (length old.records.items) rest (slot ∷ []) linked_before.below) in
+        cursor_fits stay below
+
+    module _ (mid aged : LinkState) (o : GrowsOld small.cursor left mid) (a : aged ≡ record mid { window = written small.cursor (Some slot) mid.window }) where
+      pub aged_fits : slot < length aged.records.items
+      aged_fits = rw (ap (λ (l : LinkState). length l.records.items) a ∙ o.as_many ∙ ap (λ (rs : List Record). length rs) records_left) slot_fits
+
+    module _ (mid aged new : LinkState) (small' : Small) (w : 0 < length old.window.items) (o : GrowsOld small.cursor left mid)
+        (a : aged ≡ record mid { window = written small.cursor (Some slot) mid.window })
+        (n : new ≡ record aged { records = accessed (with_standing slot (Young small.cursor) aged.records) })
+        (newest : small'.newest ≡ Some slot) (oldest : small'.oldest ≡ Some (previous_at old.records.items slot)) (len : small'.len ≡ small.len)
+        (cursor : small'.cursor ≡ next_cursor (length new.window.items) small.cursor) where
+      window_new : length new.window.items ≡ length left.window.items
+      window_new = ap (λ (l : LinkState). length l.window.items) n ∙ ap (λ (l : LinkState). length l.window.items) a
+          ∙ length-set mid.window.items small.cursor (Some slot) ∙ ap (λ (z : List (Option ℕ)). length z) o.places
+
+      stood : (t : ℕ) → (next_at new.records.items t ≡ next_at mid.records.items t) × (previous_at new.records.items t ≡ previous_at mid.records.items t)
+          × (standing_at new.records.items t ≡ cond (eqb t slot) (Young small.cursor) (standing_at mid.records.items t))
+      stood t =
+          let s = restood aged.records slot (Young small.cursor) t (aged_fits mid aged o a) in
+          let same = ap (λ (l : LinkState). l.records.items) a in (
+            ap (λ (l : LinkState). next_at l.records.items t) n ∙ s.0 ∙ ap (λ (rs : List Record). next_at rs t) same,
+            ap (λ (l : LinkState). previous_at l.records.items t) n ∙ s.1 ∙ ap (λ (rs : List Record). previous_at rs t) same,
+            ap (λ (l : LinkState). standing_at l.records.items t) n ∙ s.2 ∙ ap (λ (rs : List Record). cond (eqb t slot) (Young small.cursor) (standing_at rs t)) same,
+          )
+
+      as_many_new : length new.records.items ≡ length mid.records.items
+      as_many_new = ap (λ (l : LinkState). length l.records.items) n ∙ length-set aged.records.items slot _ ∙ ap (λ (l : LinkState). length l.records.items) a
+
+      inserted : Inserts slot (Young small.cursor) rest mid.records.items new.records.items
+      inserted = record {
+        linked = record {
+          ring = IsRing-kept (next_at old.records.items) (previous_at old.records.items) (next_at new.records.items) (previous_at new.records.items) (rest ++ slot ∷ []) linked_before.ring
+              (λ t h. (stood t).0 ∙ o.nexts t ∙ ap (λ (rs : List Record). next_at rs t) records_left)
+              (λ t h. (stood t).1 ∙ o.previouses t ∙ ap (λ (rs : List Record). previous_at rs t) records_left);
+          apart = linked_before.apart;
+          below = subst (λ z. AllBelow z (rest ++ slot ∷ [])) (sym (as_many_new ∙ o.as_many ∙ ap (λ (rs : List Record). length rs) records_left)) linked_before.below;
+        };
+        standings = λ t. (stood t).2;
+        others = λ t h.
+            let d : eqb t slot ≡ false = (or_parts (eqb t slot) (has t rest) h).0 in
+            same_record (record_at new.records.items t) (record_at mid.records.items t) (stood t).1 (stood t).0 ((stood t).2 ∙ rw d refl);
+        as_many = as_many_new;
+      }
+
+      admits : Admits slot left small.cursor rest new small'
+      admits = Admits-from stay (gone slot (small_slots old small)) (rw window_left w) o a inserted
+          (n ∙ ap (λ z. record aged { records = z }) (sym (ap (λ (l : LinkState). l.records) n)))
+          newest (oldest ∙ last_is) (omega (arith, len, m.queue.counted, length-without slot (small_slots old small) m.queue.linked.apart there))
+          (cursor ∙ ap (λ z. next_cursor z small.cursor) window_new)
+
+      pub Turns-from : Turns slot old small new small'
+      Turns-from = record {
+        whole = admits.whole;
+        entries = admits.entries ∙ ap (λ z. admitted z slot (aged_slots left small.cursor rest)) window_left
+            ∙ ap (λ z. admitted (length old.window.items) slot z) (ages_kept slot read m there kept as_many places was e (ap (λ (l : LinkState). l.bits) r));
+        others = record {
+          others = λ t h.
+              let h' : has t (slot ∷ rest) ≡ false = not_turned t h in
+              admits.others.others t h' ∙ ap (λ (rs : List Record). (record_at rs t, bit_at left t)) records_left ∙ ap (λ (b : HitBits). (record_at old.records.items t, bit_in b.items t)) bits_left;
+          as_many = admits.others.as_many ∙ ap (λ (rs : List Record). length rs) records_left;
+        };
+        window = window_new ∙ window_left;
+      }
+        where
+          not_turned : (t : ℕ) → has t (small_slots old small) ≡ false → has t (slot ∷ rest) ≡ false
+          not_turned t h =
+              let p : has t (rest ++ slot ∷ []) ≡ false = subst (λ z. has t z ≡ false) parted h in
+              let q = or_parts (has t rest) (has t (slot ∷ [])) (sym (has-append t rest (slot ∷ [])) ∙ p) in
+              or_neither (eqb t slot) (has t rest) (or_parts (eqb t slot) false q.1).0 q.0
