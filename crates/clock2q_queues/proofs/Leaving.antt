@@ -138,9 +138,9 @@ module _ (slot : ℕ) {old : LinkState} {small : Small} (mid : LinkState) {new :
   ages_kept bits =
       map-agree {X = ℕ × Age} (λ s. (s, age_at new small.cursor s)) (λ s. (s, age_at old small.cursor s)) (without slot (small_slots old small))
       (λ t g.
-          let w = has-without t slot (small_slots old small) g in
-          let b : bit_at new t ≡ bit_at old t = ap (λ (l : LinkState). bit_at l t) e ∙ ap (λ (b : HitBits). bit_in b.items t) (bits-freed standing mid ∙ bits) in
-          ap (λ z. (t, z)) (rw (window_now, standing_now t w.1, b) refl))
+      let w = has-without t slot (small_slots old small) g in
+      let b : bit_at new t ≡ bit_at old t = ap (λ (l : LinkState). bit_at l t) e ∙ ap (λ (b : HitBits). bit_in b.items t) (bits-freed standing mid ∙ bits) in
+      ap (λ z. (t, z)) (rw (window_now, standing_now t w.1, b) refl))
       ∙ sym (filter-entries slot (λ s. age_at old small.cursor s) (small_slots old small))
 
 -- a slot was taken out of Small

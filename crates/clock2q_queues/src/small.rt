@@ -126,13 +126,13 @@ impl Small {
     {
         // a queue with a slot has an oldest one
         let slot = self.oldest.unwrap();
-        let was = links.read(slot);
-        leave_place(links, was.standing);
+        let record = links.read(slot);
+        leave_place(links, record.standing);
         self.free_place(links);
         links.set_place(self.cursor, Some(slot));
         links.set_standing(slot, Mark::Young(self.cursor));
         self.newest = Some(slot);
-        self.oldest = Some(was.previous);
+        self.oldest = Some(record.previous);
         self.cursor = self.next_place(links.window());
         slot
     }

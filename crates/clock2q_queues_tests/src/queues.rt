@@ -296,8 +296,24 @@ fn compare(rt: &impl Abort, queues: &mut Queues, lists: &Lists)
     assert!(rt; queues.tail_is_promoted() == promoted);
 }
 
+/// Small's tail, if there is one, is used again for another key.
+fn reuse(rt: &impl Abort, queues: &mut Queues, lists: &mut Lists) -> Result<(), Fail>
+    requires slots { queues.old.slots ≡ 12 }
+    requires window { 0 < queues.old.window }
+    ensures slots { queues.new.slots ≡ 12 }
+    ensures window { queues.new.window ≡ queues.old.window }
+{
+    if queues.small_len() > 0 {
+        let tail = queues.reuse_tail();
+        assert!(rt; lists.small.first().map(|entry| entry.slot) == Some(tail));
+        lists.leave(tail);
+        lists.admit(tail)?;
+    }
+    Ok(())
+}
+
 /// One step of a run: an admission in place of Small's tail where Small is full, a slot put into
-/// Main, a slot that leaves, a hit, or Main's victim going.
+/// Main, a slot that leaves, a hit, Main's victim going, or Small's tail used again.
 fn step(
     rt: &impl Abort,
     queues: &mut Queues,
@@ -338,6 +354,7 @@ fn step(
             assert!(rt; lists.select()? == Some(victim));
             lists.leave(victim);
         }
+        7 => reuse(rt, queues, lists)?,
         _ if !free => {
             hit(rt, queues, slot);
             lists.hit(slot);

@@ -10,28 +10,28 @@ use Rattle.clock2q_queues.proofs.small.Small.reuse_oldest.Goals as goal
 pub unwrap-slot-requires : goal.unwrap-slot-requires
 unwrap-slot-requires g c = subst (λ o. IsSome o) (sym c.requires.whole.ends) (has_last (small_slots c.args.links.now c.args.self.now) c.requires.some)
 
-pub read-was-requires : goal.read-was-requires
-read-was-requires g c =
+pub read-record-requires : goal.read-record-requires
+read-record-requires g c =
     slot_fits c.unwrap-slot.result c.args.links.now c.args.self.now c.requires.whole (sym c.requires.whole.ends ∙ c.unwrap-slot.ensures)
 
 pub leave_place-requires : goal.leave_place-requires
 leave_place-requires g c = λ place e.
     let m = c.requires.whole in
     let here = there c.unwrap-slot.result c.args.links.now c.args.self.now m (sym m.ends ∙ c.unwrap-slot.ensures) in
-    let p = (m.placed c.unwrap-slot.result place here (ap (λ (r : Record). r.standing) (sym c.read-was.ensures.value) ∙ e)).0 in
-    rw (ap (λ (l : LinkState). l.window) c.read-was.ensures.counted) p
+    let p = (m.placed c.unwrap-slot.result place here (ap (λ (r : Record). r.standing) (sym c.read-record.ensures.value) ∙ e)).0 in
+    rw (ap (λ (l : LinkState). l.window) c.read-record.ensures.counted) p
 
 pub free_place-requires-clause-slot : goal.free_place-requires-clause-slot
 free_place-requires-clause-slot g c =
     let m = c.requires.whole in
-    others_fit c.unwrap-slot.result c.args.links.now c.args.self.now m (sym m.ends ∙ c.unwrap-slot.ensures) c.read-was.new.self c.leave_place.new.links
-    c.read-was.ensures.counted c.read-was.result.standing (ap (λ (r : Record). r.standing) c.read-was.ensures.value) c.leave_place.ensures
+    others_fit c.unwrap-slot.result c.args.links.now c.args.self.now m (sym m.ends ∙ c.unwrap-slot.ensures) c.read-record.new.self c.leave_place.new.links
+    c.read-record.ensures.counted c.read-record.result.standing (ap (λ (r : Record). r.standing) c.read-record.ensures.value) c.leave_place.ensures
 
 pub set_standing-requires : goal.set_standing-requires
 set_standing-requires g c =
     let m = c.requires.whole in
-    aged_fits c.unwrap-slot.result c.args.links.now c.args.self.now m (sym m.ends ∙ c.unwrap-slot.ensures) c.read-was.new.self c.leave_place.new.links
-    c.read-was.ensures.counted c.read-was.result.standing (ap (λ (r : Record). r.standing) c.read-was.ensures.value) c.leave_place.ensures
+    aged_fits c.unwrap-slot.result c.args.links.now c.args.self.now m (sym m.ends ∙ c.unwrap-slot.ensures) c.read-record.new.self c.leave_place.new.links
+    c.read-record.ensures.counted c.read-record.result.standing (ap (λ (r : Record). r.standing) c.read-record.ensures.value) c.leave_place.ensures
     c.free_place.new.links c.set_place.new.self c.free_place.ensures.older c.set_place.ensures
 
 pub returns : goal.returns
@@ -40,13 +40,13 @@ returns g c =
     let small = c.args.self.now in
     let m = c.requires.whole in
     let slot = c.unwrap-slot.result in
-    let small' : Small = record { newest = Some slot; oldest = Some c.read-was.result.previous; len = small.len; cursor = c.next_place-self.result } in
+    let small' : Small = record { newest = Some slot; oldest = Some c.read-record.result.previous; len = small.len; cursor = c.next_place-self.result } in
     let is = sym m.ends ∙ c.unwrap-slot.ensures in
     let turned : Turns slot old small c.set_standing.new.self small' =
-    Turns-from slot old small m is c.read-was.new.self c.leave_place.new.links
-    c.read-was.ensures.counted c.read-was.result.standing (ap (λ (r : Record). r.standing) c.read-was.ensures.value) c.leave_place.ensures
+    Turns-from slot old small m is c.read-record.new.self c.leave_place.new.links
+    c.read-record.ensures.counted c.read-record.result.standing (ap (λ (r : Record). r.standing) c.read-record.ensures.value) c.leave_place.ensures
     c.free_place.new.links c.set_place.new.self c.set_standing.new.self small' c.requires.window c.free_place.ensures.older c.set_place.ensures c.set_standing.ensures
-    refl (ap (λ (r : Record). Some r.previous) c.read-was.ensures.value) refl
+    refl (ap (λ (r : Record). Some r.previous) c.read-record.ensures.value) refl
     (c.next_place-self.ensures ∙ ap (λ z. next_cursor z small.cursor) c.window.ensures) in
     record {
       oldest = is;
