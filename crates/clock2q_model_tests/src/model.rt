@@ -13,6 +13,14 @@ pub(crate) struct Shares {
 }
 
 impl Shares {
+    pub(crate) fn new(capacity: usize, small: usize, window: usize) -> Shares {
+        Shares {
+            capacity,
+            small,
+            window,
+        }
+    }
+
     /// The shares of a cache for which none are given.
     pub(crate) fn usual(capacity: usize) -> Shares {
         let small = if capacity > 1 {
@@ -148,16 +156,10 @@ impl Model {
 
     /// The residents with their values, by ascending slot.
     pub(crate) fn residents(&self) -> Result<Vec<(u64, u64)>, AllocError> {
-        let mut keys = vec![in self.alloc; None; self.values.len()]?;
-        for entry in self.small.iter().chain(self.main.iter()) {
-            if let Some(stored) = keys.get_mut(entry.slot) {
-                *stored = Some(entry.key);
-            }
-        }
         let mut residents = Vec::with_capacity(self.alloc, self.len())?;
-        for (key, value) in keys.iter().zip(self.values.iter()) {
-            if let Some(key) = key {
-                residents.push((*key, *value))?;
+        for slot in 0..self.values.len() {
+            if let Some(key) = self.key_at(slot) {
+                residents.push((key, self.value(slot)))?;
             }
         }
         Ok(residents)
@@ -329,16 +331,8 @@ impl Model {
 
     /// A key counts as hit in Main, or in Small once it is no longer young.
     fn hit(&mut self, key: u64) {
-        for entry in &mut self.small {
-            if entry.key == key && entry.age >= self.shares.window {
-                entry.hit = true;
-            }
-        }
-        for entry in &mut self.main {
-            if entry.key == key {
-                entry.hit = true;
-            }
-        }
+        mark(&mut self.small, key, self.shares.window);
+        mark(&mut self.main, key, 0);
     }
 
     /// Takes the resident of a slot out. The slot is the next that a new key gets.
@@ -443,6 +437,15 @@ impl Model {
             self.main.push(Entry::new(first.key, first.slot))?;
         }
         Ok(0)
+    }
+}
+
+/// Marks the entry of a key as hit if it is so old, or older.
+fn mark(entries: &mut [Entry], key: u64, age: usize) {
+    for entry in entries {
+        if entry.key == key && entry.age >= age {
+            entry.hit = true;
+        }
     }
 }
 

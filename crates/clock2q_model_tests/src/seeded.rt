@@ -34,17 +34,17 @@ fn shares_of(draws: &mut Draws, kind: Kind, capacity: usize) -> Shares {
     }
     let most = capacity - 1;
     let drawn = draws.below(most as u64) as usize + 1;
-    let (small, window) = match kind {
-        Kind::Usual => return Shares::usual(capacity),
-        Kind::NoSmall => (0, 0),
-        Kind::ShortestWindow => (drawn, 1),
-        Kind::LongestWindow => (drawn, drawn),
-        Kind::SmallestMain => (most, drawn),
-    };
-    Shares {
-        capacity,
-        small,
-        window,
+    drawn_shares(kind, capacity, most, drawn)
+}
+
+/// The shares of a list of that kind, from the longest Small and one drawn.
+fn drawn_shares(kind: Kind, capacity: usize, most: usize, drawn: usize) -> Shares {
+    match kind {
+        Kind::Usual => Shares::usual(capacity),
+        Kind::NoSmall => Shares::new(capacity, 0, 0),
+        Kind::ShortestWindow => Shares::new(capacity, drawn, 1),
+        Kind::LongestWindow => Shares::new(capacity, drawn, drawn),
+        Kind::SmallestMain => Shares::new(capacity, most, drawn),
     }
 }
 

@@ -95,40 +95,25 @@ impl State {
     }
 }
 
-/// A call has the answer worked out.
-fn answers(
-    rt: &impl Abort,
-    tested: &mut Usual,
-    call: Call,
-    wanted: Answer,
-    position: Position,
-) -> Result<(), Fail> {
-    let answer = tested.call(rt, call, position)?;
-    assert_eq!(rt; answer, wanted, "{position:?}: {call:?}");
+/// Puts the keys 1 to 20, each with itself as its value.
+fn fill(rt: &impl Abort, tested: &mut Usual, position: Position) -> Result<(), Fail> {
+    for key in 1..21 {
+        tested.answers(rt, Call::Put(key, key), Answer::Value(None), position)?;
+    }
     Ok(())
 }
 
-/// A cache after the first so many calls.
-fn cache_after(
+/// Makes the calls of the states.
+fn go_through(
     rt: &impl Abort,
-    alloc: Global,
-    calls: usize,
+    tested: &mut Usual,
+    states: &[State],
     position: Position,
-) -> Result<Usual, Fail> {
-    let mut tested = Tested::usual(alloc, 20, DefaultHashBuilder::new())?;
-    for key in 1..21 {
-        answers(
-            rt,
-            &mut tested,
-            Call::Put(key, key),
-            Answer::Value(None),
-            position,
-        )?;
+) -> Result<(), Fail> {
+    for state in states {
+        tested.answers(rt, state.call, state.answer, position)?;
     }
-    for state in STATES.iter().take(calls) {
-        answers(rt, &mut tested, state.call, state.answer, position)?;
-    }
-    Ok(tested)
+    Ok(())
 }
 
 /// Each resident stands at its slot. This records a hit of each.
@@ -138,9 +123,10 @@ fn residents_stand(
     state: &State,
     position: Position,
 ) -> Result<(), Fail> {
-    for (slot, key) in state.residents.iter().enumerate() {
-        let hit = Answer::Value(Some(*key));
-        answers(rt, tested, Call::GetAt(slot, *key), hit, position)?;
+    for slot in 0..20 {
+        let key = state.residents[slot];
+        let hit = Answer::Value(Some(key));
+        tested.answers(rt, Call::GetAt(slot, key), hit, position)?;
     }
     Ok(())
 }
@@ -153,10 +139,10 @@ fn leave_main(
     position: Position,
 ) -> Result<(), Fail> {
     for key in &state.small {
-        answers(rt, tested, Call::Remove(*key), Answer::Flag(true), position)?;
+        tested.answers(rt, Call::Remove(*key), Answer::Flag(true), position)?;
     }
     if let Some(key) = state.remembered {
-        answers(rt, tested, Call::Remove(key), Answer::Flag(false), position)?;
+        tested.answers(rt, Call::Remove(key), Answer::Flag(false), position)?;
     }
     tested.shows(rt, MAIN_ALONE, position)
 }
@@ -172,36 +158,57 @@ fn stands(
     leave_main(rt, tested, state, position)
 }
 
-/// The call of a state, after so many others, leaves what the state says.
-fn leaves(rt: &impl Abort, alloc: Global, before: usize, state: &State) -> Result<(), Fail> {
+/// The call of a state, after those of the states before it, leaves what the state says.
+fn leaves(
+    rt: &impl Abort,
+    tested: &mut Usual,
+    before: &[State],
+    state: &State,
+) -> Result<(), Fail> {
     let position = Position {
         list: 0,
-        number: before as u64,
+        number: before.len() as u64,
     };
-    let mut tested = cache_after(rt, alloc, before, position)?;
-    answers(rt, &mut tested, state.call, state.answer, position)?;
+    fill(rt, tested, position)?;
+    go_through(rt, tested, before, position)?;
+    tested.answers(rt, state.call, state.answer, position)?;
     tested.shows(rt, state.text(), position)?;
-    stands(rt, &mut tested, state, position)
+    stands(rt, tested, state, position)
+}
+
+/// The same of a cache made for it.
+fn cache_leaves(
+    rt: &impl Abort,
+    alloc: Global,
+    before: &[State],
+    state: &State,
+) -> Result<(), Fail> {
+    let mut tested = Tested::usual(alloc, 20, DefaultHashBuilder::new())?;
+    leaves(rt, &mut tested, before, state)
 }
 
 #[test]
 fn state_by_state(rt: HostRuntime) -> Result<(), Fail> {
-    for (before, state) in STATES.iter().enumerate() {
-        leaves(&rt, rt.alloc(), before, state)?;
+    for number in 0..STATES.len() {
+        cache_leaves(&rt, rt.alloc(), &STATES[..number], &STATES[number])?;
     }
     Ok(())
 }
 
+/// An empty cache of two keys takes one, and shows it.
+fn one_key_shows(rt: &impl Abort, tested: &mut Usual) -> Result<(), Fail> {
+    let position = Position { list: 0, number: 0 };
+    tested.answers(rt, Call::Put(1, 10), Answer::Value(None), position)?;
+    tested.shows(rt, ONE_KEY, position)
+}
+
+/// The same of a cache made for it.
+fn cache_shows_one_key(rt: &impl Abort, alloc: Global) -> Result<(), Fail> {
+    let mut tested = Tested::usual(alloc, 2, DefaultHashBuilder::new())?;
+    one_key_shows(rt, &mut tested)
+}
+
 #[test]
 fn text_of_one_key(rt: HostRuntime) -> Result<(), Fail> {
-    let position = Position { list: 0, number: 0 };
-    let mut tested = Tested::usual(rt.alloc(), 2, DefaultHashBuilder::new())?;
-    answers(
-        &rt,
-        &mut tested,
-        Call::Put(1, 10),
-        Answer::Value(None),
-        position,
-    )?;
-    tested.shows(&rt, ONE_KEY, position)
+    cache_shows_one_key(&rt, rt.alloc())
 }

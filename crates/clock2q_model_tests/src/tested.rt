@@ -63,6 +63,19 @@ impl<S: BuildHasher + Drop> Tested<S> {
         Ok(answer)
     }
 
+    /// Makes the call of both. The answer is the one worked out.
+    pub(crate) fn answers(
+        &mut self,
+        rt: &impl Abort,
+        call: Call,
+        wanted: Answer,
+        position: Position,
+    ) -> Result<(), Fail> {
+        let answer = self.call(rt, call, position)?;
+        assert_eq!(rt; answer, wanted, "{position:?}: {call:?}");
+        Ok(())
+    }
+
     /// The cache shows this text of itself.
     pub(crate) fn shows(
         &self,
