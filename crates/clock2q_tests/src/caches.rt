@@ -1,16 +1,24 @@
 //! A run of commands, and the refusals of a cache.
 
 use clock2q::command::{Command, Reply, run};
-use clock2q::{Cache, CacheError, MAX_CAPACITY};
+use clock2q::{Cache, CacheError, DefaultHashBuilder, MAX_CAPACITY};
+use std::alloc::Global;
 use std::num::NonZeroUsize;
+use std::process::Abort;
 use std::test::Fail;
 
-#[test]
-fn runs(rt: HostRuntime) -> Result<(), Fail> {
-    let capacity = NonZeroUsize::new(1).ok_or("not zero")?;
-    let mut cache = Cache::new(rt.alloc(), capacity)?;
-    let commands = vec![in rt.alloc();
-        Command::Put(1u64, 10u64),
+pub(crate) type Numbers = Cache<u64, u64, DefaultHashBuilder>;
+
+/// A cache of so many numbers.
+pub(crate) fn numbers(alloc: Global, capacity: usize) -> Result<Numbers, Fail> {
+    let capacity = NonZeroUsize::new(capacity).ok_or("not zero")?;
+    Ok(Cache::new(alloc, capacity)?)
+}
+
+/// What a cache of one key replies to a run.
+fn replies_of(alloc: Global, cache: &mut Numbers) -> Result<Vec<Reply<u64>>, Fail> {
+    let commands = vec![in alloc;
+        Command::Put(1, 10),
         Command::Get(1),
         Command::Put(2, 20),
         Command::Contains(1),
@@ -19,25 +27,36 @@ fn runs(rt: HostRuntime) -> Result<(), Fail> {
         Command::IsEmpty,
         Command::Capacity,
     ]?;
-    let replies = run(rt.alloc(), &mut cache, commands)?;
-    let want = [
-        Reply::Value(None),
-        Reply::Value(Some(10)),
-        Reply::Value(None),
-        Reply::Flag(false),
-        Reply::Value(Some(20)),
-        Reply::Number(1),
-        Reply::Flag(false),
-        Reply::Number(1),
-    ];
-    assert_eq!(rt; replies.as_slice(), want.as_slice());
+    Ok(run(alloc, cache, commands)?)
+}
+
+const REPLIES: &[Reply<u64>] = &[
+    Reply::Value(None),
+    Reply::Value(Some(10)),
+    Reply::Value(None),
+    Reply::Flag(false),
+    Reply::Value(Some(20)),
+    Reply::Number(1),
+    Reply::Flag(false),
+    Reply::Number(1),
+];
+
+/// A cache of one key replies as worked out.
+fn replies(rt: &impl Abort, alloc: Global) -> Result<(), Fail> {
+    let mut cache = numbers(alloc, 1)?;
+    let replies = replies_of(alloc, &mut cache)?;
+    assert_eq!(rt; replies.as_slice(), REPLIES);
     Ok(())
 }
 
 #[test]
+fn runs(rt: HostRuntime) -> Result<(), Fail> {
+    replies(&rt, rt.alloc())
+}
+
+#[test]
 fn largest_capacity(rt: HostRuntime) -> Result<(), Fail> {
-    let largest = NonZeroUsize::new(MAX_CAPACITY).ok_or("not zero")?;
-    let cache = Cache::<u64, u64, _, _>::new(rt.alloc(), largest)?;
+    let cache = numbers(rt.alloc(), MAX_CAPACITY)?;
     assert_eq!(rt; cache.capacity(), 16_777_215);
     Ok(())
 }
@@ -64,17 +83,24 @@ fn refusals_show(rt: HostRuntime) -> Result<(), Fail> {
     Ok(())
 }
 
+/// Each key has its slot.
+fn stand(rt: &impl Abort, cache: &mut Numbers, slots: &[(u64, Option<usize>)]) {
+    for (key, slot) in slots {
+        assert_eq!(rt; cache.slot(key), *slot, "{key}");
+    }
+}
+
+/// A key that comes in takes the slot of the one that leaves.
+fn slot_is_taken_over(rt: &impl Abort, cache: &mut Numbers) {
+    cache.put(70, 7);
+    cache.put(80, 8);
+    stand(rt, cache, &[(70, Some(0)), (80, Some(1)), (90, None)]);
+    cache.put(90, 9);
+    stand(rt, cache, &[(90, Some(0)), (70, None)]);
+}
+
 #[test]
 fn slots_of_keys(rt: HostRuntime) -> Result<(), Fail> {
-    let capacity = NonZeroUsize::new(2).ok_or("not zero")?;
-    let mut cache = Cache::new(rt.alloc(), capacity)?;
-    cache.put(70u64, 7u64);
-    cache.put(80, 8);
-    assert_eq!(rt; cache.slot(&70), Some(0));
-    assert_eq!(rt; cache.slot(&80), Some(1));
-    assert_eq!(rt; cache.slot(&90), None);
-    cache.put(90, 9);
-    assert_eq!(rt; cache.slot(&90), Some(0));
-    assert_eq!(rt; cache.slot(&70), None);
+    slot_is_taken_over(&rt, &mut numbers(rt.alloc(), 2)?);
     Ok(())
 }

@@ -1,14 +1,18 @@
 //! Closures that change their answers, and how often each is asked.
 
+use crate::caches::{Numbers, numbers};
 use clock2q::handles::{Table, TableError};
-use clock2q::{Cache, DefaultHashBuilder};
 use std::alloc::Global;
 use std::cell::Cell;
-use std::num::NonZeroUsize;
 use std::process::Abort;
 use std::test::Fail;
 
-type Numbers = Cache<u64, u64, DefaultHashBuilder>;
+/// Puts new keys from one to another, each with itself as its value.
+fn fill(rt: &impl Abort, cache: &mut Numbers, first: u64, end: u64) {
+    for key in first..end {
+        assert_eq!(rt; cache.put(key, key), None);
+    }
+}
 
 /// Keeps every other resident, and returns the keys that were asked about, as the digits of a number.
 fn keep_every_other(cache: &mut Numbers) -> u64 {
@@ -22,18 +26,19 @@ fn keep_every_other(cache: &mut Numbers) -> u64 {
     asked
 }
 
+/// What is asked of five keys, again and again.
+fn every_other_is_kept(rt: &impl Abort, cache: &mut Numbers) {
+    fill(rt, cache, 1, 6);
+    for wanted in [12345, 135, 15, 1, 1] {
+        assert_eq!(rt; keep_every_other(cache), wanted);
+    }
+    assert_eq!(rt; cache.len(), 1);
+}
+
 /// Each resident is asked about once, by its slot upwards, and one that was taken out no more.
 #[test]
 fn kept(rt: HostRuntime) -> Result<(), Fail> {
-    let capacity = NonZeroUsize::new(5).ok_or("not zero")?;
-    let mut cache = Cache::new(rt.alloc(), capacity)?;
-    for key in 1..6u64 {
-        assert_eq!(rt; cache.put(key, key), None);
-    }
-    for wanted in [12345, 135, 15, 1, 1] {
-        assert_eq!(rt; keep_every_other(&mut cache), wanted);
-    }
-    assert_eq!(rt; cache.len(), 1);
+    every_other_is_kept(&rt, &mut numbers(rt.alloc(), 5)?);
     Ok(())
 }
 
@@ -47,18 +52,19 @@ fn filled(cache: &mut Numbers) -> u64 {
     made
 }
 
+/// A cache of six keys makes the slots that it lacks.
+fn slots_are_made(rt: &impl Abort, cache: &mut Numbers) {
+    fill(rt, cache, 0, 2);
+    assert!(rt; cache.remove(&0));
+    assert_eq!(rt; filled(cache), 4);
+    assert_eq!(rt; filled(cache), 0);
+    cache.clear();
+    assert_eq!(rt; filled(cache), 6);
+}
+
 #[test]
 fn made(rt: HostRuntime) -> Result<(), Fail> {
-    let capacity = NonZeroUsize::new(6).ok_or("not zero")?;
-    let mut cache = Cache::new(rt.alloc(), capacity)?;
-    for key in 0..2u64 {
-        assert_eq!(rt; cache.put(key, key), None);
-    }
-    assert!(rt; cache.remove(&0));
-    assert_eq!(rt; filled(&mut cache), 4);
-    assert_eq!(rt; filled(&mut cache), 0);
-    cache.clear();
-    assert_eq!(rt; filled(&mut cache), 6);
+    slots_are_made(&rt, &mut numbers(rt.alloc(), 6)?);
     Ok(())
 }
 
@@ -82,32 +88,42 @@ fn lent(cache: &mut Numbers, key: u64) -> (u64, u64) {
     (*value, calls)
 }
 
+/// Each key is fetched with that value, after so many calls of its closure.
+fn are_fetched(rt: &impl Abort, cache: &mut Numbers, wanted: &[(u64, (u64, u64))]) {
+    for (key, wanted) in wanted {
+        assert_eq!(rt; fetched(cache, *key), *wanted, "{key}");
+    }
+}
+
+/// Each key's slot is lent with that value, after so many calls of its closure.
+fn are_lent(rt: &impl Abort, cache: &mut Numbers, wanted: &[(u64, (u64, u64))]) {
+    for (key, wanted) in wanted {
+        assert_eq!(rt; lent(cache, *key), *wanted, "{key}");
+    }
+}
+
+/// A cache of two keys calls the closures of those that it lacks.
+fn closures_are_called(rt: &impl Abort, cache: &mut Numbers) {
+    are_fetched(rt, cache, &[(1, (100, 1)), (1, (100, 0)), (2, (100, 1))]);
+    are_lent(rt, cache, &[(2, (100, 0)), (3, (100, 0))]);
+    cache.clear();
+    are_lent(rt, cache, &[(4, (200, 1)), (4, (200, 0))]);
+}
+
 /// No closure is called for a resident key, and that for a slot only where a slot is made.
 #[test]
 fn called(rt: HostRuntime) -> Result<(), Fail> {
-    let capacity = NonZeroUsize::new(2).ok_or("not zero")?;
-    let mut cache = Cache::new(rt.alloc(), capacity)?;
-    for (key, wanted) in [(1, (100, 1)), (1, (100, 0)), (2, (100, 1))] {
-        assert_eq!(rt; fetched(&mut cache, key), wanted, "{key}");
-    }
-    for (key, wanted) in [(2, (100, 0)), (3, (100, 0))] {
-        assert_eq!(rt; lent(&mut cache, key), wanted, "{key}");
-    }
-    cache.clear();
-    for (key, wanted) in [(4, (200, 1)), (4, (200, 0))] {
-        assert_eq!(rt; lent(&mut cache, key), wanted, "{key}");
-    }
+    closures_are_called(&rt, &mut numbers(rt.alloc(), 2)?);
     Ok(())
 }
 
-/// Handles under one hash.
-fn handles(rt: &impl Abort, alloc: Global, count: u64) -> Result<Table<u64>, TableError> {
-    let mut table = Table::with_capacity(alloc, 12)?;
+/// Inserts so many handles under one hash.
+fn insert(rt: &impl Abort, table: &mut Table<u64>, count: u64) -> Result<(), TableError> {
     for handle in 0..count {
         assert!(rt; table.len() < table.capacity());
         table.insert_within_capacity(5, handle)?;
     }
-    Ok(table)
+    Ok(())
 }
 
 /// Takes the candidate that is offered second, whichever it is, and returns how many were offered too.
@@ -126,6 +142,28 @@ fn take_second(rt: &impl Abort, table: &mut Table<u64>) -> Result<(u64, bool, u6
     Ok((handle, is_new, offered.get()))
 }
 
+/// Inserts so many handles, and takes the second that is offered.
+fn second_of(
+    rt: &impl Abort,
+    table: &mut Table<u64>,
+    count: u64,
+) -> Result<(u64, bool, u64), TableError> {
+    insert(rt, table, count)?;
+    take_second(rt, table)
+}
+
+/// A table of so many handles offers them so.
+fn offers(
+    rt: &impl Abort,
+    alloc: Global,
+    count: u64,
+    wanted: (u64, bool, u64),
+) -> Result<(), Fail> {
+    let mut table = Table::with_capacity(alloc, 12)?;
+    assert_eq!(rt; second_of(rt, &mut table, count)?, wanted, "{count}");
+    Ok(())
+}
+
 #[test]
 fn offered(rt: HostRuntime) -> Result<(), Fail> {
     for (count, wanted) in [
@@ -134,8 +172,7 @@ fn offered(rt: HostRuntime) -> Result<(), Fail> {
         (2, (1, false, 2)),
         (5, (1, false, 2)),
     ] {
-        let mut table = handles(&rt, rt.alloc(), count)?;
-        assert_eq!(rt; take_second(&rt, &mut table)?, wanted, "{count}");
+        offers(&rt, rt.alloc(), count, wanted)?;
     }
     Ok(())
 }

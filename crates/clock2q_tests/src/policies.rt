@@ -1,16 +1,18 @@
 //! Caches with shares of their own.
 
+use crate::caches::Numbers;
 use clock2q::command::{Command, Reply, run};
 use clock2q::{Cache, CacheError, DefaultHashBuilder};
 use std::alloc::Global;
 use std::num::NonZeroUsize;
+use std::process::Abort;
 use std::test::Fail;
 
 /// Puts four keys, hits the first and puts a fifth. Returns what is replied about two keys then, and
 /// about the fifth at a slot.
 fn replies_of(
     alloc: Global,
-    cache: &mut Cache<u64, u64, DefaultHashBuilder>,
+    cache: &mut Numbers,
     keys: (u64, u64),
     slot: usize,
 ) -> Result<Vec<Reply<u64>>, Fail> {
@@ -28,7 +30,7 @@ fn replies_of(
     Ok(run(alloc, cache, commands)?)
 }
 
-const REPLIES: [Reply<u64>; 9] = [
+const REPLIES: &[Reply<u64>] = &[
     Reply::Value(None),
     Reply::Value(None),
     Reply::Value(None),
@@ -40,39 +42,57 @@ const REPLIES: [Reply<u64>; 9] = [
     Reply::Value(Some(5)),
 ];
 
+/// A cache of so many keys with shares of its own.
+fn with_shares(
+    alloc: Global,
+    capacity: NonZeroUsize,
+    small: usize,
+    window: usize,
+) -> Result<Numbers, CacheError> {
+    let hasher = DefaultHashBuilder::new();
+    Ok(Cache::with_policy(alloc, capacity, small, window, hasher)?)
+}
+
+/// A window lets one of two keys stay, and the fifth stands at a slot.
+fn replies(
+    rt: &impl Abort,
+    alloc: Global,
+    window: usize,
+    slot: usize,
+    keys: (u64, u64),
+) -> Result<(), Fail> {
+    let capacity = NonZeroUsize::new(4).ok_or("not zero")?;
+    let mut cache = with_shares(alloc, capacity, 2, window)?;
+    let replies = replies_of(alloc, &mut cache, keys, slot)?;
+    assert_eq!(rt; replies.as_slice(), REPLIES, "{window}");
+    Ok(())
+}
+
 /// With a window of 1 the hit on key 1 counts, and it goes on to Main; with one of 2 it is too young.
 #[test]
 fn chosen_shares(rt: HostRuntime) -> Result<(), Fail> {
-    let capacity = NonZeroUsize::new(4).ok_or("not zero")?;
     for (window, slot, stays, leaves) in [(1, 2, 1, 3), (2, 0, 3, 1)] {
-        let hasher = DefaultHashBuilder::new();
-        let mut cache = Cache::with_policy(rt.alloc(), capacity, 2, window, hasher)?;
-        let replies = replies_of(rt.alloc(), &mut cache, (stays, leaves), slot)?;
-        assert_eq!(rt; replies.as_slice(), REPLIES.as_slice(), "{window}");
+        replies(&rt, rt.alloc(), window, slot, (stays, leaves))?;
     }
     Ok(())
 }
 
+/// Capacities, shares, and why no cache is made with them.
+const SHARES: &[(usize, usize, usize, Option<CacheError>)] = &[
+    (1, 0, 0, None),
+    (2, 2, 1, Some(CacheError::Policy)),
+    (2, 1, 0, Some(CacheError::Policy)),
+    (2, 1, 2, Some(CacheError::Policy)),
+    (2, 0, 1, Some(CacheError::Policy)),
+    (16_777_216, 99_999_999, 0, Some(CacheError::Capacity)),
+];
+
 #[test]
 fn refused_shares(rt: HostRuntime) -> Result<(), Fail> {
-    for (capacity, small, window, refusal) in [
-        (1, 0, 0, None),
-        (2, 2, 1, Some(CacheError::Policy)),
-        (2, 1, 0, Some(CacheError::Policy)),
-        (2, 1, 2, Some(CacheError::Policy)),
-        (2, 0, 1, Some(CacheError::Policy)),
-        (16_777_216, 99_999_999, 0, Some(CacheError::Capacity)),
-    ] {
-        let capacity = NonZeroUsize::new(capacity).ok_or("not zero")?;
-        let hasher = DefaultHashBuilder::new();
-        let made = Cache::<u64, u64, _, _>::with_policy(
-            rt.alloc(),
-            capacity,
-            small,
-            window,
-            hasher,
-        );
-        assert_eq!(rt; made.err(), refusal, "{small} {window}");
+    for (capacity, small, window, refusal) in SHARES {
+        let capacity = NonZeroUsize::new(*capacity).ok_or("not zero")?;
+        let refused = with_shares(rt.alloc(), capacity, *small, *window).err();
+        assert_eq!(rt; refused, *refusal, "{small} {window}");
     }
     let shown = CacheError::Policy.to_string(rt.alloc())?;
     assert_eq!(rt; shown.as_str(), "policy refused");
