@@ -1,6 +1,6 @@
 //! How many keys each call compares, and how often it hashes one.
 
-use crate::calls::{ALIKE, APART, CHANGES, Call, Counting, LOOKUPS, make, two_of_three};
+use crate::calls::{ALIKE, APART, CHANGES, Call, Counting, LOOKUPS, make, remove, two_of_three};
 use crate::counted::Counts;
 use clock2q_cache::Cache;
 use clock2q_refusing::Spread;
@@ -17,6 +17,31 @@ fn fill<'a>(cache: &mut Counting<'a>, counts: &'a Counts, first: u64, end: u64) 
     let _ = counts.asked_and_hashed();
 }
 
+/// Looking a key up asks so many keys, and finds it where it asks one.
+fn looks_up<'a>(
+    rt: &impl Abort,
+    cache: &Counting<'a>,
+    counts: &'a Counts,
+    id: u64,
+    questions: u64,
+) {
+    let found = cache.peek(&counts.key(id)).is_some();
+    assert_eq!(rt; found, questions > 0, "{id}");
+    assert_eq!(rt; counts.asked_and_hashed(), (questions, 1), "{id}");
+}
+
+/// Removing a key that isn't resident asks so many keys.
+fn removes_none<'a>(
+    rt: &impl Abort,
+    cache: &mut Counting<'a>,
+    counts: &'a Counts,
+    id: u64,
+    questions: u64,
+) {
+    assert!(rt; !remove(cache, counts, id), "{id}");
+    assert_eq!(rt; counts.asked_and_hashed(), (questions, 1), "{id}");
+}
+
 #[test]
 fn only_keys_that_hash_alike_are_asked(rt: HostRuntime) -> Result<(), Fail> {
     let counts = Counts::new();
@@ -24,19 +49,22 @@ fn only_keys_that_hash_alike_are_asked(rt: HostRuntime) -> Result<(), Fail> {
     let mut cache = Cache::with_hasher(rt.alloc(), capacity, APART)?;
     fill(&mut cache, &counts, 1, 21);
     for (id, questions) in [(20, 1), (21, 0)] {
-        assert_eq!(rt;
-            cache.peek(&counts.key(id)).is_some(),
-            questions > 0,
-            "{id}"
-        );
-        assert_eq!(rt; counts.asked_and_hashed(), (questions, 1), "{id}");
+        looks_up(&rt, &cache, &counts, id, questions);
     }
     fill(&mut cache, &counts, 21, 25);
     for (id, questions) in [(25, 0), (22, 1)] {
-        assert!(rt; !cache.remove(&counts.key(id)), "{id}");
-        assert_eq!(rt; counts.asked_and_hashed(), (questions, 1), "{id}");
+        removes_none(&rt, &mut cache, &counts, id, questions);
     }
     Ok(())
+}
+
+/// Returns how often a call asks keys, and hashes one, of a cache that [`two_of_three`] makes.
+fn asked_by(alloc: Global, spread: Spread, call: Call, id: u64) -> Result<(u64, u64), Fail> {
+    let counts = Counts::new();
+    let mut cache = two_of_three(alloc, spread, &counts)?;
+    let _ = counts.asked_and_hashed();
+    make(&mut cache, call, counts.key(id));
+    Ok(counts.asked_and_hashed())
 }
 
 /// Each call asks so many of a cache that [`two_of_three`] makes, and hashes its key once: the ids
@@ -50,11 +78,8 @@ fn each_asks(
 ) -> Result<(), Fail> {
     for call in calls {
         for (id, questions) in wanted {
-            let counts = Counts::new();
-            let mut cache = two_of_three(alloc, spread, &counts)?;
-            let _ = counts.asked_and_hashed();
-            make(&mut cache, *call, counts.key(id));
-            assert_eq!(rt; counts.asked_and_hashed(), (questions, 1), "{call:?} {id}");
+            let asked = asked_by(alloc, spread, *call, id)?;
+            assert_eq!(rt; asked, (questions, 1), "{call:?} {id}");
         }
     }
     Ok(())
@@ -88,12 +113,17 @@ fn keys_alike_are_asked_once(rt: HostRuntime) -> Result<(), Fail> {
     )
 }
 
+/// Returns true if a key is found at the slot.
+fn is_found_at<'a>(cache: &mut Counting<'a>, counts: &'a Counts, slot: usize, id: u64) -> bool {
+    cache.get_at(slot, &counts.key(id)).is_some()
+}
+
 /// The key at the slot is asked, if it is resident, and none is hashed.
 #[test]
 fn a_hint_asks_one_key_and_hashes_none(rt: HostRuntime) -> Result<(), Fail> {
     let counts = Counts::new();
     let mut cache = two_of_three(rt.alloc(), ALIKE, &counts)?;
-    assert!(rt; cache.remove(&counts.key(2)));
+    assert!(rt; remove(&mut cache, &counts, 2));
     let _ = counts.asked_and_hashed();
     for (slot, id, questions) in [
         (0, 3, 1),
@@ -102,11 +132,16 @@ fn a_hint_asks_one_key_and_hashes_none(rt: HostRuntime) -> Result<(), Fail> {
         (2, 3, 0),
         (usize::MAX, 3, 0),
     ] {
-        let found = cache.get_at(slot, &counts.key(id)).is_some();
+        let found = is_found_at(&mut cache, &counts, slot, id);
         assert_eq!(rt; found, slot == 0 && id == 3, "{slot} {id}");
         assert_eq!(rt; counts.asked_and_hashed(), (questions, 0), "{slot} {id}");
     }
     Ok(())
+}
+
+/// Keeps the key 3 alone.
+fn retain_three(cache: &mut Counting<'_>) {
+    cache.retain(|_, value| *value == 3);
 }
 
 #[test]
@@ -114,7 +149,7 @@ fn calls_without_a_key_ask_and_hash_none(rt: HostRuntime) -> Result<(), Fail> {
     let counts = Counts::new();
     let mut cache = two_of_three(rt.alloc(), ALIKE, &counts)?;
     let _ = counts.asked_and_hashed();
-    cache.retain(|_, value| *value == 3);
+    retain_three(&mut cache);
     assert_eq!(rt; cache.len(), 1);
     cache.clear();
     assert_eq!(rt; cache.len(), 0);

@@ -29,6 +29,11 @@ pub(crate) fn two_of_three<'a>(
     Ok(cache)
 }
 
+/// Removes a key, and returns true if it was resident.
+pub(crate) fn remove<'a>(cache: &mut Counting<'a>, counts: &'a Counts, id: u64) -> bool {
+    cache.remove(&counts.key(id))
+}
+
 /// A call that takes a key. The closure of a fetch returns 0, or fails.
 #[derive(Clone, Copy, Debug)]
 pub(crate) enum Call {

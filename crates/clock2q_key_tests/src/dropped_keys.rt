@@ -1,6 +1,6 @@
 //! When keys are dropped: each of them once.
 
-use crate::calls::{APART, CHANGES, Call, Counting, LOOKUPS, make, two_of_three};
+use crate::calls::{APART, CHANGES, Call, Counting, LOOKUPS, make, remove, two_of_three};
 use crate::counted::Counts;
 use std::process::Abort;
 use std::test::Fail;
@@ -10,15 +10,20 @@ fn dropped(rt: &impl Abort, counts: &Counts, wanted: (u64, u64)) {
     assert_eq!(rt; counts.dropped_and_left(), wanted);
 }
 
+/// Puts a key with a value.
+fn put<'a>(cache: &mut Counting<'a>, counts: &'a Counts, id: u64, value: u64) {
+    let _ = cache.put(counts.key(id), value);
+}
+
 /// The history has one place, so a second key that Small evicts drops the first.
 #[test]
 fn a_key_is_dropped_where_it_is_replaced(rt: HostRuntime) -> Result<(), Fail> {
     let counts = Counts::new();
     let mut cache = two_of_three(rt.alloc(), APART, &counts)?;
     dropped(&rt, &counts, (0, 3));
-    let _ = cache.put(counts.key(3), 30);
+    put(&mut cache, &counts, 3, 30);
     dropped(&rt, &counts, (1, 3));
-    let _ = cache.put(counts.key(4), 4);
+    put(&mut cache, &counts, 4, 4);
     dropped(&rt, &counts, (2, 3));
     cache.clear();
     dropped(&rt, &counts, (5, 0));
@@ -30,9 +35,9 @@ fn a_key_is_dropped_where_it_is_replaced(rt: HostRuntime) -> Result<(), Fail> {
 fn a_removed_key_stays_in_its_slot(rt: HostRuntime) -> Result<(), Fail> {
     let counts = Counts::new();
     let mut cache = two_of_three(rt.alloc(), APART, &counts)?;
-    assert!(rt; cache.remove(&counts.key(3)));
+    assert!(rt; remove(&mut cache, &counts, 3));
     dropped(&rt, &counts, (1, 3));
-    let _ = cache.put(counts.key(4), 4);
+    put(&mut cache, &counts, 4, 4);
     dropped(&rt, &counts, (2, 3));
     Ok(())
 }

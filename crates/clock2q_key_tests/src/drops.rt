@@ -32,6 +32,12 @@ fn put<'a>(rt: &impl Abort, cache: &mut Dropping<'a>, drops: &'a Cell<u64>, key:
     assert_eq!(rt; drops.get(), count, "{key}");
 }
 
+/// So many values were dropped once a key that is resident is removed.
+fn remove(rt: &impl Abort, cache: &mut Dropping<'_>, drops: &Cell<u64>, key: u64, count: u64) {
+    assert!(rt; cache.remove(&key));
+    assert_eq!(rt; drops.get(), count);
+}
+
 #[test]
 fn each_value_is_dropped_once(rt: HostRuntime) -> Result<(), Fail> {
     let drops = Cell::new(0);
@@ -52,8 +58,7 @@ fn a_free_slot_keeps_its_value(rt: HostRuntime) -> Result<(), Fail> {
     let drops = Cell::new(0);
     let mut cache = made(rt.alloc())?;
     put(&rt, &mut cache, &drops, 1, 0);
-    assert!(rt; cache.remove(&1));
-    assert_eq!(rt; drops.get(), 0);
+    remove(&rt, &mut cache, &drops, 1, 0);
     put(&rt, &mut cache, &drops, 2, 1);
     Ok(())
 }

@@ -1,43 +1,82 @@
 //! How many keys the commands of a list compare and hash: as many as their calls.
+ghost use Rattle.std.specs.Prelude.{IfOk, map};
+ghost use Rattle.clock2q_text.specs.Commands.{AreSupplied, call_of};
 
 use crate::calls::{ALIKE, APART, two_of_three};
-use crate::counted::Counts;
+use crate::counted::{Counted, Counts};
 use clock2q_command::{Command, run};
 use clock2q_refusing::Spread;
-use std::alloc::Global;
+use std::alloc::{AllocError, Global};
 use std::test::Fail;
 
-/// Returns how often a run asks keys, and hashes one, that only looks a key up in a cache that
-/// [`two_of_three`] makes.
-fn looking_up(alloc: Global, spread: Spread, id: u64) -> Result<(u64, u64), Fail> {
-    let counts = Counts::new();
-    let mut cache = two_of_three(alloc, spread, &counts)?;
-    let commands = vec![in alloc;
-        Command::Get(counts.key(id)),
-        Command::Peek(counts.key(id)),
-        Command::Contains(counts.key(id)),
-        Command::Set(counts.key(id), 5),
-        Command::Try(counts.key(id), None),
-    ]?;
+type Commands<'a> = Vec<Command<Counted<'a>, u64>>;
+
+/// Returns how often a run asks keys, and hashes one, in a cache that [`two_of_three`] makes.
+fn asked_by<'a>(
+    alloc: Global,
+    spread: Spread,
+    counts: &'a Counts,
+    commands: Commands<'a>,
+) -> Result<(u64, u64), Fail>
+    requires { AreSupplied (map call_of commands.items) }
+{
+    let mut cache = two_of_three(alloc, spread, counts)?;
     let _ = counts.asked_and_hashed();
     let _ = run(alloc, &mut cache, commands)?;
     Ok(counts.asked_and_hashed())
 }
 
-/// The same of one that brings a key in, finds it and removes it.
-fn bringing_in(alloc: Global, spread: Spread, id: u64) -> Result<(u64, u64), Fail> {
-    let counts = Counts::new();
-    let mut cache = two_of_three(alloc, spread, &counts)?;
-    let commands = vec![in alloc;
+/// Commands that only look a key up.
+fn lookups(alloc: Global, counts: &Counts, id: u64) -> Result<Commands<'_>, AllocError>
+    ensures { IfOk result (λ commands. AreSupplied (map call_of commands.items)) }
+{
+    Ok(vec![in alloc;
+        Command::Get(counts.key(id)),
+        Command::Peek(counts.key(id)),
+        Command::Contains(counts.key(id)),
+        Command::Set(counts.key(id), 5),
+        Command::Try(counts.key(id), None),
+    ]?)
+}
+
+/// Commands that bring a key in, find it and remove it.
+fn insertions(alloc: Global, counts: &Counts, id: u64) -> Result<Commands<'_>, AllocError>
+    ensures { IfOk result (λ commands. AreSupplied (map call_of commands.items)) }
+{
+    Ok(vec![in alloc;
         Command::Put(counts.key(id), 5),
         Command::With(counts.key(id), 6),
         Command::Try(counts.key(id), Some(7)),
         Command::Slot(counts.key(id), 8),
         Command::Remove(counts.key(id)),
-    ]?;
-    let _ = counts.asked_and_hashed();
-    let _ = run(alloc, &mut cache, commands)?;
-    Ok(counts.asked_and_hashed())
+    ]?)
+}
+
+/// The other commands: a key is looked up at its slot, and none else is.
+fn others(alloc: Global, counts: &Counts) -> Result<Commands<'_>, AllocError>
+    ensures { IfOk result (λ commands. AreSupplied (map call_of commands.items)) }
+{
+    let kept = vec![in alloc; false]?;
+    Ok(vec![in alloc;
+        Command::GetAt(0, counts.key(3)),
+        Command::Len,
+        Command::IsEmpty,
+        Command::Capacity,
+        Command::Retain(kept),
+        Command::Clear,
+    ]?)
+}
+
+/// Returns how often a run of [`lookups`] asks keys, and hashes one.
+fn looking_up(alloc: Global, spread: Spread, id: u64) -> Result<(u64, u64), Fail> {
+    let counts = Counts::new();
+    asked_by(alloc, spread, &counts, lookups(alloc, &counts, id)?)
+}
+
+/// The same of [`insertions`].
+fn bringing_in(alloc: Global, spread: Spread, id: u64) -> Result<(u64, u64), Fail> {
+    let counts = Counts::new();
+    asked_by(alloc, spread, &counts, insertions(alloc, &counts, id)?)
 }
 
 /// The fetch that fails looks into the history too.
@@ -66,17 +105,7 @@ fn insertions_ask_no_more(rt: HostRuntime) -> Result<(), Fail> {
 fn other_commands_hash_nothing(rt: HostRuntime) -> Result<(), Fail> {
     let alloc = rt.alloc();
     let counts = Counts::new();
-    let mut cache = two_of_three(alloc, ALIKE, &counts)?;
-    let commands = vec![in alloc;
-        Command::GetAt(0, counts.key(3)),
-        Command::Len,
-        Command::IsEmpty,
-        Command::Capacity,
-        Command::Retain(vec![in alloc; false]?),
-        Command::Clear,
-    ]?;
-    let _ = counts.asked_and_hashed();
-    let _ = run(alloc, &mut cache, commands)?;
-    assert_eq!(rt; counts.asked_and_hashed(), (1, 0));
+    let asked = asked_by(alloc, ALIKE, &counts, others(alloc, &counts)?)?;
+    assert_eq!(rt; asked, (1, 0));
     Ok(())
 }
