@@ -4,35 +4,32 @@ ghost use Rattle.std.specs.Prelude.{◌≡◌, []};
 use clock2q_queues::history::History;
 use clock2q_queues::queues::Queues;
 use clock2q_queues_tests::beside::Beside;
-use clock2q_refusing::Refusing;
-use std::alloc::Global;
+use clock2q_refusing::{Refusing, Tried, try_in_turn};
+use std::alloc::{AllocError, Global};
+use std::process::Abort;
 use std::test::Fail;
 
-/// More requests than any of the constructors makes.
-const MANY: u64 = 100;
+/// Makes queues, and returns how many slots stand in Small and whether memory is held for them.
+fn new_queues(alloc: &Refusing<Global>) -> Result<(usize, bool), AllocError> {
+    let made = Queues::new(alloc, 12, 2)?;
+    Ok((made.small_len(), alloc.held() != 0))
+}
 
 /// The records, the window's places and the hit bits.
 #[test]
 fn queues(rt: HostRuntime) -> Result<(), Fail> {
     let alloc = Refusing::new(rt.alloc());
-    let mut enough = 0;
-    for granted in 0..MANY {
-        alloc.refuse_after(granted);
-        let made = Queues::new(&alloc, 12, 2);
-        if made.is_ok() {
-            enough = granted;
-            break;
-        }
-        assert_eq!(rt; alloc.held(), 0, "{granted} granted");
-    }
-    assert_eq!(rt; enough, 3);
-    alloc.grant();
-    let made = Queues::new(&alloc, 12, 2)?;
-    assert_eq!(rt; made.small_len(), 0);
-    assert_ne!(rt; alloc.held(), 0);
-    drop(made);
+    let tried = try_in_turn(&alloc, (0, true), AllocError, || new_queues(&alloc));
+    assert_eq!(rt; tried, Tried::Done(3));
     assert_eq!(rt; alloc.held(), 0);
     Ok(())
+}
+
+/// Makes a history for up to `limit` keys, and returns how many it has and whether memory is held
+/// for it.
+fn new_history(alloc: &Refusing<Global>, limit: u8) -> Result<(usize, bool), AllocError> {
+    let made: History<u64, &Refusing<Global>> = History::new(alloc, 5, usize::from(limit))?;
+    Ok((made.len(), alloc.held() != 0))
 }
 
 /// The two vectors of the index, the records of the order, and the keys. A history for no keys asks
@@ -41,23 +38,9 @@ fn queues(rt: HostRuntime) -> Result<(), Fail> {
 fn histories(rt: HostRuntime) -> Result<(), Fail> {
     for (limit, requests) in [(7, 4), (0, 2)] {
         let alloc = Refusing::new(rt.alloc());
-        let mut enough = 0;
-        for granted in 0..MANY {
-            alloc.refuse_after(granted);
-            let made: Result<History<u64, &Refusing<Global>>, _> = History::new(&alloc, 5, limit);
-            if made.is_ok() {
-                enough = granted;
-                break;
-            }
-            assert_eq!(rt; alloc.held(), 0, "{granted} granted");
-        }
-        assert_eq!(rt; enough, requests);
-        alloc.grant();
-        let made: History<u64, &Refusing<Global>> = History::new(&alloc, 5, limit)?;
-        assert_eq!(rt; made.len(), 0);
-        assert_ne!(rt; alloc.held(), 0);
-        drop(made);
-        assert_eq!(rt; alloc.held(), 0);
+        let tried = try_in_turn(&alloc, (0, true), AllocError, || new_history(&alloc, limit));
+        assert_eq!(rt; tried, Tried::Done(requests), "{limit}");
+        assert_eq!(rt; alloc.held(), 0, "{limit}");
     }
     Ok(())
 }
@@ -83,6 +66,19 @@ fn pass_through(queues: &mut Queues<&Refusing<Global>>)
     queues.admit(3);
 }
 
+/// The slot that is admitted last stands alone.
+fn pass_and_look(rt: &impl Abort, queues: &mut Queues<&Refusing<Global>>)
+    requires slots { queues.old.slots ≡ 4 }
+    requires window { queues.old.window ≡ 2 }
+    requires small { queues.old.small ≡ [] }
+    requires main { queues.old.main ≡ [] }
+{
+    pass_through(queues);
+    assert_eq!(rt; queues.tail(), Some(3));
+    assert_eq!(rt; queues.small_len(), 1);
+    assert_eq!(rt; queues.main_len(), 0);
+}
+
 #[test]
 fn queues_ask_for_nothing_more(rt: HostRuntime) -> Result<(), Fail> {
     let alloc = Refusing::new(rt.alloc());
@@ -90,23 +86,14 @@ fn queues_ask_for_nothing_more(rt: HostRuntime) -> Result<(), Fail> {
     let asked = alloc.requests();
     let held = alloc.held();
     alloc.refuse_after(0);
-    pass_through(&mut queues);
-    assert_eq!(rt; queues.tail(), Some(3));
-    assert_eq!(rt; queues.small_len(), 1);
-    assert_eq!(rt; queues.main_len(), 0);
+    pass_and_look(&rt, &mut queues);
     assert_eq!(rt; alloc.requests(), asked);
     assert_eq!(rt; alloc.held(), held);
     Ok(())
 }
 
 /// More keys than fit, each of which has the hash of others.
-#[test]
-fn histories_ask_for_nothing_more(rt: HostRuntime) -> Result<(), Fail> {
-    let alloc = Refusing::new(rt.alloc());
-    let mut beside = Beside::new(&alloc, 7, 3)?;
-    let asked = alloc.requests();
-    let held = alloc.held();
-    alloc.refuse_after(0);
+fn fill_and_forget(rt: &impl Abort, beside: &mut Beside<&Refusing<Global>>) {
     for key in 0..20 {
         assert_eq!(rt; beside.renew(key), (false, true), "{key}");
     }
@@ -115,9 +102,24 @@ fn histories_ask_for_nothing_more(rt: HostRuntime) -> Result<(), Fail> {
     assert!(rt; !beside.forget(12));
     assert_eq!(rt; beside.renew(13), (true, true));
     assert_eq!(rt; beside.len(), 6);
+}
+
+/// A key that is forgotten is new again.
+fn clear_and_renew(rt: &impl Abort, beside: &mut Beside<&Refusing<Global>>) {
     beside.clear();
     assert_eq!(rt; beside.renew(13), (false, true));
     assert_eq!(rt; beside.len(), 1);
+}
+
+#[test]
+fn histories_ask_for_nothing_more(rt: HostRuntime) -> Result<(), Fail> {
+    let alloc = Refusing::new(rt.alloc());
+    let mut beside = Beside::new(&alloc, 7, 3)?;
+    let asked = alloc.requests();
+    let held = alloc.held();
+    alloc.refuse_after(0);
+    fill_and_forget(&rt, &mut beside);
+    clear_and_renew(&rt, &mut beside);
     assert_eq!(rt; alloc.requests(), asked);
     assert_eq!(rt; alloc.held(), held);
     Ok(())
