@@ -99,9 +99,9 @@ fn wrapped_in_another_order(rt: HostRuntime) -> Result<(), Fail> {
 /// What is peeked at is what is yielded next: of several, of one, of none, and without slots.
 #[test]
 fn peeked(rt: HostRuntime) -> Result<(), Fail> {
-    let mut table: Table<usize> = Table::new(rt.alloc());
-    yields_as_peeked(&rt, table.get(14), &[], "unallocated");
-    table.reserve(12, |_| 0)?;
+    let unallocated: Table<usize> = Table::new(rt.alloc());
+    yields_as_peeked(&rt, unallocated.get(14), &[], "unallocated");
+    let mut table: Table<usize> = Table::with_capacity(rt.alloc(), 12)?;
     yields_as_peeked(&rt, table.get(14), &[], "empty");
     for (handle, hash) in [(0, 14), (1, 14), (2, 15), (3, A), (4, 14)] {
         put(&rt, &mut table, hash, handle);
