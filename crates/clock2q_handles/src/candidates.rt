@@ -46,7 +46,7 @@ impl<'a, H: Copy + Eq + Default> Model for Candidates<'a, H> {
 impl<'a, H: Copy + Eq + Default> Candidates<'a, H> {
     ghost use Rattle.clock2q_handles.specs.Candidates.{candidates_value, left_from, unread_from};
     ghost use Rattle.clock2q_handles.specs.Layout.{reach, IsTidy, AreNear};
-    ghost use Rattle.std.specs.Prelude.{ℕ, ◌≤◌, IfSome, IfNone, slice_get};
+    ghost use Rattle.std.specs.Prelude.{ℕ, ◌≤◌};
 
     /// Returns a lookup that has read nothing yet. If there are no slots, it yields nothing.
     pub(super) fn new<A: Allocator>(slots: &'a Slots<H, A>, hash: u64) -> Candidates<'a, H>
@@ -66,33 +66,6 @@ impl<'a, H: Copy + Eq + Default> Candidates<'a, H> {
             slot,
             wanted,
         }
-    }
-
-    /// Returns the next candidate, and stays at it: [next](Iterator::next) yields it once more. It
-    /// is for callers that mostly accept the first candidate, and so needn't step past it. The call
-    /// that yields what was peeked at reads its slot and its handle again.
-    #[inline(always)]
-    pub fn peek(&mut self) -> Option<H>
-        ensures candidate { result ≡ slice_get self.old.left 0 }
-        ensures left { self.new.left ≡ self.old.left }
-        ensures reads { self.old.reads ≤ self.new.reads }
-        ensures within { self.new.reads ≤ self.old.reads + self.old.unread }
-        ensures again { IfSome result (λ _. self.new.reads + self.new.unread ≡ self.old.reads + self.old.unread + 1) }
-        ensures read_all { IfNone result ((self.new.reads ≡ self.old.reads + self.old.unread) × (self.new.unread ≡ 0)) }
-        ensures handle { IfSome result (λ _. self.new.handles ≡ self.old.handles + 1) }
-        ensures no_handle { IfNone result (self.new.handles ≡ self.old.handles) }
-    {
-        if self.wanted.is_nothing() {
-            return None;
-        }
-        let Ok((slot, wanted)) = self.reader.candidate(self.slot, self.wanted) else {
-            self.wanted = Wanted::nothing();
-            return None;
-        };
-        let handle = self.reader.handle(slot);
-        self.slot = slot;
-        self.wanted = wanted;
-        Some(handle)
     }
 }
 
