@@ -32,7 +32,7 @@ entries-at {X} f g h slot (s ∷ ss) a =
 -- the age of a slot whose bit is set
 age-hit : (window cursor : ℕ) (standing : Mark) (b : Bool) → age_of window cursor standing true ≡ touched (age_of window cursor standing b)
 age-hit window cursor Free b = refl
-age-hit window cursor (Young place) b = refl
+age-hit window cursor (Young position) b = refl
 age-hit window cursor Old b = refl
 age-hit window cursor Main b = refl
 
@@ -54,7 +54,7 @@ module _ (l : LinkState) (small : Small) (main : MainRing) (q : AreQueues l smal
             placed = q.small.placed;
             occupied = q.small.occupied;
             cursor_in = q.small.cursor_in;
-            countable_places = q.small.countable_places;
+            countable_positions = q.small.countable_positions;
           };
           main = record { queue = q.main.queue; standing = q.main.standing };
           elsewhere = q.elsewhere;

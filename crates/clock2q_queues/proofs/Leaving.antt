@@ -11,61 +11,61 @@ use Rattle.clock2q_queues.specs.declared.links.Mark.TheVariants.{Free, Young, Ol
 use Rattle.clock2q_queues.specs.declared.small.Small.{Small}
 use Rattle.clock2q_queues.specs.Cells.{CellsState, HitBits, bit_in}
 use Rattle.clock2q_queues.specs.Rings.{has, without}
-use Rattle.clock2q_queues.specs.Links.{LinkState, IsLinked, IsSameBut, Detaches, record_at, next_at, previous_at, standing_at, bit_at, place_at}
-use Rattle.clock2q_queues.specs.Ends.{place_freed, end_after}
+use Rattle.clock2q_queues.specs.Links.{LinkState, IsLinked, IsSameBut, Detaches, record_at, next_at, previous_at, standing_at, bit_at, young_at}
+use Rattle.clock2q_queues.specs.Ends.{position_freed, end_after}
 use Rattle.clock2q_queues.specs.Small.{IsSmall, IsSmallQueue, small_slots, small_entries, age_at}
 use Rattle.clock2q_queues.proofs.Records.{changed}
 use Rattle.clock2q_queues.proofs.Rings.{eqb_self, has-without, has-without-back}
 use Rattle.clock2q_queues.proofs.Joining.{Removes, Removes-detached, map-agree, first_gone, first_stays, last_gone, last_stays, filter-entries, length-without}
 use Rattle.clock2q_queues.proofs.Window.{AreStaying, aged_slots, small_slots-is, IsSmallQueue-from}
 
--- Places
+-- Positions
 
-pub records-freed : (standing : Mark) (l : LinkState) → (place_freed standing l).records ≡ l.records
+pub records-freed : (standing : Mark) (l : LinkState) → (position_freed standing l).records ≡ l.records
 records-freed Free l = refl
-records-freed (Young place) l = refl
+records-freed (Young position) l = refl
 records-freed Old l = refl
 records-freed Main l = refl
 
-pub bits-freed : (standing : Mark) (l : LinkState) → (place_freed standing l).bits ≡ l.bits
+pub bits-freed : (standing : Mark) (l : LinkState) → (position_freed standing l).bits ≡ l.bits
 bits-freed Free l = refl
-bits-freed (Young place) l = refl
+bits-freed (Young position) l = refl
 bits-freed Old l = refl
 bits-freed Main l = refl
 
-window-freed : (standing : Mark) (l : LinkState) → length (place_freed standing l).window.items ≡ length l.window.items
+window-freed : (standing : Mark) (l : LinkState) → length (position_freed standing l).window.items ≡ length l.window.items
 window-freed Free l = refl
-window-freed (Young place) l = length-set l.window.items place None
+window-freed (Young position) l = length-set l.window.items position None
 window-freed Old l = refl
 window-freed Main l = refl
 
--- a slot keeps its place, if it isn't the one that was emptied
-place_kept : (standing : Mark) (l : LinkState) (p t : ℕ) → place_at l p ≡ Some t → ((place : ℕ) → standing ≡ Young place → p ≢ place) → place_at (place_freed standing l) p ≡ Some t
-place_kept Free l p t h d = h
-place_kept (Young place) l p t h d = elim (cases_lt place (length l.window.items)) [
-  | inl w ↦ changed (λ z. z) l.window.items place None None p w ∙ rw (ne_eqb p place (d place refl)) h
-  | inr w ↦ rw (set_past l.window.items place None w) h
+-- a slot keeps its position, if it isn't the one that was emptied
+young_at_kept : (standing : Mark) (l : LinkState) (p t : ℕ) → young_at l p ≡ Some t → ((position : ℕ) → standing ≡ Young position → p ≢ position) → young_at (position_freed standing l) p ≡ Some t
+young_at_kept Free l p t h d = h
+young_at_kept (Young position) l p t h d = elim (cases_lt position (length l.window.items)) [
+  | inl w ↦ changed (λ z. z) l.window.items position None None p w ∙ rw (ne_eqb p position (d position refl)) h
+  | inr w ↦ rw (set_past l.window.items position None w) h
 ]
-place_kept Old l p t h d = h
-place_kept Main l p t h d = h
+young_at_kept Old l p t h d = h
+young_at_kept Main l p t h d = h
 
-place_was : (standing : Mark) (l : LinkState) (p t : ℕ) → place_at (place_freed standing l) p ≡ Some t → (place_at l p ≡ Some t) × ((place : ℕ) → standing ≡ Young place → p ≢ place)
-place_was Free l p t h = (h, λ place e. absurd (cc))
-place_was (Young place) l p t h = elim (cases_lt place (length l.window.items)) [
-  | inl w ↦ elim (cases_Bool (eqb p place)) [
-    | inl g ↦ let q : place_at (place_freed (Young place) l) p ≡ None = changed (λ z. z) l.window.items place None None p w ∙ rw g refl in absurd (cc)
-    | inr g ↦ (sym (changed (λ z. z) l.window.items place None None p w ∙ rw g refl) ∙ h, λ q e c. let r : q ≡ place = cc in both_ways (eqb p place) g (eq-eqb p place (c ∙ r)))
+young_at_was : (standing : Mark) (l : LinkState) (p t : ℕ) → young_at (position_freed standing l) p ≡ Some t → (young_at l p ≡ Some t) × ((position : ℕ) → standing ≡ Young position → p ≢ position)
+young_at_was Free l p t h = (h, λ position e. absurd (cc))
+young_at_was (Young position) l p t h = elim (cases_lt position (length l.window.items)) [
+  | inl w ↦ elim (cases_Bool (eqb p position)) [
+    | inl g ↦ let q : young_at (position_freed (Young position) l) p ≡ None = changed (λ z. z) l.window.items position None None p w ∙ rw g refl in absurd (cc)
+    | inr g ↦ (sym (changed (λ z. z) l.window.items position None None p w ∙ rw g refl) ∙ h, λ q e c. let r : q ≡ position = cc in both_ways (eqb p position) g (eq-eqb p position (c ∙ r)))
   ]
   | inr w ↦
-      let k : place_at l p ≡ Some t = rw (set_past l.window.items place None w) at h in (
+      let k : young_at l p ≡ Some t = rw (set_past l.window.items position None w) at h in (
         k,
-        λ q e c. let r : p ≡ place = let s : q ≡ place = cc in c ∙ s in
-            let n : place_at l p ≡ None = get_or_past l.window.items p None (rw r w) in
+        λ q e c. let r : p ≡ position = let s : q ≡ position = cc in c ∙ s in
+            let n : young_at l p ≡ None = get_or_past l.window.items p None (rw r w) in
             absurd (cc),
       )
 ]
-place_was Old l p t h = (h, λ place e. absurd (cc))
-place_was Main l p t h = (h, λ place e. absurd (cc))
+young_at_was Old l p t h = (h, λ position e. absurd (cc))
+young_at_was Main l p t h = (h, λ position e. absurd (cc))
 
 -- Ends
 
@@ -87,42 +87,42 @@ cases_end (Some s) slot = elim (cases_Bool (eqb s slot)) [
 
 module _ (slot : ℕ) {old : LinkState} {small : Small} (mid : LinkState) {new : LinkState} (m : IsSmallQueue old small) (h : has slot (small_slots old small) ≡ true)
     (kept : (t : ℕ) → eqb t slot ≡ false → standing_at mid.records.items t ≡ standing_at old.records.items t)
-    (as_many : length mid.records.items ≡ length old.records.items) (places : mid.window.items ≡ old.window.items)
-    {standing : Mark} (was : standing ≡ standing_at old.records.items slot) (e : new ≡ place_freed standing mid) where
+    (as_many : length mid.records.items ≡ length old.records.items) (positions : mid.window.items ≡ old.window.items)
+    {standing : Mark} (was : standing ≡ standing_at old.records.items slot) (e : new ≡ position_freed standing mid) where
   pub records_now : new.records.items ≡ mid.records.items
   records_now = ap (λ (l : LinkState). l.records.items) e ∙ ap (λ (r : CellsState Record). r.items) (records-freed standing mid)
 
   pub window_now : length new.window.items ≡ length old.window.items
-  window_now = ap (λ (l : LinkState). length l.window.items) e ∙ window-freed standing mid ∙ ap (λ (z : List (Option ℕ)). length z) places
+  window_now = ap (λ (l : LinkState). length l.window.items) e ∙ window-freed standing mid ∙ ap (λ (z : List (Option ℕ)). length z) positions
 
   pub standing_now : (t : ℕ) → eqb t slot ≡ false → standing_at new.records.items t ≡ standing_at old.records.items t
   standing_now t g = ap (λ (z : List Record). standing_at z t) records_now ∙ kept t g
 
-  placed_now : (t place : ℕ) → has t (without slot (small_slots old small)) ≡ true → standing_at new.records.items t ≡ Young place → (place < length new.window.items) × (place_at new place ≡ Some t)
-  placed_now t place g y =
+  placed_now : (t position : ℕ) → has t (without slot (small_slots old small)) ≡ true → standing_at new.records.items t ≡ Young position → (position < length new.window.items) × (young_at new position ≡ Some t)
+  placed_now t position g y =
       let w = has-without t slot (small_slots old small) g in
-      let z : standing_at old.records.items t ≡ Young place = sym (standing_now t w.1) ∙ y in
-      let p = m.placed t place w.0 z in
-      let k : place_at mid place ≡ Some t = ap (λ q. get_or q place None) places ∙ p.1 in (
+      let z : standing_at old.records.items t ≡ Young position = sym (standing_now t w.1) ∙ y in
+      let p = m.placed t position w.0 z in
+      let k : young_at mid position ≡ Some t = ap (λ q. get_or q position None) positions ∙ p.1 in (
         rw window_now p.0,
-        ap (λ l. place_at l place) e ∙ place_kept standing mid place t k (λ q s c.
+        ap (λ l. young_at l position) e ∙ young_at_kept standing mid position t k (λ q s c.
             let o = (m.placed slot q h (sym was ∙ s)).1 in
-            let f : place_at old place ≡ Some slot = ap (λ r. place_at old r) c ∙ o in
+            let f : young_at old position ≡ Some slot = ap (λ r. young_at old r) c ∙ o in
             let x : t ≡ slot = let a = p.1 in cc in
             both_ways (eqb t slot) w.1 (eq-eqb t slot x)),
       )
 
-  occupied_now : (place t : ℕ) → place_at new place ≡ Some t → (has t (without slot (small_slots old small)) ≡ true) × (standing_at new.records.items t ≡ Young place)
-  occupied_now place t g =
-      let w = place_was standing mid place t (sym (ap (λ l. place_at l place) e) ∙ g) in
-      let p = m.occupied place t (sym (ap (λ q. get_or q place None) places) ∙ w.0) in
+  occupied_now : (position t : ℕ) → young_at new position ≡ Some t → (has t (without slot (small_slots old small)) ≡ true) × (standing_at new.records.items t ≡ Young position)
+  occupied_now position t g =
+      let w = young_at_was standing mid position t (sym (ap (λ l. young_at l position) e) ∙ g) in
+      let p = m.occupied position t (sym (ap (λ q. get_or q position None) positions) ∙ w.0) in
       let n : eqb t slot ≡ false = elim (cases_Bool (eqb t slot)) [
-        | inl q ↦ absurd (w.1 place (was ∙ ap (λ z. standing_at old.records.items z) (sym (eqb-true t slot q)) ∙ p.1) refl)
+        | inl q ↦ absurd (w.1 position (was ∙ ap (λ z. standing_at old.records.items z) (sym (eqb-true t slot q)) ∙ p.1) refl)
         | inr q ↦ q
       ] in
       (has-without-back t slot (small_slots old small) p.0 n, standing_now t n ∙ p.1)
 
-  -- all but the slot whose place was emptied
+  -- all but the slot whose position was emptied
   pub others_stay : AreStaying new small.cursor (without slot (small_slots old small))
   others_stay = record {
     standing = λ t g. let w = has-without t slot (small_slots old small) g in rw (standing_now t w.1) (m.standing t w.0);
@@ -130,7 +130,7 @@ module _ (slot : ℕ) {old : LinkState} {small : Small} (mid : LinkState) {new :
     occupied = occupied_now;
     cursor_in = λ p. rw window_now (m.cursor_in (rw window_now at p));
     countable = rw (ap (λ (z : List Record). length z) records_now ∙ as_many) m.queue.countable;
-    countable_places = rw window_now m.countable_places;
+    countable_positions = rw window_now m.countable_positions;
   }
 
   -- they are as old as they were
@@ -153,21 +153,21 @@ pub record UnlinksSmall (slot : ℕ) (old : LinkState) (small : Small) (new : Li
 
 module _ (slot : ℕ) (old : LinkState) (small : Small) (mid new : LinkState) (m : IsSmallQueue old small) (h : has slot (small_slots old small) ≡ true)
     (d : Detaches slot old.records mid.records) (rest : mid ≡ record old { records = mid.records })
-    (standing : Mark) (was : standing ≡ standing_at old.records.items slot) (e : new ≡ place_freed standing mid) where
+    (standing : Mark) (was : standing ≡ standing_at old.records.items slot) (e : new ≡ position_freed standing mid) where
   removed : Removes slot (small_slots old small) old.records.items mid.records.items
   removed = Removes-detached old.records mid.records (small_slots old small) slot m.queue.linked h d
 
-  places_mid : mid.window.items ≡ old.window.items
-  places_mid = ap (λ (l : LinkState). l.window.items) rest
+  positions_mid : mid.window.items ≡ old.window.items
+  positions_mid = ap (λ (l : LinkState). l.window.items) rest
 
   records_left : new.records.items ≡ mid.records.items
-  records_left = records_now slot mid m h removed.standings removed.as_many places_mid was e
+  records_left = records_now slot mid m h removed.standings removed.as_many positions_mid was e
 
   window_left : length new.window.items ≡ length old.window.items
-  window_left = window_now slot mid m h removed.standings removed.as_many places_mid was e
+  window_left = window_now slot mid m h removed.standings removed.as_many positions_mid was e
 
   stay : AreStaying new small.cursor (without slot (small_slots old small))
-  stay = others_stay slot mid m h removed.standings removed.as_many places_mid was e
+  stay = others_stay slot mid m h removed.standings removed.as_many positions_mid was e
 
   as_many_left : length new.records.items ≡ length old.records.items
   as_many_left = ap (λ (z : List Record). length z) records_left ∙ removed.as_many
@@ -207,7 +207,7 @@ module _ (slot : ℕ) (old : LinkState) (small : Small) (mid new : LinkState) (m
       placed = stay.placed;
       occupied = stay.occupied;
       cursor_in = λ p. rw cursor (stay.cursor_in p);
-      countable_places = stay.countable_places;
+      countable_positions = stay.countable_positions;
     }
 
     pub UnlinksSmall-from : UnlinksSmall slot old small new small'
@@ -216,7 +216,7 @@ module _ (slot : ℕ) (old : LinkState) (small : Small) (mid new : LinkState) (m
       entries =
           ap (λ z. map {B = ℕ × Age} (λ s. (s, age_at new small'.cursor s)) z) (small_slots-is new small' (without slot (small_slots old small)) whole_left)
           ∙ ap (λ z. aged_slots new z (without slot (small_slots old small))) cursor
-          ∙ ages_kept slot mid m h removed.standings removed.as_many places_mid was e (ap (λ (l : LinkState). l.bits) rest);
+          ∙ ages_kept slot mid m h removed.standings removed.as_many positions_mid was e (ap (λ (l : LinkState). l.bits) rest);
       freed = ap (λ (z : List Record). standing_at z slot) records_left ∙ ap (λ r. r.standing) removed.freed;
       others =
           record {

@@ -40,7 +40,7 @@ KeepsMain-from old main new ss m s d =
           ∙ map-agree {X = ℕ × Bool} (λ s. (s, bit_at new s)) (λ s. (s, bit_at old s)) (main_slots old main) (λ t h. ap (λ z. (t, z.1)) (same t h));
     }
 
--- Small, where none of its slots changed, nor a place
+-- Small, where none of its slots changed, nor a position
 pub record KeepsSmall (old : LinkState) (small : Small) (new : LinkState) : Type 0 where
   pub whole : IsSmallQueue new small
   pub slots : small_slots new small ≡ small_slots old small
@@ -60,14 +60,14 @@ KeepsSmall-from old small new ss m s p d =
       };
       ends = m.ends;
       standing = λ t h. subst (λ (z : Record × Bool). IsInSmall z.0.standing) (sym (same t h)) (m.standing t h);
-      placed = λ t place h y.
-          let q = m.placed t place h (sym (ap (λ z. z.0.standing) (same t h)) ∙ y) in
-          (rw window q.0, ap (λ z. get_or z place None) p ∙ q.1);
-      occupied = λ place t h.
-          let q = m.occupied place t (sym (ap (λ z. get_or z place None) p) ∙ h) in
+      placed = λ t position h y.
+          let q = m.placed t position h (sym (ap (λ z. z.0.standing) (same t h)) ∙ y) in
+          (rw window q.0, ap (λ z. get_or z position None) p ∙ q.1);
+      occupied = λ position t h.
+          let q = m.occupied position t (sym (ap (λ z. get_or z position None) p) ∙ h) in
           (q.0, ap (λ z. z.0.standing) (same t q.0) ∙ q.1);
       cursor_in = λ h. rw window (m.cursor_in (rw window at h));
-      countable_places = rw window m.countable_places;
+      countable_positions = rw window m.countable_positions;
     } in
     let e = small_slots-is new small (small_slots old small) is in
     record {

@@ -238,5 +238,5 @@ IsBlank-from l slots window e f a b = record {
   nowhere = λ t. ap (λ (z : List Record). standing_at z t) e ∙ ap (λ (r : Record). r.standing) (get_or-same slots t vacant);
   free = λ p. ap (λ z. get_or z p None) f ∙ get_or-same window p None;
   countable = let n = ap (λ (z : List Record). length z) e ∙ length-replicate slots vacant in omega arith;
-  countable_places = let n = ap (λ (z : List (Option ℕ)). length z) f ∙ length-replicate window None in omega arith;
+  countable_positions = let n = ap (λ (z : List (Option ℕ)). length z) f ∙ length-replicate window None in omega arith;
 }

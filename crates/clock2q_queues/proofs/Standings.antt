@@ -52,7 +52,7 @@ module _ (l : LinkState) (small : Small) (main : MainRing) (q : AreQueues l smal
       let n = (λ (i : IsInSmall mark). subst (λ z. IsInSmall z) (sym e) i) in
       (of_small (not_in_small n), of_main (is_in_main n (λ f. Free≢Main (sym f ∙ sym e))))
 
-  pub stands_small : (m : Mark) → m ≡ mark → ((place : ℕ) × (m ≡ Young place)) ⊎ (m ≡ Old) → IsStanding standing.Small slot (queues_shown l small main)
+  pub stands_small : (m : Mark) → m ≡ mark → ((position : ℕ) × (m ≡ Young position)) ⊎ (m ≡ Old) → IsStanding standing.Small slot (queues_shown l small main)
   stands_small m e o =
       let n : mark ≢ Main = λ h. elim o [ inl y ↦ let p = y.1 in cc | inr y ↦ cc ] in
       let f : mark ≢ Free = λ h. elim o [ inl y ↦ let p = y.1 in cc | inr y ↦ cc ] in
@@ -64,14 +64,14 @@ module _ (l : LinkState) (small : Small) (main : MainRing) (q : AreQueues l smal
     where
       of : (m : Mark) → m ≡ mark → is_queued m ≡ (has slot (slots_of (small_entries l small)) || has slot (slots_of (main_entries l main)))
       of Free e = let at = stands_free e in rw (at.0, at.1) refl
-      of (Young place) e = let at = stands_small (Young place) e (inl (place, refl)) in rw at.0 refl
+      of (Young position) e = let at = stands_small (Young position) e (inl (position, refl)) in rw at.0 refl
       of Old e = let at = stands_small Old e (inr refl) in rw at.0 refl
       of Main e = let at = stands_main e in rw (at.0, at.1) refl
 
 -- The slots at the ends
 
 promoted-is : (window cursor : ℕ) (m : Mark) (bit : Bool) → IsInSmall m → (is_old m && bit) ≡ is_promoted (age_of window cursor m bit)
-promoted-is window cursor (Young place) bit s = refl
+promoted-is window cursor (Young position) bit s = refl
 promoted-is window cursor Old bit s = refl
 promoted-is window cursor Free bit s = absurd s
 promoted-is window cursor Main bit s = absurd s

@@ -10,8 +10,8 @@ use Rattle.clock2q_queues.specs.declared.links.Mark.TheVariants.{Young}
 use Rattle.clock2q_queues.specs.declared.small.Small.{Small}
 use Rattle.clock2q_queues.specs.Cells.{CellsState, HitBits, accessed, bit_in, written}
 use Rattle.clock2q_queues.specs.Rings.{has, without, AllApart, AllBelow}
-use Rattle.clock2q_queues.specs.Links.{LinkState, IsLinked, IsSameBut, record_at, place_at, next_at, previous_at, standing_at, bit_at, with_standing, vacant}
-use Rattle.clock2q_queues.specs.Ends.{place_freed}
+use Rattle.clock2q_queues.specs.Links.{LinkState, IsLinked, IsSameBut, record_at, young_at, next_at, previous_at, standing_at, bit_at, with_standing, vacant}
+use Rattle.clock2q_queues.specs.Ends.{position_freed}
 use Rattle.clock2q_queues.specs.Small.{IsSmallQueue, GrowsOld, small_slots, small_entries, admitted, next_cursor}
 use Rattle.clock2q_queues.proofs.Booleans.{and_false, or_parts, or_neither}
 use Rattle.clock2q_queues.proofs.Records.{changed}
@@ -82,30 +82,30 @@ module _ (slot : ℕ) (old : LinkState) (small : Small) (m : IsSmallQueue old sm
   last_is = sym (last_before (next_at old.records.items) (previous_at old.records.items) slot rest slot (IsLinked-turned old.records.items rest (slot ∷ []) linked_before).ring)
 
   module _ (read left : LinkState) (r : read ≡ record old { records = accessed old.records })
-      (standing : Mark) (was : standing ≡ standing_at old.records.items slot) (e : left ≡ place_freed standing read) where
+      (standing : Mark) (was : standing ≡ standing_at old.records.items slot) (e : left ≡ position_freed standing read) where
     kept : (t : ℕ) → eqb t slot ≡ false → standing_at read.records.items t ≡ standing_at old.records.items t
     kept t g = ap (λ (l : LinkState). standing_at l.records.items t) r
 
     as_many : length read.records.items ≡ length old.records.items
     as_many = ap (λ (l : LinkState). length l.records.items) r
 
-    places : read.window.items ≡ old.window.items
-    places = ap (λ (l : LinkState). l.window.items) r
+    positions : read.window.items ≡ old.window.items
+    positions = ap (λ (l : LinkState). l.window.items) r
 
     stay : AreStaying left small.cursor rest
-    stay = others_stay slot read m there kept as_many places was e
+    stay = others_stay slot read m there kept as_many positions was e
 
     pub window_left : length left.window.items ≡ length old.window.items
-    window_left = window_now slot read m there kept as_many places was e
+    window_left = window_now slot read m there kept as_many positions was e
 
     records_left : left.records.items ≡ old.records.items
-    records_left = records_now slot read m there kept as_many places was e ∙ ap (λ (l : LinkState). l.records.items) r
+    records_left = records_now slot read m there kept as_many positions was e ∙ ap (λ (l : LinkState). l.records.items) r
 
     bits_left : left.bits ≡ old.bits
     bits_left = ap (λ (l : LinkState). l.bits) e ∙ bits-freed standing read ∙ ap (λ (l : LinkState). l.bits) r
 
-    -- the place of the cursor is free for it, and holds another slot at most
-    pub others_fit : IfSome (place_at left small.cursor) (λ t. t < length left.records.items)
+    -- the position of the cursor is free for it, and holds another slot at most
+    pub others_fit : IfSome (young_at left small.cursor) (λ t. t < length left.records.items)
     others_fit =
         let below : AllBelow (length left.records.items) rest = subst (λ (rs : List Record). AllBelow (length rs) rest) (sym records_left) (AllBelow-left (length old.records.items) rest (slot ∷ []) linked_before.below) in
         cursor_fits stay below
@@ -121,7 +121,7 @@ module _ (slot : ℕ) (old : LinkState) (small : Small) (m : IsSmallQueue old sm
         (cursor : small'.cursor ≡ next_cursor (length new.window.items) small.cursor) where
       window_new : length new.window.items ≡ length left.window.items
       window_new = ap (λ (l : LinkState). length l.window.items) n ∙ ap (λ (l : LinkState). length l.window.items) a
-          ∙ length-set mid.window.items small.cursor (Some slot) ∙ ap (λ (z : List (Option ℕ)). length z) o.places
+          ∙ length-set mid.window.items small.cursor (Some slot) ∙ ap (λ (z : List (Option ℕ)). length z) o.positions
 
       stood : (t : ℕ) → (next_at new.records.items t ≡ next_at mid.records.items t) × (previous_at new.records.items t ≡ previous_at mid.records.items t)
           × (standing_at new.records.items t ≡ cond (eqb t slot) (Young small.cursor) (standing_at mid.records.items t))
@@ -162,7 +162,7 @@ module _ (slot : ℕ) (old : LinkState) (small : Small) (m : IsSmallQueue old sm
       Turns-from = record {
         whole = admits.whole;
         entries = admits.entries ∙ ap (λ z. admitted z slot (aged_slots left small.cursor rest)) window_left
-            ∙ ap (λ z. admitted (length old.window.items) slot z) (ages_kept slot read m there kept as_many places was e (ap (λ (l : LinkState). l.bits) r));
+            ∙ ap (λ z. admitted (length old.window.items) slot z) (ages_kept slot read m there kept as_many positions was e (ap (λ (l : LinkState). l.bits) r));
         others = record {
           others = λ t h.
               let h' : has t (slot ∷ rest) ≡ false = not_turned t h in

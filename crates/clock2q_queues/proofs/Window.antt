@@ -11,7 +11,7 @@ use Rattle.clock2q_queues.specs.declared.small.Small.{Small}
 use Rattle.clock2q_queues.specs.Rings.{has, AllBelow}
 use Rattle.clock2q_queues.specs.declared.links.Record.{Record}
 use Rattle.clock2q_queues.specs.Cells.{CellsState, written}
-use Rattle.clock2q_queues.specs.Links.{LinkState, IsBlank, IsLinked, IsSameBut, Attaches, record_at, next_at, previous_at, standing_at, bit_at, place_at}
+use Rattle.clock2q_queues.specs.Links.{LinkState, IsBlank, IsLinked, IsSameBut, Attaches, record_at, next_at, previous_at, standing_at, bit_at, young_at}
 use Rattle.clock2q_queues.specs.Small.{IsSmall, IsSmallQueue, IsInSmall, GrowsOld, small_slots, small_entries, admissions_since, next_cursor, age_of, age_at, admitted, is_there}
 use Rattle.clock2q_queues.proofs.Records.{changed}
 use Rattle.clock2q_queues.proofs.Rings.{IsRing-kept, eqb_self, has_first, has_later, differs, below_of}
@@ -35,25 +35,25 @@ admissions_since-own window cursor h = elim (cases_lt (cursor + 1) window) [
 pub admissions_since-cursor : (window cursor : ℕ) → cursor < window → admissions_since window cursor cursor + 1 ≡ window
 admissions_since-cursor window cursor h = rw (le-ltb cursor cursor (omega arith)) (omega arith)
 
--- a young slot on another place is older by one, and still within the window
-pub admissions_since-other : (window cursor place : ℕ) → cursor < window → place < window → place ≢ cursor
-    → (admissions_since window (next_cursor window cursor) place ≡ admissions_since window cursor place + 1) × (admissions_since window cursor place + 1 < window)
-admissions_since-other window cursor place h p d = elim (cases_lt (cursor + 1) window) [
+-- a young slot at another position is older by one, and still within the window
+pub admissions_since-other : (window cursor position : ℕ) → cursor < window → position < window → position ≢ cursor
+    → (admissions_since window (next_cursor window cursor) position ≡ admissions_since window cursor position + 1) × (admissions_since window cursor position + 1 < window)
+admissions_since-other window cursor position h p d = elim (cases_lt (cursor + 1) window) [
   | inl l ↦
       let a : next_cursor window cursor ≡ cursor + 1 = rw (lt-ltb (cursor + 1) window l) refl in
-      elim (cases_lt place cursor) [
-        | inl q ↦ rw (a, lt-ltb place (cursor + 1) (omega arith), lt-ltb place cursor q) (omega arith, omega arith)
-        | inr q ↦ rw (a, le-ltb place (cursor + 1) (omega arith), le-ltb place cursor q) (omega arith, omega arith)
+      elim (cases_lt position cursor) [
+        | inl q ↦ rw (a, lt-ltb position (cursor + 1) (omega arith), lt-ltb position cursor q) (omega arith, omega arith)
+        | inr q ↦ rw (a, le-ltb position (cursor + 1) (omega arith), le-ltb position cursor q) (omega arith, omega arith)
       ]
   | inr l ↦
       let a : next_cursor window cursor ≡ 0 = rw (le-ltb (cursor + 1) window l) refl in
-      rw (a, le-ltb place 0 (omega arith), lt-ltb place cursor (omega arith)) (omega arith, omega arith)
+      rw (a, le-ltb position 0 (omega arith), lt-ltb position cursor (omega arith)) (omega arith, omega arith)
 ]
 
-Young≢Old : (place : ℕ) → Young place ≢ Old
-Young≢Old place e = cc
+Young≢Old : (position : ℕ) → Young position ≢ Old
+Young≢Old position e = cc
 
--- What stands at a place
+-- What stands at a position
 
 is_there-true : (o : Option ℕ) (t : ℕ) → is_there o t ≡ true → o ≡ Some t
 is_there-true None t e = absurd (both_ways false refl e)
@@ -63,15 +63,15 @@ is_there-own : (o : Option ℕ) (t : ℕ) → o ≡ Some t → is_there o t ≡ 
 is_there-own o t e = subst (λ z. is_there z t ≡ true) (sym e) (eqb_self t)
 
 aged_standing : (window cursor : ℕ) (standing : Mark) (bit : Bool) → cursor < window
-    → ((place : ℕ) → standing ≡ Young place → (place < window) × (place ≢ cursor))
+    → ((position : ℕ) → standing ≡ Young position → (position < window) × (position ≢ cursor))
     → age_of window (next_cursor window cursor) standing bit ≡ grown window (age_of window cursor standing bit)
 aged_standing window cursor Free bit h y = refl
 aged_standing window cursor Old bit h y = refl
 aged_standing window cursor Main bit h y = refl
-aged_standing window cursor (Young place) bit h y =
-    let p = y place refl in
-    let a = admissions_since-other window cursor place h p.0 p.1 in
-    rw (lt-ltb (admissions_since window cursor place + 1) window a.1) (ap (λ z. ages.Young z) a.0)
+aged_standing window cursor (Young position) bit h y =
+    let p = y position refl in
+    let a = admissions_since-other window cursor position h p.0 p.1 in
+    rw (lt-ltb (admissions_since window cursor position + 1) window a.1) (ap (λ z. ages.Young z) a.0)
 
 grown-at_cursor : (window cursor : ℕ) (bit : Bool) → cursor < window → grown window (age_of window cursor (Young cursor) bit) ≡ ages.Old false
 grown-at_cursor window cursor bit h =
@@ -99,24 +99,24 @@ linked_still old mid ss cursor k o = record {
   below = subst (λ z. AllBelow z ss) (sym o.as_many) k.below;
 }
 
--- the slots of Small, but perhaps for one that goes out: where they stand, and what the window's places hold
+-- the slots of Small, but perhaps for one that goes out: where they stand, and what the window's positions hold
 pub record AreStaying (l : LinkState) (cursor : ℕ) (ss : List ℕ) : Type 0 where
   pub standing : (t : ℕ) → has t ss ≡ true → IsInSmall (standing_at l.records.items t)
-  pub placed : (t place : ℕ) → has t ss ≡ true → standing_at l.records.items t ≡ Young place → (place < length l.window.items) × (place_at l place ≡ Some t)
-  pub occupied : (place t : ℕ) → place_at l place ≡ Some t → (has t ss ≡ true) × (standing_at l.records.items t ≡ Young place)
+  pub placed : (t position : ℕ) → has t ss ≡ true → standing_at l.records.items t ≡ Young position → (position < length l.window.items) × (young_at l position ≡ Some t)
+  pub occupied : (position t : ℕ) → young_at l position ≡ Some t → (has t ss ≡ true) × (standing_at l.records.items t ≡ Young position)
   pub cursor_in : 0 < length l.window.items → cursor < length l.window.items
   pub countable : length l.records.items < 2 ^ 32
-  pub countable_places : length l.window.items < 2 ^ 32
+  pub countable_positions : length l.window.items < 2 ^ 32
 
 -- all of them, where none goes out
 pub all_stay : {l : LinkState} {small : Small} → IsSmallQueue l small → AreStaying l small.cursor (small_slots l small)
-all_stay m = record { standing = m.standing; placed = m.placed; occupied = m.occupied; cursor_in = m.cursor_in; countable = m.queue.countable; countable_places = m.countable_places }
+all_stay m = record { standing = m.standing; placed = m.placed; occupied = m.occupied; cursor_in = m.cursor_in; countable = m.queue.countable; countable_positions = m.countable_positions }
 
 -- one that stands at the cursor is among the records
-pub cursor_fits : {l : LinkState} {cursor : ℕ} {ss : List ℕ} → AreStaying l cursor ss → AllBelow (length l.records.items) ss → IfSome (place_at l cursor) (λ slot. slot < length l.records.items)
-cursor_fits {l} {cursor} {ss} m b = of (place_at l cursor) refl
+pub cursor_fits : {l : LinkState} {cursor : ℕ} {ss : List ℕ} → AreStaying l cursor ss → AllBelow (length l.records.items) ss → IfSome (young_at l cursor) (λ slot. slot < length l.records.items)
+cursor_fits {l} {cursor} {ss} m b = of (young_at l cursor) refl
   where
-    of : (o : Option ℕ) → place_at l cursor ≡ o → IfSome o (λ slot. slot < length l.records.items)
+    of : (o : Option ℕ) → young_at l cursor ≡ o → IfSome o (λ slot. slot < length l.records.items)
     of None e = tt
     of (Some t) e = below_of (length l.records.items) ss b t (m.occupied cursor t e).0
 
@@ -140,81 +140,81 @@ module _ {slot : ℕ} {old : LinkState} {cursor : ℕ} {ss : List ℕ} {mid aged
   within : cursor < length old.window.items
   within = m.cursor_in w
 
-  places_new : new.window.items ≡ set old.window.items cursor (Some slot)
-  places_new = ap (λ (l : LinkState). l.window.items) rest ∙ ap (λ (l : LinkState). l.window.items) e ∙ ap (λ (z : List (Option ℕ)). set z cursor (Some slot)) o.places
+  window_items_new : new.window.items ≡ set old.window.items cursor (Some slot)
+  window_items_new = ap (λ (l : LinkState). l.window.items) rest ∙ ap (λ (l : LinkState). l.window.items) e ∙ ap (λ (z : List (Option ℕ)). set z cursor (Some slot)) o.positions
 
   window_new : length new.window.items ≡ length old.window.items
-  window_new = ap (λ (z : List (Option ℕ)). length z) places_new ∙ length-set old.window.items cursor (Some slot)
+  window_new = ap (λ (z : List (Option ℕ)). length z) window_items_new ∙ length-set old.window.items cursor (Some slot)
 
   slots_new : length new.records.items ≡ length old.records.items
   slots_new = i.as_many ∙ o.as_many
 
-  place_new : (p : ℕ) → place_at new p ≡ cond (eqb p cursor) (Some slot) (place_at old p)
-  place_new p = ap (λ z. get_or z p None) places_new ∙ changed (λ z. z) old.window.items cursor (Some slot) None p within
+  young_at_new : (p : ℕ) → young_at new p ≡ cond (eqb p cursor) (Some slot) (young_at old p)
+  young_at_new p = ap (λ z. get_or z p None) window_items_new ∙ changed (λ z. z) old.window.items cursor (Some slot) None p within
 
-  standing_new : (t : ℕ) → standing_at new.records.items t ≡ cond (eqb t slot) (Young cursor) (cond (is_there (place_at old cursor) t) Old (standing_at old.records.items t))
+  standing_new : (t : ℕ) → standing_at new.records.items t ≡ cond (eqb t slot) (Young cursor) (cond (is_there (young_at old cursor) t) Old (standing_at old.records.items t))
   standing_new t = i.standings t ∙ ap (λ z. cond (eqb t slot) (Young cursor) z) (o.standings t)
 
-  bit_new : (t : ℕ) → bit_at new t ≡ cond (is_there (place_at old cursor) t) false (bit_at old t)
+  bit_new : (t : ℕ) → bit_at new t ≡ cond (is_there (young_at old cursor) t) false (bit_at old t)
   bit_new t = ap (λ (l : LinkState). bit_at l t) rest ∙ ap (λ (l : LinkState). bit_at l t) e ∙ o.bits t
 
-  -- a young slot of the queue that isn't at the cursor has another place
-  elsewhere : (t place : ℕ) → has t ss ≡ true → is_there (place_at old cursor) t ≡ false
-      → standing_at old.records.items t ≡ Young place → (place < length old.window.items) × (place ≢ cursor)
-  elsewhere t place h n y =
-      let p = m.placed t place h y in
-      (p.0, λ q. both_ways (is_there (place_at old cursor) t) n (is_there-own _ t (subst (λ z. place_at old z ≡ Some t) q p.1)))
+  -- a young slot of the queue that isn't at the cursor has another position
+  elsewhere : (t position : ℕ) → has t ss ≡ true → is_there (young_at old cursor) t ≡ false
+      → standing_at old.records.items t ≡ Young position → (position < length old.window.items) × (position ≢ cursor)
+  elsewhere t position h n y =
+      let p = m.placed t position h y in
+      (p.0, λ q. both_ways (is_there (young_at old cursor) t) n (is_there-own _ t (subst (λ z. young_at old z ≡ Some t) q p.1)))
 
   aged_at : (t : ℕ) → has t ss ≡ true → age_at new small'.cursor t ≡ grown (length old.window.items) (age_at old cursor t)
   aged_at t h =
       let d : eqb t slot ≡ false = differs t slot ss h absent in
-      elim (cases_Bool (is_there (place_at old cursor) t)) [
+      elim (cases_Bool (is_there (young_at old cursor) t)) [
         | inl g ↦
             let y = (m.occupied cursor t (is_there-true _ t g)).1 in
             rw (moved, window_new, standing_new t, bit_new t, d, g, y) (sym (grown-at_cursor (length old.window.items) cursor (bit_at old t) within))
         | inr g ↦
             rw (moved, window_new, standing_new t, bit_new t, d, g)
-            (aged_standing (length old.window.items) cursor (standing_at old.records.items t) (bit_at old t) within (λ place y. elsewhere t place h g y))
+            (aged_standing (length old.window.items) cursor (standing_at old.records.items t) (bit_at old t) within (λ position y. elsewhere t position h g y))
       ]
 
   own_standing : standing_at new.records.items slot ≡ Young cursor
   own_standing = standing_new slot ∙ rw (eqb_self slot) refl
 
   -- what stands in the queue now, stood there before unless it is new
-  young_new : (t place : ℕ) → has t (slot ∷ ss) ≡ true → standing_at new.records.items t ≡ Young place → (place < length new.window.items) × (place_at new place ≡ Some t)
-  young_new t place h y = elim (cases_Bool (eqb t slot)) [
+  young_new : (t position : ℕ) → has t (slot ∷ ss) ≡ true → standing_at new.records.items t ≡ Young position → (position < length new.window.items) × (young_at new position ≡ Some t)
+  young_new t position h y = elim (cases_Bool (eqb t slot)) [
     | inl g ↦
         let q : t ≡ slot = eqb-true t slot g in
-        let p : place ≡ cursor = let r = own_standing in let y' = subst (λ z. standing_at new.records.items z ≡ Young place) q y in cc in
-        (rw (p, window_new) within, place_new place ∙ rw (p, eqb_self cursor) (ap (λ z. Some z) (sym q)))
+        let p : position ≡ cursor = let r = own_standing in let y' = subst (λ z. standing_at new.records.items z ≡ Young position) q y in cc in
+        (rw (p, window_new) within, young_at_new position ∙ rw (p, eqb_self cursor) (ap (λ z. Some z) (sym q)))
     | inr g ↦
         let k : has t ss ≡ true = elim (or_cases (eqb t slot) (has t ss) h) [ inl z ↦ absurd (both_ways (eqb t slot) g z) | inr z ↦ z ] in
-        elim (cases_Bool (is_there (place_at old cursor) t)) [
+        elim (cases_Bool (is_there (young_at old cursor) t)) [
           | inl f ↦ let z : standing_at new.records.items t ≡ Old = standing_new t ∙ rw (g, f) refl in absurd (cc)
           | inr f ↦
-              let z : standing_at old.records.items t ≡ Young place = sym (standing_new t ∙ rw (g, f) refl) ∙ y in
-              let p = elsewhere t place k f z in
-              (rw window_new p.0, place_new place ∙ rw (ne_eqb place cursor p.1) (m.placed t place k z).1)
+              let z : standing_at old.records.items t ≡ Young position = sym (standing_new t ∙ rw (g, f) refl) ∙ y in
+              let p = elsewhere t position k f z in
+              (rw window_new p.0, young_at_new position ∙ rw (ne_eqb position cursor p.1) (m.placed t position k z).1)
         ]
   ]
 
-  occupied_new : (place t : ℕ) → place_at new place ≡ Some t → (has t (slot ∷ ss) ≡ true) × (standing_at new.records.items t ≡ Young place)
-  occupied_new place t h = elim (cases_Bool (eqb place cursor)) [
+  occupied_new : (position t : ℕ) → young_at new position ≡ Some t → (has t (slot ∷ ss) ≡ true) × (standing_at new.records.items t ≡ Young position)
+  occupied_new position t h = elim (cases_Bool (eqb position cursor)) [
     | inl g ↦
-        let q : Some slot ≡ Some t = sym (place_new place ∙ rw g refl) ∙ h in
+        let q : Some slot ≡ Some t = sym (young_at_new position ∙ rw g refl) ∙ h in
         let r : t ≡ slot = cc in (
           or_left (eqb t slot) (has t ss) (eq-eqb t slot r),
-          subst (λ z. standing_at new.records.items z ≡ Young place) (sym r) (own_standing ∙ ap (λ z. Young z) (sym (eqb-true place cursor g))),
+          subst (λ z. standing_at new.records.items z ≡ Young position) (sym r) (own_standing ∙ ap (λ z. Young z) (sym (eqb-true position cursor g))),
         )
     | inr g ↦
-        let q : place_at old place ≡ Some t = sym (place_new place ∙ rw g refl) ∙ h in
-        let p = m.occupied place t q in
+        let q : young_at old position ≡ Some t = sym (young_at_new position ∙ rw g refl) ∙ h in
+        let p = m.occupied position t q in
         let d : eqb t slot ≡ false = differs t slot ss p.0 absent in
-        let f : is_there (place_at old cursor) t ≡ false = elim (cases_Bool (is_there (place_at old cursor) t)) [
+        let f : is_there (young_at old cursor) t ≡ false = elim (cases_Bool (is_there (young_at old cursor) t)) [
           | inl z ↦
               let y = (m.occupied cursor t (is_there-true _ t z)).1 in
-              let c : place ≡ cursor = let x = p.1 in cc in
-              absurd (both_ways (eqb place cursor) g (eq-eqb place cursor c))
+              let c : position ≡ cursor = let x = p.1 in cc in
+              absurd (both_ways (eqb position cursor) g (eq-eqb position cursor c))
           | inr z ↦ z
         ] in
         (has_later t slot ss p.0, standing_new t ∙ rw (d, f) p.1)
@@ -225,7 +225,7 @@ module _ {slot : ℕ} {old : LinkState} {cursor : ℕ} {ss : List ℕ} {mid aged
     | inl g ↦ rw (standing_new t, g) tt
     | inr g ↦
         let k : has t ss ≡ true = elim (or_cases (eqb t slot) (has t ss) h) [ inl z ↦ absurd (both_ways (eqb t slot) g z) | inr z ↦ z ] in
-        elim (cases_Bool (is_there (place_at old cursor) t)) [
+        elim (cases_Bool (is_there (young_at old cursor) t)) [
           | inl f ↦ rw (standing_new t, g, f) tt
           | inr f ↦ rw (standing_new t, g, f) (m.standing t k)
         ]
@@ -250,7 +250,7 @@ module _ {slot : ℕ} {old : LinkState} {cursor : ℕ} {ss : List ℕ} {mid aged
     placed = young_new;
     occupied = occupied_new;
     cursor_in = λ h. cursor_new;
-    countable_places = rw window_new m.countable_places;
+    countable_positions = rw window_new m.countable_positions;
   }
 
   pub Admits-from : Admits slot old cursor ss new small'
@@ -267,7 +267,7 @@ module _ {slot : ℕ} {old : LinkState} {cursor : ℕ} {ss : List ℕ} {mid aged
       others = λ t h.
           let d : eqb t slot ≡ false = (or_parts (eqb t slot) (has t ss) h).0 in
           let k : has t ss ≡ false = (or_parts (eqb t slot) (has t ss) h).1 in
-          let f : is_there (place_at old cursor) t ≡ false = elim (cases_Bool (is_there (place_at old cursor) t)) [
+          let f : is_there (young_at old cursor) t ≡ false = elim (cases_Bool (is_there (young_at old cursor) t)) [
             | inl z ↦ absurd (both_ways (has t ss) k (m.occupied cursor t (is_there-true _ t z)).0)
             | inr z ↦ z
           ] in
@@ -277,16 +277,16 @@ module _ {slot : ℕ} {old : LinkState} {cursor : ℕ} {ss : List ℕ} {mid aged
     };
   }
 
--- a queue with no slot, where no place is taken
+-- a queue with no slot, where no position is taken
 pub IsSmallQueue-empty : (l : LinkState) → IsBlank l → IsSmallQueue l (record { newest = None; oldest = None; len = 0; cursor = 0 })
 IsSmallQueue-empty l b = record {
   queue = record { linked = record { ring = tt; apart = tt; below = tt }; starts = refl; counted = refl; countable = b.countable };
   ends = refl;
   standing = λ t h. absurd (both_ways false refl h);
-  placed = λ t place h y. absurd (both_ways false refl h);
-  occupied = λ place t h. let f = b.free place in absurd (cc);
+  placed = λ t position h y. absurd (both_ways false refl h);
+  occupied = λ position t h. let f = b.free position in absurd (cc);
   cursor_in = λ h. h;
-  countable_places = b.countable_places;
+  countable_positions = b.countable_positions;
 }
 
 last_behind : (ss : List ℕ) (slot first : ℕ) → Some first ≡ slice_get ss 0 → last_or None ss ≡ last_or None (slot ∷ ss)
@@ -306,7 +306,7 @@ module _ (slot : ℕ) (old : LinkState) (small : Small) (mid aged : LinkState) (
   slots_aged = ap (λ (r : CellsState Record). length r.items) records_aged ∙ o.as_many
 
   pub window_aged : length aged.window.items ≡ length old.window.items
-  window_aged = ap (λ (l : LinkState). length l.window.items) e ∙ length-set mid.window.items small.cursor (Some slot) ∙ ap (λ (z : List (Option ℕ)). length z) o.places
+  window_aged = ap (λ (l : LinkState). length l.window.items) e ∙ length-set mid.window.items small.cursor (Some slot) ∙ ap (λ (z : List (Option ℕ)). length z) o.positions
 
   -- the slots before which a new one is put are there
   pub first_fits : (newest : ℕ) → small.newest ≡ Some newest → (newest < length aged.records.items) × (previous_at aged.records.items newest < length aged.records.items)

@@ -41,12 +41,12 @@ removals_age_the_young : let small = admitted 2 3 (without_slot 3 four_admitted)
 removals_age_the_young = (refl, refl, refl)
 
 -- slot 3 leaves and is admitted twice, then slot 0 does: slot 3 is young still, so a hit on it counts for nothing
-emptied_places : let twice = admitted 2 3 (without_slot 3 (admitted 2 3 (without_slot 3 four_admitted))) in
+emptied_positions : let twice = admitted 2 3 (without_slot 3 (admitted 2 3 (without_slot 3 four_admitted))) in
     let small = admitted 2 0 (without_slot 0 twice) in
     (small ≡ (0, Young 0) ∷ (3, Young 1) ∷ (2, Old false) ∷ (1, Old false) ∷ [])
     × (small_hit_at 3 small ≡ small)
-emptied_places = (refl, refl)
+emptied_positions = (refl, refl)
 
--- the cursor goes round both places, one for each of the seven admissions
+-- the cursor goes round both positions, one for each of the seven admissions
 seven_admissions : next_cursor 2 (next_cursor 2 (next_cursor 2 (next_cursor 2 (next_cursor 2 (next_cursor 2 (next_cursor 2 0)))))) ≡ 1
 seven_admissions = refl

@@ -1,4 +1,4 @@
--- What a slot leaves behind when it goes out of Small: its place in the window, and the ends of the queue.
+-- What a slot leaves behind when it goes out of Small: its position in the window, and the ends of the queue.
 use Rattle.std.specs.Prelude.{ℕ, nat_lt, nat_eq, Option, Some, None, if◌then◌else◌}
 use Rattle.std.specs.Bool.{then_some}
 use Rattle.std.specs.Option.{option_eq}
@@ -7,12 +7,12 @@ use Rattle.clock2q_queues.specs.Links.{LinkState}
 use Rattle.clock2q_queues.specs.declared.links.Mark.{Mark}
 use Rattle.clock2q_queues.specs.declared.links.Mark.TheVariants.{Free, Young, Old, Main}
 
--- the place of a young slot is emptied
-abbrev pub place_freed : Mark → LinkState → LinkState
-place_freed (Young place) l = record l { window = written place None l.window }
-place_freed Free l = l
-place_freed Old l = l
-place_freed Main l = l
+-- the position of a young slot is emptied
+abbrev pub position_freed : Mark → LinkState → LinkState
+position_freed (Young position) l = record l { window = written position None l.window }
+position_freed Free l = l
+position_freed Old l = l
+position_freed Main l = l
 
 -- an end of the queue after a slot left it, with so many others: where the slot stood there, its neighbour, if there is another slot
 abbrev pub end_after : Option ℕ → ℕ → ℕ → ℕ → Option ℕ

@@ -32,7 +32,7 @@ standing_in standing slot = slice_index_or standing slot false
 -- a slot with this mark stands in a queue
 abbrev pub is_queued : Mark → Bool
 is_queued Free = false
-is_queued (Young place) = true
+is_queued (Young position) = true
 is_queued Old = true
 is_queued Main = true
 
@@ -41,4 +41,4 @@ pub record AreLinks (rs : List Record) (flags : FlagState) (window : List (Optio
   pub bits : length flags.bits.items ≡ length rs
   pub standing : length flags.standing ≡ length rs
   pub agree : (slot : ℕ) → standing_in flags.standing slot ≡ is_queued (standing_at rs slot)
-  pub countable_places : length window < 2 ^ 32
+  pub countable_positions : length window < 2 ^ 32

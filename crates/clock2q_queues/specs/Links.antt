@@ -70,27 +70,27 @@ pub record Detaches (slot : ℕ) (old new : CellsState Record) : Type 0 where
 
 -- What Small and Main share
 
--- the records by slot, the window's places, and the hit bits by slot
+-- the records by slot, the window's positions, and the hit bits by slot
 pub record LinkState : Type 0 where
   pub records : CellsState Record
   pub window : CellsState (Option ℕ)
   pub bits : HitBits
 
--- how often a record or a place was read or written
+-- how often a record or a position was read or written
 abbrev pub accesses_of : LinkState → ℕ
 accesses_of l = l.records.accesses + l.window.accesses
 
 abbrev pub bit_at : LinkState → ℕ → Bool
 bit_at l slot = bit_in l.bits.items slot
 
-abbrev pub place_at : LinkState → ℕ → Option ℕ
-place_at l place = slice_index_or l.window.items place None
+abbrev pub young_at : LinkState → ℕ → Option ℕ
+young_at l position = slice_index_or l.window.items position None
 
 -- a slot's record and its bit
 abbrev pub slot_at : LinkState → ℕ → Record × Bool
 slot_at l slot = (record_at l.records.items slot, bit_at l slot)
 
--- nothing was done yet: no slot stands anywhere, no bit is set, and no place is taken
+-- nothing was done yet: no slot stands anywhere, no bit is set, and no position is taken
 abbrev pub fresh : ℕ → ℕ → LinkState
 fresh slots window = record { records = cells_state (replicate slots vacant) 0; window = cells_state (replicate window None) 0; bits = hit_bits (replicate slots false) 0 }
 
@@ -106,16 +106,16 @@ pub record IsSameBut (slots : List ℕ) (old new : LinkState) : Type 0 where
   pub others : (t : ℕ) → has t slots ≡ false → slot_at new t ≡ slot_at old t
   pub as_many : length new.records.items ≡ length old.records.items
 
--- no slot stands anywhere and no place is taken, and there are no more slots and places than their numbers can tell
+-- no slot stands anywhere and no position is taken, and there are no more slots and positions than their numbers can tell
 pub record IsBlank (l : LinkState) : Type 0 where
   pub nowhere : (slot : ℕ) → standing_at l.records.items slot ≡ Free
-  pub free : (place : ℕ) → place_at l place ≡ None
+  pub free : (position : ℕ) → young_at l position ≡ None
   pub countable : length l.records.items < 2 ^ 32
-  pub countable_places : length l.window.items < 2 ^ 32
+  pub countable_positions : length l.window.items < 2 ^ 32
 
 -- a slot of Small is old
 abbrev pub is_old : Mark → Bool
 is_old Free = false
-is_old (Young place) = false
+is_old (Young position) = false
 is_old Old = true
 is_old Main = false

@@ -12,7 +12,7 @@ use Rattle.clock2q_queues.specs.declared.queues.Standing.TheVariants as standing
 use Rattle.clock2q_queues.specs.declared.main_ring.MainRing.{MainRing}
 use Rattle.clock2q_queues.specs.declared.small.Small.{Small}
 
--- Small newest first and Main from the hand, each slot with its age or its bit; how many slots and window places there are, how often links were accessed, and how often the hand inspected
+-- Small newest first and Main from the hand, each slot with its age or its bit; how many slots and window positions there are, how often links were accessed, and how often the hand inspected
 pub record QueueState : Type 0 where
   pub small : List (ℕ × Age)
   pub main : List (ℕ × Bool)

@@ -4,22 +4,22 @@ use Rattle.std.specs.List.{last_or}
 use Rattle.clock2q_machine.specs.Ages as ages
 use Rattle.clock2q_machine.specs.Ages.{Age, grown, touched}
 use Rattle.clock2q_queues.specs.Rings.{has}
-use Rattle.clock2q_queues.specs.Links.{LinkState, IsQueue, slots_from, next_at, previous_at, standing_at, bit_at, place_at}
+use Rattle.clock2q_queues.specs.Links.{LinkState, IsQueue, slots_from, next_at, previous_at, standing_at, bit_at, young_at}
 use Rattle.clock2q_queues.specs.declared.links.Mark.{Mark}
 use Rattle.clock2q_queues.specs.declared.links.Mark.TheVariants.{Free, Young, Old, Main}
 use Rattle.clock2q_queues.specs.declared.small.Small.{Small}
 
--- where the cursor goes from a place: to the next one, and from the last to the first
+-- where the cursor goes from a position: to the next one, and from the last to the first
 abbrev pub next_cursor : ℕ → ℕ → ℕ
 next_cursor window cursor = if nat_lt (cursor + 1) window then cursor + 1 else 0
 
--- how many admissions the cursor made since it stood on a place: each moved it on by one
+-- how many admissions the cursor made since it stood at a position: each moved it on by one
 abbrev pub admissions_since : ℕ → ℕ → ℕ → ℕ
-admissions_since window cursor place = if nat_lt place cursor then cursor - 1 - place else cursor + window - 1 - place
+admissions_since window cursor position = if nat_lt position cursor then cursor - 1 - position else cursor + window - 1 - position
 
 -- the age of a slot that stands in Small, with its bit
 abbrev pub age_of : ℕ → ℕ → Mark → Bool → Age
-age_of window cursor (Young place) bit = ages.Young (admissions_since window cursor place)
+age_of window cursor (Young position) bit = ages.Young (admissions_since window cursor position)
 age_of window cursor Old bit = ages.Old bit
 age_of window cursor Free bit = ages.Old bit
 age_of window cursor Main bit = ages.Old bit
@@ -37,20 +37,20 @@ small_entries l small = map (λ s. (s, age_at l small.cursor s)) (small_slots l 
 
 -- a slot stands in Small
 abbrev pub IsInSmall : Mark → Type 0
-IsInSmall (Young place) = Unit {0}
+IsInSmall (Young position) = Unit {0}
 IsInSmall Old = Unit {0}
 IsInSmall Free = ⊥
 IsInSmall Main = ⊥
 
--- these slots are Small's and stand there, and the window's places hold its young ones
+-- these slots are Small's and stand there, and the window's positions hold its young ones
 pub record IsSmall (l : LinkState) (small : Small) (slots : List ℕ) : Type 0 where
   pub queue : IsQueue l.records.items small.newest small.len slots
   pub ends : small.oldest ≡ last_or None slots
   pub standing : (t : ℕ) → has t slots ≡ true → IsInSmall (standing_at l.records.items t)
-  pub placed : (t place : ℕ) → has t slots ≡ true → standing_at l.records.items t ≡ Young place → (place < length l.window.items) × (place_at l place ≡ Some t)
-  pub occupied : (place t : ℕ) → place_at l place ≡ Some t → (has t slots ≡ true) × (standing_at l.records.items t ≡ Young place)
+  pub placed : (t position : ℕ) → has t slots ≡ true → standing_at l.records.items t ≡ Young position → (position < length l.window.items) × (young_at l position ≡ Some t)
+  pub occupied : (position t : ℕ) → young_at l position ≡ Some t → (has t slots ≡ true) × (standing_at l.records.items t ≡ Young position)
   pub cursor_in : 0 < length l.window.items → small.cursor < length l.window.items
-  pub countable_places : length l.window.items < 2 ^ 32
+  pub countable_positions : length l.window.items < 2 ^ 32
 
 -- the links hold Small as they should
 abbrev pub IsSmallQueue : LinkState → Small → Type 0
@@ -73,8 +73,8 @@ is_there (Some there) slot = slot == there
 pub record GrowsOld (cursor : ℕ) (old new : LinkState) : Type 0 where
   pub nexts : (t : ℕ) → next_at new.records.items t ≡ next_at old.records.items t
   pub previouses : (t : ℕ) → previous_at new.records.items t ≡ previous_at old.records.items t
-  pub standings : (t : ℕ) → standing_at new.records.items t ≡ (if is_there (place_at old cursor) t then Old else standing_at old.records.items t)
-  pub bits : (t : ℕ) → bit_at new t ≡ (if is_there (place_at old cursor) t then false else bit_at old t)
+  pub standings : (t : ℕ) → standing_at new.records.items t ≡ (if is_there (young_at old cursor) t then Old else standing_at old.records.items t)
+  pub bits : (t : ℕ) → bit_at new t ≡ (if is_there (young_at old cursor) t then false else bit_at old t)
   pub as_many : length new.records.items ≡ length old.records.items
-  pub places : new.window.items ≡ old.window.items
+  pub positions : new.window.items ≡ old.window.items
   pub inspections : new.bits.inspections ≡ old.bits.inspections

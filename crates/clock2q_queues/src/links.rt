@@ -1,9 +1,9 @@
-//! What the queues stand on: the link records and the hit bits by slot number, and the places of
+//! What the queues stand on: the link records and the hit bits by slot number, and the positions of
 //! Small's window.
 ghost use Rattle.std.specs.Prelude.{◌≡◌, ℕ, ◌+◌, ◌^◌, ◌<◌, ◌&&◌, length, IfOk, replicate, None, false, if◌then◌else◌, ◌==◌};
 ghost use Rattle.clock2q_queues.specs.Cells.{CellsState, cells_state, accessed, written};
 ghost use Rattle.clock2q_queues.specs.Flags.{is_queued};
-ghost use Rattle.clock2q_queues.specs.Links.{LinkState, vacant, is_old, Attaches, Detaches, SetsBit, fresh, record_at, next_at, previous_at, with_next, with_previous, with_standing, standing_at, bit_at, place_at};
+ghost use Rattle.clock2q_queues.specs.Links.{LinkState, vacant, is_old, Attaches, Detaches, SetsBit, fresh, record_at, next_at, previous_at, with_next, with_previous, with_standing, standing_at, bit_at, young_at};
 
 mod cells;
 mod flags;
@@ -18,7 +18,7 @@ use std::marker::Model;
 pub(crate) enum Mark {
     /// In neither queue.
     Free,
-    /// In Small, young, with the number of its place in the window.
+    /// In Small, young, with its position in the window.
     Young(u32),
     /// In Small, old.
     Old,
@@ -117,7 +117,7 @@ impl<A: Allocator> Cells<Record, A> {
     }
 }
 
-/// The records and the hit bits of the slots that both queues share, and the window's places.
+/// The records and the hit bits of the slots that both queues share, and the window's positions.
 #[derive(Drop)]
 pub(crate) struct Links<A: Allocator = Global> {
     records: Cells<Record, A>,
@@ -137,23 +137,23 @@ impl<A: Allocator> Model for Links<A> {
 }
 
 impl<A: Allocator> Links<A> {
-    /// Returns links for `slots` slots, and a window of `window` places.
+    /// Returns links for `slots` slots, and a window of `window` positions.
     pub(crate) fn new(alloc: A, slots: u32, window: u32) -> Result<Self, AllocError>
     where
         A: Clone,
         ensures { IfOk result (λ l. l ≡ fresh slots window) }
     {
         let records = Vec::from_elem(alloc.clone()?, VACANT, slots as usize)?;
-        let places = Vec::from_elem(alloc.clone()?, None, window as usize)?;
+        let positions = Vec::from_elem(alloc.clone()?, None, window as usize)?;
         let bits = Bits::new(alloc, slots)?;
         Ok(Links {
             records: Cells::new(records),
-            window: Cells::new(places),
+            window: Cells::new(positions),
             bits,
         })
     }
 
-    /// Returns how many places the window has.
+    /// Returns how many positions the window has.
     pub(crate) fn window(&self) -> u32
         ensures { result ≡ length self.now.window.items }
     {
@@ -220,21 +220,21 @@ impl<A: Allocator> Links<A> {
         self.records.detach(slot)
     }
 
-    /// Returns the slot that stands at a place of the window.
-    pub(crate) fn place(&mut self, place: u32) -> Option<u32>
-        requires { place < length self.old.window.items }
-        ensures value { result ≡ place_at self.old place }
+    /// Returns the slot that stands at a position of the window.
+    pub(crate) fn young_at(&mut self, position: u32) -> Option<u32>
+        requires { position < length self.old.window.items }
+        ensures value { result ≡ young_at self.old position }
         ensures counted { self.new ≡ record self.old { window = accessed self.old.window } }
     {
-        self.window.read(place)
+        self.window.read(position)
     }
 
-    /// Puts a slot at a place of the window, or empties the place.
-    pub(crate) fn set_place(&mut self, place: u32, occupant: Option<u32>)
-        requires { place < length self.old.window.items }
-        ensures { self.new ≡ record self.old { window = written place occupant self.old.window } }
+    /// Puts a slot at a position of the window, or empties the position.
+    pub(crate) fn set_young_at(&mut self, position: u32, occupant: Option<u32>)
+        requires { position < length self.old.window.items }
+        ensures { self.new ≡ record self.old { window = written position occupant self.old.window } }
     {
-        self.window.write(place, occupant);
+        self.window.write(position, occupant);
     }
 
     /// Returns true if a slot stands in a queue. It reads the byte of the slot's bit, and no record.
@@ -276,13 +276,13 @@ impl<A: Allocator> Links<A> {
         }
     }
 
-    /// Resets every record, every place and every bit to what the constructor makes.
+    /// Resets every record, every position and every bit to what the constructor makes.
     pub(crate) fn reset(&mut self)
         ensures records { self.new.records.items ≡ replicate (length self.old.records.items) vacant }
-        ensures places { self.new.window.items ≡ replicate (length self.old.window.items) None }
+        ensures positions { self.new.window.items ≡ replicate (length self.old.window.items) None }
         ensures inspections { self.new.bits.inspections ≡ self.old.bits.inspections }
         ensures records_counted { self.new.records.accesses ≡ self.old.records.accesses + length self.old.records.items }
-        ensures places_counted { self.new.window.accesses ≡ self.old.window.accesses + length self.old.window.items }
+        ensures positions_counted { self.new.window.accesses ≡ self.old.window.accesses + length self.old.window.items }
     {
         self.records.fill(VACANT);
         self.window.fill(None);

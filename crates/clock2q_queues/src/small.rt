@@ -3,14 +3,14 @@ ghost use Rattle.std.specs.Prelude.{◌≡◌, ℕ, ◌+◌, ◌^◌, ◌<◌, �
 ghost use Rattle.std.specs.List.{filter, last_or};
 ghost use Rattle.clock2q_queues.specs.Cells.{Rises};
 ghost use Rattle.clock2q_queues.specs.Rings.{has};
-ghost use Rattle.clock2q_queues.specs.Ends.{end_after, place_freed};
-ghost use Rattle.clock2q_queues.specs.Links.{LinkState, IsBlank, IsSameBut, accesses_of, standing_at, place_at};
+ghost use Rattle.clock2q_queues.specs.Ends.{end_after, position_freed};
+ghost use Rattle.clock2q_queues.specs.Links.{LinkState, IsBlank, IsSameBut, accesses_of, standing_at, young_at};
 
 use crate::links::{Links, Mark, Record};
 use std::alloc::Allocator;
 
-/// A queue of slots, the newest in front. The window's places hold the slots that are young, and
-/// the cursor stands on the place of the next admission.
+/// A queue of slots, the newest in front. The window's positions hold the slots that are young, and
+/// the cursor stands at that of the next admission.
 #[derive(Drop)]
 pub(crate) struct Small {
     newest: Option<u32>,
@@ -49,21 +49,21 @@ impl Small {
         self.oldest
     }
 
-    /// Makes old, with a clear bit, the slot whose place is used next.
-    fn free_place<A: Allocator>(&self, links: &mut Links<A>)
+    /// Makes old, with a clear bit, the slot whose position is used next.
+    fn free_position<A: Allocator>(&self, links: &mut Links<A>)
         requires cursor { self.now.cursor < length links.old.window.items }
-        requires slot { IfSome (place_at links.old self.now.cursor) (λ slot. slot < length links.old.records.items) }
+        requires slot { IfSome (young_at links.old self.now.cursor) (λ slot. slot < length links.old.records.items) }
         ensures older { GrowsOld self.now.cursor links.old links.new }
         ensures accesses { Rises 1 3 (accesses_of links.old) (accesses_of links.new) }
     {
-        if let Some(slot) = links.place(self.cursor) {
+        if let Some(slot) = links.young_at(self.cursor) {
             links.set_bit(slot, false);
             links.set_standing(slot, Mark::Old);
         }
     }
 
-    /// Returns the place after the cursor's.
-    fn next_place(&self, window: u32) -> u32
+    /// Returns the position after the cursor's.
+    fn next_position(&self, window: u32) -> u32
         requires { self.now.cursor < window }
         ensures { result ≡ next_cursor window self.now.cursor }
     {
@@ -88,8 +88,8 @@ impl Small {
         ensures inspections { links.new.bits.inspections ≡ links.old.bits.inspections }
         ensures accesses { Rises 3 10 (accesses_of links.old) (accesses_of links.new) }
     {
-        self.free_place(links);
-        links.set_place(self.cursor, Some(slot));
+        self.free_position(links);
+        links.set_young_at(self.cursor, Some(slot));
         let standing = Mark::Young(self.cursor);
         match self.newest {
             None => {
@@ -104,7 +104,7 @@ impl Small {
             Some(newest) => links.attach(slot, newest, standing),
         }
         self.newest = Some(slot);
-        self.cursor = self.next_place(links.window());
+        self.cursor = self.next_position(links.window());
         self.len += 1;
     }
 
@@ -127,17 +127,17 @@ impl Small {
         // a queue with a slot has an oldest one
         let slot = self.oldest.unwrap();
         let record = links.read(slot);
-        leave_place(links, record.standing);
-        self.free_place(links);
-        links.set_place(self.cursor, Some(slot));
+        leave_position(links, record.standing);
+        self.free_position(links);
+        links.set_young_at(self.cursor, Some(slot));
         links.set_standing(slot, Mark::Young(self.cursor));
         self.newest = Some(slot);
         self.oldest = Some(record.previous);
-        self.cursor = self.next_place(links.window());
+        self.cursor = self.next_position(links.window());
         slot
     }
 
-    /// Removes a slot. If it was young, its place is free.
+    /// Removes a slot. If it was young, its position is free.
     pub(crate) fn unlink<A: Allocator>(&mut self, links: &mut Links<A>, slot: u32)
         requires whole { IsSmallQueue links.old self.old }
         requires present { has slot (small_slots links.old self.old) ≡ true }
@@ -151,13 +151,13 @@ impl Small {
         ensures accesses { Rises 6 7 (accesses_of links.old) (accesses_of links.new) }
     {
         let was = links.detach(slot);
-        leave_place(links, was.standing);
+        leave_position(links, was.standing);
         self.len -= 1;
         self.newest = end_after(self.newest, slot, self.len, was.next);
         self.oldest = end_after(self.oldest, slot, self.len, was.previous);
     }
 
-    /// Empties the queue. The links reset the records and the window's places.
+    /// Empties the queue. The links reset the records and the window's positions.
     pub(crate) fn clear(&mut self)
         ensures empty { (l : LinkState) → small_entries l self.new ≡ [] }
         ensures whole { (l : LinkState) → IsBlank l → IsSmallQueue l self.new }
@@ -166,13 +166,13 @@ impl Small {
     }
 }
 
-/// Empties the place of a slot that was young.
-fn leave_place<A: Allocator>(links: &mut Links<A>, standing: Mark)
-    requires { (place : ℕ) → standing ≡ Mark.Young place → place < length links.old.window.items }
-    ensures { links.new ≡ place_freed standing links.old }
+/// Empties the position of a slot that was young.
+fn leave_position<A: Allocator>(links: &mut Links<A>, standing: Mark)
+    requires { (position : ℕ) → standing ≡ Mark.Young position → position < length links.old.window.items }
+    ensures { links.new ≡ position_freed standing links.old }
 {
-    if let Mark::Young(place) = standing {
-        links.set_place(place, None);
+    if let Mark::Young(position) = standing {
+        links.set_young_at(position, None);
     }
 }
 

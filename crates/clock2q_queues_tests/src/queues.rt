@@ -107,7 +107,7 @@ fn empty_places(queues: &mut Queues)
 }
 
 #[test]
-fn an_emptied_place_makes_no_slot_old(rt: HostRuntime) -> Result<(), Fail> {
+fn an_emptied_position_makes_no_slot_old(rt: HostRuntime) -> Result<(), Fail> {
     let mut queues = Queues::new(rt.alloc(), 4, 2)?;
     empty_places(&mut queues);
     assert_eq!(rt; queues.main_len(), 0);

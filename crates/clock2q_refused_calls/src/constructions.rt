@@ -94,7 +94,7 @@ fn with_hasher(rt: HostRuntime) -> Result<(), Fail> {
 #[test]
 fn with_policy(rt: HostRuntime) -> Result<(), Fail> {
     let wanted = NonZeroUsize::new(20).ok_or("not zero")?;
-    // Without Small there are no window places.
+    // Without Small there are no window positions.
     for (small, requests) in [(19, 9), (1, 9), (0, 8)] {
         let alloc = Refusing::new(rt.alloc());
         let tried = try_in_turn(

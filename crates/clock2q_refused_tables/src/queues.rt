@@ -15,7 +15,7 @@ fn new_queues(alloc: &Refusing<Global>) -> Result<(usize, bool), AllocError> {
     Ok((made.small_len(), alloc.held() != 0))
 }
 
-/// The records, the window's places and the hit bits.
+/// The records, the window's positions and the hit bits.
 #[test]
 fn queues(rt: HostRuntime) -> Result<(), Fail> {
     let alloc = Refusing::new(rt.alloc());

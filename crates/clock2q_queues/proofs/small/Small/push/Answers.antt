@@ -7,18 +7,18 @@ use Rattle.clock2q_queues.proofs.Window.{Admits, Admits-attached, Admits-alone, 
 use Rattle.clock2q_queues.proofs.small.Small.push.Goals as goal
 use Rattle.clock2q_queues.proofs.small.Small.push.Goals.{in-None, in-Some}
 
-pub free_place-requires-clause-slot : goal.free_place-requires-clause-slot
-free_place-requires-clause-slot g c = cursor_fits (all_stay c.requires.whole) c.requires.whole.queue.linked.below
+pub free_position-requires-clause-slot : goal.free_position-requires-clause-slot
+free_position-requires-clause-slot g c = cursor_fits (all_stay c.requires.whole) c.requires.whole.queue.linked.below
 
 pub attach-requires-clause-before_in : goal.attach-requires-clause-before_in
 attach-requires-clause-before_in g c =
-    (first_fits c.args.slot c.args.links.now c.args.self.now c.free_place.new.links c.set_place.new.self
-    c.requires.whole c.free_place.ensures.older c.set_place.ensures c.in-Some.newest c.in-Some.is).0
+    (first_fits c.args.slot c.args.links.now c.args.self.now c.free_position.new.links c.set_young_at.new.self
+    c.requires.whole c.free_position.ensures.older c.set_young_at.ensures c.in-Some.newest c.in-Some.is).0
 
 pub attach-requires-clause-previous_in : goal.attach-requires-clause-previous_in
 attach-requires-clause-previous_in g c =
-    (first_fits c.args.slot c.args.links.now c.args.self.now c.free_place.new.links c.set_place.new.self
-    c.requires.whole c.free_place.ensures.older c.set_place.ensures c.in-Some.newest c.in-Some.is).1
+    (first_fits c.args.slot c.args.links.now c.args.self.now c.free_position.new.links c.set_young_at.new.self
+    c.requires.whole c.free_position.ensures.older c.set_young_at.ensures c.in-Some.newest c.in-Some.is).1
 
 pub overflow_add-self : goal.overflow_add-self
 overflow_add-self g c =
@@ -34,24 +34,24 @@ pub returns : goal.returns
 returns g c =
     let old = c.args.links.now in
     let small = c.args.self.now in
-    let mid = c.free_place.new.links in
-    let aged = c.set_place.new.self in
-    let small' : Small = record { newest = Some c.args.slot; oldest = c.match-self.self.oldest; len = c.match-self.self.len + 1; cursor = c.next_place-self.result } in
-    let window = window_aged c.args.slot old small mid aged c.requires.whole c.free_place.ensures.older c.set_place.ensures in
+    let mid = c.free_position.new.links in
+    let aged = c.set_young_at.new.self in
+    let small' : Small = record { newest = Some c.args.slot; oldest = c.match-self.self.oldest; len = c.match-self.self.len + 1; cursor = c.next_position-self.result } in
+    let window = window_aged c.args.slot old small mid aged c.requires.whole c.free_position.ensures.older c.set_young_at.ensures in
     let moved = (λ (n : length c.match-self.links.window.items ≡ length old.window.items) (k : c.match-self.self.cursor ≡ small.cursor).
-    c.next_place-self.ensures ∙ ap (λ z. next_cursor z c.match-self.self.cursor) (c.window.ensures ∙ n) ∙ ap (λ z. next_cursor (length old.window.items) z) k) in
+    c.next_position-self.ensures ∙ ap (λ z. next_cursor z c.match-self.self.cursor) (c.window.ensures ∙ n) ∙ ap (λ z. next_cursor (length old.window.items) z) k) in
     let pushed : Admits c.args.slot old small.cursor (small_slots old small) c.match-self.links small' =
     elim c.match-self.branch [
       | in-None w ↦
           let e = w.links-is ∙ w.write.ensures in
           let records = ap (λ (z : LinkState). z.records) e in
-          Admits-alone c.args.slot old small mid aged c.requires.whole c.free_place.ensures.older c.set_place.ensures
+          Admits-alone c.args.slot old small mid aged c.requires.whole c.free_position.ensures.older c.set_young_at.ensures
           c.match-self.links small' c.requires.slot_in c.requires.absent c.requires.window (e ∙ ap (λ r. record aged { records = r }) (sym records))
           refl (ap (λ (m : Small). m.len + 1) w.self-is) (moved (ap (λ (l : LinkState). length l.window.items) e ∙ window) (ap (λ (m : Small). m.cursor) w.self-is))
           w.in-None.is records (ap (λ (m : Small). m.oldest) w.self-is)
       | in-Some w ↦
           let rest = w.attach.ensures.rest in
-          Admits-attached c.args.slot old small mid aged c.requires.whole c.free_place.ensures.older c.set_place.ensures
+          Admits-attached c.args.slot old small mid aged c.requires.whole c.free_position.ensures.older c.set_young_at.ensures
           c.match-self.links small' c.requires.slot_in c.requires.absent c.requires.window (rw w.links-is rest)
           refl (ap (λ (m : Small). m.len + 1) w.self-is)
           (moved (ap (λ (l : LinkState). length l.window.items) w.links-is ∙ ap (λ (l : LinkState). length l.window.items) rest ∙ window) (ap (λ (m : Small). m.cursor) w.self-is))

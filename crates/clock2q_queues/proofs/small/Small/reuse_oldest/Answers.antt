@@ -14,25 +14,25 @@ pub read-record-requires : goal.read-record-requires
 read-record-requires g c =
     slot_fits c.unwrap-slot.result c.args.links.now c.args.self.now c.requires.whole (sym c.requires.whole.ends ∙ c.unwrap-slot.ensures)
 
-pub leave_place-requires : goal.leave_place-requires
-leave_place-requires g c = λ place e.
+pub leave_position-requires : goal.leave_position-requires
+leave_position-requires g c = λ position e.
     let m = c.requires.whole in
     let here = there c.unwrap-slot.result c.args.links.now c.args.self.now m (sym m.ends ∙ c.unwrap-slot.ensures) in
-    let p = (m.placed c.unwrap-slot.result place here (ap (λ (r : Record). r.standing) (sym c.read-record.ensures.value) ∙ e)).0 in
+    let p = (m.placed c.unwrap-slot.result position here (ap (λ (r : Record). r.standing) (sym c.read-record.ensures.value) ∙ e)).0 in
     rw (ap (λ (l : LinkState). l.window) c.read-record.ensures.counted) p
 
-pub free_place-requires-clause-slot : goal.free_place-requires-clause-slot
-free_place-requires-clause-slot g c =
+pub free_position-requires-clause-slot : goal.free_position-requires-clause-slot
+free_position-requires-clause-slot g c =
     let m = c.requires.whole in
-    others_fit c.unwrap-slot.result c.args.links.now c.args.self.now m (sym m.ends ∙ c.unwrap-slot.ensures) c.read-record.new.self c.leave_place.new.links
-    c.read-record.ensures.counted c.read-record.result.standing (ap (λ (r : Record). r.standing) c.read-record.ensures.value) c.leave_place.ensures
+    others_fit c.unwrap-slot.result c.args.links.now c.args.self.now m (sym m.ends ∙ c.unwrap-slot.ensures) c.read-record.new.self c.leave_position.new.links
+    c.read-record.ensures.counted c.read-record.result.standing (ap (λ (r : Record). r.standing) c.read-record.ensures.value) c.leave_position.ensures
 
 pub set_standing-requires : goal.set_standing-requires
 set_standing-requires g c =
     let m = c.requires.whole in
-    aged_fits c.unwrap-slot.result c.args.links.now c.args.self.now m (sym m.ends ∙ c.unwrap-slot.ensures) c.read-record.new.self c.leave_place.new.links
-    c.read-record.ensures.counted c.read-record.result.standing (ap (λ (r : Record). r.standing) c.read-record.ensures.value) c.leave_place.ensures
-    c.free_place.new.links c.set_place.new.self c.free_place.ensures.older c.set_place.ensures
+    aged_fits c.unwrap-slot.result c.args.links.now c.args.self.now m (sym m.ends ∙ c.unwrap-slot.ensures) c.read-record.new.self c.leave_position.new.links
+    c.read-record.ensures.counted c.read-record.result.standing (ap (λ (r : Record). r.standing) c.read-record.ensures.value) c.leave_position.ensures
+    c.free_position.new.links c.set_young_at.new.self c.free_position.ensures.older c.set_young_at.ensures
 
 pub returns : goal.returns
 returns g c =
@@ -40,14 +40,14 @@ returns g c =
     let small = c.args.self.now in
     let m = c.requires.whole in
     let slot = c.unwrap-slot.result in
-    let small' : Small = record { newest = Some slot; oldest = Some c.read-record.result.previous; len = small.len; cursor = c.next_place-self.result } in
+    let small' : Small = record { newest = Some slot; oldest = Some c.read-record.result.previous; len = small.len; cursor = c.next_position-self.result } in
     let is = sym m.ends ∙ c.unwrap-slot.ensures in
     let turned : Turns slot old small c.set_standing.new.self small' =
-    Turns-from slot old small m is c.read-record.new.self c.leave_place.new.links
-    c.read-record.ensures.counted c.read-record.result.standing (ap (λ (r : Record). r.standing) c.read-record.ensures.value) c.leave_place.ensures
-    c.free_place.new.links c.set_place.new.self c.set_standing.new.self small' c.requires.window c.free_place.ensures.older c.set_place.ensures c.set_standing.ensures
+    Turns-from slot old small m is c.read-record.new.self c.leave_position.new.links
+    c.read-record.ensures.counted c.read-record.result.standing (ap (λ (r : Record). r.standing) c.read-record.ensures.value) c.leave_position.ensures
+    c.free_position.new.links c.set_young_at.new.self c.set_standing.new.self small' c.requires.window c.free_position.ensures.older c.set_young_at.ensures c.set_standing.ensures
     refl (ap (λ (r : Record). Some r.previous) c.read-record.ensures.value) refl
-    (c.next_place-self.ensures ∙ ap (λ z. next_cursor z small.cursor) c.window.ensures) in
+    (c.next_position-self.ensures ∙ ap (λ z. next_cursor z small.cursor) c.window.ensures) in
     record {
       oldest = is;
       whole = turned.whole;

@@ -14,9 +14,9 @@ detach-was-requires g c =
     let n = neighbours_fit l.records.items (small_slots l c.args.self.now) c.args.slot c.requires.whole.queue.linked c.requires.present in
     record { slot_in = n.0; next_in = n.1; previous_in = n.2 }
 
-pub leave_place-requires : goal.leave_place-requires
-leave_place-requires g c = λ place e.
-    let p = (c.requires.whole.placed c.args.slot place c.requires.present (ap (λ (r : Record). r.standing) (sym c.detach-was.ensures.value) ∙ e)).0 in
+pub leave_position-requires : goal.leave_position-requires
+leave_position-requires g c = λ position e.
+    let p = (c.requires.whole.placed c.args.slot position c.requires.present (ap (λ (r : Record). r.standing) (sym c.detach-was.ensures.value) ∙ e)).0 in
     rw (ap (λ (l : LinkState). l.window) c.detach-was.ensures.rest) p
 
 pub returns : goal.returns
@@ -25,8 +25,8 @@ returns g c =
     let small = c.args.self.now in
     let small' : Small = record { newest = c.end_after-self.result; oldest = c.end_after-self-2.result; len = small.len - 1; cursor = small.cursor } in
     let was = c.detach-was.ensures.value in
-    let u = UnlinksSmall-from c.args.slot old small c.detach-was.new.self c.leave_place.new.links c.requires.whole c.requires.present
-    c.detach-was.ensures.detached c.detach-was.ensures.rest c.detach-was.result.standing (ap (λ (r : Record). r.standing) was) c.leave_place.ensures
+    let u = UnlinksSmall-from c.args.slot old small c.detach-was.new.self c.leave_position.new.links c.requires.whole c.requires.present
+    c.detach-was.ensures.detached c.detach-was.ensures.rest c.detach-was.result.standing (ap (λ (r : Record). r.standing) was) c.leave_position.ensures
     small' refl refl
     (c.end_after-self.ensures ∙ ap (λ (r : Record). end_after small.newest c.args.slot (small.len - 1) r.next) was)
     (c.end_after-self-2.ensures ∙ ap (λ (r : Record). end_after small.oldest c.args.slot (small.len - 1) r.previous) was) in
