@@ -38,19 +38,19 @@ module _ {K V : Type 0} (q : QueueState) (h : Remembered K) (keys : KeyPlaces K 
 module _ {K V : Type 0} {eq : K → K → Bool} {hash : K → ℕ} {shares : Shares} {q : QueueState} {h : Remembered K} {index : List (List (ℕ × ℕ))} {keys : KeyPlaces K V} {free : List ℕ} {room : ℕ}
     (laws : IsEquivalence eq) (kept : IsKept eq hash shares q h index keys free room) where
   -- one that takes the slot of Main's victim, and whatever else changes the queues spends so much
-  pub victim-spends : {q' : QueueState} {keys' : KeyPlaces K V} {small : List (ℕ × Age)} {main : List (ℕ × Bool)} {es : List (Entry K V)} {n looks : ℕ} (q1 : QueueState)
-      → looks ≡ q.inspections + inspections q.main → q1.accesses ≡ q.accesses + inspections q.main + 5
-      → q' ≡ record q { small = small; main = main; accesses = q'.accesses; inspections = looks } → Rises 0 23 q1.accesses q'.accesses
+  pub victim-spends : {q' : QueueState} {keys' : KeyPlaces K V} {small : List (ℕ × Age)} {main : List (ℕ × Bool)} {es : List (Entry K V)} {n looks : ℕ}
+      → looks ≡ q.inspections + inspections q.main → Rises (inspections q.main) (inspections q.main + 28) q.accesses q'.accesses
+      → q' ≡ record q { small = small; main = main; accesses = q'.accesses; inspections = looks }
       → {places : Places} {h' : Remembered K} → h' ≡ record h { places = places } → keys' ≡ record keys { entries = es; writes = n }
       → let m = machine_of shares q keys.entries h.entries free in Spends (machine.inspections m.main) (machine.inspections m.main + 28) 0 (counts_of q h keys) (counts_of q' h' keys')
-  victim-spends q1 looks taken queues links moved renewed =
+  victim-spends looks links queues moved renewed =
       let looked = main-inspections (key_at keys.entries) q.main (main_have laws kept) in
       let asked = ap (λ (z : KeyPlaces K V). z.questions) renewed in
       let told = ap (λ (z : Remembered K). z.questions) moved in
       let same = ap (λ (z : Remembered K). z.accesses) moved in
       record {
         inspections = omega (arith, looked, looks, ap (λ (z : QueueState). z.inspections) queues);
-        accesses = (omega (arith, looked, taken, links.0, same), omega (arith, looked, taken, links.1, same));
+        accesses = (omega (arith, looked, links.0, same), omega (arith, looked, links.1, same));
         questions = (omega (arith, asked, told), omega (arith, asked, told));
       }
 

@@ -57,13 +57,13 @@ has-behind t hand rest h = elim (or_cases (has t rest) (has t (hand ∷ [])) (sy
   | inr q ↦ or_left (eqb t hand) (has t rest) (elim (or_cases (eqb t hand) false q) [ inl z ↦ z | inr z ↦ absurd (both_ways false refl z) ])
 ]
 
--- an inspection of the hand's slot leaves what stands there
-module _ (now l : LinkState) (main : MainRing) (hand : ℕ) (rest : List ℕ) (k : Looks hand now l) (m : IsMain now (with_hand hand main) (hand ∷ rest)) where
+-- where no record changed, the hand may stay at a slot or move on from it
+module _ (now l : LinkState) (main : MainRing) (hand : ℕ) (rest : List ℕ) (items : l.records.items ≡ now.records.items) (m : IsMain now (with_hand hand main) (hand ∷ rest)) where
   linked : IsLinked l.records.items (hand ∷ rest)
-  linked = subst (λ (z : List Record). IsLinked z (hand ∷ rest)) (sym k.items) m.queue.linked
+  linked = subst (λ (z : List Record). IsLinked z (hand ∷ rest)) (sym items) m.queue.linked
 
   as_many : length l.records.items ≡ length now.records.items
-  as_many = ap (λ (z : List Record). length z) k.items
+  as_many = ap (λ (z : List Record). length z) items
 
   turned : IsMain l (with_hand (next_at now.records.items hand) main) (rest ++ hand ∷ [])
   turned = record {
@@ -73,15 +73,17 @@ module _ (now l : LinkState) (main : MainRing) (hand : ℕ) (rest : List ℕ) (k
       counted = m.queue.counted ∙ (let e = length_push rest hand in omega arith);
       countable = rw as_many m.queue.countable;
     };
-    standing = λ t h. ap (λ (z : List Record). (record_at z t).standing) k.items ∙ m.standing t (has-behind t hand rest h);
+    standing = λ t h. ap (λ (z : List Record). (record_at z t).standing) items ∙ m.standing t (has-behind t hand rest h);
   }
 
   stayed : IsMain l (with_hand hand main) (hand ∷ rest)
   stayed = record {
     queue = record { linked = linked; starts = refl; counted = m.queue.counted; countable = rw as_many m.queue.countable };
-    standing = λ t h. ap (λ (z : List Record). (record_at z t).standing) k.items ∙ m.standing t h;
+    standing = λ t h. ap (λ (z : List Record). (record_at z t).standing) items ∙ m.standing t h;
   }
 
+-- an inspection of the hand's slot leaves the other bits
+module _ (now l : LinkState) (main : MainRing) (hand : ℕ) (rest : List ℕ) (k : Looks hand now l) (m : IsMain now (with_hand hand main) (hand ∷ rest)) where
   others_kept : map {B = ℕ × Bool} (λ s. (s, bit_at l s)) rest ≡ map {B = ℕ × Bool} (λ s. (s, bit_at now s)) rest
   others_kept = map-agree {X = ℕ × Bool} (λ s. (s, bit_at l s)) (λ s. (s, bit_at now s)) rest (λ t h. ap (λ z. (t, z)) (k.bits t ∙ rw (differs t hand rest h m.queue.linked.apart.0) refl))
 
@@ -103,6 +105,45 @@ module _ (now l : LinkState) (main : MainRing) (hand : ℕ) (rest : List ℕ) (k
   same_elsewhere t h =
       ap (λ (z : List Record). (record_at z t, bit_at l t)) k.items
       ∙ ap (λ z. (record_at now.records.items t, z)) (k.bits t ∙ rw ((or_parts (eqb t hand) (has t rest) h).0) refl)
+
+first_entry : (bits : ℕ → Bool) (ss : List ℕ) (slot : ℕ) → slice_get (map {B = ℕ × Bool} (λ s. (s, bits s)) ss) 0 ≡ Some (slot, false)
+    → (rest : List ℕ) × ((ss ≡ slot ∷ rest) × (bits slot ≡ false))
+first_entry bits [] slot e = absurd (cc)
+first_entry bits (s ∷ ss) slot e =
+    let r : ◌≡◌ {A = ℕ × Bool} (s, bits s) (slot, false) = cc in
+    let p : s ≡ slot = ap (λ z. z.0) r in
+    (ss, (ap (λ z. z ∷ ss) p, subst (λ z. bits z ≡ false) p (ap (λ z. z.1) r)))
+
+-- the hand moves on from the slot where it stands, whose record is read
+module _ (now l : LinkState) (main : MainRing) (slot : ℕ) (m : IsMainRing now main) (first : slice_get (main_entries now main) 0 ≡ Some (slot, false))
+    (read : l ≡ record now { records = accessed now.records }) where
+  at_front : (rest : List ℕ) × ((main_slots now main ≡ slot ∷ rest) × (bit_at now slot ≡ false))
+  at_front = first_entry (λ s. bit_at now s) (main_slots now main) slot first
+
+  abbrev behind : List ℕ
+  behind = at_front.0
+
+  front : IsMain now (with_hand slot main) (slot ∷ behind)
+  front =
+      subst (λ z. IsMain now z (slot ∷ behind)) (ap (λ h. record { hand = h; len = main.len }) (m.queue.starts ∙ ap (λ z. slice_get z 0) at_front.1.0))
+      (subst (λ z. IsMain now main z) at_front.1.0 m)
+
+  pub front_in : slot < length now.records.items
+  front_in = front.queue.linked.below.0
+
+  passed : IsMain l (with_hand (next_at now.records.items slot) main) (behind ++ slot ∷ [])
+  passed = turned now l main slot behind (ap (λ (z : LinkState). z.records.items) read) front
+
+  pub whole_passed : IsMainRing l (with_hand (next_at now.records.items slot) main)
+  whole_passed = IsMainRing-from l (with_hand (next_at now.records.items slot) main) (behind ++ slot ∷ []) passed
+
+  pub entries_passed : main_entries l (with_hand (next_at now.records.items slot) main) ≡ drop 1 (main_entries now main) ++ (slot, false) ∷ []
+  entries_passed =
+      ap (λ z. map {B = ℕ × Bool} (λ t. (t, bit_at l t)) z) (main_slots-is l (with_hand (next_at now.records.items slot) main) (behind ++ slot ∷ []) passed)
+      ∙ map-append {B = ℕ × Bool} (λ s. (s, bit_at l s)) behind (slot ∷ [])
+      ∙ ap (λ (z : LinkState). map {B = ℕ × Bool} (λ s. (s, bit_at z s)) behind ++ (slot, bit_at z slot) ∷ []) read
+      ∙ ap (λ b. map {B = ℕ × Bool} (λ s. (s, bit_at now s)) behind ++ (slot, b) ∷ []) at_front.1.1
+      ∙ ap (λ (z : List ℕ). drop 1 (map {B = ℕ × Bool} (λ s. (s, bit_at now s)) z) ++ (slot, false) ∷ []) (sym at_front.1.0)
 
 -- the hand came as far as this slot: the choice is still to be made, by as many inspections as are left
 pub record Swept (old : LinkState) (main : MainRing) (now : LinkState) (hand : ℕ) : Type 0 where
@@ -143,7 +184,7 @@ module _ (old : LinkState) (main : MainRing) (now : LinkState) (hand : ℕ) (s :
     -- the hand passed an entry whose bit was set
     module _ (b : bit_at now hand ≡ true) where
       after : main_entries l (with_hand (next_at now.records.items hand) main) ≡ es ++ (hand, false) ∷ []
-      after = ap (λ z. map {B = ℕ × Bool} (λ t. (t, bit_at l t)) z) (main_slots-is l (with_hand (next_at now.records.items hand) main) (rest ++ hand ∷ []) (turned now l main hand rest k at_hand))
+      after = ap (λ z. map {B = ℕ × Bool} (λ t. (t, bit_at l t)) z) (main_slots-is l (with_hand (next_at now.records.items hand) main) (rest ++ hand ∷ []) (turned now l main hand rest k.items at_hand))
           ∙ entries_turned now l main hand rest k at_hand
 
       looks_left : inspections (main_entries now (with_hand hand main)) ≡ inspections (main_entries l (with_hand (next_at now.records.items hand) main)) + 1
@@ -151,17 +192,17 @@ module _ (old : LinkState) (main : MainRing) (now : LinkState) (hand : ℕ) (s :
 
       Swept-passed : l.records.accesses ≡ now.records.accesses + 1 → Swept old main l (next_at now.records.items hand)
       Swept-passed a = record {
-        whole = IsMainRing-from l (with_hand (next_at now.records.items hand) main) (rest ++ hand ∷ []) (turned now l main hand rest k at_hand);
+        whole = IsMainRing-from l (with_hand (next_at now.records.items hand) main) (rest ++ hand ∷ []) (turned now l main hand rest k.items at_hand);
         choice = ap from_victim after ∙ sym (from_victim-passed hand es) ∙ ap from_victim (sym (before true b)) ∙ s.choice;
         looks = let e = s.looks in let f = looks_left in let n = k.inspections in omega arith;
         accesses = let e = s.accesses in let n = k.inspections in omega arith;
         members = λ t h.
             let q = or_parts (eqb t hand) (has t rest) (absent_there t h) in
-            ap (λ z. has t z) (main_slots-is l (with_hand (next_at now.records.items hand) main) (rest ++ hand ∷ []) (turned now l main hand rest k at_hand))
+            ap (λ z. has t z) (main_slots-is l (with_hand (next_at now.records.items hand) main) (rest ++ hand ∷ []) (turned now l main hand rest k.items at_hand))
             ∙ has-append t rest (hand ∷ []) ∙ or_neither (has t rest) (eqb t hand || false) q.1 (or_neither (eqb t hand) false q.0 refl);
         same = record {
           others = λ t h. same_elsewhere now l main hand rest k at_hand t (absent_there t h) ∙ s.same.others t h;
-          as_many = as_many now l main hand rest k at_hand ∙ s.same.as_many;
+          as_many = as_many now l main hand rest k.items at_hand ∙ s.same.as_many;
         };
         window = k.window ∙ s.window;
       }
@@ -181,7 +222,7 @@ module _ (old : LinkState) (main : MainRing) (now : LinkState) (hand : ℕ) (s :
   chosen_entries : main_entries l (with_hand hand main) ≡ (hand, false) ∷ es old main now hand s
   chosen_entries =
       ap (λ z. map {B = ℕ × Bool} (λ t. (t, bit_at l t)) z)
-      (main_slots-is l (with_hand hand main) (hand ∷ rest old main now hand s) (stayed now l main hand (rest old main now hand s) k (at_hand old main now hand s)))
+      (main_slots-is l (with_hand hand main) (hand ∷ rest old main now hand s) (stayed now l main hand (rest old main now hand s) k.items (at_hand old main now hand s)))
       ∙ entries_stayed now l main hand (rest old main now hand s) k (at_hand old main now hand s)
 
   Selects-from : Selects old main l (with_hand hand main) hand
@@ -192,12 +233,12 @@ module _ (old : LinkState) (main : MainRing) (now : LinkState) (hand : ℕ) (s :
       let was : main_entries now (with_hand hand main) ≡ (hand, false) ∷ zs = before old main now hand s false b in
       let one : inspections (main_entries now (with_hand hand main)) ≡ 1 = ap inspections was in
       record {
-        whole = IsMainRing-from l (with_hand hand main) (hand ∷ r) (stayed now l main hand r k m);
+        whole = IsMainRing-from l (with_hand hand main) (hand ∷ r) (stayed now l main hand r k.items m);
         entries = chosen_entries ∙ sym (from_victim-chosen hand zs) ∙ ap from_victim (sym was) ∙ s.choice;
         chosen = ap (λ (z : List (ℕ × Bool)). slice_get z 0) chosen_entries;
         others = record {
           others = λ t h. same_elsewhere now l main hand r k m t (absent_there old main now hand s t h) ∙ s.same.others t h;
-          as_many = as_many now l main hand r k m ∙ s.same.as_many;
+          as_many = as_many now l main hand r k.items m ∙ s.same.as_many;
         };
         window = k.window ∙ s.window;
         looks = let e = s.looks in let n = k.inspections in omega arith;

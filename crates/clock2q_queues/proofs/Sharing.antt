@@ -1,5 +1,5 @@
 -- Small and Main share the links: what an operation of one queue is, seen over both.
-use Rattle.std.proofs.Common.{◌≡◌, ℕ, ◌+◌, ◌^◌, ◌<◌, Bool, true, false, not, eqb, Option, None, List, [], ◌∷◌, ◌++◌, length, replicate, get_or, inl, inr, refl, sym, ap, ◌∙◌, subst, arith}
+use Rattle.std.proofs.Common.{◌≡◌, ℕ, ◌+◌, ◌^◌, ◌<◌, Bool, true, false, not, eqb, Option, None, List, [], ◌∷◌, ◌++◌, length, drop, replicate, get_or, inl, inr, refl, sym, ap, ◌∙◌, subst, arith}
 use Rattle.std.specs.List.{filter}
 use Rattle.std.proofs.lemmas.Bool.{eqb-true, both_ways, cases_Bool}
 use Rattle.std.proofs.lemmas.List.{length-replicate}
@@ -207,6 +207,30 @@ module _ (l : LinkState) (small : Small) (main : MainRing) (q : AreQueues l smal
         elsewhere = λ t a b. let n = still t b in stays_free new (main_slots l main) t s n (subst (λ z. has t z ≡ false) k.slots a) n;
       } in
       main_changed new main' (from_victim (main_entries l main)) queues k.entries e s.as_many p
+
+  -- the hand moved on from the first slot of Main, which is the last then
+  pub after_pass : (new : LinkState) (main' : MainRing) (slot : ℕ) → without_slot slot (main_entries l main) ≡ drop 1 (main_entries l main) → IsMainRing new main'
+      → main_entries new main' ≡ drop 1 (main_entries l main) ++ (slot, false) ∷ [] → new ≡ record l { records = accessed l.records }
+      → Becomes new small main' (record (queues_shown l small main) { main = drop 1 (main_entries l main) ++ (slot, false) ∷ []; accesses = accesses_of new; inspections = new.bits.inspections })
+  after_pass new main' slot out w e r =
+      let s : IsSameBut (main_slots l main) l new = subst (λ z. IsSameBut (main_slots l main) l z) (sym r) (record { others = λ t h. refl; as_many = refl }) in
+      let p : new.window ≡ l.window = ap (λ (z : LinkState). z.window) r in
+      let k = KeepsSmall-from l small new (main_slots l main) q.small s (ap (λ (z : CellsState (Option ℕ)). z.items) p) (small_apart l small main q.small q.main) in
+      let others = without slot (main_slots l main) in
+      let slots : main_slots new main' ≡ others ++ slot ∷ [] =
+      sym (main_slots-of new main') ∙ ap (λ (z : List (ℕ × Bool)). slots_of z) (e ∙ ap (λ (z : List (ℕ × Bool)). z ++ (slot, false) ∷ []) (sym out))
+      ∙ slots_of-append (without_slot slot (main_entries l main)) ((slot, false) ∷ [])
+      ∙ ap (λ zs. zs ++ slot ∷ []) (slots_of-filter slot (main_entries l main) ∙ ap (λ z. without slot z) (main_slots-of l main)) in
+      let queues : AreQueues new small main' = record {
+        small = k.whole;
+        main = w;
+        elsewhere = λ t a b.
+            let b' : has t (others ++ slot ∷ []) ≡ false = subst (λ z. has t z ≡ false) slots b in
+            let c = or_parts (has t others) (has t (slot ∷ [])) (sym (has-append t others (slot ∷ [])) ∙ b') in
+            let n = not_among t slot (main_slots l main) (or_parts (eqb t slot) false c.1).0 c.0 in
+            stays_free new (main_slots l main) t s n (subst (λ z. has t z ≡ false) k.slots a) n;
+      } in
+      main_changed new main' (drop 1 (main_entries l main) ++ (slot, false) ∷ []) queues k.entries e s.as_many p
 
   -- accesses were counted
   pub after_counting : (new : LinkState) (more : ℕ) → new ≡ record l { records = cells_state l.records.items (l.records.accesses + more) }

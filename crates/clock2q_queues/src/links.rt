@@ -3,7 +3,7 @@
 ghost use Rattle.std.specs.Prelude.{◌≡◌, ℕ, ◌+◌, ◌^◌, ◌<◌, ◌&&◌, length, IfOk, replicate, None, false, if◌then◌else◌, ◌==◌};
 ghost use Rattle.clock2q_queues.specs.Cells.{CellsState, cells_state, accessed, written};
 ghost use Rattle.clock2q_queues.specs.Flags.{is_queued};
-ghost use Rattle.clock2q_queues.specs.Links.{LinkState, vacant, is_old, Attaches, Detaches, SetsBit, fresh, record_at, next_at, previous_at, with_next, with_previous, with_standing, standing_at, bit_at, young_at};
+ghost use Rattle.clock2q_queues.specs.Links.{LinkState, vacant, is_old, Attaches, Detaches, SetsBit, fresh, record_at, next_at, previous_at, with_standing, standing_at, bit_at, young_at};
 
 mod cells;
 mod flags;
@@ -56,31 +56,6 @@ pub(crate) const VACANT: Record = Record {
 };
 
 impl<A: Allocator> Cells<Record, A> {
-    fn set_next(&mut self, slot: u32, next: u32)
-        requires { slot < length self.old.items }
-        ensures { self.new ≡ accessed (with_next slot next self.old) }
-    {
-        let was = self.read(slot);
-        self.write(slot, Record { next, ..was });
-    }
-
-    fn set_previous(&mut self, slot: u32, previous: u32)
-        requires { slot < length self.old.items }
-        ensures { self.new ≡ accessed (with_previous slot previous self.old) }
-    {
-        let was = self.read(slot);
-        self.write(slot, Record { previous, ..was });
-    }
-
-    /// Writes where a slot stands.
-    fn set_standing(&mut self, slot: u32, standing: Mark)
-        requires { slot < length self.old.items }
-        ensures { self.new ≡ accessed (with_standing slot standing self.old) }
-    {
-        let was = self.read(slot);
-        self.write(slot, Record { standing, ..was });
-    }
-
     /// Puts a slot just before another.
     pub(crate) fn attach(&mut self, slot: u32, before: u32, standing: Mark)
         requires slot_in { slot < length self.old.items }

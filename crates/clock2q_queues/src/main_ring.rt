@@ -1,7 +1,7 @@
 //! Main: a ring of slots with a hand, which looks for the slot that Main gives up.
-ghost use Rattle.std.specs.Prelude.{◌≡◌, ℕ, ◌+◌, ◌^◌, ◌<◌, ◌≤◌, ◌==◌, true, false, not, [], ◌∷◌, ◌++◌, length, Some, slice_get};
+ghost use Rattle.std.specs.Prelude.{◌≡◌, ℕ, ◌+◌, ◌^◌, ◌<◌, ◌≤◌, ◌==◌, true, false, not, [], ◌∷◌, ◌++◌, length, drop, Some, slice_get};
 ghost use Rattle.std.specs.List.{filter};
-ghost use Rattle.clock2q_queues.specs.Cells.{Rises};
+ghost use Rattle.clock2q_queues.specs.Cells.{Rises, accessed};
 ghost use Rattle.clock2q_queues.specs.Rings.{has};
 ghost use Rattle.clock2q_queues.specs.Links.{LinkState, IsSameBut, standing_at};
 
@@ -104,6 +104,18 @@ impl MainRing {
         }
         self.hand = Some(hand);
         hand
+    }
+
+    /// Moves the hand on from the slot at which it stands, whose bit is clear. That slot is then the
+    /// last.
+    pub(crate) fn pass<A: Allocator>(&mut self, links: &mut Links<A>, slot: u32)
+        requires whole { IsMainRing links.old self.old }
+        requires first { slice_get (main_entries links.old self.old) 0 ≡ Some (slot, false) }
+        ensures whole { IsMainRing links.new self.new }
+        ensures entries { main_entries links.new self.new ≡ drop 1 (main_entries links.old self.old) ++ (slot, false) ∷ [] }
+        ensures links { links.new ≡ record links.old { records = accessed links.old.records } }
+    {
+        self.hand = Some(links.read(slot).next);
     }
 
     /// Empties the ring. The links reset the records.

@@ -219,6 +219,24 @@ impl<A: Allocator> Queues<A> {
         victim
     }
 
+    /// Makes the slot that the hand chooses, as in [`take_victim`](Queues::take_victim), the last of
+    /// Main, and returns it: a new key takes the slot of Main's victim.
+    ///
+    /// # Cost
+    ///
+    /// Linear in the number of slots that the hand passes.
+    pub fn reuse_victim(&mut self) -> u32
+        requires some { 0 < length self.old.main }
+        ensures victim { slice_get (from_victim self.old.main) 0 ≡ Some (result, false) }
+        ensures queues { self.new ≡ record self.old { main = drop 1 (from_victim self.old.main) ++ (result, false) ∷ []; accesses = self.new.accesses; inspections = self.new.inspections } }
+        ensures inspections { self.new.inspections ≡ self.old.inspections + inspections self.old.main }
+        ensures accesses { self.new.accesses ≡ self.old.accesses + inspections self.old.main }
+    {
+        let victim = self.main.select(&mut self.links);
+        self.main.pass(&mut self.links, victim);
+        victim
+    }
+
     /// Removes a slot from its queue. If it stands in none, nothing changes.
     pub fn leave(&mut self, slot: u32)
         requires slot_in { slot < self.old.slots }

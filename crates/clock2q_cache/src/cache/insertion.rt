@@ -149,9 +149,8 @@ impl<K: Hash + Eq + Drop, V: Drop, S: BuildHasher, A: Allocator> Cache<K, V, S, 
         ensures hasher { self.new.hasher ≡ self.old.hasher }
         ensures counts { Spends (inspections self.old.machine.main) (inspections self.old.machine.main + 28) 0 self.old.counts self.new.counts }
     {
-        let victim = self.queues.take_victim();
+        let victim = self.queues.reuse_victim();
         renew(&mut self.history, &mut self.keys, victim, hash, key, value);
-        self.queues.append(victim);
         victim
     }
 

@@ -4,6 +4,7 @@ ghost use Rattle.std.specs.Prelude.{◌≡◌, ℕ, ◌+◌, ◌<◌, false, IfO
 ghost use Rattle.clock2q_queues.specs.Cells.{cells_state, accessed, written};
 
 use crate::links::flags::Flags;
+use crate::links::{Mark, Record};
 use clock2q_count::Count;
 use std::alloc::{AllocError, Allocator, Global};
 use std::marker::Model;
@@ -79,6 +80,40 @@ impl<T: Copy, A: Allocator> Cells<T, A> {
             self.accesses.tick();
             self.items[at] = item;
         }
+    }
+}
+
+impl<A: Allocator> Cells<Record, A> {
+    ghost use Rattle.clock2q_queues.specs.Links.{with_next, with_previous, with_standing};
+
+    /// Writes the slot behind another. A change of a part counts as a read and a write of the record.
+    pub(super) fn set_next(&mut self, slot: u32, next: u32)
+        requires { slot < length self.old.items }
+        ensures { self.new ≡ accessed (with_next slot next self.old) }
+    {
+        self.accesses.tick();
+        self.accesses.tick();
+        self.items[slot as usize].next = next;
+    }
+
+    /// Writes the slot in front of another.
+    pub(super) fn set_previous(&mut self, slot: u32, previous: u32)
+        requires { slot < length self.old.items }
+        ensures { self.new ≡ accessed (with_previous slot previous self.old) }
+    {
+        self.accesses.tick();
+        self.accesses.tick();
+        self.items[slot as usize].previous = previous;
+    }
+
+    /// Writes where a slot stands.
+    pub(super) fn set_standing(&mut self, slot: u32, standing: Mark)
+        requires { slot < length self.old.items }
+        ensures { self.new ≡ accessed (with_standing slot standing self.old) }
+    {
+        self.accesses.tick();
+        self.accesses.tick();
+        self.items[slot as usize].standing = standing;
     }
 }
 

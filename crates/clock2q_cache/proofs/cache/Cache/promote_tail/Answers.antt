@@ -74,6 +74,7 @@ returns g c =
     let at = goal.at.returns g c in
     let d = done g at.After-admit (last g at.In-Some) in
     let r = c.renew.ensures in
+    let taken = c.take_victim-slot.ensures.accesses in
     let appended = c.append.ensures.accesses in
     let admitted = c.admit.ensures.accesses in
     rw (← c.self.view_is) (record {
@@ -82,7 +83,7 @@ returns g c =
       indexes = entered-renewed g.met.K.Eq.laws c.self.invariant c.self.inside.history.places c.args.key c.take_victim-slot.result (rw (← c.self.view_is) at c.requires.hash)
           (victim-in g.met.K.Eq.laws c.self.invariant c.take_victim-slot.result c.take_victim-slot.ensures.victim) r.hash (ap (λ (z : Remembered _). z.places) r.index);
       hasher = refl;
-      counts = victim-spends g.met.K.Eq.laws c.self.invariant c.take_victim-slot.new.self c.take_victim-slot.ensures.inspections c.take_victim-slot.ensures.accesses
-          (rw (c.append.ensures.queues, c.in-Some.ensures.queues, c.take_victim-slot.ensures.queues) at c.admit.ensures.queues)
-          (omega (arith, c.in-Some.ensures.accesses.0, appended.0, admitted.0), omega (arith, c.in-Some.ensures.accesses.1, appended.1, admitted.1)) r.index r.kept;
+      counts = victim-spends g.met.K.Eq.laws c.self.invariant c.take_victim-slot.ensures.inspections
+          (omega (arith, taken, c.in-Some.ensures.accesses.0, appended.0, admitted.0), omega (arith, taken, c.in-Some.ensures.accesses.1, appended.1, admitted.1))
+          (rw (c.append.ensures.queues, c.in-Some.ensures.queues, c.take_victim-slot.ensures.queues) at c.admit.ensures.queues) r.index r.kept;
     })
