@@ -1,6 +1,8 @@
 -- What holds of a cache's fields goes on to hold where a key's history is erased or a value is replaced, and holds of a new cache.
 use Rattle.std.proofs.Common.{◌≡◌, ℕ, zero, suc, ◌<◌, ◌==◌, Bool, true, false, not, ◌||◌, ◌&&◌, eqb, Option, Some, None, slice_get, List, [], ◌∷◌, ◌++◌, map, length, reverse, inl, inr, refl, sym, ap, ◌∙◌, subst, arith, eqb-true, eq-eqb, ne_eqb}
 use Rattle.clock2q_cache.proofs.Names.{nat_le, is_some, slice_set, IsEquivalence, filter, list_any, AllByRecursion, cases_Bool, both_ways, Entry, below-more, KeyPlaces, entry, written, hash_at, key_at, with_value, IsIndex, HasHash, no_entries, QueueState, slots_of, Remembered, most_beside, slice_get-written, slice_get-written_other, length-written, set-written, all-written, values-written, length-values, IsIndex-cleared, length-cleared, IsIndex-kept, Shares, Machine, stored, empty, vacancy, goes_to_main, IsWhole, machine_of, places_of, IsStored, IsSized, IsKept, some_is, whole-forgotten, all_resident, small_share, whole-changed, lasting-empty, All-from_recursion, recursion_from_All, All-filter, slice_get_some}
+use Rattle.std.proofs.lemmas.Bool.{le-leb}
+use Rattle.clock2q_queues.proofs.Booleans.{or_false}
 use Rattle.clock2q_queues.specs.History.{forgotten}
 use Rattle.clock2q_machine.specs.Machine as cache
 use Rattle.clock2q_cache.proofs.WithKeys.{small_with, main_with, keys-agree}
@@ -125,14 +127,18 @@ module _ {K V : Type 0} {eq : K → K → Bool} {hash : K → ℕ} {shares : Sha
     }
 
 module _ {K V : Type 0} where
-  -- whether a key enters Main, where Small has a share and there is a vacancy
-  pub admits : (m : Machine K V) (known : Bool) (share n : ℕ) → share ≡ m.shares.small → known ≡ false
-      → (share ≡ 0 → ⊥) → is_some (vacancy m) ≡ true → n ≡ length m.small → nat_le share n ≡ goes_to_main known m
-  admits m known share n at new some vacant is =
-      ap (λ z. nat_le z n) at ∙ ap (λ z. nat_le m.shares.small z) is
-      ∙ sym (ap (λ a. a || (m.shares.small == 0) || (is_some (vacancy m) && nat_le m.shares.small (length m.small))) new
-      ∙ ap (λ b. false || b || (is_some (vacancy m) && nat_le m.shares.small (length m.small))) (ne_eqb m.shares.small 0 (λ e. some (at ∙ e)))
-      ∙ ap (λ v. false || false || (v && nat_le m.shares.small (length m.small))) vacant)
+  -- whether a key that the history hasn't enters Main, where there is a vacancy, and where there is none
+  module _ (m : Machine K V) {known : Bool} {share : ℕ} (new : known ≡ false) (at : share ≡ m.shares.small) where
+    pub admits-vacant : {n : ℕ} → is_some (vacancy m) ≡ true → n ≡ length m.small → nat_le share n ≡ goes_to_main known m
+    admits-vacant {n} vacant is =
+        ap (λ z. nat_le z n) at ∙ ap (λ z. nat_le m.shares.small z) is
+        ∙ elim (cases_Bool (m.shares.small == 0)) [
+          | inl z ↦ let none = eqb-true m.shares.small 0 z in rw (new, none) (le-leb 0 (length m.small) (omega arith))
+          | inr s ↦ rw (new, s, vacant) refl
+        ]
+
+    pub admits-full : is_some (vacancy m) ≡ false → (share == 0) ≡ goes_to_main known m
+    admits-full full = rw (new, full, at) (sym (or_false (m.shares.small == 0)))
 
   -- a full cache has an entry in Small, where that has a share
   pub small-some : (eq : K → K → Bool) (m : Machine K V) → IsWhole eq m → is_some (vacancy m) ≡ false → goes_to_main false m ≡ false → 0 < length m.small

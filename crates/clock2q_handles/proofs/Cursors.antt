@@ -1,12 +1,12 @@
 -- Lookups that keep a slot and what they look for there: how far they have come, and what a step makes of what is left.
-use Rattle.std.proofs.Common.{◌≡◌, ◌≢◌, ℕ, suc, ◌+◌, ◌-◌, ◌%◌, ◌<◌, ◌≤◌, inl, inr, refl, ap, sym, ◌∙◌, subst, arith, ◌==◌, List, [], ◌∷◌, map, filter, length, Option, Some, None, IfSome}
-use Rattle.std.specs.Prelude.{IsSome, IsTrue, Bool, false, ◌↔◌}
-use Rattle.std.proofs.lemmas.Bool.{cases_lt}
+use Rattle.std.proofs.Common.{◌≡◌, ◌≢◌, ℕ, suc, ◌+◌, ◌-◌, ◌%◌, ◌<◌, ◌≤◌, inl, inr, refl, ap, sym, ◌∙◌, subst, arith, ◌==◌, eq-eqb, List, [], ◌∷◌, map, filter, length, Option, Some, None, IfSome}
+use Rattle.std.specs.Prelude.{IsSome, IsTrue, Bool, true, false, ◌↔◌}
+use Rattle.std.proofs.lemmas.Bool.{cases_lt, eqb-true, and_from, and_parts}
 use Rattle.std.proofs.lemmas.Nat.{mod_below}
 use Rattle.std.proofs.Math.Nat.{add-mod_right}
 use Rattle.clock2q_handles.specs.Homes.{top}
 use Rattle.clock2q_handles.specs.Layout.{Placed, slot_at, reach, met, homes_of, walk, IsTidy, AreNear}
-use Rattle.clock2q_handles.specs.Candidates.{left_from, unread_from, home_back, left_at, unread_at, IsOnWalk, IsLookup}
+use Rattle.clock2q_handles.specs.Candidates.{left_from, unread_from, home_back, left_at, unread_at, is_mark, stands_at, IsOnWalk, IsLookup}
 use Rattle.clock2q_handles.specs.Slots.{Mark, mark_of, mark_on, mark_reach}
 use Rattle.clock2q_handles.proofs.Periods.{rem-same}
 use Rattle.clock2q_handles.proofs.Reading.{slot-again}
@@ -183,6 +183,63 @@ module _ {H : Type 0} (slots : List (Option (Placed (ℕ × H)))) where
     | inl ends ↦ absurd (refused b test off ends)
     | inr on ↦ omega (arith, on, reach_of_meaning t (slot_at slots n) is)
   ]
+
+-- a walk stands in a slot where it has found what it looks for
+module _ {H : Type 0} (slots : List (Option (Placed (ℕ × H)))) where
+  pub found_stands : (s : Mark) (n : ℕ) → IsSome s → mark_of (slot_at slots n) ≡ s → stands_at slots s n ≡ true
+  found_stands None n some is = absurd (cc)
+  found_stands (Some s) n some is = ap (λ m. is_mark s m) is ∙ and_from (s.0 == s.0) (s.1 == s.1) (eq-eqb s.0 s.0 refl) (eq-eqb s.1 s.1 refl)
+
+  this_mark : (s : ℕ × ℕ) (m : Mark) → is_mark s m ≡ true → m ≡ Some s
+  this_mark s None h = absurd (cc)
+  this_mark s (Some m) h =
+      let p = and_parts (s.0 == m.0) (s.1 == m.1) h in
+      ap (λ z. Some (z, m.1)) (sym (eqb-true s.0 m.0 p.0)) ∙ ap (λ z. Some (s.0, z)) (sym (eqb-true s.1 m.1 p.1))
+
+  stands_found : (s : Mark) (n : ℕ) → stands_at slots s n ≡ true → IsSome s × (mark_of (slot_at slots n) ≡ s)
+  stands_found None n h = absurd (cc)
+  stands_found (Some s) n h = (refl, this_mark s (mark_of (slot_at slots n)) h)
+
+  -- and goes on from there
+  pub record HasPassed (s s' : Mark) (n n' : ℕ) : Type 0 where
+    pub lookup : IsLookup slots s' n'
+    pub read : unread_at slots s n ≡ unread_at slots s' n' + 1
+    pub left : (r : H) × (left_at slots s n ≡ r ∷ left_at slots s' n')
+
+  -- what is known of a slot where a walk stands
+  pub record Stands (s : Mark) (n : ℕ) : Type 0 where
+    pub some : IsSome s
+    pub within : n < length slots
+    pub far : mark_reach s ≤ reach (slot_at slots n)
+
+  pub standing : (s : Mark) (n : ℕ) → IsLookup slots s n → stands_at slots s n ≡ true → Stands s n
+  standing s n lookup h =
+      let is = stands_found s n h in
+      record {
+        some = is.0;
+        within = lookup_slot slots s n is.0 lookup;
+        far = omega (arith, reach_of_meaning s (slot_at slots n) (sym is.1));
+      }
+
+  nothing_there : (s : Mark) → IsSome s → None ≡ s → ⊥
+  nothing_there None some q = absurd (cc)
+  nothing_there (Some s) some q = absurd (cc)
+
+  pub passed_on : (s s' : Mark) (n n' : ℕ) → IsLookup slots s n → stands_at slots s n ≡ true → s' ≡ mark_on s → n' ≡ (n + 1) % length slots → HasPassed s s' n n'
+  passed_on s s' n n' lookup h is at =
+      let found = stands_found s n h in
+      let step = lookup_steps slots s s' n n' found.0 is at lookup (standing s n lookup h).far in
+      let taken : (r : H) → IfSome (slot_at slots n) (λ p. r ≡ p.entry.1) → (r : H) × (left_at slots s n ≡ r ∷ left_at slots s' n') = λ r there. (r, step.takes r found.1 there) in
+      record {
+        lookup = step.lookup;
+        read = step.read;
+        left = of (slot_at slots n) refl found.0 found.1 taken;
+      }
+    where
+      of : (o : Option (Placed (ℕ × H))) → slot_at slots n ≡ o → IsSome s → mark_of (slot_at slots n) ≡ s
+          → ((r : H) → IfSome (slot_at slots n) (λ p. r ≡ p.entry.1) → (r : H) × (left_at slots s n ≡ r ∷ left_at slots s' n')) → (r : H) × (left_at slots s n ≡ r ∷ left_at slots s' n')
+      of None e some is taken = absurd (nothing_there s some (sym (ap mark_of e) ∙ is))
+      of (Some p) e some is taken = taken p.entry.1 (rw e refl)
 
 -- a walk that looked for s in slot n has found the handle r in slot n', where it looks for s', and has read slots on from w up to w'
 pub record HasFound {H : Type 0} (slots : List (Option (Placed (ℕ × H)))) (s s' : Mark) (n n' : ℕ) (r : H) (w w' : ℕ) : Type 0 where

@@ -1,5 +1,5 @@
 -- Lookups: the candidates that a walk has passed, those that are left, and the slots that it reads.
-use Rattle.std.proofs.Common.{◌≡◌, ◌≢◌, ℕ, zero, suc, ◌+◌, ◌-◌, ◌%◌, ◌<◌, ◌≤◌, inl, inr, refl, ap, sym, ◌∙◌, subst, arith, cond, ◌==◌, eq-eqb, List, [], ◌∷◌, ◌++◌, map, length, Option, Some, None, IfSome}
+use Rattle.std.proofs.Common.{◌≡◌, ◌≢◌, ℕ, zero, suc, ◌+◌, ◌-◌, ◌%◌, ◌<◌, ◌≤◌, inl, inr, refl, ap, sym, ◌∙◌, subst, arith, cond, ◌==◌, eq-eqb, List, [], ◌∷◌, ◌++◌, map, drop, length, slice_get, Option, Some, None, IfSome}
 use Rattle.std.proofs.lemmas.Bool.{cases_lt}
 use Rattle.std.proofs.lemmas.Bool.Decides.{eqb_tells}
 use Rattle.std.proofs.lemmas.List.Elements.{filter-append}
@@ -16,6 +16,15 @@ use Rattle.clock2q_handles.proofs.FewerEntries.{walk-is}
 use Rattle.clock2q_handles.proofs.Finding.{mark_parts}
 use Rattle.clock2q_handles.proofs.Steps.{listed-home, past_home}
 use Rattle.std.specs.Iterator.{MakesProgress, item_count}
+
+-- a list begins with its first element
+pub first_is : {H : Type 0} (hs : List H) (h : H) → Some h ≡ slice_get hs 0 → hs ≡ h ∷ drop 1 hs
+first_is [] h e = absurd (cc)
+first_is (x ∷ xs) h e = let q : h ≡ x = cc in ap (λ z. z ∷ xs) (sym q)
+
+pub none_is : {H : Type 0} (hs : List H) → None ≡ slice_get hs 0 → hs ≡ []
+none_is [] e = refl
+none_is (x ∷ xs) e = absurd (cc)
 
 module _ {E : Type 0} where
   -- past its end a walk meets no entry of its home

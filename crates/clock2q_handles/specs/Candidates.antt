@@ -1,31 +1,37 @@
 -- What a lookup yields, and how many slots it reads.
-use Rattle.std.specs.Prelude.{◌≡◌, ℕ, ◌+◌, ◌-◌, ◌%◌, ◌<◌, ◌≤◌, ◌==◌, List, [], map, filter, length, Option, Some, None, IfNone}
+use Rattle.std.specs.Prelude.{◌≡◌, ℕ, ◌+◌, ◌-◌, ◌%◌, ◌<◌, ◌≤◌, ◌==◌, ◌&&◌, Bool, false, List, [], map, filter, length, Option, Some, None, IfNone}
 use Rattle.std.specs.Iterator.{YieldsFirst}
-use Rattle.std.specs.Coded.{Coded, code_by, coded×, coded_ℕ, coded_list}
+use Rattle.std.specs.Coded.{Coded, code_by, coded×, coded_ℕ, coded_bool, coded_list}
 use Rattle.clock2q_handles.specs.Homes.{top}
-use Rattle.clock2q_handles.specs.Slots.{Mark, mark_reach}
+use Rattle.clock2q_handles.specs.Slots.{Mark, mark_of, mark_reach}
 use Rattle.clock2q_handles.specs.Shifts.{HasCome}
 use Rattle.clock2q_handles.specs.Layout.{Placed, placed, slot_at, reach, met, homes_of, walk, IsTidy, AreNear}
 use mathlib.Core.Path.{refl}
 
--- what contracts see of a lookup: the handles that are left to yield, how many slots it has read, how many it has still to read, and how many handles it has read
+-- what contracts see of a lookup: the handles that are left to yield, how many slots it has read, how many it has still to read, how many handles it has read, and whether it stands at the first of those that are left
 pub record CandidatesValue (H : Type 0) : Type 0 where
   pub left : List H
   pub reads : ℕ
   pub unread : ℕ
   pub handles : ℕ
+  pub stands : Bool
 
-abbrev pub candidates_value : {H : Type 0} → List H → ℕ → ℕ → ℕ → CandidatesValue H
-candidates_value left reads unread handles = record { left = left; reads = reads; unread = unread; handles = handles }
+abbrev pub candidates_value : {H : Type 0} → List H → ℕ → ℕ → ℕ → Bool → CandidatesValue H
+candidates_value left reads unread handles stands = record { left = left; reads = reads; unread = unread; handles = handles; stands = stands }
 
 abbrev pub candidates_code : {H : Type 0} → Coded H → Coded (CandidatesValue H)
 candidates_code {H} h =
-    code_by (List H × (ℕ × (ℕ × ℕ))) (coded× (coded_list h) (coded× coded_ℕ (coded× coded_ℕ coded_ℕ))) (λ c. (c.left, (c.reads, (c.unread, c.handles))))
-    (λ p. candidates_value p.0 p.1.0 p.1.1.0 p.1.1.1) (λ _. refl)
+    code_by (List H × (ℕ × (ℕ × (ℕ × Bool)))) (coded× (coded_list h) (coded× coded_ℕ (coded× coded_ℕ (coded× coded_ℕ coded_bool)))) (λ c. (c.left, (c.reads, (c.unread, (c.handles, c.stands)))))
+    (λ p. candidates_value p.0 p.1.0 p.1.1.0 p.1.1.1.0 p.1.1.1.1) (λ _. refl)
 
 -- a call yields the first handle that is left; what is read and still to be read stays the same in sum, of slots and of handles, and at the end nothing is left to read
 abbrev pub YieldsCandidate : {H : Type 0} → CandidatesValue H → Option H → CandidatesValue H → Type 0
 YieldsCandidate s r t = YieldsFirst (λ c. c.left) s r t × (t.reads + t.unread ≡ s.reads + s.unread) × IfNone r (t.unread ≡ 0) × (t.handles + length t.left ≡ s.handles + length s.left)
+
+-- whether a mark is this one
+abbrev pub is_mark : ℕ × ℕ → Mark → Bool
+is_mark s None = false
+is_mark s (Some m) = (s.0 == m.0) && (s.1 == m.1)
 
 module _ {H : Type 0} where
   -- the entries of x's home with its fingerprint in the slots from d past it on
@@ -53,6 +59,11 @@ module _ {H : Type 0} where
   abbrev pub unread_at : List (Option (Placed (ℕ × H))) → Mark → ℕ → ℕ
   unread_at slots None n = 0
   unread_at slots (Some s) n = walk (homes_of slots) (home_back slots n s.0) - s.0
+
+  -- whether a walk that looks for the mark in slot n has found it there
+  abbrev pub stands_at : List (Option (Placed (ℕ × H))) → Mark → ℕ → Bool
+  stands_at slots None n = false
+  stands_at slots (Some s) n = is_mark s (mark_of (slot_at slots n))
 
   -- a walk for the hash has come d slots, to slot n, and looks for the fingerprint f there
   pub record IsOnWalk (slots : List (Option (Placed (ℕ × H)))) (d f n : ℕ) : Type 0 where

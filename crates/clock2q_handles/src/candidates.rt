@@ -31,28 +31,31 @@ pub struct Candidates<'a, H: Copy + Eq + Default> {
 }
 
 impl<'a, H: Copy + Eq + Default> Model for Candidates<'a, H> {
-    ghost use Rattle.clock2q_handles.specs.Candidates.{CandidatesValue, candidates_code, candidates_value, left_at, unread_at, IsLookup};
+    ghost use Rattle.clock2q_handles.specs.Candidates.{CandidatesValue, candidates_code, candidates_value, left_at, unread_at, stands_at, IsLookup};
     ghost use Rattle.clock2q_handles.specs.Slots.{sought};
 
     ghost Value = { CandidatesValue H };
 
     ghost coded = { candidates_code H.code };
 
-    ghost view = { λ c. candidates_value (left_at c.reader.slots (sought c.wanted) c.slot) c.reader.reads (unread_at c.reader.slots (sought c.wanted) c.slot) c.reader.handles };
+    ghost view = { λ c. candidates_value (left_at c.reader.slots (sought c.wanted) c.slot) c.reader.reads (unread_at c.reader.slots (sought c.wanted) c.slot) c.reader.handles (stands_at c.reader.slots (sought c.wanted) c.slot) };
 
     ghost invariant = { λ c. IsLookup c.reader.slots (sought c.wanted) c.slot };
 }
 
 impl<'a, H: Copy + Eq + Default> Candidates<'a, H> {
-    ghost use Rattle.clock2q_handles.specs.Candidates.{candidates_value, left_from, unread_from};
+    ghost use Rattle.clock2q_handles.specs.Candidates.{left_from, unread_from};
     ghost use Rattle.clock2q_handles.specs.Layout.{reach, IsTidy, AreNear};
-    ghost use Rattle.std.specs.Prelude.{ℕ, ◌≤◌};
+    ghost use Rattle.std.specs.Prelude.{ℕ, ◌≤◌, true, drop, slice_get, IfSome, IfNone};
 
     /// Returns a lookup that has read nothing yet. If there are no slots, it yields nothing.
     pub(super) fn new<A: Allocator>(slots: &'a Slots<H, A>, hash: u64) -> Candidates<'a, H>
         requires tidy { IsTidy slots.now.slots }
         requires near { AreNear slots.now.slots }
-        ensures { result ≡ candidates_value (left_from slots.now.slots hash 0) 0 (unread_from slots.now.slots hash 0) 0 }
+        ensures left { result.left ≡ left_from slots.now.slots hash 0 }
+        ensures reads { result.reads ≡ 0 }
+        ensures unread { result.unread ≡ unread_from slots.now.slots hash 0 }
+        ensures handles { result.handles ≡ 0 }
     {
         let wanted = if slots.count() == 0 {
             Wanted::nothing()
@@ -66,6 +69,48 @@ impl<'a, H: Copy + Eq + Default> Candidates<'a, H> {
             slot,
             wanted,
         }
+    }
+
+    /// Returns the next candidate and stands at it, until [`pass`](Candidates::pass) or
+    /// [`next`](Iterator::next) goes on. It is for callers that mostly accept the first candidate:
+    /// what comes after it is worked out only where it is passed.
+    #[inline(always)]
+    pub fn peek(&mut self) -> Option<H>
+        ensures candidate { result ≡ slice_get self.old.left 0 }
+        ensures left { self.new.left ≡ self.old.left }
+        ensures stands { IfSome result (λ _. self.new.stands ≡ true) }
+        ensures reads { self.old.reads ≤ self.new.reads }
+        ensures within { self.new.reads ≤ self.old.reads + self.old.unread }
+        ensures again { IfSome result (λ _. self.new.reads + self.new.unread ≡ self.old.reads + self.old.unread + 1) }
+        ensures read_all { IfNone result ((self.new.reads ≡ self.old.reads + self.old.unread) × (self.new.unread ≡ 0)) }
+        ensures handle { IfSome result (λ _. self.new.handles ≡ self.old.handles + 1) }
+        ensures no_handle { IfNone result (self.new.handles ≡ self.old.handles) }
+    {
+        if self.wanted.is_nothing() {
+            return None;
+        }
+        let Ok((slot, wanted)) = self.reader.candidate(self.slot, self.wanted) else {
+            self.wanted = Wanted::nothing();
+            return None;
+        };
+        let handle = self.reader.handle(slot);
+        self.slot = slot;
+        self.wanted = wanted;
+        Some(handle)
+    }
+
+    /// Goes on from the candidate at which [`peek`](Candidates::peek) stands. It reads no slot.
+    #[inline(always)]
+    pub fn pass(&mut self)
+        requires stands { self.old.stands ≡ true }
+        ensures some { 0 < length self.old.left }
+        ensures left { self.new.left ≡ drop 1 self.old.left }
+        ensures reads { self.new.reads ≡ self.old.reads }
+        ensures unread { self.new.unread + 1 ≡ self.old.unread }
+        ensures handles { self.new.handles ≡ self.old.handles }
+    {
+        self.slot = self.reader.after(self.slot);
+        self.wanted = self.wanted.next();
     }
 }
 
@@ -163,16 +208,10 @@ impl<'a, H: Copy + Eq + Default> Iterator for Candidates<'a, H> {
 
     #[inline(always)]
     fn next(&mut self) -> Option<H> {
-        if self.wanted.is_nothing() {
-            return None;
-        }
-        let Ok((slot, wanted)) = self.reader.candidate(self.slot, self.wanted) else {
-            self.wanted = Wanted::nothing();
+        let Some(handle) = self.peek() else {
             return None;
         };
-        let handle = self.reader.handle(slot);
-        self.slot = self.reader.after(slot);
-        self.wanted = wanted.next();
+        self.pass();
         Some(handle)
     }
 }

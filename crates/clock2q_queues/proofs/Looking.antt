@@ -1,5 +1,5 @@
 -- What a lookup among residents and remembered keys finds, and how often it asks.
-use Rattle.std.proofs.Common.{◌≡◌, ℕ, ◌+◌, ◌-◌, ◌<◌, ◌≤◌, Bool, true, false, ltb, Some, None, List, [], ◌∷◌, length, map, inl, inr, refl, sym, ap, ◌∙◌, subst, arith}
+use Rattle.std.proofs.Common.{◌≡◌, ℕ, ◌+◌, ◌-◌, ◌<◌, ◌≤◌, Bool, true, false, ltb, Some, None, slice_get, List, [], ◌∷◌, drop, length, map, inl, inr, refl, sym, ap, ◌∙◌, subst, arith}
 use Rattle.std.specs.Prelude.{IfSome}
 use Rattle.std.specs.List.{find, AllByRecursion}
 use Rattle.std.specs.Cmp.{IsEquivalence}
@@ -13,11 +13,12 @@ use Rattle.clock2q_queues.specs.Keys.{KeyPlaces, entries_of, is_key_at}
 use Rattle.clock2q_queues.specs.Indexes.{HasHash}
 use Rattle.clock2q_queues.specs.History.{Remembered, IsHistory, remembered, places_from, accesses_of, place_of, found_slot, found_place, first_known}
 use Rattle.clock2q_queues.proofs.Indexes.{candidates_there}
+use Rattle.clock2q_queues.proofs.Lookups.{Asked, begins_with}
 use Rattle.clock2q_queues.proofs.Views.{candidates-slots, candidates-places, candidates-own}
 use Rattle.clock2q_queues.proofs.Forgetting.{placed}
 
 module _ (h : ℕ) (hs : List ℕ) where
-  slots-first : h < first_remembered → slots_among (h ∷ hs) ≡ h ∷ slots_among hs
+  pub slots-first : h < first_remembered → slots_among (h ∷ hs) ≡ h ∷ slots_among hs
   slots-first l = rw (lt-ltb h first_remembered l) refl
 
   slots-passed : first_remembered ≤ h → slots_among (h ∷ hs) ≡ slots_among hs
@@ -28,6 +29,12 @@ module _ (h : ℕ) (hs : List ℕ) where
 
   places-passed : h < first_remembered → places_among (h ∷ hs) ≡ places_among hs
   places-passed l = rw (lt-ltb h first_remembered l) refl
+
+-- where the next handle is a slot, it is the next to be asked
+pub asked-slot : {test : ℕ → Bool} {n bound : ℕ} {all : List ℕ} {asked : ℕ} (handles : List ℕ) {h : ℕ} → Asked test n bound all asked (slots_among handles)
+    → Some h ≡ slice_get handles 0 → h < first_remembered → Asked test n bound all asked (h ∷ slots_among (drop 1 handles))
+asked-slot {test} {n} {bound} {all} {asked} handles {h} a is l =
+    subst (λ z. Asked test n bound all asked z) (ap slots_among (begins_with is) ∙ slots-first h (drop 1 handles) l) a
 
 -- where all are slots, none is passed
 pub slots-all : (hs : List ℕ) → AllByRecursion (λ h. h < first_remembered) hs → slots_among hs ≡ hs
@@ -83,6 +90,10 @@ module _ (a b : ℕ → Bool) where
     pub asked_most : asked_now + length (slots_among left) ≤ asked + length (slots_among all)
     pub questions_from : questions ≤ questions_now
     pub questions_most : questions_now + length (places_among left) ≤ questions + length (places_among all)
+
+  -- the next handle and the others
+  pub looks-next : {all left : List ℕ} {h n m p p' q q' : ℕ} → LooksOn all left n m p p' q q' → Some h ≡ slice_get left 0 → LooksOn all (h ∷ drop 1 left) n m p p' q q'
+  looks-next {all} {left} {h} {n} {m} {p} {p'} {q} {q'} on is = subst (λ z. LooksOn all z n m p p' q q') (begins_with is) on
 
   module _ {all left : List ℕ} {h n m p p' q q' : ℕ} (on : LooksOn all (h ∷ left) n m p p' q q') where
     module _ (l : h < first_remembered) where

@@ -1,5 +1,5 @@
 -- What a lookup of a key through an index finds, and how often it asks.
-use Rattle.std.proofs.Common.{◌≡◌, ℕ, suc, ◌+◌, ◌<◌, ◌≤◌, Bool, true, false, eqb, Option, Some, None, List, [], ◌∷◌, length, inl, inr, refl, sym, ap, ◌∙◌, subst, arith}
+use Rattle.std.proofs.Common.{◌≡◌, ℕ, suc, ◌+◌, ◌<◌, ◌≤◌, Bool, true, false, eqb, Option, Some, None, slice_get, List, [], ◌∷◌, drop, length, inl, inr, refl, sym, ap, ◌∙◌, subst, arith}
 use Rattle.std.specs.List.{find, AllByRecursion}
 use Rattle.std.specs.Cmp.{IsEquivalence}
 use Rattle.std.proofs.lemmas.Bool.{both_ways, cases_Bool, or_cases, eqb-true}
@@ -87,6 +87,15 @@ questions-most test (c ∷ cs) = elim (cases_Bool (test c)) [
 
 pub questions-within : (test : ℕ → Bool) {places all : List ℕ} (n : ℕ) → places ≡ all → length all ≡ n → questions_of test places ≤ n
 questions-within test {places} n same is = omega (arith, questions-most test places, ap (λ (z : List ℕ). length z) same, is)
+
+-- a list begins with its first element
+pub begins_with : {xs : List ℕ} {x : ℕ} → Some x ≡ slice_get xs 0 → xs ≡ x ∷ drop 1 xs
+begins_with {xs = []} e = absurd (cc)
+begins_with {xs = y ∷ xs} {x} e = let q : x ≡ y = cc in ap (λ z. z ∷ xs) (sym q)
+
+pub is_empty : {xs : List ℕ} → None ≡ slice_get xs 0 → xs ≡ []
+is_empty {xs = []} e = refl
+is_empty {xs = y ∷ xs} e = absurd (cc)
 
 -- none of the places asked so far has the key
 pub record Asked (test : ℕ → Bool) (n bound : ℕ) (all : List ℕ) (asked : ℕ) (left : List ℕ) : Type 0 where

@@ -270,7 +270,7 @@ fn look_among<K: Eq, V, A: Allocator>(
     ensures asked { Rises 0 (length (slots_among handles.entry.left)) residents.old.questions residents.new.questions }
     ensures questions { Rises 0 (length (places_among handles.entry.left)) remembered.old.questions remembered.new.questions }
 {
-    while let Some(handle) = handles.next() {
+    while let Some(handle) = handles.peek() {
         if handle < REMEMBERED {
             if residents.is(handle, key) {
                 return Found::Resident(handle);
@@ -278,6 +278,7 @@ fn look_among<K: Eq, V, A: Allocator>(
         } else if remembered.is(handle - REMEMBERED, key) {
             return Found::Remembered(handle - REMEMBERED);
         }
+        handles.pass();
     }
     Found::Absent
 }

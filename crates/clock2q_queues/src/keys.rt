@@ -91,12 +91,13 @@ impl<K: Eq, V, A: Allocator> Keys<K, V, A> {
         ensures found { result ≡ find (is_key_at K.eq key.now self.now.entries) (slots_among handles.entry.left) }
         ensures counted { asked.new.total ≡ asked.old.total + questions_of (is_key_at K.eq key.now self.now.entries) (slots_among handles.entry.left) }
     {
-        while let Some(handle) = handles.next() {
+        while let Some(handle) = handles.peek() {
             if handle < REMEMBERED {
                 if self.is_counting_in(handle, key, asked) {
                     return Some(handle);
                 }
             }
+            handles.pass();
         }
         None
     }

@@ -182,6 +182,28 @@ impl<A: Allocator> Links<A> {
         self.records.attach(slot, before, standing);
     }
 
+    /// Puts a slot just before another, with a clear bit.
+    pub(crate) fn attach_clear(&mut self, slot: u32, before: u32, standing: Mark)
+        requires slot_in { slot < length self.old.records.items }
+        requires before_in { before < length self.old.records.items }
+        requires previous_in { previous_at self.old.records.items before < length self.old.records.items }
+        ensures attached { Attaches slot before standing self.old.records self.new.records }
+        ensures cleared { SetsBit slot false self.old (record self.new { records = self.old.records }) }
+    {
+        self.bits.renew(slot, standing.is_queued());
+        self.records.attach(slot, before, standing);
+    }
+
+    /// Makes a slot old, with a clear bit.
+    pub(crate) fn make_old(&mut self, slot: u32)
+        requires { slot < length self.old.records.items }
+        ensures marked { self.new.records ≡ accessed (with_standing slot Mark.Old self.old.records) }
+        ensures cleared { SetsBit slot false self.old (record self.new { records = self.old.records }) }
+    {
+        self.bits.renew(slot, true);
+        self.records.set_standing(slot, Mark::Old);
+    }
+
     /// Removes a slot from between its neighbours, and returns the record that it had.
     pub(crate) fn detach(&mut self, slot: u32) -> Record
         requires slot_in { slot < length self.old.records.items }

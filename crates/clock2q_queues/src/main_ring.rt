@@ -57,10 +57,7 @@ impl MainRing {
                 links.write(slot, alone);
                 self.hand = Some(slot);
             }
-            Some(hand) => {
-                links.set_bit(slot, false);
-                links.attach(slot, hand, Mark::Main);
-            }
+            Some(hand) => links.attach_clear(slot, hand, Mark::Main),
         }
         self.len += 1;
     }

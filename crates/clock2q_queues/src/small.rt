@@ -57,8 +57,7 @@ impl Small {
         ensures accesses { Rises 1 3 (accesses_of links.old) (accesses_of links.new) }
     {
         if let Some(slot) = links.young_at(self.cursor) {
-            links.set_bit(slot, false);
-            links.set_standing(slot, Mark::Old);
+            links.make_old(slot);
         }
     }
 

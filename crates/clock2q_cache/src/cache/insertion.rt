@@ -115,8 +115,15 @@ impl<K: Hash + Eq + Drop, V: Drop, S: BuildHasher, A: Allocator> Cache<K, V, S, 
     fn admits_to_main(&self, known: bool) -> bool
         ensures { result ≡ goes_to_main known self.now.machine }
     {
+        if known {
+            return true;
+        }
         let share = self.shares.small();
-        known || share == 0 || (self.has_vacancy() && share <= self.queues.small_len())
+        if self.has_vacancy() {
+            share <= self.queues.small_len()
+        } else {
+            share == 0
+        }
     }
 
     /// Inserts a key into Main: in the slot of Main's victim where Main has its share, else in a

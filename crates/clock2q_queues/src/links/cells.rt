@@ -165,6 +165,15 @@ impl<A: Allocator> Bits<A> {
         self.flags[slot as usize] = flags.with_standing(standing);
     }
 
+    /// Clears the bit of a slot, and tells whether the slot stands in a queue.
+    pub(super) fn renew(&mut self, slot: u32, standing: bool)
+        requires { slot < length self.old.bits.items }
+        ensures bits { self.new.bits ≡ with_bit slot false self.old.bits }
+        ensures standing { self.new.standing ≡ slice_set self.old.standing slot standing }
+    {
+        self.flags[slot as usize] = Flags::clear().with_standing(standing);
+    }
+
     /// Returns true if a slot's bit is set.
     pub(super) fn is_set(&self, slot: u32) -> bool
         requires { slot < length self.now.bits.items }

@@ -5,12 +5,9 @@ use Rattle.clock2q_handles.proofs.Yields.{left_at_start}
 use Rattle.clock2q_handles.proofs.table.Table.get.Goals as goal
 
 pub returns-clause-candidates : goal.returns-clause-candidates
-returns-clause-candidates g c = ap (λ t. t.left) c.new.ensures ∙ left_at_start c.self.inside.slots.slots c.args.hash ∙ ap (λ t. candidates t.homes c.args.hash) c.self.view_is
-
-pub returns-clause-reads : goal.returns-clause-reads
-returns-clause-reads g c = ap (λ t. t.reads) c.new.ensures
+returns-clause-candidates g c = c.new.ensures.left ∙ left_at_start c.self.inside.slots.slots c.args.hash ∙ ap (λ t. candidates t.homes c.args.hash) c.self.view_is
 
 pub returns-clause-unread : goal.returns-clause-unread
 returns-clause-unread g c =
     let whole : walk (homes_of c.self.inside.slots.slots) c.args.hash - 0 ≡ walk (homes_of c.self.inside.slots.slots) c.args.hash = omega arith in
-    ap (λ t. t.unread) c.new.ensures ∙ whole ∙ ap (λ t. walk t.homes c.args.hash) c.self.view_is
+    c.new.ensures.unread ∙ whole ∙ ap (λ t. walk t.homes c.args.hash) c.self.view_is

@@ -1,4 +1,4 @@
-use Rattle.std.proofs.Common.{◌+◌, sym, ap, ◌∙◌, rules, arith}
+use Rattle.std.proofs.Common.{◌+◌, refl, sym, ap, ◌∙◌, rules, arith}
 use Rattle.clock2q_queues.specs.Links.{LinkState}
 use Rattle.clock2q_queues.specs.MainRing.{main_slots}
 use Rattle.clock2q_queues.specs.declared.main_ring.MainRing.{MainRing}
@@ -7,11 +7,11 @@ use Rattle.clock2q_queues.proofs.Main.{PushesMain, PushesMain-attached, PushesMa
 use Rattle.clock2q_queues.proofs.main_ring.MainRing.push.Goals as goal
 use Rattle.clock2q_queues.proofs.main_ring.MainRing.push.Goals.{in-None, in-Some}
 
-pub attach-requires-clause-before_in : goal.attach-requires-clause-before_in
-attach-requires-clause-before_in g c = (hand_fits c.args.links.now c.set_bit-in-Some.new.self c.args.self.now c.in-Some.hand c.requires.whole c.set_bit-in-Some.ensures.records c.in-Some.is).0
+pub attach_clear-requires-clause-before_in : goal.attach_clear-requires-clause-before_in
+attach_clear-requires-clause-before_in g c = (hand_fits c.args.links.now c.args.links.now c.args.self.now c.in-Some.hand c.requires.whole refl c.in-Some.is).0
 
-pub attach-requires-clause-previous_in : goal.attach-requires-clause-previous_in
-attach-requires-clause-previous_in g c = (hand_fits c.args.links.now c.set_bit-in-Some.new.self c.args.self.now c.in-Some.hand c.requires.whole c.set_bit-in-Some.ensures.records c.in-Some.is).1
+pub attach_clear-requires-clause-previous_in : goal.attach_clear-requires-clause-previous_in
+attach_clear-requires-clause-previous_in g c = (hand_fits c.args.links.now c.args.links.now c.args.self.now c.in-Some.hand c.requires.whole refl c.in-Some.is).1
 
 pub overflow_add-self : goal.overflow_add-self
 overflow_add-self g c =
@@ -38,9 +38,11 @@ returns g c =
           (e ∙ ap (λ r. record mid { records = r }) (sym records)) (ap (λ (m : MainRing). m.len + 1) w.self-is)
           w.in-None.is records (ap (λ (m : MainRing). m.hand) w.self-is)
       | in-Some w ↦
-          PushesMain-attached c.args.slot l main w.set_bit-in-Some.new.self c.match-self.links main' c.requires.whole c.requires.slot_in c.requires.absent w.set_bit-in-Some.ensures
-          (rw w.links-is w.attach.ensures.rest) (ap (λ (m : MainRing). m.len + 1) w.self-is)
-          w.in-Some.hand w.in-Some.is (rw w.links-is w.attach.ensures.attached) (ap (λ (m : MainRing). m.hand) w.self-is ∙ w.in-Some.is)
+          let new = w.attach_clear.new.self in
+          let mid : LinkState = record new { records = l.records } in
+          PushesMain-attached c.args.slot l main mid c.match-self.links main' c.requires.whole c.requires.slot_in c.requires.absent w.attach_clear.ensures.cleared
+          (w.links-is ∙ ap (λ (z : LinkState). record mid { records = z.records }) (sym w.links-is)) (ap (λ (m : MainRing). m.len + 1) w.self-is)
+          w.in-Some.hand w.in-Some.is (rw w.links-is w.attach_clear.ensures.attached) (ap (λ (m : MainRing). m.hand) w.self-is ∙ w.in-Some.is)
     ] in
     record {
       whole = pushed.whole;
