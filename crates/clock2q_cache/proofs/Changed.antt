@@ -1,5 +1,5 @@
 -- What holds of a cache's fields goes on to hold where a key's history is erased or a value is replaced, and holds of a new cache.
-use Rattle.std.proofs.Common.{◌≡◌, ℕ, zero, suc, ◌<◌, ◌==◌, Bool, true, false, not, ◌||◌, ◌&&◌, eqb, Option, Some, None, slice_get, List, [], ◌∷◌, ◌++◌, map, length, reverse, inl, inr, refl, sym, ap, ◌∙◌, subst, arith, eqb-true, eq-eqb, ne_eqb}
+use Rattle.std.proofs.Common.{◌≡◌, ℕ, zero, suc, ◌<◌, ◌==◌, Bool, true, false, not, ◌||◌, ◌&&◌, eqb, Option, Some, None, slice_get, List, [], ◌∷◌, ◌++◌, map, length, reverse, inl, inr, refl, sym, ap, ◌∙◌, subst, arith, eqb-true, eq-eqb}
 use Rattle.clock2q_cache.proofs.Names.{nat_le, is_some, slice_set, IsEquivalence, filter, list_any, AllByRecursion, cases_Bool, both_ways, Entry, below-more, KeyPlaces, entry, written, hash_at, key_at, with_value, IsIndex, HasHash, no_entries, QueueState, slots_of, Remembered, most_beside, slice_get-written, slice_get-written_other, length-written, set-written, all-written, values-written, length-values, IsIndex-cleared, length-cleared, IsIndex-kept, Shares, Machine, stored, empty, vacancy, goes_to_main, IsWhole, machine_of, places_of, IsStored, IsSized, IsKept, some_is, whole-forgotten, all_resident, small_share, whole-changed, lasting-empty, All-from_recursion, recursion_from_All, All-filter, slice_get_some}
 use Rattle.std.proofs.lemmas.Bool.{le-leb}
 use Rattle.clock2q_queues.proofs.Booleans.{or_false}

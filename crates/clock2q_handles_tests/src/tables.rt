@@ -1,5 +1,5 @@
 //! Tables whose lookups are worked out by hand.
-use crate::walks::{A, B, yields};
+use crate::walks::{A, B, yields, yields_as_peeked};
 use clock2q_handles::{Table, TableError};
 use std::process::Abort;
 use std::test::Fail;
@@ -93,6 +93,24 @@ fn wrapped_in_another_order(rt: HostRuntime) -> Result<(), Fail> {
     yields(&rt, table.get(14), &[2, 4], "home 14");
     yields(&rt, table.get(15), &[1], "home 15");
     yields(&rt, table.get(0), &[0, 3], "home 0");
+    Ok(())
+}
+
+/// What is peeked at is what is yielded next: of several, of one, of none, and without slots.
+#[test]
+fn peeked(rt: HostRuntime) -> Result<(), Fail> {
+    let unallocated: Table<usize> = Table::new(rt.alloc());
+    yields_as_peeked(&rt, unallocated.get(14), &[], "unallocated");
+    let mut table: Table<usize> = Table::with_capacity(rt.alloc(), 12)?;
+    yields_as_peeked(&rt, table.get(14), &[], "empty");
+    for (handle, hash) in [(0, 14), (1, 14), (2, 15), (3, A), (4, 14)] {
+        put(&rt, &mut table, hash, handle);
+    }
+    yields_as_peeked(&rt, table.get(14), &[0, 1, 4], "three");
+    yields_as_peeked(&rt, table.get(15), &[2], "behind them");
+    yields_as_peeked(&rt, table.get(A), &[3], "another fingerprint");
+    yields_as_peeked(&rt, table.get(B), &[3], "of the same home and fingerprint");
+    yields_as_peeked(&rt, table.get(0), &[], "none");
     Ok(())
 }
 

@@ -8,6 +8,24 @@ pub(crate) const A: u64 = 0xAB00_0000_0000_000F;
 
 pub(crate) const B: u64 = 0xAB00_0000_0000_001F;
 
+/// A walk yields just the wanted handles, and None from then on. It is peeked at twice before each
+/// call, which yields what both told.
+pub(crate) fn yields_as_peeked<H: Copy + Eq + Default + Debug>(
+    rt: &impl Abort,
+    mut walk: Candidates<'_, H>,
+    wanted: &[H],
+    shown: &str,
+) {
+    for handle in wanted {
+        assert_eq!(rt; walk.peek(), Some(*handle), "{shown}");
+        assert_eq!(rt; walk.peek(), Some(*handle), "{shown}");
+        assert_eq!(rt; walk.next(), Some(*handle), "{shown}");
+    }
+    assert_eq!(rt; walk.peek(), None, "{shown}");
+    assert_eq!(rt; walk.peek(), None, "{shown}");
+    assert_eq!(rt; walk.next(), None, "{shown}");
+}
+
 /// A walk yields just the wanted handles, and None from then on.
 pub(crate) fn yields<H: Copy + Eq + Default + Debug>(
     rt: &impl Abort,

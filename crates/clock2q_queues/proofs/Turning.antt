@@ -1,5 +1,5 @@
 -- Small, whose oldest slot became its newest.
-use Rattle.std.proofs.Common.{◌≡◌, ℕ, ◌+◌, ◌<◌, true, false, not, cond, eqb, Option, Some, None, IfSome, IsSome, rules, List, [], ◌∷◌, ◌++◌, length, inl, inr, refl, sym, ap, ◌∙◌, subst, arith}
+use Rattle.std.proofs.Common.{◌≡◌, ℕ, ◌<◌, true, false, not, cond, eqb, Option, Some, None, IfSome, IsSome, rules, List, [], ◌∷◌, ◌++◌, length, inl, inr, refl, sym, ap, ◌∙◌, subst, arith}
 use Rattle.std.specs.List.{filter, last_or}
 use Rattle.std.proofs.lemmas.Bool.{cases_Bool, eqb-true}
 use Rattle.std.proofs.lemmas.List.{append-nil, length-set}
@@ -17,7 +17,7 @@ use Rattle.clock2q_queues.proofs.Booleans.{and_false, or_parts, or_neither}
 use Rattle.clock2q_queues.proofs.Records.{changed}
 use Rattle.clock2q_queues.proofs.Rings.{IsRing-kept, AllBelow-left, eqb_self, has-append, has-without_test, without-parted}
 use Rattle.clock2q_queues.proofs.Joining.{Inserts, IsLinked-turned, in_bounds, last_before, length-without, same_record, split_last}
-use Rattle.clock2q_queues.proofs.Leaving.{others_stay, ages_kept, records_now, window_now, records-freed, bits-freed}
+use Rattle.clock2q_queues.proofs.Leaving.{others_stay, ages_kept, records_now, window_now, bits-freed}
 use Rattle.clock2q_queues.proofs.SlotLists.{tail_among}
 use Rattle.clock2q_queues.proofs.Window.{AreStaying, Admits, Admits-from, aged_slots, cursor_fits}
 

@@ -230,6 +230,15 @@ impl Lists {
         Ok(())
     }
 
+    fn append(&mut self, slot: u32) -> Result<(), Fail> {
+        self.main.push(Entry {
+            slot,
+            age: 0,
+            bit: false,
+        })?;
+        Ok(())
+    }
+
     fn leave(&mut self, slot: u32) {
         self.small.retain(|entry| entry.slot != slot);
         self.main.retain(|entry| entry.slot != slot);
@@ -297,7 +306,7 @@ fn compare(rt: &impl Abort, queues: &mut Queues, lists: &Lists)
 }
 
 /// Small's tail, if there is one, is used again for another key.
-fn reuse(rt: &impl Abort, queues: &mut Queues, lists: &mut Lists) -> Result<(), Fail>
+fn reuse_tail(rt: &impl Abort, queues: &mut Queues, lists: &mut Lists) -> Result<(), Fail>
     requires slots { queues.old.slots ≡ 12 }
     requires window { 0 < queues.old.window }
     ensures slots { queues.new.slots ≡ 12 }
@@ -312,8 +321,24 @@ fn reuse(rt: &impl Abort, queues: &mut Queues, lists: &mut Lists) -> Result<(), 
     Ok(())
 }
 
+/// Main's victim, if there is one, is used again for another key.
+fn reuse_victim(rt: &impl Abort, queues: &mut Queues, lists: &mut Lists) -> Result<(), Fail>
+    requires slots { queues.old.slots ≡ 12 }
+    requires window { 0 < queues.old.window }
+    ensures slots { queues.new.slots ≡ 12 }
+    ensures window { queues.new.window ≡ queues.old.window }
+{
+    if queues.main_len() > 0 {
+        let victim = queues.reuse_victim();
+        assert!(rt; lists.select()? == Some(victim));
+        lists.leave(victim);
+        lists.append(victim)?;
+    }
+    Ok(())
+}
+
 /// One step of a run: an admission in place of Small's tail where Small is full, a slot put into
-/// Main, a slot that leaves, a hit, Main's victim going, or Small's tail used again.
+/// Main, a slot that leaves, a hit, Main's victim going, or Small's tail or Main's victim used again.
 fn step(
     rt: &impl Abort,
     queues: &mut Queues,
@@ -326,9 +351,9 @@ fn step(
     ensures slots { queues.new.slots ≡ 12 }
     ensures window { queues.new.window ≡ queues.old.window }
 {
-    let slot = random / 8 % SLOTS;
+    let slot = random / 9 % SLOTS;
     let free = queues.standing(slot) == Standing::Free;
-    match random % 8 {
+    match random % 9 {
         0..4 if free => {
             if queues.small_len() >= small {
                 let tail = queues.take_tail().expect(rt, "Small is full");
@@ -339,11 +364,7 @@ fn step(
         }
         4 if free => {
             append(rt, queues, slot);
-            lists.main.push(Entry {
-                slot,
-                age: 0,
-                bit: false,
-            })?;
+            lists.append(slot)?;
         }
         5 => {
             queues.leave(slot);
@@ -354,7 +375,8 @@ fn step(
             assert!(rt; lists.select()? == Some(victim));
             lists.leave(victim);
         }
-        7 => reuse(rt, queues, lists)?,
+        7 => reuse_tail(rt, queues, lists)?,
+        8 => reuse_victim(rt, queues, lists)?,
         _ if !free => {
             hit(rt, queues, slot);
             lists.hit(slot);

@@ -1,5 +1,5 @@
 -- Where there is a vacancy, the length of Small tells, and else whether Small has a share.
-use Rattle.std.proofs.Common.{◌==◌, length, sym, ap, ◌∙◌}
+use Rattle.std.proofs.Common.{length, sym, ap, ◌∙◌}
 use Rattle.clock2q_cache.proofs.Names.{CacheState}
 use Rattle.clock2q_cache.proofs.CacheInvariant.{length_in_small}
 use Rattle.clock2q_cache.proofs.Changed.{admits-vacant, admits-full}

@@ -1,5 +1,5 @@
 -- The tail's key goes into the history, and its slot to the new key.
-use Rattle.std.proofs.Common.{◌≡◌, ◌∷◌, eqb, take, refl, ap, sym, ◌∙◌, arith, vec_capacity}
+use Rattle.std.proofs.Common.{◌≡◌, ◌∷◌, eqb, take, refl, ap, ◌∙◌, arith, vec_capacity}
 use Rattle.clock2q_cache.proofs.Names.{if◌then◌else◌, with_handle, removed, is_shared, slots, Remembered, Places, most_beside, slots-pushed, shared-pushed, slots-entered, into_small}
 use Rattle.clock2q_queues.specs.Index.{entered}
 use Rattle.clock2q_cache.proofs.Stored.{left-room}

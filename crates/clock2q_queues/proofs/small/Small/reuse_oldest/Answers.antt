@@ -1,5 +1,4 @@
-use Rattle.std.proofs.Common.{◌≡◌, ◌<◌, length, Some, IsSome, refl, sym, ap, ◌∙◌, subst, rules}
-use Rattle.std.specs.List.{last_or}
+use Rattle.std.proofs.Common.{Some, IsSome, refl, sym, ap, ◌∙◌, subst, rules}
 use Rattle.clock2q_queues.specs.declared.links.Record.{Record}
 use Rattle.clock2q_queues.specs.declared.small.Small.{Small}
 use Rattle.clock2q_queues.specs.Links.{LinkState}

@@ -1,4 +1,4 @@
-use Rattle.std.proofs.Common.{◌≡◌, ◌∷◌, ap, drop, length, sym, ◌∙◌, arith}
+use Rattle.std.proofs.Common.{ap, drop, sym, ◌∙◌, arith}
 use Rattle.std.specs.List.{find}
 use Rattle.clock2q_queues.specs.Index.{slots_among}
 use Rattle.clock2q_queues.specs.Keys.{is_key_at, questions_of}
