@@ -29,6 +29,15 @@ pub(crate) fn trace(alloc: Global, length: usize, spread: u64) -> Result<Vec<u64
     requires few { spread ≤ 32 }
 {
     let mut keys = Vec::with_capacity(alloc, length)?;
+    draw(&mut keys, length, spread)?;
+    Ok(keys)
+}
+
+/// Appends the keys of a trace.
+fn draw(keys: &mut Vec<u64>, length: usize, spread: u64) -> Result<(), AllocError>
+    requires some { 0 < spread }
+    requires few { spread ≤ 32 }
+{
     let mut seed: u64 = 1;
     for _ in 0..length {
         seed = seed.wrapping_add(0x9E37_79B9_7F4A_7C15);
@@ -37,7 +46,7 @@ pub(crate) fn trace(alloc: Global, length: usize, spread: u64) -> Result<Vec<u64
         let place = drawn >> 32 & range.wrapping_sub(1);
         keys.push(mix(range.wrapping_add(place)))?;
     }
-    Ok(keys)
+    Ok(())
 }
 
 /// Makes the accesses that are measured.
@@ -80,13 +89,19 @@ pub(crate) fn hints_for(
         slots: Vec::new(alloc),
         keys: Vec::new(alloc),
     };
+    append_hints(&mut hints, cache, keys)?;
+    Ok(hints)
+}
+
+/// Appends each resident key with its slot.
+fn append_hints(hints: &mut Hints, cache: &mut Measured, keys: &[u64]) -> Result<(), AllocError> {
     for key in keys {
         if let Some(slot) = cache.slot(key) {
             hints.slots.push(slot)?;
             hints.keys.push(*key)?;
         }
     }
-    Ok(hints)
+    Ok(())
 }
 
 /// Looks each key up at its slot, and returns the sum of the values, modulo 2^64.

@@ -12,8 +12,14 @@ pub(crate) fn mix(number: u64) -> u64 {
 /// Returns a hash for each handle below `count`.
 pub(crate) fn hashes(alloc: Global, count: usize) -> Result<Vec<u64>, AllocError> {
     let mut hashes = Vec::with_capacity(alloc, count)?;
+    append_hashes(&mut hashes, count)?;
+    Ok(hashes)
+}
+
+/// Appends a hash for each handle below `count`.
+fn append_hashes(hashes: &mut Vec<u64>, count: usize) -> Result<(), AllocError> {
     for handle in 0..count {
         hashes.push(mix((handle as u64).wrapping_add(1)))?;
     }
-    Ok(hashes)
+    Ok(())
 }

@@ -11,10 +11,19 @@ pub(crate) fn order(alloc: Global, count: usize) -> Result<Vec<usize>, AllocErro
     ensures below { IfOk result (λ order. All (λ at. at < count) order.items) }
 {
     let mut order = Vec::with_capacity(alloc, count)?;
+    append_order(&mut order, count)?;
+    Ok(order)
+}
+
+/// Appends the handles below `count` to none.
+fn append_order(order: &mut Vec<usize>, count: usize) -> Result<(), AllocError>
+    requires none { order.old.items ≡ [] }
+    ensures below { IfOk result (λ _. All (λ at. at < count) order.new.items) }
+{
     for i in 0..count {
         order.push(i.wrapping_mul(7919) % count)?;
     }
-    Ok(order)
+    Ok(())
 }
 
 /// Inserts each place of `hashes` under the hash there, upwards.
