@@ -79,16 +79,30 @@ fn pass_and_look(rt: &impl Abort, queues: &mut Queues<&Refusing<Global>>)
     assert_eq!(rt; queues.main_len(), 0);
 }
 
+/// Queues that were made ask for no memory, and give none back.
+fn pass_with_all_refused(
+    rt: &impl Abort,
+    alloc: &Refusing<Global>,
+    queues: &mut Queues<&Refusing<Global>>,
+)
+    requires slots { queues.old.slots ≡ 4 }
+    requires window { queues.old.window ≡ 2 }
+    requires small { queues.old.small ≡ [] }
+    requires main { queues.old.main ≡ [] }
+{
+    let asked = alloc.requests();
+    let held = alloc.held();
+    alloc.refuse_after(0);
+    pass_and_look(rt, queues);
+    assert_eq!(rt; alloc.requests(), asked);
+    assert_eq!(rt; alloc.held(), held);
+}
+
 #[test]
 fn queues_ask_for_nothing_more(rt: HostRuntime) -> Result<(), Fail> {
     let alloc = Refusing::new(rt.alloc());
     let mut queues = Queues::new(&alloc, 4, 2)?;
-    let asked = alloc.requests();
-    let held = alloc.held();
-    alloc.refuse_after(0);
-    pass_and_look(&rt, &mut queues);
-    assert_eq!(rt; alloc.requests(), asked);
-    assert_eq!(rt; alloc.held(), held);
+    pass_with_all_refused(&rt, &alloc, &mut queues);
     Ok(())
 }
 
@@ -111,16 +125,25 @@ fn clear_and_renew(rt: &impl Abort, beside: &mut Beside<&Refusing<Global>>) {
     assert_eq!(rt; beside.len(), 1);
 }
 
+/// A history that was made asks for no memory, and gives none back.
+fn renew_with_all_refused(
+    rt: &impl Abort,
+    alloc: &Refusing<Global>,
+    beside: &mut Beside<&Refusing<Global>>,
+) {
+    let asked = alloc.requests();
+    let held = alloc.held();
+    alloc.refuse_after(0);
+    fill_and_forget(rt, beside);
+    clear_and_renew(rt, beside);
+    assert_eq!(rt; alloc.requests(), asked);
+    assert_eq!(rt; alloc.held(), held);
+}
+
 #[test]
 fn histories_ask_for_nothing_more(rt: HostRuntime) -> Result<(), Fail> {
     let alloc = Refusing::new(rt.alloc());
     let mut beside = Beside::new(&alloc, 7, 3)?;
-    let asked = alloc.requests();
-    let held = alloc.held();
-    alloc.refuse_after(0);
-    fill_and_forget(&rt, &mut beside);
-    clear_and_renew(&rt, &mut beside);
-    assert_eq!(rt; alloc.requests(), asked);
-    assert_eq!(rt; alloc.held(), held);
+    renew_with_all_refused(&rt, &alloc, &mut beside);
     Ok(())
 }

@@ -1,5 +1,5 @@
 //! Tables whose requests for memory are refused.
-ghost use Rattle.std.specs.Prelude.{◌≡◌, IfOk};
+ghost use Rattle.std.specs.Prelude.{◌≡◌, Err, IfOk};
 ghost use Rattle.clock2q_handles.specs.TableStep.{IsHashOf};
 
 use clock2q_handles::{Table, TableError};
@@ -28,26 +28,42 @@ fn refuse_in(turn: u64, alloc: &Refusing<Global>) {
     }
 }
 
+/// Makes a table, and returns its capacity and whether it is empty.
+fn construct(alloc: &Refusing<Global>) -> Result<(usize, bool), TableError> {
+    let table: RefusedTable = Table::with_capacity(alloc, 13)?;
+    Ok((table.capacity(), table.is_empty()))
+}
+
+/// Makes tables with requests refused, and returns the turn in which none is.
+fn construct_in_turn(rt: &impl Abort, alloc: &Refusing<Global>) -> u64 {
+    for turn in 0..MANY {
+        refuse_in(turn, alloc);
+        let Err(error) = construct(alloc) else {
+            return turn;
+        };
+        assert_eq!(rt;
+            (error, alloc.held()),
+            (TableError::Memory, 0),
+            "turn {turn}"
+        );
+    }
+    MANY
+}
+
 #[test]
 fn constructions(rt: HostRuntime) -> Result<(), Fail> {
     let alloc = Refusing::new(rt.alloc());
-    let mut enough = 0;
-    for turn in 0..MANY {
-        refuse_in(turn, &alloc);
-        let table: Result<RefusedTable, TableError> = Table::with_capacity(&alloc, 13);
-        let Err(error) = table else {
-            enough = turn;
-            break;
-        };
-        assert_eq!(rt; error, TableError::Memory, "turn {turn}");
-        assert_eq!(rt; alloc.held(), 0, "turn {turn}");
-    }
-    assert_eq!(rt; enough, REFUSED_TURNS);
+    assert_eq!(rt; construct_in_turn(&rt, &alloc), REFUSED_TURNS);
     alloc.grant();
-    let table: RefusedTable = Table::with_capacity(&alloc, 13)?;
-    assert_eq!(rt; table.capacity(), 24);
-    assert!(rt; table.is_empty());
+    assert_eq!(rt; construct(&alloc), Ok((24, true)));
     Ok(())
+}
+
+/// Lookups and removals in tables without slots.
+fn read_no_slots(rt: &impl Abort, none: &mut RefusedTable<'_>, empty: &RefusedTable<'_>) {
+    assert_eq!(rt; (none.capacity(), empty.capacity()), (0, 0));
+    assert_eq!(rt; none.get(5).next(), None);
+    assert!(rt; !none.remove(5, 5));
 }
 
 /// A table without slots asks for nothing, and neither do lookups and removals in it.
@@ -56,9 +72,7 @@ fn no_slots(rt: HostRuntime) -> Result<(), Fail> {
     let alloc = Refusing::new(rt.alloc());
     let mut none: RefusedTable = Table::new(&alloc);
     let empty: RefusedTable = Table::with_capacity(&alloc, 0)?;
-    assert_eq!(rt; (none.capacity(), empty.capacity()), (0, 0));
-    assert_eq!(rt; none.get(5).next(), None);
-    assert!(rt; !none.remove(5, 5));
+    read_no_slots(&rt, &mut none, &empty);
     assert_eq!(rt; alloc.requests(), 0);
     Ok(())
 }
@@ -88,138 +102,227 @@ fn read_and_remove(rt: &impl Abort, table: &mut RefusedTable<'_>) -> Result<(), 
 }
 
 /// Calls that a table has room for.
+fn call_within_capacity(rt: &impl Abort, table: &mut RefusedTable<'_>) -> Result<(), TableError> {
+    insert_two(rt, table)?;
+    for wanted in [(7, true), (7, false)] {
+        assert_eq!(rt; find_any(rt, table)?, wanted);
+    }
+    read_and_remove(rt, table)
+}
+
 #[test]
 fn no_requests(rt: HostRuntime) -> Result<(), Fail> {
     let alloc = Refusing::new(rt.alloc());
     let mut table: RefusedTable = Table::with_capacity(&alloc, 12)?;
     let made = alloc.requests();
     alloc.refuse_after(0);
-    insert_two(&rt, &mut table)?;
-    for wanted in [(7, true), (7, false)] {
-        assert_eq!(rt; find_any(&rt, &mut table)?, wanted);
-    }
-    read_and_remove(&rt, &mut table)?;
+    call_within_capacity(&rt, &mut table)?;
     assert_eq!(rt; alloc.requests(), made);
+    Ok(())
+}
+
+/// Inserts as many handles as a table of 16 slots takes before it grows, each under itself.
+fn fill(rt: &impl Abort, table: &mut RefusedTable<'_>) -> Result<(), TableError>
+    requires keyed { IsHashOf (λ handle. handle) table.old.homes }
+    ensures keyed { IfOk result (λ _. IsHashOf (λ handle. handle) table.new.homes) }
+{
+    for handle in 0..12 {
+        assert!(rt; table.len() < table.capacity());
+        table.insert_within_capacity(handle, handle)?;
+    }
     Ok(())
 }
 
 /// A table with as many handles as it takes before it grows.
 fn full<'a>(rt: &impl Abort, alloc: &'a Refusing<Global>) -> Result<RefusedTable<'a>, TableError>
-    ensures { IfOk result (λ table. IsHashOf (λ handle. handle) table.homes) }
+    ensures keyed { IfOk result (λ table. IsHashOf (λ handle. handle) table.homes) }
 {
     let mut table = Table::with_capacity(alloc, 12)?;
-    for handle in 0..12 {
-        assert!(rt; table.len() < table.capacity());
-        table.insert_within_capacity(handle, handle)?;
-    }
+    fill(rt, &mut table)?;
     Ok(table)
+}
+
+/// What a refused call leaves of a full table.
+fn assert_kept(
+    rt: &impl Abort,
+    alloc: &Refusing<Global>,
+    held: u64,
+    table: &RefusedTable<'_>,
+    turn: u64,
+) {
+    assert_eq!(rt; (alloc.held(), table.len()), (held, 12), "turn {turn}");
+}
+
+/// Inserts a handle, and returns how many were asked for their hash.
+fn insert_counted(table: &mut RefusedTable<'_>) -> (Result<(), TableError>, u64)
+    requires keyed { IsHashOf (λ handle. handle) table.old.homes }
+    ensures kept { result.0 ≡ Err TableError.Memory → table.new ≡ table.old }
+{
+    let asked = Cell::new(0u64);
+    let outcome = table.insert(
+        12,
+        12,
+        |handle| -> u64
+            ensures { result ≡ handle }
+        {
+            asked.set(asked.get().saturating_add(1));
+            handle
+        },
+    );
+    (outcome, asked.get())
+}
+
+/// Inserts into a full table with requests refused, and returns the turn in which none is.
+fn insert_in_turn(rt: &impl Abort, alloc: &Refusing<Global>, table: &mut RefusedTable<'_>) -> u64
+    requires keyed { IsHashOf (λ handle. handle) table.old.homes }
+{
+    let held = alloc.held();
+    for turn in 0..MANY {
+        refuse_in(turn, alloc);
+        let (outcome, asked) = insert_counted(table);
+        if outcome.is_ok() {
+            assert_eq!(rt; asked, 12);
+            return turn;
+        }
+        assert_eq!(rt;
+            (outcome, asked),
+            (Err(TableError::Memory), 0),
+            "turn {turn}"
+        );
+        assert_kept(rt, alloc, held, table, turn);
+    }
+    MANY
+}
+
+/// A table that grew for its thirteenth handle.
+fn look_at_thirteen(rt: &impl Abort, table: &RefusedTable<'_>) {
+    assert_eq!(rt; (table.len(), table.capacity()), (13, 24));
+    assert_eq!(rt; table.get(12).next(), Some(12));
 }
 
 #[test]
 fn insertions(rt: HostRuntime) -> Result<(), Fail> {
     let alloc = Refusing::new(rt.alloc());
     let mut table = full(&rt, &alloc)?;
-    let held = alloc.held();
-    let mut enough = 0;
-    for turn in 0..MANY {
-        let asked = Cell::new(0u64);
-        refuse_in(turn, &alloc);
-        let outcome = table.insert(
-            12,
-            12,
-            |handle| -> u64
-                ensures { result ≡ handle }
-            {
-                asked.set(asked.get().saturating_add(1));
-                handle
-            },
-        );
-        if outcome.is_ok() {
-            assert_eq!(rt; asked.get(), 12);
-            enough = turn;
-            break;
-        }
-        assert_eq!(rt; outcome, Err(TableError::Memory), "turn {turn}");
-        assert_eq!(rt; alloc.held(), held, "turn {turn}");
-        assert_eq!(rt; asked.get(), 0, "turn {turn}");
-        assert_eq!(rt; table.len(), 12, "turn {turn}");
-    }
-    assert_eq!(rt; enough, REFUSED_TURNS);
-    assert_eq!(rt; table.len(), 13);
-    assert_eq!(rt; table.capacity(), 24);
-    assert_eq!(rt; table.get(12).next(), Some(12));
+    let turn = insert_in_turn(&rt, &alloc, &mut table);
+    look_at_thirteen(&rt, &table);
+    drop(table);
+    assert_eq!(rt; turn, REFUSED_TURNS);
     Ok(())
+}
+
+/// Reserves room for a handle, and returns how many were asked for their hash.
+fn reserve_counted(table: &mut RefusedTable<'_>) -> (Result<(), TableError>, u64)
+    requires keyed { IsHashOf (λ handle. handle) table.old.homes }
+    ensures kept { result.0 ≡ Err TableError.Memory → table.new ≡ table.old }
+{
+    let asked = Cell::new(0u64);
+    let outcome = table.reserve(
+        1,
+        |handle| -> u64
+            ensures { result ≡ handle }
+        {
+            asked.set(asked.get().saturating_add(1));
+            handle
+        },
+    );
+    (outcome, asked.get())
+}
+
+/// Reserves room in a full table with requests refused, and returns the turn in which none is.
+fn reserve_in_turn(rt: &impl Abort, alloc: &Refusing<Global>, table: &mut RefusedTable<'_>) -> u64
+    requires keyed { IsHashOf (λ handle. handle) table.old.homes }
+{
+    let held = alloc.held();
+    for turn in 0..MANY {
+        refuse_in(turn, alloc);
+        let (outcome, asked) = reserve_counted(table);
+        if outcome.is_ok() {
+            assert_eq!(rt; asked, 12);
+            return turn;
+        }
+        assert_eq!(rt;
+            (outcome, asked),
+            (Err(TableError::Memory), 0),
+            "turn {turn}"
+        );
+        assert_kept(rt, alloc, held, table, turn);
+    }
+    MANY
+}
+
+/// A table that grew, and has no handle more.
+fn look_at_twelve(rt: &impl Abort, table: &RefusedTable<'_>) {
+    assert_eq!(rt; (table.len(), table.capacity()), (12, 24));
 }
 
 #[test]
 fn reservations(rt: HostRuntime) -> Result<(), Fail> {
     let alloc = Refusing::new(rt.alloc());
     let mut table = full(&rt, &alloc)?;
-    let held = alloc.held();
-    let mut enough = 0;
-    for turn in 0..MANY {
-        let asked = Cell::new(0u64);
-        refuse_in(turn, &alloc);
-        let outcome = table.reserve(
-            1,
-            |handle| -> u64
-                ensures { result ≡ handle }
-            {
-                asked.set(asked.get().saturating_add(1));
-                handle
-            },
-        );
-        assert_eq!(rt; table.len(), 12, "turn {turn}");
-        if outcome.is_ok() {
-            assert_eq!(rt; asked.get(), 12);
-            enough = turn;
-            break;
-        }
-        assert_eq!(rt; outcome, Err(TableError::Memory), "turn {turn}");
-        assert_eq!(rt; alloc.held(), held, "turn {turn}");
-        assert_eq!(rt; asked.get(), 0, "turn {turn}");
-    }
-    assert_eq!(rt; enough, REFUSED_TURNS);
-    assert_eq!(rt; table.capacity(), 24);
+    let turn = reserve_in_turn(&rt, &alloc, &mut table);
+    look_at_twelve(&rt, &table);
+    drop(table);
+    assert_eq!(rt; turn, REFUSED_TURNS);
     Ok(())
+}
+
+/// What a lookup that inserts comes to, and how many handles it offered and asked for their hash.
+type Found = (Result<(u64, bool), TableError>, (u64, u64));
+
+/// Finds a handle that is there.
+fn find_counted(table: &mut RefusedTable<'_>) -> Found
+    requires keyed { IsHashOf (λ handle. handle) table.old.homes }
+    ensures kept { result.0 ≡ Err TableError.Memory → table.new ≡ table.old }
+{
+    let offered = Cell::new(0u64);
+    let asked = Cell::new(0u64);
+    let outcome = table.find_or_insert(
+        5,
+        |found: u64| {
+            offered.set(offered.get().saturating_add(1));
+            found == 5
+        },
+        20,
+        |handle| -> u64
+            ensures { result ≡ handle }
+        {
+            asked.set(asked.get().saturating_add(1));
+            handle
+        },
+    );
+    (outcome, (offered.get(), asked.get()))
+}
+
+/// Finds in a full table with requests refused, and returns the turn in which none is.
+fn find_in_turn(rt: &impl Abort, alloc: &Refusing<Global>, table: &mut RefusedTable<'_>) -> u64
+    requires keyed { IsHashOf (λ handle. handle) table.old.homes }
+{
+    let held = alloc.held();
+    for turn in 0..MANY {
+        refuse_in(turn, alloc);
+        let (outcome, calls) = find_counted(table);
+        if outcome.is_ok() {
+            assert_eq!(rt; (outcome, calls), (Ok((5, false)), (1, 12)));
+            return turn;
+        }
+        assert_eq!(rt;
+            (outcome, calls),
+            (Err(TableError::Memory), (0, 0)),
+            "turn {turn}"
+        );
+        assert_kept(rt, alloc, held, table, turn);
+    }
+    MANY
 }
 
 #[test]
 fn finds(rt: HostRuntime) -> Result<(), Fail> {
     let alloc = Refusing::new(rt.alloc());
     let mut table = full(&rt, &alloc)?;
-    let held = alloc.held();
-    let mut enough = 0;
-    for turn in 0..MANY {
-        let offered = Cell::new(0u64);
-        let asked = Cell::new(0u64);
-        refuse_in(turn, &alloc);
-        let outcome = table.find_or_insert(
-            5,
-            |found: u64| {
-                offered.set(offered.get().saturating_add(1));
-                found == 5
-            },
-            20,
-            |handle| -> u64
-                ensures { result ≡ handle }
-            {
-                asked.set(asked.get().saturating_add(1));
-                handle
-            },
-        );
-        assert_eq!(rt; table.len(), 12, "turn {turn}");
-        if outcome.is_ok() {
-            assert_eq!(rt; outcome, Ok((5, false)));
-            assert_eq!(rt; (offered.get(), asked.get()), (1, 12));
-            enough = turn;
-            break;
-        }
-        assert_eq!(rt; outcome, Err(TableError::Memory), "turn {turn}");
-        assert_eq!(rt; alloc.held(), held, "turn {turn}");
-        assert_eq!(rt; (offered.get(), asked.get()), (0, 0), "turn {turn}");
-    }
-    assert_eq!(rt; enough, REFUSED_TURNS);
-    assert_eq!(rt; table.capacity(), 24);
+    let turn = find_in_turn(&rt, &alloc, &mut table);
+    look_at_twelve(&rt, &table);
+    drop(table);
+    assert_eq!(rt; turn, REFUSED_TURNS);
     Ok(())
 }
