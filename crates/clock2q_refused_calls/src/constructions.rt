@@ -3,53 +3,61 @@
 use clock2q_cache::{Cache, CacheError, DefaultHashBuilder};
 use clock2q_memo::Memo;
 use clock2q_refusing::{Refusing, Tried, try_in_turn};
-use std::alloc::Allocator;
+use std::alloc::{Allocator, Global};
 use std::num::NonZeroUsize;
+use std::process::Abort;
 use std::test::Fail;
 
-/// Returns the capacity of a new cache.
-fn by_new<A: Allocator + Copy>(alloc: A, capacity: NonZeroUsize) -> Result<usize, CacheError> {
-    let cache: Cache<u64, u64, DefaultHashBuilder, A> = Cache::new(alloc, capacity)?;
-    Ok(cache.capacity())
+/// A call that makes a cache or a memo.
+#[derive(Clone, Copy, Debug)]
+enum Maker {
+    New,
+    WithHasher,
+    /// With a cache's Small of so many keys, and as long a window.
+    WithPolicy(usize),
+    MemoNew,
+    MemoWithHasher,
 }
 
-fn by_hasher<A: Allocator + Copy>(alloc: A, capacity: NonZeroUsize) -> Result<usize, CacheError> {
-    let hasher = DefaultHashBuilder::new();
-    let cache: Cache<u64, u64, DefaultHashBuilder, A> = Cache::with_hasher(
-        alloc, capacity, hasher,
-    )?;
-    Ok(cache.capacity())
-}
-
-fn by_policy<A: Allocator + Copy>(
-    alloc: A,
-    capacity: NonZeroUsize,
-    small: usize,
+/// Returns the capacity of a cache if it was made.
+fn capacity_of<A: Allocator>(
+    made: Result<Cache<u64, u64, DefaultHashBuilder, A>, CacheError>,
 ) -> Result<usize, CacheError> {
-    let hasher = DefaultHashBuilder::new();
-    let cache: Cache<u64, u64, DefaultHashBuilder, A> = Cache::with_policy(
-        alloc, capacity, small, small, hasher,
-    )?;
-    Ok(cache.capacity())
+    made.map(|cache| cache.capacity())
+}
+
+/// Returns the capacity of a memo if it was made.
+fn memo_capacity_of<F, A: Allocator>(
+    made: Result<Memo<u64, u64, F, DefaultHashBuilder, A>, CacheError>,
+) -> Result<usize, CacheError>
+where
+    F: Fn(&u64) -> u64 + Drop,
+{
+    made.map(|memo| memo.capacity())
 }
 
 fn square(key: &u64) -> u64 {
     key.wrapping_mul(*key)
 }
 
-/// Returns the capacity of a new memo.
-fn memo_by_new<A: Allocator + Copy>(alloc: A, capacity: NonZeroUsize) -> Result<usize, CacheError> {
-    let memo = Memo::new(alloc, capacity, square)?;
-    Ok(memo.capacity())
-}
-
-fn memo_by_hasher<A: Allocator + Copy>(
+/// Makes a cache or a memo, and returns its capacity.
+fn make<A: Allocator + Copy>(
+    maker: Maker,
     alloc: A,
     capacity: NonZeroUsize,
 ) -> Result<usize, CacheError> {
     let hasher = DefaultHashBuilder::new();
-    let memo = Memo::with_hasher(alloc, capacity, hasher, square)?;
-    Ok(memo.capacity())
+    match maker {
+        Maker::New => capacity_of(Cache::new(alloc, capacity)),
+        Maker::WithHasher => capacity_of(Cache::with_hasher(alloc, capacity, hasher)),
+        Maker::WithPolicy(small) => capacity_of(Cache::with_policy(
+            alloc, capacity, small, small, hasher,
+        )),
+        Maker::MemoNew => memo_capacity_of(Memo::new(alloc, capacity, square)),
+        Maker::MemoWithHasher => memo_capacity_of(Memo::with_hasher(
+            alloc, capacity, hasher, square,
+        )),
+    }
 }
 
 /// A cache asks for nine vectors: two of the index; the records, places and bits of Small and Main;
@@ -57,90 +65,71 @@ fn memo_by_hasher<A: Allocator + Copy>(
 /// keeps no history asks for none of the history's two, and one without Small for no places.
 const REQUESTS: [(usize, u64); 3] = [(20, 9), (2, 9), (1, 6)];
 
-#[test]
-fn new(rt: HostRuntime) -> Result<(), Fail> {
+/// Each of a call's requests is refused in turn, of which it makes so many.
+fn is_refused_each(
+    rt: &impl Abort,
+    alloc: &Refusing<Global>,
+    maker: Maker,
+    capacity: usize,
+    requests: u64,
+) {
+    let wanted = NonZeroUsize::new(capacity).unwrap_or(NonZeroUsize::MAX);
+    let tried = try_in_turn(
+        alloc,
+        capacity,
+        CacheError::Memory,
+        || make(maker, alloc, wanted),
+    );
+    assert_eq!(rt; tried, Tried::Done(requests), "{maker:?} {capacity}");
+    assert_eq!(rt; alloc.held(), 0, "{maker:?} {capacity}");
+}
+
+/// The same of a call with the usual shares, by capacity.
+fn is_refused_with_usual_shares(rt: &impl Abort, alloc: Global, maker: Maker) {
     for (capacity, requests) in REQUESTS {
-        let alloc = Refusing::new(rt.alloc());
-        let wanted = NonZeroUsize::new(capacity).ok_or("not zero")?;
-        let tried = try_in_turn(
-            &alloc,
-            capacity,
-            CacheError::Memory,
-            || by_new(&alloc, wanted),
-        );
-        assert_eq!(rt; tried, Tried::Done(requests));
-        assert_eq!(rt; alloc.held(), 0, "{capacity}");
+        is_refused_each(rt, &Refusing::new(alloc), maker, capacity, requests);
     }
-    Ok(())
 }
 
 #[test]
-fn with_hasher(rt: HostRuntime) -> Result<(), Fail> {
-    for (capacity, requests) in REQUESTS {
-        let alloc = Refusing::new(rt.alloc());
-        let wanted = NonZeroUsize::new(capacity).ok_or("not zero")?;
-        let tried = try_in_turn(
-            &alloc,
-            capacity,
-            CacheError::Memory,
-            || by_hasher(&alloc, wanted),
-        );
-        assert_eq!(rt; tried, Tried::Done(requests));
-        assert_eq!(rt; alloc.held(), 0, "{capacity}");
-    }
-    Ok(())
+fn new(rt: HostRuntime) {
+    is_refused_with_usual_shares(&rt, rt.alloc(), Maker::New);
 }
 
 #[test]
-fn with_policy(rt: HostRuntime) -> Result<(), Fail> {
-    let wanted = NonZeroUsize::new(20).ok_or("not zero")?;
+fn with_hasher(rt: HostRuntime) {
+    is_refused_with_usual_shares(&rt, rt.alloc(), Maker::WithHasher);
+}
+
+#[test]
+fn with_policy(rt: HostRuntime) {
     // Without Small there are no window positions.
     for (small, requests) in [(19, 9), (1, 9), (0, 8)] {
-        let alloc = Refusing::new(rt.alloc());
-        let tried = try_in_turn(
-            &alloc,
-            20,
-            CacheError::Memory,
-            || by_policy(&alloc, wanted, small),
-        );
-        assert_eq!(rt; tried, Tried::Done(requests), "{small}");
-        assert_eq!(rt; alloc.held(), 0, "{small}");
+        let maker = Maker::WithPolicy(small);
+        is_refused_each(&rt, &Refusing::new(rt.alloc()), maker, 20, requests);
     }
-    Ok(())
 }
 
 #[test]
-fn memo_new(rt: HostRuntime) -> Result<(), Fail> {
-    for (capacity, requests) in REQUESTS {
-        let alloc = Refusing::new(rt.alloc());
-        let wanted = NonZeroUsize::new(capacity).ok_or("not zero")?;
-        let tried = try_in_turn(
-            &alloc,
-            capacity,
-            CacheError::Memory,
-            || memo_by_new(&alloc, wanted),
-        );
-        assert_eq!(rt; tried, Tried::Done(requests));
-        assert_eq!(rt; alloc.held(), 0, "{capacity}");
-    }
-    Ok(())
+fn memo_new(rt: HostRuntime) {
+    is_refused_with_usual_shares(&rt, rt.alloc(), Maker::MemoNew);
 }
 
 #[test]
-fn memo_with_hasher(rt: HostRuntime) -> Result<(), Fail> {
-    for (capacity, requests) in REQUESTS {
-        let alloc = Refusing::new(rt.alloc());
-        let wanted = NonZeroUsize::new(capacity).ok_or("not zero")?;
-        let tried = try_in_turn(
-            &alloc,
-            capacity,
-            CacheError::Memory,
-            || memo_by_hasher(&alloc, wanted),
-        );
-        assert_eq!(rt; tried, Tried::Done(requests));
-        assert_eq!(rt; alloc.held(), 0, "{capacity}");
-    }
-    Ok(())
+fn memo_with_hasher(rt: HostRuntime) {
+    is_refused_with_usual_shares(&rt, rt.alloc(), Maker::MemoWithHasher);
+}
+
+/// A call is refused for what it wants, and not for memory.
+fn is_refused_for(
+    rt: &impl Abort,
+    alloc: &Refusing<Global>,
+    maker: Maker,
+    capacity: NonZeroUsize,
+    reason: CacheError,
+) {
+    assert_eq!(rt; make(maker, alloc, capacity), Err(reason), "{maker:?}");
+    assert_eq!(rt; alloc.requests(), 0, "{maker:?}");
 }
 
 /// A capacity or shares that can't be had are refused before any memory is asked for.
@@ -149,13 +138,15 @@ fn nothing_asked_before(rt: HostRuntime) -> Result<(), Fail> {
     let alloc = Refusing::new(rt.alloc());
     alloc.refuse_after(0);
     let too_large = NonZeroUsize::new(16_777_216).ok_or("not zero")?;
-    assert_eq!(rt; by_new(&alloc, too_large), Err(CacheError::Capacity));
-    assert_eq!(rt; memo_by_new(&alloc, too_large), Err(CacheError::Capacity));
-    assert_eq!(rt; by_policy(&alloc, too_large, 1), Err(CacheError::Capacity));
-    assert_eq!(rt;
-        by_policy(&alloc, NonZeroUsize::MIN, 1),
-        Err(CacheError::Policy)
+    for maker in [Maker::New, Maker::MemoNew, Maker::WithPolicy(1)] {
+        is_refused_for(&rt, &alloc, maker, too_large, CacheError::Capacity);
+    }
+    is_refused_for(
+        &rt,
+        &alloc,
+        Maker::WithPolicy(1),
+        NonZeroUsize::MIN,
+        CacheError::Policy,
     );
-    assert_eq!(rt; alloc.requests(), 0);
     Ok(())
 }

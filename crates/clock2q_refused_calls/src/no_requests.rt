@@ -1,4 +1,5 @@
 //! Calls of caches and memos that were made: they ask for no memory.
+ghost use Rattle.std.specs.Prelude.{ℕ};
 ghost use Rattle.clock2q_memo.specs.Memo.{IsCallableAt};
 
 use clock2q_cache::{Cache, CacheError, DefaultHashBuilder};
@@ -6,6 +7,7 @@ use clock2q_memo::Memo;
 use clock2q_refusing::Refusing;
 use std::alloc::{Allocator, Global};
 use std::num::NonZeroUsize;
+use std::process::Abort;
 use std::test::Fail;
 
 fn new_cache<A: Allocator + Copy>(
@@ -14,6 +16,12 @@ fn new_cache<A: Allocator + Copy>(
 ) -> Result<Cache<u64, u64, DefaultHashBuilder, A>, CacheError> {
     let capacity = NonZeroUsize::new(capacity).unwrap_or(NonZeroUsize::MAX);
     Cache::new(alloc, capacity)
+}
+
+/// Refuses every later request, and returns how many were made.
+fn refuse_all(alloc: &Refusing<Global>) -> u64 {
+    alloc.refuse_after(0);
+    alloc.requests()
 }
 
 /// Puts so many new keys, each with itself as its value. Returns true if each is resident then.
@@ -79,18 +87,65 @@ fn empty<A: Allocator>(cache: &mut Cache<u64, u64, DefaultHashBuilder, A>) -> (u
     (kept, cache.len())
 }
 
+/// Puts more keys than there are slots, and evicted ones again.
+fn puts_keys<A: Allocator>(
+    rt: &impl Abort,
+    alloc: &Refusing<Global>,
+    cache: &mut Cache<u64, u64, DefaultHashBuilder, A>,
+) {
+    let asked = refuse_all(alloc);
+    assert!(rt; put_all(cache, 31));
+    assert_eq!(rt; put_evicted(cache), (None, true, None));
+    assert!(rt; cache.contains(&29));
+    assert_eq!(rt; cache.len(), 20);
+    assert_eq!(rt; alloc.requests(), asked);
+}
+
 #[test]
 fn puts(rt: HostRuntime) -> Result<(), Fail> {
     let alloc = Refusing::new(rt.alloc());
     let mut cache = new_cache(&alloc, 20)?;
-    let asked = alloc.requests();
-    alloc.refuse_after(0);
-    assert!(rt; put_all(&mut cache, 31));
-    assert_eq!(rt; put_evicted(&mut cache), (None, true, None));
-    assert!(rt; cache.contains(&29));
-    assert_eq!(rt; cache.len(), 20);
-    assert_eq!(rt; alloc.requests(), asked);
+    puts_keys(&rt, &alloc, &mut cache);
     Ok(())
+}
+
+/// Each key gets the slot and the value that stand beside it.
+fn lends<A: Allocator>(
+    rt: &impl Abort,
+    cache: &mut Cache<u64, u64, DefaultHashBuilder, A>,
+    wanted: &[(u64, (usize, u64))],
+) {
+    for (key, lent) in wanted {
+        assert_eq!(rt; lend(cache, *key), *lent);
+    }
+}
+
+/// Takes two of three slots out, and makes the others.
+fn frees_slots<A: Allocator>(rt: &impl Abort, cache: &mut Cache<u64, u64, DefaultHashBuilder, A>) {
+    assert_eq!(rt; remove_two(cache), (true, true));
+    assert_eq!(rt; fill(cache), 3);
+}
+
+fn lends_slots_again<A: Allocator>(
+    rt: &impl Abort,
+    alloc: &Refusing<Global>,
+    cache: &mut Cache<u64, u64, DefaultHashBuilder, A>,
+) {
+    let asked = refuse_all(alloc);
+    lends(rt, cache, &[(0, (0, 10)), (1, (1, 11)), (2, (2, 12))]);
+    frees_slots(rt, cache);
+    lends(
+        rt,
+        cache,
+        &[
+            (3, (3, 1)),
+            (4, (4, 2)),
+            (5, (5, 3)),
+            (2, (2, 12)),
+            (1, (1, 11)),
+        ],
+    );
+    assert_eq!(rt; alloc.requests(), asked);
 }
 
 /// The slots that are taken out and made beforehand are used again, each with its value.
@@ -98,49 +153,46 @@ fn puts(rt: HostRuntime) -> Result<(), Fail> {
 fn slots(rt: HostRuntime) -> Result<(), Fail> {
     let alloc = Refusing::new(rt.alloc());
     let mut cache = new_cache(&alloc, 6)?;
-    let asked = alloc.requests();
-    alloc.refuse_after(0);
-    for (key, wanted) in [(0, (0, 10)), (1, (1, 11)), (2, (2, 12))] {
-        assert_eq!(rt; lend(&mut cache, key), wanted);
-    }
-    assert_eq!(rt; remove_two(&mut cache), (true, true));
-    assert_eq!(rt; fill(&mut cache), 3);
-    for (key, wanted) in [
-        (3, (3, 1)),
-        (4, (4, 2)),
-        (5, (5, 3)),
-        (2, (2, 12)),
-        (1, (1, 11)),
-    ] {
-        assert_eq!(rt; lend(&mut cache, key), wanted);
-    }
-    assert_eq!(rt; alloc.requests(), asked);
+    lends_slots_again(&rt, &alloc, &mut cache);
     Ok(())
+}
+
+/// Makes each call that is handed a closure.
+fn calls_closures<A: Allocator>(
+    rt: &impl Abort,
+    alloc: &Refusing<Global>,
+    cache: &mut Cache<u64, u64, DefaultHashBuilder, A>,
+) {
+    let asked = refuse_all(alloc);
+    assert_eq!(rt; fetch_two(cache), Ok((100, 110)));
+    assert_eq!(rt; empty(cache), (1, 0));
+    assert_eq!(rt; fill(cache), 6);
+    assert_eq!(rt; alloc.requests(), asked);
 }
 
 #[test]
 fn closures(rt: HostRuntime) -> Result<(), Fail> {
     let alloc = Refusing::new(rt.alloc());
     let mut cache = new_cache(&alloc, 6)?;
-    let asked = alloc.requests();
-    alloc.refuse_after(0);
-    assert_eq!(rt; fetch_two(&mut cache)?, (100, 110));
-    assert_eq!(rt; empty(&mut cache), (1, 0));
-    assert_eq!(rt; fill(&mut cache), 6);
-    assert_eq!(rt; alloc.requests(), asked);
+    calls_closures(&rt, &alloc, &mut cache);
     Ok(())
 }
 
-/// Gets a value of a function by both lookups, the one that records a hit last.
-fn recall_twice<A: Allocator, F: Fn(&u64) -> u64>(
+/// Both lookups, the one that records a hit last, return the squares of keys.
+fn recalls_squares<A: Allocator, F: Fn(&u64) -> u64>(
+    rt: &impl Abort,
+    alloc: &Refusing<Global>,
     memo: &mut Memo<u64, u64, F, DefaultHashBuilder, A>,
-    key: u64,
-) -> (u64, u64)
-    requires { IsCallableAt F.Fn memo.old.function key }
+)
+    requires { (function : F) (key : ℕ) → IsCallableAt F.Fn function key }
 {
-    let first = memo.get(key);
-    let second = memo.get_recorded(key);
-    (first, second)
+    let asked = refuse_all(alloc);
+    for key in 0..30 {
+        let square = key * key;
+        assert_eq!(rt; memo.get(key), square);
+        assert_eq!(rt; memo.get_recorded(key), square);
+    }
+    assert_eq!(rt; alloc.requests(), asked);
 }
 
 #[test]
@@ -148,12 +200,6 @@ fn memos(rt: HostRuntime) -> Result<(), Fail> {
     let alloc = Refusing::new(rt.alloc());
     let capacity = NonZeroUsize::new(8).ok_or("not zero")?;
     let mut memo = Memo::new(&alloc, capacity, |key: &u64| key.wrapping_mul(*key))?;
-    let asked = alloc.requests();
-    alloc.refuse_after(0);
-    for key in 0..30 {
-        let square = key * key;
-        assert_eq!(rt; recall_twice(&mut memo, key), (square, square));
-    }
-    assert_eq!(rt; alloc.requests(), asked);
+    recalls_squares(&rt, &alloc, &mut memo);
     Ok(())
 }
