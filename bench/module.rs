@@ -54,12 +54,12 @@ fn remove_all(table: &mut Table<usize>, hashes: &[u64], order: &[usize]) -> usiz
 fn access_all(cache: &mut Cache<u64, u64>, keys: &[u64]) -> (u64, u64) {
     let mut hits: u64 = 0;
     let mut sum: u64 = 0;
-    for (place, key) in keys.iter().enumerate() {
+    for (number, key) in keys.iter().enumerate() {
         if let Some(value) = cache.get(key) {
             hits = hits.wrapping_add(1);
             sum = sum.wrapping_add(*value);
         } else {
-            cache.put(*key, place as u64);
+            cache.put(*key, number as u64);
         }
     }
     (hits, sum)

@@ -25,12 +25,12 @@ fn mix(number: u64) -> u64 {
 fn access_all(cache: &mut Cache<u64, u64>, keys: &[u64]) -> (u64, u64) {
     let mut hits: u64 = 0;
     let mut sum: u64 = 0;
-    for (place, key) in keys.iter().enumerate() {
+    for (number, key) in keys.iter().enumerate() {
         if let Some(value) = cache.get(key) {
             hits = hits.wrapping_add(1);
             sum = sum.wrapping_add(*value);
         } else {
-            cache.put(*key, place as u64);
+            cache.put(*key, number as u64);
         }
     }
     (hits, sum)
@@ -110,8 +110,8 @@ fn measure_clearing(cache: &mut Cache<u64, u64>, keys: &[u64], capacity: usize) 
         let made = make(capacity);
         making += start.elapsed();
         drop(made);
-        for (place, key) in keys.iter().take(capacity).enumerate() {
-            cache.put(*key, place as u64);
+        for (number, key) in keys.iter().take(capacity).enumerate() {
+            cache.put(*key, number as u64);
         }
         let start = Instant::now();
         clear(cache);

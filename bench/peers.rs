@@ -182,12 +182,12 @@ fn trace(length: usize, spread: u64) -> Vec<u64> {
 fn access_all(cache: &mut impl Policy, keys: &[u64]) -> (u64, u64) {
     let mut hits: u64 = 0;
     let mut sum: u64 = 0;
-    for (place, key) in keys.iter().enumerate() {
+    for (number, key) in keys.iter().enumerate() {
         if let Some(value) = cache.get(*key) {
             hits = hits.wrapping_add(1);
             sum = sum.wrapping_add(value);
         } else {
-            cache.put(*key, place as u64);
+            cache.put(*key, number as u64);
         }
     }
     (hits, sum)

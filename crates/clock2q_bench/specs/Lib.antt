@@ -1,2 +1,2 @@
 pub mod Hashing
-pub mod Places
+pub mod Indices

@@ -43,8 +43,8 @@ fn draw(keys: &mut Vec<u64>, length: usize, spread: u64) -> Result<(), AllocErro
         seed = seed.wrapping_add(0x9E37_79B9_7F4A_7C15);
         let drawn = mix(seed);
         let range = 1u64 << (drawn % spread);
-        let place = drawn >> 32 & range.wrapping_sub(1);
-        keys.push(mix(range.wrapping_add(place)))?;
+        let offset = drawn >> 32 & range.wrapping_sub(1);
+        keys.push(mix(range.wrapping_add(offset)))?;
     }
     Ok(())
 }
@@ -55,18 +55,18 @@ pub(crate) fn access_all(cache: &mut Measured, keys: &[u64]) -> Hits {
     access(cache, keys)
 }
 
-/// Looks each key up, and puts those that aren't resident, each with its place in the trace. It is the
+/// Looks each key up, and puts those that aren't resident, each with its number in the trace. It is the
 /// one caller of `get` and `put` here, so that both are inlined as in a program that calls them once.
 #[inline(never)]
 fn access(cache: &mut Measured, keys: &[u64]) -> Hits {
     let mut hits = Hits { count: 0, sum: 0 };
-    for place in 0..keys.len() {
-        let key = keys[place];
+    for number in 0..keys.len() {
+        let key = keys[number];
         if let Some(value) = cache.get(&key) {
             hits.count = hits.count.wrapping_add(1);
             hits.sum = hits.sum.wrapping_add(*value);
         } else {
-            cache.put(key, place as u64);
+            cache.put(key, number as u64);
         }
     }
     hits
@@ -108,8 +108,8 @@ fn append_hints(hints: &mut Hints, cache: &mut Measured, keys: &[u64]) -> Result
 #[inline(never)]
 pub(crate) fn hint_all(cache: &mut Measured, slots: &[usize], keys: &[u64]) -> u64 {
     let mut sum: u64 = 0;
-    for place in 0..slots.len().min(keys.len()) {
-        if let Some(value) = cache.get_at(slots[place], &keys[place]) {
+    for number in 0..slots.len().min(keys.len()) {
+        if let Some(value) = cache.get_at(slots[number], &keys[number]) {
             sum = sum.wrapping_add(*value);
         }
     }

@@ -41,7 +41,7 @@ fn measure_table(rt: &HostRuntime, entries: usize) -> Result<(), BenchError> {
     work_table(rt, &mut table, &hashes, &order)
 }
 
-/// Inserts each place of the hashes, looks all up, removes them, and prints what it comes to.
+/// Inserts each index of the hashes, looks all up, removes them, and prints what it comes to.
 fn work_table(
     rt: &HostRuntime,
     table: &mut Table<usize>,

@@ -1,6 +1,6 @@
 //! The work that the handle table is measured by: each loop is a function of its own, so that its
 //! instructions can be counted.
-ghost use Rattle.clock2q_bench.specs.Places.{HoldsPlaces};
+ghost use Rattle.clock2q_bench.specs.Indices.{HoldsIndices};
 ghost use Rattle.std.specs.Prelude.{◌≡◌, ◌<◌, [], IfOk, length, All};
 
 use clock2q_handles::{Table, TableError};
@@ -26,11 +26,11 @@ fn append_order(order: &mut Vec<usize>, count: usize) -> Result<(), AllocError>
     Ok(())
 }
 
-/// Inserts each place of `hashes` under the hash there, upwards.
+/// Inserts each index of `hashes` under the hash there, upwards.
 #[inline(never)]
 pub(crate) fn insert_all(table: &mut Table<usize>, hashes: &[u64]) -> Result<(), TableError>
     requires empty { table.old.homes ≡ [] }
-    ensures held { IfOk result (λ _. HoldsPlaces hashes.now table.new.homes) }
+    ensures held { IfOk result (λ _. HoldsIndices hashes.now table.new.homes) }
 {
     for handle in 0..hashes.len() {
         table.insert(hashes[handle], handle, |at| hashes[at])?;
@@ -41,7 +41,7 @@ pub(crate) fn insert_all(table: &mut Table<usize>, hashes: &[u64]) -> Result<(),
 /// Returns the sum of the handles that are found, modulo 2^64.
 #[inline(never)]
 pub(crate) fn find_all(table: &Table<usize>, hashes: &[u64], order: &[usize]) -> usize
-    requires held { HoldsPlaces hashes.now table.now.homes }
+    requires held { HoldsIndices hashes.now table.now.homes }
     requires below { All (λ at. at < length hashes.now) order.now }
 {
     let mut sum: usize = 0;
@@ -56,7 +56,7 @@ pub(crate) fn find_all(table: &Table<usize>, hashes: &[u64], order: &[usize]) ->
 /// Returns the first candidate of `hash` that has this very hash.
 #[inline(always)]
 fn find(table: &Table<usize>, hashes: &[u64], hash: u64) -> Option<usize>
-    requires held { HoldsPlaces hashes.now table.now.homes }
+    requires held { HoldsIndices hashes.now table.now.homes }
 {
     let mut candidates = table.get(hash);
     while let Some(handle) = candidates.next() {

@@ -91,13 +91,13 @@ impl Plain {
         let Some(list) = self.homes.get_mut(home) else {
             return false;
         };
-        let place = list
+        let position = list
             .iter()
             .position(|held| is_candidate(held, hash) && *held == handle);
-        let Some(place) = place else {
+        let Some(position) = position else {
             return false;
         };
-        list.remove(place);
+        list.remove(position);
         true
     }
 
@@ -188,8 +188,8 @@ fn stand(list: &[Handle], home: usize, spill: usize, slots: &mut [Option<Handle>
             .saturating_add(spill)
             .saturating_add(i)
             .checked_rem(slots.len());
-        if let Some(place) = slots.get_mut(slot.unwrap_or(0)) {
-            *place = Some(*handle);
+        if let Some(stored) = slots.get_mut(slot.unwrap_or(0)) {
+            *stored = Some(*handle);
         }
     }
 }

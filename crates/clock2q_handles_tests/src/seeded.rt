@@ -53,8 +53,8 @@ impl DrawnCalls {
 
     /// An entry that is held, or now and then one that is not.
     fn held(&mut self, number: u64, plain: &Plain) -> Handle {
-        let place = self.draws.below((plain.len() as u64).saturating_add(2));
-        match plain.entry(place as usize) {
+        let index = self.draws.below((plain.len() as u64).saturating_add(2));
+        match plain.entry(index as usize) {
             Some(handle) => handle,
             None => Handle {
                 hash: self.hash(),

@@ -4,7 +4,7 @@ use crate::index_set::IndexSet;
 use std::alloc::{AllocError, Allocator};
 use std::num::NonZeroUsize;
 
-/// Room for keys that stay from one access to the next. One place of the cache is always the key's
+/// Room for keys that stay from one access to the next. One slot of the cache is always the key's
 /// that is asked for, so the others are as many as the capacity less one.
 #[derive(Drop)]
 struct Rooms<A: Allocator> {

@@ -60,9 +60,9 @@ fn make<A: Allocator + Copy>(
     }
 }
 
-/// A cache asks for nine vectors: two of the index; the records, places and bits of Small and Main;
+/// A cache asks for nine vectors: two of the index; the records, positions and bits of Small and Main;
 /// the records and keys of the history; the residents' keys and values; the free slots. One that
-/// keeps no history asks for none of the history's two, and one without Small for no places.
+/// keeps no history asks for none of the history's two, and one without Small for no positions.
 const REQUESTS: [(usize, u64); 3] = [(20, 9), (2, 9), (1, 6)];
 
 /// Each of a call's requests is refused in turn, of which it makes so many.

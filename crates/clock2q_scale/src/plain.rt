@@ -50,14 +50,14 @@ impl Lists {
 
     /// Returns the value of a resident key, and records the hit.
     pub(crate) fn get(&mut self, key: u64) -> Option<u64> {
-        if let Some(place) = self.main.iter().position(|entry| entry.key == key) {
-            self.main[place].is_hit = true;
-            return Some(self.main[place].value);
+        if let Some(position) = self.main.iter().position(|entry| entry.key == key) {
+            self.main[position].is_hit = true;
+            return Some(self.main[position].value);
         }
-        let place = self.small.iter().position(|entry| entry.key == key)?;
-        let entry = self.small[place];
+        let position = self.small.iter().position(|entry| entry.key == key)?;
+        let entry = self.small[position];
         if self.is_old(&entry) {
-            self.small[place].is_hit = true;
+            self.small[position].is_hit = true;
         }
         Some(entry.value)
     }
@@ -92,19 +92,19 @@ impl Lists {
 
     /// Takes a key out of the history, and returns true if it was there.
     fn forget(&mut self, key: u64) -> bool {
-        let place = self.history.iter().position(|known| *known == key);
-        if let Some(place) = place {
-            self.history.remove(place);
+        let position = self.history.iter().position(|known| *known == key);
+        if let Some(position) = position {
+            self.history.remove(position);
         }
-        place.is_some()
+        position.is_some()
     }
 
     /// Takes out the first entry from the hand on that wasn't hit, and clears the bits before it.
     fn evict_from_main(&mut self) {
         let hits = self.main.iter().take_while(|entry| entry.is_hit).count();
         let passed = hits.min(self.main.len());
-        for place in 0..passed {
-            self.main[place].is_hit = false;
+        for position in 0..passed {
+            self.main[position].is_hit = false;
         }
         self.main.rotate_left(passed);
         if !self.main.is_empty() {

@@ -25,8 +25,8 @@ impl Stream {
         self.seed = self.seed.wrapping_add(0x9E37_79B9_7F4A_7C15);
         let drawn = mix(self.seed);
         let range = 1u64 << (drawn % self.spread);
-        let place = drawn >> 32 & range.wrapping_sub(1);
-        mix(range.wrapping_add(place))
+        let offset = drawn >> 32 & range.wrapping_sub(1);
+        mix(range.wrapping_add(offset))
     }
 }
 

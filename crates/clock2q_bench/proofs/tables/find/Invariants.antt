@@ -1,4 +1,4 @@
--- The candidates that are left are places of the hashes.
+-- The candidates that are left are indices of the hashes.
 use Rattle.std.proofs.Common.{ℕ, ◌≡◌, ◌<◌, length, slice_get, Some}
 use Rattle.clock2q_bench.proofs.tables.find.Given as goal
 

@@ -1,7 +1,7 @@
 use Rattle.std.proofs.Common.{rules, ◌≡◌, ◌<◌, length, get_or, subst, sym, ap, refl, ◌∙◌}
 use Rattle.std.proofs.lemmas.List.{get_or_default}
 use Rattle.clock2q_handles.proofs.HashOfHandle.{keyed_given_by}
-use Rattle.clock2q_bench.proofs.Placing.{hash_at, places_put}
+use Rattle.clock2q_bench.proofs.Indexing.{hash_at, indices_put}
 use Rattle.clock2q_bench.proofs.tables.insert_all.Goals as goal
 
 pub insert-requires : goal.insert-requires
@@ -23,7 +23,7 @@ insert-requires c = record {
 
 pub loop-handle-preserved : goal.loop-handle-preserved
 loop-handle-preserved c =
-    places_put c.args.hashes.now c.loop-handle.table.homes c.loop-handle.invariant _ _ c.insert.new.self.homes _ _ c.insert.result c.in_ok-insert.field-0 c.in_ok-insert.was c.insert.ensures.put refl (search rules) (
+    indices_put c.args.hashes.now c.loop-handle.table.homes c.loop-handle.invariant _ _ c.insert.new.self.homes _ _ c.insert.result c.in_ok-insert.field-0 c.in_ok-insert.was c.insert.ensures.put refl (search rules) (
     keyed_given_by (hash_at c.args.hashes.now) _ c.loop-handle.table.homes (λ f. f.0.now ≡ c.args.hashes.now)
     (λ f h same held.
     let l : h < length f.0.now = subst (λ ks. h < length ks) (sym same) (c.loop-handle.invariant.1 h held) in
