@@ -118,7 +118,7 @@ impl<A: Allocator> Index<A> {
         requires room { HasSlotRoom self.old }
         ensures entered { self.new ≡ entered hash slot self.old }
     {
-        let _ = self.shared.insert_within_capacity(hash, slot);
+        self.shared.insert_among_few(hash, slot);
     }
 
     /// Removes the slot of a resident that leaves.

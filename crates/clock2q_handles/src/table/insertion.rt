@@ -1,7 +1,7 @@
 //! Entries put into a table.
 ghost use Rattle.clock2q_handles.specs.Changes.{PutIn, WritesAtMost, Restores, IsLaidOut};
-ghost use Rattle.clock2q_handles.specs.Homes.{candidates, total};
-ghost use Rattle.clock2q_handles.specs.Layout.{run};
+ghost use Rattle.clock2q_handles.specs.Homes.{candidates, total, with_handle};
+ghost use Rattle.clock2q_handles.specs.Layout.{run, IsTooLong};
 ghost use Rattle.clock2q_handles.specs.Offers.{FindsOrPuts, MayBeOffered};
 ghost use Rattle.clock2q_handles.specs.Positions.{gap_of};
 ghost use Rattle.clock2q_handles.specs.TableStep.{IsBelowCapacity};
@@ -125,9 +125,25 @@ impl<H: Copy + Eq + Default, A: Allocator> Table<H, A> {
         if self.len > MAX_DISPLACEMENT {
             return self.insert_among_many(hash, handle);
         }
+        self.insert_among_few(hash, handle);
+        Ok(())
+    }
+
+    /// Inserts `handle` under `hash` as [insert_within_capacity](Table::insert_within_capacity)
+    /// does, in a table of so few entries that no run becomes too long. It is for a caller whose
+    /// contracts bound the entries: it doesn't look at how many there are.
+    #[inline(always)]
+    pub fn insert_among_few(&mut self, hash: u64, handle: H)
+        requires room { IsBelowCapacity self.old.homes }
+        requires few { total self.old.homes + 1 < 2 ^ 24 }
+        ensures put { self.new.homes ≡ with_handle self.old.homes hash handle }
+        ensures short { IsTooLong (with_handle self.old.homes hash handle) → ⊥ }
+        ensures writes { WritesAtMost (run self.old.slots hash + 1) self.old self.new }
+        ensures restores { Restores H.PartialEq.eq hash handle self.old self.new }
+        ensures laid { IsLaidOut self.new }
+    {
         self.slots.put(hash, handle);
         self.len += 1;
-        Ok(())
     }
 
     /// Inserts an entry in a table of so many that a run may become too long.
