@@ -113,8 +113,8 @@ asked-next test n bound all asked place left a other =
       there = a.there.1;
     }
 
-pub asked-found : (test : ℕ → Bool) (n bound : ℕ) (all : List ℕ) (asked place : ℕ) (left : List ℕ) → Asked test n bound all asked (place ∷ left) → true ≡ test place
+pub asked-found : {test : ℕ → Bool} {n bound : ℕ} {all : List ℕ} {asked : ℕ} (place : ℕ) (left : List ℕ) → Asked test n bound all asked (place ∷ left) → true ≡ test place
     → (Some place ≡ find test all) × (asked + 1 ≡ n + questions_of test all)
-asked-found test n bound all asked place left a it =
+asked-found {test} place left a it =
     let m : questions_of test (place ∷ left) ≡ 1 = rw (sym it) refl in
     (sym (a.found ∙ rw (sym it) refl), omega (arith, a.questions, m))

@@ -11,12 +11,12 @@ is_counting_in-requires g c = record { used = (asked-slot c.loop-handle.handles.
 
 pub returns-then-is_counting_in-clause-found : goal.returns-then-is_counting_in-clause-found
 returns-then-is_counting_in-clause-found g c =
-    (asked-found _ _ _ _ _ c.in-Some.handle (slots_among (drop 1 c.loop-handle.handles.left))
+    (asked-found c.in-Some.handle (slots_among (drop 1 c.loop-handle.handles.left))
     (asked-slot c.loop-handle.handles.left c.loop-handle.invariant c.in-Some.ensures.candidate c.if-handle-lt-REMEMBERED.true) (sym c.if-is_counting_in.true ∙ c.is_counting_in.ensures.value)).0
 
 pub returns-then-is_counting_in-clause-counted : goal.returns-then-is_counting_in-clause-counted
 returns-then-is_counting_in-clause-counted g c =
-    c.is_counting_in.ensures.counted ∙ (asked-found _ _ _ _ _ c.in-Some.handle (slots_among (drop 1 c.loop-handle.handles.left))
+    c.is_counting_in.ensures.counted ∙ (asked-found c.in-Some.handle (slots_among (drop 1 c.loop-handle.handles.left))
     (asked-slot c.loop-handle.handles.left c.loop-handle.invariant c.in-Some.ensures.candidate c.if-handle-lt-REMEMBERED.true) (sym c.if-is_counting_in.true ∙ c.is_counting_in.ensures.value)).1
 
 pub returns-clause-found : goal.returns-clause-found
