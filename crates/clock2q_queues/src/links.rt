@@ -55,43 +55,6 @@ pub(crate) const VACANT: Record = Record {
     standing: Mark::Free,
 };
 
-impl<A: Allocator> Cells<Record, A> {
-    /// Puts a slot just before another.
-    pub(crate) fn attach(&mut self, slot: u32, before: u32, standing: Mark)
-        requires slot_in { slot < length self.old.items }
-        requires before_in { before < length self.old.items }
-        requires previous_in { previous_at self.old.items before < length self.old.items }
-        ensures { Attaches slot before standing self.old self.new }
-    {
-        let previous = self.read(before).previous;
-        self.write(
-            slot,
-            Record {
-                previous,
-                next: before,
-                standing,
-            },
-        );
-        self.set_next(previous, slot);
-        self.set_previous(before, slot);
-    }
-
-    /// Removes a slot from between its neighbours, and returns the record that it had.
-    pub(crate) fn detach(&mut self, slot: u32) -> Record
-        requires slot_in { slot < length self.old.items }
-        requires next_in { next_at self.old.items slot < length self.old.items }
-        requires previous_in { previous_at self.old.items slot < length self.old.items }
-        ensures detached { Detaches slot self.old self.new }
-        ensures value { result ≡ record_at self.old.items slot }
-    {
-        let was = self.read(slot);
-        self.set_next(was.previous, was.next);
-        self.set_previous(was.next, was.previous);
-        self.write(slot, VACANT);
-        was
-    }
-}
-
 /// The records and the hit bits of the slots that both queues share, and the window's positions.
 #[derive(Drop)]
 pub(crate) struct Links<A: Allocator = Global> {

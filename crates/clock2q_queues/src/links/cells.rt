@@ -2,9 +2,10 @@
 //! read or write of a cell, and each inspection of a bit by the hand, raises a count.
 ghost use Rattle.std.specs.Prelude.{◌≡◌, ℕ, ◌+◌, ◌<◌, false, IfOk, length, replicate, slice_index_or, slice_set};
 ghost use Rattle.clock2q_queues.specs.Cells.{cells_state, accessed, written};
+ghost use Rattle.clock2q_queues.specs.Links.{Attaches, Detaches, next_at, previous_at, record_at, with_next, with_previous};
 
 use crate::links::flags::Flags;
-use crate::links::{Mark, Record};
+use crate::links::{Mark, Record, VACANT};
 use clock2q_count::Count;
 use std::alloc::{AllocError, Allocator, Global};
 use std::marker::Model;
@@ -84,29 +85,9 @@ impl<T: Copy, A: Allocator> Cells<T, A> {
 }
 
 impl<A: Allocator> Cells<Record, A> {
-    ghost use Rattle.clock2q_queues.specs.Links.{with_next, with_previous, with_standing};
+    ghost use Rattle.clock2q_queues.specs.Links.{with_standing};
 
-    /// Writes the slot behind another. A change of a part counts as a read and a write of the record.
-    pub(super) fn set_next(&mut self, slot: u32, next: u32)
-        requires { slot < length self.old.items }
-        ensures { self.new ≡ accessed (with_next slot next self.old) }
-    {
-        self.accesses.tick();
-        self.accesses.tick();
-        self.items[slot as usize].next = next;
-    }
-
-    /// Writes the slot in front of another.
-    pub(super) fn set_previous(&mut self, slot: u32, previous: u32)
-        requires { slot < length self.old.items }
-        ensures { self.new ≡ accessed (with_previous slot previous self.old) }
-    {
-        self.accesses.tick();
-        self.accesses.tick();
-        self.items[slot as usize].previous = previous;
-    }
-
-    /// Writes where a slot stands.
+    /// Writes where a slot stands. A change of a part counts as a read and a write of the record.
     pub(super) fn set_standing(&mut self, slot: u32, standing: Mark)
         requires { slot < length self.old.items }
         ensures { self.new ≡ accessed (with_standing slot standing self.old) }
@@ -115,6 +96,91 @@ impl<A: Allocator> Cells<Record, A> {
         self.accesses.tick();
         self.items[slot as usize].standing = standing;
     }
+
+    /// Puts a slot just before another.
+    pub(crate) fn attach(&mut self, slot: u32, before: u32, standing: Mark)
+        requires slot_in { slot < length self.old.items }
+        requires before_in { before < length self.old.items }
+        requires previous_in { previous_at self.old.items before < length self.old.items }
+        ensures { Attaches slot before standing self.old self.new }
+    {
+        attach_in(
+            self.items.as_mut_slice(),
+            &mut self.accesses,
+            slot,
+            before,
+            standing,
+        );
+    }
+
+    /// Removes a slot from between its neighbours, and returns the record that it had.
+    pub(crate) fn detach(&mut self, slot: u32) -> Record
+        requires slot_in { slot < length self.old.items }
+        requires next_in { next_at self.old.items slot < length self.old.items }
+        requires previous_in { previous_at self.old.items slot < length self.old.items }
+        ensures detached { Detaches slot self.old self.new }
+        ensures value { result ≡ record_at self.old.items slot }
+    {
+        detach_in(self.items.as_mut_slice(), &mut self.accesses, slot)
+    }
+}
+
+/// Puts a slot just before another, over a view of the records.
+#[inline(always)]
+fn attach_in(records: &mut [Record], accesses: &mut Count, slot: u32, before: u32, standing: Mark)
+    requires slot_in { slot < length records.old }
+    requires before_in { before < length records.old }
+    requires previous_in { previous_at records.old before < length records.old }
+    ensures { Attaches slot before standing (cells_state records.old accesses.old.total) (cells_state records.new accesses.new.total) }
+{
+    accesses.tick();
+    let previous = records[before as usize].previous;
+    accesses.tick();
+    records[slot as usize] = Record {
+        previous,
+        next: before,
+        standing,
+    };
+    set_next(records, accesses, previous, slot);
+    set_previous(records, accesses, before, slot);
+}
+
+/// Removes a slot from between its neighbours, over a view of the records.
+#[inline(always)]
+fn detach_in(records: &mut [Record], accesses: &mut Count, slot: u32) -> Record
+    requires slot_in { slot < length records.old }
+    requires next_in { next_at records.old slot < length records.old }
+    requires previous_in { previous_at records.old slot < length records.old }
+    ensures detached { Detaches slot (cells_state records.old accesses.old.total) (cells_state records.new accesses.new.total) }
+    ensures value { result ≡ record_at records.old slot }
+{
+    accesses.tick();
+    let was = records[slot as usize];
+    set_next(records, accesses, was.previous, was.next);
+    set_previous(records, accesses, was.next, was.previous);
+    accesses.tick();
+    records[slot as usize] = VACANT;
+    was
+}
+
+/// Writes the slot behind another. A change of a part counts as a read and a write of the record.
+fn set_next(records: &mut [Record], accesses: &mut Count, slot: u32, next: u32)
+    requires { slot < length records.old }
+    ensures { cells_state records.new accesses.new.total ≡ accessed (with_next slot next (cells_state records.old accesses.old.total)) }
+{
+    accesses.tick();
+    accesses.tick();
+    records[slot as usize].next = next;
+}
+
+/// Writes the slot in front of another.
+fn set_previous(records: &mut [Record], accesses: &mut Count, slot: u32, previous: u32)
+    requires { slot < length records.old }
+    ensures { cells_state records.new accesses.new.total ≡ accessed (with_previous slot previous (cells_state records.old accesses.old.total)) }
+{
+    accesses.tick();
+    accesses.tick();
+    records[slot as usize].previous = previous;
 }
 
 /// The hit bits by slot, and whether each slot stands in a queue, with the number of inspections
