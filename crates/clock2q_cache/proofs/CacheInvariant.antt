@@ -83,6 +83,7 @@ module _ {K V : Type 0} {eq : K → K → Bool} {hash : K → ℕ} {shares : Sha
     pub not_in_small : has slot (slots_of q.small) ≡ false
     pub not_in_main : has slot (slots_of q.main) ≡ false
     pub next : slot ≤ length keys.entries
+    pub made : length keys.entries < 2 ^ 32
     pub below : slot < q.slots
     pub within : slot < keys.room
     pub short : slot < 2 ^ 24
@@ -101,6 +102,7 @@ module _ {K V : Type 0} {eq : K → K → Bool} {hash : K → ℕ} {shares : Sha
         not_in_small = apart.0;
         not_in_main = apart.1;
         next = v.next;
+        made = omega (arith, kept.whole.made_within, length-values keys.entries, kept.sized.short);
         below = omega (arith, v.below, kept.sized.as_many);
         within = omega (arith, v.below, kept.sized.room_for_keys);
         short = omega (arith, v.below, kept.sized.short);

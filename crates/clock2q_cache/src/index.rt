@@ -25,6 +25,7 @@ pub(crate) fn enter<K: Eq + Drop, V: Drop, A: Allocator>(
     requires next { slot ≤ length keys.old.entries }
     requires had { IfNone value (slot < length keys.old.entries) }
     requires room { slot < keys.old.room }
+    requires few { length keys.old.entries < 2 ^ 32 }
     requires below { slot < 2 ^ 24 }
     requires index_room { HasRoom history.old }
     ensures index { history.new ≡ record history.old { places = record history.old.places { index = entered hash slot history.old.places.index } } }

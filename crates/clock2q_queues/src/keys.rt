@@ -1,5 +1,5 @@
 //! Keys with their hashes and values, each at a place, and lookups through an index.
-ghost use Rattle.std.specs.Prelude.{◌≡◌, ◌+◌, ◌<◌, ◌≤◌, length};
+ghost use Rattle.std.specs.Prelude.{◌≡◌, ◌+◌, ◌^◌, ◌<◌, ◌≤◌, length};
 ghost use Rattle.std.specs.List.{find, AllByRecursion};
 ghost use Rattle.clock2q_queues.specs.Index.{slots_among, places_among};
 
@@ -22,9 +22,10 @@ impl<K, V, A: Allocator> Keys<K, V, A> {
         V: Drop,
         requires next { place ≤ length self.old.entries }
         requires room { place < self.old.room }
+        requires few { length self.old.entries < 2 ^ 32 }
         ensures written { self.new ≡ record self.old { entries = written place (entry hash key value) self.old.entries; writes = self.old.writes + 1 } }
     {
-        if place as usize == self.len() {
+        if place == self.len() as u32 {
             self.push(hash, key, value);
         } else {
             self.replace(place, hash, key);

@@ -19,6 +19,7 @@ enter-requires g c =
       next = f.next;
       had = made-main g.met.K.Eq.laws c.self.invariant c.args.key c.args.value f.taken (rw (← c.self.view_is) at c.requires.room) (rw (← c.self.view_is) at c.requires.had);
       room = f.within;
+      few = f.made;
       below = f.short;
       index_room = record { room = f.index_room; few = f.few };
     }
