@@ -108,7 +108,7 @@ impl<K: Hash + Eq + Drop, V: Drop, S: BuildHasher, A: Allocator> Cache<K, V, S, 
         ensures vacant { result ≡ is_some (vacancy self.now.machine) }
         ensures whole { IsWhole K.eq self.now.machine }
     {
-        !self.free.is_empty() || self.keys.len() < self.shares.capacity()
+        self.keys.len() < self.shares.capacity() || !self.free.is_empty()
     }
 
     /// Returns true if a key enters Main. `known` says whether it was in the history.
