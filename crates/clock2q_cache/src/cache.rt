@@ -156,8 +156,12 @@ impl<K: Hash + Eq, V, S: BuildHasher, A: Allocator> Cache<K, V, S, A> {
         ensures* machine { sem 𝓛 (LeavesMachine K.row V.row S.row A.row S.Hasher.row K.Hash S.BuildHasher S.Hasher.Hasher A.Allocator self.entry (Get key.now) (hit (K.eq key.now) self.old.machine)) }
         ensures value { option_copied result ≡ value_of (K.eq key.now) self.old.machine }
     {
-        let slot = self.hit(key)?;
-        Some(self.value(slot))
+        let hash = self.hash(key);
+        let slot = self.find(hash, key)?;
+        // before the bit is set, so that where the entries are isn't read twice
+        let value = self.keys.value(slot);
+        self.queues.hit(slot);
+        Some(value)
     }
 
     /// Returns the slot of a resident key and records a hit, as [`get`](Cache::get) does. The key

@@ -1,9 +1,42 @@
--- A key that is not resident is not hit.
-use Rattle.std.proofs.Common.{rules, refl, sym}
+-- The value is read where the key was found, and then the key is hit; a key that is not resident is not hit.
+use Rattle.std.proofs.Common.{◌≡◌, Some, slice_get, rules, refl, sym, ap, ◌∙◌}
+use Rattle.std.specs.Option.{option_and_then}
+use Rattle.clock2q_machine.specs.Machine.{Machine, slot_of}
+use Rattle.clock2q_cache.proofs.Names.{QueueState, CacheState, hit, value-there}
+use Rattle.clock2q_cache.proofs.CacheInvariant.{m}
+use Rattle.clock2q_cache.proofs.Finding.{found-there, either-queue, hit-machine, kept-hit}
+use Rattle.clock2q_cache.proofs.Spent.{missed-becomes, hit-becomes}
+use Rattle.clock2q_cache.proofs.cache.Cache.get.Given.{Over}
+use Rattle.clock2q_cache.proofs.cache.Cache.get.Goals.{After-value-value}
 use Rattle.clock2q_cache.proofs.cache.Cache.get.Goals as goal
 
+-- the key is resident at the slot, as the fields have it
+there : (g : Over) (c : After-value-value g) → slot_of (g.K.PartialEq.eq c.args.key.now) (m g.met.K.Eq.laws c.self.invariant) ≡ Some c.in_ok-slot.slot
+there g c =
+    let k = g.K.PartialEq.eq c.args.key.now in
+    ap (λ (z : CacheState _ _ _). slot_of k z.machine) c.self.view_is ∙ ap (λ z. slot_of k z) c.find.ensures.machine ∙ sym c.in_ok-slot.ensures.slot
+
+pub hit-requires : goal.hit-requires
+hit-requires g c =
+    record { resident = either-queue c.self.inside.queues c.in_ok-slot.slot (found-there g.met.K.Eq.laws c.self.invariant c.args.key.now c.in_ok-slot.slot (there g (goal.at.hit-requires g c).After-value-value)).0 }
+
+pub invariant_of-self : goal.invariant_of-self
+invariant_of-self g c =
+    kept-hit g.met.K.Eq.laws c.self.invariant c.args.key.now c.in_ok-slot.slot (there g (goal.at.invariant_of-self g c).After-value-value) c.hit.new.self (ap (λ (z : QueueState). z.small) c.hit.ensures.queues)
+    (ap (λ (z : QueueState). z.main) c.hit.ensures.queues) (ap (λ (z : QueueState). z.slots) c.hit.ensures.queues) (ap (λ (z : QueueState). z.window) c.hit.ensures.queues)
+
 pub returns-in_err-slot : goal.returns-in_err-slot
-returns-in_err-slot g c = ((refl, λ _. tt, c.hit.ensures.becomes), record { machine = tt; value = rw (sym c.in_err-slot.ensures.slot) (search rules) })
+returns-in_err-slot g c =
+    let absent = sym c.in_err-slot.ensures.slot in
+    ((refl, λ _. tt, missed-becomes c.hash-hash.ensures absent c.find.ensures.kept c.find.ensures.counts), record { machine = tt; value = rw absent (search rules) })
 
 pub returns : goal.returns
-returns g c = ((refl, λ _. tt, c.hit.ensures.becomes), record { machine = tt; value = search rules })
+returns g c =
+    let at = there g (goal.at.returns g c).After-value-value in
+    let now =
+    hit-machine g.met.K.Eq.laws c.self.invariant c.args.key.now c.in_ok-slot.slot at c.hit.new.self (ap (λ (z : QueueState). z.small) c.hit.ensures.queues) (ap (λ (z : QueueState). z.main) c.hit.ensures.queues)
+    ∙ ap (λ (z : CacheState _ _ _). hit (g.K.PartialEq.eq c.args.key.now) z.machine) c.self.view_is in
+    let value =
+    sym c.value-value.ensures.value ∙ sym (value-there c.self.inside.keys.entries c.in_ok-slot.slot) ∙ ap (λ (z : CacheState _ _ _). slice_get z.machine.values c.in_ok-slot.slot) c.self.view_is
+    ∙ ap (λ (z : Machine _ _). slice_get z.values c.in_ok-slot.slot) c.find.ensures.machine ∙ ap (λ o. option_and_then (slice_get c.args.self.now.machine.values) o) c.in_ok-slot.ensures.slot in
+    ((refl, λ _. tt, hit-becomes c.hash-hash.ensures c.find.ensures.kept c.find.ensures.counts (search rules) now), record { machine = tt; value = value })
