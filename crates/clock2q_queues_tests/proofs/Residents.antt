@@ -11,7 +11,7 @@ use Rattle.clock2q_queues.specs.Keys.{KeyPlaces, key_places, entry, written, has
 use Rattle.clock2q_queues.specs.History.{Remembered, Places, HasRoom, remembered, places_with, most_beside, pushed_places}
 use Rattle.clock2q_queues.specs.Rings.{has}
 use Rattle.clock2q_queues.proofs.Emptied.{for-new, new-none, emptied-slots, cleared_like}
-use Rattle.clock2q_queues.proofs.Entries.{slice_get-written}
+use Rattle.clock2q_queues.proofs.Entries.{length-written, slice_get-written}
 use Rattle.clock2q_queues.proofs.Indexes.{length-put, length-taken, named-own, IsIndex-put, IsIndex-taken}
 use Rattle.clock2q_queues.proofs.Remembering.{slots-pushed, shared-pushed}
 use Rattle.clock2q_queues.proofs.Rings.{has_first}
@@ -35,6 +35,7 @@ kept {taken} {hashes} {h} {h'} {r} {r'} k hashed same beside keys room = record 
   room = rw (same, beside) k.room;
   few = rw beside k.few;
   writable = rw room k.writable;
+  short = rw keys k.short;
 }
 
 module _ {hashes : ℕ} {h : Remembered ℕ} {r : KeyPlaces ℕ (Unit {0})} (k : IsAlone hashes h r) where
@@ -72,6 +73,7 @@ module _ {hashes : ℕ} {h : Remembered ℕ} {r : KeyPlaces ℕ (Unit {0})} (k :
         room = omega (arith, k.room, as_many, ap (λ (z : Remembered ℕ). most_beside z) added);
         few = omega (arith, k.few, ap (λ (z : Remembered ℕ). most_beside z) added);
         writable = omega (arith, k.writable, room);
+        short = omega (arith, k.short, ap (λ (z : List (Entry ℕ (Unit {0}))). length z) wrote, length-written 0 (entry hash key tt) r.entries (omega arith));
       };
       at = stands;
     }
@@ -114,6 +116,7 @@ module _ {hash hashes : ℕ} {h : Remembered ℕ} {r : KeyPlaces ℕ (Unit {0})}
       room = omega (arith, k.taken.room, as_many_left, beside);
       few = omega (arith, k.taken.few, beside);
       writable = omega (arith, k.taken.writable, room);
+      short = rw keys k.taken.short;
     }
 
   -- the resident leaves, and is not remembered
@@ -131,6 +134,7 @@ module _ {hash hashes : ℕ} {h : Remembered ℕ} {r : KeyPlaces ℕ (Unit {0})}
         room = omega (arith, k.taken.room, count, same);
         few = omega (arith, k.taken.few, same);
         writable = k.taken.writable;
+        short = k.taken.short;
       }
 
 -- a new history has no key beside it
@@ -146,6 +150,7 @@ new-alone limit hashes h r some short made keys =
       room = omega (arith, room.slots);
       few = omega (arith, room.few);
       writable = omega arith;
+      short = omega arith;
     })
 
 -- neither has one that was cleared
@@ -164,4 +169,5 @@ cleared-alone {hashes} {h} {h'} {r} {r'} k cleared keys =
       room = omega (arith, k.room, as_many, beside);
       few = omega (arith, k.few, beside);
       writable = omega (arith, k.writable, ap (λ (z : KeyPlaces ℕ (Unit {0})). z.room) keys);
+      short = omega (arith, ap (λ (z : KeyPlaces ℕ (Unit {0})). length z.entries) keys);
     }

@@ -15,6 +15,7 @@ pub record HasSlots (taken : List ℕ) (hashes : ℕ) (h : Remembered ℕ) (resi
   pub room : most_beside h < capacity (length (slots h.places.index))
   pub few : most_beside h + 1 < 2 ^ 24
   pub writable : 0 < residents.room
+  pub short : length residents.entries < 2 ^ 32
 
 -- no key is resident
 abbrev pub IsAlone : ℕ → Remembered ℕ → KeyPlaces ℕ (Unit {0}) → Type 0
