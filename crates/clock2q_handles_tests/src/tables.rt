@@ -4,6 +4,9 @@ use clock2q_handles::{Table, TableError};
 use std::process::Abort;
 use std::test::Fail;
 
+/// From so many entries on a run may become too long.
+const FEWEST_OF_MANY: usize = (1 << 24) - 1;
+
 /// Puts a handle in where there is room.
 fn put(rt: &impl Abort, table: &mut Table<usize>, hash: u64, handle: usize) {
     assert!(rt; table.len() < table.capacity(), "the table is full");
@@ -129,6 +132,27 @@ fn full_table(rt: HostRuntime) -> Result<(), Fail> {
     let again = [0, 1, 2, 3, 4, 6, 7, 8, 9, 10, 11, 12];
     yields(&rt, table.get(A), &again, "one more");
     assert_eq!(rt; table.capacity(), 12);
+    Ok(())
+}
+
+/// Puts a handle in without a growth, and returns true, where the table has room and few entries.
+fn put_among_few(table: &mut Table<usize>, hash: u64, handle: usize) -> bool {
+    if table.len() >= table.capacity() || table.len() >= FEWEST_OF_MANY {
+        return false;
+    }
+    table.insert_among_few(hash, handle);
+    true
+}
+
+#[test]
+fn among_few(rt: HostRuntime) -> Result<(), Fail> {
+    let mut table: Table<usize> = Table::with_capacity(rt.alloc(), 12)?;
+    assert!(rt; put_among_few(&mut table, 15, 0));
+    assert!(rt; put_among_few(&mut table, 0, 1));
+    assert!(rt; put_among_few(&mut table, 15, 2));
+    assert_eq!(rt; table.len(), 3);
+    yields(&rt, table.get(15), &[0, 2], "last home");
+    yields(&rt, table.get(0), &[1], "first home");
     Ok(())
 }
 
