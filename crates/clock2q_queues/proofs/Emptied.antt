@@ -8,7 +8,7 @@ use Rattle.clock2q_handles.specs.Homes.{capacity, no_entries}
 use Rattle.clock2q_handles.specs.TableStep.{made_for, fit}
 use Rattle.clock2q_queues.specs.declared.keys.store.Entry.{Entry}
 use Rattle.clock2q_queues.specs.Indexes.{IsIndex}
-use Rattle.clock2q_queues.specs.Index.{IndexState, index_state, index_for, index_room, small_table, most_entries, is_shared, slots, places, slots_in, places_in, slot_entries, place_entries}
+use Rattle.clock2q_queues.specs.Index.{IndexState, index_state, index_for, index_room, small_table, middle_table, most_entries, is_shared, slots, places, slots_in, places_in, slot_entries, place_entries}
 use Rattle.clock2q_queues.proofs.Views.{IsLikeBefore}
 use Rattle.clock2q_queues.proofs.Indexes.{IsIndex-cleared, fits_new}
 
@@ -38,7 +38,10 @@ made-none (suc k) = (fit (suc k), refl)
 room_enough : (n : ℕ) → n ≤ index_room n
 room_enough n = elim (leb_tells n small_table) [
   | inl q ↦ rw q.0 (omega arith)
-  | inr q ↦ rw q.0 (omega arith)
+  | inr q ↦ elim (leb_tells n middle_table) [
+    | inl r ↦ rw (q.0, r.0) (omega arith)
+    | inr r ↦ rw (q.0, r.0) (omega arith)
+  ]
 ]
 
 made_enough : (n : ℕ) → n ≤ capacity (length (made_for {H = ℕ} (index_room n)))

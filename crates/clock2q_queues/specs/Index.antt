@@ -89,9 +89,13 @@ forgotten_at hash place v =
 abbrev pub small_table : ℕ
 small_table = 16384
 
--- how many entries a table is made for that holds at most so many: three times as many in a small table, and no more in a large one
+-- the most entries for which it gets room for twice as many
+abbrev pub middle_table : ℕ
+middle_table = 262144
+
+-- how many entries a table is made for that holds at most so many: three times as many in a small table, twice as many in one of middle size, and no more in a large one
 abbrev pub index_room : ℕ → ℕ
-index_room most = if nat_le most small_table then 3 * most else most
+index_room most = if nat_le most small_table then 3 * most else (if nat_le most middle_table then 2 * most else most)
 
 -- the most entries of a table that can't have a run which is too long: fewer than 2^24
 abbrev pub most_entries : ℕ

@@ -18,14 +18,23 @@ const MOST_ENTRIES: usize = (1 << 24) - 1;
 /// The most entries for which a table gets room for three times as many.
 const SMALL_TABLE: usize = 16_384;
 
+/// The most entries for which it gets room for twice as many.
+const MIDDLE_TABLE: usize = 262_144;
+
 /// Returns how many entries to make a table for that holds at most `most`: three times as many if
-/// it is small, which keeps lookups short, and no more if it would take much memory. Such a table
-/// is never more than three quarters full.
+/// it is small, which keeps lookups short, twice as many if it is of middle size, and no more if it
+/// would take much memory. Such a table is never more than three quarters full.
 pub fn index_room(most: usize) -> usize
     requires countable { most < 2 ^ 32 }
     ensures room { result ≡ index_room most }
 {
-    if most <= SMALL_TABLE { most * 3 } else { most }
+    if most <= SMALL_TABLE {
+        most * 3
+    } else if most <= MIDDLE_TABLE {
+        most * 2
+    } else {
+        most
+    }
 }
 
 /// The slot of each resident and the place of each remembered key, under the key's hash.

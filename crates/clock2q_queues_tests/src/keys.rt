@@ -88,13 +88,16 @@ fn keys_of_one_hash(rt: HostRuntime) -> Result<(), Fail> {
     Ok(())
 }
 
-/// A small index is made for three times as many entries, and a large one for no more.
+/// A small index is made for three times as many entries, one of middle size for twice as many, and
+/// a large one for no more.
 #[test]
 fn room_of_an_index(rt: HostRuntime) -> Result<(), Fail> {
     assert_eq!(rt; index_room(0), 0);
     assert_eq!(rt; index_room(1), 3);
     assert_eq!(rt; index_room(16_384), 49_152);
-    assert_eq!(rt; index_room(16_385), 16_385);
+    assert_eq!(rt; index_room(16_385), 32_770);
+    assert_eq!(rt; index_room(262_144), 524_288);
+    assert_eq!(rt; index_room(262_145), 262_145);
     assert_eq!(rt; index_room(16_777_215), 16_777_215);
     Ok(())
 }
