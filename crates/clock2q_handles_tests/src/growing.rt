@@ -1,4 +1,5 @@
 //! Tables that grow, and tables of few hashes.
+use crate::assertions::{same, same_at};
 use crate::hashed::{Handle, Hashed, Seen};
 use crate::walks::{A, B};
 use clock2q_handles::TableError;
@@ -18,10 +19,10 @@ fn growths(rt: HostRuntime) -> Result<(), Fail> {
             growths = growths.saturating_add(1);
         }
     }
-    assert_eq!(rt; growths, 10);
-    assert_eq!(rt; capacity, 6144);
-    assert_eq!(rt; asked.count.get(), 6132);
-    assert_eq!(rt; tested.table.len(), 5000);
+    same(&rt, growths, 10);
+    same(&rt, capacity, 6144);
+    same(&rt, asked.count.get(), 6132);
+    same(&rt, tested.table.len(), 5000);
     Ok(())
 }
 
@@ -32,8 +33,8 @@ fn one_hash(rt: HostRuntime) -> Result<(), Fail> {
     for number in 0..2000 {
         tested.insert(A, number, &asked)?;
     }
-    assert_eq!(rt; tested.table.capacity(), 3072);
-    assert_eq!(rt; tested.count(A), 2000);
+    same(&rt, tested.table.capacity(), 3072);
+    same(&rt, tested.count(A), 2000);
     for half in 0..1000 {
         let handle = Handle {
             hash: A,
@@ -41,8 +42,8 @@ fn one_hash(rt: HostRuntime) -> Result<(), Fail> {
         };
         assert!(rt; tested.remove(A, handle), "{half}");
     }
-    assert_eq!(rt; tested.count(A), 1000);
-    assert_eq!(rt; tested.table.len(), 1000);
+    same(&rt, tested.count(A), 1000);
+    same(&rt, tested.table.len(), 1000);
     Ok(())
 }
 
@@ -64,10 +65,10 @@ fn alternating(alloc: Global, asked: &Seen) -> Result<Hashed, TableError> {
 fn two_hashes(rt: HostRuntime) -> Result<(), Fail> {
     let asked = Seen::new();
     let mut tested = alternating(rt.alloc(), &asked)?;
-    assert_eq!(rt; tested.table.capacity(), 12);
+    same(&rt, tested.table.capacity(), 12);
     tested.yields(&rt, A, &[0, 1, 2, 3, 4, 5, 6, 7, 8, 9, 10, 11]);
     tested.reserve(&rt, 1, &asked)?;
-    assert_eq!(rt; tested.table.capacity(), 24);
+    same(&rt, tested.table.capacity(), 24);
     tested.yields(&rt, A, &[2, 4, 6, 8, 10, 0]);
     tested.yields(&rt, B, &[1, 3, 5, 7, 9, 11]);
     Ok(())
@@ -81,12 +82,12 @@ fn two_hashes_apart(rt: HostRuntime) -> Result<(), Fail> {
     let asked = Seen::new();
     let mut tested = alternating(rt.alloc(), &asked)?;
     tested.reserve(&rt, 1, &asked)?;
-    assert_eq!(rt; asked.first.get(), [1, 2, 3, 4, 5, 6, 7, 8]);
+    same(&rt, asked.first.get(), [1, 2, 3, 4, 5, 6, 7, 8]);
     let again = Seen::new();
     tested.reserve(&rt, 20, &again)?;
-    assert_eq!(rt; tested.table.capacity(), 48);
-    assert_eq!(rt; again.count.get(), 12);
-    assert_eq!(rt; again.first.get(), [3, 5, 7, 9, 11, 2, 4, 6]);
+    same(&rt, tested.table.capacity(), 48);
+    same(&rt, again.count.get(), 12);
+    same(&rt, again.first.get(), [3, 5, 7, 9, 11, 2, 4, 6]);
     tested.yields(&rt, A, &[2, 4, 6, 8, 10, 0]);
     tested.yields(&rt, B, &[3, 5, 7, 9, 11, 1]);
     Ok(())
@@ -99,11 +100,11 @@ fn slot_order(rt: HostRuntime) -> Result<(), Fail> {
     for (number, hash) in [(0, 14), (1, 14), (2, 15), (3, 0), (4, 0)] {
         tested.insert(hash, number, &asked)?;
     }
-    assert_eq!(rt; asked.count.get(), 0);
+    same(&rt, asked.count.get(), 0);
     tested.reserve(&rt, 20, &asked)?;
-    assert_eq!(rt; asked.count.get(), 5);
-    assert_eq!(rt; asked.first.get(), [2, 3, 4, 0, 1, 0, 0, 0]);
-    assert_eq!(rt; tested.table.capacity(), 48);
+    same(&rt, asked.count.get(), 5);
+    same(&rt, asked.first.get(), [2, 3, 4, 0, 1, 0, 0, 0]);
+    same(&rt, tested.table.capacity(), 48);
     tested.yields(&rt, 14, &[0, 1]);
     tested.yields(&rt, 15, &[2]);
     tested.yields(&rt, 0, &[3, 4]);
@@ -125,15 +126,11 @@ fn found_after_growth(rt: HostRuntime) -> Result<(), Fail> {
             &offered,
             &asked,
         )?;
-        assert_eq!(rt;
-            (outcome.0.number, outcome.1),
-            reply,
-            "accepting {accepted}"
-        );
-        assert_eq!(rt; offered.count.get(), offers, "accepting {accepted}");
-        assert_eq!(rt; offered.first.get()[0], 2, "accepting {accepted}");
-        assert_eq!(rt; asked.count.get(), 12, "accepting {accepted}");
-        assert_eq!(rt; tested.table.capacity(), 24, "accepting {accepted}");
+        same_at(&rt, (outcome.0.number, outcome.1), reply, accepted);
+        same_at(&rt, offered.count.get(), offers, accepted);
+        same_at(&rt, offered.first.get()[0], 2, accepted);
+        same_at(&rt, asked.count.get(), 12, accepted);
+        same_at(&rt, tested.table.capacity(), 24, accepted);
     }
     Ok(())
 }
@@ -150,11 +147,11 @@ fn found_or_new(rt: HostRuntime) -> Result<(), Fail> {
         (9, 2, 2, (2, true)),
     ] {
         let outcome = tested.find_or_insert(Handle { hash, number }, accepted, &offered, &asked)?;
-        assert_eq!(rt; (outcome.0.number, outcome.1), reply, "handle {number}");
+        same_at(&rt, (outcome.0.number, outcome.1), reply, number);
     }
     tested.yields(&rt, 5, &[0, 1]);
     tested.yields(&rt, 9, &[2]);
-    assert_eq!(rt; tested.table.len(), 3);
-    assert_eq!(rt; (offered.count.get(), asked.count.get()), (2, 0));
+    same(&rt, tested.table.len(), 3);
+    same(&rt, (offered.count.get(), asked.count.get()), (2, 0));
     Ok(())
 }

@@ -1,6 +1,7 @@
 //! A table in which each handle was put in under the hash that it tells.
 ghost use Rattle.std.specs.Prelude.{◌≡◌};
 
+use crate::assertions::{same, same_at};
 use clock2q_handles::{Table, TableError};
 use std::alloc::Global;
 use std::cell::Cell;
@@ -46,9 +47,9 @@ impl Seen {
 
     /// The same handles were seen, as far as is told.
     pub(crate) fn is_same(&self, rt: &impl Abort, other: &Seen, shown: &str) {
-        assert_eq!(rt; self.count.get(), other.count.get(), "{shown}");
-        assert_eq!(rt; self.first.get(), other.first.get(), "{shown}");
-        assert_eq!(rt; self.mixed.get(), other.mixed.get(), "{shown}");
+        same_at(rt, self.count.get(), other.count.get(), shown);
+        same_at(rt, self.first.get(), other.first.get(), shown);
+        same_at(rt, self.mixed.get(), other.mixed.get(), shown);
     }
 }
 
@@ -116,7 +117,7 @@ impl Hashed {
                 held.hash
             },
         );
-        assert_eq!(rt; self.table.len(), before);
+        same(rt, self.table.len(), before);
         outcome
     }
 
@@ -159,8 +160,8 @@ impl Hashed {
         let mut walk = self.table.get(hash);
         for number in wanted {
             let found = walk.next().map(|handle| handle.number);
-            assert_eq!(rt; found, Some(*number));
+            same(rt, found, Some(*number));
         }
-        assert_eq!(rt; walk.next(), None);
+        same(rt, walk.next(), None);
     }
 }

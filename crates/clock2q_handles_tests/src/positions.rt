@@ -1,4 +1,5 @@
 //! Entries replaced and removed where a search finds them, and others inserted at its gap.
+use crate::assertions::same;
 use crate::walks::{A, B, yields};
 use clock2q_handles::Table;
 use std::alloc::Global;
@@ -51,9 +52,9 @@ fn wrapped(alloc: Global) -> Result<Table<u32>, Fail> {
 #[test]
 fn replaced_where_they_stand(rt: HostRuntime) -> Result<(), Fail> {
     let mut table = wrapped(rt.alloc())?;
-    assert_eq!(rt; set(&mut table, 15, 1, 10), Led::Replaced(0));
-    assert_eq!(rt; set(&mut table, 0, 3, 30), Led::Replaced(2));
-    assert_eq!(rt; table.len(), 4);
+    same(&rt, set(&mut table, 15, 1, 10), Led::Replaced(0));
+    same(&rt, set(&mut table, 0, 3, 30), Led::Replaced(2));
+    same(&rt, table.len(), 4);
     yields(&rt, table.get(15), &[0, 10], "last home");
     yields(&rt, table.get(0), &[2, 30], "first home");
     Ok(())
@@ -62,11 +63,11 @@ fn replaced_where_they_stand(rt: HostRuntime) -> Result<(), Fail> {
 #[test]
 fn inserted_at_the_gap(rt: HostRuntime) -> Result<(), Fail> {
     let mut table = wrapped(rt.alloc())?;
-    assert_eq!(rt; set(&mut table, 15, 7, 4), Led::Inserted);
+    same(&rt, set(&mut table, 15, 7, 4), Led::Inserted);
     yields(&rt, table.get(15), &[0, 1, 4], "last home");
     yields(&rt, table.get(0), &[2, 3], "first home");
-    assert_eq!(rt; set(&mut table, A, 5, 5), Led::Inserted);
-    assert_eq!(rt; set(&mut table, B, 5, 6), Led::Replaced(2));
+    same(&rt, set(&mut table, A, 5, 5), Led::Inserted);
+    same(&rt, set(&mut table, B, 5, 6), Led::Replaced(2));
     yields(&rt, table.get(A), &[6], "another fingerprint");
     Ok(())
 }
@@ -74,11 +75,11 @@ fn inserted_at_the_gap(rt: HostRuntime) -> Result<(), Fail> {
 #[test]
 fn removed_where_they_stand(rt: HostRuntime) -> Result<(), Fail> {
     let mut table = wrapped(rt.alloc())?;
-    assert_eq!(rt; take(&mut table, 15, 0), Some(15));
-    assert_eq!(rt; take(&mut table, 0, 3), Some(1));
-    assert_eq!(rt; take(&mut table, 0, 3), None);
+    same(&rt, take(&mut table, 15, 0), Some(15));
+    same(&rt, take(&mut table, 0, 3), Some(1));
+    same(&rt, take(&mut table, 0, 3), None);
     yields(&rt, table.get(15), &[1], "last home");
     yields(&rt, table.get(0), &[2], "first home");
-    assert_eq!(rt; take(&mut Table::new(rt.alloc()), 0, 3), None);
+    same(&rt, take(&mut Table::new(rt.alloc()), 0, 3), None);
     Ok(())
 }

@@ -1,4 +1,5 @@
 //! The texts of refusals.
+use crate::assertions::same;
 use clock2q_handles::TableError;
 use std::test::Fail;
 
@@ -10,7 +11,7 @@ fn refusals_show(rt: HostRuntime) -> Result<(), Fail> {
         (TableError::RunTooLong, "run too long"),
     ] {
         let shown = format!(in rt.alloc(); "{refusal}")?;
-        assert_eq!(rt; shown.as_str(), text);
+        same(&rt, shown.as_str(), text);
     }
     Ok(())
 }

@@ -1,5 +1,6 @@
 //! Lists of calls from seeds, each call's reply and what it leaves compared with plain lists.
 
+use crate::assertions::same_at;
 use crate::hashed::{Handle, Hashed, Seen};
 use crate::plain::Plain;
 use crate::walks::yields;
@@ -125,7 +126,7 @@ impl Pair {
         match call {
             Call::Insert(handle) => {
                 let reply = self.tested.insert(handle.hash, handle.number, &asked);
-                assert_eq!(rt; reply, Ok(()), "{shown}");
+                same_at(rt, reply, Ok(()), shown);
                 self.plain.insert(handle, &asks)?;
             }
             Call::FindOrInsert(handle, accepted) => {
@@ -133,21 +134,21 @@ impl Pair {
                     .tested
                     .find_or_insert(handle, accepted, &offered, &asked);
                 let wanted = self.plain.find_or_insert(handle, accepted, &offers, &asks)?;
-                assert_eq!(rt; reply, Ok(wanted), "{shown}");
+                same_at(rt, reply, Ok(wanted), shown);
             }
             Call::Remove(hash, handle) => {
                 let wanted = self.plain.remove(hash, handle);
-                assert_eq!(rt; self.tested.remove(hash, handle), wanted, "{shown}");
+                same_at(rt, self.tested.remove(hash, handle), wanted, shown);
             }
             Call::Reserve(additional) => {
                 let reply = self.tested.reserve(rt, additional, &asked);
-                assert_eq!(rt; reply, self.plain.reserve(additional, &asks), "{shown}");
+                same_at(rt, reply, self.plain.reserve(additional, &asks), shown);
             }
             Call::Get(hash) => self.lookup_is_same(rt, hash, shown)?,
             Call::Len | Call::Capacity => self.sizes_are_same(rt, shown),
             Call::IsEmpty => {
                 let wanted = self.plain.len() == 0;
-                assert_eq!(rt; self.tested.table.is_empty(), wanted, "{shown}");
+                same_at(rt, self.tested.table.is_empty(), wanted, shown);
             }
         }
         offered.is_same(rt, &offers, shown);
@@ -156,11 +157,12 @@ impl Pair {
     }
 
     fn sizes_are_same(&self, rt: &impl Abort, shown: &str) {
-        assert_eq!(rt; self.tested.table.len(), self.plain.len(), "{shown}");
-        assert_eq!(rt;
+        same_at(rt, self.tested.table.len(), self.plain.len(), shown);
+        same_at(
+            rt,
             self.tested.table.capacity(),
             self.plain.capacity(),
-            "{shown}"
+            shown,
         );
     }
 

@@ -1,4 +1,5 @@
 //! Tables whose lookups are worked out by hand.
+use crate::assertions::{same, same_at};
 use crate::walks::{A, B, yields, yields_as_peeked};
 use clock2q_handles::{Table, TableError};
 use std::process::Abort;
@@ -10,11 +11,7 @@ const FEWEST_OF_MANY: usize = (1 << 24) - 1;
 /// Puts a handle in where there is room.
 fn put(rt: &impl Abort, table: &mut Table<usize>, hash: u64, handle: usize) {
     assert!(rt; table.len() < table.capacity(), "the table is full");
-    assert_eq!(rt;
-        table.insert(hash, handle, |_| 0),
-        Ok(()),
-        "handle {handle}"
-    );
+    same_at(rt, table.insert(hash, handle, |_| 0), Ok(()), handle);
 }
 
 #[test]
@@ -29,7 +26,7 @@ fn four_handles(rt: HostRuntime) -> Result<(), Fail> {
     yields(&rt, table.get(0xAB00_0000_0000_0006), &[2], "third");
     yields(&rt, table.get(0xCD00_0000_0000_0005), &[3], "fourth");
     let shown = format!(in rt.alloc(); "{table:?}")?;
-    assert_eq!(rt; shown.as_str(), "Table { len: 4, slots: 16 }");
+    same(&rt, shown.as_str(), "Table { len: 4, slots: 16 }");
     put(&rt, &mut table, first, 4);
     yields(&rt, table.get(first), &[0, 1, 4], "five");
     assert!(rt; table.remove(first, 4));
@@ -52,7 +49,7 @@ fn four_handles_less_one(rt: HostRuntime) -> Result<(), Fail> {
     assert!(rt; table.remove(0xAB00_0100_0000_0005, 0));
     yields(&rt, table.get(first), &[1], "after the removal");
     assert!(rt; !table.remove(first, 0));
-    assert_eq!(rt; table.len(), 3);
+    same(&rt, table.len(), 3);
     Ok(())
 }
 
@@ -131,7 +128,7 @@ fn full_table(rt: HostRuntime) -> Result<(), Fail> {
     put(&rt, &mut table, A, 12);
     let again = [0, 1, 2, 3, 4, 6, 7, 8, 9, 10, 11, 12];
     yields(&rt, table.get(A), &again, "one more");
-    assert_eq!(rt; table.capacity(), 12);
+    same(&rt, table.capacity(), 12);
     Ok(())
 }
 
@@ -150,7 +147,7 @@ fn among_few(rt: HostRuntime) -> Result<(), Fail> {
     assert!(rt; put_among_few(&mut table, 15, 0));
     assert!(rt; put_among_few(&mut table, 0, 1));
     assert!(rt; put_among_few(&mut table, 15, 2));
-    assert_eq!(rt; table.len(), 3);
+    same(&rt, table.len(), 3);
     yields(&rt, table.get(15), &[0, 2], "last home");
     yields(&rt, table.get(0), &[1], "first home");
     Ok(())
@@ -163,14 +160,14 @@ fn unallocated(rt: HostRuntime) {
     assert!(rt; table.is_empty());
     yields(&rt, table.get(5), &[], "unallocated");
     assert!(rt; !table.remove(5, 0));
-    assert_eq!(rt; table.capacity(), 0);
+    same(&rt, table.capacity(), 0);
 }
 
 #[test]
 fn capacities(rt: HostRuntime) -> Result<(), Fail> {
     for (entries, capacity) in [(0, 0), (1, 12), (12, 12), (13, 24), (384, 384), (385, 768)] {
         let table: Table<usize> = Table::with_capacity(rt.alloc(), entries)?;
-        assert_eq!(rt; table.capacity(), capacity, "for {entries}");
+        same_at(&rt, table.capacity(), capacity, entries);
     }
     let most = 6_917_529_027_641_081_856;
     for (entries, error) in [
@@ -180,7 +177,7 @@ fn capacities(rt: HostRuntime) -> Result<(), Fail> {
     ] {
         match Table::<usize>::with_capacity(rt.alloc(), entries) {
             Ok(_) => assert!(rt; false, "{entries} fit"),
-            Err(refusal) => assert_eq!(rt; refusal, error, "for {entries}"),
+            Err(refusal) => same_at(&rt, refusal, error, entries),
         }
     }
     Ok(())

@@ -1,4 +1,5 @@
 //! What a lookup of a table yields, and two hashes that a small table can't tell apart.
+use crate::assertions::same_at;
 use clock2q_handles::Candidates;
 use std::fmt::Debug;
 use std::process::Abort;
@@ -17,13 +18,13 @@ pub(crate) fn yields_as_peeked<H: Copy + Eq + Default + Debug>(
     shown: &str,
 ) {
     for handle in wanted {
-        assert_eq!(rt; walk.peek(), Some(*handle), "{shown}");
-        assert_eq!(rt; walk.peek(), Some(*handle), "{shown}");
-        assert_eq!(rt; walk.next(), Some(*handle), "{shown}");
+        same_at(rt, walk.peek(), Some(*handle), shown);
+        same_at(rt, walk.peek(), Some(*handle), shown);
+        same_at(rt, walk.next(), Some(*handle), shown);
     }
-    assert_eq!(rt; walk.peek(), None, "{shown}");
-    assert_eq!(rt; walk.peek(), None, "{shown}");
-    assert_eq!(rt; walk.next(), None, "{shown}");
+    same_at(rt, walk.peek(), None, shown);
+    same_at(rt, walk.peek(), None, shown);
+    same_at(rt, walk.next(), None, shown);
 }
 
 /// A walk yields just the wanted handles, and None from then on.
@@ -34,8 +35,8 @@ pub(crate) fn yields<H: Copy + Eq + Default + Debug>(
     shown: &str,
 ) {
     for handle in wanted {
-        assert_eq!(rt; walk.next(), Some(*handle), "{shown}");
+        same_at(rt, walk.next(), Some(*handle), shown);
     }
-    assert_eq!(rt; walk.next(), None, "{shown}");
-    assert_eq!(rt; walk.next(), None, "{shown}");
+    same_at(rt, walk.next(), None, shown);
+    same_at(rt, walk.next(), None, shown);
 }

@@ -1,5 +1,6 @@
 //! How many keys each call compares, and how often it hashes one.
 
+use crate::assertions::{same, same_at};
 use crate::calls::{ALIKE, APART, CHANGES, Call, Counting, LOOKUPS, make, remove, two_of_three};
 use crate::counted::Counts;
 use clock2q_cache::Cache;
@@ -26,8 +27,8 @@ fn looks_up<'a>(
     questions: u64,
 ) {
     let found = cache.peek(&counts.key(id)).is_some();
-    assert_eq!(rt; found, questions > 0, "{id}");
-    assert_eq!(rt; counts.asked_and_hashed(), (questions, 1), "{id}");
+    same_at(rt, found, questions > 0, id);
+    same_at(rt, counts.asked_and_hashed(), (questions, 1), id);
 }
 
 /// Removing a key that isn't resident asks so many keys.
@@ -38,23 +39,33 @@ fn removes_none<'a>(
     id: u64,
     questions: u64,
 ) {
-    assert!(rt; !remove(cache, counts, id), "{id}");
-    assert_eq!(rt; counts.asked_and_hashed(), (questions, 1), "{id}");
+    same_at(rt, remove(cache, counts, id), false, id);
+    same_at(rt, counts.asked_and_hashed(), (questions, 1), id);
+}
+
+/// A cache of twenty keys, of which no two hash alike.
+fn of_twenty<'a>(alloc: Global) -> Result<Counting<'a>, Fail> {
+    let capacity = NonZeroUsize::new(20).ok_or("not zero")?;
+    Ok(Cache::with_hasher(alloc, capacity, APART)?)
+}
+
+/// Looks up and removes while such a cache is filled.
+fn at_most_one_is_asked<'a>(rt: &impl Abort, cache: &mut Counting<'a>, counts: &'a Counts) {
+    fill(cache, counts, 1, 21);
+    for (id, questions) in [(20, 1), (21, 0)] {
+        looks_up(rt, cache, counts, id, questions);
+    }
+    fill(cache, counts, 21, 25);
+    for (id, questions) in [(25, 0), (22, 1)] {
+        removes_none(rt, cache, counts, id, questions);
+    }
 }
 
 #[test]
 fn only_keys_that_hash_alike_are_asked(rt: HostRuntime) -> Result<(), Fail> {
     let counts = Counts::new();
-    let capacity = NonZeroUsize::new(20).ok_or("not zero")?;
-    let mut cache = Cache::with_hasher(rt.alloc(), capacity, APART)?;
-    fill(&mut cache, &counts, 1, 21);
-    for (id, questions) in [(20, 1), (21, 0)] {
-        looks_up(&rt, &cache, &counts, id, questions);
-    }
-    fill(&mut cache, &counts, 21, 25);
-    for (id, questions) in [(25, 0), (22, 1)] {
-        removes_none(&rt, &mut cache, &counts, id, questions);
-    }
+    let mut cache = of_twenty(rt.alloc())?;
+    at_most_one_is_asked(&rt, &mut cache, &counts);
     Ok(())
 }
 
@@ -79,7 +90,7 @@ fn each_asks(
     for call in calls {
         for (id, questions) in wanted {
             let asked = asked_by(alloc, spread, *call, id)?;
-            assert_eq!(rt; asked, (questions, 1), "{call:?} {id}");
+            same_at(rt, asked, (questions, 1), (call, id));
         }
     }
     Ok(())
@@ -118,12 +129,9 @@ fn is_found_at<'a>(cache: &mut Counting<'a>, counts: &'a Counts, slot: usize, id
     cache.get_at(slot, &counts.key(id)).is_some()
 }
 
-/// The key at the slot is asked, if it is resident, and none is hashed.
-#[test]
-fn a_hint_asks_one_key_and_hashes_none(rt: HostRuntime) -> Result<(), Fail> {
-    let counts = Counts::new();
-    let mut cache = two_of_three(rt.alloc(), ALIKE, &counts)?;
-    assert!(rt; remove(&mut cache, &counts, 2));
+/// Looks keys up at slots of a cache that [`two_of_three`] makes, once 2 was removed.
+fn hints_ask<'a>(rt: &impl Abort, cache: &mut Counting<'a>, counts: &'a Counts) {
+    same(rt, remove(cache, counts, 2), true);
     let _ = counts.asked_and_hashed();
     for (slot, id, questions) in [
         (0, 3, 1),
@@ -132,10 +140,18 @@ fn a_hint_asks_one_key_and_hashes_none(rt: HostRuntime) -> Result<(), Fail> {
         (2, 3, 0),
         (usize::MAX, 3, 0),
     ] {
-        let found = is_found_at(&mut cache, &counts, slot, id);
-        assert_eq!(rt; found, slot == 0 && id == 3, "{slot} {id}");
-        assert_eq!(rt; counts.asked_and_hashed(), (questions, 0), "{slot} {id}");
+        let found = is_found_at(cache, counts, slot, id);
+        same_at(rt, found, slot == 0 && id == 3, (slot, id));
+        same_at(rt, counts.asked_and_hashed(), (questions, 0), (slot, id));
     }
+}
+
+/// The key at the slot is asked, if it is resident, and none is hashed.
+#[test]
+fn a_hint_asks_one_key_and_hashes_none(rt: HostRuntime) -> Result<(), Fail> {
+    let counts = Counts::new();
+    let mut cache = two_of_three(rt.alloc(), ALIKE, &counts)?;
+    hints_ask(&rt, &mut cache, &counts);
     Ok(())
 }
 
@@ -144,15 +160,20 @@ fn retain_three(cache: &mut Counting<'_>) {
     cache.retain(|_, value| *value == 3);
 }
 
+/// Removes keys that aren't named.
+fn retain_and_clear(rt: &impl Abort, cache: &mut Counting<'_>) {
+    retain_three(cache);
+    same(rt, cache.len(), 1);
+    cache.clear();
+    same(rt, cache.len(), 0);
+}
+
 #[test]
 fn calls_without_a_key_ask_and_hash_none(rt: HostRuntime) -> Result<(), Fail> {
     let counts = Counts::new();
     let mut cache = two_of_three(rt.alloc(), ALIKE, &counts)?;
     let _ = counts.asked_and_hashed();
-    retain_three(&mut cache);
-    assert_eq!(rt; cache.len(), 1);
-    cache.clear();
-    assert_eq!(rt; cache.len(), 0);
-    assert_eq!(rt; counts.asked_and_hashed(), (0, 0));
+    retain_and_clear(&rt, &mut cache);
+    same(&rt, counts.asked_and_hashed(), (0, 0));
     Ok(())
 }

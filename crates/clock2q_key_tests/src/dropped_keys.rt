@@ -1,5 +1,6 @@
 //! When keys are dropped: each of them once.
 
+use crate::assertions::same;
 use crate::calls::{APART, CHANGES, Call, Counting, LOOKUPS, make, remove, two_of_three};
 use crate::counted::Counts;
 use std::process::Abort;
@@ -7,7 +8,7 @@ use std::test::Fail;
 
 /// So many keys were dropped, and so many are left.
 fn dropped(rt: &impl Abort, counts: &Counts, wanted: (u64, u64)) {
-    assert_eq!(rt; counts.dropped_and_left(), wanted);
+    same(rt, counts.dropped_and_left(), wanted);
 }
 
 /// Puts a key with a value.
@@ -15,19 +16,32 @@ fn put<'a>(cache: &mut Counting<'a>, counts: &'a Counts, id: u64, value: u64) {
     let _ = cache.put(counts.key(id), value);
 }
 
+/// Puts a key again, then a new one, and clears a cache that [`two_of_three`] makes.
+fn replace_and_clear<'a>(rt: &impl Abort, cache: &mut Counting<'a>, counts: &'a Counts) {
+    dropped(rt, counts, (0, 3));
+    put(cache, counts, 3, 30);
+    dropped(rt, counts, (1, 3));
+    put(cache, counts, 4, 4);
+    dropped(rt, counts, (2, 3));
+    cache.clear();
+    dropped(rt, counts, (5, 0));
+}
+
 /// The history has one place, so a second key that Small evicts drops the first.
 #[test]
 fn a_key_is_dropped_where_it_is_replaced(rt: HostRuntime) -> Result<(), Fail> {
     let counts = Counts::new();
     let mut cache = two_of_three(rt.alloc(), APART, &counts)?;
-    dropped(&rt, &counts, (0, 3));
-    put(&mut cache, &counts, 3, 30);
-    dropped(&rt, &counts, (1, 3));
-    put(&mut cache, &counts, 4, 4);
-    dropped(&rt, &counts, (2, 3));
-    cache.clear();
-    dropped(&rt, &counts, (5, 0));
+    replace_and_clear(&rt, &mut cache, &counts);
     Ok(())
+}
+
+/// Removes a key from such a cache, and puts another.
+fn remove_and_put<'a>(rt: &impl Abort, cache: &mut Counting<'a>, counts: &'a Counts) {
+    same(rt, remove(cache, counts, 3), true);
+    dropped(rt, counts, (1, 3));
+    put(cache, counts, 4, 4);
+    dropped(rt, counts, (2, 3));
 }
 
 /// The key that is asked about is dropped, and the stored one when another takes its slot.
@@ -35,10 +49,7 @@ fn a_key_is_dropped_where_it_is_replaced(rt: HostRuntime) -> Result<(), Fail> {
 fn a_removed_key_stays_in_its_slot(rt: HostRuntime) -> Result<(), Fail> {
     let counts = Counts::new();
     let mut cache = two_of_three(rt.alloc(), APART, &counts)?;
-    assert!(rt; remove(&mut cache, &counts, 3));
-    dropped(&rt, &counts, (1, 3));
-    put(&mut cache, &counts, 4, 4);
-    dropped(&rt, &counts, (2, 3));
+    remove_and_put(&rt, &mut cache, &counts);
     Ok(())
 }
 

@@ -5,6 +5,8 @@
 #[cfg(test)]
 mod asked;
 #[cfg(test)]
+mod assertions;
+#[cfg(test)]
 mod calls;
 #[cfg(test)]
 mod counted;

@@ -2,6 +2,7 @@
 ghost use Rattle.std.specs.Prelude.{IfOk, map};
 ghost use Rattle.clock2q_text.specs.Commands.{AreSupplied, call_of};
 
+use crate::assertions::{same, same_at};
 use crate::calls::{ALIKE, APART, two_of_three};
 use crate::counted::{Counted, Counts};
 use clock2q_command::{Command, run};
@@ -83,8 +84,8 @@ fn bringing_in(alloc: Global, spread: Spread, id: u64) -> Result<(u64, u64), Fai
 #[test]
 fn lookups_ask_no_more(rt: HostRuntime) -> Result<(), Fail> {
     for (id, apart, alike) in [(3, 5, 11), (1, 1, 9), (4, 0, 11)] {
-        assert_eq!(rt; looking_up(rt.alloc(), APART, id)?, (apart, 5), "{id}");
-        assert_eq!(rt; looking_up(rt.alloc(), ALIKE, id)?, (alike, 5), "{id}");
+        same_at(&rt, looking_up(rt.alloc(), APART, id)?, (apart, 5), id);
+        same_at(&rt, looking_up(rt.alloc(), ALIKE, id)?, (alike, 5), id);
     }
     Ok(())
 }
@@ -95,8 +96,8 @@ fn lookups_ask_no_more(rt: HostRuntime) -> Result<(), Fail> {
 #[test]
 fn insertions_ask_no_more(rt: HostRuntime) -> Result<(), Fail> {
     for (id, apart, alike) in [(3, 5, 14), (1, 5, 9), (4, 4, 14)] {
-        assert_eq!(rt; bringing_in(rt.alloc(), APART, id)?, (apart, 5), "{id}");
-        assert_eq!(rt; bringing_in(rt.alloc(), ALIKE, id)?, (alike, 5), "{id}");
+        same_at(&rt, bringing_in(rt.alloc(), APART, id)?, (apart, 5), id);
+        same_at(&rt, bringing_in(rt.alloc(), ALIKE, id)?, (alike, 5), id);
     }
     Ok(())
 }
@@ -106,6 +107,6 @@ fn other_commands_hash_nothing(rt: HostRuntime) -> Result<(), Fail> {
     let alloc = rt.alloc();
     let counts = Counts::new();
     let asked = asked_by(alloc, ALIKE, &counts, others(alloc, &counts)?)?;
-    assert_eq!(rt; asked, (1, 0));
+    same(&rt, asked, (1, 0));
     Ok(())
 }

@@ -5,7 +5,9 @@ ghost use Rattle.std.specs.Ordering.{on};
 ghost use Rattle.std.specs.Prelude.{nat_eq};
 ghost use Rattle.std.proofs.Common.{rules};
 
+use crate::assertions::{same, same_at};
 use clock2q_cache::{Cache, DefaultHashBuilder};
+use std::alloc::Global;
 use std::hash::{Hash, Hasher};
 use std::num::NonZeroUsize;
 use std::process::Abort;
@@ -46,48 +48,60 @@ type Tags = Cache<Tagged, u64, DefaultHashBuilder>;
 
 /// Stores a value for a key, of which the one before is known.
 fn put(rt: &impl Abort, cache: &mut Tags, id: u64, tag: char, value: u64, before: Option<u64>) {
-    assert_eq!(rt; cache.put(Tagged { id, tag }, value), before, "{id} {tag}");
+    same_at(rt, cache.put(Tagged { id, tag }, value), before, (id, tag));
 }
 
 /// The residents have just these ids and tags, by ascending slot.
 fn stay(rt: &impl Abort, cache: &mut Tags, keys: &[(u64, char)]) {
     let mut left = keys;
-    let mut same = true;
+    let mut alike = true;
     cache.retain(|key, _| {
         match left.split_first() {
             Some((wanted, others)) => {
-                same = same && wanted.0 == key.id && wanted.1 == key.tag;
+                alike = alike && wanted.0 == key.id && wanted.1 == key.tag;
                 left = others;
             }
-            None => same = false,
+            None => alike = false,
         }
         true
     });
-    assert!(rt; same && left.is_empty(), "{keys:?}");
+    assert!(rt; alike && left.is_empty(), "{keys:?}");
+}
+
+/// A cache of two keys.
+fn of_two(alloc: Global) -> Result<Tags, Fail> {
+    let capacity = NonZeroUsize::new(2).ok_or("not zero")?;
+    Ok(Cache::new(alloc, capacity)?)
+}
+
+/// Puts a key again, removes it, and puts it once more.
+fn first_stays(rt: &impl Abort, cache: &mut Tags) {
+    put(rt, cache, 1, 'a', 10, None);
+    put(rt, cache, 1, 'b', 11, Some(10));
+    stay(rt, cache, &[(1, 'a')]);
+    let gone = Tagged { id: 1, tag: 'c' };
+    same(rt, cache.remove(&gone), true);
+    put(rt, cache, 1, 'd', 12, None);
+    stay(rt, cache, &[(1, 'd')]);
 }
 
 #[test]
 fn a_stored_key_stays(rt: HostRuntime) -> Result<(), Fail> {
-    let capacity = NonZeroUsize::new(2).ok_or("not zero")?;
-    let mut cache = Cache::new(rt.alloc(), capacity)?;
-    put(&rt, &mut cache, 1, 'a', 10, None);
-    put(&rt, &mut cache, 1, 'b', 11, Some(10));
-    stay(&rt, &mut cache, &[(1, 'a')]);
-    let gone = Tagged { id: 1, tag: 'c' };
-    assert!(rt; cache.remove(&gone));
-    put(&rt, &mut cache, 1, 'd', 12, None);
-    stay(&rt, &mut cache, &[(1, 'd')]);
+    first_stays(&rt, &mut of_two(rt.alloc())?);
     Ok(())
+}
+
+/// Puts three keys, and the first again.
+fn put_again(rt: &impl Abort, cache: &mut Tags) {
+    for id in 1..4 {
+        put(rt, cache, id, 'a', id, None);
+    }
+    put(rt, cache, 1, 'b', 4, None);
+    stay(rt, cache, &[(3, 'a'), (1, 'b')]);
 }
 
 #[test]
 fn a_key_that_returns_is_stored_anew(rt: HostRuntime) -> Result<(), Fail> {
-    let capacity = NonZeroUsize::new(2).ok_or("not zero")?;
-    let mut cache = Cache::new(rt.alloc(), capacity)?;
-    for id in 1..4 {
-        put(&rt, &mut cache, id, 'a', id, None);
-    }
-    put(&rt, &mut cache, 1, 'b', 4, None);
-    stay(&rt, &mut cache, &[(3, 'a'), (1, 'b')]);
+    put_again(&rt, &mut of_two(rt.alloc())?);
     Ok(())
 }

@@ -32,12 +32,10 @@ fn drive(rt: &impl Abort, tested: &mut Crowded, calls: u64, list: u64) -> Result
     Ok(())
 }
 
-/// A cache under a hasher agrees with its lists.
-fn agrees(rt: &impl Abort, alloc: Global, capacity: u64, spread: Spread) -> Result<(), Fail> {
-    let list = spread.times;
-    let mut tested = Tested::usual(alloc, capacity as usize, spread)?;
-    fill(rt, &mut tested, capacity, list)?;
-    drive(rt, &mut tested, 1_000, list)?;
+/// An empty cache of some capacity agrees with its lists.
+fn is_same(rt: &impl Abort, tested: &mut Crowded, capacity: u64, list: u64) -> Result<(), Fail> {
+    fill(rt, tested, capacity, list)?;
+    drive(rt, tested, 1_000, list)?;
     tested.slots_are_same(
         rt,
         Position {
@@ -45,6 +43,12 @@ fn agrees(rt: &impl Abort, alloc: Global, capacity: u64, spread: Spread) -> Resu
             number: capacity,
         },
     )
+}
+
+/// The same of a cache made for it, under a hasher.
+fn agrees(rt: &impl Abort, alloc: Global, capacity: u64, spread: Spread) -> Result<(), Fail> {
+    let mut tested = Tested::usual(alloc, capacity as usize, spread)?;
+    is_same(rt, &mut tested, capacity, spread.times)
 }
 
 #[test]

@@ -82,7 +82,18 @@ fn look_closely(rt: &impl Abort, tested: &mut Usual, end: Position) -> Result<()
     tested.take_apart(rt, end)
 }
 
-/// Begins a list anew and looks closely where it comes to.
+/// Begins a list in an empty cache and looks closely where it comes to.
+fn drive_and_look(
+    rt: &impl Abort,
+    tested: &mut Usual,
+    end: Position,
+    draws: &mut Draws,
+) -> Result<(), Fail> {
+    drive(rt, tested, end, draws)?;
+    look_closely(rt, tested, end)
+}
+
+/// The same of a cache made for it.
 fn beginning_is_same(
     rt: &impl Abort,
     alloc: Global,
@@ -92,8 +103,7 @@ fn beginning_is_same(
     let mut draws = Draws::new(end.list);
     let shares = shares_of(&mut draws, kind, end.list as usize);
     let mut tested = made(alloc, kind, shares)?;
-    drive(rt, &mut tested, end, &mut draws)?;
-    look_closely(rt, &mut tested, end)
+    drive_and_look(rt, &mut tested, end, &mut draws)
 }
 
 /// A close look ends a run, so each has a run of its own.

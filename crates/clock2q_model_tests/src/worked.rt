@@ -453,6 +453,30 @@ fn hit_all<S: BuildHasher + Drop>(
     Ok(())
 }
 
+/// A run answers so in an empty cache.
+fn run_answers<S: BuildHasher + Drop>(
+    rt: &impl Abort,
+    tested: &mut Tested<S>,
+    run: &Run,
+    position: Position,
+) -> Result<(), Fail> {
+    put_all(rt, tested, run.puts, position)?;
+    hit_all(rt, tested, run.hits, position)?;
+    answers_are_worked(rt, tested, run, position)
+}
+
+/// The same of a cache made for it.
+fn cache_answers<S: BuildHasher + Drop>(
+    rt: &impl Abort,
+    alloc: Global,
+    hasher: S,
+    run: &Run,
+    position: Position,
+) -> Result<(), Fail> {
+    let mut tested = Tested::usual(alloc, run.capacity, hasher)?;
+    run_answers(rt, &mut tested, run, position)
+}
+
 /// The runs answer so under a hasher.
 fn runs_answer<S: BuildHasher + Copy + Drop>(
     rt: &impl Abort,
@@ -465,10 +489,7 @@ fn runs_answer<S: BuildHasher + Copy + Drop>(
             list,
             number: number as u64,
         };
-        let mut tested = Tested::usual(alloc, run.capacity, hasher)?;
-        put_all(rt, &mut tested, run.puts, position)?;
-        hit_all(rt, &mut tested, run.hits, position)?;
-        answers_are_worked(rt, &mut tested, run, position)?;
+        cache_answers(rt, alloc, hasher, run, position)?;
     }
     Ok(())
 }

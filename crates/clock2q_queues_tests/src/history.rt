@@ -1,6 +1,7 @@
 //! The history beside a plain list of keys.
 ghost use Rattle.std.specs.Prelude.{◌<◌};
 
+use crate::assertions::{same, same_at};
 use crate::beside::Beside;
 use std::alloc::Global;
 use std::process::Abort;
@@ -30,25 +31,73 @@ fn call(beside: &mut Beside, key: u64, drawn: u64) -> Option<(bool, bool)> {
 }
 
 /// Two keys fit: a third one takes the place of the oldest.
+fn a_third_key_takes_a_place(rt: &impl Abort, beside: &mut Beside) {
+    same(rt, beside.renew(1), (false, true));
+    same(rt, beside.renew(5), (false, true));
+    same(rt, beside.forget(1), true);
+    same(rt, beside.renew(6), (false, true));
+    same(rt, beside.renew(7), (false, true));
+    same(rt, beside.len(), 2);
+    same(rt, beside.pass(6), true);
+    same(rt, beside.forget(6), false);
+    same(rt, beside.forget(5), false);
+    same(rt, beside.renew(8), (false, true));
+    same(rt, beside.renew(8), (true, true));
+    same(rt, beside.len(), 2);
+}
+
+/// A cleared history takes keys again.
+fn cleared(rt: &impl Abort, beside: &mut Beside) {
+    beside.clear();
+    same(rt, beside.len(), 0);
+    same(rt, beside.renew(8), (false, true));
+    same(rt, beside.len(), 1);
+}
+
 #[test]
 fn two_keys(rt: HostRuntime) -> Result<(), Fail> {
     let mut beside = Beside::new(rt.alloc(), 2, 100)?;
-    assert_eq!(rt; beside.renew(1), (false, true));
-    assert_eq!(rt; beside.renew(5), (false, true));
-    assert!(rt; beside.forget(1));
-    assert_eq!(rt; beside.renew(6), (false, true));
-    assert_eq!(rt; beside.renew(7), (false, true));
-    assert_eq!(rt; beside.len(), 2);
-    assert!(rt; beside.pass(6));
-    assert!(rt; !beside.forget(6));
-    assert!(rt; !beside.forget(5));
-    assert_eq!(rt; beside.renew(8), (false, true));
-    assert_eq!(rt; beside.renew(8), (true, true));
-    assert_eq!(rt; beside.len(), 2);
-    beside.clear();
-    assert_eq!(rt; beside.len(), 0);
-    assert_eq!(rt; beside.renew(8), (false, true));
-    assert_eq!(rt; beside.len(), 1);
+    a_third_key_takes_a_place(&rt, &mut beside);
+    cleared(&rt, &mut beside);
+    Ok(())
+}
+
+/// Takes a key out of the list, and returns true if it was there.
+fn take(list: &mut Vec<u64>, key: u64) -> bool {
+    let index = list.iter().position(|other| *other == key);
+    if let Some(index) = index {
+        list.remove(index);
+    }
+    index.is_some()
+}
+
+/// Does to the list, which the key was taken out of, what [`call`] does to the history.
+fn follow(list: &mut Vec<u64>, key: u64, drawn: u64, limit: usize) -> Result<(), Fail> {
+    if drawn % 97 == 0 {
+        list.clear();
+    } else if drawn % 3 != 0 {
+        list.insert(0, key)?;
+        list.truncate(limit);
+    }
+    Ok(())
+}
+
+/// One call of both.
+fn step(
+    rt: &impl Abort,
+    beside: &mut Beside,
+    list: &mut Vec<u64>,
+    limit: usize,
+    turn: u64,
+    drawn: u64,
+) -> Result<(), Fail> {
+    let key = (drawn >> 8) % 12;
+    let known = take(list, key);
+    if let Some(asked) = call(beside, key, drawn) {
+        same_at(rt, asked, (known, true), turn);
+    }
+    follow(list, key, drawn, limit)?;
+    same_at(rt, beside.len(), list.len(), turn);
     Ok(())
 }
 
@@ -62,21 +111,7 @@ fn beside_a_list(rt: &impl Abort, alloc: Global, limit: usize, hashes: u64) -> R
     let mut list: Vec<u64> = Vec::new(alloc);
     for turn in 0..2000u64 {
         let drawn = mixed(turn.wrapping_add(hashes));
-        let key = (drawn >> 8) % 12;
-        let known = list.iter().position(|other| *other == key);
-        if let Some(at) = known {
-            list.remove(at);
-        }
-        if let Some(asked) = call(&mut beside, key, drawn) {
-            assert_eq!(rt; asked, (known.is_some(), true), "turn {turn}");
-        }
-        if drawn % 97 == 0 {
-            list.clear();
-        } else if drawn % 3 != 0 {
-            list.insert(0, key)?;
-            list.truncate(limit);
-        }
-        assert_eq!(rt; beside.len(), list.len(), "turn {turn}");
+        step(rt, &mut beside, &mut list, limit, turn, drawn)?;
     }
     Ok(())
 }

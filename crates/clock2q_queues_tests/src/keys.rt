@@ -5,6 +5,7 @@ ghost use Rattle.clock2q_queues.specs.Keys.{is_key_at, with_value};
 ghost use Rattle.clock2q_queues.specs.Rings.{AllBelow};
 ghost use Rattle.clock2q_queues.specs.Indexes.{IsIndex};
 
+use crate::assertions::same;
 use clock2q_count::Count;
 use clock2q_handles::Table;
 use clock2q_queues::index::index_room;
@@ -25,21 +26,21 @@ fn two_keys(rt: HostRuntime) -> Result<(), Fail> {
     let mut keys: Keys<u64, u64> = Keys::new(rt.alloc(), 2)?;
     keys.push(7, 70, 700);
     keys.write(1, 8, 80, 800);
-    assert_eq!(rt; keys.len(), 2);
-    assert!(rt; keys.is(0, &70));
-    assert!(rt; !keys.is(1, &70));
-    assert_eq!(rt; keys.replace(0, 9, 90), (7, 70));
-    assert_eq!(rt; keys.hash(0), 9);
-    assert_eq!(rt; *keys.key(0), 90);
-    assert_eq!(rt; *keys.value(0), 700);
+    same(&rt, keys.len(), 2);
+    same(&rt, keys.is(0, &70), true);
+    same(&rt, keys.is(1, &70), false);
+    same(&rt, keys.replace(0, 9, 90), (7, 70));
+    same(&rt, keys.hash(0), 9);
+    same(&rt, *keys.key(0), 90);
+    same(&rt, *keys.value(0), 700);
     set_value(&mut keys, 0, 900);
-    assert_eq!(rt; keys.replace_value(0, 901), 900);
+    same(&rt, keys.replace_value(0, 901), 900);
     keys.write(1, 6, 60, 600);
-    assert!(rt; keys.is(1, &60));
-    assert_eq!(rt; *keys.value(1), 600);
-    assert_eq!(rt; *keys.value(0), 901);
+    same(&rt, keys.is(1, &60), true);
+    same(&rt, *keys.value(1), 600);
+    same(&rt, *keys.value(0), 901);
     keys.clear();
-    assert_eq!(rt; keys.len(), 0);
+    same(&rt, keys.len(), 0);
     Ok(())
 }
 
@@ -80,11 +81,11 @@ fn keys_of_one_hash(rt: HostRuntime) -> Result<(), Fail> {
     put(&mut keys, &mut index, 7, 70);
     put(&mut keys, &mut index, 7, 71);
     put(&mut keys, &mut index, 7 + 16, 72);
-    assert_eq!(rt; place_of(&mut keys, &index, 7, 70), Some(0));
-    assert_eq!(rt; place_of(&mut keys, &index, 7, 71), Some(1));
-    assert_eq!(rt; place_of(&mut keys, &index, 7, 73), None);
-    assert_eq!(rt; place_of(&mut keys, &index, 7 + 16, 72), Some(2));
-    assert_eq!(rt; place_of(&mut keys, &index, 8, 71), None);
+    same(&rt, place_of(&mut keys, &index, 7, 70), Some(0));
+    same(&rt, place_of(&mut keys, &index, 7, 71), Some(1));
+    same(&rt, place_of(&mut keys, &index, 7, 73), None);
+    same(&rt, place_of(&mut keys, &index, 7 + 16, 72), Some(2));
+    same(&rt, place_of(&mut keys, &index, 8, 71), None);
     Ok(())
 }
 
@@ -92,12 +93,12 @@ fn keys_of_one_hash(rt: HostRuntime) -> Result<(), Fail> {
 /// a large one for no more.
 #[test]
 fn room_of_an_index(rt: HostRuntime) -> Result<(), Fail> {
-    assert_eq!(rt; index_room(0), 0);
-    assert_eq!(rt; index_room(1), 3);
-    assert_eq!(rt; index_room(16_384), 49_152);
-    assert_eq!(rt; index_room(16_385), 32_770);
-    assert_eq!(rt; index_room(262_144), 524_288);
-    assert_eq!(rt; index_room(262_145), 262_145);
-    assert_eq!(rt; index_room(16_777_215), 16_777_215);
+    same(&rt, index_room(0), 0);
+    same(&rt, index_room(1), 3);
+    same(&rt, index_room(16_384), 49_152);
+    same(&rt, index_room(16_385), 32_770);
+    same(&rt, index_room(262_144), 524_288);
+    same(&rt, index_room(262_145), 262_145);
+    same(&rt, index_room(16_777_215), 16_777_215);
     Ok(())
 }

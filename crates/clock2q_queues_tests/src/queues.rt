@@ -3,6 +3,7 @@ ghost use Rattle.std.specs.Prelude.{◌≡◌, ◌+◌, ◌<◌, true, false, []
 ghost use Rattle.std.specs.List.{range_with_len};
 ghost use Rattle.clock2q_machine.specs.Ages.{Young, Old};
 
+use crate::assertions::same;
 use clock2q_queues::queues::{Queues, Standing};
 use std::alloc::Global;
 use std::process::Abort;
@@ -73,17 +74,17 @@ fn admit_again(queues: &mut Queues)
 fn admissions_count_after_a_removal(rt: HostRuntime) -> Result<(), Fail> {
     let mut queues = Queues::new(rt.alloc(), 4, 2)?;
     admit_again(&mut queues);
-    assert_eq!(rt; queues.standing(3), Standing::Small);
+    same(&rt, queues.standing(3), Standing::Small);
     hit(&rt, &mut queues, 2);
-    assert_eq!(rt; queues.small_len(), 4);
-    assert_eq!(rt; queues.tail(), Some(0));
-    assert!(rt; !queues.tail_is_promoted());
+    same(&rt, queues.small_len(), 4);
+    same(&rt, queues.tail(), Some(0));
+    same(&rt, queues.tail_is_promoted(), false);
     queues.leave(0);
-    assert_eq!(rt; queues.tail(), Some(1));
-    assert!(rt; !queues.tail_is_promoted());
+    same(&rt, queues.tail(), Some(1));
+    same(&rt, queues.tail_is_promoted(), false);
     queues.leave(1);
-    assert_eq!(rt; queues.tail(), Some(2));
-    assert!(rt; queues.tail_is_promoted());
+    same(&rt, queues.tail(), Some(2));
+    same(&rt, queues.tail_is_promoted(), true);
     Ok(())
 }
 
@@ -110,11 +111,11 @@ fn empty_places(queues: &mut Queues)
 fn an_emptied_position_makes_no_slot_old(rt: HostRuntime) -> Result<(), Fail> {
     let mut queues = Queues::new(rt.alloc(), 4, 2)?;
     empty_places(&mut queues);
-    assert_eq!(rt; queues.main_len(), 0);
-    assert_eq!(rt; queues.take_tail(), Some(1));
-    assert_eq!(rt; queues.take_tail(), Some(2));
-    assert_eq!(rt; queues.tail(), Some(3));
-    assert!(rt; !queues.tail_is_promoted());
+    same(&rt, queues.main_len(), 0);
+    same(&rt, queues.take_tail(), Some(1));
+    same(&rt, queues.take_tail(), Some(2));
+    same(&rt, queues.tail(), Some(3));
+    same(&rt, queues.tail_is_promoted(), false);
     Ok(())
 }
 
@@ -147,27 +148,33 @@ fn go_round(queues: &mut Queues) -> u32
     queues.take_victim()
 }
 
+/// Main, which isn't empty, gives a slot up.
+fn give_up(rt: &impl Abort, queues: &mut Queues, slot: u32)
+    ensures slots { queues.new.slots ≡ queues.old.slots }
+{
+    assert!(rt; queues.main_len() > 0);
+    same(rt, queues.take_victim(), slot);
+}
+
 #[test]
 fn the_hand_comes_round(rt: HostRuntime) -> Result<(), Fail> {
     let mut queues = Queues::new(rt.alloc(), 20, 1)?;
-    assert_eq!(rt; go_round(&mut queues), 2);
-    assert_eq!(rt; queues.main_len(), 17);
+    same(&rt, go_round(&mut queues), 2);
+    same(&rt, queues.main_len(), 17);
     // Each bit was cleared on the way, and the one behind a victim stays.
     hit(&rt, &mut queues, 3);
     hit(&rt, &mut queues, 19);
-    assert!(rt; queues.main_len() > 0);
-    assert_eq!(rt; queues.take_victim(), 4);
+    give_up(&rt, &mut queues, 4);
     hit(&rt, &mut queues, 3);
-    assert_eq!(rt; queues.main_len(), 16);
+    same(&rt, queues.main_len(), 16);
     for slot in 5..19 {
-        assert!(rt; queues.main_len() > 0);
-        assert_eq!(rt; queues.take_victim(), slot);
+        give_up(&rt, &mut queues, slot);
     }
     // The bits of the last two are set: the one that was hit first is given up first.
-    assert_eq!(rt; queues.main_len(), 2);
-    assert_eq!(rt; queues.take_victim(), 19);
-    assert_eq!(rt; queues.main_len(), 1);
-    assert_eq!(rt; queues.take_victim(), 3);
+    same(&rt, queues.main_len(), 2);
+    give_up(&rt, &mut queues, 19);
+    same(&rt, queues.main_len(), 1);
+    give_up(&rt, &mut queues, 3);
     Ok(())
 }
 
@@ -189,13 +196,13 @@ fn look_twice(queues: &mut Queues) -> u32
 #[test]
 fn a_single_slot_gets_one_more_look(rt: HostRuntime) -> Result<(), Fail> {
     let mut queues = Queues::new(rt.alloc(), 1, 0)?;
-    assert_eq!(rt; look_twice(&mut queues), 0);
-    assert_eq!(rt; queues.main_len(), 0);
+    same(&rt, look_twice(&mut queues), 0);
+    same(&rt, queues.main_len(), 0);
     append(&rt, &mut queues, 0);
-    assert_eq!(rt; queues.main_len(), 1);
+    same(&rt, queues.main_len(), 1);
     queues.clear();
-    assert_eq!(rt; queues.main_len(), 0);
-    assert_eq!(rt; queues.standing(0), Standing::Free);
+    same(&rt, queues.main_len(), 0);
+    same(&rt, queues.standing(0), Standing::Free);
     Ok(())
 }
 
@@ -291,18 +298,16 @@ fn compare(rt: &impl Abort, queues: &mut Queues, lists: &Lists)
     ensures window { queues.new.window ≡ queues.old.window }
 {
     for slot in 0..SLOTS {
-        assert_eq!(rt; queues.standing(slot), lists.standing(slot));
+        same(rt, queues.standing(slot), lists.standing(slot));
         let stands = lists.standing(slot) != Standing::Free;
-        assert_eq!(rt; queues.is_resident(slot), stands);
+        same(rt, queues.is_resident(slot), stands);
     }
-    assert_eq!(rt; queues.small_len(), lists.small.len());
-    assert_eq!(rt; queues.main_len(), lists.main.len());
-    assert!(rt; queues.tail() == lists.small.first().map(|entry| entry.slot));
-    let promoted = match lists.small.first() {
-        Some(entry) => entry.age >= lists.window && entry.bit,
-        None => false,
-    };
-    assert!(rt; queues.tail_is_promoted() == promoted);
+    same(rt, queues.small_len(), lists.small.len());
+    same(rt, queues.main_len(), lists.main.len());
+    let tail = lists.small.first();
+    same(rt, queues.tail(), tail.map(|entry| entry.slot));
+    let promoted = tail.is_some_and(|entry| entry.age >= lists.window && entry.bit);
+    same(rt, queues.tail_is_promoted(), promoted);
 }
 
 /// Small's tail, if there is one, is used again for another key.

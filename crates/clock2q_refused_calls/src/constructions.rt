@@ -1,5 +1,6 @@
 //! Caches and memos that can't be made, as requests for memory are refused.
 
+use crate::assertions::same_at;
 use clock2q_cache::{Cache, CacheError, DefaultHashBuilder};
 use clock2q_memo::Memo;
 use clock2q_refusing::{Refusing, Tried, try_in_turn};
@@ -80,8 +81,8 @@ fn is_refused_each(
         CacheError::Memory,
         || make(maker, alloc, wanted),
     );
-    assert_eq!(rt; tried, Tried::Done(requests), "{maker:?} {capacity}");
-    assert_eq!(rt; alloc.held(), 0, "{maker:?} {capacity}");
+    same_at(rt, tried, Tried::Done(requests), (maker, capacity));
+    same_at(rt, alloc.held(), 0, (maker, capacity));
 }
 
 /// The same of a call with the usual shares, by capacity.
@@ -128,8 +129,8 @@ fn is_refused_for(
     capacity: NonZeroUsize,
     reason: CacheError,
 ) {
-    assert_eq!(rt; make(maker, alloc, capacity), Err(reason), "{maker:?}");
-    assert_eq!(rt; alloc.requests(), 0, "{maker:?}");
+    same_at(rt, make(maker, alloc, capacity), Err(reason), maker);
+    same_at(rt, alloc.requests(), 0, maker);
 }
 
 /// A capacity or shares that can't be had are refused before any memory is asked for.

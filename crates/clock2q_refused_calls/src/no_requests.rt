@@ -2,6 +2,7 @@
 ghost use Rattle.std.specs.Prelude.{ℕ};
 ghost use Rattle.clock2q_memo.specs.Memo.{IsCallableAt};
 
+use crate::assertions::same;
 use clock2q_cache::{Cache, CacheError, DefaultHashBuilder};
 use clock2q_memo::Memo;
 use clock2q_refusing::Refusing;
@@ -95,10 +96,10 @@ fn puts_keys<A: Allocator>(
 ) {
     let asked = refuse_all(alloc);
     assert!(rt; put_all(cache, 31));
-    assert_eq!(rt; put_evicted(cache), (None, true, None));
+    same(rt, put_evicted(cache), (None, true, None));
     assert!(rt; cache.contains(&29));
-    assert_eq!(rt; cache.len(), 20);
-    assert_eq!(rt; alloc.requests(), asked);
+    same(rt, cache.len(), 20);
+    same(rt, alloc.requests(), asked);
 }
 
 #[test]
@@ -116,14 +117,14 @@ fn lends<A: Allocator>(
     wanted: &[(u64, (usize, u64))],
 ) {
     for (key, lent) in wanted {
-        assert_eq!(rt; lend(cache, *key), *lent);
+        same(rt, lend(cache, *key), *lent);
     }
 }
 
 /// Takes two of three slots out, and makes the others.
 fn frees_slots<A: Allocator>(rt: &impl Abort, cache: &mut Cache<u64, u64, DefaultHashBuilder, A>) {
-    assert_eq!(rt; remove_two(cache), (true, true));
-    assert_eq!(rt; fill(cache), 3);
+    same(rt, remove_two(cache), (true, true));
+    same(rt, fill(cache), 3);
 }
 
 fn lends_slots_again<A: Allocator>(
@@ -145,7 +146,7 @@ fn lends_slots_again<A: Allocator>(
             (1, (1, 11)),
         ],
     );
-    assert_eq!(rt; alloc.requests(), asked);
+    same(rt, alloc.requests(), asked);
 }
 
 /// The slots that are taken out and made beforehand are used again, each with its value.
@@ -164,10 +165,10 @@ fn calls_closures<A: Allocator>(
     cache: &mut Cache<u64, u64, DefaultHashBuilder, A>,
 ) {
     let asked = refuse_all(alloc);
-    assert_eq!(rt; fetch_two(cache), Ok((100, 110)));
-    assert_eq!(rt; empty(cache), (1, 0));
-    assert_eq!(rt; fill(cache), 6);
-    assert_eq!(rt; alloc.requests(), asked);
+    same(rt, fetch_two(cache), Ok((100, 110)));
+    same(rt, empty(cache), (1, 0));
+    same(rt, fill(cache), 6);
+    same(rt, alloc.requests(), asked);
 }
 
 #[test]
@@ -189,10 +190,10 @@ fn recalls_squares<A: Allocator, F: Fn(&u64) -> u64>(
     let asked = refuse_all(alloc);
     for key in 0..30 {
         let square = key * key;
-        assert_eq!(rt; memo.get(key), square);
-        assert_eq!(rt; memo.get_recorded(key), square);
+        same(rt, memo.get(key), square);
+        same(rt, memo.get_recorded(key), square);
     }
-    assert_eq!(rt; alloc.requests(), asked);
+    same(rt, alloc.requests(), asked);
 }
 
 #[test]

@@ -1,5 +1,6 @@
 //! Runs of commands to caches.
 
+use crate::assertions::same;
 use clock2q_cache::{Cache, CacheError, DefaultHashBuilder};
 use clock2q_command::{Command, Reply, run};
 use clock2q_refusing::{Refusing, Tried, try_in_turn};
@@ -64,6 +65,6 @@ fn a_list_of_commands(rt: HostRuntime) -> Result<(), Fail> {
     let tried = try_in_turn(&alloc, true, CacheError::Memory, || {
         replies_as_wanted(&alloc, &mut cache)
     });
-    assert_eq!(rt; tried, Tried::Done(2));
+    same(&rt, tried, Tried::Done(2));
     Ok(())
 }

@@ -1,6 +1,7 @@
 //! Runs of commands to tables.
 ghost use Rattle.std.specs.Prelude.{◌≡◌};
 
+use crate::assertions::same_at;
 use clock2q_command::{TableCommand, TableReply, run_table};
 use clock2q_handles::{Table, TableError};
 use clock2q_refusing::Refusing;
@@ -79,12 +80,8 @@ fn all_later_refused(rt: HostRuntime) {
     let alloc = Refusing::new(rt.alloc());
     for granted in 0..3 {
         alloc.refuse_after(granted);
-        assert_eq!(rt;
-            run_all(&alloc),
-            Err(TableError::Memory),
-            "{granted} granted"
-        );
-        assert_eq!(rt; alloc.held(), 0, "{granted} granted");
+        same_at(&rt, run_all(&alloc), Err(TableError::Memory), granted);
+        same_at(&rt, alloc.held(), 0, granted);
     }
     for (granted, wanted) in [
         (3, (false, false)),
@@ -93,8 +90,8 @@ fn all_later_refused(rt: HostRuntime) {
         (6, (true, true)),
     ] {
         alloc.refuse_after(granted);
-        assert_eq!(rt; run_all(&alloc), Ok(Some(wanted)), "{granted} granted");
-        assert_eq!(rt; alloc.held(), 0, "{granted} granted");
+        same_at(&rt, run_all(&alloc), Ok(Some(wanted)), granted);
+        same_at(&rt, alloc.held(), 0, granted);
     }
 }
 
@@ -105,17 +102,13 @@ fn one_refused(rt: HostRuntime) {
     let alloc = Refusing::new(rt.alloc());
     for granted in 0..3 {
         alloc.refuse_one_after(granted);
-        assert_eq!(rt;
-            run_all(&alloc),
-            Err(TableError::Memory),
-            "{granted} granted"
-        );
-        assert_eq!(rt; alloc.held(), 0, "{granted} granted");
+        same_at(&rt, run_all(&alloc), Err(TableError::Memory), granted);
+        same_at(&rt, alloc.held(), 0, granted);
     }
     for (granted, wanted) in [(3, (false, true)), (4, (false, true)), (5, (true, true))] {
         alloc.refuse_one_after(granted);
-        assert_eq!(rt; run_all(&alloc), Ok(Some(wanted)), "{granted} granted");
-        assert_eq!(rt; alloc.held(), 0, "{granted} granted");
+        same_at(&rt, run_all(&alloc), Ok(Some(wanted)), granted);
+        same_at(&rt, alloc.held(), 0, granted);
     }
 }
 
@@ -195,12 +188,13 @@ fn insertion_and_all_later_refused(rt: HostRuntime) {
         (4, Ok([Seen::Inserted, Seen::New, Seen::Held])),
     ] {
         alloc.refuse_after(granted);
-        assert_eq!(rt;
+        same_at(
+            &rt,
             last_seen(&alloc, 0, &insert_first(&alloc)),
             wanted,
-            "{granted} granted"
+            granted,
         );
-        assert_eq!(rt; alloc.held(), 0, "{granted} granted");
+        same_at(&rt, alloc.held(), 0, granted);
     }
 }
 
@@ -214,12 +208,13 @@ fn insertion_alone_refused(rt: HostRuntime) {
         (3, Ok([Seen::Inserted, Seen::New, Seen::Held])),
     ] {
         alloc.refuse_one_after(granted);
-        assert_eq!(rt;
+        same_at(
+            &rt,
             last_seen(&alloc, 0, &insert_first(&alloc)),
             wanted,
-            "{granted} granted"
+            granted,
         );
-        assert_eq!(rt; alloc.held(), 0, "{granted} granted");
+        same_at(&rt, alloc.held(), 0, granted);
     }
 }
 
@@ -234,12 +229,13 @@ fn find_and_all_later_refused(rt: HostRuntime) {
         (4, Ok([Seen::New, Seen::Inserted, Seen::Held])),
     ] {
         alloc.refuse_after(granted);
-        assert_eq!(rt;
+        same_at(
+            &rt,
             last_seen(&alloc, 0, &find_first(&alloc)),
             wanted,
-            "{granted} granted"
+            granted,
         );
-        assert_eq!(rt; alloc.held(), 0, "{granted} granted");
+        same_at(&rt, alloc.held(), 0, granted);
     }
 }
 
@@ -253,12 +249,13 @@ fn find_alone_refused(rt: HostRuntime) {
         (3, Ok([Seen::New, Seen::Inserted, Seen::Held])),
     ] {
         alloc.refuse_one_after(granted);
-        assert_eq!(rt;
+        same_at(
+            &rt,
             last_seen(&alloc, 0, &find_first(&alloc)),
             wanted,
-            "{granted} granted"
+            granted,
         );
-        assert_eq!(rt; alloc.held(), 0, "{granted} granted");
+        same_at(&rt, alloc.held(), 0, granted);
     }
 }
 
@@ -297,18 +294,15 @@ fn growths_and_all_later_refused(rt: HostRuntime) -> Result<(), Fail> {
         ),
     ] {
         alloc.refuse_after(granted);
-        assert_eq!(rt;
+        same_at(
+            &rt,
             last_seen(&alloc, 12, &inserting),
             Ok(inserted),
-            "{granted} granted"
+            granted,
         );
         alloc.refuse_after(granted);
-        assert_eq!(rt;
-            last_seen(&alloc, 12, &finding),
-            Ok(found),
-            "{granted} granted"
-        );
-        assert_eq!(rt; alloc.held(), 0, "{granted} granted");
+        same_at(&rt, last_seen(&alloc, 12, &finding), Ok(found), granted);
+        same_at(&rt, alloc.held(), 0, granted);
     }
     Ok(())
 }
@@ -336,18 +330,15 @@ fn growths_alone_refused(rt: HostRuntime) -> Result<(), Fail> {
         ),
     ] {
         alloc.refuse_one_after(granted);
-        assert_eq!(rt;
+        same_at(
+            &rt,
             last_seen(&alloc, 12, &inserting),
             Ok(inserted),
-            "{granted} granted"
+            granted,
         );
         alloc.refuse_one_after(granted);
-        assert_eq!(rt;
-            last_seen(&alloc, 12, &finding),
-            Ok(found),
-            "{granted} granted"
-        );
-        assert_eq!(rt; alloc.held(), 0, "{granted} granted");
+        same_at(&rt, last_seen(&alloc, 12, &finding), Ok(found), granted);
+        same_at(&rt, alloc.held(), 0, granted);
     }
     Ok(())
 }

@@ -1,6 +1,7 @@
 //! Queues and histories whose requests for memory are refused.
 ghost use Rattle.std.specs.Prelude.{◌≡◌, []};
 
+use crate::assertions::{same, same_at};
 use clock2q_queues::history::History;
 use clock2q_queues::queues::Queues;
 use clock2q_queues_tests::beside::Beside;
@@ -20,8 +21,8 @@ fn new_queues(alloc: &Refusing<Global>) -> Result<(usize, bool), AllocError> {
 fn queues(rt: HostRuntime) -> Result<(), Fail> {
     let alloc = Refusing::new(rt.alloc());
     let tried = try_in_turn(&alloc, (0, true), AllocError, || new_queues(&alloc));
-    assert_eq!(rt; tried, Tried::Done(3));
-    assert_eq!(rt; alloc.held(), 0);
+    same(&rt, tried, Tried::Done(3));
+    same(&rt, alloc.held(), 0);
     Ok(())
 }
 
@@ -39,8 +40,8 @@ fn histories(rt: HostRuntime) -> Result<(), Fail> {
     for (limit, requests) in [(7, 4), (0, 2)] {
         let alloc = Refusing::new(rt.alloc());
         let tried = try_in_turn(&alloc, (0, true), AllocError, || new_history(&alloc, limit));
-        assert_eq!(rt; tried, Tried::Done(requests), "{limit}");
-        assert_eq!(rt; alloc.held(), 0, "{limit}");
+        same_at(&rt, tried, Tried::Done(requests), limit);
+        same_at(&rt, alloc.held(), 0, limit);
     }
     Ok(())
 }
@@ -74,9 +75,9 @@ fn pass_and_look(rt: &impl Abort, queues: &mut Queues<&Refusing<Global>>)
     requires main { queues.old.main ≡ [] }
 {
     pass_through(queues);
-    assert_eq!(rt; queues.tail(), Some(3));
-    assert_eq!(rt; queues.small_len(), 1);
-    assert_eq!(rt; queues.main_len(), 0);
+    same(rt, queues.tail(), Some(3));
+    same(rt, queues.small_len(), 1);
+    same(rt, queues.main_len(), 0);
 }
 
 /// Queues that were made ask for no memory, and give none back.
@@ -94,8 +95,8 @@ fn pass_with_all_refused(
     let held = alloc.held();
     alloc.refuse_after(0);
     pass_and_look(rt, queues);
-    assert_eq!(rt; alloc.requests(), asked);
-    assert_eq!(rt; alloc.held(), held);
+    same(rt, alloc.requests(), asked);
+    same(rt, alloc.held(), held);
 }
 
 #[test]
@@ -109,20 +110,20 @@ fn queues_ask_for_nothing_more(rt: HostRuntime) -> Result<(), Fail> {
 /// More keys than fit, each of which has the hash of others.
 fn fill_and_forget(rt: &impl Abort, beside: &mut Beside<&Refusing<Global>>) {
     for key in 0..20 {
-        assert_eq!(rt; beside.renew(key), (false, true), "{key}");
+        same_at(rt, beside.renew(key), (false, true), key);
     }
-    assert_eq!(rt; beside.len(), 7);
+    same(rt, beside.len(), 7);
     assert!(rt; beside.forget(15));
     assert!(rt; !beside.forget(12));
-    assert_eq!(rt; beside.renew(13), (true, true));
-    assert_eq!(rt; beside.len(), 6);
+    same(rt, beside.renew(13), (true, true));
+    same(rt, beside.len(), 6);
 }
 
 /// A key that is forgotten is new again.
 fn clear_and_renew(rt: &impl Abort, beside: &mut Beside<&Refusing<Global>>) {
     beside.clear();
-    assert_eq!(rt; beside.renew(13), (false, true));
-    assert_eq!(rt; beside.len(), 1);
+    same(rt, beside.renew(13), (false, true));
+    same(rt, beside.len(), 1);
 }
 
 /// A history that was made asks for no memory, and gives none back.
@@ -136,8 +137,8 @@ fn renew_with_all_refused(
     alloc.refuse_after(0);
     fill_and_forget(rt, beside);
     clear_and_renew(rt, beside);
-    assert_eq!(rt; alloc.requests(), asked);
-    assert_eq!(rt; alloc.held(), held);
+    same(rt, alloc.requests(), asked);
+    same(rt, alloc.held(), held);
 }
 
 #[test]

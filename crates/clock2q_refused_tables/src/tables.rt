@@ -2,6 +2,7 @@
 ghost use Rattle.std.specs.Prelude.{◌≡◌, Err, IfOk};
 ghost use Rattle.clock2q_handles.specs.TableStep.{IsHashOf};
 
+use crate::assertions::{same, same_at};
 use clock2q_handles::{Table, TableError};
 use clock2q_refusing::Refusing;
 use std::alloc::Global;
@@ -41,11 +42,7 @@ fn construct_in_turn(rt: &impl Abort, alloc: &Refusing<Global>) -> u64 {
         let Err(error) = construct(alloc) else {
             return turn;
         };
-        assert_eq!(rt;
-            (error, alloc.held()),
-            (TableError::Memory, 0),
-            "turn {turn}"
-        );
+        same_at(rt, (error, alloc.held()), (TableError::Memory, 0), turn);
     }
     MANY
 }
@@ -53,16 +50,16 @@ fn construct_in_turn(rt: &impl Abort, alloc: &Refusing<Global>) -> u64 {
 #[test]
 fn constructions(rt: HostRuntime) -> Result<(), Fail> {
     let alloc = Refusing::new(rt.alloc());
-    assert_eq!(rt; construct_in_turn(&rt, &alloc), REFUSED_TURNS);
+    same(&rt, construct_in_turn(&rt, &alloc), REFUSED_TURNS);
     alloc.grant();
-    assert_eq!(rt; construct(&alloc), Ok((24, true)));
+    same(&rt, construct(&alloc), Ok((24, true)));
     Ok(())
 }
 
 /// Lookups and removals in tables without slots.
 fn read_no_slots(rt: &impl Abort, none: &mut RefusedTable<'_>, empty: &RefusedTable<'_>) {
-    assert_eq!(rt; (none.capacity(), empty.capacity()), (0, 0));
-    assert_eq!(rt; none.get(5).next(), None);
+    same(rt, (none.capacity(), empty.capacity()), (0, 0));
+    same(rt, none.get(5).next(), None);
     assert!(rt; !none.remove(5, 5));
 }
 
@@ -73,7 +70,7 @@ fn no_slots(rt: HostRuntime) -> Result<(), Fail> {
     let mut none: RefusedTable = Table::new(&alloc);
     let empty: RefusedTable = Table::with_capacity(&alloc, 0)?;
     read_no_slots(&rt, &mut none, &empty);
-    assert_eq!(rt; alloc.requests(), 0);
+    same(&rt, alloc.requests(), 0);
     Ok(())
 }
 
@@ -105,7 +102,7 @@ fn read_and_remove(rt: &impl Abort, table: &mut RefusedTable<'_>) -> Result<(), 
 fn call_within_capacity(rt: &impl Abort, table: &mut RefusedTable<'_>) -> Result<(), TableError> {
     insert_two(rt, table)?;
     for wanted in [(7, true), (7, false)] {
-        assert_eq!(rt; find_any(rt, table)?, wanted);
+        same(rt, find_any(rt, table)?, wanted);
     }
     read_and_remove(rt, table)
 }
@@ -117,7 +114,7 @@ fn no_requests(rt: HostRuntime) -> Result<(), Fail> {
     let made = alloc.requests();
     alloc.refuse_after(0);
     call_within_capacity(&rt, &mut table)?;
-    assert_eq!(rt; alloc.requests(), made);
+    same(&rt, alloc.requests(), made);
     Ok(())
 }
 
@@ -150,7 +147,7 @@ fn assert_kept(
     table: &RefusedTable<'_>,
     turn: u64,
 ) {
-    assert_eq!(rt; (alloc.held(), table.len()), (held, 12), "turn {turn}");
+    same_at(rt, (alloc.held(), table.len()), (held, 12), turn);
 }
 
 /// Inserts a handle, and returns how many were asked for their hash.
@@ -181,7 +178,7 @@ fn insert_in_turn(rt: &impl Abort, alloc: &Refusing<Global>, table: &mut Refused
         refuse_in(turn, alloc);
         let (outcome, asked) = insert_counted(table);
         if outcome.is_ok() {
-            assert_eq!(rt; asked, 12);
+            same(rt, asked, 12);
             return turn;
         }
         assert_eq!(rt;
@@ -196,8 +193,8 @@ fn insert_in_turn(rt: &impl Abort, alloc: &Refusing<Global>, table: &mut Refused
 
 /// A table that grew for its thirteenth handle.
 fn look_at_thirteen(rt: &impl Abort, table: &RefusedTable<'_>) {
-    assert_eq!(rt; (table.len(), table.capacity()), (13, 24));
-    assert_eq!(rt; table.get(12).next(), Some(12));
+    same(rt, (table.len(), table.capacity()), (13, 24));
+    same(rt, table.get(12).next(), Some(12));
 }
 
 #[test]
@@ -207,7 +204,7 @@ fn insertions(rt: HostRuntime) -> Result<(), Fail> {
     let turn = insert_in_turn(&rt, &alloc, &mut table);
     look_at_thirteen(&rt, &table);
     drop(table);
-    assert_eq!(rt; turn, REFUSED_TURNS);
+    same(&rt, turn, REFUSED_TURNS);
     Ok(())
 }
 
@@ -238,7 +235,7 @@ fn reserve_in_turn(rt: &impl Abort, alloc: &Refusing<Global>, table: &mut Refuse
         refuse_in(turn, alloc);
         let (outcome, asked) = reserve_counted(table);
         if outcome.is_ok() {
-            assert_eq!(rt; asked, 12);
+            same(rt, asked, 12);
             return turn;
         }
         assert_eq!(rt;
@@ -253,7 +250,7 @@ fn reserve_in_turn(rt: &impl Abort, alloc: &Refusing<Global>, table: &mut Refuse
 
 /// A table that grew, and has no handle more.
 fn look_at_twelve(rt: &impl Abort, table: &RefusedTable<'_>) {
-    assert_eq!(rt; (table.len(), table.capacity()), (12, 24));
+    same(rt, (table.len(), table.capacity()), (12, 24));
 }
 
 #[test]
@@ -263,7 +260,7 @@ fn reservations(rt: HostRuntime) -> Result<(), Fail> {
     let turn = reserve_in_turn(&rt, &alloc, &mut table);
     look_at_twelve(&rt, &table);
     drop(table);
-    assert_eq!(rt; turn, REFUSED_TURNS);
+    same(&rt, turn, REFUSED_TURNS);
     Ok(())
 }
 
@@ -303,7 +300,7 @@ fn find_in_turn(rt: &impl Abort, alloc: &Refusing<Global>, table: &mut RefusedTa
         refuse_in(turn, alloc);
         let (outcome, calls) = find_counted(table);
         if outcome.is_ok() {
-            assert_eq!(rt; (outcome, calls), (Ok((5, false)), (1, 12)));
+            same(rt, (outcome, calls), (Ok((5, false)), (1, 12)));
             return turn;
         }
         assert_eq!(rt;
@@ -323,6 +320,6 @@ fn finds(rt: HostRuntime) -> Result<(), Fail> {
     let turn = find_in_turn(&rt, &alloc, &mut table);
     look_at_twelve(&rt, &table);
     drop(table);
-    assert_eq!(rt; turn, REFUSED_TURNS);
+    same(&rt, turn, REFUSED_TURNS);
     Ok(())
 }

@@ -1,9 +1,12 @@
 //! Devices that give and take a few bytes at a time, and fail at one of their calls.
 
+use crate::assertions::{same, same_at};
 use crate::texts::served;
 use clock2q_command::{Device, Failed, ServeError, Sink, Source, serve};
 use std::alloc::{AllocError, Global};
+use std::fmt::Debug;
 use std::io::{Error, ErrorKind, Read, Result as IoResult, Write};
+use std::process::Abort;
 use std::test::Fail;
 
 /// How a device fails: by an error, by moving no byte though some are left, or at a flush.
@@ -183,25 +186,34 @@ fn other_read(alloc: Global, text: &[u8], step: usize, reads: usize) -> Option<(
 fn failing_reads(rt: HostRuntime) {
     for text in [TEXT, b"bogus\nnew 2\nput 1 10\n".as_slice()] {
         for (step, reads) in [(1, 22), (4, 7), (100, 2)] {
-            assert_eq!(rt; other_read(rt.alloc(), text, step, reads), None, "{step}");
+            same_at(&rt, other_read(rt.alloc(), text, step, reads), None, step);
         }
     }
 }
 
-/// A read of no byte is the end. What comes after it isn't read, and what came before is all.
+/// A read of no byte ends the text, and nothing is read after it.
+fn ends_at(rt: &impl Abort, alloc: Global, fails_at: usize) {
+    let plan = Plan {
+        step: 1,
+        fails_at,
+        fault: Fault::Nothing,
+    };
+    let (outcome, replies, calls) = read(alloc, TEXT, plan);
+    let (wanted, text) = served(alloc, TEXT.get(..fails_at).unwrap_or(TEXT));
+    same_at(
+        rt,
+        (outcome, replies.as_slice()),
+        (wanted, text.as_slice()),
+        fails_at,
+    );
+    same(rt, calls, fails_at.saturating_add(1));
+}
+
+/// What comes before such a read is all.
 #[test]
 fn ending_reads(rt: HostRuntime) {
     for fails_at in 0..22 {
-        let plan = Plan {
-            step: 1,
-            fails_at,
-            fault: Fault::Nothing,
-        };
-        let (outcome, replies, calls) = read(rt.alloc(), TEXT, plan);
-        let (wanted, text) = served(rt.alloc(), TEXT.get(..fails_at).unwrap_or(TEXT));
-        assert_eq!(rt; outcome, wanted, "call {fails_at}");
-        assert_eq!(rt; replies, text, "call {fails_at}");
-        assert_eq!(rt; calls, fails_at + 1, "read on");
+        ends_at(&rt, rt.alloc(), fails_at);
     }
 }
 
@@ -233,16 +245,29 @@ fn failing_writes(rt: HostRuntime) {
     for (step, writes) in WRITES {
         for kind in KINDS {
             let other = other_write(rt.alloc(), step, writes, Fault::Error(kind));
-            assert_eq!(rt; other, None, "{kind:?}, {step} at a time");
+            same_at(&rt, other, None, (kind, step));
         }
         let other = other_write(rt.alloc(), step, writes, Fault::Nothing);
-        assert_eq!(rt; other, None, "nothing taken, {step} at a time");
+        same_at(&rt, other, None, step);
     }
 }
 
 /// Returns true if a writer that fails after so many calls is called so often, and flushed once.
 fn is_whole(writer: &Writer, writes: usize) -> bool {
     writer.taken.as_slice() == REPLIES && writer.calls == writes && writer.flushes == 1
+}
+
+/// Replies to such a writer end so, once all are written.
+fn ends_whole<P: Debug + Copy>(
+    rt: &impl Abort,
+    alloc: Global,
+    plan: Plan,
+    writes: usize,
+    wanted: Result<(), ServeError>,
+    at: P,
+) {
+    let (outcome, writer) = written(alloc, plan);
+    same_at(rt, (outcome, is_whole(&writer, writes)), (wanted, true), at);
 }
 
 #[test]
@@ -253,9 +278,7 @@ fn whole_writes(rt: HostRuntime) {
             fails_at: writes,
             fault: Fault::Nothing,
         };
-        let (outcome, writer) = written(rt.alloc(), plan);
-        assert_eq!(rt; outcome, Ok(()), "{step} at a time");
-        assert!(rt; is_whole(&writer, writes), "{step} at a time");
+        ends_whole(&rt, rt.alloc(), plan, writes, Ok(()), step);
     }
 }
 
@@ -268,34 +291,49 @@ fn failing_flushes(rt: HostRuntime) {
                 fails_at: 0,
                 fault: Fault::NoFlush(kind),
             };
-            let (outcome, writer) = written(rt.alloc(), plan);
-            assert_eq!(rt; outcome, Err(ServeError::Write), "{kind:?}");
-            assert!(rt; is_whole(&writer, writes), "{kind:?}");
+            let refusal = Err(ServeError::Write);
+            ends_whole(&rt, rt.alloc(), plan, writes, refusal, kind);
         }
     }
+}
+
+/// What a source returns is what the one that it wraps returns.
+fn source_returns(rt: &impl Abort, source: &mut Device<&[u8]>) {
+    let mut block = [0u8; 4];
+    same(rt, source.read(&mut block), Ok(3));
+    same(rt, block, *b"abc\0");
+    same(rt, source.read(&mut block), Ok(0));
+}
+
+/// What a sink takes goes to the one that it wraps.
+fn sink_takes(rt: &impl Abort, alloc: Global) {
+    let mut sink = Device::new(Vec::new(alloc));
+    same(rt, sink.write(b"abc"), Ok(3));
+    same(rt, sink.flush(), Ok(()));
+    same(rt, sink.into_inner().as_slice(), b"abc".as_slice());
 }
 
 /// A device answers what it wraps, and any error as its own.
 #[test]
 fn devices(rt: HostRuntime) -> Result<(), Fail> {
-    let mut block = [0u8; 4];
-    let mut source = Device::new(b"abc".as_slice());
-    assert_eq!(rt; source.read(&mut block), Ok(3));
-    assert_eq!(rt; block.as_slice(), b"abc\0".as_slice());
-    assert_eq!(rt; source.read(&mut block), Ok(0));
-    let mut sink = Device::new(Vec::new(rt.alloc()));
-    assert_eq!(rt; sink.write(b"abc"), Ok(3));
-    assert_eq!(rt; sink.flush(), Ok(()));
-    assert_eq!(rt; sink.into_inner().as_slice(), b"abc".as_slice());
-    assert_eq!(rt; Failed.to_string(rt.alloc())?.as_str(), "device failed");
+    source_returns(&rt, &mut Device::new(b"abc".as_slice()));
+    sink_takes(&rt, rt.alloc());
+    let shown = Failed.to_string(rt.alloc())?;
+    same(&rt, shown.as_str(), "device failed");
     Ok(())
 }
 
 /// After a failure a device goes on where it stood. Each of its calls makes one call.
+fn source_goes_on(rt: &impl Abort, source: &mut Device<Reader<'_>>, kind: ErrorKind) {
+    let mut block = [0u8; 8];
+    for wanted in [Ok(2), Err(Failed), Ok(1), Ok(0)] {
+        same_at(rt, source.read(&mut block), wanted, kind);
+    }
+}
+
 #[test]
 fn failing_sources(rt: HostRuntime) {
     for kind in KINDS {
-        let mut block = [0u8; 8];
         let mut source = Device::new(Reader {
             left: b"abc",
             plan: Plan {
@@ -305,10 +343,8 @@ fn failing_sources(rt: HostRuntime) {
             },
             calls: 0,
         });
-        for wanted in [Ok(2), Err(Failed), Ok(1), Ok(0)] {
-            assert_eq!(rt; source.read(&mut block), wanted, "{kind:?}");
-        }
-        assert_eq!(rt; source.into_inner().calls, 4, "{kind:?}");
+        source_goes_on(&rt, &mut source, kind);
+        same_at(&rt, source.into_inner().calls, 4, kind);
     }
 }
 
@@ -339,21 +375,28 @@ fn sent(
     (first, second, flushed, sink.into_inner())
 }
 
+/// A device answers so where its second write or its flush fails.
+fn sink_answers(
+    rt: &impl Abort,
+    alloc: Global,
+    fault: Fault,
+    second: Result<usize, Failed>,
+    flushed: Result<(), Failed>,
+) {
+    let (first, again, last, writer) = sent(alloc, fault);
+    same_at(rt, (first, again, last), (Ok(2), second, flushed), fault);
+    same_at(rt, (writer.calls, writer.flushes), (2, 1), fault);
+}
+
 #[test]
 fn failing_sinks(rt: HostRuntime) {
     for kind in KINDS {
-        for (fault, written, flushed) in [
+        for (fault, second, flushed) in [
             (Fault::Error(kind), Err(Failed), Ok(())),
             (Fault::Nothing, Ok(0), Ok(())),
             (Fault::NoFlush(kind), Ok(1), Err(Failed)),
         ] {
-            let (first, second, third, writer) = sent(rt.alloc(), fault);
-            assert_eq!(rt;
-                (first, second, third),
-                (Ok(2), written, flushed),
-                "{fault:?}"
-            );
-            assert_eq!(rt; (writer.calls, writer.flushes), (2, 1), "{fault:?}");
+            sink_answers(&rt, rt.alloc(), fault, second, flushed);
         }
     }
 }

@@ -1,5 +1,6 @@
 //! Lines that are almost commands.
 
+use crate::assertions::same_at;
 use crate::texts::served;
 use clock2q_command::ServeError;
 use std::alloc::{AllocError, Global};
@@ -130,15 +131,17 @@ fn other_answer(
 #[test]
 fn bad_lines(rt: HostRuntime) -> Result<(), Fail> {
     for line in BAD_LINES {
-        assert_eq!(rt;
+        same_at(
+            &rt,
             other_answer(rt.alloc(), b"new 2\n", line, 2)?,
             None,
-            "{line:?}"
+            line,
         );
-        assert_eq!(rt;
+        same_at(
+            &rt,
             other_answer(rt.alloc(), b"new 2\nprefill 1 2\nretain 01\n", line, 4)?,
             None,
-            "{line:?}"
+            line,
         );
     }
     Ok(())
@@ -147,7 +150,7 @@ fn bad_lines(rt: HostRuntime) -> Result<(), Fail> {
 #[test]
 fn bad_first_lines(rt: HostRuntime) -> Result<(), Fail> {
     for line in BAD_FIRST_LINES {
-        assert_eq!(rt; other_answer(rt.alloc(), b"", line, 1)?, None, "{line:?}");
+        same_at(&rt, other_answer(rt.alloc(), b"", line, 1)?, None, line);
     }
     Ok(())
 }

@@ -1,5 +1,6 @@
 //! Every command of the text, and what it is answered.
 
+use crate::assertions::same;
 use crate::texts::{lines, served};
 use std::alloc::{AllocError, Global};
 use std::test::Fail;
@@ -268,24 +269,24 @@ fn other_answer(alloc: Global, rows: &[Row]) -> Result<Option<&'static str>, All
 
 #[test]
 fn runs(rt: HostRuntime) -> Result<(), Fail> {
-    assert_eq!(rt; other_answer(rt.alloc(), &RUNS)?, None);
+    same(&rt, other_answer(rt.alloc(), &RUNS)?, None);
     Ok(())
 }
 
 #[test]
 fn chosen_shares(rt: HostRuntime) -> Result<(), Fail> {
-    assert_eq!(rt; other_answer(rt.alloc(), &CHOSEN_SHARES)?, None);
+    same(&rt, other_answer(rt.alloc(), &CHOSEN_SHARES)?, None);
     Ok(())
 }
 
 #[test]
 fn every_command(rt: HostRuntime) -> Result<(), Fail> {
-    assert_eq!(rt; other_answer(rt.alloc(), &EVERY_COMMAND)?, None);
+    same(&rt, other_answer(rt.alloc(), &EVERY_COMMAND)?, None);
     Ok(())
 }
 
 #[test]
 fn hints(rt: HostRuntime) -> Result<(), Fail> {
-    assert_eq!(rt; other_answer(rt.alloc(), &HINTS)?, None);
+    same(&rt, other_answer(rt.alloc(), &HINTS)?, None);
     Ok(())
 }

@@ -1,7 +1,10 @@
 //! Command texts, and what they are answered.
 
+use crate::assertions::{same, same_at};
 use clock2q_command::{Device, ServeError, serve};
 use std::alloc::{AllocError, Global};
+use std::fmt::Debug;
+use std::process::Abort;
 use std::test::Fail;
 
 /// What `serve` answers to a text, and what it writes.
@@ -67,37 +70,74 @@ const ANSWERED: [(&str, &str); 11] = [
     ("new 16777215; capacity; is_empty", "ok; 16777215; true"),
 ];
 
+/// A text is answered so, and so much is written.
+fn answers<P: Debug + Copy>(
+    rt: &impl Abort,
+    alloc: Global,
+    text: &[u8],
+    wanted: (Result<(), ServeError>, &[u8]),
+    at: P,
+) {
+    let (outcome, written) = served(alloc, text);
+    same_at(rt, (outcome, written.as_slice()), wanted, at);
+}
+
+/// The commands of a row get its replies.
+fn row_is_answered(
+    rt: &impl Abort,
+    alloc: Global,
+    commands: &str,
+    replies: &str,
+) -> Result<(), Fail> {
+    let text = lines(alloc, commands)?;
+    let replies = lines(alloc, replies)?;
+    answers(
+        rt,
+        alloc,
+        text.as_bytes(),
+        (Ok(()), replies.as_bytes()),
+        commands,
+    );
+    Ok(())
+}
+
 #[test]
 fn answered(rt: HostRuntime) -> Result<(), Fail> {
     for (commands, replies) in ANSWERED {
-        let text = lines(rt.alloc(), commands)?;
-        let want = lines(rt.alloc(), replies)?;
-        let (outcome, written) = served(rt.alloc(), text.as_bytes());
-        assert_eq!(rt; outcome, Ok(()), "{commands}");
-        assert_eq!(rt; written.as_slice(), want.as_bytes(), "{commands}");
+        row_is_answered(&rt, rt.alloc(), commands, replies)?;
     }
-    let (outcome, written) = served(rt.alloc(), b"new 2");
-    assert_eq!(rt; outcome, Ok(()), "no line end");
-    assert_eq!(rt; written.as_slice(), b"ok\n".as_slice(), "no line end");
+    answers(&rt, rt.alloc(), b"new 2", (Ok(()), b"ok\n"), "no line end");
     Ok(())
+}
+
+/// The line, and 20,000 times the others.
+fn repeated(alloc: Global, line: &str, others: &str) -> Result<String, AllocError> {
+    let mut text = String::from_str(alloc, line)?;
+    for _ in 0..20_000 {
+        text.push_str(others)?;
+    }
+    Ok(text)
+}
+
+/// Returns what is answered, and true if just these replies are written.
+fn is_answered(alloc: Global, text: &str, replies: &str) -> (Result<(), ServeError>, bool) {
+    let (outcome, written) = served(alloc, text.as_bytes());
+    (outcome, written.as_slice() == replies.as_bytes())
 }
 
 /// More lines than one block of the input holds.
 #[test]
 fn many_lines(rt: HostRuntime) -> Result<(), Fail> {
-    let mut text = String::from_str(rt.alloc(), "new 2\nput 1 10\n")?;
-    let mut want = String::from_str(rt.alloc(), "ok\nnone\n")?;
-    for _ in 0..20_000 {
-        text.push_str("get 1\nget 2\n")?;
-        want.push_str("some 10\nnone\n")?;
-    }
-    let (outcome, written) = served(rt.alloc(), text.as_bytes());
-    assert_eq!(rt; outcome, Ok(()));
-    assert!(rt; written.as_slice() == want.as_bytes(), "other replies");
+    let mut text = repeated(rt.alloc(), "new 2\nput 1 10\n", "get 1\nget 2\n")?;
+    let replies = repeated(rt.alloc(), "ok\nnone\n", "some 10\nnone\n")?;
+    same(
+        &rt,
+        is_answered(rt.alloc(), &text, &replies),
+        (Ok(()), true),
+    );
     text.push_str("get\n")?;
-    let (outcome, written) = served(rt.alloc(), text.as_bytes());
-    assert_eq!(rt; outcome, Err(ServeError::BadLine(40_003)));
-    assert_eq!(rt; written.len(), 0);
+    let refusal = Err(ServeError::BadLine(40_003));
+    same(&rt, is_answered(rt.alloc(), &text, ""), (refusal, true));
     Ok(())
 }
 
@@ -170,13 +210,11 @@ const BAD_LINES: [(&[u8], usize); 64] = [
 ];
 
 #[test]
-fn bad_lines(rt: HostRuntime) -> Result<(), Fail> {
+fn bad_lines(rt: HostRuntime) {
     for (text, line) in BAD_LINES {
-        let (outcome, written) = served(rt.alloc(), text);
-        assert_eq!(rt; outcome, Err(ServeError::BadLine(line)), "{text:?}");
-        assert_eq!(rt; written.len(), 0, "{text:?}");
+        let refusal = Err(ServeError::BadLine(line));
+        answers(&rt, rt.alloc(), text, (refusal, b""), text);
     }
-    Ok(())
 }
 
 /// Refused texts, the line that says why, and the status.
@@ -204,18 +242,39 @@ const REFUSED: [(&[u8], &str, u8); 17] = [
     (b"new 0 0 0", "line 1: bad command", 2),
 ];
 
+/// A refusal has this line and this status.
+fn tells(
+    rt: &impl Abort,
+    alloc: Global,
+    refusal: ServeError,
+    line: &str,
+    status: u8,
+) -> Result<(), Fail> {
+    let text = refusal.to_string(alloc)?;
+    same(rt, (text.as_str(), refusal.status()), (line, status));
+    Ok(())
+}
+
+/// A text is refused so, and nothing is written.
+fn is_refused(
+    rt: &impl Abort,
+    alloc: Global,
+    text: &[u8],
+    line: &str,
+    status: u8,
+) -> Result<(), Fail> {
+    let (outcome, written) = served(alloc, text);
+    same_at(rt, written.len(), 0, text);
+    match outcome {
+        Ok(()) => Err(Fail::from("answered")),
+        Err(refusal) => tells(rt, alloc, refusal, line, status),
+    }
+}
+
 #[test]
 fn refused(rt: HostRuntime) -> Result<(), Fail> {
     for (text, line, status) in REFUSED {
-        let (outcome, written) = served(rt.alloc(), text);
-        match outcome {
-            Ok(()) => assert!(rt; false, "{text:?} is answered"),
-            Err(refusal) => {
-                assert_eq!(rt; refusal.to_string(rt.alloc())?.as_str(), line, "{text:?}");
-                assert_eq!(rt; refusal.status(), status, "{text:?}");
-            }
-        }
-        assert_eq!(rt; written.len(), 0, "{text:?}");
+        is_refused(&rt, rt.alloc(), text, line, status)?;
     }
     Ok(())
 }
@@ -233,8 +292,7 @@ fn told(rt: HostRuntime) -> Result<(), Fail> {
         (ServeError::Write, "write failed", 4),
     ];
     for (refusal, line, status) in rows {
-        assert_eq!(rt; refusal.to_string(rt.alloc())?.as_str(), line);
-        assert_eq!(rt; refusal.status(), status, "{line}");
+        tells(&rt, rt.alloc(), refusal, line, status)?;
     }
     Ok(())
 }
