@@ -27,8 +27,8 @@
 //! assert_eq!(rt; cache.get(&1), Some(&10));
 //! ```
 //!
-//! A test of the crate `clock2q_uses`, `first_example`, runs these lines; `rt` is what a test or
-//! `main` is given. That crate has whole callers, each of them proved.
+//! A test of the crate `clock2q_tests`, `first_example`, runs these lines; `rt` is what a test or
+//! `main` is given. The crate `clock2q_uses` has whole callers, each of them proved.
 #![tactic(auto)]
 
 pub use clock2q_cache as cache;

@@ -1,8 +1,5 @@
 //! The memo: construction, the two lookups, and a list of lookups.
 
-#[cfg(test)]
-mod tests;
-
 use crate::evaluator::Evaluator;
 use clock2q_cache::{Cache, CacheError, DefaultHashBuilder, MAX_CAPACITY};
 use std::alloc::{AllocError, Allocator, Global};

@@ -14,8 +14,6 @@ mod plain;
 mod replayed;
 mod s3_fifo;
 mod sieve;
-#[cfg(test)]
-mod tests;
 
 pub use optimal::optimal_hits;
 pub use plain::{PlainPolicy, plain_hits};

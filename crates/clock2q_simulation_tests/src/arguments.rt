@@ -1,10 +1,12 @@
 //! The program's arguments.
 
+use crate::assertions::{same, same_at};
 use clock2q_cache::MAX_CAPACITY;
 use clock2q_simulation::{
     Amount, Complaint, Format, Options, Policy, SimulationError, Unit, parse_options,
 };
 use std::alloc::Global;
+use std::process::Abort;
 use std::test::Fail;
 
 /// Returns the words of a line.
@@ -36,6 +38,19 @@ fn complaint_of(alloc: Global, line: &str) -> Result<(String, u8), Fail> {
         arguments: &words,
     };
     Ok((format!(in alloc; "{complaint}")?, refusal.status()))
+}
+
+/// This is said of a line of refused arguments, with this status.
+fn is_refused(
+    rt: &impl Abort,
+    alloc: Global,
+    line: &str,
+    wanted: &str,
+    status: u8,
+) -> Result<(), Fail> {
+    let (text, told) = complaint_of(alloc, line)?;
+    same_at(rt, (text.as_str(), told), (wanted, status), line);
+    Ok(())
 }
 
 const NOT_CAPACITY: &str =
@@ -70,18 +85,12 @@ const REFUSED_CAPACITIES: [(&str, &str); 19] = [
 #[test]
 fn refused_capacities(rt: HostRuntime) -> Result<(), Fail> {
     for (word, wanted) in REFUSED_CAPACITIES {
-        let (text, status) = complaint_of(rt.alloc(), word)?;
         let wanted = format!(in rt.alloc(); "clock2q-simulate: {word}: {wanted}")?;
-        assert_eq!(rt; text.as_str(), wanted.as_str());
-        assert_eq!(rt; status, 2);
+        is_refused(&rt, rt.alloc(), word, &wanted, 2)?;
     }
     for line in ["5 16777216", "1..16777216", "99999999999999999999999"] {
-        let (text, status) = complaint_of(rt.alloc(), line)?;
-        assert_eq!(rt;
-            text.as_str(),
-            "clock2q-simulate: a capacity above 16777215"
-        );
-        assert_eq!(rt; status, 3);
+        let wanted = "clock2q-simulate: a capacity above 16777215";
+        is_refused(&rt, rt.alloc(), line, wanted, 3)?;
     }
     Ok(())
 }
@@ -125,17 +134,22 @@ const REFUSED_OPTIONS: [(&str, &str); 14] = [
 #[test]
 fn refused_options(rt: HostRuntime) -> Result<(), Fail> {
     for (line, wanted) in REFUSED_OPTIONS {
-        let (text, status) = complaint_of(rt.alloc(), line)?;
         let wanted = format!(in rt.alloc(); "clock2q-simulate: {wanted}")?;
-        assert_eq!(rt; text.as_str(), wanted.as_str());
-        assert_eq!(rt; status, 2);
+        is_refused(&rt, rt.alloc(), line, &wanted, 2)?;
     }
     Ok(())
 }
 
+/// No shares are written so.
+fn are_refused(rt: &impl Abort, alloc: Global, word: &str) -> Result<(), Fail> {
+    let shares = "not shares (small and window, as small=20%,window=50% or small=30,window=10)";
+    let line = format!(in alloc; "5 --policy {word}")?;
+    let wanted = format!(in alloc; "clock2q-simulate: {word}: {shares}")?;
+    is_refused(rt, alloc, &line, &wanted, 2)
+}
+
 #[test]
 fn refused_shares(rt: HostRuntime) -> Result<(), Fail> {
-    let shares = "not shares (small and window, as small=20%,window=50% or small=30,window=10)";
     for word in [
         "5",
         "small=1",
@@ -147,11 +161,7 @@ fn refused_shares(rt: HostRuntime) -> Result<(), Fail> {
         "window=x,small=1",
         "--csv",
     ] {
-        let line = format!(in rt.alloc(); "5 --policy {word}")?;
-        let (text, status) = complaint_of(rt.alloc(), &line)?;
-        let wanted = format!(in rt.alloc(); "clock2q-simulate: {word}: {shares}")?;
-        assert_eq!(rt; text.as_str(), wanted.as_str());
-        assert_eq!(rt; status, 2);
+        are_refused(&rt, rt.alloc(), word)?;
     }
     Ok(())
 }
@@ -160,16 +170,18 @@ fn refused_shares(rt: HostRuntime) -> Result<(), Fail> {
 fn accepted(rt: HostRuntime) -> Result<(), Fail> {
     let line = "10 --svg 007 --policy window=3,small=20% 10 16777215 --policies opt,clock2q";
     let options = options_of(rt.alloc(), line)?;
-    assert_eq!(rt; options.format, Format::Svg);
-    assert_eq!(rt;
+    same(&rt, options.format, Format::Svg);
+    same(
+        &rt,
         options.policies.as_slice(),
-        [Policy::Optimal, Policy::Clock2Q].as_slice()
+        [Policy::Optimal, Policy::Clock2Q].as_slice(),
     );
     let shares = options.shares.ok_or("no shares")?;
-    assert_eq!(rt; (shares.small(40), shares.window(40)), (8, 3));
-    assert_eq!(rt;
+    same(&rt, (shares.small(40), shares.window(40)), (8, 3));
+    same(
+        &rt,
         numbers_of(&options, Unit::Keys)?.as_slice(),
-        [10, 7, 10, MAX_CAPACITY].as_slice()
+        [10, 7, 10, MAX_CAPACITY].as_slice(),
     );
     Ok(())
 }
@@ -185,6 +197,19 @@ fn numbers_of(options: &Options<Global>, unit: Unit) -> Result<Vec<usize>, Fail>
         numbers.push(number)?;
     }
     Ok(numbers)
+}
+
+/// A line asks for capacities of these numbers.
+fn asks_for(
+    rt: &impl Abort,
+    alloc: Global,
+    line: &str,
+    unit: Unit,
+    wanted: &[usize],
+) -> Result<(), Fail> {
+    let numbers = numbers_of(&options_of(alloc, line)?, unit)?;
+    same_at(rt, numbers.as_slice(), wanted, line);
+    Ok(())
 }
 
 #[test]
@@ -208,20 +233,10 @@ fn ranges(rt: HostRuntime) -> Result<(), Fail> {
         ("7 1..3 2", &[7, 1, 2, 3, 2]),
     ];
     for (line, wanted) in cases {
-        let options = options_of(rt.alloc(), line)?;
-        assert_eq!(rt;
-            numbers_of(&options, Unit::Keys)?.as_slice(),
-            wanted,
-            "{line}"
-        );
+        asks_for(&rt, rt.alloc(), line, Unit::Keys, wanted)?;
     }
-    let options = options_of(rt.alloc(), "3%..30% 1% 100%")?;
-    let wanted = [3, 5, 10, 20, 30, 1, 100];
-    assert_eq!(rt;
-        numbers_of(&options, Unit::Percent)?.as_slice(),
-        wanted.as_slice()
-    );
-    Ok(())
+    let percents = [3, 5, 10, 20, 30, 1, 100];
+    asks_for(&rt, rt.alloc(), "3%..30% 1% 100%", Unit::Percent, &percents)
 }
 
 /// A percentage is rounded down, to one key at least.
@@ -236,11 +251,12 @@ fn amounts(rt: HostRuntime) {
         ("7", 5, 7),
     ] {
         let amount = Amount::written(word);
-        assert_eq!(rt;
+        same_at(
+            &rt,
             amount.map(|amount| amount.of(keys)),
             Some(wanted),
-            "{word}"
+            word,
         );
     }
-    assert_eq!(rt; SimulationError::Shares(1).status(), 2);
+    same(&rt, SimulationError::Shares(1).status(), 2);
 }

@@ -1,6 +1,7 @@
 //! Traces from readers and texts to writers that fail at one of their calls.
 
 use crate::arguments::options_of;
+use crate::assertions::same;
 use clock2q_simulation::{Progress, SimulationError, simulate};
 use clock2q_text::Device;
 use std::alloc::Global;
@@ -143,8 +144,12 @@ fn each_read_fails(
             kind,
         };
         let ended = run_with(alloc, line, plan)?;
-        assert_eq!(rt; ended.result, Err(SimulationError::Read));
-        assert_eq!(rt; (ended.reads, ended.writes), (reads.saturating_add(1), 0));
+        same(rt, ended.result, Err(SimulationError::Read));
+        same(
+            rt,
+            (ended.reads, ended.writes),
+            (reads.saturating_add(1), 0),
+        );
     }
     Ok(())
 }
@@ -158,7 +163,7 @@ fn failing_reads(rt: HostRuntime) -> Result<(), Fail> {
             }
         }
     }
-    assert_eq!(rt; SimulationError::Read.status(), 4);
+    same(&rt, SimulationError::Read.status(), 4);
     Ok(())
 }
 
@@ -178,10 +183,10 @@ fn each_write_fails(
             kind,
         };
         let ended = run_with(alloc, line, plan)?;
-        assert_eq!(rt; ended.result, Err(SimulationError::Write));
-        assert_eq!(rt; ended.writes, writes.saturating_add(1));
+        same(rt, ended.result, Err(SimulationError::Write));
+        same(rt, ended.writes, writes.saturating_add(1));
         let taken = text.len().min(writes.saturating_mul(step));
-        assert_eq!(rt; ended.text.as_slice(), &text.as_bytes()[..taken]);
+        same(rt, ended.text.as_slice(), &text.as_bytes()[..taken]);
     }
     Ok(())
 }
@@ -195,7 +200,7 @@ fn failing_writes(rt: HostRuntime) -> Result<(), Fail> {
             }
         }
     }
-    assert_eq!(rt; SimulationError::Write.status(), 4);
+    same(&rt, SimulationError::Write.status(), 4);
     Ok(())
 }
 
@@ -209,8 +214,8 @@ fn nothing_fails(rt: HostRuntime) -> Result<(), Fail> {
             kind: ErrorKind::Other,
         };
         let ended = run_with(rt.alloc(), line, plan)?;
-        assert_eq!(rt; ended.result, Ok(()));
-        assert_eq!(rt; ended.text.as_slice(), text.as_bytes());
+        same(&rt, ended.result, Ok(()));
+        same(&rt, ended.text.as_slice(), text.as_bytes());
     }
     Ok(())
 }

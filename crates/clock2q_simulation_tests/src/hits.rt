@@ -1,30 +1,44 @@
 //! The hits of the policies whose hits are worked out by hand.
 
+use crate::assertions::same;
 use crate::numbers::trace_of;
-use clock2q_simulation::{ChosenShares, Policy, SimulationError, replay};
+use clock2q_simulation::{ChosenShares, Policy, SimulationError, Trace, replay};
+use std::alloc::Global;
 use std::num::NonZeroUsize;
+use std::process::Abort;
 use std::test::Fail;
 
-#[test]
-fn hits_of_each_policy(rt: HostRuntime) -> Result<(), Fail> {
-    let trace = trace_of(rt.alloc(), b"a\nb\na\nc\nb\nd\na\nb\n")?;
+/// The hits of Clock2Q+, LRU and FIFO in a cache of some capacity.
+fn hits_are(
+    rt: &impl Abort,
+    alloc: Global,
+    trace: &Trace<Global>,
+    capacity: usize,
+    wanted: &[usize],
+) -> Result<(), Fail> {
     let policies = [
         Policy::Clock2Q,
         Policy::LeastRecentlyUsed,
         Policy::FirstInFirstOut,
     ];
+    let capacity = NonZeroUsize::new(capacity).ok_or("not zero")?;
+    let row = replay(alloc, capacity, &policies, None, trace)?;
+    same(rt, (row.capacity, row.accesses), (capacity, 8));
+    let hits: Vec<usize> = row.hits.iter().map(|hits| hits.hits).collect(alloc)?;
+    same(rt, hits.as_slice(), wanted);
+    Ok(())
+}
+
+#[test]
+fn hits_of_each_policy(rt: HostRuntime) -> Result<(), Fail> {
+    let trace = trace_of(rt.alloc(), b"a\nb\na\nc\nb\nd\na\nb\n")?;
     for (capacity, wanted) in [
         (1, [0, 0, 0]),
         (2, [3, 1, 2]),
         (3, [3, 3, 2]),
         (4, [4, 4, 4]),
     ] {
-        let capacity = NonZeroUsize::new(capacity).ok_or("not zero")?;
-        let row = replay(rt.alloc(), capacity, &policies, None, &trace)?;
-        assert_eq!(rt; row.capacity, capacity);
-        assert_eq!(rt; row.accesses, 8);
-        let hits: Vec<usize> = row.hits.iter().map(|hits| hits.hits).collect(rt.alloc())?;
-        assert_eq!(rt; hits.as_slice(), wanted.as_slice());
+        hits_are(&rt, rt.alloc(), &trace, capacity, &wanted)?;
     }
     Ok(())
 }
@@ -44,7 +58,7 @@ fn hits_of_chosen_shares(rt: HostRuntime) -> Result<(), Fail> {
             Some(shares),
             &trace,
         )?;
-        assert_eq!(rt; row.hits.first().map(|hits| hits.hits), Some(wanted));
+        same(&rt, row.hits.first().map(|hits| hits.hits), Some(wanted));
     }
     Ok(())
 }
@@ -58,7 +72,7 @@ fn usual_shares_written(rt: HostRuntime) -> Result<(), Fail> {
         let policies = [Policy::Clock2Q];
         let chosen = replay(rt.alloc(), capacity, &policies, Some(usual), &trace)?;
         let row = replay(rt.alloc(), capacity, &policies, None, &trace)?;
-        assert_eq!(rt; chosen.hits.as_slice(), row.hits.as_slice());
+        same(&rt, chosen.hits.as_slice(), row.hits.as_slice());
     }
     Ok(())
 }
@@ -77,7 +91,7 @@ fn shares_that_do_not_fit(rt: HostRuntime) -> Result<(), Fail> {
         let shares = ChosenShares::written(shares).ok_or("no shares")?;
         let room = NonZeroUsize::new(capacity).ok_or("not zero")?;
         let refused = replay(rt.alloc(), room, &[Policy::Clock2Q], Some(shares), &trace);
-        assert_eq!(rt; refused.err(), Some(SimulationError::Shares(capacity)));
+        same(&rt, refused.err(), Some(SimulationError::Shares(capacity)));
     }
     Ok(())
 }

@@ -5,11 +5,15 @@
 #[cfg(test)]
 mod arguments;
 #[cfg(test)]
+mod assertions;
+#[cfg(test)]
 mod devices;
 #[cfg(test)]
 mod hits;
 #[cfg(test)]
 mod numbers;
+#[cfg(test)]
+mod policies;
 #[cfg(test)]
 mod refused;
 #[cfg(test)]

@@ -1,8 +1,10 @@
 //! The numbers of a trace's keys.
 
+use crate::assertions::{same, same_at};
 use clock2q_simulation::{GrowingTrace, Progress, SimulationError, Trace, read_trace};
 use clock2q_text::Device;
 use std::alloc::Global;
+use std::process::Abort;
 use std::test::Fail;
 
 /// Reads a trace from bytes.
@@ -26,7 +28,7 @@ fn keys_have_numbers(rt: HostRuntime) -> Result<(), Fail> {
     ];
     for (input, numbers) in cases {
         let trace = trace_of(rt.alloc(), input)?;
-        assert_eq!(rt; trace.numbers(), numbers);
+        same(&rt, trace.numbers(), numbers);
     }
     Ok(())
 }
@@ -37,12 +39,12 @@ fn keys_that_begin_others(rt: HostRuntime) -> Result<(), Fail> {
     let keys: [&[u8]; 8] = [b"", b"a", b"aa", b"", b"aaa", b"a", b"aa", b"aaa"];
     let mut growing = GrowingTrace::new(rt.alloc());
     for (count, key) in keys.iter().enumerate() {
-        assert_eq!(rt; growing.len(), count);
+        same(&rt, growing.len(), count);
         growing.push(key)?;
     }
     let trace = growing.finish();
-    assert_eq!(rt; trace.numbers(), [0, 1, 2, 0, 3, 1, 2, 3].as_slice());
-    assert_eq!(rt; trace.key_count(), 4);
+    same(&rt, trace.numbers(), [0, 1, 2, 0, 3, 1, 2, 3].as_slice());
+    same(&rt, trace.key_count(), 4);
     Ok(())
 }
 
@@ -55,28 +57,32 @@ fn long_keys_differ_in_their_last_byte(rt: HostRuntime) -> Result<(), Fail> {
     }
     input.extend_from_slice(b"k\n")?;
     let trace = trace_of(rt.alloc(), &input)?;
-    assert_eq!(rt; trace.numbers(), [0, 1].as_slice());
+    same(&rt, trace.numbers(), [0, 1].as_slice());
     Ok(())
 }
 
 /// One more than the numbers of 16 bits, each twice: first ascending, then descending.
-#[test]
-fn many_keys(rt: HostRuntime) -> Result<(), Fail> {
-    let mut input = Vec::new(rt.alloc());
+fn many_lines(alloc: Global) -> Result<Vec<u8>, Fail> {
+    let mut input = Vec::new(alloc);
     for key in (0..65_537u32).chain((0..65_537).rev()) {
-        let line = format!(in rt.alloc(); "{key}\n")?;
+        let line = format!(in alloc; "{key}\n")?;
         input.extend_from_slice(line.as_bytes())?;
     }
-    let trace = trace_of(rt.alloc(), &input)?;
-    assert_eq!(rt; trace.key_count(), 65_537);
-    assert_eq!(rt; trace.numbers().len(), 131_074);
+    Ok(input)
+}
+
+/// The keys of such lines have their numbers.
+fn numbers_go_back(rt: &impl Abort, trace: &Trace<Global>) {
+    same(rt, trace.key_count(), 65_537);
+    same(rt, trace.numbers().len(), 131_074);
     for (index, number) in trace.numbers().iter().enumerate() {
-        let wanted = if index < 65_537 {
-            index
-        } else {
-            131_073 - index
-        };
-        assert_eq!(rt; *number as usize, wanted, "at {index}");
+        let wanted = index.min(131_073usize.saturating_sub(index));
+        same_at(rt, *number as usize, wanted, index);
     }
+}
+
+#[test]
+fn many_keys(rt: HostRuntime) -> Result<(), Fail> {
+    numbers_go_back(&rt, &trace_of(rt.alloc(), &many_lines(rt.alloc())?)?);
     Ok(())
 }

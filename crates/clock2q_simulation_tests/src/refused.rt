@@ -1,6 +1,7 @@
 //! Requests for memory refused in turn, while the arguments are fetched and from them to the text.
 
 use crate::arguments::words_of;
+use crate::assertions::same;
 use clock2q_refusing::{Refusing, Tried, try_in_turn};
 use clock2q_simulation::{Progress, SimulationError, parse_options, simulate};
 use clock2q_text::Device;
@@ -66,6 +67,6 @@ fn each_request(rt: HostRuntime) -> Result<(), Fail> {
         });
         assert!(rt; matches!(tried, Tried::Done(_)), "{line}: {tried:?}");
     }
-    assert_eq!(rt; SimulationError::Memory.status(), 3);
+    same(&rt, SimulationError::Memory.status(), 3);
     Ok(())
 }

@@ -1,6 +1,7 @@
 //! The tables and the lines with commas, from arguments and a trace.
 
 use crate::arguments::options_of;
+use crate::assertions::same;
 use clock2q_simulation::{Progress, simulate};
 use clock2q_text::Device;
 use std::alloc::Global;
@@ -27,20 +28,25 @@ fn texts(rt: HostRuntime) -> Result<(), Fail> {
 capacity Clock2Q+    SIEVE  S3-FIFO      LRU      OPT
        1     0.00     0.00     0.00     0.00     0.00
 ";
-    assert_eq!(rt; written(rt.alloc(), "1", b"")?.as_slice(), table.as_bytes());
+    same(
+        &rt,
+        written(rt.alloc(), "1", b"")?.as_slice(),
+        table.as_bytes(),
+    );
     let lines = "\
 capacity,accesses,clock2q_hits,clock2q_ratio,lru_hits,lru_ratio,fifo_hits,fifo_ratio
 3,8,3,0.3750,3,0.3750,2,0.2500
 1,8,0,0.0000,0,0.0000,0,0.0000
 ";
-    assert_eq!(rt;
+    same(
+        &rt,
         written(
             rt.alloc(),
             "3 1 --csv --policies clock2q,lru,fifo",
-            b"a\nb\na\nc\nb\nd\na\nb\n"
+            b"a\nb\na\nc\nb\nd\na\nb\n",
         )?
         .as_slice(),
-        lines.as_bytes()
+        lines.as_bytes(),
     );
     Ok(())
 }
@@ -53,13 +59,13 @@ capacity      LRU
        1    66.67
 ";
     let written_table = written(rt.alloc(), "1 --policies lru", b"a\na\na\n")?;
-    assert_eq!(rt; written_table.as_slice(), table.as_bytes());
+    same(&rt, written_table.as_slice(), table.as_bytes());
     let lines = "capacity,accesses,lru_hits,lru_ratio\n1,3,1,0.3333\n";
     let written_lines = written(rt.alloc(), "1 --csv --policies lru", b"a\na\nb\n")?;
-    assert_eq!(rt; written_lines.as_slice(), lines.as_bytes());
+    same(&rt, written_lines.as_slice(), lines.as_bytes());
     let lines = "capacity,accesses,lru_hits,lru_ratio\n1,3,2,0.6667\n";
     let written_lines = written(rt.alloc(), "1 --csv --policies lru", b"a\na\na\n")?;
-    assert_eq!(rt; written_lines.as_slice(), lines.as_bytes());
+    same(&rt, written_lines.as_slice(), lines.as_bytes());
     Ok(())
 }
 
@@ -84,9 +90,10 @@ capacity,accesses,lru_hits,lru_ratio
 3,4,1,0.2500
 ";
     let line = "2 1..700 67% --csv 33% 100% --policies lru";
-    assert_eq!(rt;
+    same(
+        &rt,
         written(rt.alloc(), line, b"a\nb\na\nc\n")?.as_slice(),
-        lines.as_bytes()
+        lines.as_bytes(),
     );
     Ok(())
 }

@@ -1,5 +1,6 @@
 //! A run of commands, and the refusals of a cache.
 
+use crate::assertions::{same, same_at};
 use clock2q::command::{Command, Reply, run};
 use clock2q::{Cache, CacheError, DefaultHashBuilder, MAX_CAPACITY};
 use std::alloc::Global;
@@ -42,32 +43,29 @@ const REPLIES: &[Reply<u64>] = &[
 ];
 
 /// A cache of one key replies as worked out.
-fn replies(rt: &impl Abort, alloc: Global) -> Result<(), Fail> {
-    let mut cache = numbers(alloc, 1)?;
-    let replies = replies_of(alloc, &mut cache)?;
-    assert_eq!(rt; replies.as_slice(), REPLIES);
+fn replies(rt: &impl Abort, alloc: Global, cache: &mut Numbers) -> Result<(), Fail> {
+    let replies = replies_of(alloc, cache)?;
+    same(rt, replies.as_slice(), REPLIES);
     Ok(())
 }
 
 #[test]
 fn runs(rt: HostRuntime) -> Result<(), Fail> {
-    replies(&rt, rt.alloc())
+    replies(&rt, rt.alloc(), &mut numbers(rt.alloc(), 1)?)
 }
 
 #[test]
 fn largest_capacity(rt: HostRuntime) -> Result<(), Fail> {
     let cache = numbers(rt.alloc(), MAX_CAPACITY)?;
-    assert_eq!(rt; cache.capacity(), 16_777_215);
+    same(&rt, cache.capacity(), 16_777_215);
     Ok(())
 }
 
 #[test]
 fn too_large_a_capacity(rt: HostRuntime) -> Result<(), Fail> {
     let too_large = NonZeroUsize::new(MAX_CAPACITY + 1).ok_or("not zero")?;
-    match Cache::<u64, u64, _, _>::new(rt.alloc(), too_large) {
-        Ok(_) => assert!(rt; false, "made"),
-        Err(refusal) => assert_eq!(rt; refusal, CacheError::Capacity),
-    }
+    let refused = Cache::<u64, u64, _, _>::new(rt.alloc(), too_large);
+    same(&rt, refused.err(), Some(CacheError::Capacity));
     Ok(())
 }
 
@@ -78,7 +76,7 @@ fn refusals_show(rt: HostRuntime) -> Result<(), Fail> {
         (CacheError::Capacity, "capacity refused"),
     ] {
         let shown = refusal.to_string(rt.alloc())?;
-        assert_eq!(rt; shown.as_str(), text);
+        same(&rt, shown.as_str(), text);
     }
     Ok(())
 }
@@ -86,7 +84,7 @@ fn refusals_show(rt: HostRuntime) -> Result<(), Fail> {
 /// Each key has its slot.
 fn stand(rt: &impl Abort, cache: &mut Numbers, slots: &[(u64, Option<usize>)]) {
     for (key, slot) in slots {
-        assert_eq!(rt; cache.slot(key), *slot, "{key}");
+        same_at(rt, cache.slot(key), *slot, key);
     }
 }
 

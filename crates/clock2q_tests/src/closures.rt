@@ -1,5 +1,6 @@
 //! Closures that change their answers, and how often each is asked.
 
+use crate::assertions::{same, same_at};
 use crate::caches::{Numbers, numbers};
 use clock2q::handles::{Table, TableError};
 use std::alloc::Global;
@@ -10,7 +11,7 @@ use std::test::Fail;
 /// Puts new keys from one to another, each with itself as its value.
 fn fill(rt: &impl Abort, cache: &mut Numbers, first: u64, end: u64) {
     for key in first..end {
-        assert_eq!(rt; cache.put(key, key), None);
+        same(rt, cache.put(key, key), None);
     }
 }
 
@@ -30,9 +31,9 @@ fn keep_every_other(cache: &mut Numbers) -> u64 {
 fn every_other_is_kept(rt: &impl Abort, cache: &mut Numbers) {
     fill(rt, cache, 1, 6);
     for wanted in [12345, 135, 15, 1, 1] {
-        assert_eq!(rt; keep_every_other(cache), wanted);
+        same(rt, keep_every_other(cache), wanted);
     }
-    assert_eq!(rt; cache.len(), 1);
+    same(rt, cache.len(), 1);
 }
 
 /// Each resident is asked about once, by its slot upwards, and one that was taken out no more.
@@ -56,10 +57,10 @@ fn filled(cache: &mut Numbers) -> u64 {
 fn slots_are_made(rt: &impl Abort, cache: &mut Numbers) {
     fill(rt, cache, 0, 2);
     assert!(rt; cache.remove(&0));
-    assert_eq!(rt; filled(cache), 4);
-    assert_eq!(rt; filled(cache), 0);
+    same(rt, filled(cache), 4);
+    same(rt, filled(cache), 0);
     cache.clear();
-    assert_eq!(rt; filled(cache), 6);
+    same(rt, filled(cache), 6);
 }
 
 #[test]
@@ -91,14 +92,14 @@ fn lent(cache: &mut Numbers, key: u64) -> (u64, u64) {
 /// Each key is fetched with that value, after so many calls of its closure.
 fn are_fetched(rt: &impl Abort, cache: &mut Numbers, wanted: &[(u64, (u64, u64))]) {
     for (key, wanted) in wanted {
-        assert_eq!(rt; fetched(cache, *key), *wanted, "{key}");
+        same_at(rt, fetched(cache, *key), *wanted, key);
     }
 }
 
 /// Each key's slot is lent with that value, after so many calls of its closure.
 fn are_lent(rt: &impl Abort, cache: &mut Numbers, wanted: &[(u64, (u64, u64))]) {
     for (key, wanted) in wanted {
-        assert_eq!(rt; lent(cache, *key), *wanted, "{key}");
+        same_at(rt, lent(cache, *key), *wanted, key);
     }
 }
 
@@ -160,7 +161,7 @@ fn offers(
     wanted: (u64, bool, u64),
 ) -> Result<(), Fail> {
     let mut table = Table::with_capacity(alloc, 12)?;
-    assert_eq!(rt; second_of(rt, &mut table, count)?, wanted, "{count}");
+    same_at(rt, second_of(rt, &mut table, count)?, wanted, count);
     Ok(())
 }
 

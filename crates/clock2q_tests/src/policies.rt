@@ -1,5 +1,6 @@
 //! Caches with shares of their own.
 
+use crate::assertions::{same, same_at};
 use crate::caches::Numbers;
 use clock2q::command::{Command, Reply, run};
 use clock2q::{Cache, CacheError, DefaultHashBuilder};
@@ -53,26 +54,31 @@ fn with_shares(
     Ok(Cache::with_policy(alloc, capacity, small, window, hasher)?)
 }
 
-/// A window lets one of two keys stay, and the fifth stands at a slot.
+/// One of two keys stays in an empty cache, and the fifth stands at a slot.
 fn replies(
     rt: &impl Abort,
     alloc: Global,
-    window: usize,
-    slot: usize,
+    cache: &mut Numbers,
     keys: (u64, u64),
+    slot: usize,
 ) -> Result<(), Fail> {
-    let capacity = NonZeroUsize::new(4).ok_or("not zero")?;
-    let mut cache = with_shares(alloc, capacity, 2, window)?;
-    let replies = replies_of(alloc, &mut cache, keys, slot)?;
-    assert_eq!(rt; replies.as_slice(), REPLIES, "{window}");
+    let replies = replies_of(alloc, cache, keys, slot)?;
+    same_at(rt, replies.as_slice(), REPLIES, keys);
     Ok(())
+}
+
+/// A cache of four keys with so long a window.
+fn with_window(alloc: Global, window: usize) -> Result<Numbers, Fail> {
+    let capacity = NonZeroUsize::new(4).ok_or("not zero")?;
+    Ok(with_shares(alloc, capacity, 2, window)?)
 }
 
 /// With a window of 1 the hit on key 1 counts, and it goes on to Main; with one of 2 it is too young.
 #[test]
 fn chosen_shares(rt: HostRuntime) -> Result<(), Fail> {
     for (window, slot, stays, leaves) in [(1, 2, 1, 3), (2, 0, 3, 1)] {
-        replies(&rt, rt.alloc(), window, slot, (stays, leaves))?;
+        let mut cache = with_window(rt.alloc(), window)?;
+        replies(&rt, rt.alloc(), &mut cache, (stays, leaves), slot)?;
     }
     Ok(())
 }
@@ -92,9 +98,9 @@ fn refused_shares(rt: HostRuntime) -> Result<(), Fail> {
     for (capacity, small, window, refusal) in SHARES {
         let capacity = NonZeroUsize::new(*capacity).ok_or("not zero")?;
         let refused = with_shares(rt.alloc(), capacity, *small, *window).err();
-        assert_eq!(rt; refused, *refusal, "{small} {window}");
+        same_at(&rt, refused, *refusal, (small, window));
     }
     let shown = CacheError::Policy.to_string(rt.alloc())?;
-    assert_eq!(rt; shown.as_str(), "policy refused");
+    same(&rt, shown.as_str(), "policy refused");
     Ok(())
 }

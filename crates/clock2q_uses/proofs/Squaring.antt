@@ -1,5 +1,5 @@
 -- A cache of squares keeps to squares: another number that has a value afterwards had it before.
-use Rattle.std.proofs.Common.{◌≡◌, ℕ, eqb, inl, inr, Some, sym, ap, ◌∙◌, ne_eqb}
+use Rattle.std.proofs.Common.{ℕ, eqb, inl, inr, Some, sym, ap, ◌∙◌, ne_eqb}
 use Rattle.std.specs.Cmp.{nat_eq_equiv}
 use Rattle.std.proofs.lemmas.Bool.{cases_eq}
 use Rattle.clock2q_machine.specs.Calls.{Get, Put}

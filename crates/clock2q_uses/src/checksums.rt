@@ -11,7 +11,6 @@ use clock2q::{CacheError, MAX_CAPACITY, Memo};
 use std::alloc::Global;
 use std::hash::BuildHasher;
 use std::num::NonZeroUsize;
-use std::test::Fail;
 
 /// Returns the checksums of the documents that are asked for, each by its number, and `None` for a
 /// number without a document. Up to `capacity` checksums are remembered: a document that is asked
@@ -77,40 +76,4 @@ pub fn adler32(bytes: &[u8]) -> u32
         high = (high + low) % 65521;
     }
     high * 65536 + low
-}
-
-#[test]
-fn known_checksums(rt: HostRuntime) -> Result<(), Fail> {
-    assert_eq!(rt; adler32(b""), 1);
-    assert_eq!(rt; adler32(b"Wikipedia"), 0x11E6_0398);
-    Ok(())
-}
-
-#[test]
-fn asked_for_again(rt: HostRuntime) -> Result<(), Fail> {
-    let mut documents = Vec::new(rt.alloc());
-    documents.push(Vec::from_slice(rt.alloc(), b"Wikipedia")?)?;
-    documents.push(Vec::new(rt.alloc()))?;
-    let numbers = vec![in rt.alloc(); 0, 1, 0, 2, 0]?;
-    let capacity = NonZeroUsize::new(1).ok_or("not zero")?;
-    let sums = checksums(rt.alloc(), capacity, &documents, numbers)?;
-    let wikipedia = Some(0x11E6_0398);
-    assert_eq!(rt;
-        sums.as_slice(),
-        [wikipedia, Some(1), wikipedia, None, wikipedia].as_slice()
-    );
-    Ok(())
-}
-
-#[test]
-fn a_client_with_a_copy(rt: HostRuntime) -> Result<(), Fail> {
-    let capacity = NonZeroUsize::new(2).ok_or("not zero")?;
-    let mut memo = Memo::new(
-        rt.alloc(),
-        capacity,
-        |number: &usize| u32::try_from(*number).ok(),
-    )?;
-    assert!(rt; is_unchanged(&mut memo, 7, 7));
-    assert!(rt; !is_unchanged(&mut memo, 7, 8));
-    Ok(())
 }

@@ -5,7 +5,6 @@ ghost use Rattle.std.specs.Prelude.{◌≡◌, ◌≢◌, ◌⊎◌, ℕ, [], So
 use clock2q::handles::{Table, TableError};
 use std::alloc::Global;
 use std::marker::Model;
-use std::test::Fail;
 
 /// Keys, each once, in the order in which they came.
 ///
@@ -98,22 +97,4 @@ pub(crate) fn hash_of(key: u64) -> u64
     ensures hash { result ≡ spread key }
 {
     key.wrapping_mul(0x9E37_79B9_7F4A_7C15)
-}
-
-#[test]
-fn equal_keys_have_one_number(rt: HostRuntime) -> Result<(), Fail> {
-    let mut interner = Interner::new(rt.alloc());
-    for round in 0..2 {
-        for (number, key) in [7, 23, 7 << 32, 0, u64::MAX].iter().enumerate() {
-            assert_eq!(rt; interner.intern(*key)?, number, "round {round}");
-        }
-    }
-    for key in 100..200 {
-        interner.intern(key)?;
-    }
-    assert_eq!(rt; interner.intern(23)?, 1);
-    assert_eq!(rt; interner.intern(100)?, 5);
-    assert_eq!(rt; interner.number_of(23), Some(1));
-    assert_eq!(rt; interner.number_of(24), None);
-    Ok(())
 }

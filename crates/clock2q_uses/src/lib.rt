@@ -2,8 +2,6 @@
 #![tactic(auto)]
 
 pub mod checksums;
-#[cfg(test)]
-mod first_example;
 pub mod hashers;
 pub mod interning;
 pub mod pages;

@@ -7,7 +7,6 @@ use crate::interning::{Interner, hash_of};
 use clock2q::handles::{TableError, partition};
 use std::alloc::Global;
 use std::marker::Model;
-use std::test::Fail;
 
 /// Keys in several parts, each with a table of its own. A key is in the part of its hash's group,
 /// and has a number there.
@@ -86,18 +85,4 @@ impl SplitIndex {
     {
         self.parts[self.part_of(key)].number_of(key)
     }
-}
-
-#[test]
-fn each_key_is_found_in_its_part(rt: HostRuntime) -> Result<(), Fail> {
-    let mut index = SplitIndex::new(rt.alloc(), 4)?;
-    for key in 0..100 {
-        index.insert(key)?;
-    }
-    for key in 0..100 {
-        let number = index.insert(key)?;
-        assert_eq!(rt; index.get(key), Some(number));
-    }
-    assert_eq!(rt; index.get(100), None);
-    Ok(())
 }

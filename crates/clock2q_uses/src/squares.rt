@@ -3,8 +3,6 @@ ghost use Rattle.clock2q_uses.specs.Squares.{HasSquares, square};
 ghost use Rattle.std.specs.Prelude.{◌≡◌};
 
 use clock2q::Cache;
-use std::num::NonZeroUsize;
-use std::test::Fail;
 
 /// Returns the square of a number, modulo 2^64. It is computed if the cache doesn't have it.
 #[tactic(auto, unfolding(crate::specs::Squares::square))]
@@ -19,15 +17,4 @@ pub fn square_of(squares: &mut Cache<u64, u64>, number: u64) -> u64
     let square = number.wrapping_mul(number);
     squares.put(number, square);
     square
-}
-
-#[test]
-fn squares_in_one_slot(rt: HostRuntime) -> Result<(), Fail> {
-    let capacity = NonZeroUsize::new(1).ok_or("not zero")?;
-    let mut squares = Cache::new(rt.alloc(), capacity)?;
-    assert_eq!(rt; square_of(&mut squares, 12), 144);
-    assert_eq!(rt; square_of(&mut squares, 12), 144);
-    assert_eq!(rt; square_of(&mut squares, 3), 9);
-    assert_eq!(rt; squares.peek(&12), None);
-    Ok(())
 }

@@ -1,8 +1,10 @@
 //! Tests against lists that are searched and shifted, over traces of several kinds.
-use crate::{arc_hits, clock_hits, optimal_hits, s3_fifo_hits, sieve_hits};
+use crate::assertions::{same, same_at};
+use clock2q_policies::{arc_hits, clock_hits, optimal_hits, s3_fifo_hits, sieve_hits};
 use std::alloc::{AllocError, Global};
 use std::collections::VecDeque;
 use std::num::{NonZeroUsize, nearest_usize_to_f64};
+use std::process::Abort;
 use std::test::Fail;
 
 const KEYS: u32 = 40;
@@ -317,31 +319,69 @@ fn optimal_model(alloc: Global, room: usize, trace: &[u32]) -> Result<usize, All
     Ok(hits)
 }
 
+/// Each policy's hits are its lists', in a cache of some capacity.
+fn hits_are_same(
+    rt: &impl Abort,
+    alloc: Global,
+    capacity: NonZeroUsize,
+    trace: &[u32],
+) -> Result<(), Fail> {
+    let room = capacity.get();
+    let clock = clock_hits(alloc, capacity, trace, KEYS)?;
+    same_at(rt, clock, clock_model(alloc, room, trace)?, ("CLOCK", room));
+    let sieve = sieve_hits(alloc, capacity, trace, KEYS)?;
+    same_at(rt, sieve, sieve_model(alloc, room, trace)?, ("SIEVE", room));
+    let s3_fifo = s3_fifo_hits(alloc, capacity, trace, KEYS)?;
+    let model = s3_fifo_model(alloc, room, trace)?;
+    same_at(rt, s3_fifo, model, ("S3-FIFO", room));
+    let arc = arc_hits(alloc, capacity, trace, KEYS)?;
+    same_at(rt, arc, arc_model(alloc, room, trace)?, ("ARC", room));
+    let optimal = optimal_is_same(rt, alloc, capacity, trace)?;
+    let most = clock.max(sieve).max(s3_fifo).max(arc);
+    assert!(rt; most <= optimal, "{room}");
+    Ok(())
+}
+
+/// The most hits are those of a list that is searched for what the trace needs last. Returns them.
+fn optimal_is_same(
+    rt: &impl Abort,
+    alloc: Global,
+    capacity: NonZeroUsize,
+    trace: &[u32],
+) -> Result<usize, Fail> {
+    let room = capacity.get();
+    let optimal = optimal_hits(alloc, capacity, trace, KEYS)?;
+    same_at(
+        rt,
+        optimal,
+        optimal_model(alloc, room, trace)?,
+        ("OPT", room),
+    );
+    Ok(optimal)
+}
+
+/// The same in caches of several capacities.
+fn all_hits_are_same(rt: &impl Abort, alloc: Global, trace: &[u32]) -> Result<(), Fail> {
+    for room in [1usize, 2, 3, 7, 10, 20, 22, 30, 41] {
+        let capacity = NonZeroUsize::new(room).ok_or("not zero")?;
+        hits_are_same(rt, alloc, capacity, trace)?;
+    }
+    Ok(())
+}
+
 #[test]
 fn hits_are_those_of_lists(rt: HostRuntime) -> Result<(), Fail> {
-    let alloc = rt.alloc();
     for seed in 1..4 {
-        let trace = trace_of(alloc, seed, 600)?;
-        for room in [1usize, 2, 3, 7, 10, 20, 22, 30, 41] {
-            let capacity = NonZeroUsize::new(room).ok_or("not zero")?;
-            let clock = clock_hits(alloc, capacity, &trace, KEYS)?;
-            assert_eq!(rt; clock, clock_model(alloc, room, &trace)?, "CLOCK {room}");
-            let sieve = sieve_hits(alloc, capacity, &trace, KEYS)?;
-            assert_eq!(rt; sieve, sieve_model(alloc, room, &trace)?, "SIEVE {room}");
-            let s3_fifo = s3_fifo_hits(alloc, capacity, &trace, KEYS)?;
-            assert_eq!(rt;
-                s3_fifo,
-                s3_fifo_model(alloc, room, &trace)?,
-                "S3-FIFO {room}"
-            );
-            let optimal = optimal_hits(alloc, capacity, &trace, KEYS)?;
-            assert_eq!(rt; optimal, optimal_model(alloc, room, &trace)?, "OPT {room}");
-            let arc = arc_hits(alloc, capacity, &trace, KEYS)?;
-            assert_eq!(rt; arc, arc_model(alloc, room, &trace)?, "ARC {room}");
-            for hits in [clock, sieve, s3_fifo, arc] {
-                assert!(rt; hits <= optimal, "{room}");
-            }
-        }
+        all_hits_are_same(&rt, rt.alloc(), &trace_of(rt.alloc(), seed, 600)?)?;
+    }
+    Ok(())
+}
+
+/// The most hits in caches of several capacities.
+fn all_optimal_hits_are_same(rt: &impl Abort, alloc: Global, trace: &[u32]) -> Result<(), Fail> {
+    for room in [1usize, 2, 5, 20] {
+        let capacity = NonZeroUsize::new(room).ok_or("not zero")?;
+        optimal_is_same(rt, alloc, capacity, trace)?;
     }
     Ok(())
 }
@@ -349,14 +389,7 @@ fn hits_are_those_of_lists(rt: HostRuntime) -> Result<(), Fail> {
 /// So long a trace has indices whose words are on three levels.
 #[test]
 fn optimal_hits_of_a_long_trace(rt: HostRuntime) -> Result<(), Fail> {
-    let alloc = rt.alloc();
-    let trace = trace_of(alloc, 4, 9000)?;
-    for room in [1usize, 2, 5, 20] {
-        let capacity = NonZeroUsize::new(room).ok_or("not zero")?;
-        let optimal = optimal_hits(alloc, capacity, &trace, KEYS)?;
-        assert_eq!(rt; optimal, optimal_model(alloc, room, &trace)?, "{room}");
-    }
-    Ok(())
+    all_optimal_hits_are_same(&rt, rt.alloc(), &trace_of(rt.alloc(), 4, 9000)?)
 }
 
 /// Worked out by hand: 0 and 1 come again, so a scan of 2, 3, 4 takes the room of keys that came
@@ -365,6 +398,6 @@ fn optimal_hits_of_a_long_trace(rt: HostRuntime) -> Result<(), Fail> {
 fn arc_keeps_what_came_again(rt: HostRuntime) -> Result<(), Fail> {
     let capacity = NonZeroUsize::new(3).ok_or("not zero")?;
     let trace = [0, 1, 0, 1, 2, 3, 4, 0, 1, 2, 2];
-    assert_eq!(rt; arc_hits(rt.alloc(), capacity, &trace, 5)?, 5);
+    same(&rt, arc_hits(rt.alloc(), capacity, &trace, 5)?, 5);
     Ok(())
 }

@@ -1,0 +1,140 @@
+//! Memos of squares, with values and residents worked out by hand.
+use crate::assertions::same;
+use clock2q::memo::recall;
+use clock2q::{CacheError, Memo};
+use std::alloc::Global;
+use std::cell::Cell;
+use std::num::NonZeroUsize;
+use std::process::Abort;
+use std::test::Fail;
+
+fn square(key: &u64) -> u64 {
+    key.wrapping_mul(*key)
+}
+
+/// A memo of so many values.
+fn memo_of<F: Fn(&u64) -> u64 + Drop>(
+    alloc: Global,
+    capacity: usize,
+    function: F,
+) -> Result<Memo<u64, u64, F>, Fail> {
+    let capacity = NonZeroUsize::new(capacity).ok_or("not zero")?;
+    Ok(Memo::new(alloc, capacity, function)?)
+}
+
+/// Looks a hundred keys up in turn, ten times each.
+fn squares_are_returned<F: Fn(&u64) -> u64>(rt: &impl Abort, memo: &mut Memo<u64, u64, F>) {
+    for round in 0..1000u64 {
+        let key = round % 100;
+        same(rt, memo.get(key), square(&key));
+        same(rt, memo.get_recorded(key), square(&key));
+    }
+}
+
+#[test]
+fn every_value_is_the_square(rt: HostRuntime) -> Result<(), Fail> {
+    squares_are_returned(&rt, &mut memo_of(rt.alloc(), 8, square)?);
+    Ok(())
+}
+
+/// Looks two keys up in turn.
+fn squares_of_two<F: Fn(&u64) -> u64>(rt: &impl Abort, memo: &mut Memo<u64, u64, F>) {
+    for _ in 0..5 {
+        same(rt, memo.get(3), 9);
+        same(rt, memo.get_recorded(4), 16);
+    }
+}
+
+#[test]
+fn one_value_at_a_time(rt: HostRuntime) -> Result<(), Fail> {
+    squares_of_two(&rt, &mut memo_of(rt.alloc(), 1, square)?);
+    Ok(())
+}
+
+/// Looks the keys 1 to 20 up, which fit.
+fn look_up_twenty<F: Fn(&u64) -> u64>(memo: &mut Memo<u64, u64, F>) {
+    for key in 1..21u64 {
+        memo.get(key);
+    }
+}
+
+/// The same, and records their hits.
+fn record_twenty<F: Fn(&u64) -> u64>(memo: &mut Memo<u64, u64, F>) {
+    for key in 1..21u64 {
+        memo.get_recorded(key);
+    }
+}
+
+#[test]
+fn one_call_for_each_key(rt: HostRuntime) -> Result<(), Fail> {
+    let calls = Cell::new(0u32);
+    let counted = |key: &u64| {
+        calls.set(calls.get().wrapping_add(1));
+        square(key)
+    };
+    let mut memo = memo_of(rt.alloc(), 20, counted)?;
+    look_up_twenty(&mut memo);
+    record_twenty(&mut memo);
+    same(&rt, calls.get(), 20);
+    Ok(())
+}
+
+/// The keys 1 and 3 are remembered so.
+fn are_remembered<F: Fn(&u64) -> u64>(memo: &Memo<u64, u64, F>) -> (bool, bool) {
+    (memo.contains(&1), memo.contains(&3))
+}
+
+#[test]
+fn a_recorded_hit_saves_the_key(rt: HostRuntime) -> Result<(), Fail> {
+    let mut memo = memo_of(rt.alloc(), 20, square)?;
+    look_up_twenty(&mut memo);
+    memo.get_recorded(1);
+    memo.get(21);
+    same(&rt, are_remembered(&memo), (true, false));
+    Ok(())
+}
+
+#[test]
+fn an_unrecorded_hit_saves_nothing(rt: HostRuntime) -> Result<(), Fail> {
+    let mut memo = memo_of(rt.alloc(), 20, square)?;
+    look_up_twenty(&mut memo);
+    memo.get(1);
+    memo.get(21);
+    same(&rt, are_remembered(&memo), (false, true));
+    Ok(())
+}
+
+/// Looks five keys up, one of them twice.
+fn recalled<F: Fn(&u64) -> u64>(
+    rt: &impl Abort,
+    alloc: Global,
+    memo: &mut Memo<u64, u64, F>,
+) -> Result<(), Fail> {
+    let values = recall(alloc, memo, vec![in alloc; 3, 1, 3, 2, 9]?)?;
+    same(rt, values.as_slice(), [9, 1, 9, 4, 81].as_slice());
+    Ok(())
+}
+
+#[test]
+fn a_list_of_keys(rt: HostRuntime) -> Result<(), Fail> {
+    let mut memo = memo_of(rt.alloc(), 2, square)?;
+    recalled(&rt, rt.alloc(), &mut memo)
+}
+
+#[test]
+fn cleared_and_taken_apart(rt: HostRuntime) -> Result<(), Fail> {
+    let mut memo = memo_of(rt.alloc(), 2, square)?;
+    memo.get(7);
+    memo.clear();
+    same(&rt, memo.is_empty(), true);
+    same(&rt, (memo.into_function())(&5), 25);
+    Ok(())
+}
+
+#[test]
+fn a_capacity_past_the_limit(rt: HostRuntime) -> Result<(), Fail> {
+    let capacity = NonZeroUsize::new(16_777_216).ok_or("not zero")?;
+    let refused = Memo::<u64, u64, _>::new(rt.alloc(), capacity, square);
+    same(&rt, refused.err(), Some(CacheError::Capacity));
+    Ok(())
+}
