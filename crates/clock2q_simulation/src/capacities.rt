@@ -59,26 +59,16 @@ fn range_of<A: Allocator>(
     ensures range { IfOk result (λ capacities. capacities.items ≡ range round_numbers.now first last) }
     ensures within { IfOk result (λ capacities. All IsCapacity capacities.items) }
 {
-    let mut capacities = Vec::new(alloc);
-    capacities.push(first).map_err(AllocError::from)?;
+    let unit = first.unit;
+    let mut capacities = Vec::from_slice(alloc, &[first])?;
     for number in round_numbers {
         let number = *number;
         if first.number < number && number < last {
-            capacities
-                .push(Amount {
-                    number,
-                    unit: first.unit,
-                })
-                .map_err(AllocError::from)?;
+            capacities.push(Amount { number, unit })?;
         }
     }
     if first.number < last {
-        capacities
-            .push(Amount {
-                number: last,
-                unit: first.unit,
-            })
-            .map_err(AllocError::from)?;
+        capacities.push(Amount { number: last, unit })?;
     }
     Ok(capacities)
 }

@@ -3,8 +3,9 @@ ghost use Rattle.std.specs.Prelude.{◌≡◌, ◌<◌, ◌≤◌, ◌↔◌, If
 ghost use Rattle.std.specs.NonZero.{non_zero_usize_get};
 ghost use Rattle.clock2q_machine.specs.Machine.{empty};
 ghost use Rattle.clock2q_machine.specs.Policies.{IsPolicy};
+ghost use Rattle.clock2q_policies.specs.Policies.{hits};
 ghost use Rattle.clock2q_simulation.specs.ChosenShares.{shares_for};
-ghost use Rattle.clock2q_simulation.specs.MachineHits.{machine_hits};
+ghost use Rattle.clock2q_simulation.specs.MachineHits.{machine_after, machine_hits, machine_holds};
 
 use crate::shares::ChosenShares;
 use clock2q_cache::{Cache, CacheError, DefaultHashBuilder, MAX_CAPACITY};
@@ -33,14 +34,20 @@ pub fn clock2q_hits<A: Allocator + Copy>(
     ensures capacity { IsErrOf result CacheError.Capacity ↔ (MAX_CAPACITY < non_zero_usize_get capacity) }
     ensures policy { IsErrOf result CacheError.Policy → ¬ IsPolicy (shares_for shares (non_zero_usize_get capacity)) }
 {
-    let mut cache = new_cache(alloc, capacity, shares)?;
+    Ok(hits_in(&mut new_cache(alloc, capacity, shares)?, trace))
+}
+
+/// Puts each key of a trace, and returns how many were resident as they came.
+fn hits_in<A: Allocator>(cache: &mut Cache<u32, (), DefaultHashBuilder, A>, trace: &[u32]) -> usize
+    ensures hits { result ≡ hits machine_holds machine_after trace.now cache.old.machine }
+{
     let mut hits = 0;
     for key in trace {
         if cache.put(*key, ()).is_some() {
             hits += 1;
         }
     }
-    Ok(hits)
+    hits
 }
 
 /// Returns an empty cache of chosen shares, or of the usual ones.

@@ -128,23 +128,52 @@ pub(crate) fn picture<A: Allocator + Copy>(
     policies: &[Policy],
     rows: &[Row<A>],
 ) -> Result<String<A>, AllocError> {
+    let frame = Frame::new(rows);
+    let mut text = String::from_str(alloc, HEAD)?;
+    write_frame(alloc, &mut text, &frame, rows)?;
+    write_curves(&mut text, &frame, policies, &by_capacity(alloc, rows)?)?;
+    text.push_str("</svg>\n")?;
+    Ok(text)
+}
+
+/// Returns the rows by their capacities, ascending.
+fn by_capacity<A: Allocator + Copy>(
+    alloc: A,
+    rows: &[Row<A>],
+) -> Result<Vec<&Row<A>, A>, AllocError> {
     let mut order = Vec::with_capacity(alloc, rows.len())?;
     for row in rows {
         order.push(row)?;
     }
     order.sort_unstable_by_key(|row| row.capacity.get());
-    let frame = Frame::new(rows);
-    let mut text = String::from_str(alloc, HEAD)?;
-    write_title(&mut text, rows)?;
-    write_ratios(&mut text, &frame)?;
-    write_capacities(alloc, &mut text, &frame)?;
+    Ok(order)
+}
+
+/// Writes what stands around the curves.
+fn write_frame<A: Allocator + Copy>(
+    alloc: A,
+    text: &mut String<A>,
+    frame: &Frame,
+    rows: &[Row<A>],
+) -> Result<(), AllocError> {
+    write_title(text, rows)?;
+    write_ratios(text, frame)?;
+    write_capacities(alloc, text, frame)
+}
+
+/// Writes the curve of each policy, and its name.
+fn write_curves<A: Allocator + Copy>(
+    text: &mut String<A>,
+    frame: &Frame,
+    policies: &[Policy],
+    order: &[&Row<A>],
+) -> Result<(), AllocError> {
     for (index, policy) in policies.iter().enumerate() {
-        write_curve(&mut text, &frame, &order, *policy)?;
-        write_rings(&mut text, &frame, &order, *policy)?;
-        write_legend(&mut text, index, *policy)?;
+        write_curve(text, frame, order, *policy)?;
+        write_rings(text, frame, order, *policy)?;
+        write_legend(text, index, *policy)?;
     }
-    text.push_str("</svg>\n")?;
-    Ok(text)
+    Ok(())
 }
 
 /// Writes what the picture shows.
@@ -207,17 +236,30 @@ fn write_capacities<A: Allocator + Copy>(
         "<path d=\"M {LEFT:.0} {TOP:.0} V {BOTTOM:.0} H {RIGHT:.0}\" fill=\"none\" stroke=\"black\"/>"
     )?;
     for tick in frame.axis.ticks(alloc)? {
-        let x = frame.x(tick);
-        writeln!(
-            text,
-            "<path d=\"M {x:.1} {BOTTOM:.0} v 6\" stroke=\"black\"/>"
-        )?;
-        let (count, unit) = short(tick);
-        writeln!(
-            text,
-            "<text x=\"{x:.1}\" y=\"432\" text-anchor=\"middle\">{count}{unit}</text>"
-        )?;
+        write_capacity(text, frame.x(tick), tick)?;
     }
+    write_scale(text, frame)
+}
+
+/// Writes one capacity below the horizontal axis.
+fn write_capacity<A: Allocator + Copy>(
+    text: &mut String<A>,
+    x: f64,
+    capacity: usize,
+) -> Result<(), AllocError> {
+    writeln!(
+        text,
+        "<path d=\"M {x:.1} {BOTTOM:.0} v 6\" stroke=\"black\"/>"
+    )?;
+    let (count, unit) = short(capacity);
+    writeln!(
+        text,
+        "<text x=\"{x:.1}\" y=\"432\" text-anchor=\"middle\">{count}{unit}</text>"
+    )
+}
+
+/// Writes what the horizontal axis shows.
+fn write_scale<A: Allocator + Copy>(text: &mut String<A>, frame: &Frame) -> Result<(), AllocError> {
     let scale = if frame.axis.is_logarithmic {
         " (logarithmic)"
     } else {

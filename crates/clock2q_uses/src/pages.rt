@@ -6,10 +6,9 @@ ghost use Rattle.std.specs.Prelude.{◌≡◌, ◌≢◌, ◌<◌, ◌≤◌, �
 
 use clock2q::{Cache, CacheError, MAX_CAPACITY};
 use clock2q_pages::frame_of;
-use std::alloc::Global;
+use std::alloc::{AllocError, Global};
 use std::hash::BuildHasher;
 use std::num::NonZeroUsize;
-use std::test::Fail;
 
 /// Returns the frame of a page, with the page in it. A page that isn't loaded is copied from the
 /// file.
@@ -56,9 +55,25 @@ pub fn read_pages<T: Copy>(
     ensures policy { result ≢ Err CacheError.Policy }
 {
     let mut pages = Cache::new(alloc, capacity)?;
+    Ok(read_each(alloc, &mut pages, frames, file, numbers)?)
+}
+
+/// The same through a cache whose pages stand in their frames.
+fn read_each<T: Copy>(
+    alloc: Global,
+    pages: &mut Cache<usize, Option<usize>>,
+    frames: &mut [T],
+    file: &[T],
+    numbers: &[usize],
+) -> Result<Vec<Option<T>>, AllocError>
+    requires frames { pages.old.machine.shares.capacity ≤ length frames.old }
+    requires loaded { AreLoaded file.now pages.old.machine frames.old }
+    ensures pages { IfOk result (λ read. read.items ≡ map (slice_get file.now) numbers.now) }
+    ensures unread { OnErr result (frames.new ≡ frames.old) }
+{
     let mut read = Vec::with_capacity(alloc, numbers.len())?;
     for number in numbers {
-        read.push_reserved(read_page(&mut pages, frames, file, *number));
+        read.push_reserved(read_page(pages, frames, file, *number));
     }
     Ok(read)
 }
@@ -80,31 +95,4 @@ fn read_page<T: Copy, S: BuildHasher>(
     }
     let frame = load(pages, frames, file, number);
     Some(frames[frame])
-}
-
-#[test]
-fn three_pages_in_two_frames(rt: HostRuntime) -> Result<(), Fail> {
-    let capacity = NonZeroUsize::new(2).ok_or("not zero")?;
-    let mut pages = Cache::new(rt.alloc(), capacity)?;
-    let mut frames = [0u8; 2];
-    let file = b"abc";
-    assert_eq!(rt; load(&mut pages, &mut frames, file, 0), 0);
-    assert_eq!(rt; load(&mut pages, &mut frames, file, 1), 1);
-    assert_eq!(rt; load(&mut pages, &mut frames, file, 2), 0);
-    assert_eq!(rt; frames.as_slice(), b"cb".as_slice());
-    assert!(rt; clock2q_pages::is_in(&mut pages, 0, 2));
-    assert!(rt; !clock2q_pages::is_in(&mut pages, 0, 0));
-    assert_eq!(rt; load(&mut pages, &mut frames, file, 0), 1);
-    assert_eq!(rt; frames.as_slice(), b"ca".as_slice());
-    Ok(())
-}
-
-#[test]
-fn pages_through_one_frame(rt: HostRuntime) -> Result<(), Fail> {
-    let capacity = NonZeroUsize::new(1).ok_or("not zero")?;
-    let mut frames = [0u8; 1];
-    let read = read_pages(rt.alloc(), capacity, &mut frames, b"abc", &[2, 3, 2, 0])?;
-    let expected = [Some(b'c'), None, Some(b'c'), Some(b'a')];
-    assert_eq!(rt; read.as_slice(), expected.as_slice());
-    Ok(())
 }

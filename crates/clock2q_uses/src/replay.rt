@@ -1,15 +1,15 @@
 //! A trace replayed: how many keys of a list hit in a new cache.
 ghost use Rattle.clock2q_uses.specs.Replay.{is_hit, put_of, trace_hits};
+ghost use Rattle.clock2q_machine.specs.Steps.{answers};
 ghost use Rattle.clock2q_text.specs.Commands.{call_of, answer_of};
 ghost use Rattle.std.specs.List.{count_by};
 ghost use Rattle.std.specs.NonZero.{non_zero_usize_get};
-ghost use Rattle.std.specs.Prelude.{◌≡◌, ◌≢◌, ◌<◌, ◌↔◌, Err, IfOk, IfErr, IsErrOf, map};
+ghost use Rattle.std.specs.Prelude.{◌≡◌, ◌≢◌, ◌<◌, ◌↔◌, Err, eqb, IfOk, IfErr, IsErrOf, map};
 
 use clock2q::command::{Command, Reply, run};
 use clock2q::{Cache, CacheError, MAX_CAPACITY};
 use std::alloc::Global;
 use std::num::NonZeroUsize;
-use std::test::Fail;
 
 /// Puts each key of the trace in a new cache, and returns how many were resident.
 ///
@@ -22,8 +22,15 @@ pub fn replay(alloc: Global, capacity: NonZeroUsize, trace: &[u64]) -> Result<us
     ensures capacity { IsErrOf result CacheError.Capacity ↔ (MAX_CAPACITY < non_zero_usize_get capacity) }
     ensures policy { result ≢ Err CacheError.Policy }
 {
-    let mut cache = Cache::new(alloc, capacity)?;
-    let replies = run(alloc, &mut cache, puts_of(alloc, trace)?)?;
+    hits_in(alloc, &mut Cache::new(alloc, capacity)?, trace)
+}
+
+/// Puts each key of the trace in a cache, and returns how many were resident.
+fn hits_in(alloc: Global, cache: &mut Cache<u64, u64>, trace: &[u64]) -> Result<usize, CacheError>
+    ensures hits { IfOk result (λ hits. hits ≡ count_by is_hit (answers eqb (map put_of trace.now) cache.old.machine)) }
+    ensures memory { IfErr result (λ e. e ≡ CacheError.Memory) }
+{
+    let replies = run(alloc, cache, puts_of(alloc, trace)?)?;
     Ok(hit_count(&replies))
 }
 
@@ -61,18 +68,4 @@ fn is_hit(reply: &Reply<u64>) -> bool
     ensures hit { result ≡ is_hit (answer_of reply.now) }
 {
     matches!(reply, Reply::Value(Some(_)))
-}
-
-#[test]
-fn hits(rt: HostRuntime) -> Result<(), Fail> {
-    let capacity = NonZeroUsize::new(2).ok_or("not zero")?;
-    assert_eq!(rt; replay(rt.alloc(), capacity, &[])?, 0);
-    assert_eq!(rt; replay(rt.alloc(), capacity, &[1, 1, 2, 1, 2])?, 3);
-    assert_eq!(rt; replay(rt.alloc(), capacity, &[1, 2, 3, 4])?, 0);
-    let too_large = NonZeroUsize::new(MAX_CAPACITY + 1).ok_or("not zero")?;
-    assert_eq!(rt;
-        replay(rt.alloc(), too_large, &[1]),
-        Err(CacheError::Capacity)
-    );
-    Ok(())
 }

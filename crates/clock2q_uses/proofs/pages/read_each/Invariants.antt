@@ -1,7 +1,7 @@
 -- The pages so far are those of the file, there is room for the others, and what was loaded stands in its frame.
 use Rattle.std.proofs.Common.{◌≡◌, ◌+◌, ◌-◌, ◌≤◌, map, length, take, slice_get, vec_len, vec_capacity}
 use Rattle.clock2q_uses.specs.Pages.{AreLoaded}
-use Rattle.clock2q_uses.proofs.pages.read_pages.Given as goal
+use Rattle.clock2q_uses.proofs.pages.read_each.Given as goal
 
 abbrev pub invariant-loop-number : goal.invariant-loop-number
 invariant-loop-number g l = record {

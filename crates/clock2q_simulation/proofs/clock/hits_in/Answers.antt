@@ -2,8 +2,8 @@ use Rattle.std.proofs.Common.{◌≡◌, ◌+◌, cond, sym, ap, ◌∙◌, arit
 use Rattle.std.specs.Option.{is_some}
 use Rattle.clock2q_simulation.specs.MachineHits.{machine_holds, machine_after}
 use Rattle.clock2q_policies.proofs.Counting.{counted}
-use Rattle.clock2q_simulation.proofs.clock.clock2q_hits.Goals.{then-is_some, else-is_some}
-use Rattle.clock2q_simulation.proofs.clock.clock2q_hits.Goals as goal
+use Rattle.clock2q_simulation.proofs.clock.hits_in.Goals.{then-is_some, else-is_some}
+use Rattle.clock2q_simulation.proofs.clock.hits_in.Goals as goal
 
 pub loop-key-preserved : goal.loop-key-preserved
 loop-key-preserved g c =

@@ -1,6 +1,6 @@
 use Rattle.std.proofs.Common.{rules, ◌∷◌, ◌++◌, [], map, take, slice_get, sym, ap, ◌∙◌}
 use Rattle.std.proofs.lemmas.List.{map_more}
-use Rattle.clock2q_uses.proofs.pages.read_pages.Goals as goal
+use Rattle.clock2q_uses.proofs.pages.read_each.Goals as goal
 
 pub loop-number-preserved : goal.loop-number-preserved
 loop-number-preserved g c =
