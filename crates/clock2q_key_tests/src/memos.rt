@@ -4,41 +4,20 @@ use crate::assertions::{same, same_at};
 use crate::counted::{Counted, Counts};
 use clock2q_memo::Memo;
 use std::num::NonZeroUsize;
-use std::process::Abort;
 use std::test::Fail;
-
-/// Looks keys up twice, of which the first lookup is a miss or a hit.
-fn misses_hash_twice<'a, F: Fn(&Counted<'a>) -> u64>(
-    rt: &impl Abort,
-    memo: &mut Memo<Counted<'a>, u64, F>,
-    counts: &'a Counts,
-) {
-    for (id, hashes) in [(1, 2), (1, 1), (2, 2), (3, 2), (2, 1)] {
-        same(rt, memo.get(counts.key(id)), 7);
-        same_at(rt, counts.asked_and_hashed().1, hashes, id);
-        same(rt, memo.get_recorded(counts.key(id)), 7);
-        same_at(rt, counts.asked_and_hashed().1, 1, id);
-    }
-}
 
 #[test]
 fn a_miss_hashes_its_key_twice(rt: HostRuntime) -> Result<(), Fail> {
     let counts = Counts::new();
     let capacity = NonZeroUsize::new(2).ok_or("not zero")?;
     let mut memo = Memo::new(rt.alloc(), capacity, |_: &Counted<'_>| 7u64)?;
-    misses_hash_twice(&rt, &mut memo, &counts);
-    Ok(())
-}
-
-/// Looks six keys up, of which one is a hit.
-fn look_six_up<'a, F: Fn(&Counted<'a>) -> u64>(
-    rt: &impl Abort,
-    memo: &mut Memo<Counted<'a>, u64, F>,
-    counts: &'a Counts,
-) {
-    for id in [1, 2, 3, 1, 4, 4] {
-        same(rt, memo.get(counts.key(id)), 7);
+    for (id, hashes) in [(1, 2), (1, 1), (2, 2), (3, 2), (2, 1)] {
+        same(&rt, memo.get(counts.key(id)), 7);
+        same_at(&rt, counts.asked_and_hashed().1, hashes, id);
+        same(&rt, memo.get_recorded(counts.key(id)), 7);
+        same_at(&rt, counts.asked_and_hashed().1, 1, id);
     }
+    Ok(())
 }
 
 #[test]
@@ -46,7 +25,9 @@ fn no_key_outlives_its_memo(rt: HostRuntime) -> Result<(), Fail> {
     let counts = Counts::new();
     let capacity = NonZeroUsize::new(2).ok_or("not zero")?;
     let mut memo = Memo::new(rt.alloc(), capacity, |_: &Counted<'_>| 7u64)?;
-    look_six_up(&rt, &mut memo, &counts);
+    for id in [1, 2, 3, 1, 4, 4] {
+        same(&rt, memo.get(counts.key(id)), 7);
+    }
     let function = memo.into_function();
     same(&rt, counts.dropped_and_left(), (6, 0));
     same(&rt, function(&counts.key(5)), 7);

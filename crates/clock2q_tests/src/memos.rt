@@ -1,4 +1,7 @@
 //! Memos of squares, with values and residents worked out by hand.
+ghost use Rattle.std.specs.Prelude.{ℕ};
+ghost use Rattle.clock2q_memo.specs.Memo.{IsCallableAt};
+
 use crate::assertions::same;
 use clock2q::memo::recall;
 use clock2q::{CacheError, Memo};
@@ -23,7 +26,9 @@ fn memo_of<F: Fn(&u64) -> u64 + Drop>(
 }
 
 /// Looks a hundred keys up in turn, ten times each.
-fn squares_are_returned<F: Fn(&u64) -> u64>(rt: &impl Abort, memo: &mut Memo<u64, u64, F>) {
+fn squares_are_returned<F: Fn(&u64) -> u64>(rt: &impl Abort, memo: &mut Memo<u64, u64, F>)
+    requires { (function : F) (key : ℕ) → IsCallableAt F.Fn function key }
+{
     for round in 0..1000u64 {
         let key = round % 100;
         same(rt, memo.get(key), square(&key));
@@ -38,7 +43,9 @@ fn every_value_is_the_square(rt: HostRuntime) -> Result<(), Fail> {
 }
 
 /// Looks two keys up in turn.
-fn squares_of_two<F: Fn(&u64) -> u64>(rt: &impl Abort, memo: &mut Memo<u64, u64, F>) {
+fn squares_of_two<F: Fn(&u64) -> u64>(rt: &impl Abort, memo: &mut Memo<u64, u64, F>)
+    requires { (function : F) (key : ℕ) → IsCallableAt F.Fn function key }
+{
     for _ in 0..5 {
         same(rt, memo.get(3), 9);
         same(rt, memo.get_recorded(4), 16);
@@ -52,14 +59,18 @@ fn one_value_at_a_time(rt: HostRuntime) -> Result<(), Fail> {
 }
 
 /// Looks the keys 1 to 20 up, which fit.
-fn look_up_twenty<F: Fn(&u64) -> u64>(memo: &mut Memo<u64, u64, F>) {
+fn look_up_twenty<F: Fn(&u64) -> u64>(memo: &mut Memo<u64, u64, F>)
+    requires { (function : F) (key : ℕ) → IsCallableAt F.Fn function key }
+{
     for key in 1..21u64 {
         memo.get(key);
     }
 }
 
 /// The same, and records their hits.
-fn record_twenty<F: Fn(&u64) -> u64>(memo: &mut Memo<u64, u64, F>) {
+fn record_twenty<F: Fn(&u64) -> u64>(memo: &mut Memo<u64, u64, F>)
+    requires { (function : F) (key : ℕ) → IsCallableAt F.Fn function key }
+{
     for key in 1..21u64 {
         memo.get_recorded(key);
     }
@@ -84,23 +95,35 @@ fn are_remembered<F: Fn(&u64) -> u64>(memo: &Memo<u64, u64, F>) -> (bool, bool) 
     (memo.contains(&1), memo.contains(&3))
 }
 
-#[test]
-fn a_recorded_hit_saves_the_key(rt: HostRuntime) -> Result<(), Fail> {
-    let mut memo = memo_of(rt.alloc(), 20, square)?;
-    look_up_twenty(&mut memo);
+/// A hit that is recorded, and a key more.
+fn record_one<F: Fn(&u64) -> u64>(rt: &impl Abort, memo: &mut Memo<u64, u64, F>)
+    requires { (function : F) (key : ℕ) → IsCallableAt F.Fn function key }
+{
+    look_up_twenty(memo);
     memo.get_recorded(1);
     memo.get(21);
-    same(&rt, are_remembered(&memo), (true, false));
+    same(rt, are_remembered(memo), (true, false));
+}
+
+#[test]
+fn a_recorded_hit_saves_the_key(rt: HostRuntime) -> Result<(), Fail> {
+    record_one(&rt, &mut memo_of(rt.alloc(), 20, square)?);
     Ok(())
+}
+
+/// A hit that isn't, and a key more.
+fn record_none<F: Fn(&u64) -> u64>(rt: &impl Abort, memo: &mut Memo<u64, u64, F>)
+    requires { (function : F) (key : ℕ) → IsCallableAt F.Fn function key }
+{
+    look_up_twenty(memo);
+    memo.get(1);
+    memo.get(21);
+    same(rt, are_remembered(memo), (false, true));
 }
 
 #[test]
 fn an_unrecorded_hit_saves_nothing(rt: HostRuntime) -> Result<(), Fail> {
-    let mut memo = memo_of(rt.alloc(), 20, square)?;
-    look_up_twenty(&mut memo);
-    memo.get(1);
-    memo.get(21);
-    same(&rt, are_remembered(&memo), (false, true));
+    record_none(&rt, &mut memo_of(rt.alloc(), 20, square)?);
     Ok(())
 }
 
@@ -109,7 +132,9 @@ fn recalled<F: Fn(&u64) -> u64>(
     rt: &impl Abort,
     alloc: Global,
     memo: &mut Memo<u64, u64, F>,
-) -> Result<(), Fail> {
+) -> Result<(), Fail>
+    requires { (function : F) (key : ℕ) → IsCallableAt F.Fn function key }
+{
     let values = recall(alloc, memo, vec![in alloc; 3, 1, 3, 2, 9]?)?;
     same(rt, values.as_slice(), [9, 1, 9, 4, 81].as_slice());
     Ok(())

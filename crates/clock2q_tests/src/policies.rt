@@ -73,12 +73,23 @@ fn with_window(alloc: Global, window: usize) -> Result<Numbers, Fail> {
     Ok(with_shares(alloc, capacity, 2, window)?)
 }
 
+/// The same of a cache made for it.
+fn window_replies(
+    rt: &impl Abort,
+    alloc: Global,
+    window: usize,
+    keys: (u64, u64),
+    slot: usize,
+) -> Result<(), Fail> {
+    let mut cache = with_window(alloc, window)?;
+    replies(rt, alloc, &mut cache, keys, slot)
+}
+
 /// With a window of 1 the hit on key 1 counts, and it goes on to Main; with one of 2 it is too young.
 #[test]
 fn chosen_shares(rt: HostRuntime) -> Result<(), Fail> {
     for (window, slot, stays, leaves) in [(1, 2, 1, 3), (2, 0, 3, 1)] {
-        let mut cache = with_window(rt.alloc(), window)?;
-        replies(&rt, rt.alloc(), &mut cache, (stays, leaves), slot)?;
+        window_replies(&rt, rt.alloc(), window, (stays, leaves), slot)?;
     }
     Ok(())
 }

@@ -1,4 +1,6 @@
 //! The callers in `clock2q_uses`, run.
+ghost use Rattle.std.specs.Prelude.{◌≡◌};
+
 use crate::assertions::{same, same_at};
 use clock2q::{Cache, CacheError, MAX_CAPACITY, Memo};
 use clock2q_uses::checksums::{adler32, checksums, is_unchanged};
@@ -78,7 +80,9 @@ fn equal_keys_have_one_number(rt: HostRuntime) -> Result<(), Fail> {
 }
 
 /// Three pages in two frames.
-fn pages_are_loaded(rt: &impl Abort, pages: &mut Cache<usize, Option<usize>>) {
+fn pages_are_loaded(rt: &impl Abort, pages: &mut Cache<usize, Option<usize>>)
+    requires two { pages.old.machine.shares.capacity ≡ 2 }
+{
     let mut frames = [0u8; 2];
     let file = b"abc";
     same(rt, load(pages, &mut frames, file, 0), 0);
