@@ -16,6 +16,18 @@ pub(crate) fn numbers(alloc: Global, capacity: usize) -> Result<Numbers, Fail> {
     Ok(Cache::new(alloc, capacity)?)
 }
 
+/// Makes a cache of so many numbers, and hands it on.
+pub(crate) fn with_numbers<W: FnOnce(&mut Numbers) + Drop>(
+    alloc: Global,
+    capacity: usize,
+    work: W,
+) -> Result<(), Fail>
+    requires callable { W.IsAlwaysCallable work }
+{
+    work(&mut numbers(alloc, capacity)?);
+    Ok(())
+}
+
 /// What a cache of one key replies to a run.
 fn replies_of(alloc: Global, cache: &mut Numbers) -> Result<Vec<Reply<u64>>, Fail> {
     let commands = vec![in alloc;
@@ -56,9 +68,11 @@ fn runs(rt: HostRuntime) -> Result<(), Fail> {
 
 #[test]
 fn largest_capacity(rt: HostRuntime) -> Result<(), Fail> {
-    let cache = numbers(rt.alloc(), MAX_CAPACITY)?;
-    same(&rt, cache.capacity(), 16_777_215);
-    Ok(())
+    with_numbers(
+        rt.alloc(),
+        MAX_CAPACITY,
+        |cache| same(&rt, cache.capacity(), 16_777_215),
+    )
 }
 
 #[test]
@@ -99,6 +113,5 @@ fn slot_is_taken_over(rt: &impl Abort, cache: &mut Numbers) {
 
 #[test]
 fn slots_of_keys(rt: HostRuntime) -> Result<(), Fail> {
-    slot_is_taken_over(&rt, &mut numbers(rt.alloc(), 2)?);
-    Ok(())
+    with_numbers(rt.alloc(), 2, |cache| slot_is_taken_over(&rt, cache))
 }

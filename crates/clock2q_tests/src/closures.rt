@@ -1,7 +1,7 @@
 //! Closures that change their answers, and how often each is asked.
 
 use crate::assertions::{same, same_at};
-use crate::caches::{Numbers, numbers};
+use crate::caches::{Numbers, with_numbers};
 use clock2q::handles::{Table, TableError};
 use std::alloc::Global;
 use std::cell::Cell;
@@ -39,8 +39,7 @@ fn every_other_is_kept(rt: &impl Abort, cache: &mut Numbers) {
 /// Each resident is asked about once, by its slot upwards, and one that was taken out no more.
 #[test]
 fn kept(rt: HostRuntime) -> Result<(), Fail> {
-    every_other_is_kept(&rt, &mut numbers(rt.alloc(), 5)?);
-    Ok(())
+    with_numbers(rt.alloc(), 5, |cache| every_other_is_kept(&rt, cache))
 }
 
 /// Makes the slots that were never made, and returns how many those were.
@@ -65,8 +64,7 @@ fn slots_are_made(rt: &impl Abort, cache: &mut Numbers) {
 
 #[test]
 fn made(rt: HostRuntime) -> Result<(), Fail> {
-    slots_are_made(&rt, &mut numbers(rt.alloc(), 6)?);
-    Ok(())
+    with_numbers(rt.alloc(), 6, |cache| slots_are_made(&rt, cache))
 }
 
 /// Fetches the value of a key, and returns it with how often its closure was called.
@@ -114,8 +112,7 @@ fn closures_are_called(rt: &impl Abort, cache: &mut Numbers) {
 /// No closure is called for a resident key, and that for a slot only where a slot is made.
 #[test]
 fn called(rt: HostRuntime) -> Result<(), Fail> {
-    closures_are_called(&rt, &mut numbers(rt.alloc(), 2)?);
-    Ok(())
+    with_numbers(rt.alloc(), 2, |cache| closures_are_called(&rt, cache))
 }
 
 /// Inserts so many handles under one hash.
