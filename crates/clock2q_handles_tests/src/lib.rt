@@ -16,6 +16,8 @@ mod positions;
 #[cfg(test)]
 mod refusals;
 #[cfg(test)]
+mod refused;
+#[cfg(test)]
 mod seeded;
 #[cfg(test)]
 mod tables;

@@ -1,4 +1,4 @@
-//! Tests of caches and memos whose requests for memory are refused.
+//! Tests of caches, memos and runs of commands whose requests for memory are refused.
 #![tactic(auto)]
 
 #[cfg(test)]
@@ -7,3 +7,9 @@ mod assertions;
 mod constructions;
 #[cfg(test)]
 mod no_requests;
+#[cfg(test)]
+mod runs;
+#[cfg(test)]
+mod table_runs;
+#[cfg(test)]
+mod texts;

@@ -8,9 +8,8 @@ use crate::clock::clock2q_hits;
 use crate::error::SimulationError;
 use crate::shares::ChosenShares;
 use crate::trace::Trace;
-use clock2q_policies::{
-    PlainPolicy, arc_hits, clock_hits, optimal_hits, plain_hits, s3_fifo_hits, sieve_hits,
-};
+use clock2q_policies::{PlainPolicy, plain_hits};
+use clock2q_tested_policies::{arc_hits, clock_hits, optimal_hits, s3_fifo_hits, sieve_hits};
 use std::alloc::Allocator;
 use std::num::NonZeroUsize;
 
@@ -112,8 +111,8 @@ impl Policy {
 ///
 /// # Cost
 ///
-/// That of the policy's function in `clock2q_policies`, or of [`clock2q_hits`]. The memory is given
-/// back before the call returns.
+/// That of the policy's function in `clock2q_policies` or `clock2q_tested_policies`, or of
+/// [`clock2q_hits`]. The memory is given back before the call returns.
 pub fn policy_hits<A: Allocator + Copy>(
     alloc: A,
     policy: Policy,

@@ -1,6 +1,6 @@
 //! Tests against lists that are searched and shifted, over traces of several kinds.
 use crate::assertions::{same, same_at};
-use clock2q_policies::{arc_hits, clock_hits, optimal_hits, s3_fifo_hits, sieve_hits};
+use clock2q_tested_policies::{arc_hits, clock_hits, optimal_hits, s3_fifo_hits, sieve_hits};
 use std::alloc::{AllocError, Global};
 use std::collections::VecDeque;
 use std::num::{NonZeroUsize, nearest_usize_to_f64};

@@ -2,7 +2,7 @@ use Rattle.std.proofs.Common.{rules, ◌<◌, length, refl, sym, subst, arith}
 use Rattle.clock2q_handles.specs.Homes.{top, total, capacity}
 use Rattle.clock2q_handles.specs.TableStep.{IsHashOf}
 use Rattle.clock2q_handles.proofs.Hashes.{hashes-put_last}
-use Rattle.clock2q_refused_tables.proofs.tables.fill.Goals as goal
+use Rattle.clock2q_handles_tests.proofs.refused.fill.Goals as goal
 
 pub loop-handle-preserved : goal.loop-handle-preserved
 loop-handle-preserved g c =

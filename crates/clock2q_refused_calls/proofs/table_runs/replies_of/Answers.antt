@@ -1,7 +1,7 @@
 use Rattle.std.proofs.Common.{rules, sym, subst}
 use Rattle.clock2q_handles.specs.TableStep.{IsHashOf}
-use Rattle.clock2q_refused_runs.proofs.Made.{hashes-made}
-use Rattle.clock2q_refused_runs.proofs.table_runs.replies_of.Goals as goal
+use Rattle.clock2q_refused_calls.proofs.Made.{hashes-made}
+use Rattle.clock2q_refused_calls.proofs.table_runs.replies_of.Goals as goal
 
 pub run_table-requires-clause-hashes : goal.run_table-requires-clause-hashes
 run_table-requires-clause-hashes g c = (

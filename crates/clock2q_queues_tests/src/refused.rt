@@ -2,9 +2,9 @@
 ghost use Rattle.std.specs.Prelude.{◌≡◌, []};
 
 use crate::assertions::{same, same_at};
+use crate::beside::Beside;
 use clock2q_queues::history::History;
 use clock2q_queues::queues::Queues;
-use clock2q_queues_tests::beside::Beside;
 use clock2q_refusing::{Refusing, Tried, try_in_turn};
 use std::alloc::{AllocError, Global};
 use std::process::Abort;

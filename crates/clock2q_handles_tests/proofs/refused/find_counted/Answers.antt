@@ -2,7 +2,7 @@ use Rattle.std.proofs.Common.{rules}
 use denote.Param.Always.{mut_total}
 use Rattle.clock2q_handles.proofs.Offering.{offered_always}
 use Rattle.clock2q_handles.proofs.HashOfHandle.{keyed_given}
-use Rattle.clock2q_refused_tables.proofs.tables.find_counted.Goals as goal
+use Rattle.clock2q_handles_tests.proofs.refused.find_counted.Goals as goal
 
 pub find_or_insert-outcome-requires-clause-rehash : goal.find_or_insert-outcome-requires-clause-rehash
 find_or_insert-outcome-requires-clause-rehash c = λ _. ((λ handle. handle), keyed_given (λ handle. handle) _ c.args.table.now.homes _ c.requires.keyed (λ _ _. tt) (λ f h r next called. search rules))
