@@ -97,7 +97,7 @@ pub fn replay<A: Allocator + Copy>(
 {
     let mut hits = Vec::new(alloc);
     for policy in policies {
-        hits.push(hits_in(alloc, *policy, capacity, shares, trace)?)
+        hits.push(hits_with(alloc, *policy, capacity, shares, trace)?)
             .map_err(AllocError::from)?;
     }
     Ok(Row {
@@ -107,7 +107,8 @@ pub fn replay<A: Allocator + Copy>(
     })
 }
 
-fn hits_in<A: Allocator + Copy>(
+/// Replays a trace with one policy.
+fn hits_with<A: Allocator + Copy>(
     alloc: A,
     policy: Policy,
     capacity: NonZeroUsize,
