@@ -1,15 +1,17 @@
 -- A cache that is made with the shares of a script, or refused, and what it replies.
-use Rattle.std.proofs.Common.{◌≡◌, ℕ, suc, ◌+◌, ◌/◌, ◌<◌, ◌≤◌, Bool, true, false, cond, ltb, max, List, Result, Ok, Err, refl, ap, ◌∙◌, arith, nat_eq, ⊎_elim, ◌⊎◌, inl, inr}
-use Rattle.std.specs.Prelude.{◌↔◌, ◌≢◌, IfOk, IsErrOf}
+use Rattle.std.proofs.Common.{◌≡◌, ℕ, suc, ◌+◌, ◌/◌, ◌<◌, ◌≤◌, Bool, true, false, cond, ltb, max, List, Result, Ok, Err, refl, sym, subst, ap, ◌∙◌, arith, nat_eq, ⊎_elim, ◌⊎◌, inl, inr}
+use Rattle.std.specs.Prelude.{◌↔◌, ◌≢◌, IfOk, IfErr, IsErrOf}
 use Rattle.std.proofs.lemmas.Bool.{cases_lt, ltb-true}
 use Rattle.clock2q_machine.specs.Shares.{Shares, usual_shares, usual_small}
 use Rattle.clock2q_machine.specs.Policies.{IsPolicy}
-use Rattle.clock2q_machine.specs.Calls.{Call, Answer}
+use Rattle.clock2q_machine.specs.Calls.{Call}
 use Rattle.clock2q_machine.specs.Machine.{Machine, empty}
 use Rattle.clock2q_machine.specs.Steps.{answers}
 use Rattle.clock2q_cache.specs.declared.error.CacheError.{CacheError}
 use Rattle.clock2q_cache.specs.declared.error.CacheError.TheVariants.{Memory, Capacity, Policy}
-use Rattle.clock2q_command.specs.Serve.{Makes, output_for}
+use Rattle.clock2q_text.specs.declared.serve_error.ServeError.{ServeError}
+use Rattle.clock2q_text.specs.declared.serve_error.ServeError.TheVariants as serve
+use Rattle.clock2q_command.specs.Serve.{CanBeHad, IsUnanswered, Makes, RepliesTo, output_for}
 use Rattle.clock2q_text.specs.Text.{output_of}
 
 -- the most keys that a cache can have
@@ -70,7 +72,8 @@ module _ {X K V : Type 0} (machine : X → Machine K V) where
       let p = policy.0 refl in
       (omega (arith, p.0), p.1)
 
--- the text of the answers of a cache that was empty
-pub output_for-answers : (shares : Shares) (calls : List (Call ℕ ℕ)) (m : Machine ℕ ℕ) (told : List (Answer ℕ)) → m ≡ empty shares → told ≡ answers nat_eq calls m → output_of told ≡ output_for (record { shares = shares; calls = calls })
+-- the text of the answers of a cache that was empty, or no memory for it
+pub RepliesTo-made : {X : Type 0} (bytes : X → List ℕ) (shares : Shares) (calls : List (Call ℕ ℕ)) (m : Machine ℕ ℕ) (r : Result X ServeError) → CanBeHad shares → m ≡ empty shares → IfOk r (λ text. bytes text ≡ output_of (answers nat_eq calls m)) → IfErr r (λ e. e ≡ serve.Memory) → RepliesTo (record { shares = shares; calls = calls }) bytes r
 unfolding output_for
-output_for-answers shares calls m told e f = ap output_of (f ∙ ap (answers nat_eq calls) e)
+RepliesTo-made bytes shares calls m (Ok text) had made told memory = (had, told ∙ ap (λ m. output_of (answers nat_eq calls m)) made)
+RepliesTo-made bytes shares calls m (Err refusal) had made told memory = subst (IsUnanswered shares) (sym memory) had

@@ -1,13 +1,15 @@
 //! The program's whole work: from the bytes of a command text to the bytes of its replies.
-ghost use Rattle.std.specs.Prelude.{◌≡◌, ◌≢◌, ◌↔◌, ◌<◌, OnOk, IfErr, IsErrOf, map};
+ghost use Rattle.std.specs.Prelude.{◌≡◌, ◌≢◌, ◌↔◌, ◌<◌, OnOk, IfOk, IfErr, IsErrOf, map, nat_eq};
+ghost use Rattle.clock2q_machine.specs.Steps.{answers};
 ghost use Rattle.clock2q_text.specs.Commands.{call_of, AreSupplied};
 ghost use Rattle.clock2q_text.specs.Parsing.{shares_value, script_value};
+ghost use Rattle.clock2q_text.specs.Text.{output_of};
 ghost use Rattle.clock2q_command.specs.Serve.{Answers, Sends, Makes, RepliesTo, IsServed, IsRefused, refusal_of};
 
 use crate::commands::run;
 use clock2q_cache::{Cache, CacheError, DefaultHashBuilder};
 use clock2q_text::{
-    ChosenShares, Script, ServeError, Sink, Source, parse, read_all, reply_text, write_all,
+    ChosenShares, Command, Script, ServeError, Sink, Source, parse, read_all, reply_text, write_all,
 };
 use std::alloc::Allocator;
 use std::num::NonZeroUsize;
@@ -54,11 +56,23 @@ fn reply_to<'a, A: Allocator>(
         chosen,
         commands,
     } = script;
-    let mut cache = match new_cache(alloc, capacity, chosen) {
-        Ok(cache) => cache,
-        Err(error) => return Err(refusal(error)),
-    };
-    let Ok(replies) = run(alloc, &mut cache, commands) else {
+    match new_cache(alloc, capacity, chosen) {
+        Ok(mut cache) => reply_with(alloc, &mut cache, commands),
+        Err(error) => Err(refusal(error)),
+    }
+}
+
+/// Returns the text of a cache's replies to commands.
+fn reply_with<'a, A: Allocator>(
+    alloc: &'a A,
+    cache: &mut Cache<u64, u64, DefaultHashBuilder, &'a A>,
+    commands: Vec<Command<u64, u64, &'a A>, &'a A>,
+) -> Result<Vec<u8, &'a A>, ServeError>
+    requires { AreSupplied (map call_of commands.items) }
+    ensures text { IfOk result (λ text. text.items ≡ output_of (answers nat_eq (map call_of commands.entry.items) cache.old.machine)) }
+    ensures memory { IfErr result (λ e. e ≡ ServeError.Memory) }
+{
+    let Ok(replies) = run(alloc, cache, commands) else {
         return Err(ServeError::Memory);
     };
     Ok(reply_text(alloc, &replies)?)
