@@ -43,3 +43,12 @@ loop-command-preserved g c = record {
 
 pub returns-clause-clock : goal.returns-clause-clock
 returns-clause-clock g c = grind (arith, common_steps, run_bounded g.K.PartialEq.eq (map call_of c.args.commands.items) c.args.cache.now.machine)
+
+pub returns-clause-replies : goal.returns-clause-replies
+returns-clause-replies g c = grind (arith, common_steps)
+
+pub returns-clause-machine : goal.returns-clause-machine
+returns-clause-machine g c = grind (arith, common_steps)
+
+pub returns-clause-memory : goal.returns-clause-memory
+returns-clause-memory g c = search rules
