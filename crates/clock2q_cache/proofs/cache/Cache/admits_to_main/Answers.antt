@@ -1,5 +1,5 @@
 -- Where there is a vacancy, the length of Small tells, and else whether Small has a share.
-use Rattle.std.proofs.Common.{length, sym, ap, ◌∙◌}
+use Rattle.std.proofs.Common.{length, sym, ap, ◌∙◌, rules}
 use Rattle.clock2q_cache.proofs.Names.{CacheState}
 use Rattle.clock2q_cache.proofs.CacheInvariant.{length_in_small}
 use Rattle.clock2q_cache.proofs.Changed.{admits-vacant, admits-full}
@@ -15,3 +15,6 @@ pub returns-else-has_vacancy : goal.returns-else-has_vacancy
 returns-else-has_vacancy g c =
     let at = c.small-share.ensures.share ∙ ap (λ (z : CacheState _ _ _). z.machine.shares.small) c.self.view_is in
     admits-full c.args.self.now.machine c.if-known.false at (sym c.if-has_vacancy.ensures.vacant)
+
+pub returns-then-known : goal.returns-then-known
+returns-then-known g c = search rules

@@ -1,5 +1,5 @@
 -- Nothing is left anywhere.
-use Rattle.std.proofs.Common.{◌≡◌, ap, ◌∙◌}
+use Rattle.std.proofs.Common.{◌≡◌, ap, ◌∙◌, rules}
 use Rattle.clock2q_cache.proofs.Names.{if◌then◌else◌, slots, KeyPlaces, QueueState, Remembered, most_beside, cleared_like, slots-cleared}
 use Rattle.clock2q_cache.proofs.Changed.{kept-cleared}
 use Rattle.clock2q_cache.proofs.cache.Cache.clear.Goals as goal
@@ -14,3 +14,6 @@ invariant_of-self g c =
     (ap (λ (z : QueueState). z.main) q) (ap (λ (z : Remembered _). z.entries) h) (ap (λ (z : KeyPlaces _ _). z.entries) c.clear.ensures.cleared) c.clear-4.ensures.items
     (ap (λ (z : Remembered _). slots z.places.index) h ∙ slots-cleared c.self.inside.history.places.index) (ap (λ (z : QueueState). z.slots) q) (ap (λ (z : QueueState). z.window) q)
     (ap (λ (z : Remembered _). z.limit) h) beside (ap (λ (z : KeyPlaces _ _). z.room) c.clear.ensures.cleared) c.clear-4.ensures.capacity
+
+pub returns-clause-machine : goal.returns-clause-machine
+returns-clause-machine g c = search rules

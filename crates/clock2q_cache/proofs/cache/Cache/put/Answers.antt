@@ -1,5 +1,5 @@
 -- The key is resident with its value.
-use Rattle.std.proofs.Common.{sym, ap, ◌∙◌, arith}
+use Rattle.std.proofs.Common.{sym, ap, ◌∙◌, arith, rules}
 use Rattle.clock2q_cache.proofs.Names.{hit, stored, inserted, is_some, if◌then◌else◌, CacheState, replaced, replaced_at, inserted_there, replaced_there}
 use Rattle.clock2q_cache.proofs.Finding.{no-slot}
 use Rattle.clock2q_cache.proofs.Insertions.{hit-spends, insert-spends}
@@ -33,3 +33,9 @@ returns-clause-costs g c =
     costs-of (c.replace.ensures.machine ∙ ap (stored c.in-Resident.slot c.args.value) (c.record_hit.ensures.machine ∙ ap (hit is) c.look-found.ensures.machine)
     ∙ ap (λ o. if is_some o then replaced_at is c.args.value o c.args.self.now.machine else inserted is c.args.key c.args.value c.args.self.now.machine) c.in-Resident.ensures.slot)
     (hit-spends is c.args.self.now.machine c.look-found.ensures.counts c.in-Resident.ensures.slot counts (omega arith))
+
+pub returns-in_default-clause-machine : goal.returns-in_default-clause-machine
+returns-in_default-clause-machine g c = search rules
+
+pub returns-clause-machine : goal.returns-clause-machine
+returns-clause-machine g c = search rules

@@ -1,5 +1,5 @@
 -- The key that is found stands at its slot.
-use Rattle.std.proofs.Common.{sym, ap, ◌∙◌}
+use Rattle.std.proofs.Common.{sym, ap, ◌∙◌, rules}
 use Rattle.clock2q_cache.proofs.Names.{Machine, slot_of}
 use Rattle.clock2q_cache.proofs.Vacated.{found-resident}
 use Rattle.clock2q_cache.proofs.Spent.{remove-costs}
@@ -13,3 +13,9 @@ vacate-requires g c =
 pub returns-clause-costs : goal.returns-clause-costs
 returns-clause-costs g c =
     remove-costs c.in-Resident.ensures.slot c.look-found.ensures.kept c.look-found.ensures.counts c.vacate.ensures.machine c.vacate.ensures.counts
+
+pub returns-in_default-clause-machine : goal.returns-in_default-clause-machine
+returns-in_default-clause-machine g c = search rules
+
+pub returns-clause-machine : goal.returns-clause-machine
+returns-clause-machine g c = search rules

@@ -1,5 +1,5 @@
 -- The value stands at the slot where the key was found, or at the one that it took.
-use Rattle.std.proofs.Common.{sym, ap, ◌∙◌, subst, Ok, arith}
+use Rattle.std.proofs.Common.{sym, ap, ◌∙◌, subst, Ok, arith, rules}
 use Rattle.clock2q_cache.proofs.Names.{slice_get_within, hit, inserted, CacheState}
 use Rattle.clock2q_cache.proofs.Finding.{no-slot}
 use Rattle.clock2q_cache.proofs.Fetched.{hit-fetches, new-fetches}
@@ -31,3 +31,6 @@ pub returns-clause-counts : goal.returns-clause-counts
 returns-clause-counts g c =
     insert-spends (g.K.PartialEq.eq c.args.key) c.args.self.now.machine c.look-found.ensures.counts
     (no-slot c.look-found.result c.in_default.not-Resident ∙ c.look-found.ensures.slot) c.look-found.ensures.machine c.insert.ensures.counts (omega arith)
+
+pub f-requires : goal.f-requires
+f-requires g c = search rules

@@ -1,4 +1,4 @@
-use Rattle.std.proofs.Common.{◌≡◌, ◌+◌, ◌%◌, length, arith, sym, ap, ◌∙◌, subst, refl, IfSome, slice_get}
+use Rattle.std.proofs.Common.{◌≡◌, ◌+◌, ◌%◌, length, arith, rules, sym, ap, ◌∙◌, subst, refl, IfSome, slice_get}
 use Rattle.clock2q_handles.specs.Layout.{slot_at}
 use Rattle.clock2q_handles.specs.Slots.{sought, mark_on}
 use Rattle.clock2q_handles.proofs.Moves.{reach_of_meaning}
@@ -22,6 +22,9 @@ returns-clause-candidate g c =
     let v = c.handle-handle.result in
     let handle = subst (λ s. IfSome (slot_at s c.in-Ok.slot) (λ p. v ≡ p.entry.1)) c.candidate.ensures.same c.handle-handle.ensures.handle in
     sym (ap (λ hs. slice_get hs 0) (ap (λ t. t.left) (sym c.self.view_is) ∙ c.in-Ok.ensures.left ∙ (on g before.After-handle-handle).takes v c.in-Ok.ensures.found handle))
+
+pub returns-clause-left : goal.returns-clause-left
+returns-clause-left g c = search rules
 
 pub returns-clause-within : goal.returns-clause-within
 returns-clause-within g c =

@@ -1,4 +1,4 @@
-use Rattle.std.proofs.Common.{◌≡◌, ◌<◌, ◌≤◌, ◌+◌, ◌*◌, length, ℕ, refl, sym, subst, arith}
+use Rattle.std.proofs.Common.{◌≡◌, ◌<◌, ◌≤◌, ◌+◌, ◌*◌, length, ℕ, refl, sym, subst, arith, rules}
 use Rattle.clock2q_handles.specs.Homes.{total, capacity, count}
 use Rattle.clock2q_handles.specs.Layout.{spill_of}
 use Rattle.clock2q_handles.proofs.Promises.{whole_laid}
@@ -53,3 +53,6 @@ returns-clause-nearer g c x =
     let asked = c.requires.rehash (omega (arith, c.if-entries-capacity.false, c.capacity.ensures.capacity, entries g before)) in
     subst (λ hs. spill_of hs x + count hs x ≤ spill_of homes x + count homes x) (sym (c.in_ok-self.ensures.made asked.0 asked.1))
     (rebuilt-reach asked.0 homes m c.len.ensures.whole.room (omega (arith, room.0, capacity-lt m room.1)) (multiple g before) asked.1.hashes x)
+
+pub returns-clause-reserved : goal.returns-clause-reserved
+returns-clause-reserved g c = search rules

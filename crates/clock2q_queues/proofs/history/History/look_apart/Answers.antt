@@ -1,4 +1,4 @@
-use Rattle.std.proofs.Common.{◌<◌, length, refl, ap, sym, ◌∙◌, subst, arith}
+use Rattle.std.proofs.Common.{◌<◌, length, refl, ap, sym, ◌∙◌, subst, arith, rules}
 use Rattle.std.specs.List.{find, AllByRecursion}
 use Rattle.clock2q_queues.specs.Keys.{KeyPlaces, is_key_at}
 use Rattle.clock2q_queues.proofs.Lookups.{questions-within}
@@ -51,3 +51,6 @@ returns-clause-asked g c =
     (slots-shown i.index i.order i.keys c.self.view_is c.args.hash c.handles.ensures.handles) refl in
     let asked = ap (λ (z : KeyPlaces _ _). z.questions) c.find.ensures.counted in
     (omega (arith, asked), omega (arith, asked, most))
+
+pub returns-clause-slot : goal.returns-clause-slot
+returns-clause-slot g c = search rules

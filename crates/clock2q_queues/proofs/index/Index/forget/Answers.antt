@@ -1,4 +1,4 @@
-use Rattle.std.proofs.Common.{◌≡◌, true, false, sym, ap, ◌∙◌, subst}
+use Rattle.std.proofs.Common.{◌≡◌, true, false, sym, ap, ◌∙◌, subst, rules}
 use Rattle.clock2q_handles.specs.Homes.{candidates}
 use Rattle.clock2q_queues.specs.Rings.{has}
 use Rattle.clock2q_queues.specs.Index.{index_state, is_shared, places}
@@ -20,3 +20,6 @@ remove_held-requires-else-is_shared g c =
     let own : is_shared v ≡ false = ap is_shared c.self.view_is ∙ sym c.is_shared.ensures.shared ∙ c.if-is_shared.false in
     let held = subst (λ z. has c.args.place (candidates (places z) c.args.hash) ≡ true) (sym c.self.view_is) c.requires.held in
     record { held = held_own v c.args.hash c.args.place own held }
+
+pub returns-then-is_shared : goal.returns-then-is_shared
+returns-then-is_shared g c = search rules

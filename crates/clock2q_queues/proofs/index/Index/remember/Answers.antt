@@ -1,4 +1,4 @@
-use Rattle.std.proofs.Common.{◌≡◌, true, false, sym, ap, ◌∙◌, subst}
+use Rattle.std.proofs.Common.{◌≡◌, true, false, sym, ap, ◌∙◌, subst, rules}
 use Rattle.clock2q_handles.specs.Homes.{candidates}
 use Rattle.clock2q_queues.specs.Rings.{has}
 use Rattle.clock2q_queues.specs.Index.{index_state, is_shared, slots, HasPlaceRoom}
@@ -27,3 +27,6 @@ invariant_of-self-else-is_shared g c =
     put_done i.own.homes c.insert_within_capacity.new.self.homes c.args.hash c.args.place c.insert_within_capacity.result c.insert_within_capacity.ensures.put
     c.insert_within_capacity.ensures.few (place_is_few v own (subst (λ z. HasPlaceRoom z) (sym c.self.view_is) c.requires.room)) in
     sorted-remembered v c.remove_held.new.self.homes c.insert_within_capacity.new.self.homes c.args.hash c.args.slot c.args.place c.requires.below c.self.invariant c.remove_held.ensures.removed put
+
+pub returns-then-is_shared : goal.returns-then-is_shared
+returns-then-is_shared g c = search rules

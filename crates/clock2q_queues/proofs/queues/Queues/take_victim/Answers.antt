@@ -1,4 +1,4 @@
-use Rattle.std.proofs.Common.{ℕ, Bool, false, List, drop, ap, ◌∙◌}
+use Rattle.std.proofs.Common.{ℕ, Bool, false, List, drop, ap, ◌∙◌, rules}
 use Rattle.clock2q_queues.specs.Links.{LinkState, accesses_of}
 use Rattle.clock2q_queues.specs.MainRing.{main_entries, from_victim}
 use Rattle.clock2q_queues.specs.Queues.{QueueState, queues_shown}
@@ -36,3 +36,6 @@ returns-clause-queues g c =
     rw (← c.self.view_is) (left.is
     ∙ ap (λ z. now (queues_shown s.new.links i.small s.new.self) z) (first ∙ ap (λ (z : List (ℕ × Bool)). drop 1 z) s.ensures.entries)
     ∙ ap (λ q. now q (drop 1 (from_victim (main_entries i.links i.main)))) chosen.is)
+
+pub returns-clause-victim : goal.returns-clause-victim
+returns-clause-victim g c = search rules

@@ -1,4 +1,5 @@
-use Rattle.std.proofs.Common.{false, set, map, ap, ◌∙◌}
+use Rattle.std.proofs.Common.{false, set, map, ap, ◌∙◌, arith}
+use Rattle.std.proofs.lemmas.Grind.{common_steps}
 use Rattle.clock2q_queues.specs.Cells.{hit_bits}
 use Rattle.clock2q_queues.specs.Flags.{FlagState, is_set, is_standing}
 use Rattle.clock2q_queues.proofs.Flagged.{told-set, told-kept}
@@ -15,3 +16,6 @@ pub returns-clause-standing : goal.returns-clause-standing
 returns-clause-standing g c =
     told-kept is_standing c.self.inside.flags.items c.args.slot c.index-flags.result.now c.with_bit.result c.index-flags.ensures c.with_bit.ensures.standing
     ∙ ap (λ (s : FlagState). s.standing) c.self.view_is
+
+pub returns-clause-value : goal.returns-clause-value
+returns-clause-value g c = grind (arith, common_steps)

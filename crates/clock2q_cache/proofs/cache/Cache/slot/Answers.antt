@@ -1,0 +1,5 @@
+use Rattle.std.proofs.Common.{rules}
+use Rattle.clock2q_cache.proofs.cache.Cache.slot.Goals as goal
+
+pub returns-clause-slot : goal.returns-clause-slot
+returns-clause-slot g c = search rules
