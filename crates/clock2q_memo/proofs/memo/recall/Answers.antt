@@ -1,4 +1,5 @@
 use Rattle.std.proofs.Common.{rules, arith, ◌≡◌, suc, List, [], ◌∷◌, ◌++◌, length, map, ◌∙◌, sym, subst, ap, refl}
+use Rattle.std.proofs.lemmas.Grind.{common_steps}
 use Rattle.std.specs.Borrow.{Bor}
 use Rattle.std.specs.Fn.{FnReturnsAt, Shared}
 use Rattle.std.specs.Vec.Iter.{into_iter_items}
@@ -48,3 +49,6 @@ pub returns-clause-evaluations : goal.returns-clause-evaluations
 returns-clause-evaluations g c =
     let ended = none_left _ (sym c.loop-key.invariant.sized ∙ c.in-None.ensures.steps.0) in
     evaluations-ended g.K.PartialEq.eq (into_iter_items c.loop-key.key-iterator) c.args.keys.items c.loop-key.memo.machine c.args.memo.now.machine c.loop-key.values.items c.loop-key.memo.evaluations c.args.memo.now.evaluations ended c.loop-key.invariant.evaluations
+
+pub returns-clause-values : goal.returns-clause-values
+returns-clause-values g c = grind (arith, common_steps)

@@ -31,3 +31,6 @@ returns-in_err-map_err g c =
       gathered-later (map call_of c.loop-line.commands.items) (c.loop-line.number + 1) (lines_of c.loop-line.rest.now) c.in-Some.line.now (lines_of c.in-Some.others.now)
           (call_of c.in_ok-command.command) bad c.in-Some.ensures.lines spelled (c.loop-line.invariant.so_far ∙ e),
     ))
+
+pub returns-in_err-ok_or : goal.returns-in_err-ok_or
+returns-in_err-ok_or g c = search rules
