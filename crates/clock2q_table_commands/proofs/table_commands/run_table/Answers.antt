@@ -39,3 +39,12 @@ pub returns-clause-replies : goal.returns-clause-replies
 returns-clause-replies g c = λ key h.
     subst (λ commands. AreReplied g.H.PartialEq.eq key commands c.args.table.now.homes c.loop-command.replies.items c.loop-command.table.homes)
     (take_all c.loop-command.command-index c.args.commands.now (search rules)) (c.loop-command.invariant.replied key h)
+
+pub returns-in_default-clause-memory : goal.returns-in_default-clause-memory
+returns-in_default-clause-memory g c = search rules
+
+pub returns-in_default-clause-unchanged : goal.returns-in_default-clause-unchanged
+returns-in_default-clause-unchanged g c = search rules
+
+pub returns-clause-hashes : goal.returns-clause-hashes
+returns-clause-hashes g c = search rules
