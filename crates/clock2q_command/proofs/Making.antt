@@ -73,7 +73,9 @@ module _ {X K V : Type 0} (machine : X → Machine K V) where
       (omega (arith, p.0), p.1)
 
 -- the text of the answers of a cache that was empty, or no memory for it
-pub RepliesTo-made : {X : Type 0} (bytes : X → List ℕ) (shares : Shares) (calls : List (Call ℕ ℕ)) (m : Machine ℕ ℕ) (r : Result X ServeError) → CanBeHad shares → m ≡ empty shares → IfOk r (λ text. bytes text ≡ output_of (answers nat_eq calls m)) → IfErr r (λ e. e ≡ serve.Memory) → RepliesTo (record { shares = shares; calls = calls }) bytes r
+pub RepliesTo-made : {X : Type 0} (bytes : X → List ℕ) (shares : Shares) (calls : List (Call ℕ ℕ)) (m : Machine ℕ ℕ) (r : Result X ServeError) →
+    CanBeHad shares → m ≡ empty shares → IfOk r (λ text. bytes text ≡ output_of (answers nat_eq calls m)) → IfErr r (λ e. e ≡ serve.Memory) →
+    RepliesTo (record { shares = shares; calls = calls }) bytes r
 unfolding output_for
 RepliesTo-made bytes shares calls m (Ok text) had made told memory = (had, told ∙ ap (λ m. output_of (answers nat_eq calls m)) made)
 RepliesTo-made bytes shares calls m (Err refusal) had made told memory = subst (IsUnanswered shares) (sym memory) had

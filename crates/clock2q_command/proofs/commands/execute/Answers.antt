@@ -1,3 +1,4 @@
+-- A peek leaves the cache as it was.
 use Rattle.std.proofs.Common.{rules}
 use Rattle.clock2q_command.proofs.commands.execute.Goals as goal
 

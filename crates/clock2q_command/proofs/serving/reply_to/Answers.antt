@@ -5,4 +5,7 @@ use Rattle.clock2q_command.proofs.Making.{RepliesTo-made}
 use Rattle.clock2q_command.proofs.serving.reply_to.Goals as goal
 
 pub returns-in-Ok : goal.returns-in-Ok
-returns-in-Ok g c = RepliesTo-made (λ text. text.items) (shares_value c.args.script.capacity c.args.script.chosen) (map call_of c.args.script.commands.items) c.in-Ok.cache.machine _ c.in-Ok.ensures.0 c.in-Ok.ensures.1 c.reply_with.ensures.text c.reply_with.ensures.memory
+returns-in-Ok g c =
+    let shares = shares_value c.args.script.capacity c.args.script.chosen in
+    let calls = map call_of c.args.script.commands.items in
+    RepliesTo-made (λ text. text.items) shares calls c.in-Ok.cache.machine _ c.in-Ok.ensures.0 c.in-Ok.ensures.1 c.reply_with.ensures.text c.reply_with.ensures.memory
