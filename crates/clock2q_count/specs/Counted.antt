@@ -1,5 +1,5 @@
 use Rattle.std.specs.Prelude.{ℕ}
 
--- how often something was done
+-- the number of times that something was done
 pub record Counted : Type 0 where
   pub total : ℕ

@@ -1,8 +1,8 @@
 //! Numbers and other values that only contracts can see.
 //!
-//! A contract often has to say how often something was done, or what went through a device, though
-//! the program keeps no such number. A [`Count`] or a [`Told`] carries it: it takes no bytes, no
-//! code can read it, and clauses name it as they name any field.
+//! A contract often has to state how often something was done, or what went through a device,
+//! though the program keeps no such value. A [`Count`] or a [`Told`] holds it: it takes no bytes,
+//! no code can read it, and clauses name it like any field.
 #![tactic(auto)]
 
 ghost use Rattle.std.specs.Prelude.{◌≡◌, ℕ, ◌+◌, ◌≤◌};
@@ -13,8 +13,11 @@ use std::fmt;
 use std::marker::Model;
 pub use told::Told;
 
-/// How often something was done. It takes no bytes, and no code can read it: it is a field of the
-/// struct whose accesses it counts, and the accessors tick it. It can only rise.
+/// The number of times that something was done. It takes no bytes, and no code can read it: it is a
+/// field of the struct whose accesses it counts, and the accessors tick it.
+///
+/// No method lowers it. Its owner can replace it with a new count, which is zero, so a clause of
+/// the owner has to rule that out.
 ///
 /// # Example
 ///

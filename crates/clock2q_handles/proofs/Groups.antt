@@ -7,7 +7,7 @@ use Rattle.std.specs.Int.{trailing_zeros, w64}
 use Rattle.std.specs.Int.Bits.{bit_and}
 use Rattle.clock2q_handles.specs.Partition.{IsPartitionCount, IsGroupOf, SameMiddle}
 
--- 2^j is at most 2^16 only where j is at most 16
+-- 2^j is at most 2^16 only if j is at most 16
 exponent_le : (j : ℕ) → 2 ^ j ≤ 2 ^ 16 → j ≤ 16
 exponent_le j h =
     elim (cases_lt 16 j) [ inl above ↦ absurd (let p : 2 ^ 16 < 2 ^ j = pow_below 16 j above in omega (arith, p)) | inr below ↦ below ]
@@ -37,7 +37,7 @@ middle_field x k h =
     let all : k + (16 - k) ≡ 16 = omega arith in
     sym (ap (λ n. x / 2 ^ 40 % 2 ^ n / 2 ^ (16 - k)) (sym all) ∙ field_of (x / 2 ^ 40) k (16 - k) ∙ ap (λ n. n % 2 ^ k) (shr-shr x 40 (16 - k)) ∙ ap (λ n. x / 2 ^ n % 2 ^ k) low)
 
--- the group is what is shifted and masked
+-- the group is computed by a shift and a mask
 pub group_of : (x p t r : ℕ) → IsPartitionCount p → t ≡ trailing_zeros w64 p → r ≡ bit_and (x / 2 ^ (56 - t)) (p - 1) → IsGroupOf x p r
 group_of x p t r is_count et er k ek =
     let small : k ≤ 16 = exponent_le k (subst (λ q. q ≤ 2 ^ 16) ek is_count.most) in

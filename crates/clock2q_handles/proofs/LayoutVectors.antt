@@ -1,4 +1,4 @@
--- Tables whose slots are known from outside, and groups of hashes, computed.
+-- Tables whose slots are known independently, and groups of hashes, computed.
 use Rattle.std.proofs.Common.{◌≡◌, ℕ, zero, suc, ◌+◌, ◌-◌, ◌*◌, ◌/◌, ◌%◌, ◌^◌, true, false, eqb, List, [], ◌∷◌, ◌++◌, length, get_or, lit<, refl, subst, Option, Some, None, replicate, map, option_map}
 use Rattle.std.specs.Prelude.{Ok, bit_and}
 use Rattle.std.specs.List.{list_any}
@@ -45,7 +45,7 @@ four-read : homes_of (layout four) ≡ four
 unfolding layout spill homes_of
 four-read = refl
 
--- the first one out, under the second hash
+-- the first one removed, under the second hash
 abbrev four_less : Numbers
 four_less = removed eqb four 0xAB00010000000005 0
 
@@ -128,7 +128,7 @@ full-walks : map (walk full) (15 ∷ 0 ∷ 10 ∷ 11 ∷ []) ≡ 13 ∷ 12 ∷ 2
 unfolding spill
 full-walks = refl
 
--- one out under the other hash, and another in, for which the table doesn't grow
+-- one removed under the other hash, and another put in, for which the table doesn't grow
 abbrev full_less : Numbers
 full_less = removed eqb full 0xAB0000000000001F 5
 
@@ -169,7 +169,7 @@ wide-walk : walk wide 15 ≡ 7
 unfolding layout spill
 wide-walk = refl
 
--- a run that wraps over the end: handles under 14, 14, 15, 0 and 0
+-- a run that wraps past the end: handles under 14, 14, 15, 0 and 0
 abbrev round : Numbers
 round = put_each (no_entries 16) (14 ∷ 14 ∷ 15 ∷ 0 ∷ 0 ∷ []) 0
 
@@ -196,7 +196,7 @@ round_less-walks : walk round_less 14 ∷ walk round_less 15 ∷ walk round_less
 unfolding spill
 round_less-walks = refl
 
--- room for twenty more: the handles are asked for their hashes by slot, and stand in 64 slots
+-- room for twenty more: the handles' hashes are asked for by slot, and the handles are put in 64 slots
 abbrev round_hash : ℕ → ℕ
 round_hash v = get_or (14 ∷ 14 ∷ 15 ∷ 0 ∷ 0 ∷ []) v 0
 

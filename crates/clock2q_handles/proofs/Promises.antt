@@ -1,4 +1,4 @@
--- What users of a table rely on over single insertions: few entries are never refused, and taking an entry out again restores the slots.
+-- What users of a table rely on over single insertions: few entries are never refused, and removing an entry again restores the slots.
 use Rattle.std.proofs.Common.{◌≡◌, ℕ, suc, ◌+◌, ◌^◌, ◌<◌, refl, sym, ap, ◌∙◌, subst, arith, Bool, true, List, length, Option}
 use Rattle.std.specs.Prelude.{Result, Ok, Err, IsOk, OnOk, OnErr, IfOk, IfErr}
 use Rattle.clock2q_handles.specs.Homes.{total, capacity, with_handle, top, removed, IsNew}
@@ -7,24 +7,24 @@ use Rattle.clock2q_handles.specs.TableStep.{TableValue}
 use Rattle.clock2q_handles.specs.Table.{IsWhole}
 use Rattle.clock2q_handles.specs.Changes.{PutIn, IsLaidOut}
 use Rattle.clock2q_handles.specs.declared.error.TableError.{TableError}
-use Rattle.clock2q_handles.proofs.TidyLayout.{length-homes_of}
-use Rattle.clock2q_handles.proofs.Changes.{length-with_list}
-use Rattle.clock2q_handles.proofs.FewerEntries.{total-put_last}
-use Rattle.clock2q_handles.proofs.Placement.{best-placed}
-use Rattle.clock2q_handles.proofs.TooLong.{too-long-total}
-use Rattle.clock2q_handles.proofs.Removals.{restored-slots}
+use Rattle.clock2q_handles.proofs.layout.TidyLayout.{length-homes_of}
+use Rattle.clock2q_handles.proofs.shifts.Changes.{length-with_list}
+use Rattle.clock2q_handles.proofs.layout.FewerEntries.{total-put_last}
+use Rattle.clock2q_handles.proofs.layout.Placement.{best-placed}
+use Rattle.clock2q_handles.proofs.layout.TooLong.{too-long-total}
+use Rattle.clock2q_handles.proofs.shifts.Removals.{restored-slots}
 
--- a call whose every error is ruled out answered `Ok`
+-- a call whose every error is ruled out returned `Ok`
 pub ok_where_no_error : {T E P : Type 0} (r : Result T E) → OnErr r P → (P → ⊥) → IsOk r
 ok_where_no_error (Ok x) err none = refl
 ok_where_no_error (Err e) err none = absurd (none err)
 
--- what follows where a call answered `Ok`
+-- what follows if a call returned `Ok`
 pub on_ok : {T E P Q : Type 0} (r : Result T E) → (P → Q) → OnOk r P → OnOk r Q
 on_ok (Ok x) gives p = gives p
 on_ok (Err e) gives p = p
 
--- what follows of the answer where a call answered `Ok`, and of the error where it did not
+-- what follows from the result if a call returned `Ok`, and from the error if it did not
 pub if_ok : {T E : Type 0} {P Q : T → Type 0} (r : Result T E) → ((x : T) → P x → Q x) → IfOk r P → IfOk r Q
 if_ok (Ok x) gives p = gives x p
 if_ok (Err e) gives p = tt
@@ -33,26 +33,26 @@ pub if_err : {T E : Type 0} {P Q : E → Type 0} (r : Result T E) → ((e : E) �
 if_err (Ok x) gives p = tt
 if_err (Err e) gives p = gives e p
 
--- a call that answered `Ok` answered no error
+-- a call that returned `Ok` returned no error
 pub no_error : {T E : Type 0} (r : Result T E) (e : E) → IsOk r → r ≡ Err e → ⊥
 no_error r e ok is = let no = subst IsOk is ok in cc
 
 module _ {H : Type 0} where
-  -- what an insertion that is not refused leaves
+  -- what an insertion that is not refused results in
   pub put_ok : (old new : List (List (ℕ × H))) (x : ℕ) (v : H) (r : Result (Unit {0}) TableError) → PutIn old x v r new → OnOk r (new ≡ with_handle old x v)
   put_ok old new x v (Ok u) put = put.0
   put_ok old new x v (Err e) put = tt
 
-  -- and why one is
+  -- and why one is refused
   pub put_err : (old new : List (List (ℕ × H))) (x : ℕ) (v : H) (r : Result (Unit {0}) TableError) → PutIn old x v r new → OnErr r (IsTooLong (with_handle old x v))
   put_err old new x v (Ok u) put = tt
   put_err old new x v (Err e) put = put.2
 
-  -- what callers may rely on of every table has in it how the entries stand
+  -- what callers may rely on of every table includes where the entries are
   pub whole_laid : (t : TableValue H) → IsWhole t → IsLaidOut t
   whole_laid t whole = record { laid = whole.laid; best = best-placed t.homes whole.room }
 
-  -- a table of fewer than 2^24 - 1 entries takes one more
+  -- a table below capacity with fewer than 2^24 - 1 entries takes one more
   pub few_fit : (homes : List (List (ℕ × H))) (x : ℕ) (v : H) → total homes < capacity (length homes) → total homes + 1 < 2 ^ 24 → IsTooLong (with_handle homes x v) → ⊥
   few_fit homes x v room few long =
       let some : 0 < length homes = omega (arith, room) in
@@ -60,7 +60,7 @@ module _ {H : Type 0} where
       let as_long : length (with_handle homes x v) ≡ length homes = length-with_list homes x _ in
       omega (arith, few, more, too-long-total (with_handle homes x v) (omega (arith, room, more, ap capacity as_long)) long)
 
-  -- with the lists that an insertion leaves, taking the entry out again gives the slots of before
+  -- with the lists that an insertion results in, removing the entry again restores the slots
   pub restored_by : (eq : H → H → Bool) (slots : List (Option (Placed (ℕ × H)))) (homes new : List (List (ℕ × H))) (x : ℕ) (v : H)
       → homes_of slots ≡ homes → IsTidy slots → total homes < capacity (length homes)
       → eq v v ≡ true → new ≡ with_handle homes x v → IsNew eq homes x v → layout (removed eq new x v) ≡ slots

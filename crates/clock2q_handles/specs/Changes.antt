@@ -1,4 +1,4 @@
--- What a call that changes a table leaves, and how many slots it writes.
+-- What a call that changes a table results in, and how many slots it writes.
 use Rattle.std.specs.Prelude.{◌≡◌, ℕ, ◌+◌, ◌^◌, ◌<◌, ◌≤◌, Bool, List, Result, MatchResult, IsOk, OnOk, OnErr}
 use Rattle.clock2q_handles.specs.Homes.{with_handle, removed, count, total, IsNew}
 use Rattle.clock2q_handles.specs.Layout.{layout, run, spill_of, IsTooLong, IsBestPlaced}
@@ -11,11 +11,11 @@ module _ {H : Type 0} where
   abbrev pub PutIn : List (List (ℕ × H)) → ℕ → H → Result (Unit {0}) TableError → List (List (ℕ × H)) → Type 0
   PutIn old x v result new = MatchResult result (λ _. (new ≡ with_handle old x v) × (IsTooLong (with_handle old x v) → ⊥)) (λ e. (e ≡ RunTooLong) × (new ≡ old) × IsTooLong (with_handle old x v))
 
-  -- n slots are written at most
+  -- at most n slots are written
   abbrev pub WritesAtMost : ℕ → TableValue H → TableValue H → Type 0
   WritesAtMost n old new = (old.writes ≤ new.writes) × (new.writes ≤ old.writes + n)
 
-  -- taking v out again gives the slots of before, if no such entry was there
+  -- removing v again restores the slots, if there was no such entry before
   abbrev pub Restores : (H → H → Bool) → ℕ → H → TableValue H → TableValue H → Type 0
   Restores eq x v old new = IsNew eq old.homes x v → layout (removed eq new.homes x v) ≡ old.slots
 
@@ -23,6 +23,14 @@ module _ {H : Type 0} where
   pub record IsLaidOut (t : TableValue H) : Type 0 where
     pub laid : t.slots ≡ layout t.homes
     pub best : IsBestPlaced t.homes
+
+  -- v is put in under x, and no run is too long
+  pub record PutsUnder (eq : H → H → Bool) (x : ℕ) (v : H) (old new : TableValue H) : Type 0 where
+    pub put : new.homes ≡ with_handle old.homes x v
+    pub short : IsTooLong (with_handle old.homes x v) → ⊥
+    pub writes : WritesAtMost (run old.slots x + 1) old new
+    pub restores : Restores eq x v old new
+    pub laid : IsLaidOut new
 
   -- v is put in under x below capacity, or refused because a run would be too long, which takes 2^24 entries and changes nothing
   pub record Inserts (eq : H → H → Bool) (x : ℕ) (v : H) (result : Result (Unit {0}) TableError) (old new : TableValue H) : Type 0 where
@@ -33,6 +41,6 @@ module _ {H : Type 0} where
     pub restores : OnOk result (Restores eq x v old new)
     pub laid : IsLaidOut new
 
-  -- the entries of no home reach further past it than they did
+  -- no home's entries reach further past it than before
   abbrev pub IsNearer : List (List (ℕ × H)) → List (List (ℕ × H)) → Type 0
   IsNearer old new = (x : ℕ) → spill_of new x + count new x ≤ spill_of old x + count old x

@@ -3,7 +3,6 @@ pub mod Layout
 pub mod TableStep
 pub mod Slots
 pub mod Readers
-pub mod Views
 pub mod Table
 pub mod Changes
 pub mod Shifts

@@ -6,7 +6,7 @@ pub record IsPartitionCount (p : ℕ) : Type 0 where
   pub power : (k : ℕ) × (p ≡ 2 ^ k)
   pub most : p ≤ 2 ^ 16
 
--- the group is the bits just below the top byte, as many as tell p = 2^k groups apart
+-- the group is the k bits just below the top byte, for p = 2^k groups
 abbrev pub IsGroupOf : ℕ → ℕ → ℕ → Type 0
 IsGroupOf x p group = (k : ℕ) → p ≡ 2 ^ k → group ≡ bit_and (x / 2 ^ (56 - k)) (p - 1)
 

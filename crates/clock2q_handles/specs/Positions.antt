@@ -1,5 +1,5 @@
--- Positions in a table: the slots where a home's entries stand, and those where walks end.
-use Rattle.std.specs.Prelude.{◌≡◌, ℕ, suc, ◌+◌, ◌%◌, ◌++◌, Bool, cond, List, [], ◌∷◌, length, set, take, drop, slice_get, Some}
+-- Positions in a table: the slots where a home's entries are, and those where walks end.
+use Rattle.std.specs.Prelude.{◌≡◌, ℕ, ◌+◌, ◌%◌, Bool, cond, List, [], ◌∷◌, length, set, slice_get, Some}
 use Rattle.std.specs.Coded.{Coded, code_by, coded×, coded_ℕ, coded_option}
 use Rattle.clock2q_handles.specs.Homes.{top, listed, count, with_list, is_entry_of}
 use Rattle.clock2q_handles.specs.Layout.{spill_of}
@@ -7,29 +7,21 @@ use Rattle.clock2q_handles.specs.Slots.{Mark}
 use mathlib.Core.Path.{refl}
 
 module _ {E : Type 0} where
-  -- entry i of the home of x is e, and stands in slot n
+  -- entry i of the home of x is e, and is in slot n
   pub record StandsAt (homes : List (List E)) (x i : ℕ) (e : E) (n : ℕ) : Type 0 where
     pub entry : slice_get (listed homes x) i ≡ Some e
     pub slot : n ≡ (x + spill_of homes x + i) % length homes
 
-  -- some entry stands in slot n
-  abbrev pub IsTaken : List (List E) → ℕ → Type 0
-  IsTaken homes n = (x : ℕ) × (i : ℕ) × (e : E) × StandsAt homes x i e n
-
-  -- the same entries, with e for entry i of the home of x
+  -- the same entries, with e as entry i of the home of x
   abbrev pub with_entry : List (List E) → ℕ → ℕ → E → List (List E)
   with_entry homes x i e = with_list homes x (set (listed homes x) i e)
 
-  -- the same entries but for entry i of the home of x
-  abbrev pub without_entry : List (List E) → ℕ → ℕ → List (List E)
-  without_entry homes x i = with_list homes x (take i (listed homes x) ++ drop (suc i) (listed homes x))
-
-  -- the list with e for its first element that passes the test
+  -- the list with e in place of its first element that passes the test
   abbrev pub with_first : (E → Bool) → E → List E → List E
   with_first test e [] = []
   with_first test e (y ∷ ys) = cond (test y) (e ∷ ys) (y ∷ with_first test e ys)
 
--- the first entry of x's home that `remove` of v would take gets the handle w
+-- the first entry of x's home that `remove` of v would remove gets the handle w
 abbrev pub relabelled : {H : Type 0} → (H → H → Bool) → List (List (ℕ × H)) → ℕ → H → H → List (List (ℕ × H))
 relabelled eq homes x v w = with_list homes x (with_first (is_entry_of eq x v) (top x, w) (listed homes x))
 
@@ -44,6 +36,6 @@ gap_value position mark = record { position = position; mark = mark }
 abbrev pub gap_code : Coded GapValue
 gap_code = code_by (ℕ × Mark) (coded× coded_ℕ (coded_option (coded× coded_ℕ coded_ℕ))) (λ g. (g.position, g.mark)) (λ p. gap_value p.0 p.1) (λ _. refl)
 
--- where a walk for x ends: just past the entries of its home, where one more would stand
+-- where a walk for x ends: just past the entries of its home, where one more would be
 abbrev pub gap_of : {E : Type 0} → List (List E) → ℕ → GapValue
 gap_of homes x = gap_value ((x + spill_of homes x + count homes x) % length homes) (Some (spill_of homes x + count homes x, top x))

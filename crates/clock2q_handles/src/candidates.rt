@@ -11,7 +11,7 @@ use std::alloc::Allocator;
 use std::marker::Model;
 
 /// An iterator over the candidates of a hash, in the order of their slots. It reads one word of
-/// metadata for each slot that it passes, and a handle only for each candidate.
+/// metadata for each slot that it visits, and a handle only for each candidate.
 ///
 /// # Example
 ///
@@ -71,9 +71,9 @@ impl<'a, H: Copy + Eq + Default> Candidates<'a, H> {
         }
     }
 
-    /// Returns the next candidate and stands at it, until [`pass`](Candidates::pass) or
-    /// [`next`](Iterator::next) goes on. It is for callers that mostly accept the first candidate:
-    /// what comes after it is worked out only where it is passed.
+    /// Returns the next candidate and stays at it until [`pass`](Candidates::pass) or
+    /// [`next`](Iterator::next) moves on. It is for callers that mostly accept the first candidate:
+    /// what comes after it is computed only if it is passed.
     #[inline(always)]
     pub fn peek(&mut self) -> Option<H>
         ensures candidate { result ≡ slice_get self.old.left 0 }
@@ -99,7 +99,7 @@ impl<'a, H: Copy + Eq + Default> Candidates<'a, H> {
         Some(handle)
     }
 
-    /// Goes on from the candidate at which [`peek`](Candidates::peek) stands. It reads no slot.
+    /// Moves past the candidate that [`peek`](Candidates::peek) is at. It reads no slot.
     #[inline(always)]
     pub fn pass(&mut self)
         requires stands { self.old.stands ≡ true }
@@ -115,13 +115,13 @@ impl<'a, H: Copy + Eq + Default> Candidates<'a, H> {
 }
 
 impl<'a, H: Copy + Default> Reader<'a, H> {
-    ghost use Rattle.clock2q_handles.specs.Candidates.{IsWalkFor, EndsAt, IsFoundAt, left_from, unread_from};
+    ghost use Rattle.clock2q_handles.specs.Candidates.{IsWalkFor, EndsAt, IsAcceptedAt, left_from, unread_from};
     ghost use Rattle.clock2q_handles.specs.Layout.{reach, IsTidy, AreNear};
     ghost use Rattle.clock2q_handles.specs.Offers.{Offers, MayBeOffered, handle_in};
     ghost use Rattle.std.specs.Prelude.{ℕ, ◌≤◌, IfOk, IfErr};
 
-    /// Takes a walk on to its next candidate, and returns the candidate's slot, or else the slot
-    /// where the walk ends. Beside it stands what the walk looks for there.
+    /// Advances a walk to its next candidate, and returns the candidate's slot, or else the slot
+    /// where the walk ends, each with what the walk looks for there.
     #[inline(always)]
     fn candidate(
         &mut self,
@@ -170,7 +170,7 @@ impl<'a, H: Copy + Default> Reader<'a, H> {
         requires some { 0 < length self.old.slots }
         requires callable { MayBeOffered F.FnMut matches.old (left_from self.old.slots hash 0) }
         ensures offers { Offers F.FnMut matches.old (left_from self.old.slots hash 0) (handle_in result) matches.new }
-        ensures at { IfOk result (λ found. IsFoundAt self.old.slots hash found.0 found.1) }
+        ensures at { IfOk result (λ found. IsAcceptedAt F.FnMut matches.old self.old.slots hash found.0 found.1) }
         ensures same { self.new.slots ≡ self.old.slots }
         ensures ends { IfErr result (λ gap. EndsAt self.old.slots hash gap.mark gap.position) }
         ensures reads { self.old.reads < self.new.reads }

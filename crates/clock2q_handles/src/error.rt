@@ -21,7 +21,7 @@ pub enum TableError {
     /// The entries, or the slots for them, are too many to count.
     #[error("size refused")]
     Size,
-    /// An entry would stand more than 2^24 - 2 slots past its home.
+    /// An entry would be more than 2^24 - 2 slots past its home.
     #[error("run too long")]
     RunTooLong,
 }

@@ -1,18 +1,9 @@
-//! Where lookups end that find nothing.
+//! Where lookups that find nothing end.
 use crate::metadata::Wanted;
 use std::marker::Model;
 
-/// The slot of a table where a lookup ended that found nothing, and where an entry of its hash
+/// The slot of a table where a lookup that found nothing ended, and where an entry of its hash
 /// would be inserted.
-///
-/// # Example
-///
-/// ```
-/// match table.search(hash, |number| keys[number] == key) {
-///     Ok((number, position)) => table.remove_at(position),
-///     Err(gap) => table.insert_at(gap, hash, keys.len())?,
-/// }
-/// ```
 #[derive(Drop)]
 pub struct Gap {
     slot: usize,

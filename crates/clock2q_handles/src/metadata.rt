@@ -1,4 +1,4 @@
-//! What a table keeps of an entry beside its handle: one word for each slot.
+//! What a table stores about an entry beside its handle: one word per slot.
 ghost use Rattle.clock2q_handles.specs.Homes.{top};
 ghost use Rattle.std.specs.Prelude.{◌≡◌, ◌+◌, ◌≤◌, ◌<◌, ◌↔◌, IsTrue, IsSome, None, Some};
 
@@ -6,14 +6,14 @@ ghost use Rattle.std.specs.Prelude.{◌≡◌, ◌+◌, ◌≤◌, ◌<◌, ◌�
 /// below it.
 const UNIT: u32 = 1 << 8;
 
-/// An empty slot's word. Any word below a unit would do; this one isn't made of equal bytes, so
-/// that the compiler fills it in by words and not byte by byte.
+/// An empty slot's word. Any word below a unit would do; the bytes of this one aren't all equal, so
+/// the compiler fills slots word by word and not byte by byte.
 const EMPTY: u32 = 1;
 
-/// The furthest that an entry may stand past its home.
+/// The furthest that an entry may be past its home.
 pub(super) const MAX_DISPLACEMENT: usize = (1 << 24) - 2;
 
-/// A slot's displacement and fingerprint, or that the slot is empty: a reach of 0.
+/// A slot's displacement and fingerprint. A reach of 0 means that the slot is empty.
 #[derive(Clone, Copy)]
 pub(crate) struct Metadata {
     word: u32,
@@ -28,28 +28,10 @@ impl Metadata {
         Metadata { word: EMPTY }
     }
 
-    /// Returns the metadata of an entry of `hash` that stands `displacement` slots past its home.
-    pub(super) fn new(hash: u64, displacement: usize) -> Metadata
-        requires { displacement ≤ MAX_DISPLACEMENT }
-        ensures { meaning result ≡ Some (displacement, top hash) }
-    {
-        Metadata {
-            word: (displacement as u32 + 1) * UNIT + (hash >> 56) as u32,
-        }
-    }
-
     pub(super) fn is_empty(self) -> bool
         ensures { IsTrue result ↔ (meaning self ≡ None) }
     {
         self.word < UNIT
-    }
-
-    /// Returns true if a walk that is `distance` slots past its home ends here: the slot is empty,
-    /// or its entry is nearer to its own home.
-    pub(super) fn ends_walk(self, distance: usize) -> bool
-        ensures { IsTrue result ↔ (mark_reach (meaning self) ≤ distance) }
-    {
-        (self.word / UNIT) as usize <= distance
     }
 
     /// Returns true if a walk that looks for `wanted` in this slot ends here.
@@ -59,7 +41,7 @@ impl Metadata {
         u64::from(self.word) < wanted.word / WANTED_UNIT * WANTED_UNIT
     }
 
-    /// Returns true if the slot's entry is of the kind that is looked for.
+    /// Returns true if the slot holds an entry that the walk looks for.
     pub(super) fn is(self, wanted: Wanted) -> bool
         requires { IsSome (sought wanted) }
         ensures { IsTrue result ↔ (meaning self ≡ sought wanted) }
@@ -74,7 +56,7 @@ impl Metadata {
         (self.word / UNIT) as usize <= MAX_DISPLACEMENT
     }
 
-    /// Returns true if there is an entry, and it isn't at its home.
+    /// Returns true if the slot holds an entry that isn't at its home.
     pub(super) fn can_move_back(self) -> bool
         ensures { IsTrue result ↔ (1 < mark_reach (meaning self)) }
     {
@@ -103,12 +85,12 @@ impl Metadata {
     }
 }
 
-/// The same unit in a word of 64 bits.
+/// The same unit in a 64-bit word.
 const WANTED_UNIT: u64 = 1 << 8;
 
-/// What a walk looks for in the slot that it has come to: an entry of its home, which stands so far
-/// past it, with the fingerprint of its hash; or nothing, where it has ended. The word is longer
-/// than a slot's, since a walk comes one slot further than an entry may stand.
+/// What a walk looks for in its current slot: an entry of its home, as far past it as the slot is,
+/// with the fingerprint of its hash; or nothing, once the walk has ended. The word is longer than a
+/// slot's, since a walk goes one slot further than an entry may be.
 #[derive(Clone, Copy)]
 pub(crate) struct Wanted {
     word: u64,
@@ -138,6 +120,13 @@ impl Wanted {
         self.word < WANTED_UNIT
     }
 
+    /// Returns true if an entry inserted where the walk is would be near enough to its home.
+    pub(super) fn is_near(self) -> bool
+        ensures { IsTrue result ↔ (mark_reach (sought self) ≤ MAX_DISPLACEMENT + 1) }
+    {
+        self.word / WANTED_UNIT <= MAX_DISPLACEMENT as u64 + 1
+    }
+
     /// Returns what the walk looks for in the next slot.
     pub(super) fn next(self) -> Wanted
         requires some { IsSome (sought self) }
@@ -149,7 +138,7 @@ impl Wanted {
         }
     }
 
-    /// Returns the metadata of an entry that is inserted where the walk ends.
+    /// Returns the metadata of an entry inserted where the walk ends.
     pub(super) fn metadata(self) -> Metadata
         requires { mark_reach (sought self) ≤ MAX_DISPLACEMENT + 1 }
         ensures { meaning result ≡ sought self }

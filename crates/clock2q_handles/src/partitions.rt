@@ -2,7 +2,7 @@
 ghost use Rattle.clock2q_handles.specs.Partition.{IsPartitionCount, IsGroupOf, SameMiddle};
 ghost use Rattle.std.specs.Prelude.{◌≡◌, ◌<◌, ℕ};
 
-/// Returns the group that `hash` falls in, below `partitions`, which is a power of two.
+/// Returns the group that `hash` falls into, below `partitions`, which is a power of two.
 ///
 /// The group comes from the bits just below the top byte. A table of fewer than 2^40 slots reads
 /// none of them, so keys that are split among tables by group stay spread over every home and
@@ -10,7 +10,7 @@ ghost use Rattle.std.specs.Prelude.{◌≡◌, ◌<◌, ℕ};
 ///
 /// # Cost
 ///
-/// The same few operations on numbers whatever the hash and the count.
+/// A few arithmetic operations, the same for every hash and count.
 ///
 /// # Example
 ///

@@ -1,4 +1,4 @@
-//! A multimap from hashes of 64 bits to handles that its caller owns.
+//! A multimap from 64-bit hashes to handles that its caller owns.
 ghost use Rattle.clock2q_handles.specs.Homes.{candidates, capacity, total};
 ghost use Rattle.clock2q_handles.specs.TableStep.{fit};
 ghost use Rattle.std.specs.Prelude.{◌≡◌, ◌≢◌, Err, ◌^◌, ◌<◌, ◌≤◌, ◌↔◌, [], IsTrue, IsOk, IsErrOf, IfOk, length};
@@ -18,8 +18,8 @@ use std::alloc::{Allocator, Global};
 use std::fmt;
 use std::marker::Model;
 
-/// A multimap from hashes of 64 bits to handles. The [crate](crate)'s page says what it keeps of
-/// them, and where.
+/// A multimap from 64-bit hashes to handles. The [crate](crate)'s page says what it stores of them,
+/// and where.
 ///
 /// # Example
 ///
@@ -76,7 +76,7 @@ impl<H: Copy + Eq + Default, A: Allocator + Copy> Table<H, A> {
     ///
     /// # Cost
     ///
-    /// Linear in `entries`: every slot is filled in.
+    /// Linear in `entries`: every slot is initialized.
     pub fn with_capacity(alloc: A, entries: usize) -> Result<Table<H, A>, TableError>
         ensures made { IfOk result (λ t. t ≡ table_value (made_for entries) (layout (made_for entries)) 0) }
         ensures size { IsErrOf result TableError.Size ↔ ((0 < entries) × (2 ^ 64 ≤ fit entries)) }
@@ -115,7 +115,8 @@ impl<H: Copy + Eq + Default, A: Allocator> Table<H, A> {
         self.len() == 0
     }
 
-    /// Returns how many entries the table holds before it grows: three quarters of its slots.
+    /// Returns the number of entries that the table holds before it grows: three quarters of its
+    /// slots.
     pub fn capacity(&self) -> usize
         ensures capacity { result ≡ capacity (length self.now.homes) }
     {
@@ -128,7 +129,7 @@ impl<H: Copy + Eq + Default, A: Allocator> Table<H, A> {
     ///
     /// # Cost
     ///
-    /// The iterator reads slots as it is advanced. Drained, it has read those from the home of
+    /// The iterator reads slots as it is advanced. Once drained, it has read those from the home of
     /// `hash` to the first that is empty or whose entry is nearer to its own home.
     pub fn get(&self, hash: u64) -> Candidates<'_, H>
         ensures candidates { result.left ≡ candidates self.now.homes hash }
@@ -139,7 +140,7 @@ impl<H: Copy + Eq + Default, A: Allocator> Table<H, A> {
         Candidates::new(&self.slots, hash)
     }
 
-    /// Hints that `hash` is looked up next. It changes nothing, and does nothing yet.
+    /// Hints that `hash` will be looked up next. It changes nothing, and does nothing yet.
     pub fn prefetch(&self, hash: u64) {
         let _ = hash;
     }

@@ -25,7 +25,7 @@ module _ {K : Type 0} where
   bits-cleared [] = refl
   bits-cleared (e ∷ es) = omega (arith, bits-cons (with_bit e false) (map (λ x. with_bit x false) es), bits-cleared es)
 
-  -- the hand passes set bits alone
+  -- the hand passes only set bits
   pub bits-passed : (es : List (MainEntry K)) → bits (take (set_front es) es) ≡ set_front es
   bits-passed [] = refl
   bits-passed (e ∷ es) =
@@ -34,7 +34,7 @@ module _ {K : Type 0} where
         | false ↦ λ _. refl
       ]) refl
 
-  -- and clears them, and no other
+  -- and clears them, and no others
   pub bits-from_victim : (es : List (MainEntry K)) → bits (from_victim es) + set_front es ≡ bits es
   bits-from_victim es =
       omega (
@@ -64,7 +64,7 @@ module _ {K : Type 0} where
   pub victim_clear : (es : List (MainEntry K)) (victim : MainEntry K) (others : List (MainEntry K)) → from_victim es ≡ victim ∷ others → victim.bit ≡ false
   victim_clear es victim others choice = first_behind es (map (λ e. with_bit e false) (take (set_front es) es)) (bits-cleared (take (set_front es) es)) victim others choice
 
-  -- a victim's leaving, and the entry that comes in behind the hand
+  -- the eviction of a victim, and the entry that is added behind the hand
   paid_victim : (es : List (MainEntry K)) (victim : MainEntry K) (others : List (MainEntry K))
       → from_victim es ≡ victim ∷ others → (key : K) (slot : ℕ) → inspections es + bits (behind_hand key slot others) ≡ 1 + bits es
   paid_victim es victim others choice key slot =
@@ -77,7 +77,7 @@ module _ {K : Type 0} where
         bits-from_victim es,
       )
 
-  -- where Main has no entry, one inspection is counted
+  -- if Main has no entry, one inspection is counted
   paid_none : (es : List (MainEntry K)) → from_victim es ≡ [] → inspections es + bits es ≡ 1 + bits es
   paid_none es choice = omega (arith, bits-from_victim es, ap (length {A = MainEntry K}) choice, length-from_victim es, count_by-le-length (λ (e : MainEntry K). e.bit) es)
 
@@ -151,7 +151,7 @@ module _ {K V : Type 0} where
       [ true ↦ paid_main key (forgotten is m) full | false ↦ paid_small key (forgotten is m) (vacancy m) (last_or None m.small) ]
 
   -- a hit on a key that is not resident sets no bit
-  no_settings : (is : K → Bool) (m : Machine K V) → slot_of is m ≡ None → settings_of_hit is m ≡ 0
+  pub no_settings : (is : K → Bool) (m : Machine K V) → slot_of is m ≡ None → settings_of_hit is m ≡ 0
   no_settings is m absent =
       let none = neither (slot_in_small is m.small) (slot_in_main is m.main) (sym (slot_among is m.small m.main) ∙ absent) in
       let in_main = count_by-not_found (λ e. is e.key) m.main (map_none (λ e. e.slot) (find (λ e. is e.key) m.main) none.1) in
@@ -161,7 +161,7 @@ module _ {K V : Type 0} where
         fewer true false = omega arith
         fewer false b = omega arith
 
-  -- a call that hits the key where it is resident, and else inserts it
+  -- a call that hits the key if it is resident, and otherwise inserts it
   paid_wanted : (is : K → Bool) (o : Option ℕ) (m hits inserts : Machine K V) → slot_of is m ≡ o → set_bits hits ≡ set_bits (hit is m)
       → (if takes_victim is m then inspections m.main else 0) + set_bits inserts ≡ (if takes_victim is m then 1 else 0) + set_bits m
       → (if is_some o then 0 else (if takes_victim is m then inspections m.main else 0)) + set_bits (if is_some o then hits else inserts)
@@ -178,7 +178,7 @@ module _ {K V : Type 0} where
       let p = placement is key m in
       elim (nat_lt p.slot (length m.values)) as (λ b. set_bits (if b then p.machine else stored p.slot fresh p.machine) ≡ set_bits p.machine) [ true ↦ refl | false ↦ refl ]
 
-  -- residents that leave otherwise take their bits with them
+  -- residents that are removed take their bits with them
   fewer_bits-vacated : (slots : List ℕ) (m : Machine K V) → set_bits (vacated_all slots m) ≤ set_bits m
   fewer_bits-vacated [] m = omega arith
   fewer_bits-vacated (slot ∷ slots) m = omega (arith, fewer_bits-vacated slots (vacated slot m), sum_by-filter-le (λ e. one_if e.bit) (λ (e : MainEntry K). not (e.slot == slot)) m.main)
@@ -192,7 +192,7 @@ module _ {K V : Type 0} where
         → (if takes_victim (eq key) m then inspections m.main else 0) + set_bits (inserted (eq key) key value m) ≡ (if takes_victim (eq key) m then 1 else 0) + set_bits m
     paid_insertion key value m = paid_placement (eq key) key m
 
-    -- each inspection is paid for, exactly where the call takes nothing out
+    -- each inspection is paid for, exactly if the call removes nothing
     pub paid : (call : Call K V) (m : Machine K V) → takes_out call ≡ false → IsPaid eq call m
     paid (Put key value) m stays =
         paid_wanted (eq key) (slot_of (eq key) m) m (replaced_at (eq key) value (slot_of (eq key) m) m) (inserted (eq key) key value m)

@@ -1,4 +1,4 @@
--- What a call does to residents other than its own key: where each stands, and with which value.
+-- What a call does to residents other than its own key: the slot and value of each.
 use Rattle.std.proofs.Common.{◌≡◌, ℕ, ◌+◌, ◌<◌, ◌≤◌, ◌==◌, ◌⊎◌, Bool, true, false, not, ◌&&◌, List, [], ◌∷◌, length, inl, inr, Option, Some, None, refl, sym, ap, ◌∙◌, arith, eq-eqb, ne_eqb}
 use Rattle.std.specs.Prelude.{if◌then◌else◌, nat_lt, slice_get}
 use Rattle.std.specs.Cmp.{IsEquivalence}
@@ -15,7 +15,7 @@ use Rattle.clock2q_machine.proofs.MachineInvariant.{placed-key, resident_made}
 use Rattle.clock2q_machine.proofs.Standing.{count_at, count_at-le, weights-both-le, none_counted, found_counted, found_at, absent_if, resident_once, counted_as, stored_elsewhere}
 
 module _ {K V : Type 0} where
-  -- where the residents of a machine stand: each as before, or fewer
+  -- the residents of a machine and their slots: as before, or fewer
   pub weight-hit : (w : K → ℕ → ℕ) (is : K → Bool) (m : Machine K V) → weight w (hit is m) ≡ weight w m
   weight-hit w is m = omega (arith, weight-small_hit (λ e. w e.key e.slot) (λ e age. refl) is m.small, weight-main_hit (λ e. w e.key e.slot) (λ e bit. refl) is m.main)
 
@@ -37,7 +37,7 @@ module _ {K V : Type 0} where
   weight-removed w is None m = omega arith
   weight-removed w is (Some slot) m = weight-vacated w (slot ∷ []) m
 
-  -- other values of residents that leave are no one's
+  -- removing residents changes no values
   pub values-vacated : (slots : List ℕ) (m : Machine K V) → (vacated_all slots m).values ≡ m.values
   values-vacated [] m = refl
   values-vacated (slot ∷ slots) m = values-vacated slots (vacated slot m)
@@ -46,7 +46,7 @@ module _ {K V : Type 0} where
   values-removed is None m = refl
   values-removed is (Some slot) m = refl
 
-  -- where there is room, no one leaves for a key
+  -- if there is room, no resident leaves for a key
   joined_main : (w : K → ℕ → ℕ) (key : K) (m : Machine K V) (full : Bool) (v : Option ℕ) (slot : ℕ) → full ≡ false → v ≡ Some slot
       → weight w m ≤ weight w (if full then replacing_victim key (from_victim m.main) m else joining_main key v m).machine
   joined_main w key m true v slot room is = cc
@@ -80,7 +80,7 @@ module _ {K : Type 0} (eq : K → K → Bool) (laws : IsEquivalence eq) where
         both clash = cc
 
 module _ {K V : Type 0} (eq : K → K → Bool) where
-  -- a resident of the one machine is one of the other, at the same slot
+  -- a resident of one machine is one of the other, at the same slot
   pub narrow : (n m : Machine K V) → IsWhole eq m → (k : K) → ((t : ℕ) → count_at (eq k) t n ≤ count_at (eq k) t m) → (t : ℕ) → slot_of (eq k) n ≡ Some t → slot_of (eq k) m ≡ Some t
   narrow n m h k less t found = found_at (eq k) m (resident_once eq m h k) t (omega (arith, found_counted (eq k) n t found, less t))
 
@@ -104,7 +104,7 @@ module _ {K V : Type 0} (eq : K → K → Bool) where
         inr (found ∙ sym was, ap (option_and_then (slice_get n.values)) found ∙ kept t found was ∙ sym (ap (option_and_then (slice_get m.values)) was))
 
   module _ (laws : IsEquivalence eq) where
-    -- nor are two keys found there
+    -- nor are two keys found at one slot
     pub slots_apart : (m : Machine K V) → IsWhole eq m → (k key : K) → eq k key ≡ false → (s t : ℕ) → slot_of (eq key) m ≡ Some s → slot_of (eq k) m ≡ Some t → t ≡ s → ⊥
     slots_apart m h k key other s t found also same =
         let there = found_counted (eq key) m s found in
@@ -115,7 +115,7 @@ module _ {K V : Type 0} (eq : K → K → Bool) where
           at_most true = omega arith
           at_most false = omega arith
 
-    -- a key that is resident is none of those that are not
+    -- a resident key differs from every key that isn't resident
     pub differs : (m : Machine K V) (k key : K) (s : ℕ) → slot_of (eq key) m ≡ None → slot_of (eq k) m ≡ Some s → eq k key ≡ false
     differs m k key s absent found =
         (elim (eq k key) as (λ b. eq k key ≡ b → b ≡ false) [
@@ -145,7 +145,7 @@ module _ {K V : Type 0} (eq : K → K → Bool) where
           [ true ↦ ap (λ vs. slice_get vs t) values | false ↦ stored_elsewhere p.machine at value t differ within ∙ ap (λ vs. slice_get vs t) values ]
 
       module _ (whole : IsWhole eq entered) where
-        -- is resident at its slot
+        -- it is resident at its slot
         pub entered_there : slot_of (eq key) entered ≡ Some at
         entered_there =
             let comes = (placed-key eq laws key m h absent).comes.1 (λ k s. one_if (eq key k && s == at)) in
@@ -153,7 +153,7 @@ module _ {K V : Type 0} (eq : K → K → Bool) where
             found_at (eq key) entered (resident_once eq entered whole key) at
             (omega (arith, comes.0, comes.1, own, none_counted (eq key) m absent, count_at-le (eq key) at m, weight-entered (λ k s. one_if (eq key k && s == at))))
 
-        -- and who else is resident was it, at the same slot
+        -- and every other resident was one before, at the same slot
         pub entered_narrow : (k : K) → eq k key ≡ false → (t : ℕ) → slot_of (eq k) entered ≡ Some t → slot_of (eq k) m ≡ Some t
         entered_narrow k other = narrow entered m h k (λ t.
             let comes = (placed-key eq laws key m h absent).comes.1 (λ x s. one_if (eq k x && s == t)) in

@@ -38,7 +38,7 @@ module _ {K V : Type 0} (eq : K → K → Bool) where
           let placed = placed-key eq laws key m h absent in
           elim placed.slots [ inl keeps ↦ omega (arith, keeps.made, ap (length {A = V}) placed.values) | inr makes ↦ omega (arith, makes.next, ap (length {A = V}) placed.values) ]
 
-      -- and so does the slot that it took
+      -- and the slot that it took has that value
       pub inserted_value : (value : V) → let p = placement (eq key) key m in slice_get (inserted (eq key) key value m).values p.slot ≡ Some value
       inserted_value value = stored_there (placement (eq key) key m).machine (placement (eq key) key m).slot value slot_at_most
 
@@ -65,7 +65,7 @@ module _ {K V : Type 0} (eq : K → K → Bool) where
     had : (key : K) (slot : ℕ) → slot_of (eq key) m ≡ Some slot → (value : V) × (value_of (eq key) m ≡ Some value)
     had key slot found = let v = get-within m.values slot (resident_made eq laws (eq key) m h slot found) in (v.0, value_found m key slot found ∙ v.1)
 
-    -- the value that it had, else the one that the call brings
+    -- the value that it had, otherwise the one that the call brings
     pub fetched_there : (key : K) (value : V) → value_of (eq key) (fetched (eq key) key value m) ≡ Some (fetched_value (value_of (eq key) m) value)
     fetched_there key value = by_slot (slot_of (eq key) m) refl where
       by_slot : (o : Option ℕ) → slot_of (eq key) m ≡ o → value_of (eq key) (if is_some o then hit (eq key) m else inserted (eq key) key value m) ≡ Some (fetched_value (value_of (eq key) m) value)
@@ -81,7 +81,7 @@ module _ {K V : Type 0} (eq : K → K → Bool) where
       by_slot None absent = entered_there eq laws m h key absent fresh (nat_lt (placement (eq key) key m).slot (length m.values)) (lasting-reused eq laws key m h absent fresh)
       by_slot (Some slot) found = hit_there key slot found
 
-    -- with the value that the slot has, and a new one with the fresh value
+    -- with the value that the slot has, or the fresh value for a new slot
     pub reused_value : (key : K) (absent : slot_of (eq key) m ≡ None) (fresh : V) → let slot = (placement (eq key) key m).slot in
         slice_get (reused (eq key) key fresh m).values slot ≡ Some (fetched_value (slice_get m.values slot) fresh)
     reused_value key absent fresh =
@@ -208,7 +208,7 @@ module _ {K V : Type 0} (eq : K → K → Bool) where
     slot_stays IsEmpty k s t had_slot found = stays k s t m had_slot found (inr (refl, refl))
     slot_stays Capacity k s t had_slot found = stays k s t m had_slot found (inr (refl, refl))
 
-    -- Only a full cache or a full Main loses a resident to a call that takes none out.
+    -- Only a full cache or a full Main loses a resident to a call that removes none.
 
     has_vacancy : resident_count m < m.shares.capacity → (slot : ℕ) × (vacancy m ≡ Some slot)
     has_vacancy room = by_vacancy (vacancy m) refl where
@@ -259,7 +259,7 @@ module _ {K V : Type 0} (eq : K → K → Bool) where
         let v = has_vacancy not_full in
         narrow eq m (after eq call m) (lasting-after eq laws call m h) k (λ t. weight_kept v.0 v.1 room call keeps (λ x at. one_if (eq k x && at == t))) s found
 
-    -- `get_at` hits exactly where the key is at that slot, and else changes nothing.
+    -- `get_at` hits exactly if the key is at that slot, and otherwise changes nothing.
 
     pub get_at_hits : (slot : ℕ) (key : K) → IsSome (value_at slot (eq key) m) ↔ (slot_of (eq key) m ≡ Some slot)
     get_at_hits slot key = (by_slot (slot_of (eq key) m), there) where

@@ -1,4 +1,4 @@
--- What holds of every machine goes on to hold after every call, so it holds of all that runs from an empty machine reach.
+-- The invariant of machines holds after every call, so it holds for every machine that a run from an empty one reaches.
 use Rattle.std.proofs.Common.{◌≡◌, ℕ, zero, suc, ◌+◌, ◌-◌, ◌<◌, ◌≤◌, ◌==◌, Bool, true, false, not, ◌||◌, ◌&&◌, cond, List, [], ◌∷◌, ◌++◌, map, length, inl, inr, Option, Some, None, refl, sym, ap, ◌∙◌, subst, arith, eq-eqb, ne_eqb, eqb-true, length-append}
 use Rattle.std.specs.Prelude.{⊤, if◌then◌else◌, nat_lt, nat_le, is_some, slice_set}
 use Rattle.std.specs.Cmp.{IsEquivalence}
@@ -40,7 +40,7 @@ count-range slot a (suc n) =
     ]
 
 module _ {X : Type 0} where
-  -- what is taken out and what stays
+  -- what is removed and what stays
   length-without : (p : X → Bool) (xs : List X) → length (filter (λ x. not (p x)) xs) + count_by p xs ≡ length xs
   length-without p [] = refl
   length-without p (x ∷ xs) =
@@ -49,7 +49,7 @@ module _ {X : Type 0} where
         | false ↦ λ e. omega (arith, sum_by-cons (λ y. one_if (p y)) x xs, ap one_if e, length-without p xs)
       ]) refl
 
-  -- those that stay are counted as before, where none that is taken out was
+  -- those that stay are counted as before, if none that is removed was counted
   count-without : (p q : X → Bool) → ((x : X) → p x ≡ true → q x ≡ false) → (xs : List X) → count_by q (filter (λ x. not (p x)) xs) ≡ count_by q xs
   count-without p q apart [] = refl
   count-without p q apart (x ∷ xs) =
@@ -73,7 +73,7 @@ length-supplied (suc n) (v ∷ []) = omega (arith, length-supplied n (v ∷ []))
 length-supplied (suc n) (v ∷ w ∷ values) = omega (arith, length-supplied n (w ∷ values))
 
 module _ {K V : Type 0} where
-  -- how often a slot is a resident's
+  -- the number of residents at a slot
   abbrev pub held : ℕ → Machine K V → ℕ
   held slot m = count_by (λ e. e.slot == slot) m.small + count_by (λ e. e.slot == slot) m.main
 

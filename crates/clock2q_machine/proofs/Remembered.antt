@@ -1,4 +1,4 @@
--- Who enters the history: the key of Small's tail alone, as it goes out.
+-- Which key enters the history: only that of Small's tail, when it is evicted.
 use Rattle.std.proofs.Common.{◌≡◌, ℕ, ◌+◌, ◌<◌, ◌≤◌, ◌==◌, Bool, true, false, not, List, [], ◌∷◌, map, length, Option, Some, None, refl, ap, arith}
 use Rattle.std.specs.Prelude.{if◌then◌else◌, is_some, nat_lt}
 use Rattle.std.specs.Cmp.{IsEquivalence}
@@ -106,7 +106,7 @@ module _ {K V : Type 0} where
     remembered Capacity = omega arith
 
   module _ (eq : K → K → Bool) (laws : IsEquivalence eq) (m : Machine K V) (h : IsWhole eq m) where
-    -- a key that a call makes the history remember was Small's tail, and is resident no more
+    -- a key that a call adds to the history was Small's tail, and is no longer resident
     pub only_tail_remembered : (call : Call K V) (k : K) → count_by (eq k) m.history ≡ 0 → 0 < count_by (eq k) (after eq call m).history
         → ((tail : SmallEntry K) × ((last_or None m.small ≡ Some tail) × (eq k tail.key ≡ true))) × (slot_of (eq k) (after eq call m) ≡ None)
     only_tail_remembered call k new some = (by_tail (last_or None m.small) refl, gone) where

@@ -33,7 +33,7 @@ module _ {K : Type 0} (is : K → Bool) where
       ≡ option_or (option_map (λ x. x.slot) (cond b (Some e) (find (λ x. is x.key) small))) (slot_in_main main))
       [ true ↦ refl | false ↦ slot_among small main ]
 
-  -- a slot that is found is an entry's, of which this holds
+  -- a slot that is found is that of an entry, for which this holds
   found_in_main : (P : ℕ → Type 0) (main : List (MainEntry K)) → AllByRecursion (λ e. P e.slot) main → IfSome (slot_in_main main) P
   found_in_main P [] all = tt
   found_in_main P (e ∷ main) all =

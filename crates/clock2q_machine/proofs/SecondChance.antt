@@ -20,7 +20,7 @@ use Rattle.clock2q_machine.proofs.Entering.{weight-hit, weight-replaced}
 use Rattle.clock2q_machine.proofs.Laws.{slot_stays}
 
 module _ {K : Type 0} (is : K → Bool) where
-  -- how many entries of Main pass the test, and how many of those have their bit set
+  -- the number of entries of Main that pass the test, and of those whose bit is set
   abbrev passing : List (MainEntry K) → ℕ
   passing es = count_by (λ e. is e.key) es
 
@@ -42,7 +42,7 @@ module _ {K : Type 0} (is : K → Bool) where
   split_first : (x v : MainEntry K) (xs vs : List (MainEntry K)) → x ∷ xs ≡ v ∷ vs → (x ≡ v) × (xs ≡ vs)
   split_first x v xs vs e = (cc, cc)
 
-  -- where some bit of Main is clear, an entry whose bit is set is not the victim
+  -- if some bit of Main is clear, an entry whose bit is set isn't the victim
   spared : (es : List (MainEntry K)) → bits es < length es → (victim : MainEntry K) (others : List (MainEntry K)) → from_victim es ≡ victim ∷ others → hit_passing es ≤ passing others
   spared es clear victim others choice = from (drop (set_front es) es) refl where
     cleared : List (MainEntry K)
@@ -151,7 +151,7 @@ module _ {K V : Type 0} where
       spared_after IsEmpty keeps = hit_fewer_all
       spared_after Capacity keeps = hit_fewer_all
 
-    -- where a bit of Main is clear, no key of Main whose bit is set leaves by a call that takes none out
+    -- if a bit of Main is clear, no key of Main whose bit is set leaves by a call that removes none
     pub second_chance : (call : Call K V) (k : K) → takes_out call ≡ false → set_bits m < length m.main → 0 < hit_passing (eq k) m.main → slot_of (eq k) (after eq call m) ≡ slot_of (eq k) m
     second_chance call k keeps clear some = by_slots (slot_of (eq k) m) refl (slot_of (eq k) (after eq call m)) refl where
       by_slots : (o : Option ℕ) → slot_of (eq k) m ≡ o → (p : Option ℕ) → slot_of (eq k) (after eq call m) ≡ p → p ≡ o

@@ -1,4 +1,4 @@
--- At which slot a key stands, by counting: where no key is resident twice, a key's slot is found where a resident has both.
+-- The slot of a key, by counting: if no key is resident twice, a slot is found for a key if a resident has both.
 use Rattle.std.proofs.Common.{◌≡◌, ℕ, zero, suc, ◌+◌, ◌<◌, ◌≤◌, ◌==◌, Bool, true, false, ◌&&◌, cond, List, [], ◌∷◌, ◌++◌, length, inl, inr, Option, Some, None, refl, sym, ap, ◌∙◌, arith, eq-eqb, eqb-true, ne_eqb}
 use Rattle.std.specs.Prelude.{slice_get, slice_set}
 use Rattle.std.specs.Cmp.{IsEquivalence}
@@ -13,7 +13,7 @@ use Rattle.clock2q_machine.proofs.Weights.{sum_by-same, count_by-not_found}
 use Rattle.clock2q_machine.proofs.Residents.{slot_in_small, slot_in_main, slot_among, neither}
 use Rattle.clock2q_machine.proofs.Whole.{one_if, some_is, map_none, weight}
 
--- two weights that are together at most a third
+-- two weights that add up to at most a third one
 sum_by-both-le : {X : Type 0} (f g h : X → ℕ) → ((x : X) → f x + g x ≤ h x) → (xs : List X) → sum_by f xs + sum_by g xs ≤ sum_by h xs
 sum_by-both-le f g h both [] = omega arith
 sum_by-both-le f g h both (x ∷ xs) = omega (arith, both x, sum_by-cons f x xs, sum_by-cons g x xs, sum_by-cons h x xs, sum_by-both-le f g h both xs)
@@ -56,7 +56,7 @@ module _ {K : Type 0} where
       ]) refl e
 
 module _ {K V : Type 0} where
-  -- how many residents pass the test, and how many of them stand at a slot
+  -- the number of residents that pass the test, and of those at a slot
   abbrev pub key_count : (K → Bool) → Machine K V → ℕ
   key_count is m = weight (λ k s. one_if (is k)) m
 
@@ -71,7 +71,7 @@ module _ {K V : Type 0} where
         sum_by-le-sum_by (λ (e : MainEntry K). one_if (is e.key && e.slot == slot)) (λ e. one_if (is e.key)) m.main (λ e. fewer (is e.key) (e.slot == slot)),
       )
 
-  -- weights that are together at most a third, over all residents
+  -- two weights that add up to at most a third one, over all residents
   pub weights-both-le : (f g h : K → ℕ → ℕ) → ((k : K) (s : ℕ) → f k s + g k s ≤ h k s) → (m : Machine K V) → weight f m + weight g m ≤ weight h m
   weights-both-le f g h both m =
       omega (
@@ -80,7 +80,7 @@ module _ {K V : Type 0} where
         sum_by-both-le (λ (e : MainEntry K). f e.key e.slot) (λ e. g e.key e.slot) (λ e. h e.key e.slot) (λ e. both e.key e.slot) m.main,
       )
 
-  -- no resident passes the test where none is found, and none is found where no resident does
+  -- no resident passes the test if none is found, and none is found if no resident does
   pub none_counted : (is : K → Bool) (m : Machine K V) → slot_of is m ≡ None → key_count is m ≡ 0
   none_counted is m absent =
       let none = neither (slot_in_small is m.small) (slot_in_main is m.main) (sym (slot_among is m.small m.main) ∙ absent) in
@@ -97,7 +97,7 @@ module _ {K V : Type 0} where
     by_queue None small main = omega (arith, in_queue (λ (e : MainEntry K). e.key) (λ e. e.slot) is slot m.main main)
     by_queue (Some s) small main = omega (arith, in_queue (λ (e : SmallEntry K). e.key) (λ e. e.slot) is slot m.small (small ∙ main))
 
-  -- where it is counted at a slot it is found there
+  -- if it is counted at a slot, it is found there
   pub found_at : (is : K → Bool) (m : Machine K V) → key_count is m ≤ 1 → (slot : ℕ) → 0 < count_at is slot m → slot_of is m ≡ Some slot
   found_at is m once slot some = by_slot (slot_of is m) refl where
     by_slot : (o : Option ℕ) → slot_of is m ≡ o → o ≡ Some slot
@@ -133,7 +133,7 @@ module _ {K V : Type 0} where
           sum_by-same (λ e. one_if (eq other e.key)) (λ e. one_if (eq key e.key)) (λ e. same e.key) m.main,
         )
 
--- a value that is stored at a slot is there, and the others are where they were
+-- a value that is stored at a slot is there, and the other slots keep theirs
 module _ {V : Type 0} where
   get-set_same : (values : List V) (slot : ℕ) (value : V) → slot < length values → slice_get (slice_set values slot value) slot ≡ Some value
   get-set_same [] slot value made = absurd (omega arith)

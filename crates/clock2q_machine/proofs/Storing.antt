@@ -31,6 +31,6 @@ stored_again m slot v w within =
           rw (le-ltb slot (length m.values) next, now) (ap (λ vs. record m { values = vs }) (ap (λ s. slice_set (m.values ++ v ∷ []) s w) end ∙ set-append_seam m.values v [] w))
     ]
 
--- the value that a slot has changes nothing where it is stored again
+-- storing the value that a slot has changes nothing
 pub stored_same : {K V : Type 0} (m : Machine K V) (slot : ℕ) (v : V) → slice_get m.values slot ≡ Some v → stored slot v m ≡ m
 stored_same m slot v there = rw (lt-ltb slot (length m.values) (slice_get_within m.values slot v there)) (ap (λ vs. record m { values = vs }) (set_same m.values slot v there))

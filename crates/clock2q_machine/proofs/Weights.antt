@@ -12,7 +12,7 @@ sum_by-kept : {X : Type 0} (g : X → ℕ) (f : X → X) → ((x : X) → g (f x
 sum_by-kept g f keeps [] = refl
 sum_by-kept g f keeps (x ∷ xs) = omega (arith, sum_by-cons g (f x) (map f xs), sum_by-cons g x xs, keeps x, sum_by-kept g f keeps xs)
 
--- a weight that is as much for each element
+-- two weights that are equal for each element
 pub sum_by-same : {X : Type 0} (f g : X → ℕ) → ((x : X) → f x ≡ g x) → (xs : List X) → sum_by f xs ≡ sum_by g xs
 sum_by-same f g same [] = refl
 sum_by-same f g same (x ∷ xs) = omega (arith, sum_by-cons f x xs, sum_by-cons g x xs, same x, sum_by-same f g same xs)
@@ -25,7 +25,7 @@ sum_by-filter-le g p (x ∷ xs) =
     [ true ↦ omega (arith, sum_by-cons g x (filter p xs), sum_by-cons g x xs, sum_by-filter-le g p xs) | false ↦ omega (arith, sum_by-cons g x xs, sum_by-filter-le g p xs) ]
 
 module _ {X : Type 0} (p : X → Bool) where
-  -- none is left of those that are taken out
+  -- none of the removed elements is left
   pub count_by-filtered : (xs : List X) → count_by p (filter (λ x. not (p x)) xs) ≡ 0
   count_by-filtered [] = refl
   count_by-filtered (x ∷ xs) =
@@ -33,7 +33,7 @@ module _ {X : Type 0} (p : X → Bool) where
       (elim (p x) as (λ b. p x ≡ b → count_by p (cond (not b) (x ∷ filter (λ y. not (p y)) xs) (filter (λ y. not (p y)) xs)) ≡ 0)
       [ true ↦ λ _. rest | false ↦ λ no. omega (arith, sum_by-cons (λ y. cond (p y) 1 0) x (filter (λ y. not (p y)) xs), ap {B = ℕ} (λ b. cond b 1 0) no, rest) ]) refl
 
-  -- none is found where none passes
+  -- if none is found, none passes
   pub count_by-not_found : (xs : List X) → find p xs ≡ None → count_by p xs ≡ 0
   count_by-not_found [] none = refl
   count_by-not_found (x ∷ xs) none =

@@ -1,4 +1,4 @@
--- What holds of every machine goes on to hold after a hit, after a key's history is erased, and after an insertion.
+-- The invariant of machines holds after a hit, after a key's history is erased, and after an insertion.
 use Rattle.std.proofs.Common.{◌≡◌, ℕ, zero, suc, ◌+◌, ◌-◌, ◌<◌, ◌≤◌, ◌==◌, ◌⊎◌, Bool, true, false, not, ◌||◌, ◌&&◌, cond, List, [], ◌∷◌, length, take, drop, inl, inr, Option, Some, None, refl, sym, ap, ◌∙◌, subst, arith, eq-eqb, ne_eqb, eqb-true, length-append}
 use Rattle.std.specs.Prelude.{if◌then◌else◌, nat_lt, nat_le, is_some}
 use Rattle.std.specs.Cmp.{IsEquivalence}
@@ -24,7 +24,7 @@ last_some (t ∷ ss) s = last_some ss t
 abbrev pub one_if : Bool → ℕ
 one_if b = cond b 1 0
 
--- a slot that stands somewhere was made
+-- a slot that is in a list was made
 once_made : (slot made n : ℕ) → n ≡ (if nat_lt slot made then 1 else 0) → 0 < n → slot < made
 once_made slot made n once some = elim (cases_lt slot made) [ inl below ↦ below | inr above ↦ absurd (omega (arith, once, ap one_if (le-ltb slot made above), some)) ]
 
@@ -32,7 +32,7 @@ at_most_one : (b : Bool) (n : ℕ) → 0 < n → n ≤ one_if b → suc 0 ≡ on
 at_most_one true n some within = refl
 at_most_one false n some within = absurd (omega arith)
 
--- one slot more is made, and stands once
+-- one more slot is made, and is in one list
 once_more : (slot made n : ℕ) → n ≡ (if nat_lt slot made then 1 else 0) → n + cond (made == slot) 1 0 ≡ (if nat_lt slot (suc made) then 1 else 0)
 once_more slot made n once =
     elim (cases_lt slot made) [
@@ -59,7 +59,7 @@ no_vacancy [] made capacity none =
       | inr above ↦ (refl, above)
     ]
 
--- where a key goes to Small, Small has a share, and room where there is a vacancy
+-- if a key goes to Small, Small has a share, and room if there is a vacancy
 pub small_share : (share : ℕ) (b : Bool) → (false || (share == 0) || b) ≡ false → 0 < share
 small_share zero b e = cc
 small_share (suc n) b e = omega arith
@@ -75,33 +75,33 @@ small_room share len vacant slot is e =
 below_of : (a b : ℕ) → a ≤ b → (a == b) ≡ false → a < b
 below_of a b within other = elim (cases_lt a b) [ inl below ↦ below | inr above ↦ absurd (both_ways (a == b) other (eq-eqb a b (omega (arith, within, above)))) ]
 
-empty_small : {K : Type 0} (small : List (SmallEntry K)) → last_or None small ≡ None → length small ≡ 0
+pub empty_small : {K : Type 0} (small : List (SmallEntry K)) → last_or None small ≡ None → length small ≡ 0
 empty_small [] last = refl
 empty_small (e ∷ es) last = let x = last_some es e in absurd (none_is x.0 (sym last ∙ x.1))
 
-tail_some : {K : Type 0} (small : List (SmallEntry K)) (tail : SmallEntry K) → last_or None small ≡ Some tail → 0 < length small
+pub tail_some : {K : Type 0} (small : List (SmallEntry K)) (tail : SmallEntry K) → last_or None small ≡ Some tail → 0 < length small
 tail_some [] tail last = absurd (none_is tail last)
 tail_some (e ∷ es) tail last = omega arith
 
--- what a key weighs at a slot, if there is one
+-- the weight of a key at a slot, if there is one
 abbrev pub weight_at : {K : Type 0} → (K → ℕ → ℕ) → Option K → ℕ → ℕ
 weight_at w None slot = 0
 weight_at w (Some key) slot = w key slot
 
 module _ {K V : Type 0} where
-  -- how many slots stand in the lists
+  -- the number of slots in the lists
   abbrev pub standing_count : Machine K V → ℕ
   standing_count m = length m.small + length m.main + length m.free
 
-  -- what the residents weigh together, each by its key and its slot
+  -- the sum of the weights of the residents, each by its key and its slot
   abbrev pub weight : (K → ℕ → ℕ) → Machine K V → ℕ
   weight w m = sum_by (λ e. w e.key e.slot) m.small + sum_by (λ e. w e.key e.slot) m.main
 
-  -- a key came in: in the stead of a resident at its slot, or of none, and the others stayed at theirs
+  -- a key entered, in place of a resident at its slot or of none, and the others stayed at theirs
   abbrev pub ComesIn : K → Machine K V → Placement K V → Type 0
   ComesIn key m p = (other : Option K) × ((w : K → ℕ → ℕ) → (weight_at w other p.slot ≤ weight w m) × (weight w p.machine + weight_at w other p.slot ≡ weight w m + w key p.slot))
 
-  -- a key took a slot that was made before, from where it stood
+  -- a key took a slot that was made before, from the list it was in
   pub record KeepsSlots (m : Machine K V) (p : Placement K V) : Type 0 where
     pub made : p.slot < length m.values
     pub standing : (slot : ℕ) → standings slot p.machine ≡ standings slot m
@@ -114,7 +114,8 @@ module _ {K V : Type 0} where
     pub standing : (slot : ℕ) → standings slot p.machine ≡ standings slot m + cond (length m.values == slot) 1 0
     pub counted : standing_count p.machine ≡ standing_count m + 1
 
-  -- a key at its slot: no list passes its share, no other key is known for it, and the slot is one that was made, or the next one
+  -- a key at its slot: no list exceeds its share, no other key becomes known, and the slot is one that was made, or the
+  -- next one
   pub record IsPlaced (key : K) (m : Machine K V) (p : Placement K V) : Type 0 where
     pub shares : p.machine.shares ≡ m.shares
     pub values : p.machine.values ≡ m.values
@@ -250,13 +251,13 @@ module _ {K V : Type 0} where
           })
         ]
 
-    -- where there is no vacancy, every slot is a resident's
+    -- if there is no vacancy, every slot is a resident's
     pub all_resident : vacancy m ≡ None → m.shares.capacity ≤ length m.small + length m.main
     all_resident none =
         let full = no_vacancy m.free (length m.values) m.shares.capacity none in
         omega (arith, h.slots_counted, full.0, full.1)
 
-    -- Main with another entry in its victim's stead
+    -- Main with another entry in place of its victim
     module _ (victim : MainEntry K) (others : List (MainEntry K)) (choice : from_victim m.main ≡ victim ∷ others) where
       behind_length : (key : K) (slot : ℕ) → length (behind_hand key slot others) ≡ length m.main
       behind_length key slot = omega (arith, length-append others (record { key = key; slot = slot; bit = false } ∷ []), ap length choice, length-from_victim m.main)
@@ -333,7 +334,7 @@ module _ {K V : Type 0} where
         abbrev front : List (SmallEntry K)
         front = take (length m.small - 1) m.small
 
-        -- a key that is admitted in the tail's stead
+        -- a key that is admitted in place of the tail
         front_length : (slot : ℕ) → length (small_admitted m.shares.window key slot front) ≡ length m.small
         front_length slot = omega (arith, length-admitted m.shares.window key slot front, (weight-last (λ e. 0) None m.small tail some last).1)
 
@@ -373,7 +374,7 @@ module _ {K V : Type 0} where
           );
         }
 
-        -- into Small, in place of Main's victim, while Small's tail goes on to Main
+        -- into Small, in place of Main's victim, while Small's tail is promoted to Main
         pub placed-promoting : (victim : MainEntry K) (others : List (MainEntry K)) → from_victim m.main ≡ victim ∷ others → IsPlaced key m (promoting_tail key tail (victim ∷ others) m)
         placed-promoting victim others choice =
             let moved : MainEntry K = record { key = tail.key; slot = tail.slot; bit = false } in
@@ -450,7 +451,7 @@ pub map_none : {X Y : Type 0} (f : X → Y) (o : Option X) → option_map f o �
 map_none f None none = refl
 map_none f (Some x) none = cc
 
--- a key that is not resident is known no more once its history is erased
+-- a key that isn't resident is no longer known once its history is erased
 pub unknown_once_forgotten : {K V : Type 0} (is : K → Bool) (m : Machine K V) → slot_of is m ≡ None → known_count is (forgotten is m) ≡ 0
 unknown_once_forgotten is m absent =
     let none = neither (slot_in_small is m.small) (slot_in_main is m.main) (sym (slot_among is m.small m.main) ∙ absent) in

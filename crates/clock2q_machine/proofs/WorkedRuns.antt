@@ -7,11 +7,11 @@ use Rattle.clock2q_machine.specs.Machine.{Machine, empty}
 use Rattle.clock2q_machine.specs.Calls.{Call, Answer, Put, Get, Peek, Contains, GetAt, Set, With, Try, SlotFor, Remove, Retain, Len, IsEmpty, Capacity, Value, Stored, Tried, Slot, Flag, Number, Done}
 use Rattle.clock2q_machine.specs.Steps.{answers, after_all}
 
--- a run on a new cache of the usual shares
+-- a run on a new cache with the usual shares
 abbrev pub replies : ℕ → List (Call ℕ ℕ) → List (Answer ℕ)
 replies capacity calls = answers eqb calls (empty (usual_shares capacity))
 
--- each number put under itself
+-- each number put as the value of itself
 abbrev pub puts : ℕ → ℕ → List (Call ℕ ℕ)
 puts from n = map (λ k. Put k k) (range_with_len from n)
 
@@ -23,11 +23,11 @@ gets from n = map (λ k. Get k) (range_with_len from n)
 abbrev pub state : ℕ → List (Call ℕ ℕ) → Machine ℕ ℕ
 state capacity calls = after_all eqb calls (empty (usual_shares capacity))
 
--- a run on one that is full of the numbers from one on
+-- a run on a cache that is full of the numbers from one on
 abbrev pub replies_when_full : ℕ → List (Call ℕ ℕ) → List (Answer ℕ)
 replies_when_full capacity calls = answers eqb calls (state capacity (puts 1 capacity))
 
--- a cache whose shares are chosen
+-- a new cache with chosen shares
 abbrev pub chosen : ℕ → ℕ → ℕ → Machine ℕ ℕ
 chosen capacity small window = empty (record { capacity = capacity; small = small; window = window })
 
@@ -65,7 +65,7 @@ one_slot_peeked : replies 1 (Put 1 10 ∷ Get 1 ∷ Put 2 20 ∷ Peek 1 ∷ Get 
     ≡ Value None ∷ Value (Some 10) ∷ Value None ∷ Value None ∷ Value (Some 20) ∷ Number 1 ∷ []
 one_slot_peeked = refl
 
--- A hit on Small's old tail saves it, and Main's victim goes in its stead.
+-- A hit on Small's old tail saves it, and Main's victim is evicted instead.
 
 promotion_keeps_the_slot : replies_when_full 20 (Get 1 ∷ Put 21 21 ∷ GetAt 2 21 ∷ GetAt 0 1 ∷ Contains 3 ∷ [])
     ≡ Value (Some 1) ∷ Value None ∷ Value (Some 21) ∷ Value (Some 1) ∷ Flag false ∷ []
@@ -88,7 +88,7 @@ a_failed_fetch_is_a_hit = refl
 a_stale_hint_is_no_hit : replies_when_full 20 (GetAt 5 1 ∷ Put 21 21 ∷ Contains 1 ∷ Contains 3 ∷ []) ≡ Value None ∷ Value None ∷ Flag false ∷ Flag true ∷ []
 a_stale_hint_is_no_hit = refl
 
--- whether keys 1 and 3 are resident once key 21 came to a full cache after a call
+-- whether keys 1 and 3 are resident after a call on a full cache and the insertion of key 21
 abbrev first_and_third : Call ℕ ℕ → List (Answer ℕ)
 first_and_third call = answers eqb (Contains 1 ∷ Contains 3 ∷ []) (after_all eqb (call ∷ Put 21 21 ∷ []) (state 20 (puts 1 20)))
 

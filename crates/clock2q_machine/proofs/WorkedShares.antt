@@ -1,4 +1,4 @@
--- The usual shares of some capacities, and shares that can be had together or can't, worked out by hand.
+-- The usual shares of some capacities, and shares that fit together or don't, worked out by hand.
 use Rattle.std.proofs.Common.{◌≡◌, ℕ, [], ◌∷◌, map, refl, arith}
 use Rattle.clock2q_machine.specs.Shares.{usual_shares, main_share, history_share}
 use Rattle.clock2q_machine.specs.Policies.{IsPolicy, shares_of}

@@ -1,4 +1,5 @@
--- Slots in runs worked out by hand: hints, removals and reuse, slots that are made before they are taken, and keys that are equal and differ.
+-- Slots in runs worked out by hand: hints, removals and reuse, slots that are made before they are taken, and equal
+-- keys that differ.
 use Rattle.std.proofs.Common.{◌≡◌, ℕ, Bool, true, false, eqb, List, [], ◌∷◌, ◌++◌, map, refl}
 use Rattle.std.specs.Prelude.{Some, None}
 use Rattle.clock2q_machine.specs.Shares.{usual_shares}
@@ -50,7 +51,7 @@ a_younger_entry_removed : answers eqb (Get 0 ∷ Remove 1 ∷ Put 20 20 ∷ Put 
     ≡ Value (Some 0) ∷ Flag true ∷ Value None ∷ Value None ∷ Value (Some 0) ∷ Value (Some 21) ∷ Flag false ∷ []
 a_younger_entry_removed = refl
 
--- Keys of a number and a tag, which are equal where their numbers are.
+-- Keys of a number and a tag, which are equal if their numbers are.
 
 abbrev Tagged : Type 0
 Tagged = ℕ × ℕ
@@ -61,7 +62,7 @@ same_number a b = eqb a.0 b.0
 abbrev tagged : List (Call Tagged ℕ) → Machine Tagged ℕ
 tagged calls = after_all same_number calls (empty (usual_shares 2))
 
--- the keys of which `retain` is asked
+-- the keys that `retain` asks about
 abbrev asked : List (Call Tagged ℕ) → List Tagged
 asked calls = map (λ r. r.0) (by_slot (tagged calls))
 

@@ -1,4 +1,4 @@
--- The machine's states in runs worked out by hand: who stands where, how old, and who is remembered.
+-- The machine's states in runs worked out by hand: where each key is, its age, and which keys are remembered.
 use Rattle.std.proofs.Common.{◌≡◌, ℕ, ◌+◌, Bool, true, false, eqb, List, [], ◌∷◌, ◌++◌, map, refl}
 use Rattle.std.specs.Prelude.{Some, None}
 use Rattle.std.specs.List.{range_with_len}
@@ -15,7 +15,7 @@ small_of m = map (λ e. ((e.key, e.slot), e.age)) m.small
 abbrev main_of : Machine ℕ ℕ → List ((ℕ × ℕ) × Bool)
 main_of m = map (λ e. ((e.key, e.slot), e.bit)) m.main
 
--- keys from one on, each in the slot before it, with clear bits
+-- keys from one on, each in the slot one below, with clear bits
 abbrev in_order : ℕ → ℕ → List ((ℕ × ℕ) × Bool)
 in_order from n = map (λ s. ((s + 1, s), false)) (range_with_len from n)
 
@@ -49,7 +49,7 @@ a_young_entry_removed : let m = state 40 (puts 0 40) in
     ≡ Flag true ∷ Value None ∷ Flag true ∷ Value None ∷ Value None ∷ Value (Some 41) ∷ Value None ∷ Value None ∷ Value None ∷ Flag false ∷ Value (Some 45) ∷ [])
 a_young_entry_removed = (refl, refl)
 
--- the history before each of three calls, and what the run replies
+-- the history before each of three calls, and the replies of the run
 history_reused : let m = state 4 (puts 1 6) in
     let later = after_all eqb (Remove 1 ∷ Put 7 7 ∷ Put 8 8 ∷ []) m in
     let end = after_all eqb (SlotFor 6 0 ∷ SlotFor 5 0 ∷ []) later in

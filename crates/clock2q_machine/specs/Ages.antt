@@ -13,12 +13,12 @@ abbrev pub touched : Age → Age
 touched (Young age) = Young age
 touched (Old bit) = Old true
 
--- after one more admission a young entry is older by one, and at the window's end old with a clear bit
+-- after one more admission a young entry is older by one, and at the window's end it is old with a clear bit
 abbrev pub grown : ℕ → Age → Age
 grown window (Young age) = if nat_lt (age + 1) window then Young (age + 1) else Old false
 grown window (Old bit) = Old bit
 
--- whether an entry of Small goes on to Main rather than out
+-- whether an entry of Small is promoted to Main rather than evicted
 abbrev pub is_promoted : Age → Bool
 is_promoted (Young age) = false
 is_promoted (Old bit) = bit

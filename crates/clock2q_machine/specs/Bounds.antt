@@ -1,4 +1,5 @@
--- How often the hand inspects an entry of Main, and the numbers that bound it: Main's victims, the bits of Main that hits set, and those that are set.
+-- How often the hand inspects an entry of Main, and the numbers that bound it: Main's victims, the bits of Main that
+-- hits set, and those that are set.
 use Rattle.std.specs.Prelude.{◌≡◌, ℕ, ◌+◌, ◌≤◌, Bool, true, false, not, ◌&&◌, ◌==◌, if◌then◌else◌, List, [], ◌∷◌, length, Option, Some, None, is_some}
 use Rattle.std.specs.List.{count_by, list_any, last_or}
 use Rattle.clock2q_machine.specs.Ages.{is_promoted}
@@ -8,25 +9,26 @@ use Rattle.clock2q_machine.specs.Calls.{Call, Put, Get, Peek, Contains, GetAt, S
 use Rattle.clock2q_machine.specs.Machine.{Machine, slot_of, vacancy, goes_to_main}
 use Rattle.clock2q_machine.specs.Steps.{is_at, after, after_all}
 
--- whether Small's tail goes on to Main, where there is one
+-- whether Small has a tail that is promoted to Main
 abbrev pub goes_on : {K : Type 0} → Option (SmallEntry K) → Bool
 goes_on None = false
 goes_on (Some tail) = is_promoted tail.age
 
 module _ {K V : Type 0} where
-  -- how many bits of Main are set
+  -- the number of set bits of Main
   abbrev pub set_bits : Machine K V → ℕ
   set_bits m = count_by (λ e. e.bit) m.main
 
-  -- how many bits of Main a hit on the key turns from clear to set
+  -- the number of bits of Main that a hit on the key turns from clear to set
   abbrev pub settings_of_hit : (K → Bool) → Machine K V → ℕ
   settings_of_hit is m = count_by (λ e. is e.key && not e.bit) m.main
 
-  -- a key that enters takes Main's victim: in Main where Main has its share, in Small where there is no vacancy and the tail goes on
+  -- a key that enters evicts Main's victim: in Main if Main has its share, in Small if there is no vacancy and the tail
+  -- is promoted
   abbrev pub takes_victim : (K → Bool) → Machine K V → Bool
   takes_victim is m = if goes_to_main (list_any is m.history) m then length m.main == main_share m.shares else not (is_some (vacancy m)) && goes_on (last_or None m.small)
 
-  -- how many victims Main has, and how often the hand inspects, where the key is wanted: none and never if it is resident
+  -- the number of victims in Main and of inspections by the hand if the key is requested: zero if it is resident
   abbrev pub victims_for : (K → Bool) → Machine K V → ℕ
   victims_for is m = if is_some (slot_of is m) then 0 else (if takes_victim is m then 1 else 0)
 
@@ -53,7 +55,7 @@ module _ {K V : Type 0} where
   takes_out Capacity = false
 
   module _ (eq : K → K → Bool) where
-    -- how often the hand inspects an entry in a call
+    -- the number of inspections by the hand in a call
     abbrev pub inspections_of : Call K V → Machine K V → ℕ
     inspections_of (Put key value) m = inspections_for (eq key) m
     inspections_of (Get key) m = 0
@@ -73,7 +75,7 @@ module _ {K V : Type 0} where
     inspections_of IsEmpty m = 0
     inspections_of Capacity m = 0
 
-    -- how many victims it has in Main
+    -- the number of its victims in Main
     abbrev pub main_victims : Call K V → Machine K V → ℕ
     main_victims (Put key value) m = victims_for (eq key) m
     main_victims (Get key) m = 0
@@ -93,7 +95,7 @@ module _ {K V : Type 0} where
     main_victims IsEmpty m = 0
     main_victims Capacity m = 0
 
-    -- how many bits of Main its hit turns from clear to set
+    -- the number of bits of Main that its hit turns from clear to set
     abbrev pub settings : Call K V → Machine K V → ℕ
     settings (Put key value) m = settings_of_hit (eq key) m
     settings (Get key) m = settings_of_hit (eq key) m
@@ -112,12 +114,12 @@ module _ {K V : Type 0} where
     settings IsEmpty m = 0
     settings Capacity m = 0
 
-    -- a number of each call, summed over a run
+    -- a number for each call, summed over a run
     abbrev pub summed : (Call K V → Machine K V → ℕ) → List (Call K V) → Machine K V → ℕ
     summed number [] m = 0
     summed number (call ∷ calls) m = number call m + summed number calls (after eq call m)
 
-    -- an inspection is paid for by a victim, or by a bit that was set: exactly where the call takes nothing out
+    -- an inspection is paid for by a victim, or by a bit that was set: exactly if the call removes nothing
     abbrev pub IsPaid : Call K V → Machine K V → Type 0
     IsPaid call m = inspections_of call m + set_bits (after eq call m) ≡ main_victims call m + settings call m + set_bits m
 

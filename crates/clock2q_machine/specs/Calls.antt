@@ -1,7 +1,8 @@
 -- The calls of a cache as data, with what closures would give as values, and their replies.
 use Rattle.std.specs.Prelude.{ℕ, Bool, List, Option}
 
--- `With` and `Try` bring the value that a closure would answer, `Try` none where it fails; `Retain` brings the answers to its questions, and `Prefill` the values made
+-- `With` and `Try` have the value that a closure would return, `Try` none if it fails; `Retain` has the answers to its
+-- questions, and `Prefill` the values made
 pub data Call (K V : Type 0) : Type 0 where
   Put : K → V → Call K V
   Get : K → Call K V

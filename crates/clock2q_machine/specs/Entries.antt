@@ -1,4 +1,5 @@
--- The entries of Small and of Main, and what becomes of a queue's list: a hit, an admission to Small, the hand's choice in Main.
+-- The entries of Small and of Main, and the changes of a queue's list: a hit, an admission to Small, the hand's choice
+-- in Main.
 use Rattle.std.specs.Prelude.{ℕ, Bool, true, false, if◌then◌else◌, List, [], ◌∷◌, ◌++◌, map, refl}
 use Rattle.clock2q_machine.specs.Hand as hand
 use Rattle.std.specs.Coded.{Coded, code_by, coded×, coded_ℕ, coded_bool}
@@ -31,11 +32,11 @@ module _ {K : Type 0} where
   abbrev pub main_hit : (K → Bool) → List (MainEntry K) → List (MainEntry K)
   main_hit is main = map (λ e. if is e.key then with_bit e true else e) main
 
-  -- the new entry stands in front, and all young ones grow older
+  -- the new entry is in front, and all young ones grow older
   abbrev pub small_admitted : ℕ → K → ℕ → List (SmallEntry K) → List (SmallEntry K)
   small_admitted window key slot small = record { key = key; slot = slot; age = Young 0 } ∷ map (λ e. with_age e (grown window e.age)) small
 
-  -- how many entries the hand passes, how often it inspects, and Main from its victim
+  -- the number of entries that the hand passes and of its inspections, and Main from its victim
   abbrev pub set_front : List (MainEntry K) → ℕ
   set_front main = hand.set_front (λ e. e.bit) main
 
@@ -45,7 +46,7 @@ module _ {K : Type 0} where
   abbrev pub from_victim : List (MainEntry K) → List (MainEntry K)
   from_victim main = hand.from_victim (λ e. e.bit) (λ e. with_bit e false) main
 
-  -- a new entry of Main stands last, just before the hand, with a clear bit
+  -- a new entry of Main is last, just before the hand, with a clear bit
   abbrev pub behind_hand : K → ℕ → List (MainEntry K) → List (MainEntry K)
   behind_hand key slot main = main ++ record { key = key; slot = slot; bit = false } ∷ []
 

@@ -8,3 +8,6 @@ pub mod Calls
 pub mod Steps
 pub mod Bounds
 pub mod Whole
+pub mod Scans
+pub mod Leaving
+pub mod Lifetimes

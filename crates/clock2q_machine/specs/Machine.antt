@@ -1,4 +1,5 @@
--- The machine that a cache is: two queues of residents, the history of keys that left Small, a stack of free slots, and a value for each slot made. It knows no hash.
+-- The state machine of a cache: two queues of residents, the history of keys evicted from Small, a stack of free slots,
+-- and a value for each slot made. It uses no hash.
 use Rattle.std.specs.Prelude.{ℕ, ◌+◌, ◌-◌, Bool, not, ◌&&◌, ◌||◌, ◌==◌, nat_lt, nat_le, if◌then◌else◌, List, [], ◌∷◌, ◌++◌, map, length, take, drop, slice_get, slice_set, Option, Some, None, is_some, refl}
 use Rattle.std.specs.List.{filter, find, list_any, last_or, filter_map, fold, range_with_len}
 use Rattle.std.specs.Option.{option_map, option_and_then}
@@ -21,7 +22,7 @@ pub record Placement (K V : Type 0) : Type 0 where
   pub slot : ℕ
   pub machine : Machine K V
 
--- the top of the free slots, else the next slot that was never made
+-- the top of the free slots, otherwise the next slot that was never made
 abbrev pub vacant_slot : List ℕ → ℕ → ℕ → Option ℕ
 vacant_slot (slot ∷ free) made capacity = Some slot
 vacant_slot [] made capacity = if nat_lt made capacity then Some made else None
@@ -35,7 +36,7 @@ module _ {K V : Type 0} where
   abbrev pub residents : Machine K V → List (K × ℕ)
   residents m = map (λ e. (e.key, e.slot)) m.small ++ map (λ e. (e.key, e.slot)) m.main
 
-  -- how many residents there are
+  -- the number of residents
   abbrev pub resident_count : Machine K V → ℕ
   resident_count m = length m.small + length m.main
 
@@ -59,11 +60,11 @@ module _ {K V : Type 0} where
   abbrev pub vacancy : Machine K V → Option ℕ
   vacancy m = vacant_slot m.free (length m.values) m.shares.capacity
 
-  -- a key with history goes to Main; so does any where Small has no share, or has its share while there is a vacancy
+  -- a key with history goes to Main; so does any key if Small has no share, or is full while there is a vacancy
   abbrev pub goes_to_main : Bool → Machine K V → Bool
   goes_to_main known m = known || (m.shares.small == 0) || (is_some (vacancy m) && nat_le m.shares.small (length m.small))
 
-  -- Small's tail goes out into the history, and the key takes its slot
+  -- Small's tail is evicted to the history, and the key takes its slot
   abbrev pub evicting_tail : K → SmallEntry K → Machine K V → Placement K V
   evicting_tail key tail m = record {
     slot = tail.slot;
@@ -73,7 +74,8 @@ module _ {K V : Type 0} where
     });
   }
 
-  -- Small's tail moves to Main with its own slot, and the key takes the slot of Main's victim, which goes without history
+  -- Small's tail is promoted to Main with its own slot, and the key takes the slot of Main's victim, which gets no
+  -- history
   abbrev pub promoting_tail : K → SmallEntry K → List (MainEntry K) → Machine K V → Placement K V
   promoting_tail key tail [] m = record { slot = 0; machine = m }
   promoting_tail key tail (victim ∷ others) m = record {
@@ -84,7 +86,7 @@ module _ {K V : Type 0} where
     });
   }
 
-  -- into Small: at a vacancy, else in place of its tail, else of Main's victim
+  -- into Small: at a vacancy, otherwise in place of its tail, or of Main's victim if the tail is promoted
   abbrev pub into_small_at : K → Option ℕ → Option (SmallEntry K) → Machine K V → Placement K V
   into_small_at key (Some slot) tail m = record { slot = slot; machine = admitted key slot (record m { free = drop 1 m.free }) }
   into_small_at key None None m = record { slot = 0; machine = m }
@@ -94,7 +96,7 @@ module _ {K V : Type 0} where
   abbrev pub into_small : K → Machine K V → Placement K V
   into_small key m = into_small_at key (vacancy m) (last_or None m.small) m
 
-  -- in place of Main's victim, which goes without history
+  -- in place of Main's victim, which gets no history
   abbrev pub replacing_victim : K → List (MainEntry K) → Machine K V → Placement K V
   replacing_victim key [] m = record { slot = 0; machine = m }
   replacing_victim key (victim ∷ others) m = record {
@@ -102,7 +104,7 @@ module _ {K V : Type 0} where
     machine = record m { main = behind_hand key victim.slot others };
   }
 
-  -- into Main where it has room
+  -- into Main, if it has room
   abbrev pub joining_main : K → Option ℕ → Machine K V → Placement K V
   joining_main key None m = record { slot = 0; machine = m }
   joining_main key (Some slot) m = record {
@@ -110,7 +112,7 @@ module _ {K V : Type 0} where
     machine = record m { main = behind_hand key slot m.main; free = drop 1 m.free };
   }
 
-  -- into Main: in place of its victim where it has its share, else at a vacancy
+  -- into Main: in place of its victim if it is full, otherwise at a vacancy
   abbrev pub into_main : K → Machine K V → Placement K V
   into_main key m = if length m.main == main_share m.shares then replacing_victim key (from_victim m.main) m else joining_main key (vacancy m) m
 
@@ -118,7 +120,7 @@ module _ {K V : Type 0} where
   abbrev pub forgotten : (K → Bool) → Machine K V → Machine K V
   forgotten is m = record m { history = filter (λ k. not (is k)) m.history }
 
-  -- the key's history is erased first, and if there was any it goes to Main
+  -- the key's history is erased first, and if there was any, the key goes to Main
   abbrev pub placement : (K → Bool) → K → Machine K V → Placement K V
   placement is key m = if goes_to_main (list_any is m.history) m then into_main key (forgotten is m) else into_small key (forgotten is m)
 
@@ -165,7 +167,7 @@ module _ {K V : Type 0} where
   abbrev pub vacated_all : List ℕ → Machine K V → Machine K V
   vacated_all slots m = fold (λ state slot. vacated slot state) m slots
 
-  -- nothing is left but the shares
+  -- only the shares are left
   abbrev pub cleared : Machine K V → Machine K V
   cleared m = empty m.shares
 

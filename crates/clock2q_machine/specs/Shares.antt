@@ -1,8 +1,8 @@
--- How a cache's capacity is shared out among its queues.
+-- How a cache's capacity is divided among its queues.
 use Rattle.std.specs.Prelude.{ℕ, ◌+◌, ◌-◌, ◌/◌, max, nat_lt, if◌then◌else◌, refl}
 use Rattle.std.specs.Coded.{Coded, code_by, coded×, coded_ℕ}
 
--- the capacity of the cache, Small's share of it, and how many admissions an entry of Small stays young
+-- the capacity of the cache, Small's share of it, and the number of admissions for which an entry of Small is young
 pub record Shares : Type 0 where
   pub capacity : ℕ
   pub small : ℕ
@@ -16,15 +16,15 @@ main_share shares = shares.capacity - shares.small
 abbrev pub history_share : Shares → ℕ
 history_share shares = shares.capacity / 2
 
--- a tenth for Small, but at least one, unless there is just one slot
+-- a tenth for Small, but at least one, unless there is only one slot
 abbrev pub usual_small : ℕ → ℕ
 usual_small capacity = if nat_lt 1 capacity then max (capacity / 10) 1 else 0
 
--- the newest half of Small, rounded up, is young
+-- half of Small's share, rounded up: after that many further admissions to Small a key is no longer young
 abbrev pub usual_window : ℕ → ℕ
 usual_window capacity = (usual_small capacity + 1) / 2
 
--- the shares of a cache that is made with a capacity alone
+-- the shares of a cache that is made with only a capacity
 abbrev pub usual_shares : ℕ → Shares
 usual_shares capacity = record { capacity = capacity; small = usual_small capacity; window = usual_window capacity }
 

@@ -1,4 +1,4 @@
--- What each call answers and makes of the machine, and what a list of calls does.
+-- The answer of each call and its effect on the machine, and those of a list of calls.
 use Rattle.std.specs.Prelude.{ℕ, zero, suc, ◌-◌, Bool, true, false, ◌==◌, if◌then◌else◌, List, [], ◌∷◌, map, length, slice_get, Option, Some, None, is_some}
 use Rattle.clock2q_machine.specs.Calls.{Call, Answer, Put, Get, Peek, Contains, GetAt, Set, With, Try, SlotFor, Remove, Retain, Clear, Prefill, Len, IsEmpty, Capacity, Value, Stored, Tried, Slot, Flag, Number, Done}
 use Rattle.clock2q_machine.specs.Machine.{Machine, resident_count, slot_of, value_of, hit, placement, stored, inserted, reused, removed, by_slot, vacated_all, cleared, prefilled}
@@ -23,12 +23,12 @@ module _ {V : Type 0} where
   supplied (suc n) (v ∷ []) = v ∷ supplied n (v ∷ [])
   supplied (suc n) (v ∷ w ∷ values) = v ∷ supplied n (w ∷ values)
 
-  -- the value that a key has after its fetch: the one it had, else the new one
+  -- the value that a key has after its fetch: the one it had, otherwise the new one
   abbrev pub fetched_value : Option V → V → V
   fetched_value (Some had) value = had
   fetched_value None value = value
 
-  -- the same where there may be no new one
+  -- the same if there may be no new one
   abbrev pub tried_value : Option V → Option V → Option V
   tried_value (Some had) value = Some had
   tried_value None value = value
@@ -42,15 +42,15 @@ module _ {K V : Type 0} where
   abbrev pub replaced : (K → Bool) → V → Machine K V → Machine K V
   replaced is value m = replaced_at is value (slot_of is m) m
 
-  -- a resident key gets the value, else it is inserted with it
+  -- a resident key gets the value, any other is inserted with it
   abbrev pub put : (K → Bool) → K → V → Machine K V → Machine K V
   put is key value m = if is_some (slot_of is m) then replaced is value m else inserted is key value m
 
-  -- a resident key is hit, else it is inserted with the value
+  -- a resident key is hit, any other is inserted with the value
   abbrev pub fetched : (K → Bool) → K → V → Machine K V → Machine K V
   fetched is key value m = if is_some (slot_of is m) then hit is m else inserted is key value m
 
-  -- the same where the value may not come: without it nothing changes
+  -- the same if there may be no value: without it no key is inserted
   abbrev pub tried : (K → Bool) → K → Option V → Machine K V → Machine K V
   tried is key (Some value) m = fetched is key value m
   tried is key None m = hit is m
@@ -61,7 +61,7 @@ module _ {K V : Type 0} where
   abbrev pub value_at : ℕ → (K → Bool) → Machine K V → Option V
   value_at slot is m = if is_at slot (slot_of is m) then slice_get m.values slot else None
 
-  -- a resident key is hit, else it is inserted, and only a new slot gets the value
+  -- a resident key is hit, any other is inserted, and only a new slot gets the value
   abbrev pub slotted : (K → Bool) → K → V → Machine K V → Machine K V
   slotted is key fresh m = if is_some (slot_of is m) then hit is m else reused is key fresh m
 
@@ -73,7 +73,7 @@ module _ {K V : Type 0} where
   abbrev pub slot_answer : ℕ → V → Machine K V → Answer V
   slot_answer slot fresh m = Slot slot (fetched_value (slice_get m.values slot) fresh)
 
-  -- the residents that are refused leave
+  -- the refused residents are removed
   abbrev pub retained : List Bool → Machine K V → Machine K V
   retained bits m = vacated_all (refused_slots bits (map (λ r. r.1) (by_slot m))) m
 
@@ -101,7 +101,7 @@ module _ {K V : Type 0} where
     answer IsEmpty m = Flag (resident_count m == 0)
     answer Capacity m = Number m.shares.capacity
 
-    -- what a call makes of the machine
+    -- the machine after a call
     abbrev pub after : Call K V → Machine K V → Machine K V
     after (Put key value) m = put (eq key) key value m
     after (Get key) m = hit (eq key) m
@@ -120,7 +120,7 @@ module _ {K V : Type 0} where
     after IsEmpty m = m
     after Capacity m = m
 
-    -- the answers to a list of calls, in order, and what is left in the end
+    -- the answers to a list of calls, in order, and the machine afterwards
     abbrev pub answers : List (Call K V) → Machine K V → List (Answer V)
     answers [] m = []
     answers (call ∷ calls) m = answer call m ∷ answers calls (after call m)

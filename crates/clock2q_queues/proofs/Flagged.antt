@@ -1,4 +1,4 @@
--- The flags of the slots say what the records say, after a write to both.
+-- The flags of the slots agree with the records after a write to both.
 use Rattle.std.proofs.Common.{◌≡◌, ℕ, zero, suc, ◌<◌, ◌∷◌, cond, eqb, Bool, false, List, length, map, get_or, set, replicate, inl, inr, refl, sym, ap, ◌∙◌, subst}
 use Rattle.std.proofs.Math.Seq.{map-set_same}
 use Rattle.std.proofs.lemmas.List.{map-set}
@@ -37,17 +37,17 @@ marks-detached slot old new d t = elim (cases_Bool (eqb t slot)) [
   | inr e ↦ rw e (d.standings t e)
 ]
 
--- no slot stands anywhere
+-- no slot is in a queue
 pub agree-blank : (m n : ℕ) (t : ℕ) → standing_in (replicate m false) t ≡ is_queued (standing_at (replicate n vacant) t)
 agree-blank m n t = get_or-same m t false ∙ sym (ap (λ (r : Record). is_queued r.standing) (get_or-same n t vacant))
 
--- What is told of the bytes
+-- What the bytes say
 
--- a byte was written that tells this
+-- a byte was written that says this
 pub told-set : (says : Flags → Bool) (flags : List Flags) (slot : ℕ) (f : Flags) (b : Bool) → says f ≡ b → map says (set flags slot f) ≡ set (map says flags) slot b
 told-set says flags slot f b e = map-set says flags slot f ∙ ap (λ z. set (map says flags) slot z) e
 
--- a byte was written that tells what the one before told
+-- a byte was written that says the same as the one before
 pub told-kept : (says : Flags → Bool) (flags : List Flags) (slot : ℕ) (was f : Flags) → was ≡ get_or flags slot was → says f ≡ says was → map says (set flags slot f) ≡ map says flags
 told-kept says flags slot was f at e = map-set_same says flags slot f was (e ∙ ap says at)
 
@@ -55,7 +55,7 @@ told-same : (says : Flags → Bool) (n : ℕ) (f : Flags) → map says (replicat
 told-same says zero f = refl
 told-same says (suc n) f = ap (λ z. says f ∷ z) (told-same says n f)
 
--- each byte tells nothing
+-- no byte says that a bit is set, or that a slot is in a queue
 pub told-clear : (n inspections : ℕ) (f : Flags) → is_set f ≡ false → is_standing f ≡ false
     → flags_shown (replicate n f) inspections ≡ flag_state (hit_bits (replicate n false) inspections) (replicate n false)
 told-clear n inspections f bit standing = rw (told-same is_set n f, told-same is_standing n f, bit, standing) refl

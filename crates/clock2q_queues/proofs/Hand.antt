@@ -14,13 +14,13 @@ use Rattle.clock2q_queues.proofs.Joining.{map-agree, IsLinked-turned}
 use Rattle.clock2q_queues.proofs.Booleans.{or_left, or_parts, or_neither}
 use Rattle.clock2q_queues.proofs.Main.{main_slots-is, IsMainRing-from}
 
--- one entry more, whose bit is clear, ends no front that ended before
+-- appending an entry with a clear bit doesn't change the number of set bits in front
 prefix_len-push : (es : List (ℕ × Bool)) (s : ℕ) → set_front (es ++ (s, false) ∷ []) ≡ set_front es
 prefix_len-push [] s = refl
 prefix_len-push ((t, true) ∷ es) s = ap (λ z. 1 + z) (prefix_len-push es s)
 prefix_len-push ((t, false) ∷ es) s = refl
 
--- an entry that the hand passes goes behind the others with a clear bit, and the choice is the same
+-- an entry that the hand passes goes to the end with a clear bit, and the choice is the same
 pub from_victim-passed : (s : ℕ) (es : List (ℕ × Bool)) → from_victim ((s, true) ∷ es) ≡ from_victim (es ++ (s, false) ∷ [])
 from_victim-passed s es =
     let n = prefix_len-le-length (λ (e : ℕ × Bool). e.1) es in
@@ -28,7 +28,7 @@ from_victim-passed s es =
     rw (prefix_len-push es s, drop-append-le (set_front es) es ((s, false) ∷ []) n, take-append-le (set_front es) es ((s, false) ∷ []) n, e)
     (sym (append_assoc (drop (set_front es) es) ((s, false) ∷ []) (map (λ e. (e.0, false)) (take (set_front es) es))))
 
--- where the first bit is clear, the first entry is the victim
+-- if the first bit is clear, the first entry is the victim
 pub from_victim-chosen : (s : ℕ) (es : List (ℕ × Bool)) → from_victim ((s, false) ∷ es) ≡ (s, false) ∷ es
 from_victim-chosen s es = append-nil ((s, false) ∷ es)
 
@@ -40,7 +40,7 @@ first_of : (ss : List ℕ) (first : ℕ) → Some first ≡ slice_get ss 0 → (
 first_of [] first e = absurd (cc)
 first_of (s ∷ ss) first e = let q : s ≡ first = cc in (ss, ap (λ z. z ∷ ss) q)
 
--- the hand looked at a slot: its bit is clear, and nothing else changed but counts
+-- the hand inspected a slot: its bit is clear, and nothing else changed but counts
 pub record Looks (hand : ℕ) (old new : LinkState) : Type 0 where
   pub bits : (t : ℕ) → bit_at new t ≡ cond (eqb t hand) false (bit_at old t)
   pub items : new.records.items ≡ old.records.items
@@ -57,7 +57,7 @@ has-behind t hand rest h = elim (or_cases (has t rest) (has t (hand ∷ [])) (sy
   | inr q ↦ or_left (eqb t hand) (has t rest) (elim (or_cases (eqb t hand) false q) [ inl z ↦ z | inr z ↦ absurd (both_ways false refl z) ])
 ]
 
--- where no record changed, the hand may stay at a slot or move on from it
+-- if no record changed, the hand may stay at a slot or move on from it
 module _ (now l : LinkState) (main : MainRing) (hand : ℕ) (rest : List ℕ) (items : l.records.items ≡ now.records.items) (m : IsMain now (with_hand hand main) (hand ∷ rest)) where
   linked : IsLinked l.records.items (hand ∷ rest)
   linked = subst (λ (z : List Record). IsLinked z (hand ∷ rest)) (sym items) m.queue.linked
@@ -82,7 +82,7 @@ module _ (now l : LinkState) (main : MainRing) (hand : ℕ) (rest : List ℕ) (i
     standing = λ t h. ap (λ (z : List Record). (record_at z t).standing) items ∙ m.standing t h;
   }
 
--- an inspection of the hand's slot leaves the other bits
+-- an inspection of the hand's slot doesn't change the other bits
 module _ (now l : LinkState) (main : MainRing) (hand : ℕ) (rest : List ℕ) (k : Looks hand now l) (m : IsMain now (with_hand hand main) (hand ∷ rest)) where
   others_kept : map {B = ℕ × Bool} (λ s. (s, bit_at l s)) rest ≡ map {B = ℕ × Bool} (λ s. (s, bit_at now s)) rest
   others_kept = map-agree {X = ℕ × Bool} (λ s. (s, bit_at l s)) (λ s. (s, bit_at now s)) rest (λ t h. ap (λ z. (t, z)) (k.bits t ∙ rw (differs t hand rest h m.queue.linked.apart.0) refl))
@@ -114,7 +114,7 @@ first_entry bits (s ∷ ss) slot e =
     let p : s ≡ slot = ap (λ z. z.0) r in
     (ss, (ap (λ z. z ∷ ss) p, subst (λ z. bits z ≡ false) p (ap (λ z. z.1) r)))
 
--- the hand moves on from the slot where it stands, whose record is read
+-- the hand moves on from its slot, whose record is read
 module _ (now l : LinkState) (main : MainRing) (slot : ℕ) (m : IsMainRing now main) (first : slice_get (main_entries now main) 0 ≡ Some (slot, false))
     (read : l ≡ record now { records = accessed now.records }) where
   at_front : (rest : List ℕ) × ((main_slots now main ≡ slot ∷ rest) × (bit_at now slot ≡ false))
@@ -145,7 +145,7 @@ module _ (now l : LinkState) (main : MainRing) (slot : ℕ) (m : IsMainRing now 
       ∙ ap (λ b. map {B = ℕ × Bool} (λ s. (s, bit_at now s)) behind ++ (slot, b) ∷ []) at_front.1.1
       ∙ ap (λ (z : List ℕ). drop 1 (map {B = ℕ × Bool} (λ s. (s, bit_at now s)) z) ++ (slot, false) ∷ []) (sym at_front.1.0)
 
--- the hand came as far as this slot: the choice is still to be made, by as many inspections as are left
+-- the hand has come as far as this slot: the choice and the number of inspections in all are the same from here
 pub record Swept (old : LinkState) (main : MainRing) (now : LinkState) (hand : ℕ) : Type 0 where
   pub whole : IsMainRing now (with_hand hand main)
   pub choice : from_victim (main_entries now (with_hand hand main)) ≡ from_victim (main_entries old main)
@@ -245,7 +245,7 @@ module _ (old : LinkState) (main : MainRing) (now : LinkState) (hand : ℕ) (s :
         accesses = let e = s.looks in let f = s.accesses in let n = k.inspections in omega arith;
       }
 
--- the same by the states between: the inspection, then the reading of the record
+-- the same from the states in between: after the inspection, and after the read of the record
 module _ (old : LinkState) (main : MainRing) (now : LinkState) (hand : ℕ) (s : Swept old main now hand) (mid : LinkState)
     (bits : (t : ℕ) → bit_at mid t ≡ cond (eqb t hand) false (bit_at now t)) (looked : mid ≡ record now { bits = mid.bits }) (counted : mid.bits.inspections ≡ now.bits.inspections + 1) where
   pub hand_in_still : hand < length mid.records.items

@@ -1,4 +1,4 @@
--- A hit on a slot sets its bit: a young slot's is not shown, so that one write is the hit in both queues.
+-- A hit on a slot sets its bit. A young slot's bit isn't in the view, so the one write is a hit in either queue.
 use Rattle.std.proofs.Common.{◌≡◌, ◌⊎◌, ℕ, ◌<◌, Bool, true, cond, eqb, List, [], ◌∷◌, length, map, inl, inr, refl, sym, ap, ◌∙◌, subst}
 use Rattle.std.proofs.lemmas.Bool.{cases_Bool}
 use Rattle.clock2q_machine.specs.Ages.{touched}
@@ -72,7 +72,7 @@ module _ (l : LinkState) (small : Small) (main : MainRing) (q : AreQueues l smal
       subst (λ z. Becomes z small main (record (queues_shown l small main) { small = small_hit_at slot (small_entries l small); main = main_hit_at slot (main_entries l main) })) (sym e)
       (hit_bits new.bits s.bits s.inspections)
 
-  -- a slot of a queue is among the records
+  -- a slot of a queue has a record
   pub resident_in : (shown : QueueState) → queues_shown l small main ≡ shown → (has slot (slots_of shown.small) ≡ true) ⊎ (has slot (slots_of shown.main) ≡ true) → slot < length l.records.items
   resident_in shown e (inl h) = in_bounds l.records.items (small_slots l small) slot q.small.queue.linked (in_small l small main shown slot true e h)
   resident_in shown e (inr h) = in_bounds l.records.items (main_slots l main) slot q.main.queue.linked (in_main l small main shown slot true e h)

@@ -1,4 +1,4 @@
--- What putting a slot into the links, and taking one out, makes of the queue that it joins or leaves, and of the rest.
+-- How putting a slot into the links, and taking one out, changes the queue that it joins or leaves, and the rest.
 use Rattle.std.proofs.Common.{◌≡◌, ℕ, ◌+◌, ◌-◌, ◌^◌, ◌<◌, ◌≤◌, ◌≢◌, ltb, true, false, not, cond, ◌||◌, eqb, Option, Some, None, slice_get, List, [], ◌∷◌, ◌++◌, length, map, set, inl, inr, refl, sym, ap, ◌∙◌, subst, arith}
 use Rattle.std.specs.Bool.{then_some}
 use Rattle.std.specs.Option.{option_eq}
@@ -43,11 +43,11 @@ unfolding IsDistinct
 distinct [] a = tt
 distinct (s ∷ ss) a = (none_equal s ss a.0, distinct ss a.1)
 
--- there are no more slots apart than numbers below their bound
+-- there are no more distinct slots than numbers below their bound
 pub length-le_bound : (n : ℕ) (ss : List ℕ) → AllApart ss → AllBelow n ss → length ss ≤ n
 length-le_bound n ss a b = length-le_from_distinct_below ss n (distinct ss a) (λ q e. below_of n ss b q (sym (has-any q ss) ∙ e))
 
--- one more slot finds room
+-- there is room for one more slot
 pub room : (rs : List Record) (ss : List ℕ) (slot : ℕ) → IsLinked rs ss → has slot ss ≡ false → slot < length rs → length ss < length rs
 room rs ss slot k h b = length-le_bound (length rs) (slot ∷ ss) (h, k.apart) (b, k.below)
 
@@ -68,7 +68,7 @@ IsLinked-turned rs xs ys k = record {
   below = AllBelow-append (length rs) ys xs (AllBelow-right (length rs) xs ys k.below) (AllBelow-left (length rs) xs ys k.below);
 }
 
--- a queue's slots are those met from its first one
+-- a queue's slots are those read from its first one on
 pub slots_from-is : (rs : List Record) (first : Option ℕ) (count : ℕ) (ss : List ℕ) → IsQueue rs first count ss → slots_from rs first count ≡ ss
 slots_from-is rs None count [] q = refl
 slots_from-is rs None count (s ∷ ss) q = cc
@@ -105,7 +105,7 @@ next_in rs ss s k h =
 pub in_bounds : (rs : List Record) (ss : List ℕ) (s : ℕ) → IsLinked rs ss → has s ss ≡ true → s < length rs
 in_bounds rs ss s k h = below_of (length rs) ss k.below s h
 
--- a slot of a queue is among the records, and so are its neighbours
+-- a slot of a queue has a record, and so have its neighbours
 pub neighbours_fit : (rs : List Record) (ss : List ℕ) (slot : ℕ) → IsLinked rs ss → has slot ss ≡ true
     → (slot < length rs) × (next_at rs slot < length rs) × (previous_at rs slot < length rs)
 neighbours_fit rs ss slot k h =
@@ -174,7 +174,7 @@ Inserts-alone rs slot standing b =
       as_many = n;
     }
 
--- the first slot of a queue, as its owner holds it, decides how a slot is put in
+-- a slot is put in before the first slot of a queue, as its owner holds it
 pub Inserts-before : (old new : CellsState Record) (ss : List ℕ) (slot : ℕ) (standing : Mark) (first : ℕ)
     → IsLinked old.items ss → Some first ≡ slice_get ss 0 → has slot ss ≡ false → slot < length old.items → Attaches slot first standing old new
     → Inserts slot standing ss old.items new.items
@@ -249,7 +249,7 @@ length-without slot ss a h =
     let n = ap (λ (z : List ℕ). length z) p.1.1 in
     omega (arith, length-append p.0 p.1.0, length-append p.0 (slot ∷ p.1.0))
 
--- where the first slot went, the next one is first, if there is one
+-- if the first slot left, the next one is first, if there is one
 pub first_after : (rs : List Record) (count : ℕ) (ss : List ℕ) (slot : ℕ) → IsQueue rs (Some slot) count ss
     → then_some (ltb 0 (count - 1)) (next_at rs slot) ≡ slice_get (without slot ss) 0
 first_after rs count [] slot q = absurd (let e = q.starts in cc)
@@ -263,7 +263,7 @@ first_after rs count (s ∷ t ∷ ss) slot q =
     let n : ltb 0 (count - 1) ≡ true = lt-ltb 0 (count - 1) (let m = q.counted in omega arith) in
     rw (n, e, eqb_self s, d) (ap (λ z. Some z) q.linked.ring.0)
 
--- where another one went, it stays the first
+-- if another one left, the first stays the first
 pub first_stays : (rs : List Record) (first : Option ℕ) (count : ℕ) (ss : List ℕ) (slot : ℕ) → IsQueue rs first count ss → first ≢ Some slot
     → first ≡ slice_get (without slot ss) 0
 first_stays rs first count [] slot q d = q.starts
@@ -304,7 +304,7 @@ last_of_front rs (x ∷ xs) slot r =
     let b : ltb 0 (length (x ∷ xs) + 1 - 1) ≡ true = lt-ltb 0 (length (x ∷ xs) + 1 - 1) (omega arith) in
     rw b (sym (last_before (next_at rs) (previous_at rs) x xs slot (Joins_parts (next_at rs) (previous_at rs) x xs slot [] x r).0))
 
--- the last one of a queue went: the one before it is last, if there is one
+-- if the last slot left, the one before it is last, if there is one
 pub last_gone : (rs : List Record) (count : ℕ) (ss : List ℕ) (slot : ℕ) → IsLinked rs ss → count ≡ length ss → last_or None ss ≡ Some slot
     → then_some (ltb 0 (count - 1)) (previous_at rs slot) ≡ last_or None (without slot ss)
 last_gone rs count [] slot k n e = absurd (cc)
@@ -316,7 +316,7 @@ last_gone rs count (s ∷ ss) slot k n e =
     let m : count ≡ length xs + 1 = n ∙ ap (λ (z : List ℕ). length z) p.1 ∙ length-append xs (slot ∷ []) in
     ap (λ z. then_some (ltb 0 (z - 1)) (previous_at rs slot)) m ∙ last_of_front rs xs slot k'.ring ∙ ap (λ z. last_or None z) (sym w)
 
--- another one went: the last one stays
+-- if another one left, the last stays the last
 pub last_stays : (ss : List ℕ) (slot : ℕ) → last_or None ss ≢ Some slot → last_or None ss ≡ last_or None (without slot ss)
 last_stays [] slot d = refl
 last_stays (s ∷ ss) slot d =

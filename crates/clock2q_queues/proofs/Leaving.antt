@@ -133,7 +133,7 @@ module _ (slot : ℕ) {old : LinkState} {small : Small} (mid : LinkState) {new :
     countable_positions = rw window_now m.countable_positions;
   }
 
-  -- they are as old as they were
+  -- their ages don't change
   pub ages_kept : (bits : mid.bits ≡ old.bits) → aged_slots new small.cursor (without slot (small_slots old small)) ≡ filter (λ e. not (eqb e.0 slot)) (small_entries old small)
   ages_kept bits =
       map-agree {X = ℕ × Age} (λ s. (s, age_at new small.cursor s)) (λ s. (s, age_at old small.cursor s)) (without slot (small_slots old small))

@@ -1,4 +1,4 @@
--- Main: what a slot put in, or removed, makes of its list.
+-- Main: how its list changes when a slot is put in or removed.
 use Rattle.std.proofs.Common.{◌≡◌, ℕ, ◌+◌, ◌-◌, ◌^◌, ◌<◌, Bool, true, false, not, cond, eqb, Some, None, slice_get, List, [], ◌∷◌, ◌++◌, length, map, inl, inr, refl, sym, ap, ◌∙◌, subst, arith}
 use Rattle.std.specs.List.{filter}
 use Rattle.std.proofs.lemmas.Bool.{both_ways, or_cases}
@@ -124,11 +124,11 @@ module _ (slot : ℕ) (old : LinkState) (main : MainRing) (new : LinkState) (m :
             ∙ sym (filter-entries slot (λ s. bit_at old s) ss);
       }
 
-  -- wherever the hand then stands, the slot is free
+  -- wherever the hand is then, the slot is free
   pub freed-from : standing_at new.records.items slot ≡ Free
   freed-from = ap (λ r. r.standing) (Removes-detached old.records new.records (main_slots old main) slot m.queue.linked h d).freed
 
-  -- and the slots of others are as they were
+  -- and the slots outside Main are unchanged
   pub others-from : IsSameBut (main_slots old main) old new
   others-from =
       let r = Removes-detached old.records new.records (main_slots old main) slot m.queue.linked h d in

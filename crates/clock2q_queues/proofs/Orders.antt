@@ -1,4 +1,4 @@
--- What each call makes of the order of the history's places and of the chain of the free ones.
+-- How each call changes the order of the history's places and the chain of the free ones.
 use Rattle.std.proofs.Common.{◌≡◌, ℕ, zero, suc, ◌+◌, ◌-◌, ◌^◌, ◌<◌, ◌≤◌, Bool, true, false, ◌||◌, eqb, Option, Some, None, slice_get, List, [], ◌∷◌, ◌++◌, length, take, drop, inl, inr, refl, sym, ap, ◌∙◌, subst, arith}
 use Rattle.std.specs.Option.{unwrap_or}
 use Rattle.std.specs.List.{last_or}
@@ -6,7 +6,7 @@ use Rattle.std.proofs.lemmas.Bool.{eqb-true, both_ways, cases_Bool}
 use Rattle.std.proofs.lemmas.List.{length-append, length-set}
 use Rattle.clock2q_queues.specs.declared.links.Record.{Record}
 use Rattle.clock2q_queues.specs.declared.links.Mark.TheVariants.{Free}
-use Rattle.clock2q_queues.specs.declared.history.order.Chain.{Chain}
+use Rattle.clock2q_queues.specs.declared.order.Chain.{Chain}
 use Rattle.clock2q_queues.specs.Rings.{has, without, AllApart, AllBelow, around}
 use Rattle.clock2q_queues.specs.Cells.{CellsState, accessed, written}
 use Rattle.clock2q_queues.specs.Links.{IsLinked, Attaches, Detaches, slots_from, record_at, next_at, previous_at, vacant}
@@ -52,7 +52,7 @@ absent_below n (s ∷ ss) b = or_neither (eqb n s) (has n ss)
     (elim (cases_Bool (eqb n s)) [ inl e ↦ absurd (omega (arith, eqb-true n s e, b.0)) | inr e ↦ e ])
     (absent_below n ss b.1)
 
--- a place for a key is put in front, the head of the chain or the next one
+-- the place for a new key, the head of the chain or the next unused one, goes in front
 pub record FitsNext (limit place : ℕ) (ps fs : List ℕ) : Type 0 where
   pub fits : place < limit
   pub absent : has place ps ≡ false
@@ -111,7 +111,7 @@ IsOrder-from {rs} {newest} {len} {chain} {ps} {fs} o =
 pub IsWholeOrder-from : (l : CellsState Record) (newest : Option ℕ) (len : ℕ) (chain : Chain) → IsOrder l.items newest len chain → IsWholeOrder (order_shown l newest len chain)
 IsWholeOrder-from l newest len chain o = record { apart = o.apart; below = o.below; within = o.within; countable = o.queue.countable }
 
--- what is shown of these places and those
+-- the view of an order of these places and a chain of those
 pub order_shown-is : (l : CellsState Record) {newest : Option ℕ} {len : ℕ} {chain : Chain} {ps fs : List ℕ} → IsOrderOf l.items newest len chain ps fs
     → order_shown l newest len chain ≡ record { places = ps; free = fs; limit = length l.items; accesses = l.accesses }
 order_shown-is l {newest} {len} {chain} {ps} {fs} o =
@@ -159,7 +159,7 @@ module _ (l : CellsState Record) (newest : Option ℕ) (len : ℕ) (chain : Chai
   chain_counted : length free_now ≡ chain.len
   chain_counted = length-around (next_at l.items) chain.head chain.len
 
-  -- A place put in front
+  -- A place put at the front
 
   pub next_fits : length places_now < length l.items → FitsNext (length l.items) (place_for (length places_now) free_now) places_now free_now
   next_fits h = FitsNext-from (length l.items) places_now free_now o.apart o.below o.within h
@@ -217,7 +217,7 @@ module _ (l : CellsState Record) (newest : Option ℕ) (len : ℕ) (chain : Chai
 
   -- The last place moved to the front
 
-  -- the order ends in this place, which now stands first
+  -- this place was the last of the order, and is now the first
   pub record Reuses (new : CellsState Record) (oldest : ℕ) : Type 0 where
     pub oldest_was : last_or None places_now ≡ Some oldest
     pub order : IsOrderOf new.items (Some oldest) len chain (oldest ∷ take (length places_now - 1) places_now) free_now
@@ -305,7 +305,7 @@ module _ (l : CellsState Record) (newest : Option ℕ) (len : ℕ) (chain : Chai
             within = rw as_many (omega (arith, total, o.within));
           }
 
--- what a place removed makes of the counts
+-- the counts after a place was taken out
 pub unlinked_counts : (l mid new : CellsState Record) (place : ℕ) (r : Record) (ps fs : List ℕ) → Detaches place l mid → new ≡ written place r mid
     → ◌≡◌ {A = PlaceOrder} (record { places = ps; free = fs; limit = length new.items; accesses = new.accesses }) (record { places = ps; free = fs; limit = length l.items; accesses = l.accesses + 7 })
 unlinked_counts l mid new place r ps fs d w =

@@ -1,4 +1,4 @@
--- Small and Main share the links: what changes no slot of a queue leaves it as it was.
+-- Small and Main share the links: a change to no slot of a queue leaves that queue unchanged.
 use Rattle.std.proofs.Common.{◌≡◌, ℕ, Bool, true, false, get_or, Option, None, List, length, map, inl, inr, sym, ap, ◌∙◌, subst}
 use Rattle.std.proofs.lemmas.Bool.{both_ways, cases_Bool}
 use Rattle.clock2q_machine.specs.Ages.{Age}
@@ -13,7 +13,7 @@ use Rattle.clock2q_queues.proofs.Joining.{IsLinked-kept, map-agree}
 use Rattle.clock2q_queues.proofs.Main.{main_slots-is, IsMainRing-from}
 use Rattle.clock2q_queues.proofs.Window.{small_slots-is, IsSmallQueue-from}
 
--- Main, where none of its slots changed
+-- Main, if none of its slots changed
 pub record KeepsMain (old : LinkState) (main : MainRing) (new : LinkState) : Type 0 where
   pub whole : IsMainRing new main
   pub slots : main_slots new main ≡ main_slots old main
@@ -40,7 +40,7 @@ KeepsMain-from old main new ss m s d =
           ∙ map-agree {X = ℕ × Bool} (λ s. (s, bit_at new s)) (λ s. (s, bit_at old s)) (main_slots old main) (λ t h. ap (λ z. (t, z.1)) (same t h));
     }
 
--- Small, where none of its slots changed, nor a position
+-- Small, if none of its slots and no position changed
 pub record KeepsSmall (old : LinkState) (small : Small) (new : LinkState) : Type 0 where
   pub whole : IsSmallQueue new small
   pub slots : small_slots new small ≡ small_slots old small
@@ -79,7 +79,7 @@ KeepsSmall-from old small new ss m s p d =
           ∙ ap (λ n. (t, age_of n small.cursor (standing_at old.records.items t) (bit_at old t))) window);
     }
 
--- no slot stands in both
+-- no slot is in both
 pub small_apart : (l : LinkState) (small : Small) (main : MainRing) → IsSmallQueue l small → IsMainRing l main → (t : ℕ) → has t (small_slots l small) ≡ true → has t (main_slots l main) ≡ false
 small_apart l small main s m t h = elim (cases_Bool (has t (main_slots l main))) [
   | inl g ↦ absurd (subst (λ z. IsInSmall z) (m.standing t g) (s.standing t h))

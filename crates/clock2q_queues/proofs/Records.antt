@@ -10,7 +10,7 @@ changed f xs i x d t h = elim (cases_Bool (eqb t i)) [
   | inr e ↦ rw e (ap f (get_or-set_other xs i t x d (eqb-false t i e)))
 ]
 
--- where all are the same, so is what is read
+-- if all items are the same, so is the one that is read
 pub get_or-same : {X : Type 0} (n i : ℕ) (x : X) → get_or (replicate n x) i x ≡ x
 get_or-same zero i x = refl
 get_or-same (suc n) zero x = refl

@@ -1,4 +1,4 @@
--- What becomes of a ring when a slot is put in, taken out, or when it is met from another slot on.
+-- How a ring changes when a slot is put in or taken out, or when it is read from another slot on.
 use Rattle.std.proofs.Common.{◌≡◌, ℕ, suc, ◌<◌, ◌≤◌, true, false, not, cond, ◌||◌, ◌&&◌, eqb, List, [], ◌∷◌, ◌++◌, length, inl, inr, refl, sym, ap, ◌∙◌, subst, arith}
 use Rattle.std.specs.List.{filter}
 use Rattle.std.proofs.lemmas.Bool.{eqb-true, eq-eqb, both_ways, cases_Bool, or_cases}
@@ -26,7 +26,7 @@ has_first s ss = or_left _ _ (eqb_self s)
 pub has_later : (t s : ℕ) (ss : List ℕ) → has t ss ≡ true → has t (s ∷ ss) ≡ true
 has_later t s ss h = or_right (eqb t s) _ h
 
--- one that is among these and one that is not differ
+-- a slot that is among these differs from one that isn't
 pub differs : (t s : ℕ) (ss : List ℕ) → has t ss ≡ true → has s ss ≡ false → eqb t s ≡ false
 differs t s ss h g = elim (cases_Bool (eqb t s)) [ inl e ↦ absurd (both_ways (has s ss) g (subst (λ x. has x ss ≡ true) (eqb-true t s e) h)) | inr e ↦ e ]
 
@@ -73,7 +73,7 @@ pub below_of : (n : ℕ) (ss : List ℕ) → AllBelow n ss → (t : ℕ) → has
 below_of n [] a t h = absurd (both_ways false refl h)
 below_of n (s ∷ ss) a t h = elim (or_cases (eqb t s) (has t ss) h) [ inl e ↦ subst (λ z. z < n) (sym (eqb-true t s e)) a.0 | inr g ↦ below_of n ss a.1 t g ]
 
--- all that are there are below
+-- if each place is below the bound, all are
 pub below-has : (n : ℕ) (places : List ℕ) → ((t : ℕ) → has t places ≡ true → t < n) → AllBelow n places
 below-has n [] h = tt
 below-has n (p ∷ ps) h = (h p (has_first p ps), below-has n ps (λ t g. h t (has_later t p ps g)))
@@ -81,7 +81,7 @@ below-has n (p ∷ ps) h = (h p (has_first p ps), below-has n ps (λ t g. h t (h
 pub below-more : (n m : ℕ) (places : List ℕ) → n ≤ m → AllBelow n places → AllBelow m places
 below-more n m places le b = below-has m places (λ t g. omega (arith, le, below_of n places b t g))
 
--- a slot among these stands between two parts of them
+-- a slot among these splits them into those before it and those after it
 pub parted : (s : ℕ) (ss : List ℕ) → has s ss ≡ true → (xs : List ℕ) × ((ys : List ℕ) × (ss ≡ xs ++ s ∷ ys))
 parted s [] h = absurd (both_ways false refl h)
 parted s (x ∷ ss) h = elim (or_cases (eqb s x) (has s ss) h) [
@@ -100,13 +100,13 @@ module _ (next previous : ℕ → ℕ) where
   Joins-append from [] s ys to j k = (j.0, j.1, k)
   Joins-append from (x ∷ xs) s ys to j k = (j.0, j.1, Joins-append x xs s ys to j.2 k)
 
-  -- a ring is one from whichever of its slots it is met
+  -- a ring is a ring from each of its slots on
   pub IsRing-turned : (xs ys : List ℕ) → IsRing next previous (xs ++ ys) → IsRing next previous (ys ++ xs)
   IsRing-turned [] ys r = subst (λ zs. IsRing next previous zs) (sym (append-nil ys)) r
   IsRing-turned (x ∷ xs) [] r = subst (λ zs. IsRing next previous (x ∷ zs)) (append-nil xs) r
   IsRing-turned (x ∷ xs) (y ∷ ys) r = let p = Joins_parts x xs y ys x r in Joins-append y ys x xs y p.1 p.0
 
-  -- the slot before the end is the last of those that lead to it
+  -- the slot before the end is one of those that lead to it
   pub before_end : (from : ℕ) (ss : List ℕ) (to : ℕ) → Joins next previous from ss to → has (previous to) (from ∷ ss) ≡ true
   before_end from [] to j = or_left _ _ (eq-eqb _ _ j.1)
   before_end from (s ∷ ss) to j = has_later (previous to) from (s ∷ ss) (before_end s ss to j.2)
@@ -115,7 +115,7 @@ module _ (next previous : ℕ → ℕ) where
   around-is from [] to j = refl
   around-is from (s ∷ ss) to j = ap (λ zs. from ∷ zs) (subst (λ z. around next z (suc (length ss)) ≡ s ∷ ss) (sym j.0) (around-is s ss to j.2))
 
--- the same steps lead to another end, where the last one does
+-- the same steps lead to another end, if the last one does
 pub Joins-redirected : (next previous next' previous' : ℕ → ℕ) (from : ℕ) (ss : List ℕ) (to end : ℕ)
     → Joins next previous from ss to → AllApart (from ∷ ss)
     → ((t : ℕ) → has t (from ∷ ss) ≡ true → eqb t (previous to) ≡ false → next' t ≡ next t)
@@ -129,7 +129,7 @@ Joins-redirected next previous next' previous' from (s ∷ ss) to end j a n p e 
   Joins-redirected next previous next' previous' s ss to end j.2 a.1 (λ t h. n t (has_later t from (s ∷ ss) h)) (λ t h. p t (has_later t s ss h)) e b,
 )
 
--- steps that agree at the slots of a ring leave it as it was
+-- steps that agree at the slots of a ring leave it unchanged
 pub Joins-kept : (next previous next' previous' : ℕ → ℕ) (from : ℕ) (ss : List ℕ) (to : ℕ)
     → Joins next previous from ss to
     → ((t : ℕ) → has t (from ∷ ss) ≡ true → next' t ≡ next t)
@@ -152,11 +152,11 @@ IsRing-kept next previous next' previous' [] r n p = tt
 IsRing-kept next previous next' previous' (s ∷ ss) r n p =
     Joins-kept next previous next' previous' s ss s r n (λ t h. p t (has_later t s ss h)) (p s (has_first s ss))
 
--- the slots of a ring, met from its first one on
+-- the slots of a ring, from its first one on
 pub around-ring : (next previous : ℕ → ℕ) (first : ℕ) (ss : List ℕ) → IsRing next previous (first ∷ ss) → around next first (suc (length ss)) ≡ first ∷ ss
 around-ring next previous first ss r = around-is next previous first ss first r
 
--- a slot put in before the first one stands last
+-- a slot put in before the first one is the last one
 pub IsRing-put : (next previous next' previous' : ℕ → ℕ) (first : ℕ) (ss : List ℕ) (slot : ℕ)
     → IsRing next previous (first ∷ ss) → AllApart (first ∷ ss) → has slot (first ∷ ss) ≡ false
     → ((t : ℕ) → next' t ≡ cond (eqb t (previous first)) slot (cond (eqb t slot) first (next t)))
@@ -233,10 +233,10 @@ has-without_test t p (s ∷ ss) = elim (cases_Bool (eqb s p)) [
   ]
 ]
 
--- one that is still there was there, and is not the one that is gone
+-- a slot that is left was there before, and isn't the one that was taken out
 pub has-without : (t slot : ℕ) (ss : List ℕ) → has t (without slot ss) ≡ true → (has t ss ≡ true) × (eqb t slot ≡ false)
 has-without t slot ss h = let p = and_parts (has t ss) (not (eqb t slot)) (sym (has-without_test t slot ss) ∙ h) in (p.0, not_true (eqb t slot) p.1)
 
--- another one is still there
+-- any other slot is still there
 pub has-without-back : (t slot : ℕ) (ss : List ℕ) → has t ss ≡ true → eqb t slot ≡ false → has t (without slot ss) ≡ true
 has-without-back t slot ss h d = has-without_test t slot ss ∙ rw (h, d) refl

@@ -1,4 +1,4 @@
--- Small and Main share the links: what an operation of one queue is, seen over both.
+-- Small and Main share the links: an operation on one queue, seen over both.
 use Rattle.std.proofs.Common.{◌≡◌, ℕ, ◌+◌, ◌^◌, ◌<◌, Bool, true, false, not, eqb, Option, None, List, [], ◌∷◌, ◌++◌, length, drop, replicate, get_or, inl, inr, refl, sym, ap, ◌∙◌, subst, arith}
 use Rattle.std.specs.List.{filter}
 use Rattle.std.proofs.lemmas.Bool.{eqb-true, both_ways, cases_Bool}
@@ -20,7 +20,7 @@ use Rattle.clock2q_queues.proofs.Records.{get_or-same}
 use Rattle.clock2q_queues.proofs.QueuesApart.{KeepsMain-from, KeepsSmall-from, small_apart, main_apart}
 use Rattle.clock2q_queues.proofs.SlotLists.{slots_of-entries, slots_of-mapped, slots_of-append, slots_of-filter, members-chosen}
 
--- queues are their lists, what bounds them, and their counts
+-- queues with the same lists, bounds and counts are equal
 pub queues_equal : (x y : QueueState) → x.small ≡ y.small → x.main ≡ y.main → x.slots ≡ y.slots → x.window ≡ y.window → x.accesses ≡ y.accesses → x.inspections ≡ y.inspections → x ≡ y
 queues_equal x y s m n w a i =
     ap (λ z. record x { small = z }) s
@@ -36,7 +36,7 @@ small_slots-of l small = slots_of-entries _ (small_slots l small)
 pub main_slots-of : (l : LinkState) (main : MainRing) → slots_of (main_entries l main) ≡ main_slots l main
 main_slots-of l main = slots_of-entries _ (main_slots l main)
 
--- What is told of the lists holds of the slots
+-- What holds of the lists holds of the slots
 
 pub in_small : (l : LinkState) (small : Small) (main : MainRing) (shown : QueueState) (slot : ℕ) (b : Bool)
     → queues_shown l small main ≡ shown → has slot (slots_of shown.small) ≡ b → has slot (small_slots l small) ≡ b
@@ -60,22 +60,22 @@ not_among t slot ss d h = elim (cases_Bool (has t ss)) [
   | inr g ↦ g
 ]
 
--- An operation of one queue, seen over both
+-- An operation on one queue, seen over both
 
--- both queues afterwards: they are whole, and shown like this
+-- both queues afterwards: they are whole, and this is their view
 pub record Becomes (new : LinkState) (small' : Small) (main' : MainRing) (shown : QueueState) : Type 0 where
   pub queues : AreQueues new small' main'
   pub is : queues_shown new small' main' ≡ shown
 
 module _ (l : LinkState) (small : Small) (main : MainRing) (q : AreQueues l small main) where
-  -- none of Main's slots is in Small, nor is it one that is in neither queue
+  -- none of Main's slots is in Small, nor is it a slot that isn't in Main
   clear_of_main : (slot : ℕ) → has slot (main_slots l main) ≡ false → (t : ℕ) → has t (main_slots l main) ≡ true → has t (slot ∷ small_slots l small) ≡ false
   clear_of_main slot n t h = or_neither (eqb t slot) (has t (small_slots l small)) (differs t slot (main_slots l main) h n) (main_apart l small main q.small q.main t h)
 
   clear_of_small : (slot : ℕ) → has slot (small_slots l small) ≡ false → (t : ℕ) → has t (small_slots l small) ≡ true → has t (slot ∷ main_slots l main) ≡ false
   clear_of_small slot n t h = or_neither (eqb t slot) (has t (main_slots l main)) (differs t slot (small_slots l small) h n) (small_apart l small main q.small q.main t h)
 
-  -- what is in neither queue afterwards, where the changed slots are all in a queue or free
+  -- a slot that is in neither queue is still free, if it isn't among the changed ones
   stays_free : (new : LinkState) (ss : List ℕ) (t : ℕ) → IsSameBut ss l new → has t ss ≡ false
       → has t (small_slots l small) ≡ false → has t (main_slots l main) ≡ false → standing_at new.records.items t ≡ Free
   stays_free new ss t s n a b = ap (λ (z : Record × Bool). z.0.standing) (s.others t n) ∙ q.elsewhere t a b
@@ -208,7 +208,7 @@ module _ (l : LinkState) (small : Small) (main : MainRing) (q : AreQueues l smal
       } in
       main_changed new main' (from_victim (main_entries l main)) queues k.entries e s.as_many p
 
-  -- the hand moved on from the first slot of Main, which is the last then
+  -- the hand moved on from the first slot of Main, which is then the last
   pub after_pass : (new : LinkState) (main' : MainRing) (slot : ℕ) → without_slot slot (main_entries l main) ≡ drop 1 (main_entries l main) → IsMainRing new main'
       → main_entries new main' ≡ drop 1 (main_entries l main) ++ (slot, false) ∷ [] → new ≡ record l { records = accessed l.records }
       → Becomes new small main' (record (queues_shown l small main) { main = drop 1 (main_entries l main) ++ (slot, false) ∷ []; accesses = accesses_of new; inspections = new.bits.inspections })
@@ -253,7 +253,7 @@ module _ (l : LinkState) (small : Small) (main : MainRing) (q : AreQueues l smal
   pub after_reading : (new : LinkState) → new ≡ record l { records = accessed l.records } → Becomes new small main (record (queues_shown l small main) { accesses = accesses_of l + 1 })
   after_reading new e = after_counting new 1 e
 
--- links on which nothing stands
+-- links with no slot in a queue
 pub AreQueues-blank : (l : LinkState) (small : Small) (main : MainRing) → IsSmallQueue l small → IsMainRing l main → IsBlank l → AreQueues l small main
 AreQueues-blank l small main s m b = record { small = s; main = m; elsewhere = λ t a c. b.nowhere t }
 

@@ -1,4 +1,4 @@
--- Lists of entries by slot: their slots, and what is there when a slot goes or is hit.
+-- Lists of entries by slot: their slots, and how they change when a slot leaves or is hit.
 use Rattle.std.proofs.Common.{◌≡◌, ℕ, suc, ◌-◌, Bool, true, false, not, cond, eqb, Some, None, slice_get, List, [], ◌∷◌, ◌++◌, length, map, take, drop, inl, inr, refl, sym, ap, ◌∙◌, subst, arith}
 use Rattle.std.specs.List.{filter, last_or}
 use Rattle.std.proofs.lemmas.Bool.{eq-eqb, cases_Bool}
@@ -40,7 +40,7 @@ slots_of-hit h slot (e ∷ es) = elim (cases_Bool (eqb e.0 slot)) [
   | inr q ↦ rw q (ap (λ zs. e.0 ∷ zs) (slots_of-hit h slot es))
 ]
 
--- the choice keeps Main's slots
+-- the hand's choice keeps Main's slots
 pub members-chosen : (es : List (ℕ × Bool)) (t : ℕ) → has t (slots_of (from_victim es)) ≡ false → has t (slots_of es) ≡ false
 members-chosen es t h =
     let front = take (set_front es) es in
@@ -94,10 +94,10 @@ pub tail_entry : {X : Type 0} (f : ℕ → X) (ss : List ℕ) (x : ℕ) → last
 tail_entry f [] x e = absurd (cc)
 tail_entry f (s ∷ ss) x e = last-entry f ss s x e
 
--- The first entry goes, or the last
+-- The first entry leaves, or the last
 
 module _ {X : Type 0} where
-  -- the first entry goes
+  -- the first entry leaves
   pub first_out : (s : ℕ) (x : X) (es : List (ℕ × X)) → slice_get es 0 ≡ Some (s, x) → AllApart (slots_of es) → (has s (slots_of es) ≡ true) × (without_slot s es ≡ drop 1 es)
   first_out s x [] h a = absurd (cc)
   first_out s x (e ∷ es) h a =
@@ -109,7 +109,7 @@ module _ {X : Type 0} where
       named : (e : ℕ × X) → Some e ≡ Some (s, x) → s ≡ e.0
       named e h = let k : e ≡ (s, x) = cc in sym (ap (λ (z : ℕ × X). z.0) k)
 
-  -- the last entry goes
+  -- the last entry leaves
   pub last_out : (s : ℕ) (es : List (ℕ × X)) → last_or None (slots_of es) ≡ Some s → AllApart (slots_of es) → (has s (slots_of es) ≡ true) × (without_slot s es ≡ take (length es - 1) es)
   last_out s [] h a = absurd (cc)
   last_out s (e ∷ []) h a =

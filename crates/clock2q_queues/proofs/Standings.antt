@@ -1,4 +1,4 @@
--- What a slot's record tells of the queue that it stands in, and of the slots at the queues' ends.
+-- What a slot's record says of the queue that it is in, and of the slots at the queues' ends.
 use Rattle.std.proofs.Common.{◌≡◌, ◌⊎◌, ℕ, ◌-◌, ◌<◌, ◌≢◌, Bool, true, false, ◌||◌, ◌&&◌, ◌++◌, Some, None, length, take, drop, slice_get, inl, inr, refl, sym, ap, ◌∙◌, subst}
 use Rattle.std.specs.List.{last_or}
 use Rattle.std.proofs.lemmas.Bool.{cases_Bool}
@@ -58,7 +58,7 @@ module _ (l : LinkState) (small : Small) (main : MainRing) (q : AreQueues l smal
       let f : mark ≢ Free = λ h. elim o [ inl y ↦ let p = y.1 in cc | inr y ↦ cc ] in
       (of_small (is_in_small n f), of_main (not_in_main n))
 
-  -- a slot whose record says so stands in one of the queues
+  -- a slot is in one of the queues if its record says so, and only then
   pub stands_anywhere : is_queued mark ≡ has slot (slots_of (small_entries l small) ++ slots_of (main_entries l main))
   stands_anywhere = of mark refl ∙ sym (has-append slot (slots_of (small_entries l small)) (slots_of (main_entries l main)))
     where
@@ -77,7 +77,7 @@ promoted-is window cursor Free bit s = absurd s
 promoted-is window cursor Main bit s = absurd s
 
 module _ (l : LinkState) (small : Small) (main : MainRing) (q : AreQueues l small main) where
-  -- Small's oldest slot stands there
+  -- Small's oldest slot is in Small
   module _ (tail : ℕ) (is : last_or None (small_slots l small) ≡ Some tail) where
     pub tail_there : has tail (small_slots l small) ≡ true
     tail_there = tail_among (small_slots l small) tail is
@@ -97,7 +97,7 @@ module _ (l : LinkState) (small : Small) (main : MainRing) (q : AreQueues l smal
         (last_out tail (small_entries l small) (ap (λ z. last_or None z) (small_slots-of l small) ∙ is)
         (rw (small_slots-of l small) q.small.queue.linked.apart)).1
 
-  -- Main's first slot stands there, and without it the others are left
+  -- Main's first slot is in Main, and without it the others are left
   pub first_there : (slot : ℕ) (bit : Bool) → slice_get (main_entries l main) 0 ≡ Some (slot, bit)
       → (has slot (main_slots l main) ≡ true) × (without_slot slot (main_entries l main) ≡ drop 1 (main_entries l main))
   first_there slot bit is =

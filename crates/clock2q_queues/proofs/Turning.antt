@@ -21,7 +21,7 @@ use Rattle.clock2q_queues.proofs.Leaving.{others_stay, ages_kept, records_now, w
 use Rattle.clock2q_queues.proofs.SlotLists.{tail_among}
 use Rattle.clock2q_queues.proofs.Window.{AreStaying, Admits, Admits-from, aged_slots, cursor_fits}
 
--- a list that ends in this slot is the others and the slot
+-- a list that ends with this slot is the others, then the slot
 ends_in : (ss : List ℕ) (slot : ℕ) → AllApart ss → last_or None ss ≡ Some slot → ss ≡ without slot ss ++ slot ∷ []
 ends_in [] slot a e = absurd (cc)
 ends_in (s ∷ ss) slot a e =
@@ -29,7 +29,7 @@ ends_in (s ∷ ss) slot a e =
     let w : without slot (s ∷ ss) ≡ p.0 = ap (λ z. without slot z) p.1 ∙ without-parted p.0 slot [] (subst (λ z. AllApart z) p.1 a) ∙ append-nil p.0 in
     p.1 ∙ ap (λ z. z ++ slot ∷ []) (sym w)
 
--- where there is a slot, there is a last one
+-- if there is a slot, there is a last one
 pub has_last : (ss : List ℕ) → 0 < length ss → IsSome (last_or None ss)
 has_last [] h = absurd (omega (arith, h))
 has_last (s ∷ ss) h = let x = last_some ss s in subst (λ o. IsSome o) (sym x.1) (search rules)
@@ -38,7 +38,7 @@ has_last (s ∷ ss) h = let x = last_some ss s in subst (λ o. IsSome o) (sym x.
 pub gone : (slot : ℕ) (ss : List ℕ) → has slot (without slot ss) ≡ false
 gone slot ss = has-without_test slot slot ss ∙ rw (eqb_self slot) (and_false (has slot ss))
 
--- where a slot stands was changed, and nothing else
+-- the mark of a slot was changed, and nothing else
 pub restood : (rs : CellsState Record) (slot : ℕ) (standing : Mark) (t : ℕ) → slot < length rs.items
     → (next_at (with_standing slot standing rs).items t ≡ next_at rs.items t) × (previous_at (with_standing slot standing rs).items t ≡ previous_at rs.items t)
     × (standing_at (with_standing slot standing rs).items t ≡ cond (eqb t slot) standing (standing_at rs.items t))
@@ -104,7 +104,7 @@ module _ (slot : ℕ) (old : LinkState) (small : Small) (m : IsSmallQueue old sm
     bits_left : left.bits ≡ old.bits
     bits_left = ap (λ (l : LinkState). l.bits) e ∙ bits-freed standing read ∙ ap (λ (l : LinkState). l.bits) r
 
-    -- the position of the cursor is free for it, and holds another slot at most
+    -- the position of the cursor holds another slot, which has a record, or none
     pub others_fit : IfSome (young_at left small.cursor) (λ t. t < length left.records.items)
     others_fit =
         let below : AllBelow (length left.records.items) rest = subst (λ (rs : List Record). AllBelow (length rs) rest) (sym records_left) (AllBelow-left (length old.records.items) rest (slot ∷ []) linked_before.below) in

@@ -1,4 +1,4 @@
--- Small: what an admission, and a slot that leaves, make of its list and of the window.
+-- Small: how its list and the window change when a slot is admitted or leaves.
 use Rattle.std.proofs.Common.{◌≡◌, ℕ, ◌+◌, ◌^◌, ◌<◌, ◌≢◌, Bool, true, false, cond, eqb, Option, Some, None, slice_get, IfSome, List, [], ◌∷◌, length, map, set, get_or, inl, inr, refl, sym, ap, ◌∙◌, subst, arith}
 use Rattle.std.specs.List.{last_or}
 use Rattle.std.proofs.lemmas.Bool.{eqb-true, eq-eqb, ne_eqb, both_ways, cases_Bool, or_cases, lt-ltb, le-ltb, cases_lt}
@@ -31,11 +31,11 @@ admissions_since-own window cursor h = elim (cases_lt (cursor + 1) window) [
       rw (a, le-ltb cursor 0 (omega arith)) (omega arith)
 ]
 
--- at the cursor stands the oldest of the window
+-- the slot at the cursor is the oldest of the window
 pub admissions_since-cursor : (window cursor : ℕ) → cursor < window → admissions_since window cursor cursor + 1 ≡ window
 admissions_since-cursor window cursor h = rw (le-ltb cursor cursor (omega arith)) (omega arith)
 
--- a young slot at another position is older by one, and still within the window
+-- a young slot at another position grows older by one, and is still within the window
 pub admissions_since-other : (window cursor position : ℕ) → cursor < window → position < window → position ≢ cursor
     → (admissions_since window (next_cursor window cursor) position ≡ admissions_since window cursor position + 1) × (admissions_since window cursor position + 1 < window)
 admissions_since-other window cursor position h p d = elim (cases_lt (cursor + 1) window) [
@@ -53,7 +53,7 @@ admissions_since-other window cursor position h p d = elim (cases_lt (cursor + 1
 Young≢Old : (position : ℕ) → Young position ≢ Old
 Young≢Old position e = cc
 
--- What stands at a position
+-- The slot at a position
 
 is_there-true : (o : Option ℕ) (t : ℕ) → is_there o t ≡ true → o ≡ Some t
 is_there-true None t e = absurd (both_ways false refl e)
@@ -91,7 +91,7 @@ small_slots-is l small ss m = slots_from-is l.records.items small.newest small.l
 pub IsSmallQueue-from : (l : LinkState) (small : Small) (ss : List ℕ) → IsSmall l small ss → IsSmallQueue l small
 IsSmallQueue-from l small ss m = subst (λ z. IsSmall l small z) (sym (small_slots-is l small ss m)) m
 
--- the queue, once the slot at the cursor grew old
+-- the queue after the slot at the cursor became old
 linked_still : (old mid : LinkState) (ss : List ℕ) (cursor : ℕ) → IsLinked old.records.items ss → GrowsOld cursor old mid → IsLinked mid.records.items ss
 linked_still old mid ss cursor k o = record {
   ring = IsRing-kept (next_at old.records.items) (previous_at old.records.items) (next_at mid.records.items) (previous_at mid.records.items) ss k.ring (λ t h. o.nexts t) (λ t h. o.previouses t);
@@ -99,7 +99,7 @@ linked_still old mid ss cursor k o = record {
   below = subst (λ z. AllBelow z ss) (sym o.as_many) k.below;
 }
 
--- the slots of Small, but perhaps for one that goes out: where they stand, and what the window's positions hold
+-- the slots of Small, perhaps without one that leaves: their marks, and what the window's positions hold
 pub record AreStaying (l : LinkState) (cursor : ℕ) (ss : List ℕ) : Type 0 where
   pub standing : (t : ℕ) → has t ss ≡ true → IsInSmall (standing_at l.records.items t)
   pub placed : (t position : ℕ) → has t ss ≡ true → standing_at l.records.items t ≡ Young position → (position < length l.window.items) × (young_at l position ≡ Some t)
@@ -108,11 +108,11 @@ pub record AreStaying (l : LinkState) (cursor : ℕ) (ss : List ℕ) : Type 0 wh
   pub countable : length l.records.items < 2 ^ 32
   pub countable_positions : length l.window.items < 2 ^ 32
 
--- all of them, where none goes out
+-- all of them, if none leaves
 pub all_stay : {l : LinkState} {small : Small} → IsSmallQueue l small → AreStaying l small.cursor (small_slots l small)
 all_stay m = record { standing = m.standing; placed = m.placed; occupied = m.occupied; cursor_in = m.cursor_in; countable = m.queue.countable; countable_positions = m.countable_positions }
 
--- one that stands at the cursor is among the records
+-- a slot at the cursor has a record
 pub cursor_fits : {l : LinkState} {cursor : ℕ} {ss : List ℕ} → AreStaying l cursor ss → AllBelow (length l.records.items) ss → IfSome (young_at l cursor) (λ slot. slot < length l.records.items)
 cursor_fits {l} {cursor} {ss} m b = of (young_at l cursor) refl
   where
@@ -124,7 +124,7 @@ cursor_fits {l} {cursor} {ss} m b = of (young_at l cursor) refl
 abbrev pub aged_slots : LinkState → ℕ → List ℕ → List (ℕ × Age)
 aged_slots l cursor ss = map (λ s. (s, age_at l cursor s)) ss
 
--- a slot was admitted to Small, of which these stay
+-- a slot was admitted to Small, which keeps these
 pub record Admits (slot : ℕ) (old : LinkState) (cursor : ℕ) (ss : List ℕ) (new : LinkState) (small' : Small) : Type 0 where
   pub whole : IsSmallQueue new small'
   pub slots : small_slots new small' ≡ slot ∷ ss
@@ -180,7 +180,7 @@ module _ {slot : ℕ} {old : LinkState} {cursor : ℕ} {ss : List ℕ} {mid aged
   own_standing : standing_at new.records.items slot ≡ Young cursor
   own_standing = standing_new slot ∙ rw (eqb_self slot) refl
 
-  -- what stands in the queue now, stood there before unless it is new
+  -- a slot that is in the queue now was in it before, unless it is new
   young_new : (t position : ℕ) → has t (slot ∷ ss) ≡ true → standing_at new.records.items t ≡ Young position → (position < length new.window.items) × (young_at new position ≡ Some t)
   young_new t position h y = elim (cases_Bool (eqb t slot)) [
     | inl g ↦
@@ -277,7 +277,7 @@ module _ {slot : ℕ} {old : LinkState} {cursor : ℕ} {ss : List ℕ} {mid aged
     };
   }
 
--- a queue with no slot, where no position is taken
+-- a queue with no slot, if no position is taken
 pub IsSmallQueue-empty : (l : LinkState) → IsBlank l → IsSmallQueue l (record { newest = None; oldest = None; len = 0; cursor = 0 })
 IsSmallQueue-empty l b = record {
   queue = record { linked = record { ring = tt; apart = tt; below = tt }; starts = refl; counted = refl; countable = b.countable };
@@ -308,7 +308,7 @@ module _ (slot : ℕ) (old : LinkState) (small : Small) (mid aged : LinkState) (
   pub window_aged : length aged.window.items ≡ length old.window.items
   window_aged = ap (λ (l : LinkState). length l.window.items) e ∙ length-set mid.window.items small.cursor (Some slot) ∙ ap (λ (z : List (Option ℕ)). length z) o.positions
 
-  -- the slots before which a new one is put are there
+  -- the slots between which a new one is put have records
   pub first_fits : (newest : ℕ) → small.newest ≡ Some newest → (newest < length aged.records.items) × (previous_at aged.records.items newest < length aged.records.items)
   first_fits newest h =
       let k = linked_still old mid (small_slots old small) small.cursor m.queue.linked o in

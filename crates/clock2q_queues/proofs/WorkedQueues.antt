@@ -1,4 +1,4 @@
--- The queues' words on lists worked out by hand: the hand's choice with its inspections, and the ages of Small.
+-- The queues' definitions on lists worked out by hand: the hand's choice with its inspections, and the ages of Small.
 use Rattle.std.proofs.Common.{◌≡◌, ℕ, Bool, true, false, List, [], ◌∷◌, ◌++◌, map, refl}
 use Rattle.std.specs.List.{range_with_len}
 use Rattle.clock2q_machine.specs.Ages.{Age, Young, Old}
@@ -6,7 +6,7 @@ use Rattle.clock2q_queues.specs.MainRing.{inspections, from_victim, main_hit_at}
 use Rattle.clock2q_queues.specs.Small.{admitted, small_hit_at, next_cursor}
 use Rattle.clock2q_queues.specs.Queues.{without_slot}
 
--- so many slots from the second on, each with this bit
+-- `n` slots, numbered from `from` on, each with this bit
 abbrev slots_with : Bool → ℕ → ℕ → List (ℕ × Bool)
 slots_with bit from n = map (λ slot. (slot, bit)) (range_with_len from n)
 
@@ -40,7 +40,7 @@ removals_age_the_young : let small = admitted 2 3 (without_slot 3 four_admitted)
     × (small_hit_at 2 small ≡ (3, Young 0) ∷ (2, Old true) ∷ (1, Old false) ∷ (0, Old false) ∷ [])
 removals_age_the_young = (refl, refl, refl)
 
--- slot 3 leaves and is admitted twice, then slot 0 does: slot 3 is young still, so a hit on it counts for nothing
+-- slot 3 leaves and is admitted again twice, then slot 0 once: slot 3 is still young, so a hit on it doesn't count
 emptied_positions : let twice = admitted 2 3 (without_slot 3 (admitted 2 3 (without_slot 3 four_admitted))) in
     let small = admitted 2 0 (without_slot 0 twice) in
     (small ≡ (0, Young 0) ∷ (3, Young 1) ∷ (2, Old false) ∷ (1, Old false) ∷ [])

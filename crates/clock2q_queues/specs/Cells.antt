@@ -3,7 +3,7 @@ use Rattle.std.specs.Prelude.{ℕ, ◌+◌, ◌≤◌, List, Bool, false, slice_
 use Rattle.std.specs.Coded.{Coded, code_by, coded×, coded_ℕ, coded_list}
 use mathlib.Core.Path.{refl}
 
--- items by number, and how often one was read or written
+-- items by number, and the number of reads and writes
 pub record CellsState (T : Type 0) : Type 0 where
   pub items : List T
   pub accesses : ℕ
@@ -14,15 +14,15 @@ cells_state items accesses = record { items = items; accesses = accesses }
 abbrev pub cells_code : {T : Type 0} → Coded T → Coded (CellsState T)
 cells_code {T} t = code_by (List T × ℕ) (coded× (coded_list t) coded_ℕ) (λ c. (c.items, c.accesses)) (λ q. cells_state q.0 q.1) (λ _. refl)
 
--- one was read
+-- an item was read
 abbrev pub accessed : {T : Type 0} → CellsState T → CellsState T
 accessed c = cells_state c.items (c.accesses + 1)
 
--- one was written
+-- an item was written
 abbrev pub written : {T : Type 0} → ℕ → T → CellsState T → CellsState T
 written at item c = cells_state (slice_set c.items at item) (c.accesses + 1)
 
--- a hit bit for each slot, and how often the hand inspected one
+-- a hit bit for each slot, and the number of inspections by the hand
 pub record HitBits : Type 0 where
   pub items : List Bool
   pub inspections : ℕ
@@ -34,13 +34,13 @@ hit_bits items inspections = record { items = items; inspections = inspections }
 abbrev pub bit_in : List Bool → ℕ → Bool
 bit_in bits slot = slice_index_or bits slot false
 
--- the hand inspected one
+-- the hand inspected a bit
 abbrev pub inspected : HitBits → HitBits
 inspected b = hit_bits b.items (b.inspections + 1)
 
 abbrev pub with_bit : ℕ → Bool → HitBits → HitBits
 with_bit slot bit b = hit_bits (slice_set b.items slot bit) b.inspections
 
--- a count went up, by so many at least and so many at most
+-- a count went up by at least `least` and at most `most`
 abbrev pub Rises : (least most old new : ℕ) → Type 0
 Rises least most old new = (old + least ≤ new) × (new ≤ old + most)

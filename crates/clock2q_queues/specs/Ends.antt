@@ -1,4 +1,4 @@
--- What a slot leaves behind when it goes out of Small: its position in the window, and the ends of the queue.
+-- What changes when a slot leaves Small: its position in the window, and the ends of the queue.
 use Rattle.std.specs.Prelude.{ℕ, nat_lt, nat_eq, Option, Some, None, if◌then◌else◌}
 use Rattle.std.specs.Bool.{then_some}
 use Rattle.std.specs.Option.{option_eq}
@@ -14,6 +14,6 @@ position_freed Free l = l
 position_freed Old l = l
 position_freed Main l = l
 
--- an end of the queue after a slot left it, with so many others: where the slot stood there, its neighbour, if there is another slot
+-- an end of the queue after a slot left it: its neighbour if the slot was at that end, or none if no other slot is left
 abbrev pub end_after : Option ℕ → ℕ → ℕ → ℕ → Option ℕ
 end_after end slot others neighbour = if option_eq nat_eq end (Some slot) then then_some (nat_lt 0 others) neighbour else end

@@ -7,8 +7,3 @@ pub mod Rings
 pub mod Small
 pub mod Queues
 pub mod Order
-pub mod Keys
-pub mod KeysLends
-pub mod Indexes
-pub mod Index
-pub mod History

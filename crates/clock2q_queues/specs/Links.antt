@@ -1,4 +1,4 @@
--- What the links hold, and what becomes of it.
+-- What the links hold, and how it changes.
 use Rattle.std.specs.Prelude.{◌≡◌, ℕ, ◌+◌, ◌^◌, ◌<◌, ◌==◌, Bool, true, false, List, [], length, Option, Some, None, slice_get, slice_index_or, replicate, if◌then◌else◌}
 use Rattle.clock2q_queues.specs.Cells.{CellsState, HitBits, cells_state, hit_bits, written, bit_in}
 use Rattle.clock2q_queues.specs.Rings.{has, AllApart, AllBelow, IsRing, around}
@@ -8,7 +8,7 @@ use Rattle.clock2q_queues.specs.declared.links.Mark.TheVariants.{Free, Young, Ol
 
 -- Records by slot number
 
--- the record of a slot that stands nowhere
+-- the record of a slot that is in no queue
 abbrev pub vacant : Record
 vacant = record { previous = 0; next = 0; standing = Free }
 
@@ -33,20 +33,20 @@ with_previous slot previous rs = written slot (record (record_at rs.items slot) 
 abbrev pub with_standing : ℕ → Mark → CellsState Record → CellsState Record
 with_standing slot standing rs = written slot (record (record_at rs.items slot) { standing = standing }) rs
 
--- these slots stand in a ring, each once
+-- these slots form a ring, each of them once
 pub record IsLinked (rs : List Record) (slots : List ℕ) : Type 0 where
   pub ring : IsRing (next_at rs) (previous_at rs) slots
   pub apart : AllApart slots
   pub below : AllBelow (length rs) slots
 
--- a queue that begins at the first slot, if there is one, and has so many: these
+-- these slots are a queue: `first` is its first slot, if there is one, and `count` their number
 pub record IsQueue (rs : List Record) (first : Option ℕ) (count : ℕ) (slots : List ℕ) : Type 0 where
   pub linked : IsLinked rs slots
   pub starts : first ≡ slice_get slots 0
   pub counted : count ≡ length slots
   pub countable : length rs < 2 ^ 32
 
--- the slots of such a queue, in its order
+-- the slots of such a queue, in order
 abbrev pub slots_from : List Record → Option ℕ → ℕ → List ℕ
 slots_from rs None count = []
 slots_from rs (Some first) count = around (next_at rs) first count
@@ -59,7 +59,7 @@ pub record Attaches (slot before : ℕ) (standing : Mark) (old new : CellsState 
   pub as_many : length new.items ≡ length old.items
   pub accesses : new.accesses ≡ old.accesses + 6
 
--- a slot was taken from between its neighbours, and now stands nowhere
+-- a slot was taken from between its neighbours, and is in no queue now
 pub record Detaches (slot : ℕ) (old new : CellsState Record) : Type 0 where
   pub nexts : (t : ℕ) → (t == slot) ≡ false → next_at new.items t ≡ (if t == previous_at old.items slot then next_at old.items slot else next_at old.items t)
   pub previouses : (t : ℕ) → (t == slot) ≡ false → previous_at new.items t ≡ (if t == next_at old.items slot then previous_at old.items slot else previous_at old.items t)
@@ -76,7 +76,7 @@ pub record LinkState : Type 0 where
   pub window : CellsState (Option ℕ)
   pub bits : HitBits
 
--- how often a record or a position was read or written
+-- the number of reads and writes of records and positions
 abbrev pub accesses_of : LinkState → ℕ
 accesses_of l = l.records.accesses + l.window.accesses
 
@@ -90,7 +90,7 @@ young_at l position = slice_index_or l.window.items position None
 abbrev pub slot_at : LinkState → ℕ → Record × Bool
 slot_at l slot = (record_at l.records.items slot, bit_at l slot)
 
--- nothing was done yet: no slot stands anywhere, no bit is set, and no position is taken
+-- the initial state: no slot is in a queue, no bit is set, and no position is taken
 abbrev pub fresh : ℕ → ℕ → LinkState
 fresh slots window = record { records = cells_state (replicate slots vacant) 0; window = cells_state (replicate window None) 0; bits = hit_bits (replicate slots false) 0 }
 
@@ -101,19 +101,19 @@ pub record SetsBit (slot : ℕ) (bit : Bool) (old new : LinkState) : Type 0 wher
   pub window : new.window ≡ old.window
   pub inspections : new.bits.inspections ≡ old.bits.inspections
 
--- all but these slots are as they were
+-- all slots but these are unchanged
 pub record IsSameBut (slots : List ℕ) (old new : LinkState) : Type 0 where
   pub others : (t : ℕ) → has t slots ≡ false → slot_at new t ≡ slot_at old t
   pub as_many : length new.records.items ≡ length old.records.items
 
--- no slot stands anywhere and no position is taken, and there are no more slots and positions than their numbers can tell
+-- no slot is in a queue and no position is taken, and the numbers of slots and of positions fit in 32 bits
 pub record IsBlank (l : LinkState) : Type 0 where
   pub nowhere : (slot : ℕ) → standing_at l.records.items slot ≡ Free
   pub free : (position : ℕ) → young_at l position ≡ None
   pub countable : length l.records.items < 2 ^ 32
   pub countable_positions : length l.window.items < 2 ^ 32
 
--- a slot of Small is old
+-- a slot with this mark is old
 abbrev pub is_old : Mark → Bool
 is_old Free = false
 is_old (Young position) = false

@@ -1,4 +1,4 @@
--- Main as a list from the hand, and what the hand's choice makes of it.
+-- Main as a list from the hand, and how the hand's choice changes it.
 use Rattle.std.specs.Prelude.{◌≡◌, ℕ, Bool, true, false, List, map, ◌==◌, if◌then◌else◌}
 use Rattle.clock2q_machine.specs.Hand as hand
 use Rattle.clock2q_queues.specs.Rings.{has}
@@ -10,20 +10,20 @@ use Rattle.clock2q_queues.specs.declared.main_ring.MainRing.{MainRing}
 abbrev pub main_slots : LinkState → MainRing → List ℕ
 main_slots l main = slots_from l.records.items main.hand main.len
 
--- each with its hit bit
+-- the same, each with its hit bit
 abbrev pub main_entries : LinkState → MainRing → List (ℕ × Bool)
 main_entries l main = map (λ s. (s, bit_at l s)) (main_slots l main)
 
--- these slots are Main's, and stand there
+-- these slots are Main's, and their marks say so
 pub record IsMain (l : LinkState) (main : MainRing) (slots : List ℕ) : Type 0 where
   pub queue : IsQueue l.records.items main.hand main.len slots
   pub standing : (t : ℕ) → has t slots ≡ true → standing_at l.records.items t ≡ Main
 
--- the links hold Main as they should
+-- the links represent Main
 abbrev pub IsMainRing : LinkState → MainRing → Type 0
 IsMainRing l main = IsMain l main (main_slots l main)
 
--- how many slots the hand passes, how often it inspects, and Main from its victim
+-- the number of slots that the hand passes, the number of its inspections, and Main from its victim on
 abbrev pub set_front : List (ℕ × Bool) → ℕ
 set_front main = hand.set_front (λ e. e.1) main
 

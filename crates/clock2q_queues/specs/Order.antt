@@ -4,9 +4,10 @@ use Rattle.clock2q_queues.specs.Cells.{CellsState}
 use Rattle.clock2q_queues.specs.Rings.{AllApart, AllBelow, around}
 use Rattle.clock2q_queues.specs.declared.links.Record.{Record}
 use Rattle.clock2q_queues.specs.Links.{IsQueue, slots_from, next_at}
-use Rattle.clock2q_queues.specs.declared.history.order.Chain.{Chain}
+use Rattle.clock2q_queues.specs.declared.order.Chain.{Chain}
 
--- the places that hold a key, the newest key's first, the free ones that were used before, how many there are in all, and how often records were accessed
+-- the places that hold a key, the newest key's first, the free ones that were used before, the number of places in all,
+-- and the number of accesses to records
 pub record PlaceOrder : Type 0 where
   pub places : List ℕ
   pub free : List ℕ
@@ -17,11 +18,11 @@ pub record PlaceOrder : Type 0 where
 abbrev pub unused : ℕ → PlaceOrder
 unused limit = record { places = []; free = []; limit = limit; accesses = 0 }
 
--- how many places were used
+-- the number of places that were used
 abbrev pub used : PlaceOrder → ℕ
 used o = length o.places + length o.free
 
--- the place for the next key, with so many in order: the head of the chain, else the first one that was not used yet
+-- the place for the next key, with `len` places in order: the head of the chain, or else the first unused one
 abbrev pub place_for : ℕ → List ℕ → ℕ
 place_for len [] = len
 place_for len (place ∷ free) = place
@@ -33,7 +34,7 @@ next_place o = place_for (length o.places) o.free
 abbrev pub free_places : List Record → Chain → List ℕ
 free_places rs chain = around (next_at rs) chain.head chain.len
 
--- the places in order are these, and those in the chain are those: the ones that were used, each of them once
+-- the order consists of `places`, and the chain of `free`: together the places that were used, each of them once
 pub record IsOrderOf (rs : List Record) (newest : Option ℕ) (len : ℕ) (chain : Chain) (places free : List ℕ) : Type 0 where
   pub queue : IsQueue rs newest len places
   pub chained : free_places rs chain ≡ free
@@ -41,7 +42,7 @@ pub record IsOrderOf (rs : List Record) (newest : Option ℕ) (len : ℕ) (chain
   pub below : AllBelow (length places + length free) (places ++ free)
   pub within : length places + length free ≤ length rs
 
--- the links hold the order and the chain as they should
+-- the records represent the order and the chain
 abbrev pub IsOrder : List Record → Option ℕ → ℕ → Chain → Type 0
 IsOrder rs newest len chain = IsOrderOf rs newest len chain (slots_from rs newest len) (free_places rs chain)
 
@@ -49,7 +50,7 @@ IsOrder rs newest len chain = IsOrderOf rs newest len chain (slots_from rs newes
 abbrev pub order_shown : CellsState Record → Option ℕ → ℕ → Chain → PlaceOrder
 order_shown rs newest len chain = record { places = slots_from rs.items newest len; free = free_places rs.items chain; limit = length rs.items; accesses = rs.accesses }
 
--- what callers may rely on: no place stands twice, each was used, and no more were used than there are
+-- what callers may rely on: no place occurs twice, each was used, and no more were used than there are
 pub record IsWholeOrder (o : PlaceOrder) : Type 0 where
   pub apart : AllApart (o.places ++ o.free)
   pub below : AllBelow (used o) (o.places ++ o.free)

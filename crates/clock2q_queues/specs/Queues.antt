@@ -1,4 +1,4 @@
--- Small and Main over one set of links, as the two lists that they are.
+-- Small and Main as two lists, over the links that they share.
 use Rattle.std.specs.Prelude.{◌≡◌, ℕ, Bool, true, false, not, ◌==◌, List, [], map, ◌++◌, length, Option, Some, None}
 use Rattle.std.specs.List.{filter}
 use Rattle.clock2q_machine.specs.Ages.{Age, is_promoted}
@@ -12,7 +12,8 @@ use Rattle.clock2q_queues.specs.declared.queues.Standing.TheVariants as standing
 use Rattle.clock2q_queues.specs.declared.main_ring.MainRing.{MainRing}
 use Rattle.clock2q_queues.specs.declared.small.Small.{Small}
 
--- Small newest first and Main from the hand, each slot with its age or its bit; how many slots and window positions there are, how often links were accessed, and how often the hand inspected
+-- Small newest first and Main from the hand, each slot with its age or its bit; the numbers of slots, of window
+-- positions, of accesses to links, and of inspections by the hand
 pub record QueueState : Type 0 where
   pub small : List (ℕ × Age)
   pub main : List (ℕ × Bool)
@@ -32,7 +33,7 @@ queues_shown l small main = record {
   inspections = l.bits.inspections;
 }
 
--- the links hold both queues, and any other slot stands nowhere
+-- the links represent both queues, and any other slot is free
 pub record AreQueues (l : LinkState) (s : Small) (m : MainRing) : Type 0 where
   pub small : IsSmallQueue l s
   pub main : IsMainRing l m
@@ -46,22 +47,22 @@ slots_of entries = map (λ e. e.0) entries
 abbrev pub without_slot : {X : Type 0} → ℕ → List (ℕ × X) → List (ℕ × X)
 without_slot slot entries = filter (λ e. not (e.0 == slot)) entries
 
--- no slot stands in either queue, and nothing was counted
+-- no slot is in either queue, and nothing was counted
 abbrev pub empty_queues : ℕ → ℕ → QueueState
 empty_queues slots window = record { small = []; main = []; slots = slots; window = window; accesses = 0; inspections = 0 }
 
--- which queue has a slot: one of them, or neither
+-- the queue that a slot is in: one of them, or neither
 abbrev pub IsStanding : Standing → ℕ → QueueState → Type 0
 IsStanding standing.Free slot q = (has slot (slots_of q.small) ≡ false) × (has slot (slots_of q.main) ≡ false)
 IsStanding standing.Small slot q = (has slot (slots_of q.small) ≡ true) × (has slot (slots_of q.main) ≡ false)
 IsStanding standing.Main slot q = (has slot (slots_of q.small) ≡ false) × (has slot (slots_of q.main) ≡ true)
 
--- whether Small's oldest slot goes on to Main rather than out
+-- whether Small's oldest slot goes on to Main instead of leaving
 abbrev pub tail_promoted : Option (ℕ × Age) → Bool
 tail_promoted None = false
 tail_promoted (Some e) = is_promoted e.1
 
--- what callers may rely on: no slot stands twice, and each is one of those that there are
+-- what callers may rely on: no slot occurs twice, and each is below the number of slots
 pub record IsWholeQueues (q : QueueState) : Type 0 where
   pub apart : AllApart (slots_of q.small ++ slots_of q.main)
   pub below : AllBelow q.slots (slots_of q.small ++ slots_of q.main)

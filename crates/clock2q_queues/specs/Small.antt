@@ -1,4 +1,4 @@
--- Small as a list, newest first, of slots with their ages, and what an admission makes of it.
+-- Small as a list of slots with their ages, newest first, and how an admission changes it.
 use Rattle.std.specs.Prelude.{◌≡◌, ℕ, ◌+◌, ◌-◌, ◌^◌, ◌<◌, Bool, true, false, nat_lt, ◌==◌, if◌then◌else◌, List, ◌∷◌, map, length, Option, Some, None}
 use Rattle.std.specs.List.{last_or}
 use Rattle.clock2q_machine.specs.Ages as ages
@@ -9,15 +9,15 @@ use Rattle.clock2q_queues.specs.declared.links.Mark.{Mark}
 use Rattle.clock2q_queues.specs.declared.links.Mark.TheVariants.{Free, Young, Old, Main}
 use Rattle.clock2q_queues.specs.declared.small.Small.{Small}
 
--- where the cursor goes from a position: to the next one, and from the last to the first
+-- the position after the cursor's: the next one, or the first one after the last
 abbrev pub next_cursor : ℕ → ℕ → ℕ
 next_cursor window cursor = if nat_lt (cursor + 1) window then cursor + 1 else 0
 
--- how many admissions the cursor made since it stood at a position: each moved it on by one
+-- the number of admissions after the one at a position: each moves the cursor on by one
 abbrev pub admissions_since : ℕ → ℕ → ℕ → ℕ
 admissions_since window cursor position = if nat_lt position cursor then cursor - 1 - position else cursor + window - 1 - position
 
--- the age of a slot that stands in Small, with its bit
+-- the age of a slot of Small, by its mark and its bit
 abbrev pub age_of : ℕ → ℕ → Mark → Bool → Age
 age_of window cursor (Young position) bit = ages.Young (admissions_since window cursor position)
 age_of window cursor Old bit = ages.Old bit
@@ -31,18 +31,18 @@ age_at l cursor slot = age_of (length l.window.items) cursor (standing_at l.reco
 abbrev pub small_slots : LinkState → Small → List ℕ
 small_slots l small = slots_from l.records.items small.newest small.len
 
--- each with its age
+-- the same, each with its age
 abbrev pub small_entries : LinkState → Small → List (ℕ × Age)
 small_entries l small = map (λ s. (s, age_at l small.cursor s)) (small_slots l small)
 
--- a slot stands in Small
+-- a slot with this mark is in Small
 abbrev pub IsInSmall : Mark → Type 0
 IsInSmall (Young position) = Unit {0}
 IsInSmall Old = Unit {0}
 IsInSmall Free = ⊥
 IsInSmall Main = ⊥
 
--- these slots are Small's and stand there, and the window's positions hold its young ones
+-- these slots are Small's, their marks say so, and the window's positions hold the young ones
 pub record IsSmall (l : LinkState) (small : Small) (slots : List ℕ) : Type 0 where
   pub queue : IsQueue l.records.items small.newest small.len slots
   pub ends : small.oldest ≡ last_or None slots
@@ -52,11 +52,11 @@ pub record IsSmall (l : LinkState) (small : Small) (slots : List ℕ) : Type 0 w
   pub cursor_in : 0 < length l.window.items → small.cursor < length l.window.items
   pub countable_positions : length l.window.items < 2 ^ 32
 
--- the links hold Small as they should
+-- the links represent Small
 abbrev pub IsSmallQueue : LinkState → Small → Type 0
 IsSmallQueue l small = IsSmall l small (small_slots l small)
 
--- a new slot stands in front, and all young ones grow older
+-- a new slot is first, and all young ones grow older
 abbrev pub admitted : ℕ → ℕ → List (ℕ × Age) → List (ℕ × Age)
 admitted window slot small = (slot, ages.Young 0) ∷ map (λ e. (e.0, grown window e.1)) small
 
@@ -64,7 +64,7 @@ admitted window slot small = (slot, ages.Young 0) ∷ map (λ e. (e.0, grown win
 abbrev pub small_hit_at : ℕ → List (ℕ × Age) → List (ℕ × Age)
 small_hit_at slot small = map (λ e. if e.0 == slot then (e.0, touched e.1) else e) small
 
--- whether it is this slot that is there
+-- whether this slot is there
 abbrev pub is_there : Option ℕ → ℕ → Bool
 is_there None slot = false
 is_there (Some there) slot = slot == there

@@ -1,5 +1,5 @@
-//! What the queues stand on: the link records and the hit bits by slot number, and the positions of
-//! Small's window.
+//! What the queues are built on: the link records and the hit bits by slot number, and the
+//! positions of Small's window.
 ghost use Rattle.std.specs.Prelude.{◌≡◌, ℕ, ◌+◌, ◌^◌, ◌<◌, ◌&&◌, length, IfOk, replicate, None, false, if◌then◌else◌, ◌==◌};
 ghost use Rattle.clock2q_queues.specs.Cells.{CellsState, cells_state, accessed, written};
 ghost use Rattle.clock2q_queues.specs.Flags.{is_queued};
@@ -13,7 +13,7 @@ pub(crate) use cells::Cells;
 use std::alloc::{AllocError, Allocator, Global};
 use std::marker::Model;
 
-/// Where a slot stands, as its record says.
+/// The mark in a slot's record: the queue that the slot is in, if any.
 #[derive(Clone, Copy, Debug, PartialEq, Eq)]
 pub(crate) enum Mark {
     /// In neither queue.
@@ -27,7 +27,7 @@ pub(crate) enum Mark {
 }
 
 impl Mark {
-    /// Returns true if the slot stands in a queue.
+    /// Returns true if the slot is in a queue.
     fn is_queued(self) -> bool
         ensures { result ≡ is_queued self }
     {
@@ -38,7 +38,7 @@ impl Mark {
     }
 }
 
-/// The neighbours of a slot in its queue, and where it stands.
+/// The neighbours of a slot in its queue, and its mark.
 #[derive(Clone, Copy, Debug)]
 pub(crate) struct Record {
     pub(crate) previous: u32,
@@ -48,14 +48,14 @@ pub(crate) struct Record {
 
 const _: () = prove!(size_of::<Record>() <= 16);
 
-/// The record of a slot that stands nowhere.
+/// The record of a slot that is in no queue.
 pub(crate) const VACANT: Record = Record {
     previous: 0,
     next: 0,
     standing: Mark::Free,
 };
 
-/// The records and the hit bits of the slots that both queues share, and the window's positions.
+/// The records and the hit bits of the slots, which both queues share, and the window's positions.
 #[derive(Drop)]
 pub(crate) struct Links<A: Allocator = Global> {
     records: Cells<Record, A>,
@@ -91,14 +91,14 @@ impl<A: Allocator> Links<A> {
         })
     }
 
-    /// Returns how many positions the window has.
+    /// Returns the number of positions in the window.
     pub(crate) fn window(&self) -> u32
         ensures { result ≡ length self.now.window.items }
     {
         self.window.len() as u32
     }
 
-    /// Raises the count of accesses by as many as the proof of the call picks.
+    /// Raises the count of accesses by an amount that the proof of the call picks.
     pub(crate) fn charge(&mut self)
         ghost more: { ℕ }
         ensures { self.new ≡ record self.old { records = cells_state self.old.records.items (self.old.records.accesses + more) } }
@@ -124,7 +124,7 @@ impl<A: Allocator> Links<A> {
         self.records.write(slot, content);
     }
 
-    /// Writes where a slot stands.
+    /// Writes the mark of a slot.
     pub(crate) fn set_standing(&mut self, slot: u32, standing: Mark)
         requires { slot < length self.old.records.items }
         ensures { self.new ≡ record self.old { records = accessed (with_standing slot standing self.old.records) } }
@@ -180,7 +180,7 @@ impl<A: Allocator> Links<A> {
         self.records.detach(slot)
     }
 
-    /// Returns the slot that stands at a position of the window.
+    /// Returns the slot at a position of the window, if there is one.
     pub(crate) fn young_at(&mut self, position: u32) -> Option<u32>
         requires { position < length self.old.window.items }
         ensures value { result ≡ young_at self.old position }
@@ -197,7 +197,7 @@ impl<A: Allocator> Links<A> {
         self.window.write(position, occupant);
     }
 
-    /// Returns true if a slot stands in a queue. It reads the byte of the slot's bit, and no record.
+    /// Returns true if a slot is in a queue. It reads the byte with the slot's bit, and no record.
     pub(crate) fn is_standing(&self, slot: u32) -> bool
         requires { slot < length self.now.records.items }
         ensures { result ≡ is_queued (standing_at self.now.records.items slot) }
@@ -224,7 +224,7 @@ impl<A: Allocator> Links<A> {
         self.bits.inspect(slot)
     }
 
-    /// Reads a slot's record, and returns whether the slot is old and its bit set.
+    /// Reads a slot's record, and returns true if the slot is old and its bit is set.
     pub(crate) fn is_old_hit(&mut self, slot: u32) -> bool
         requires { slot < length self.old.records.items }
         ensures value { result ≡ (is_old (standing_at self.old.records.items slot) && bit_at self.old slot) }
@@ -236,7 +236,7 @@ impl<A: Allocator> Links<A> {
         }
     }
 
-    /// Resets every record, every position and every bit to what the constructor makes.
+    /// Resets every record, every position and every bit to its initial state.
     pub(crate) fn reset(&mut self)
         ensures records { self.new.records.items ≡ replicate (length self.old.records.items) vacant }
         ensures positions { self.new.window.items ≡ replicate (length self.old.window.items) None }

@@ -1,4 +1,4 @@
-//! Main: a ring of slots with a hand, which looks for the slot that Main gives up.
+//! Main: a ring of slots with a hand, which looks for the slot to evict.
 ghost use Rattle.std.specs.Prelude.{◌≡◌, ℕ, ◌+◌, ◌^◌, ◌<◌, ◌≤◌, ◌==◌, true, false, not, [], ◌∷◌, ◌++◌, length, drop, Some, slice_get};
 ghost use Rattle.std.specs.List.{filter};
 ghost use Rattle.clock2q_queues.specs.Cells.{Rises, accessed};
@@ -8,8 +8,8 @@ ghost use Rattle.clock2q_queues.specs.Links.{LinkState, IsSameBut, standing_at};
 use crate::links::{Links, Mark, Record};
 use std::alloc::Allocator;
 
-/// A ring of slots. The hand stands at the next one that it will inspect, and a new one stands just
-/// before the hand.
+/// A ring of slots. The hand is at the slot that it inspects next, and a new slot goes just before
+/// the hand.
 #[derive(Drop)]
 pub(crate) struct MainRing {
     hand: Option<u32>,
@@ -27,14 +27,14 @@ impl MainRing {
         MainRing { hand: None, len: 0 }
     }
 
-    /// Returns how many slots there are.
+    /// Returns the number of slots.
     pub(crate) fn len(&self) -> usize
         ensures { (l : LinkState) → IsMainRing l self.now → result ≡ length (main_slots l self.now) }
     {
         self.len
     }
 
-    /// Puts a slot just before the hand, with a clear bit. In an empty ring the hand stands at it.
+    /// Puts a slot just before the hand, with a clear bit. In an empty ring, the hand goes to it.
     pub(crate) fn push<A: Allocator>(&mut self, links: &mut Links<A>, slot: u32)
         requires whole { IsMainRing links.old self.old }
         requires slot_in { slot < length links.old.records.items }
@@ -62,7 +62,7 @@ impl MainRing {
         self.len += 1;
     }
 
-    /// Removes a slot. If the hand stood there, it moves on.
+    /// Removes a slot. If the hand is at that slot, it moves on.
     pub(crate) fn unlink<A: Allocator>(&mut self, links: &mut Links<A>, slot: u32)
         requires whole { IsMainRing links.old self.old }
         requires present { has slot (main_slots links.old self.old) ≡ true }
@@ -81,8 +81,8 @@ impl MainRing {
         }
     }
 
-    /// Moves the hand on to the slot that Main gives up, and returns that slot. The hand passes
-    /// each slot whose bit is set, and clears the bit.
+    /// Moves the hand on to the slot to evict, and returns that slot. The hand passes each slot
+    /// whose bit is set, and clears the bit.
     pub(crate) fn select<A: Allocator>(&mut self, links: &mut Links<A>) -> u32
         requires whole { IsMainRing links.old self.old }
         requires occupied { 0 < length (main_slots links.old self.old) }
@@ -103,8 +103,7 @@ impl MainRing {
         hand
     }
 
-    /// Moves the hand on from the slot at which it stands, whose bit is clear. That slot is then the
-    /// last.
+    /// Moves the hand on from its slot, whose bit is clear. That slot is then the last one.
     pub(crate) fn pass<A: Allocator>(&mut self, links: &mut Links<A>, slot: u32)
         requires whole { IsMainRing links.old self.old }
         requires first { slice_get (main_entries links.old self.old) 0 ≡ Some (slot, false) }
@@ -115,7 +114,7 @@ impl MainRing {
         self.hand = Some(links.read(slot).next);
     }
 
-    /// Empties the ring. The links reset the records.
+    /// Empties the ring. `Links::reset` resets the records.
     pub(crate) fn clear(&mut self)
         ensures empty { (l : LinkState) → main_entries l self.new ≡ [] }
         ensures whole { (l : LinkState) → length l.records.items < 2 ^ 32 → IsMainRing l self.new }

@@ -13,7 +13,7 @@ use crate::small::Small;
 use std::alloc::{AllocError, Allocator, Global};
 use std::marker::Model;
 
-/// The queue that a slot stands in.
+/// The queue that a slot is in.
 ///
 /// # Example
 ///
@@ -32,12 +32,12 @@ pub enum Standing {
     Main,
 }
 
-/// The two queues of a cache's residents. They hold slot numbers from 0, and a slot stands in at
-/// most one of them.
+/// The two queues of a cache's residents. They hold slot numbers from 0, and a slot is in at most
+/// one of them.
 ///
-/// Small has the newest slots, in the order of their admission. The slots of the last admissions,
-/// as many as the window is long, are young: a hit on a young slot doesn't count. Main is a ring
-/// with a hand, and a new slot is put just before the hand.
+/// Small has the newest slots, in order of admission. The slots of the last admissions, as many as
+/// the window is long, are young: a hit on a young slot doesn't count. Main is a ring with a hand,
+/// and a new slot goes just before the hand.
 ///
 /// # Example
 ///
@@ -76,7 +76,7 @@ impl<A: Allocator> Queues<A> {
     ///
     /// # Errors
     ///
-    /// `AllocError` if a request for memory is refused. What was taken until then is given back.
+    /// `AllocError` if a request for memory is refused. Memory taken so far is given back.
     ///
     /// # Cost
     ///
@@ -93,7 +93,7 @@ impl<A: Allocator> Queues<A> {
         })
     }
 
-    /// Returns how many slots stand in Small.
+    /// Returns the number of slots in Small.
     pub fn small_len(&self) -> usize
         ensures len { result ≡ length self.now.small }
         ensures whole { IsWholeQueues self.now }
@@ -101,7 +101,7 @@ impl<A: Allocator> Queues<A> {
         self.small.len()
     }
 
-    /// Returns how many slots stand in Main.
+    /// Returns the number of slots in Main.
     pub fn main_len(&self) -> usize
         ensures len { result ≡ length self.now.main }
     {
@@ -153,7 +153,7 @@ impl<A: Allocator> Queues<A> {
         self.main.push(&mut self.links, slot);
     }
 
-    /// Returns the queue that a slot stands in.
+    /// Returns the queue that a slot is in.
     pub fn standing(&mut self, slot: u32) -> Standing
         requires slot_in { slot < self.old.slots }
         ensures value { IsStanding result slot self.old }
@@ -166,7 +166,7 @@ impl<A: Allocator> Queues<A> {
         }
     }
 
-    /// Returns true if a slot stands in a queue. It accesses no link.
+    /// Returns true if a slot is in a queue. It accesses no link.
     pub fn is_resident(&self, slot: u32) -> bool
         requires slot_in { slot < self.now.slots }
         ensures resident { result ≡ has slot (slots_of self.now.small ++ slots_of self.now.main) }
@@ -219,8 +219,8 @@ impl<A: Allocator> Queues<A> {
         victim
     }
 
-    /// Makes the slot that the hand chooses, as in [`take_victim`](Queues::take_victim), the last of
-    /// Main, and returns it: a new key takes the slot of Main's victim.
+    /// Makes the slot that the hand chooses, as in [`take_victim`](Queues::take_victim), the last
+    /// one of Main, and returns it: a new key takes the slot of Main's victim.
     ///
     /// # Cost
     ///
@@ -237,7 +237,7 @@ impl<A: Allocator> Queues<A> {
         victim
     }
 
-    /// Removes a slot from its queue. If it stands in none, nothing changes.
+    /// Removes a slot from its queue. If it is in neither, nothing changes.
     pub fn leave(&mut self, slot: u32)
         requires slot_in { slot < self.old.slots }
         ensures queues { self.new ≡ record self.old { small = without_slot slot self.old.small; main = without_slot slot self.old.main; accesses = self.new.accesses } }
@@ -250,7 +250,7 @@ impl<A: Allocator> Queues<A> {
         }
     }
 
-    /// Records a hit on a slot. It doesn't count while the slot is young.
+    /// Records a hit on a slot. A hit on a young slot doesn't count.
     pub fn hit(&mut self, slot: u32)
         requires resident { (has slot (slots_of self.old.small) ≡ true) ⊎ (has slot (slots_of self.old.main) ≡ true) }
         ensures queues { self.new ≡ record self.old { small = small_hit_at slot self.old.small; main = main_hit_at slot self.old.main } }
@@ -258,8 +258,8 @@ impl<A: Allocator> Queues<A> {
         self.links.set_bit(slot, true);
     }
 
-    /// Raises the count of link accesses by as many as the proof of the call picks. A caller that
-    /// has to say the count exactly brings it to its bound with this.
+    /// Raises the count of link accesses by an amount that the proof of the call picks. A caller
+    /// that has to state the count exactly raises it to its bound with this.
     pub fn charge(&mut self)
         ghost more: { ℕ }
         ensures charged { self.new ≡ record self.old { accesses = self.old.accesses + more } }

@@ -9,8 +9,8 @@ ghost use Rattle.clock2q_queues.specs.Links.{LinkState, IsBlank, IsSameBut, acce
 use crate::links::{Links, Mark, Record};
 use std::alloc::Allocator;
 
-/// A queue of slots, the newest in front. The window's positions hold the slots that are young, and
-/// the cursor stands at that of the next admission.
+/// A queue of slots, newest first. The window's positions hold the young slots, and the cursor is
+/// the position of the next admission.
 #[derive(Drop)]
 pub(crate) struct Small {
     newest: Option<u32>,
@@ -35,7 +35,7 @@ impl Small {
         }
     }
 
-    /// Returns how many slots there are.
+    /// Returns the number of slots.
     pub(crate) fn len(&self) -> usize
         ensures { (l : LinkState) → IsSmallQueue l self.now → result ≡ length (small_slots l self.now) }
     {
@@ -49,7 +49,7 @@ impl Small {
         self.oldest
     }
 
-    /// Makes old, with a clear bit, the slot whose position is used next.
+    /// Makes the slot at the cursor, if there is one, old with a clear bit.
     fn free_position<A: Allocator>(&self, links: &mut Links<A>)
         requires cursor { self.now.cursor < length links.old.window.items }
         requires slot { IfSome (young_at links.old self.now.cursor) (λ slot. slot < length links.old.records.items) }
@@ -61,7 +61,7 @@ impl Small {
         }
     }
 
-    /// Returns the position after the cursor's.
+    /// Returns the position after the cursor, or the first one after the last.
     fn next_position(&self, window: u32) -> u32
         requires { self.now.cursor < window }
         ensures { result ≡ next_cursor window self.now.cursor }
@@ -73,7 +73,7 @@ impl Small {
         }
     }
 
-    /// Admits a slot, as the newest and young. All other young slots grow older.
+    /// Admits a slot as the newest, and young. All other young slots grow older.
     pub(crate) fn push<A: Allocator>(&mut self, links: &mut Links<A>, slot: u32)
         requires whole { IsSmallQueue links.old self.old }
         requires slot_in { slot < length links.old.records.items }
@@ -107,8 +107,8 @@ impl Small {
         self.len += 1;
     }
 
-    /// Makes the oldest slot the newest, and returns it: as if it left and was admitted again. The
-    /// ring stays as it is, since the newest slot stands behind the oldest.
+    /// Makes the oldest slot the newest, and returns it, as if it left and was admitted again. The
+    /// ring doesn't change, since the newest slot follows the oldest in it.
     #[inline(always)]
     pub(crate) fn reuse_oldest<A: Allocator>(&mut self, links: &mut Links<A>) -> u32
         requires whole { IsSmallQueue links.old self.old }
@@ -136,7 +136,7 @@ impl Small {
         slot
     }
 
-    /// Removes a slot. If it was young, its position is free.
+    /// Removes a slot. If it was young, its position becomes free.
     pub(crate) fn unlink<A: Allocator>(&mut self, links: &mut Links<A>, slot: u32)
         requires whole { IsSmallQueue links.old self.old }
         requires present { has slot (small_slots links.old self.old) ≡ true }
@@ -156,7 +156,7 @@ impl Small {
         self.oldest = end_after(self.oldest, slot, self.len, was.previous);
     }
 
-    /// Empties the queue. The links reset the records and the window's positions.
+    /// Empties the queue. `Links::reset` resets the records and the window's positions.
     pub(crate) fn clear(&mut self)
         ensures empty { (l : LinkState) → small_entries l self.new ≡ [] }
         ensures whole { (l : LinkState) → IsBlank l → IsSmallQueue l self.new }
@@ -165,7 +165,7 @@ impl Small {
     }
 }
 
-/// Empties the position of a slot that was young.
+/// Empties the position of a slot, if it was young.
 fn leave_position<A: Allocator>(links: &mut Links<A>, standing: Mark)
     requires { (position : ℕ) → standing ≡ Mark.Young position → position < length links.old.window.items }
     ensures { links.new ≡ position_freed standing links.old }
@@ -175,7 +175,7 @@ fn leave_position<A: Allocator>(links: &mut Links<A>, standing: Mark)
     }
 }
 
-/// Returns an end of the queue after a slot left it. If that slot stood at this end, the end is now
+/// Returns an end of the queue after a slot left it. If that slot was at this end, the end is now
 /// its neighbour, or `None` if no slot is left.
 fn end_after(end: Option<u32>, slot: u32, others: usize, neighbour: u32) -> Option<u32>
     ensures { result ≡ end_after end slot others neighbour }

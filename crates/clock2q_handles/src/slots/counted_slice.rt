@@ -1,9 +1,9 @@
-//! A slice that is read element by element, and counted.
+//! A slice that counts the reads of its elements.
 ghost use Rattle.std.specs.Prelude.{◌≡◌, ◌+◌, ◌<◌, length, get_or};
 
 use clock2q_count::Count;
 
-/// One of the vectors of a table's slots. There is no other way to its elements than
+/// One of the vectors of a table's slots. Its elements are only accessible through
 /// [read](CountedSlice::read), which counts each.
 #[derive(Drop)]
 pub(crate) struct CountedSlice<'a, T> {
@@ -12,7 +12,7 @@ pub(crate) struct CountedSlice<'a, T> {
 }
 
 impl<'a, T: Copy> CountedSlice<'a, T> {
-    /// Returns a slice of which nothing was read yet.
+    /// Returns a slice of which nothing has been read yet.
     pub(crate) fn new(items: &'a [T]) -> CountedSlice<'a, T>
         ensures items { result.items.now ≡ items.now }
         ensures reads { result.reads.total ≡ 0 }

@@ -1,4 +1,4 @@
-//! A lookup's way to a table's slots, which counts what it reads.
+//! A lookup's access to a table's slots, which counts what it reads.
 ghost use Rattle.clock2q_handles.specs.Layout.{slot_at};
 ghost use Rattle.std.specs.Prelude.{◌≡◌, ◌+◌, ◌%◌, ◌<◌, IfSome, length};
 
@@ -8,8 +8,8 @@ use crate::slots::counted_slice::CountedSlice;
 use std::alloc::Allocator;
 use std::marker::Model;
 
-/// A table's slots, as a lookup sees them: both vectors, each read of which is counted, and the
-/// number of slots less one.
+/// A table's slots, as a lookup sees them: both vectors, whose reads are counted, and the number of
+/// slots minus one.
 #[derive(Drop)]
 pub(crate) struct Reader<'a, H> {
     metadata: CountedSlice<'a, Metadata>,
@@ -38,9 +38,10 @@ impl<'a, H: Copy + Default> Reader<'a, H> {
     pub(crate) fn new<A: Allocator>(slots: &'a Slots<H, A>) -> Reader<'a, H>
         ensures { result ≡ reader_value slots.now.slots 0 0 }
     {
+        let view = slots.view();
         Reader {
-            metadata: CountedSlice::new(slots.metadata.as_slice()),
-            handles: CountedSlice::new(slots.handles.as_slice()),
+            metadata: CountedSlice::new(view.metadata),
+            handles: CountedSlice::new(view.handles),
             mask: slots.count().wrapping_sub(1),
         }
     }
@@ -75,7 +76,7 @@ impl<'a, H: Copy + Default> Reader<'a, H> {
         self.handles.read(slot)
     }
 
-    /// Returns the slot after another: slot 0 after the last.
+    /// Returns the slot after `slot`: slot 0 after the last.
     pub(crate) fn after(&self, slot: usize) -> usize
         requires { slot < length self.now.slots }
         ensures after { result ≡ (slot + 1) % length self.now.slots }

@@ -1,4 +1,4 @@
-//! A table emptied.
+//! Emptying a table.
 ghost use Rattle.std.specs.Prelude.{◌≡◌, ◌+◌, length};
 ghost use Rattle.clock2q_handles.specs.Changes.{IsLaidOut};
 ghost use Rattle.clock2q_handles.specs.Homes.{no_entries};
@@ -7,12 +7,12 @@ use crate::table::Table;
 use std::alloc::Allocator;
 
 impl<H: Copy + Eq + Default, A: Allocator> Table<H, A> {
-    /// Removes every entry. The table keeps its memory, and holds as many entries as before until
-    /// it grows.
+    /// Removes every entry. The table keeps its memory and its capacity.
     ///
     /// # Cost
     ///
-    /// It writes the metadata of each slot once, and no handle.
+    /// One counted write per slot. It writes the metadata alone, which the code shows and no clause
+    /// states.
     pub fn clear(&mut self)
         ensures cleared { self.new.homes ≡ no_entries (length self.old.homes) }
         ensures writes { self.new.writes ≡ self.old.writes + length self.old.slots }

@@ -1,21 +1,20 @@
-//! Growth of a table: how many slots it gets, and how its entries are laid out in them again.
+//! Growth of a table: its new number of slots, and the rebuild of its entries in them.
 ghost use Rattle.clock2q_handles.specs.Changes.{IsLaidOut, IsNearer};
 ghost use Rattle.clock2q_handles.specs.Homes.{capacity, total};
-ghost use Rattle.clock2q_handles.specs.Rehash.{GivesHashes, HashesKnown, AsksHeld, AfterGrowth};
+ghost use Rattle.clock2q_handles.specs.Rehash.{GivesHashes, MayRehash, AsksHeld, AfterGrowth};
 ghost use Rattle.clock2q_handles.specs.Slots.{IsSlotCount};
 ghost use Rattle.clock2q_handles.specs.TableStep.{fit, rebuilt, doubled, reserved, IsBelowCapacity, IsFull, IsShortOf, IsPastSize};
 ghost use Rattle.std.specs.Prelude.{◌≡◌, ◌≢◌, Err, ◌*◌, ◌^◌, ◌<◌, ◌≤◌, ◌+◌, ◌↔◌, ℕ, IsOk, IsOkUnless, OnOk, OnErr, IfOk, IfSome, MatchOption, length};
 
 use crate::error::TableError;
-use crate::metadata::MAX_DISPLACEMENT;
 use crate::slots::Slots;
 use crate::table::Table;
 use std::alloc::Allocator;
 
-/// The least number of slots.
+/// The smallest number of slots of a table that has any.
 const MIN_SLOTS: usize = 16;
 
-/// Returns the least slot count in which `entries` entries fit, if it can be counted.
+/// Returns the smallest slot count in which `entries` entries fit, if it can be counted.
 pub(super) fn slots_for(entries: usize) -> Option<usize>
     ensures count { MatchOption result (2 ^ 64 ≤ fit entries) (λ count. count ≡ fit entries) }
     ensures power { IfSome result IsSlotCount }
@@ -32,7 +31,8 @@ impl<H: Copy + Eq + Default, A: Allocator + Copy> Table<H, A> {
     /// Makes room for `additional` more entries, so that inserting them doesn't grow the table.
     ///
     /// If the table has to grow for that, it calls `rehash` once on each held handle, in the order
-    /// of the slots, for the hash that the handle was inserted under.
+    /// of the slots, for the hash that the handle was inserted under. `rehash` only needs to be
+    /// callable on those, in that order.
     ///
     /// # Errors
     ///
@@ -47,10 +47,10 @@ impl<H: Copy + Eq + Default, A: Allocator + Copy> Table<H, A> {
         additional: usize,
         mut rehash: F,
     ) -> Result<(), TableError>
-        requires rehash { IsShortOf self.old.homes additional → HashesKnown F.FnMut rehash self.old.homes }
+        requires rehash { IsShortOf self.old.homes additional → MayRehash F.FnMut rehash self.old.homes }
         ensures reserved { OnOk result ((key : H → ℕ) → (IsShortOf self.old.homes additional → GivesHashes F.FnMut key self.old.homes rehash) → self.new.homes ≡ reserved key self.old.homes additional) }
 
-        // Where there is room already, nothing changes.
+        // If there is room already, nothing changes.
         ensures kept { total self.old.homes + additional ≤ capacity (length self.old.homes) → total self.old.homes + additional < 2 ^ 64 → IsOk result × (self.new ≡ self.old) }
         ensures asks { OnOk result (IsShortOf self.old.homes additional → (last : F) × AsksHeld F.FnMut rehash self.old.homes last) }
         ensures size { result ≡ Err TableError.Size ↔ IsPastSize self.old.homes additional }
@@ -60,7 +60,7 @@ impl<H: Copy + Eq + Default, A: Allocator + Copy> Table<H, A> {
         ensures laid { IsLaidOut self.new }
         ensures counted { self.old.writes ≤ self.new.writes }
 
-        // No home's entries reach further past it than they did.
+        // No home's entries reach further past it than before.
         ensures nearer { IsNearer self.old.homes self.new.homes }
     {
         let Some(entries) = self.len().checked_add(additional) else {
@@ -79,7 +79,7 @@ impl<H: Copy + Eq + Default, A: Allocator + Copy> Table<H, A> {
     /// Makes room for one more entry: a full table grows.
     #[inline(always)]
     pub(super) fn make_room<F: FnMut(H) -> u64>(&mut self, rehash: &mut F) -> Result<(), TableError>
-        requires rehash { IsFull self.old.homes → HashesKnown F.FnMut rehash.old self.old.homes }
+        requires rehash { IsFull self.old.homes → MayRehash F.FnMut rehash.old self.old.homes }
         ensures grown { OnOk result (AfterGrowth F.FnMut rehash.old self.old.homes (λ homes. self.new.homes ≡ homes)) }
         ensures room { OnOk result (IsBelowCapacity self.new.homes) }
         ensures kept { IsBelowCapacity self.old.homes → IsOk result × (self.new ≡ self.old) }
@@ -100,11 +100,11 @@ impl<H: Copy + Eq + Default, A: Allocator + Copy> Table<H, A> {
         Ok(())
     }
 
-    /// Rebuilds a full table in twice the slots, or in the least count of them.
+    /// Rebuilds a full table in twice its slots, or in `MIN_SLOTS` if that is more.
     #[inline(never)]
     fn grow<F: FnMut(H) -> u64>(&mut self, rehash: &mut F) -> Result<(), TableError>
         requires full { IsFull self.old.homes }
-        requires asked { HashesKnown F.FnMut rehash.old self.old.homes }
+        requires asked { MayRehash F.FnMut rehash.old self.old.homes }
         ensures grown { OnOk result ((key : H → ℕ) → GivesHashes F.FnMut key self.old.homes rehash.old → self.new.homes ≡ rebuilt key (doubled (length self.old.homes)) self.old.homes) }
         ensures room { OnOk result (IsBelowCapacity self.new.homes) }
         ensures asks { OnOk result (AsksHeld F.FnMut rehash.old self.old.homes rehash.new) }
@@ -121,7 +121,7 @@ impl<H: Copy + Eq + Default, A: Allocator + Copy> Table<H, A> {
     }
 
     /// Returns a table of the same entries in `count` slots, each under the hash that `rehash`
-    /// gives its handle.
+    /// returns for its handle.
     fn rebuilt<F: FnMut(H) -> u64>(
         &self,
         count: usize,
@@ -130,7 +130,7 @@ impl<H: Copy + Eq + Default, A: Allocator + Copy> Table<H, A> {
         requires count { IsSlotCount count }
         requires fits { total self.now.homes ≤ capacity count }
         requires multiple { 0 < length self.now.homes → (k : ℕ) × (count ≡ k * length self.now.homes) }
-        requires asked { HashesKnown F.FnMut rehash.old self.now.homes }
+        requires asked { MayRehash F.FnMut rehash.old self.now.homes }
         ensures made { IfOk result (λ t. (key : H → ℕ) → GivesHashes F.FnMut key self.now.homes rehash.old → t.homes ≡ rebuilt key count self.now.homes) }
         ensures asks { OnOk result (AsksHeld F.FnMut rehash.old self.now.homes rehash.new) }
         ensures unasked { OnErr result (rehash.new ≡ rehash.old) }
@@ -138,9 +138,6 @@ impl<H: Copy + Eq + Default, A: Allocator + Copy> Table<H, A> {
         ensures counted { IfOk result (λ t. self.now.writes ≤ t.writes) }
         ensures only { IsOkUnless result TableError.Memory }
     {
-        if self.len > MAX_DISPLACEMENT {
-            return self.rebuilt_of_many(count, rehash);
-        }
         let Ok(mut slots) = Slots::with_count(self.slots.allocator(), count) else {
             return Err(TableError::Memory);
         };
@@ -150,39 +147,5 @@ impl<H: Copy + Eq + Default, A: Allocator + Copy> Table<H, A> {
             slots,
             len: self.len,
         })
-    }
-
-    /// Rebuilds a table of so many entries that a run may become too long.
-    fn rebuilt_of_many<F: FnMut(H) -> u64>(
-        &self,
-        count: usize,
-        rehash: &mut F,
-    ) -> Result<Table<H, A>, TableError>
-        requires count { IsSlotCount count }
-        requires fits { total self.now.homes ≤ capacity count }
-        requires multiple { 0 < length self.now.homes → (k : ℕ) × (count ≡ k * length self.now.homes) }
-        requires asked { HashesKnown F.FnMut rehash.old self.now.homes }
-        ensures made { IfOk result (λ t. (key : H → ℕ) → GivesHashes F.FnMut key self.now.homes rehash.old → t.homes ≡ rebuilt key count self.now.homes) }
-        ensures asks { OnOk result (AsksHeld F.FnMut rehash.old self.now.homes rehash.new) }
-        ensures unasked { OnErr result (rehash.new ≡ rehash.old) }
-        ensures laid { IfOk result IsLaidOut }
-        ensures counted { IfOk result (λ t. self.now.writes ≤ t.writes) }
-        ensures only { IsOkUnless result TableError.Memory }
-    {
-        let Ok(mut slots) = Slots::with_count(self.slots.allocator(), count) else {
-            return Err(TableError::Memory);
-        };
-        slots.take_over_writes(&self.slots);
-        let mut table = Table { slots, len: 0 };
-        let old = self.slots.view();
-        for slot in 0..old.count() {
-            if old.metadata(slot).is_empty() {
-                continue;
-            }
-            let handle = old.handle(slot);
-            let hash = rehash(handle);
-            table.insert_within_capacity(hash, handle)?;
-        }
-        Ok(table)
     }
 }

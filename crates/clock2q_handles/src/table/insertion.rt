@@ -1,9 +1,10 @@
-//! Entries put into a table.
-ghost use Rattle.clock2q_handles.specs.Changes.{PutIn, WritesAtMost, Restores, IsLaidOut};
+//! Insertion of entries into a table.
+ghost use Rattle.clock2q_handles.specs.Changes.{PutIn, Inserts, PutsUnder, WritesAtMost, Restores, IsLaidOut};
+ghost use Rattle.clock2q_handles.specs.Candidates.{EndsAt};
 ghost use Rattle.clock2q_handles.specs.Homes.{candidates, total, with_handle};
 ghost use Rattle.clock2q_handles.specs.Layout.{run, IsTooLong};
 ghost use Rattle.clock2q_handles.specs.Offers.{FindsOrPuts, MayBeOffered};
-ghost use Rattle.clock2q_handles.specs.Positions.{gap_of};
+ghost use Rattle.clock2q_handles.specs.Shifts.{HasRoomAt};
 ghost use Rattle.clock2q_handles.specs.TableStep.{IsBelowCapacity};
 ghost use Rattle.std.specs.Prelude.{false, ◌≡◌, ◌≢◌, Err, ◌^◌, ◌<◌, ◌≤◌, ◌+◌, IsTrue, IsOk, OnOk, OnErr, IfOk};
 
@@ -16,7 +17,7 @@ use std::alloc::Allocator;
 
 impl<H: Copy + Eq + Default, A: Allocator + Copy> Table<H, A> {
     ghost use Rattle.clock2q_handles.specs.Changes.{IsNearer};
-    ghost use Rattle.clock2q_handles.specs.Rehash.{HashesKnown, AsksHeld, AfterGrowth};
+    ghost use Rattle.clock2q_handles.specs.Rehash.{MayRehash, AsksHeld, AfterGrowth};
     ghost use Rattle.clock2q_handles.specs.TableStep.{IsFull};
 
     /// Inserts `handle` under `hash`, last among the entries of its home. Handles and hashes may
@@ -24,17 +25,17 @@ impl<H: Copy + Eq + Default, A: Allocator + Copy> Table<H, A> {
     ///
     /// A full table first grows to twice the slots. Then, and only then, it calls `rehash` once on
     /// each held handle, in the order of the slots, for the hash that the handle was inserted
-    /// under.
+    /// under. `rehash` only needs to be callable on those, in that order.
     ///
     /// # Errors
     ///
     /// - `Memory` if the table is full and there is no memory to grow. The table is unchanged.
-    /// - `RunTooLong` if an entry would stand more than 2^24 - 2 slots past its home, which takes
-    ///   2^24 entries. Nothing is inserted, but a table that was full has grown.
+    /// - `RunTooLong` if an entry would be more than 2^24 - 2 slots past its home, which takes 2^24
+    ///   entries. Nothing is inserted, but a table that was full has grown.
     ///
     /// # Cost
     ///
-    /// Below capacity it writes the slots from the new entry's to the end of its run. A growth is
+    /// Below capacity it writes the slots from the new entry's to the end of its run. Growth is
     /// linear in the number of slots.
     #[inline(always)]
     pub fn insert<F: FnMut(H) -> u64>(
@@ -43,7 +44,7 @@ impl<H: Copy + Eq + Default, A: Allocator + Copy> Table<H, A> {
         handle: H,
         mut rehash: F,
     ) -> Result<(), TableError>
-        requires rehash { IsFull self.old.homes → HashesKnown F.FnMut rehash self.old.homes }
+        requires rehash { IsFull self.old.homes → MayRehash F.FnMut rehash self.old.homes }
         ensures put { result ≢ Err TableError.Memory → AfterGrowth F.FnMut rehash self.old.homes (λ homes. PutIn homes hash handle result self.new.homes) }
         ensures memory { result ≡ Err TableError.Memory → IsFull self.old.homes × (self.new ≡ self.old) }
         ensures few { total self.old.homes + 1 < 2 ^ 24 → result ≢ Err TableError.RunTooLong }
@@ -66,7 +67,8 @@ impl<H: Copy + Eq + Default, A: Allocator + Copy> Table<H, A> {
     ///
     /// # Errors
     ///
-    /// Those of [insert](Table::insert). `RunTooLong` comes only if no candidate was accepted.
+    /// Those of [insert](Table::insert). `RunTooLong` is returned only if no candidate was
+    /// accepted.
     ///
     /// # Cost
     ///
@@ -79,7 +81,7 @@ impl<H: Copy + Eq + Default, A: Allocator + Copy> Table<H, A> {
         handle: H,
         mut rehash: F,
     ) -> Result<(H, bool), TableError>
-        requires rehash { IsFull self.old.homes → HashesKnown F.FnMut rehash self.old.homes }
+        requires rehash { IsFull self.old.homes → MayRehash F.FnMut rehash self.old.homes }
         requires callable { AfterGrowth F.FnMut rehash self.old.homes (λ homes. MayBeOffered M.FnMut matches (candidates homes hash)) }
         ensures settles { result ≢ Err TableError.Memory → (last : M) × AfterGrowth F.FnMut rehash self.old.homes (λ homes. FindsOrPuts M.FnMut matches homes hash handle result self.new.homes last) }
         ensures memory { result ≡ Err TableError.Memory → IsFull self.old.homes × (self.new ≡ self.old) }
@@ -98,16 +100,14 @@ impl<H: Copy + Eq + Default, A: Allocator + Copy> Table<H, A> {
 }
 
 impl<H: Copy + Eq + Default, A: Allocator> Table<H, A> {
-    ghost use Rattle.clock2q_handles.specs.Changes.{Inserts};
-
     /// Inserts `handle` under `hash`, last among the entries of its home, in a table that is below
     /// [capacity](Table::capacity). It takes no memory, and asks for no hash of a held handle. A
     /// table from [with_capacity](Table::with_capacity) takes all its entries this way.
     ///
     /// # Errors
     ///
-    /// `RunTooLong` if an entry would stand more than 2^24 - 2 slots past its home, which takes
-    /// 2^24 entries. The table is unchanged.
+    /// `RunTooLong` if an entry would be more than 2^24 - 2 slots past its home, which takes 2^24
+    /// entries. The table is unchanged.
     ///
     /// # Cost
     ///
@@ -122,16 +122,13 @@ impl<H: Copy + Eq + Default, A: Allocator> Table<H, A> {
         ensures restores { OnOk result (Restores H.PartialEq.eq hash handle self.old self.new) }
         ensures laid { IsLaidOut self.new }
     {
-        if self.len > MAX_DISPLACEMENT {
-            return self.insert_among_many(hash, handle);
-        }
-        self.insert_among_few(hash, handle);
-        Ok(())
+        let gap = self.slots.gap(hash);
+        self.insert_at(gap, hash, handle)
     }
 
     /// Inserts `handle` under `hash` as [insert_within_capacity](Table::insert_within_capacity)
-    /// does, in a table of so few entries that no run becomes too long. It is for a caller whose
-    /// contracts bound the entries: it doesn't look at how many there are.
+    /// does, in a table with so few entries that no run becomes too long. It is for callers whose
+    /// contracts bound the number of entries, which it doesn't check.
     #[inline(always)]
     pub fn insert_among_few(&mut self, hash: u64, handle: H)
         requires room { IsBelowCapacity self.old.homes }
@@ -142,26 +139,11 @@ impl<H: Copy + Eq + Default, A: Allocator> Table<H, A> {
         ensures restores { Restores H.PartialEq.eq hash handle self.old self.new }
         ensures laid { IsLaidOut self.new }
     {
-        self.slots.put(hash, handle);
-        self.len += 1;
+        let gap = self.slots.gap(hash);
+        self.put_at(gap, hash, handle);
     }
 
-    /// Inserts an entry in a table of so many that a run may become too long.
-    #[inline(always)]
-    fn insert_among_many(&mut self, hash: u64, handle: H) -> Result<(), TableError>
-        requires room { IsBelowCapacity self.old.homes }
-        ensures { Inserts H.PartialEq.eq hash handle result self.old self.new }
-    {
-        let home = self.slots.home(hash);
-        let distance = self.slots.end(home);
-        if !self.slots.put_in(home, distance, hash, handle) {
-            return Err(TableError::RunTooLong);
-        }
-        self.len += 1;
-        Ok(())
-    }
-
-    /// Returns the first candidate that is accepted, or inserts the handle where none is.
+    /// Returns the first candidate that is accepted, or inserts the handle if none is.
     fn find_or_put<M: FnMut(H) -> bool>(
         &mut self,
         hash: u64,
@@ -181,40 +163,36 @@ impl<H: Copy + Eq + Default, A: Allocator> Table<H, A> {
         let mut reader = Reader::new(&self.slots);
         match reader.offer(hash, matches) {
             Ok(found) => Ok((found.0, false)),
-            Err(gap) => match self.insert_at(gap, hash, handle) {
+            Err(end) => match self.insert_at(end, hash, handle) {
                 Ok(()) => Ok((handle, true)),
                 Err(refusal) => Err(refusal),
             },
         }
     }
 
-    /// Inserts `handle` under `hash` as [insert_within_capacity](Table::insert_within_capacity)
-    /// does, at the gap where a [search](Table::search) for `hash` ended. The lists of no home may
-    /// have become longer or shorter since then; relabelling leaves a gap as it is.
-    ///
-    /// # Errors
-    ///
-    /// Those of [insert_within_capacity](Table::insert_within_capacity).
-    ///
-    /// # Cost
-    ///
-    /// It writes the slots from the gap to the end of its run, and doesn't read those before it.
+    /// Inserts an entry at the gap for its hash, unless a run would be too long.
     #[inline(always)]
-    pub fn insert_at(&mut self, gap: Gap, hash: u64, handle: H) -> Result<(), TableError>
+    fn insert_at(&mut self, end: Gap, hash: u64, handle: H) -> Result<(), TableError>
         requires room { IsBelowCapacity self.old.homes }
-        requires gap { gap ≡ gap_of self.old.homes hash }
-        ensures put { PutIn self.old.homes hash handle result self.new.homes }
-        ensures refused { OnErr result (self.new ≡ self.old) }
-        ensures few { total self.old.homes + 1 < 2 ^ 24 → IsOk result }
-        ensures writes { WritesAtMost (run self.old.slots hash + 1) self.old self.new }
-        ensures restores { OnOk result (Restores H.PartialEq.eq hash handle self.old self.new) }
-        ensures laid { IsLaidOut self.new }
+        requires ends { EndsAt self.old.slots hash end.mark end.position }
+        ensures { Inserts H.PartialEq.eq hash handle result self.old self.new }
     {
-        if self.len <= MAX_DISPLACEMENT {
-            self.slots.put_at(gap.slot(), gap.wanted(), handle);
-            self.len += 1;
-            return Ok(());
+        if self.len > MAX_DISPLACEMENT && !self.slots.has_room(&end) {
+            return Err(TableError::RunTooLong);
         }
-        self.insert_among_many(hash, handle)
+        self.put_at(end, hash, handle);
+        Ok(())
+    }
+
+    /// Inserts an entry at the gap for its hash, given that there is room.
+    #[inline(always)]
+    fn put_at(&mut self, gap: Gap, hash: u64, handle: H)
+        requires below { IsBelowCapacity self.old.homes }
+        requires ends { EndsAt self.old.slots hash gap.mark gap.position }
+        requires room { HasRoomAt self.old.slots gap.mark gap.position }
+        ensures { PutsUnder H.PartialEq.eq hash handle self.old self.new }
+    {
+        self.slots.put_at(&gap, handle);
+        self.len += 1;
     }
 }

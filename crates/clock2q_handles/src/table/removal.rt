@@ -1,8 +1,7 @@
-//! Entries removed from a table.
+//! Removal of entries from a table.
 ghost use Rattle.clock2q_handles.specs.Changes.{WritesAtMost, IsLaidOut};
 ghost use Rattle.clock2q_handles.specs.Homes.{listed, removed, is_entry_of};
 ghost use Rattle.clock2q_handles.specs.Layout.{run, walk};
-ghost use Rattle.clock2q_handles.specs.Positions.{StandsAt, IsTaken, without_entry};
 ghost use Rattle.std.specs.Bool.{OnFalse};
 ghost use Rattle.std.specs.List.{list_any};
 ghost use Rattle.std.specs.Prelude.{true, ◌≡◌, ◌≤◌, ◌+◌, ℕ};
@@ -26,15 +25,16 @@ impl<H: Copy + Eq + Default, A: Allocator> Table<H, A> {
         ensures laid { IsLaidOut self.new }
         ensures shorter { (x : ℕ) → walk self.new.homes x ≤ walk self.old.homes x }
     {
-        if !self.slots.remove(hash, handle) {
+        let Some(found) = self.slots.find(hash, handle) else {
             return false;
-        }
+        };
+        self.slots.take_out(found);
         self.len -= 1;
         true
     }
 
     /// Removes the first candidate of `hash` that equals `handle`, as [remove](Table::remove) does,
-    /// where the caller knows that there is one. Its walk tests for no end.
+    /// given that there is one. Its walk doesn't test for an end.
     ///
     /// # Cost
     ///
@@ -46,23 +46,8 @@ impl<H: Copy + Eq + Default, A: Allocator> Table<H, A> {
         ensures laid { IsLaidOut self.new }
         ensures shorter { (x : ℕ) → walk self.new.homes x ≤ walk self.old.homes x }
     {
-        self.slots.remove_held(hash, handle);
-        self.len -= 1;
-    }
-
-    /// Removes the entry at a position that [search](Table::search) returned.
-    ///
-    /// # Cost
-    ///
-    /// That of [remove](Table::remove), without the walk to the entry.
-    pub fn remove_at(&mut self, position: usize)
-        requires held { IsTaken self.old.homes position }
-        ensures removed { (x i : ℕ) (e : ℕ × H) → StandsAt self.old.homes x i e position → self.new.homes ≡ without_entry self.old.homes x i }
-        ensures writes { (x i : ℕ) (e : ℕ × H) → StandsAt self.old.homes x i e position → WritesAtMost (run self.old.slots x) self.old self.new }
-        ensures laid { IsLaidOut self.new }
-        ensures shorter { (x : ℕ) → walk self.new.homes x ≤ walk self.old.homes x }
-    {
-        self.slots.remove_at(position);
+        let held = self.slots.find_held(hash, handle);
+        self.slots.take_out(held);
         self.len -= 1;
     }
 }

@@ -1,6 +1,6 @@
-//! Candidates found with their positions.
-ghost use Rattle.clock2q_handles.specs.Homes.{top, candidates};
-ghost use Rattle.clock2q_handles.specs.Offers.{Offers, MayBeOffered, handle_in};
+//! Searches for candidates and their positions.
+ghost use Rattle.clock2q_handles.specs.Homes.{top, candidates, candidates_before};
+ghost use Rattle.clock2q_handles.specs.Offers.{Offers, AcceptsNext, MayBeOffered, handle_in};
 ghost use Rattle.clock2q_handles.specs.Positions.{StandsAt, gap_of};
 ghost use Rattle.std.specs.Prelude.{◌≡◌, ◌<◌, ℕ, IfOk, IfErr, length};
 
@@ -11,10 +11,10 @@ use std::alloc::Allocator;
 
 impl<H: Copy + Eq + Default, A: Allocator> Table<H, A> {
     /// Returns the first candidate of `hash` that `matches` accepts, with its position, which is
-    /// its slot. If it accepts none, returns the gap where an entry of `hash` would be inserted.
+    /// its slot: among equal handles, the slot of the one that was accepted. If it accepts none,
+    /// returns the gap where an entry of `hash` would be inserted.
     ///
-    /// A position is that of the same entry until an entry is inserted or removed, or the table
-    /// grows.
+    /// A position stays valid until an entry is inserted or removed, or the table grows.
     ///
     /// # Cost
     ///
@@ -24,7 +24,7 @@ impl<H: Copy + Eq + Default, A: Allocator> Table<H, A> {
         requires slots { 0 < length self.now.homes }
         requires callable { MayBeOffered M.FnMut matches (candidates self.now.homes hash) }
         ensures offers { (last : M) × Offers M.FnMut matches (candidates self.now.homes hash) (handle_in result) last }
-        ensures found { IfOk result (λ found. (i : ℕ) × StandsAt self.now.homes hash i (top hash, found.0) found.1) }
+        ensures found { IfOk result (λ found. (i : ℕ) × StandsAt self.now.homes hash i (top hash, found.0) found.1 × AcceptsNext M.FnMut matches (candidates_before self.now.homes hash i) found.0) }
         ensures gap { IfErr result (λ gap. gap ≡ gap_of self.now.homes hash) }
     {
         let mut reader = Reader::new(&self.slots);

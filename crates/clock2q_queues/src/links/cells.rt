@@ -1,5 +1,5 @@
-//! The vectors that the links stand on. Only these accessors reach what the vectors hold, and each
-//! read or write of a cell, and each inspection of a bit by the hand, raises a count.
+//! The vectors that hold the links. Only these accessors reach their items, and each read or write
+//! of a cell, and each inspection of a bit by the hand, raises a count.
 ghost use Rattle.std.specs.Prelude.{◌≡◌, ℕ, ◌+◌, ◌<◌, false, IfOk, length, replicate, slice_index_or, slice_set};
 ghost use Rattle.clock2q_queues.specs.Cells.{cells_state, accessed, written};
 ghost use Rattle.clock2q_queues.specs.Links.{Attaches, Detaches, next_at, previous_at, record_at, with_next, with_previous};
@@ -10,7 +10,7 @@ use clock2q_count::Count;
 use std::alloc::{AllocError, Allocator, Global};
 use std::marker::Model;
 
-/// Items by number, with the number of times that one was read or written.
+/// Items by number, with the number of reads and writes.
 #[derive(Drop)]
 pub(crate) struct Cells<T: Copy, A: Allocator = Global> {
     items: Vec<T, A>,
@@ -28,7 +28,7 @@ impl<T: Copy, A: Allocator> Model for Cells<T, A> {
 }
 
 impl<T: Copy, A: Allocator> Cells<T, A> {
-    /// Returns cells that hold these items, none of which was read or written yet.
+    /// Returns cells that hold these items, with no read or write counted yet.
     pub(crate) fn new(items: Vec<T, A>) -> Self
         ensures { result ≡ cells_state items.items 0 }
     {
@@ -38,7 +38,7 @@ impl<T: Copy, A: Allocator> Cells<T, A> {
         }
     }
 
-    /// Returns how many cells there are.
+    /// Returns the number of cells.
     pub(crate) fn len(&self) -> usize
         ensures { result ≡ length self.now.items }
     {
@@ -64,7 +64,7 @@ impl<T: Copy, A: Allocator> Cells<T, A> {
         self.items[at as usize] = item;
     }
 
-    /// Raises the count of accesses by as many as the proof of the call picks.
+    /// Raises the count of accesses by an amount that the proof of the call picks.
     pub(super) fn charge(&mut self)
         ghost more: { ℕ }
         ensures { self.new ≡ cells_state self.old.items (self.old.accesses + more) }
@@ -87,7 +87,7 @@ impl<T: Copy, A: Allocator> Cells<T, A> {
 impl<A: Allocator> Cells<Record, A> {
     ghost use Rattle.clock2q_queues.specs.Links.{with_standing};
 
-    /// Writes where a slot stands. A change of a part counts as a read and a write of the record.
+    /// Writes the mark of a slot. Changing one field counts as a read and a write of the record.
     pub(super) fn set_standing(&mut self, slot: u32, standing: Mark)
         requires { slot < length self.old.items }
         ensures { self.new ≡ accessed (with_standing slot standing self.old) }
@@ -125,7 +125,7 @@ impl<A: Allocator> Cells<Record, A> {
     }
 }
 
-/// Puts a slot just before another, over a view of the records.
+/// Puts a slot just before another, in a slice of the records.
 #[inline(always)]
 fn attach_in(records: &mut [Record], accesses: &mut Count, slot: u32, before: u32, standing: Mark)
     requires slot_in { slot < length records.old }
@@ -145,7 +145,7 @@ fn attach_in(records: &mut [Record], accesses: &mut Count, slot: u32, before: u3
     set_previous(records, accesses, before, slot);
 }
 
-/// Removes a slot from between its neighbours, over a view of the records.
+/// Removes a slot from between its neighbours, in a slice of the records.
 #[inline(always)]
 fn detach_in(records: &mut [Record], accesses: &mut Count, slot: u32) -> Record
     requires slot_in { slot < length records.old }
@@ -163,7 +163,7 @@ fn detach_in(records: &mut [Record], accesses: &mut Count, slot: u32) -> Record
     was
 }
 
-/// Writes the slot behind another. A change of a part counts as a read and a write of the record.
+/// Writes the slot after another. Changing one field counts as a read and a write of the record.
 fn set_next(records: &mut [Record], accesses: &mut Count, slot: u32, next: u32)
     requires { slot < length records.old }
     ensures { cells_state records.new accesses.new.total ≡ accessed (with_next slot next (cells_state records.old accesses.old.total)) }
@@ -173,7 +173,7 @@ fn set_next(records: &mut [Record], accesses: &mut Count, slot: u32, next: u32)
     records[slot as usize].next = next;
 }
 
-/// Writes the slot in front of another.
+/// Writes the slot before another.
 fn set_previous(records: &mut [Record], accesses: &mut Count, slot: u32, previous: u32)
     requires { slot < length records.old }
     ensures { cells_state records.new accesses.new.total ≡ accessed (with_previous slot previous (cells_state records.old accesses.old.total)) }
@@ -183,8 +183,8 @@ fn set_previous(records: &mut [Record], accesses: &mut Count, slot: u32, previou
     records[slot as usize].previous = previous;
 }
 
-/// The hit bits by slot, and whether each slot stands in a queue, with the number of inspections
-/// that the hand made.
+/// The hit bits by slot, and whether each slot is in a queue, with the number of inspections by the
+/// hand.
 #[derive(Drop)]
 pub(super) struct Bits<A: Allocator = Global> {
     flags: Vec<Flags, A>,
@@ -203,7 +203,7 @@ impl<A: Allocator> Bits<A> {
     ghost use Rattle.clock2q_queues.specs.Cells.{hit_bits, bit_in, inspected, with_bit};
     ghost use Rattle.clock2q_queues.specs.Flags.{flag_state, standing_in};
 
-    /// Returns clear bits for `slots` slots that stand nowhere. The hand has inspected none yet.
+    /// Returns clear bits for `slots` slots that are in no queue. The hand has inspected none yet.
     pub(super) fn new(alloc: A, slots: u32) -> Result<Self, AllocError>
         ensures made { IfOk result (λ b. b ≡ flag_state (hit_bits (replicate slots false) 0) (replicate slots false)) }
     {
@@ -213,7 +213,7 @@ impl<A: Allocator> Bits<A> {
         })
     }
 
-    /// Returns true if a slot stands in a queue.
+    /// Returns true if a slot is in a queue.
     pub(super) fn is_standing(&self, slot: u32) -> bool
         requires { slot < length self.now.bits.items }
         ensures { result ≡ standing_in self.now.standing slot }
@@ -221,7 +221,7 @@ impl<A: Allocator> Bits<A> {
         self.flags[slot as usize].is_standing()
     }
 
-    /// Tells that a slot stands in a queue, or in none.
+    /// Records whether a slot is in a queue.
     pub(super) fn set_standing(&mut self, slot: u32, standing: bool)
         requires { slot < length self.old.bits.items }
         ensures bits { self.new.bits ≡ self.old.bits }
@@ -231,7 +231,7 @@ impl<A: Allocator> Bits<A> {
         self.flags[slot as usize] = flags.with_standing(standing);
     }
 
-    /// Clears the bit of a slot, and tells whether the slot stands in a queue.
+    /// Clears the bit of a slot, and records whether the slot is in a queue.
     pub(super) fn renew(&mut self, slot: u32, standing: bool)
         requires { slot < length self.old.bits.items }
         ensures bits { self.new.bits ≡ with_bit slot false self.old.bits }
@@ -272,7 +272,7 @@ impl<A: Allocator> Bits<A> {
         was_set
     }
 
-    /// Clears every bit, and tells that no slot stands in a queue.
+    /// Clears every bit, and records that no slot is in a queue.
     pub(super) fn clear(&mut self)
         ensures { self.new ≡ flag_state (hit_bits (replicate (length self.old.bits.items) false) self.old.bits.inspections) (replicate (length self.old.bits.items) false) }
     {

@@ -1,10 +1,10 @@
-//! What is kept of a slot in one byte: its hit bit, and whether it stands in a queue.
+//! A slot's flags, in one byte: its hit bit, and whether it is in a queue.
 ghost use Rattle.std.specs.Prelude.{◌≡◌, false};
 
-/// The byte of a slot that stands in a queue, with a clear bit. The hit bit is the lowest one.
+/// The byte of a slot that is in a queue, with a clear hit bit, which is the lowest one.
 const STANDING: u8 = 2;
 
-/// A slot's hit bit, and whether the slot stands in a queue.
+/// A slot's hit bit, and whether the slot is in a queue.
 #[derive(Clone, Copy)]
 pub(super) struct Flags {
     byte: u8,
@@ -13,7 +13,7 @@ pub(super) struct Flags {
 impl Flags {
     ghost use Rattle.clock2q_queues.specs.Flags.{is_set, is_standing};
 
-    /// Returns the flags of a slot that stands nowhere, with a clear bit.
+    /// Returns the flags of a slot that is in no queue, with a clear bit.
     pub(super) fn clear() -> Self
         ensures bit { is_set result ≡ false }
         ensures standing { is_standing result ≡ false }
@@ -28,7 +28,7 @@ impl Flags {
         self.byte % 2 == 1
     }
 
-    /// Returns true if the slot stands in a queue.
+    /// Returns true if the slot is in a queue.
     pub(super) fn is_standing(self) -> bool
         ensures { result ≡ is_standing self }
     {
@@ -45,7 +45,7 @@ impl Flags {
         }
     }
 
-    /// Returns the flags of a slot that stands in a queue, or in none.
+    /// Returns the flags with the slot in a queue, or in none.
     pub(super) fn with_standing(self, standing: bool) -> Self
         ensures bit { is_set result ≡ is_set self }
         ensures standing { is_standing result ≡ standing }

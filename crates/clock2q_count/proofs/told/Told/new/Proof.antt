@@ -1,4 +1,4 @@
--- `new` makes a value of no bytes, which shows what the proof of its call names.
+-- `new` makes a value of no bytes, whose view is the value that the proof of its call picks.
 use mathlib.Core.Path.{refl}
 use mathlib.Core.List.{[], ◌∷◌}
 use seplogic.Ra.Ura.{Ura}

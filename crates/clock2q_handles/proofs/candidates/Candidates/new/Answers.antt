@@ -1,7 +1,7 @@
 use Rattle.std.proofs.Common.{◌≡◌, ap, ◌∙◌, arith, length, ◌<◌, ◌%◌}
 use Rattle.clock2q_handles.specs.Candidates.{left_from, unread_from, left_at, unread_at}
 use Rattle.clock2q_handles.specs.Slots.{sought}
-use Rattle.clock2q_handles.proofs.Cursors.{begins_whole, begins_empty}
+use Rattle.clock2q_handles.proofs.walks.Cursors.{begins_whole, begins_empty}
 use Rattle.clock2q_handles.proofs.candidates.Candidates.new.Goals as goal
 use Rattle.clock2q_handles.proofs.candidates.Candidates.new.Goals.{then-count-eq0, else-count-eq0}
 

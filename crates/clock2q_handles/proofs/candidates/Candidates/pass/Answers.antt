@@ -1,6 +1,6 @@
 use Rattle.std.proofs.Common.{length, drop, arith, sym, ap, ◌∙◌}
 use Rattle.clock2q_handles.specs.Slots.{sought}
-use Rattle.clock2q_handles.proofs.Cursors.{HasPassed, standing, passed_on}
+use Rattle.clock2q_handles.proofs.walks.Cursors.{HasPassed, standing, passed_on}
 use Rattle.clock2q_handles.proofs.candidates.Candidates.pass.Given.{Over}
 use Rattle.clock2q_handles.proofs.candidates.Candidates.pass.Goals.{After-after-self-inside, After-next-self-inside}
 use Rattle.clock2q_handles.proofs.candidates.Candidates.pass.Goals as goal

@@ -1,8 +1,8 @@
 use Rattle.std.proofs.Common.{◌≡◌, ◌+◌, ◌%◌, length, arith, rules, sym, ap, ◌∙◌, subst, refl, IfSome, slice_get}
 use Rattle.clock2q_handles.specs.Layout.{slot_at}
 use Rattle.clock2q_handles.specs.Slots.{sought, mark_on}
-use Rattle.clock2q_handles.proofs.Moves.{reach_of_meaning}
-use Rattle.clock2q_handles.proofs.Cursors.{HasStepped, lookup_steps, found_stands}
+use Rattle.clock2q_handles.proofs.shifts.Moves.{reach_of_meaning}
+use Rattle.clock2q_handles.proofs.walks.Cursors.{HasStepped, lookup_steps, found_stands}
 use Rattle.clock2q_handles.proofs.candidates.Candidates.peek.Given.{Over}
 use Rattle.clock2q_handles.proofs.candidates.Candidates.peek.Goals.{After-handle-handle}
 use Rattle.clock2q_handles.proofs.candidates.Candidates.peek.Goals as goal

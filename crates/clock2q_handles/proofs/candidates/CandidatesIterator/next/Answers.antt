@@ -1,5 +1,5 @@
 use Rattle.std.proofs.Common.{◌≡◌, ◌∷◌, ◌∙◌, arith, sym, ap, drop, length}
-use Rattle.clock2q_handles.proofs.Yields.{yields_progress, first_is, none_is}
+use Rattle.clock2q_handles.proofs.walks.Yields.{yields_progress, first_is, none_is}
 use Rattle.clock2q_handles.proofs.candidates.CandidatesIterator.next.Goals as goal
 
 pub returns-in_default-clause-steps : goal.returns-in_default-clause-steps

@@ -1,7 +1,7 @@
 use Rattle.std.proofs.Common.{◌*◌, ◌/◌, sym, ap, ◌∙◌, length}
 use Rattle.clock2q_handles.specs.Homes.{capacity}
-use Rattle.clock2q_handles.proofs.TidyLayout.{length-homes_of}
-use Rattle.clock2q_handles.proofs.Tables.{capacity_quarters}
+use Rattle.clock2q_handles.proofs.layout.TidyLayout.{length-homes_of}
+use Rattle.clock2q_handles.proofs.layout.Tables.{capacity_quarters}
 use Rattle.clock2q_handles.proofs.table.Table.capacity.Goals as goal
 
 pub returns : goal.returns

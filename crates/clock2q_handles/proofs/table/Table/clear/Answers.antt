@@ -2,9 +2,9 @@ use Rattle.std.proofs.Common.{length, sym, ap, ◌∙◌, subst}
 use Rattle.clock2q_handles.specs.Homes.{no_entries}
 use Rattle.clock2q_handles.specs.Layout.{homes_of}
 use Rattle.clock2q_handles.specs.Table.{IsTable}
-use Rattle.clock2q_handles.proofs.Steps.{table-laid}
-use Rattle.clock2q_handles.proofs.Tables.{table-empty, homes_of-empty}
-use Rattle.clock2q_handles.proofs.TidyLayout.{length-homes_of}
+use Rattle.clock2q_handles.proofs.shifts.Steps.{table-laid}
+use Rattle.clock2q_handles.proofs.layout.Tables.{table-empty, homes_of-empty}
+use Rattle.clock2q_handles.proofs.layout.TidyLayout.{length-homes_of}
 use Rattle.clock2q_handles.proofs.table.Table.clear.Goals as goal
 
 pub invariant_of-self : goal.invariant_of-self

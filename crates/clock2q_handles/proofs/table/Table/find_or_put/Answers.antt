@@ -4,11 +4,9 @@ use Rattle.clock2q_handles.specs.Layout.{homes_of}
 use Rattle.clock2q_handles.specs.Changes.{IsLaidOut}
 use Rattle.clock2q_handles.specs.Offers.{Offers, MayBeOffered}
 use Rattle.clock2q_handles.specs.Candidates.{left_from, EndsAt}
-use Rattle.clock2q_handles.specs.Positions.{gap_of}
-use Rattle.clock2q_handles.proofs.Positions.{ends_gap}
-use Rattle.clock2q_handles.proofs.TidyLayout.{length-homes_of}
-use Rattle.clock2q_handles.proofs.Steps.{table-laid}
-use Rattle.clock2q_handles.proofs.Yields.{left_at_start}
+use Rattle.clock2q_handles.proofs.layout.TidyLayout.{length-homes_of}
+use Rattle.clock2q_handles.proofs.shifts.Steps.{table-laid}
+use Rattle.clock2q_handles.proofs.walks.Yields.{left_at_start}
 use Rattle.clock2q_handles.proofs.table.Table.find_or_put.Given.{Over}
 use Rattle.clock2q_handles.proofs.table.Table.find_or_put.Goals.{After-new-reader}
 use Rattle.clock2q_handles.proofs.table.Table.find_or_put.Goals as goal
@@ -28,12 +26,10 @@ pub offer-requires-clause-callable : goal.offer-requires-clause-callable
 offer-requires-clause-callable g c =
     subst (λ hs. MayBeOffered g.M.FnMut c.args.matches.now hs) (sym (list g (goal.at.offer-requires-clause-callable g c).After-new-reader)) c.requires.callable
 
-pub insert_at-requires-clause-gap : goal.insert_at-requires-clause-gap
-insert_at-requires-clause-gap g c =
-    let slots = c.self.inside.slots.slots in
-    let room : total (homes_of slots) < capacity (length (homes_of slots)) = subst (λ t. total t.homes < capacity (length t.homes)) (sym c.self.view_is) c.requires.room in
-    ends_gap slots c.self.invariant.tidy (omega (arith, room, length-homes_of slots)) c.args.hash c.in-Err.gap.position c.in-Err.gap.mark
-    (subst (λ r. EndsAt r.slots c.args.hash c.in-Err.gap.mark c.in-Err.gap.position) c.new-reader.ensures c.in-Err.ensures.ends) ∙ ap (λ t. gap_of t.homes c.args.hash) c.self.view_is
+pub insert_at-requires-clause-ends : goal.insert_at-requires-clause-ends
+insert_at-requires-clause-ends g c =
+    subst (λ t. EndsAt t.slots c.args.hash c.in-Err.end.mark c.in-Err.end.position) c.self.view_is
+    (subst (λ r. EndsAt r.slots c.args.hash c.in-Err.end.mark c.in-Err.end.position) c.new-reader.ensures c.in-Err.ensures.ends)
 
 pub returns-in-Ok-clause-settles : goal.returns-in-Ok-clause-settles
 returns-in-Ok-clause-settles g c =

@@ -1,7 +1,7 @@
 use Rattle.std.proofs.Common.{◌≡◌, ◌-◌, ap, ◌∙◌, arith}
 use Rattle.clock2q_handles.specs.Homes.{candidates}
 use Rattle.clock2q_handles.specs.Layout.{homes_of, walk}
-use Rattle.clock2q_handles.proofs.Yields.{left_at_start}
+use Rattle.clock2q_handles.proofs.walks.Yields.{left_at_start}
 use Rattle.clock2q_handles.proofs.table.Table.get.Goals as goal
 
 pub returns-clause-candidates : goal.returns-clause-candidates

@@ -4,15 +4,15 @@ use Rattle.clock2q_handles.specs.Layout.{homes_of}
 use Rattle.clock2q_handles.specs.TableStep.{rebuilt}
 use Rattle.clock2q_handles.specs.Changes.{IsLaidOut}
 use Rattle.clock2q_handles.specs.Slots.{IsSlotCount}
-use Rattle.clock2q_handles.proofs.TidyLayout.{length-homes_of, tidy-room}
-use Rattle.clock2q_handles.proofs.Steps.{table-laid}
-use Rattle.clock2q_handles.proofs.Growth.{slot_count_doubled, doubled_is, doubled_more, doubled_multiple, rebuilt_room}
-use Rattle.clock2q_handles.proofs.Hashes.{rebuilt-total}
+use Rattle.clock2q_handles.proofs.layout.TidyLayout.{length-homes_of, tidy-room}
+use Rattle.clock2q_handles.proofs.shifts.Steps.{table-laid}
+use Rattle.clock2q_handles.proofs.rebuild.Growth.{slot_count_doubled, doubled_is, doubled_more, doubled_multiple, rebuilt_room}
+use Rattle.clock2q_handles.proofs.rebuild.Hashes.{rebuilt-total}
 use Rattle.clock2q_handles.proofs.table.Table.grow.Given.{Over}
 use Rattle.clock2q_handles.proofs.table.Table.grow.Goals.{After-count, After-drop-self-inside-2}
 use Rattle.clock2q_handles.proofs.table.Table.grow.Goals as goal
 
--- how many homes there are, and that the entries fit
+-- the number of homes, and that the entries fit
 len : (g : Over) (c : After-count g) → length c.args.self.now.homes ≡ c.count.result
 len g c = ap (λ t. length t.homes) (sym c.self.view_is) ∙ length-homes_of c.self.inside.slots.slots ∙ sym c.count.ensures.count
 
@@ -22,7 +22,7 @@ is_count g c = subst IsSlotCount (sym c.count.ensures.count) c.count.ensures.pow
 room : (g : Over) (c : After-count g) → total c.args.self.now.homes ≤ capacity (length c.args.self.now.homes)
 room g c = subst (λ t. total t.homes ≤ capacity (length t.homes)) c.self.view_is (tidy-room c.self.inside.slots.slots c.self.invariant.tidy)
 
--- the lists that a rebuild left
+-- the lists after a rebuild
 made : (g : Over) (c : After-drop-self-inside-2 g) → homes_of c.drop.inside.slots.slots ≡ rebuilt c.requires.asked.0 c.max-count.result c.args.self.now.homes
 made g c = ap (λ t. t.homes) c.drop.view_is ∙ c.in_ok-self-inside.ensures.made c.requires.asked.0 c.requires.asked.1
 

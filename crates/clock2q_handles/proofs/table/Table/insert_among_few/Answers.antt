@@ -1,56 +1,27 @@
-use Rattle.std.proofs.Common.{◌≤◌, ◌+◌, ◌^◌, ◌<◌, length, sym, ap, ◌∙◌, subst, arith}
-use Rattle.clock2q_handles.specs.Homes.{total, capacity, with_handle}
-use Rattle.clock2q_handles.specs.Layout.{homes_of, run, IsTooLong}
-use Rattle.clock2q_handles.proofs.TidyLayout.{length-homes_of}
-use Rattle.clock2q_handles.proofs.Steps.{table-laid}
-use Rattle.clock2q_handles.proofs.Insertions.{Insertion}
-use Rattle.clock2q_handles.proofs.FewEntries.{near_few, insertion_few}
-use Rattle.clock2q_handles.proofs.Promises.{restored_by}
+use Rattle.std.proofs.Common.{◌<◌, ◌+◌, ◌^◌, length, sym, subst, arith}
+use Rattle.clock2q_handles.specs.Candidates.{EndsAt}
+use Rattle.clock2q_handles.specs.Homes.{total, capacity}
+use Rattle.clock2q_handles.specs.Layout.{homes_of}
+use Rattle.clock2q_handles.specs.Shifts.{HasRoomAt}
+use Rattle.clock2q_handles.proofs.layout.TidyLayout.{length-homes_of}
+use Rattle.clock2q_handles.proofs.shifts.Insertions.{few_room}
 use Rattle.clock2q_handles.proofs.table.Table.insert_among_few.Given.{Over}
-use Rattle.clock2q_handles.proofs.table.Table.insert_among_few.Goals.{After-put}
+use Rattle.clock2q_handles.proofs.table.Table.insert_among_few.Goals.{After-self}
 use Rattle.clock2q_handles.proofs.table.Table.insert_among_few.Goals as goal
 
-pub put-requires-clause-near : goal.put-requires-clause-near
-put-requires-clause-near g c = near_few c.self.inside.slots.slots c.self.inside.len c.self.invariant (omega (arith, c.self.invariant.counted, subst (λ t. total t.homes + 1 < 2 ^ 24) (sym c.self.view_is) c.requires.few))
-
-pub put-requires-clause-some : goal.put-requires-clause-some
-put-requires-clause-some g c =
-    let room : total (homes_of c.self.inside.slots.slots) < capacity (length c.self.inside.slots.slots) =
+fits : (g : Over) (c : After-self g) → total (homes_of c.self.inside.slots.slots) < capacity (length c.self.inside.slots.slots)
+fits g c =
     subst (λ m. total (homes_of c.self.inside.slots.slots) < capacity m) (length-homes_of c.self.inside.slots.slots)
-    (subst (λ t. total t.homes < capacity (length t.homes)) (sym c.self.view_is) c.requires.room) in
-    omega (arith, room)
+    (subst (λ t. total t.homes < capacity (length t.homes)) (sym c.self.view_is) c.requires.room)
 
--- what was put in
-step : (g : Over) (c : After-put g) → Insertion c.args.hash c.args.handle c.self.inside.slots.slots c.put.new.self.slots c.self.inside.len c.self.inside.slots.writes c.put.new.self.writes
-step g c =
-    insertion_few c.args.hash c.args.handle c.self.inside.slots.slots c.put.new.self.slots c.self.inside.len
-    c.self.inside.slots.writes c.put.new.self.writes c.self.invariant (omega (arith, c.self.invariant.counted, subst (λ t. total t.homes + 1 < 2 ^ 24) (sym c.self.view_is) c.requires.few))
-    (subst (λ m. total (homes_of c.self.inside.slots.slots) < capacity m) (length-homes_of c.self.inside.slots.slots)
-    (subst (λ t. total t.homes < capacity (length t.homes)) (sym c.self.view_is) c.requires.room)) c.put.ensures.put
+pub gap-gap-requires-clause-some : goal.gap-gap-requires-clause-some
+gap-gap-requires-clause-some g c = omega (arith, fits g (goal.at.gap-gap-requires-clause-some g c).After-self)
 
-pub invariant_of-self : goal.invariant_of-self
-invariant_of-self g c = (step g (goal.at.invariant_of-self g c).After-put).table
+pub put_at-requires-clause-ends : goal.put_at-requires-clause-ends
+put_at-requires-clause-ends g c = subst (λ t. EndsAt t.slots c.args.hash c.gap-gap.result.mark c.gap-gap.result.position) c.self.view_is c.gap-gap.ensures.ends
 
-pub returns-clause-put : goal.returns-clause-put
-returns-clause-put g c =
-    (step g (goal.at.returns-clause-put g c).After-put).homes ∙ ap (λ t. with_handle t.homes c.args.hash c.args.handle) c.self.view_is
-
-pub returns-clause-short : goal.returns-clause-short
-returns-clause-short g c =
-    subst (λ t. IsTooLong (with_handle t.homes c.args.hash c.args.handle) → ⊥) c.self.view_is (step g (goal.at.returns-clause-short g c).After-put).short
-
-pub returns-clause-writes : goal.returns-clause-writes
-returns-clause-writes g c =
-    let done = step g (goal.at.returns-clause-writes g c).After-put in
-    let within : c.put.new.self.writes ≤ c.self.inside.slots.writes + (run c.self.inside.slots.slots c.args.hash + 1) = omega (arith, done.writes) in
-    subst (λ t. (t.writes ≤ c.put.new.self.writes) × (c.put.new.self.writes ≤ t.writes + (run t.slots c.args.hash + 1))) c.self.view_is (done.counted, within)
-
-pub returns-clause-laid : goal.returns-clause-laid
-returns-clause-laid g c = table-laid c.put.new.self.slots (c.self.inside.len + 1) (step g (goal.at.returns-clause-laid g c).After-put).table c.put.new.self.writes
-
-pub returns-clause-restores : goal.returns-clause-restores
-returns-clause-restores g c fresh =
-    let slots = c.self.inside.slots.slots in
-    restored_by g.H.PartialEq.eq slots c.args.self.now.homes (homes_of c.put.new.self.slots) c.args.hash c.args.handle
-    (ap (λ t. t.homes) c.self.view_is) c.self.invariant.tidy c.requires.room (g.met.H.Eq.laws.refl c.args.handle) (returns-clause-put g c) fresh
-    ∙ ap (λ t. t.slots) c.self.view_is
+pub put_at-requires-clause-room : goal.put_at-requires-clause-room
+put_at-requires-clause-room g c =
+    let few = subst (λ t. total t.homes + 1 < 2 ^ 24) (sym c.self.view_is) c.requires.few in
+    subst (λ t. HasRoomAt t.slots c.gap-gap.result.mark c.gap-gap.result.position) c.self.view_is
+    (few_room c.args.hash c.args.handle c.self.invariant (fits g (goal.at.put_at-requires-clause-room g c).After-self) c.gap-gap.ensures.ends (omega (arith, c.self.invariant.counted, few)))

@@ -1,7 +1,7 @@
 use Rattle.std.proofs.Common.{ap, ◌∙◌, subst}
 use Rattle.clock2q_handles.specs.Homes.{total}
 use Rattle.clock2q_handles.specs.Table.{IsWhole}
-use Rattle.clock2q_handles.proofs.Tables.{table-whole}
+use Rattle.clock2q_handles.proofs.layout.Tables.{table-whole}
 use Rattle.clock2q_handles.proofs.table.Table.len.Goals as goal
 
 pub returns-clause-len : goal.returns-clause-len

@@ -1,5 +1,5 @@
 use Rattle.clock2q_handles.proofs.Promises.{whole_laid}
-use Rattle.clock2q_handles.proofs.Growth.{grown_nearer}
+use Rattle.clock2q_handles.proofs.rebuild.Growth.{grown_nearer}
 use Rattle.clock2q_handles.proofs.table.Table.make_room.Goals as goal
 
 pub returns-clause-laid : goal.returns-clause-laid

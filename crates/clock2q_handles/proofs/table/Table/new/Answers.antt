@@ -2,7 +2,7 @@ use Rattle.std.proofs.Common.{[], sym, ap, ◌∙◌, subst}
 use Rattle.clock2q_handles.specs.Layout.{homes_of}
 use Rattle.clock2q_handles.specs.TableStep.{table_value}
 use Rattle.clock2q_handles.specs.Table.{IsTable}
-use Rattle.clock2q_handles.proofs.Tables.{no_slots, table-empty, view-empty, layout-nothing}
+use Rattle.clock2q_handles.proofs.layout.Tables.{no_slots, table-empty, view-empty, layout-nothing}
 use Rattle.clock2q_handles.proofs.table.Table.new.Goals as goal
 
 pub invariant_of-result : goal.invariant_of-result

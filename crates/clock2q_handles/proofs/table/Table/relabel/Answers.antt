@@ -1,43 +1,64 @@
-use Rattle.std.proofs.Common.{◌≡◌, ◌%◌, true, ℕ, length, refl, sym, ap, ◌∙◌, subst}
+use Rattle.std.proofs.Common.{◌≡◌, ◌%◌, ◌+◌, true, ℕ, length, refl, sym, ap, ◌∙◌, subst, arith}
+use Rattle.std.proofs.lemmas.Nat.{mod_below}
 use Rattle.std.specs.List.{list_any}
 use Rattle.clock2q_handles.specs.Homes.{is_entry_of, listed}
 use Rattle.clock2q_handles.specs.Layout.{homes_of}
 use Rattle.clock2q_handles.specs.Positions.{StandsAt, with_entry, relabelled, gap_of}
-use Rattle.clock2q_handles.specs.Table.{IsTable}
-use Rattle.clock2q_handles.proofs.Steps.{listed-home}
-use Rattle.clock2q_handles.proofs.Relabelling.{first_entry}
+use Rattle.clock2q_handles.proofs.shifts.Steps.{listed-home, table-laid}
+use Rattle.clock2q_handles.proofs.shifts.Relabelling.{Relabelling, relabelling, with_entry-gap, first_entry}
+use Rattle.clock2q_handles.proofs.walks.Positions.{some_homes}
 use Rattle.clock2q_handles.proofs.table.Table.relabel.Given.{Over}
-use Rattle.clock2q_handles.proofs.table.Table.relabel.Goals.{After-find_held-position}
+use Rattle.clock2q_handles.proofs.table.Table.relabel.Goals.{After-find_held-slot, After-relabel_at}
 use Rattle.clock2q_handles.proofs.table.Table.relabel.Goals as goal
 
-pub find_held-position-requires-clause-held : goal.find_held-position-requires-clause-held
-find_held-position-requires-clause-held g c =
+pub find_held-slot-requires-clause-held : goal.find_held-slot-requires-clause-held
+find_held-slot-requires-clause-held g c =
     let slots = c.self.inside.slots.slots in
     let test = is_entry_of g.H.PartialEq.eq c.args.hash c.args.handle in
     ap (list_any test) (listed-home slots (c.args.hash % length slots) c.args.hash (λ _. refl)) ∙ subst (λ t. list_any test (listed t.homes c.args.hash) ≡ true) (sym c.self.view_is) c.requires.held
 
-pub invariant_of-self : goal.invariant_of-self
-invariant_of-self g c = subst (λ s. IsTable s.slots c.self.inside.len) (sym c.find_held-position.ensures.kept) c.self.invariant
+pub relabel_at-requires : goal.relabel_at-requires
+relabel_at-requires g c =
+    let found = c.find_held-slot.ensures.found in
+    let slots = c.self.inside.slots.slots in
+    omega (arith, found.slot, mod_below (c.args.hash % length slots + found.distance) (length slots) (omega (arith, found.within)))
 
 -- the entry that was found
-first : (g : Over) (c : After-find_held-position g) → (i : ℕ) × (e : ℕ × g.row.H.Denot) × StandsAt (homes_of c.find_held-position.new.self.slots) c.args.hash i e c.find_held-position.result
-    × (with_entry (homes_of c.find_held-position.new.self.slots) c.args.hash i (e.0, c.args.new)
-    ≡ relabelled g.H.PartialEq.eq (homes_of c.find_held-position.new.self.slots) c.args.hash c.args.handle c.args.new)
-first g c =
-    subst (λ s. (i : ℕ) × (e : ℕ × g.row.H.Denot) × StandsAt (homes_of s.slots) c.args.hash i e c.find_held-position.result
-    × (with_entry (homes_of s.slots) c.args.hash i (e.0, c.args.new) ≡ relabelled g.H.PartialEq.eq (homes_of s.slots) c.args.hash c.args.handle c.args.new))
-    (sym c.find_held-position.ensures.kept)
-    (first_entry g.H.PartialEq.eq c.args.hash c.find_held-position.result c.args.handle c.args.new c.self.inside.slots.slots c.self.inside.len c.self.invariant c.find_held-position.ensures.found)
+first : (g : Over) (c : After-find_held-slot g) → (i : ℕ) × (e : ℕ × g.row.H.Denot) × StandsAt (homes_of c.self.inside.slots.slots) c.args.hash i e c.find_held-slot.result
+    × (with_entry (homes_of c.self.inside.slots.slots) c.args.hash i (e.0, c.args.new)
+    ≡ relabelled g.H.PartialEq.eq (homes_of c.self.inside.slots.slots) c.args.hash c.args.handle c.args.new)
+first g c = first_entry g.H.PartialEq.eq c.args.hash c.find_held-slot.result c.args.handle c.args.new c.self.inside.slots.slots c.self.inside.len c.self.invariant c.find_held-slot.ensures.found
 
-pub relabel_at-requires : goal.relabel_at-requires
-relabel_at-requires g c = let found = first g (goal.at.relabel_at-requires g c).After-find_held-position in record { held = (c.args.hash, found.0, found.1, found.2) }
+-- what was relabelled
+step : (g : Over) (c : After-relabel_at g) (i : ℕ) (e : ℕ × g.row.H.Denot) → StandsAt (homes_of c.self.inside.slots.slots) c.args.hash i e c.find_held-slot.result
+    → Relabelling c.args.new c.self.inside.slots.slots c.relabel_at.new.self.slots c.find_held-slot.result c.self.inside.len
+step g c i e at =
+    subst (λ s. Relabelling c.args.new c.self.inside.slots.slots s.slots c.find_held-slot.result c.self.inside.len) (sym c.relabel_at.ensures)
+    (relabelling c.args.new c.self.inside.slots.slots c.args.hash i c.find_held-slot.result c.self.inside.len e c.self.invariant at)
+
+pub invariant_of-self : goal.invariant_of-self
+invariant_of-self g c =
+    let at = goal.at.invariant_of-self g c in
+    let found = first g at.After-find_held-slot in
+    (step g at.After-relabel_at found.0 found.1 found.2).table
 
 pub returns-clause-relabelled : goal.returns-clause-relabelled
 returns-clause-relabelled g c =
-    let found = first g (goal.at.returns-clause-relabelled g c).After-find_held-position in
-    c.relabel_at.ensures.relabelled c.args.hash found.0 found.1 found.2 ∙ found.3
-    ∙ ap (λ s. relabelled g.H.PartialEq.eq (homes_of s.slots) c.args.hash c.args.handle c.args.new) c.find_held-position.ensures.kept
+    let at = goal.at.returns-clause-relabelled g c in
+    let found = first g at.After-find_held-slot in
+    (step g at.After-relabel_at found.0 found.1 found.2).homes c.args.hash found.0 found.1 found.2 ∙ found.3
     ∙ ap (λ t. relabelled g.H.PartialEq.eq t.homes c.args.hash c.args.handle c.args.new) c.self.view_is
 
 pub returns-clause-gaps : goal.returns-clause-gaps
-returns-clause-gaps g c y = c.relabel_at.ensures.gaps y ∙ ap (λ s. gap_of (homes_of s.slots) y) c.find_held-position.ensures.kept ∙ ap (λ t. gap_of t.homes y) c.self.view_is
+returns-clause-gaps g c y =
+    let at = goal.at.returns-clause-gaps g c in
+    let found = first g at.After-find_held-slot in
+    let homes = homes_of c.self.inside.slots.slots in
+    ap (λ hs. gap_of hs y) ((step g at.After-relabel_at found.0 found.1 found.2).homes c.args.hash found.0 found.1 found.2)
+    ∙ with_entry-gap homes c.args.hash found.0 (found.1.0, c.args.new) (some_homes homes c.args.hash found.0 found.1 found.2.entry) y ∙ ap (λ t. gap_of t.homes y) c.self.view_is
+
+pub returns-clause-laid : goal.returns-clause-laid
+returns-clause-laid g c =
+    let at = goal.at.returns-clause-laid g c in
+    let found = first g at.After-find_held-slot in
+    table-laid c.relabel_at.new.self.slots c.self.inside.len (step g at.After-relabel_at found.0 found.1 found.2).table c.relabel_at.new.self.writes

@@ -2,14 +2,14 @@ use Rattle.std.proofs.Common.{◌≡◌, ◌<◌, ◌≤◌, ◌+◌, ◌*◌, l
 use Rattle.clock2q_handles.specs.Homes.{total, capacity, count}
 use Rattle.clock2q_handles.specs.Layout.{spill_of}
 use Rattle.clock2q_handles.proofs.Promises.{whole_laid}
-use Rattle.clock2q_handles.proofs.TidyLayout.{capacity-lt}
-use Rattle.clock2q_handles.proofs.TooLong.{rebuilt-reach}
-use Rattle.clock2q_handles.proofs.Growth.{larger_multiple}
+use Rattle.clock2q_handles.proofs.layout.TidyLayout.{capacity-lt}
+use Rattle.clock2q_handles.proofs.layout.TooLong.{rebuilt-reach}
+use Rattle.clock2q_handles.proofs.rebuild.Growth.{larger_multiple}
 use Rattle.clock2q_handles.proofs.table.Table.reserve.Given.{Over}
 use Rattle.clock2q_handles.proofs.table.Table.reserve.Goals.{In-Some-slots_for}
 use Rattle.clock2q_handles.proofs.table.Table.reserve.Goals as goal
 
--- how many entries there are to be
+-- the number of entries to make room for
 entries : (g : Over) (c : In-Some-slots_for g) → c.in-Some.entries ≡ total c.args.self.now.homes + c.args.additional
 entries g c = omega (arith, c.in-Some.ensures.1, c.len.ensures.len)
 

@@ -3,7 +3,7 @@ use Rattle.clock2q_handles.specs.Homes.{no_entries}
 use Rattle.clock2q_handles.specs.Layout.{homes_of, layout}
 use Rattle.clock2q_handles.specs.TableStep.{table_value, made_for}
 use Rattle.clock2q_handles.specs.Table.{IsTable}
-use Rattle.clock2q_handles.proofs.Tables.{table-empty, view-empty, layout-nothing, made_for-some}
+use Rattle.clock2q_handles.proofs.layout.Tables.{table-empty, view-empty, layout-nothing, made_for-some}
 use Rattle.clock2q_handles.proofs.table.Table.with_capacity.Goals as goal
 
 pub returns-then-entries-eq0-clause-made : goal.returns-then-entries-eq0-clause-made

@@ -3,7 +3,7 @@ use Rattle.std.proofs.lemmas.Bool.{cases_lt}
 use Rattle.std.specs.Int.{IsNextPowerOfTwo}
 use Rattle.clock2q_handles.specs.TableStep.{fit}
 use Rattle.clock2q_handles.specs.Slots.{IsSlotCount}
-use Rattle.clock2q_handles.proofs.SlotCounts.{fit_from_power, fit_enough, slot_count_from_power}
+use Rattle.clock2q_handles.proofs.rebuild.SlotCounts.{fit_from_power, fit_enough, slot_count_from_power}
 use Rattle.clock2q_handles.proofs.table.growth.slots_for.Goals as goal
 
 pub returns-in_default-clause-count : goal.returns-in_default-clause-count

@@ -12,7 +12,7 @@ detach-was-requires g c =
     let n = neighbours_fit l.records.items (main_slots l c.args.self.now) c.args.slot c.requires.whole.queue.linked c.requires.present in
     record { slot_in = n.0; next_in = n.1; previous_in = n.2 }
 
--- the hand stood at the slot, and stands at the next one now
+-- the hand was at the slot, and is at the next one now
 pub returns-then-eq-clause-whole : goal.returns-then-eq-clause-whole
 returns-then-eq-clause-whole g c =
     let old = c.args.links.now in
@@ -33,7 +33,7 @@ returns-then-eq-clause-entries g c =
     (UnlinksMain-from c.args.slot old main c.detach-was.new.self c.requires.whole c.requires.present c.detach-was.ensures.detached c.detach-was.ensures.rest
     (record { hand = c.then_some-self.result; len = main.len - 1 }) (hand ∙ next ∙ gone) refl).entries
 
--- it stood elsewhere, and stays
+-- it was at another slot, and stays there
 pub returns-else-eq-clause-whole : goal.returns-else-eq-clause-whole
 returns-else-eq-clause-whole g c =
     let old = c.args.links.now in

@@ -2,9 +2,9 @@ use Rattle.std.proofs.Common.{◌≡◌, ◌+◌, ◌%◌, ◌≤◌, length, ap
 use Rattle.clock2q_handles.specs.Layout.{slot_at, reach}
 use Rattle.clock2q_handles.specs.Slots.{meaning, sought, mark_of, mark_on, mark_reach}
 use Rattle.clock2q_handles.specs.declared.metadata.Wanted.{Wanted}
-use Rattle.clock2q_handles.proofs.Moves.{reach_of_meaning, refused}
-use Rattle.clock2q_handles.proofs.Cursors.{lookup_ends, lookup_steps, goes_on, HasStepped}
-use Rattle.clock2q_handles.proofs.Carrying.{walks_on}
+use Rattle.clock2q_handles.proofs.shifts.Moves.{reach_of_meaning, refused}
+use Rattle.clock2q_handles.proofs.walks.Cursors.{lookup_ends, lookup_steps, goes_on, HasStepped}
+use Rattle.clock2q_handles.proofs.shifts.Carrying.{walks_on}
 use Rattle.clock2q_handles.proofs.slots.reader.Reader.candidate.Given.{Over}
 use Rattle.clock2q_handles.proofs.slots.reader.Reader.candidate.Goals.{After-is, After-ends_walk_for, After-after-slot}
 use Rattle.clock2q_handles.proofs.slots.reader.Reader.candidate.Goals as goal

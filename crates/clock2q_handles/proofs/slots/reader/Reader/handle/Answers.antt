@@ -1,6 +1,6 @@
 use Rattle.std.proofs.Common.{◌≡◌, IfSome, subst, arith}
 use Rattle.clock2q_handles.specs.Layout.{slot_at}
-use Rattle.clock2q_handles.proofs.Cells.{read_words, handle_read_at}
+use Rattle.clock2q_handles.proofs.shifts.Cells.{read_words, handle_read_at}
 use Rattle.clock2q_handles.proofs.slots.reader.Reader.handle.Goals as goal
 
 pub read-requires : goal.read-requires

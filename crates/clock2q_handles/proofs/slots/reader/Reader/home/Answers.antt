@@ -1,6 +1,6 @@
 use Rattle.std.proofs.Common.{◌≡◌, ◌-◌, ◌%◌, length, bit_and, ap, ◌∙◌, arith}
 use Rattle.std.proofs.lemmas.Nat.{mod_below}
-use Rattle.clock2q_handles.proofs.Cells.{read_words, slot_mask}
+use Rattle.clock2q_handles.proofs.shifts.Cells.{read_words, slot_mask}
 use Rattle.clock2q_handles.proofs.slots.reader.Reader.home.Goals as goal
 
 pub returns-clause-home : goal.returns-clause-home

@@ -1,13 +1,15 @@
-use Rattle.std.proofs.Common.{◌≡◌, ◌+◌, ◌%◌, ◌∷◌, length, true, false, Some, IfSome, refl, sym, ap, ◌∙◌, subst, arith}
+use Rattle.std.proofs.Common.{◌≡◌, ◌+◌, ◌%◌, [], ◌∷◌, ◌++◌, length, true, false, Some, None, IfSome, refl, sym, ap, ◌∙◌, subst, arith}
+use Rattle.std.proofs.lemmas.List.{append_assoc}
 use Rattle.std.specs.Fn.{Called}
 use Rattle.std.specs.Prelude.{IsSome}
 use Rattle.clock2q_handles.specs.Candidates.{left_at, left_from, unread_at, IsLookup, IsWalkFor, EndsAt}
 use Rattle.clock2q_handles.specs.Layout.{slot_at}
 use Rattle.clock2q_handles.specs.Offers.{Offers, TakesInTurn}
 use Rattle.clock2q_handles.specs.Slots.{sought, mark_of, mark_on}
-use Rattle.clock2q_handles.proofs.Carrying.{walks_begin, walks_on}
-use Rattle.clock2q_handles.proofs.Cursors.{HasStepped, HasFound, has_found, begins_whole, lookup_begins}
-use Rattle.clock2q_handles.proofs.Finding.{candidate}
+use Rattle.clock2q_handles.proofs.offers.Accepting.{Offers-push, offered_met}
+use Rattle.clock2q_handles.proofs.shifts.Carrying.{walks_begin, walks_on}
+use Rattle.clock2q_handles.proofs.walks.Cursors.{HasStepped, HasFound, has_found, begins_whole, lookup_begins}
+use Rattle.clock2q_handles.proofs.walks.Finding.{candidate}
 use Rattle.clock2q_handles.proofs.slots.reader.Reader.offer.Given.{Over}
 use Rattle.clock2q_handles.proofs.slots.reader.Reader.offer.Goals.{After-handle-handle, After-next-wanted}
 use Rattle.clock2q_handles.proofs.slots.reader.Reader.offer.Goals as goal
@@ -28,6 +30,7 @@ loop-end-init g c =
       reads = omega arith;
       read = ap (λ s. c.args.self.now.reads + unread_at slots s n) c.new-wanted.ensures ∙ ap (λ k. c.args.self.now.reads + k) whole.1;
       handles = ap (λ hs. c.args.self.now.handles + length hs) (sym left);
+      rejected = ([], left, (refl, refl));
       callable = subst (λ hs. TakesInTurn g.F.FnMut c.args.matches.now hs) left c.requires.callable.in_turn;
       offers = λ found last given. subst (λ hs. Offers g.F.FnMut c.args.matches.now hs found last) (sym left) given;
     }
@@ -49,7 +52,7 @@ found g c =
     c.loop-end.slot c.in-Ok.here c.handle-handle.result c.loop-end.self.reads c.candidate.new.self.reads) c.loop-end.invariant.same
     (has_found c.loop-end.self.slots c.handle-handle.result is.lookup is.some is.found is.left handle is.read)
 
--- the walk came to it
+-- the walk reached it
 came : (g : Over) (c : After-handle-handle g) → IsWalkFor c.args.self.now.slots c.args.hash (sought c.in-Ok.found) c.in-Ok.here
 came g c =
     let l = c.loop-end.invariant in
@@ -64,7 +67,18 @@ returns-then-matches-clause-at g c =
     let walk = came g (goal.at.returns-then-matches-clause-at g c).After-handle-handle in
     let mark = subst (λ s. mark_of (slot_at s c.in-Ok.here) ≡ sought c.in-Ok.found) l.same c.in-Ok.ensures.found in
     let handle = subst (λ s. IfSome (slot_at s c.in-Ok.here) (λ p. r ≡ p.entry.1)) (c.candidate.ensures.same ∙ l.same) c.handle-handle.ensures.handle in
-    record { distance = walk.distance; come = walk.come; here = candidate c.args.hash (sought c.in-Ok.found) (slot_at slots c.in-Ok.here) walk.distance r (sym mark) walk.mark handle }
+    let left = subst (λ s. left_at s (sought c.loop-end.wanted) c.loop-end.slot ≡ left_at s (sought c.in-Ok.found) c.in-Ok.here) l.same c.in-Ok.ensures.left in
+    let before = l.rejected.0 in
+    let met = offered_met slots c.requires.tidy c.args.hash (sought c.in-Ok.found) c.in-Ok.here before walk (l.rejected.1 ∙ ap (λ hs. before ++ hs) left) in
+    record {
+      at = record { distance = walk.distance; come = walk.come; here = candidate c.args.hash (sought c.in-Ok.found) (slot_at slots c.in-Ok.here) walk.distance r (sym mark) walk.mark handle };
+      accepts = record {
+        asked = c.loop-end.matches;
+        last = c.matches.new.self;
+        rejects = subst (λ hs. Offers g.F.FnMut c.args.matches.now hs None c.loop-end.matches) met l.rejected.2;
+        accepts = subst (λ b. Called g.F.FnMut c.loop-end.matches (r, tt) b c.matches.new.self) c.if-matches.true c.matches.ensures;
+      };
+    }
 
 -- it is the first that is left
 first : (g : Over) (c : After-handle-handle g) → left_at c.args.self.now.slots (sought c.loop-end.wanted) c.loop-end.slot
@@ -135,6 +149,11 @@ loop-end-preserved g c =
       reads = omega (arith, l.reads, c.candidate.ensures.reads, c.handle-handle.ensures.reads);
       read = omega (arith, l.read, here.read, next.0.read, c.handle-handle.ensures.reads);
       handles = omega (arith, l.handles, ap length next.1, c.candidate.ensures.handles, c.handle-handle.ensures.counted);
+      rejected = (
+        l.rejected.0 ++ r ∷ [],
+        l.rejected.1 ∙ ap (λ hs. l.rejected.0 ++ hs) next.1 ∙ sym (append_assoc l.rejected.0 (r ∷ []) rest),
+        Offers-push g.F.FnMut c.args.matches.now l.rejected.0 c.loop-end.matches r f l.rejected.2 called,
+      );
       callable = (subst (λ hs. TakesInTurn g.F.FnMut c.loop-end.matches hs) next.1 l.callable).1 f called;
       offers = λ found last given. l.offers found last (subst (λ hs. Offers g.F.FnMut c.loop-end.matches hs found last) (sym next.1) (false, f, called, given));
     }

@@ -1,4 +1,4 @@
-use Rattle.std.proofs.Common.{◌≡◌, ◌+◌, ◌≤◌, Option, length}
+use Rattle.std.proofs.Common.{◌≡◌, ◌+◌, ◌≤◌, ◌++◌, List, Option, None, length}
 use Rattle.std.specs.Prelude.{IsSome}
 use Rattle.clock2q_handles.specs.Candidates.{left_at, left_from, unread_at, unread_from, IsLookup, IsWalkFor}
 use Rattle.clock2q_handles.specs.Offers.{Offers, TakesInTurn}
@@ -14,6 +14,8 @@ invariant-loop-end g l = record {
   reads : l.initial.self.reads ≤ l.self.reads;
   read : l.self.reads + unread_at l.initial.self.slots (sought l.wanted) l.slot ≡ l.initial.self.reads + unread_from l.initial.self.slots l.hash 0;
   handles : l.self.handles + length (left_at l.initial.self.slots (sought l.wanted) l.slot) ≡ l.initial.self.handles + length (left_from l.initial.self.slots l.hash 0);
+  rejected : (before : List g.row.H.Denot)
+      × (left_from l.initial.self.slots l.hash 0 ≡ before ++ left_at l.initial.self.slots (sought l.wanted) l.slot) × Offers g.F.FnMut l.initial.matches before None l.matches;
   callable : TakesInTurn g.F.FnMut l.matches (left_at l.initial.self.slots (sought l.wanted) l.slot);
   offers : (found : Option g.row.H.Denot) (last : g.row.F.Denot) → Offers g.F.FnMut l.matches (left_at l.initial.self.slots (sought l.wanted) l.slot) found last
       → Offers g.F.FnMut l.initial.matches (left_from l.initial.self.slots l.hash 0) found last;

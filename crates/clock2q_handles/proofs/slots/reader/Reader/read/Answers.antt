@@ -1,7 +1,7 @@
 use Rattle.std.proofs.Common.{◌≡◌, subst, arith}
 use Rattle.clock2q_handles.specs.Layout.{slot_at}
 use Rattle.clock2q_handles.specs.Slots.{meaning, mark_of}
-use Rattle.clock2q_handles.proofs.Cells.{read_words, mark_read_at}
+use Rattle.clock2q_handles.proofs.shifts.Cells.{read_words, mark_read_at}
 use Rattle.clock2q_handles.proofs.slots.reader.Reader.read.Goals as goal
 
 pub read-requires : goal.read-requires

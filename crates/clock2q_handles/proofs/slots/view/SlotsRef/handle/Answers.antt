@@ -1,5 +1,5 @@
 use Rattle.std.proofs.Common.{ap, get_or}
-use Rattle.clock2q_handles.proofs.Cells.{handle_read_at}
+use Rattle.clock2q_handles.proofs.shifts.Cells.{handle_read_at}
 use Rattle.clock2q_handles.proofs.slots.view.SlotsRef.handle.Goals as goal
 
 pub returns : goal.returns

@@ -1,4 +1,4 @@
-use Rattle.clock2q_handles.proofs.Cells.{mark_read_or}
+use Rattle.clock2q_handles.proofs.shifts.Cells.{mark_read_or}
 use Rattle.clock2q_handles.proofs.slots.view.SlotsRef.metadata.Goals as goal
 
 pub returns : goal.returns

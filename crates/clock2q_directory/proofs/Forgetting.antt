@@ -1,0 +1,185 @@
+-- A key forgotten by the history.
+use Rattle.std.proofs.Common.{◌≡◌, ℕ, ◌+◌, ◌^◌, ◌<◌, ◌≤◌, Bool, true, false, eqb, Option, Some, None, slice_get, List, [], ◌∷◌, map, length, inl, inr, refl, sym, ap, ◌∙◌, subst, arith}
+use Rattle.std.specs.List.{cons_option, find}
+use Rattle.std.specs.Cmp.{IsEquivalence}
+use Rattle.std.proofs.lemmas.Bool.{both_ways, cases_Bool, eqb-true}
+use Rattle.clock2q_handles.specs.Homes.{candidates}
+use Rattle.clock2q_directory.specs.Index as known
+use Rattle.clock2q_directory.specs.Index.{IndexState, forgotten_at}
+use Rattle.clock2q_directory.specs.declared.keys.store.Entry.{Entry}
+use Rattle.clock2q_queues.specs.Rings.{has, without, AllBelow}
+use Rattle.clock2q_queues.specs.Order.{PlaceOrder, IsWholeOrder, used}
+use Rattle.clock2q_directory.specs.Keys.{KeyPlaces, hashed_at, entries_of, is_key_at}
+use Rattle.clock2q_directory.specs.Indexes.{IsIndex, AllDistinct, HasHash, has_key}
+use Rattle.clock2q_directory.specs.History.{IsHistory, forgotten, remembered, accesses_of, places_with, places_from, place_of, freed_place}
+use Rattle.clock2q_queues.specs.Cells.{Rises}
+use Rattle.clock2q_queues.proofs.Rings.{has_first, has_later, below_of, AllApart-left, AllBelow-left}
+use Rattle.clock2q_queues.proofs.Joining.{length-without}
+use Rattle.clock2q_directory.proofs.Entries.{key_there, any_entry, same_place, hashed_there, entries-cons}
+use Rattle.clock2q_directory.proofs.Histories.{shown-as}
+use Rattle.clock2q_directory.proofs.Indexes.{IsIndex-removed, named-own}
+use Rattle.clock2q_directory.proofs.Views.{places-forgotten, forgotten-like}
+use Rattle.clock2q_queues.proofs.Booleans.{or_parts, or_neither}
+use Rattle.clock2q_directory.proofs.Lookups.{found_there, not_found, lookup, hash_there}
+
+module _ {K : Type 0} (eq : K → K → Bool) where
+  -- whether an entry, if there is one, has this key
+  abbrev pub is_of : K → Option (ℕ × K) → Bool
+  is_of key o = elim o [ None ↦ false | Some e ↦ eq key e.1 ]
+
+  pub is_of-at : {V : Type 0} (key : K) (keys : List (Entry K V)) (p : ℕ) → is_of key (hashed_at keys p) ≡ is_key_at eq key keys p
+  is_of-at key keys p = of (slice_get keys p)
+    where
+      of : {V : Type 0} (o : Option (Entry K V)) → is_of key (elim o [ None ↦ None | Some e ↦ Some (e.hash, e.key) ]) ≡ elim o [ None ↦ false | Some e ↦ eq key e.key ]
+      of None = refl
+      of (Some e) = refl
+
+  forgotten_kept : (key : K) (o : Option (ℕ × K)) (es : List (ℕ × K)) → is_of key o ≡ false → forgotten eq key (cons_option o es) ≡ cons_option o (forgotten eq key es)
+  forgotten_kept key None es h = refl
+  forgotten_kept key (Some e) es h = rw h refl
+
+  forgotten_gone : (key : K) (o : Option (ℕ × K)) (es : List (ℕ × K)) → is_of key o ≡ true → forgotten eq key (cons_option o es) ≡ forgotten eq key es
+  forgotten_gone key None es h = absurd (both_ways false refl h)
+  forgotten_gone key (Some e) es h = rw h refl
+
+  any_none : (key : K) (o : Option (ℕ × K)) (es : List (ℕ × K)) → is_of key o ≡ false → has_key eq key es ≡ false → has_key eq key (cons_option o es) ≡ false
+  any_none key None es h r = r
+  any_none key (Some e) es h r = or_neither (eq key e.1) (has_key eq key es) h r
+
+  key_absent-forgotten : (x key : K) (es : List (ℕ × K)) → has_key eq x es ≡ false → has_key eq x (forgotten eq key es) ≡ false
+  key_absent-forgotten x key [] h = refl
+  key_absent-forgotten x key (e ∷ es) h =
+      let p = or_parts (eq x e.1) (has_key eq x es) h in
+      elim (cases_Bool (eq key e.1)) [
+        | inl k ↦ rw k (key_absent-forgotten x key es p.1)
+        | inr k ↦ rw k (or_neither (eq x e.1) (has_key eq x (forgotten eq key es)) p.0 (key_absent-forgotten x key es p.1))
+      ]
+
+  distinct-forgotten : (key : K) (es : List (ℕ × K)) → AllDistinct eq es → AllDistinct eq (forgotten eq key es)
+  distinct-forgotten key [] d = tt
+  distinct-forgotten key (e ∷ es) d = elim (cases_Bool (eq key e.1)) [
+    | inl k ↦ rw k (distinct-forgotten key es d.1)
+    | inr k ↦ rw k ((key_absent-forgotten e.1 key es d.0, distinct-forgotten key es d.1))
+  ]
+
+module _ {K V : Type 0} (eq : K → K → Bool) where
+  -- the one place that has the key is removed
+  forgets_one : (key : K) (keys : List (Entry K V)) (p : ℕ) (ps : List ℕ) → is_key_at eq key keys p ≡ true → ((t : ℕ) → has t ps ≡ true → eqb t p ≡ false → is_key_at eq key keys t ≡ false)
+      → entries_of keys (without p ps) ≡ forgotten eq key (entries_of keys ps)
+  forgets_one key keys p [] k h = refl
+  forgets_one key keys p (q ∷ ps) k h =
+      let rest = forgets_one key keys p ps k (λ t g d. h t (has_later t q ps g) d) in
+      elim (cases_Bool (eqb q p)) [
+        | inl e ↦ rw e (rest ∙ sym (forgotten_gone eq key (hashed_at keys q) (entries_of keys ps) (is_of-at eq key keys q ∙ subst (λ z. is_key_at eq key keys z ≡ true) (sym (eqb-true q p e)) k)))
+        | inr e ↦ rw e (ap (λ z. cons_option (hashed_at keys q) z) rest ∙ sym (forgotten_kept eq key (hashed_at keys q) (entries_of keys ps) (is_of-at eq key keys q ∙ h q (has_first q ps) e)))
+      ]
+
+  -- no place has the key
+  forgets_none : (key : K) (keys : List (Entry K V)) (ps : List ℕ) → ((t : ℕ) → has t ps ≡ true → is_key_at eq key keys t ≡ false)
+      → (has_key eq key (entries_of keys ps) ≡ false) × (forgotten eq key (entries_of keys ps) ≡ entries_of keys ps)
+  forgets_none key keys [] h = (refl, refl)
+  forgets_none key keys (p ∷ ps) h =
+      let rest = forgets_none key keys ps (λ t g. h t (has_later t p ps g)) in
+      let this = is_of-at eq key keys p ∙ h p (has_first p ps) in
+      (any_none eq key (hashed_at keys p) (entries_of keys ps) this rest.0, forgotten_kept eq key (hashed_at keys p) (entries_of keys ps) this ∙ ap (λ z. cons_option (hashed_at keys p) z) rest.1)
+
+  -- the place beside a key is the first that has it
+  place_beside : (key : K) (keys : List (Entry K V)) (n : ℕ) (ps : List ℕ) → n ≤ length keys → AllBelow n ps
+      → place_of (eq key) (map (λ (e : ℕ × K). e.1) (entries_of keys ps)) ps ≡ find (is_key_at eq key keys) ps
+  place_beside key keys n [] h b = refl
+  place_beside key keys n (p ∷ ps) h b =
+      let e = hashed_there keys p (omega (arith, b.0)) in
+      let same : is_key_at eq key keys p ≡ eq key e.0.1 = sym (is_of-at eq key keys p) ∙ ap (λ z. is_of eq key z) e.1 in
+      let rest = place_beside key keys n ps h b.1 in
+      ap (λ (z : List (ℕ × K)). place_of (eq key) (map (λ (e : ℕ × K). e.1) z) (p ∷ ps)) (entries-cons keys p e.0 ps e.1)
+      ∙ elim (cases_Bool (eq key e.0.1)) [
+        | inl k ↦ rw (same, k) refl
+        | inr k ↦ rw (same, k) rest
+      ]
+
+  -- a key that was there was forgotten
+  pub record Forgets (hash : ℕ) (key : K) (index : IndexState) (order : PlaceOrder)
+      (keys : KeyPlaces K V) (index' : IndexState) (order' : PlaceOrder) (keys' : KeyPlaces K V) : Type 0 where
+    pub whole : IsHistory eq index' order' keys'
+    pub shown : remembered (entries_of keys'.entries order'.places) order'.limit (places_from index' order') (accesses_of order' keys') keys'.questions
+        ≡ remembered (forgotten eq key (entries_of keys.entries order.places)) order.limit (places_from index' order') (accesses_of order' keys') keys'.questions
+    pub accesses : Rises 0 7 (accesses_of order keys) (accesses_of order' keys')
+    pub found : has_key eq key (entries_of keys.entries order.places) ≡ true
+    pub places : places_from index' order' ≡ freed_place hash (place_of (eq key) (map (λ (e : ℕ × K). e.1) (entries_of keys.entries order.places)) order.places) (places_from index order)
+
+  module _ (laws : IsEquivalence eq) (hash : ℕ) (key : K) (index : IndexState) (order : PlaceOrder) (keys : KeyPlaces K V) (h : IsHistory eq index order keys)
+      (hashed : HasHash eq hash key (entries_of keys.entries order.places)) where
+    looked : find (is_key_at eq key keys.entries) (candidates (known.places index) hash) ≡ find (is_key_at eq key keys.entries) order.places
+    looked = lookup eq hash key (known.places index) keys.entries order.places h.indexed hashed laws h.distinct
+
+    pub placed : place_of (eq key) (map (λ (e : ℕ × K). e.1) (entries_of keys.entries order.places)) order.places ≡ find (is_key_at eq key keys.entries) (candidates (known.places index) hash)
+    placed = place_beside key keys.entries (used order) order.places (omega (arith, h.as_many)) (AllBelow-left (used order) order.places order.free h.whole.below) ∙ sym looked
+
+    -- a key that isn't found isn't remembered
+    pub missed : None ≡ find (is_key_at eq key keys.entries) (candidates (known.places index) hash)
+        → (has_key eq key (entries_of keys.entries order.places) ≡ false) × (forgotten eq key (entries_of keys.entries order.places) ≡ entries_of keys.entries order.places)
+    missed none = forgets_none key keys.entries order.places (not_found (is_key_at eq key keys.entries) order.places (none ∙ looked))
+
+    module _ (place : ℕ) (found : Some place ≡ find (is_key_at eq key keys.entries) (candidates (known.places index) hash)) where
+      there : (has place order.places ≡ true) × (is_key_at eq key keys.entries place ≡ true)
+      there = found_there (is_key_at eq key keys.entries) order.places place (found ∙ looked)
+
+      pub place_there : has place order.places ≡ true
+      place_there = there.0
+
+      pub place_short : place < 2 ^ 24
+      place_short = omega (arith, below_of (used order) order.places (AllBelow-left (used order) order.places order.free h.whole.below) place there.0, h.whole.within, h.short)
+
+      pub place_held : has place (candidates (known.places index) hash) ≡ true
+      place_held =
+          let at = hash_there eq hash key (known.places index) keys.entries order.places h.indexed hashed place there.0 there.1 in
+          h.indexed.listed hash place ∙ rw (there.0, named-own (known.places index) keys.entries hash place at) refl
+
+      others_differ : (t : ℕ) → has t order.places ≡ true → eqb t place ≡ false → is_key_at eq key keys.entries t ≡ false
+      others_differ t g d = elim (cases_Bool (is_key_at eq key keys.entries t)) [
+        | inl k ↦ absurd (both_ways (eqb t place) d (same_place eq laws key keys.entries order.places h.distinct t place g there.0 k there.1))
+        | inr k ↦ k
+      ]
+
+      pub forgets : (index' : IndexState) (order' : PlaceOrder) (keys' : KeyPlaces K V) → index' ≡ forgotten_at hash place index → IsWholeOrder order'
+          → order' ≡ record order { places = without place order.places; free = place ∷ order.free; accesses = order.accesses + 7 }
+          → keys' ≡ record keys { questions = keys'.questions } → Forgets hash key index order keys index' order' keys'
+      forgets index' order' keys' is w ordered same =
+          let apart = AllApart-left order.places order.free h.whole.apart in
+          let at = hash_there eq hash key (known.places index) keys.entries order.places h.indexed hashed place there.0 there.1 in
+          let taken = IsIndex-removed (known.places index) keys.entries order.places place hash h.indexed apart at in
+          let places = ap (λ (z : PlaceOrder). z.places) ordered in
+          let limit = ap (λ (z : PlaceOrder). z.limit) ordered in
+          let entries' = ap (λ (z : KeyPlaces K V). z.entries) same in
+          let entries : entries_of keys'.entries order'.places ≡ forgotten eq key (entries_of keys.entries order.places) =
+          ap (λ z. entries_of z order'.places) entries' ∙ ap (λ z. entries_of keys.entries z) places ∙ forgets_one key keys.entries place order.places there.1 others_differ in
+          let e = key_there eq key keys.entries place there.1 in
+          let like = forgotten-like index hash place in
+          let shared : known.is_shared index' ≡ known.is_shared index = ap (λ z. known.is_shared z) is ∙ like.shared in
+          let slot_count : length (known.places index') ≡ length (known.places index) = ap (λ z. length (known.places z)) is ∙ like.places in
+          let count : used order' ≡ used order =
+          omega (arith, ap (λ (z : PlaceOrder). length z.places) ordered, ap (λ (z : PlaceOrder). length z.free) ordered, length-without place order.places apart there.0) in
+          record {
+            whole = record {
+              whole = w;
+              indexed =
+                  subst (λ z. IsIndex (known.places index') z order'.places) (sym entries')
+                  (subst (λ z. IsIndex (known.places index') keys.entries z) (sym places)
+                  (subst (λ z. IsIndex z keys.entries (without place order.places)) (sym (ap (λ z. known.places z) is ∙ places-forgotten index hash place)) taken));
+              distinct = subst (λ z. AllDistinct eq z) (sym entries) (distinct-forgotten eq key (entries_of keys.entries order.places) h.distinct);
+              as_many = ap (λ (z : List (Entry K V)). length z) entries' ∙ h.as_many ∙ sym count;
+              room = rw (limit, ap (λ (z : KeyPlaces K V). z.room) same) h.room;
+              some = rw (limit, slot_count) h.some;
+              own_room = λ own. rw (limit, slot_count) (h.own_room (sym shared ∙ own));
+              short = rw limit h.short;
+            };
+            shown = shown-as _ _ entries limit refl;
+            accesses =
+                let n = ap (λ (z : PlaceOrder). z.accesses) ordered in
+                let m = ap (λ (z : KeyPlaces K V). z.writes) same in
+                (omega (arith, n, m), omega (arith, n, m));
+            found = any_entry eq key keys.entries order.places place e.0 there.0 e.1 e.2;
+            places = ap (λ z. places_with z order'.places order'.free) is ∙ ap (λ z. places_with (forgotten_at hash place index) z order'.free) places
+                ∙ ap (λ z. places_with (forgotten_at hash place index) (without place order.places) z) (ap (λ (z : PlaceOrder). z.free) ordered)
+                ∙ ap (λ z. freed_place hash z (places_from index order)) (found ∙ sym placed);
+          }

@@ -1,0 +1,95 @@
+-- A new history, one that was cleared, and what callers see of one.
+use Rattle.std.proofs.Common.{◌≡◌, ℕ, ◌^◌, ◌<◌, ◌≤◌, Bool, true, false, List, [], length, refl, sym, ap, ◌∙◌, subst, arith}
+use Rattle.std.specs.Prelude.{if◌then◌else◌}
+use Rattle.clock2q_handles.specs.Homes.{no_entries, total}
+use Rattle.clock2q_directory.specs.declared.keys.store.Entry.{Entry}
+use Rattle.clock2q_queues.specs.Order.{PlaceOrder, IsWholeOrder, unused, used}
+use Rattle.clock2q_directory.specs.Keys.{KeyPlaces, entries_of}
+use Rattle.clock2q_directory.specs.Indexes.{IsIndex, AllDistinct}
+use Rattle.clock2q_directory.specs.Index as known
+use Rattle.clock2q_directory.specs.Index.{IndexState, index_state, index_for, is_shared, HasSlotRoom}
+use Rattle.clock2q_directory.specs.History.{Places, Remembered, HasRoom, IsHistory, IsWholeHistory, remembered, places_from, accesses_of}
+use Rattle.clock2q_queues.proofs.Rings.{AllBelow-left}
+use Rattle.clock2q_directory.proofs.Entries.{length-entries}
+use Rattle.clock2q_directory.proofs.Emptied.{for-new, new-none, emptied-places, cleared_like}
+
+module _ {K V : Type 0} (eq : K → K → Bool) where
+  pub IsHistory-new : (residents limit : ℕ) (keys : KeyPlaces K V) → 0 < residents → residents < 2 ^ 24 → limit < 2 ^ 24 → IsWholeOrder (unused limit)
+      → keys.entries ≡ [] → limit ≤ keys.room → IsHistory eq (index_for residents limit) (unused limit) keys
+  IsHistory-new residents limit keys least few short w none room =
+      let n = for-new residents limit least few short in
+      let e = new-none residents limit least few short in
+      record {
+        whole = w;
+        indexed = rw e.2 (emptied-places e.0 e.1 keys.entries);
+        distinct = tt;
+        as_many = ap (λ (z : List (Entry K V)). length z) none;
+        room = room;
+        some = n.some;
+        own_room = n.own;
+        short = short;
+      }
+
+  pub entries_counted : (index : IndexState) (order : PlaceOrder) (keys : KeyPlaces K V) → IsHistory eq index order keys → length (entries_of keys.entries order.places) ≡ length order.places
+  entries_counted index order keys h = length-entries keys.entries (used order) order.places (omega (arith, h.as_many)) (AllBelow-left (used order) order.places order.free h.whole.below)
+
+  -- an index in which the places are the same
+  pub IsHistory-index : (index index' : IndexState) (order : PlaceOrder) (keys : KeyPlaces K V) → IsHistory eq index order keys
+      → known.places index' ≡ known.places index → is_shared index' ≡ is_shared index → IsHistory eq index' order keys
+  IsHistory-index index index' order keys h same shared = record {
+    whole = h.whole;
+    indexed = rw same h.indexed;
+    distinct = h.distinct;
+    as_many = h.as_many;
+    room = h.room;
+    some = rw same h.some;
+    own_room = λ e. rw same (h.own_room (sym shared ∙ e));
+    short = h.short;
+  }
+
+  -- room beside the most places that there may be is room beside those that there are
+  pub slot-room : (index : IndexState) (order : PlaceOrder) (keys : KeyPlaces K V) (h : Remembered K) → IsHistory eq index order keys
+      → remembered (entries_of keys.entries order.places) order.limit (places_from index order) (accesses_of order keys) keys.questions ≡ h → HasRoom h → HasSlotRoom index
+  slot-room index order keys h i is room =
+      let r : HasRoom (remembered (entries_of keys.entries order.places) order.limit (places_from index order) (accesses_of order keys) keys.questions) = subst (λ z. HasRoom z) (sym is) room in
+      let most = beside_most (is_shared index) (total (known.places index)) order.limit (omega (arith, i.indexed.counted, i.whole.within)) in
+      record { room = omega (arith, r.room, most); few = omega (arith, r.few, most) }
+    where
+      beside_most : (b : Bool) (n limit : ℕ) → n ≤ limit → (if b then n else 0) ≤ (if b then limit else 0)
+      beside_most true n limit l = l
+      beside_most false n limit l = omega arith
+
+  pub IsHistory-cleared : (index : IndexState) (order order' : PlaceOrder) (keys keys' : KeyPlaces K V) → IsHistory eq index order keys
+      → IsWholeOrder order' → order'.places ≡ [] → order'.free ≡ [] → order'.limit ≡ order.limit
+      → keys'.entries ≡ [] → keys'.room ≡ keys.room → IsHistory eq (index_state (no_entries (length index.shared)) (no_entries (length index.own))) order' keys'
+  IsHistory-cleared index order order' keys keys' h w places free limit none room =
+      let l = cleared_like index in
+      record {
+        whole = w;
+        indexed = subst (λ z. IsIndex (known.places (index_state (no_entries (length index.shared)) (no_entries (length index.own)))) keys'.entries z) (sym places)
+            (emptied-places (length index.shared) (length index.own) keys'.entries);
+        distinct = subst (λ z. AllDistinct eq (entries_of keys'.entries z)) (sym places) tt;
+        as_many = omega (arith, ap (λ (z : List (Entry K V)). length z) none, ap (λ (z : List ℕ). length z) places, ap (λ (z : List ℕ). length z) free);
+        room = rw (limit, room) h.room;
+        some = rw (limit, l.places) h.some;
+        own_room = λ o. rw (limit, l.places) (h.own_room (sym l.shared ∙ o));
+        short = rw limit h.short;
+      }
+
+-- the view that callers have, from each of its parts
+pub shown-as : {K : Type 0} {entries entries' : List (ℕ × K)} {limit limit' : ℕ} (places : Places) (accesses : ℕ) {questions questions' : ℕ}
+    → entries' ≡ entries → limit' ≡ limit → questions' ≡ questions
+    → remembered entries' limit' places accesses questions' ≡ remembered entries limit places accesses questions
+shown-as {K} {entries} {entries'} {limit} {limit'} places accesses {questions} {questions'} e l q =
+    ap (λ z. remembered z limit' places accesses questions') e ∙ ap (λ z. remembered entries z places accesses questions') l ∙ ap (λ z. remembered entries limit places accesses z) q
+
+pub IsWholeHistory-from : {K : Type 0} (eq : K → K → Bool) (index : IndexState) (order : PlaceOrder) (keys : KeyPlaces K Unit) (accesses questions : ℕ) → IsHistory eq index order keys
+    → IsWholeHistory eq (remembered (entries_of keys.entries order.places) order.limit (places_from index order) accesses questions)
+IsWholeHistory-from eq index order keys accesses questions h =
+    let n = entries_counted eq index order keys h in
+    record {
+      distinct = h.distinct;
+      within = omega (arith, n, h.whole.within);
+      own_room = h.own_room;
+      indexed = (keys.entries, refl, n, h.indexed);
+    }

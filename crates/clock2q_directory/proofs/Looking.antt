@@ -1,0 +1,193 @@
+-- What a lookup among residents and remembered keys finds, and how many comparisons it makes.
+use Rattle.std.proofs.Common.{◌≡◌, ℕ, ◌+◌, ◌-◌, ◌<◌, ◌≤◌, Bool, true, false, ltb, Some, None, slice_get, List, [], ◌∷◌, drop, length, map, inl, inr, refl, sym, ap, ◌∙◌, subst, arith}
+use Rattle.std.specs.Prelude.{IfSome}
+use Rattle.std.specs.List.{find, AllByRecursion}
+use Rattle.std.specs.Cmp.{IsEquivalence}
+use Rattle.std.proofs.lemmas.Bool.{cases_Bool, lt-ltb, le-ltb, ltb-true, ltb-false}
+use Rattle.clock2q_directory.specs.declared.history.Found.{Found}
+use Rattle.clock2q_handles.specs.Homes.{candidates}
+use Rattle.clock2q_directory.specs.Index as known
+use Rattle.clock2q_directory.specs.Index.{IndexState, first_remembered, is_shared, slots_among, places_among}
+use Rattle.clock2q_queues.specs.Order.{PlaceOrder}
+use Rattle.clock2q_directory.specs.Keys.{KeyPlaces, entries_of, is_key_at}
+use Rattle.clock2q_directory.specs.Indexes.{HasHash}
+use Rattle.clock2q_directory.specs.History.{Remembered, IsHistory, remembered, places_from, accesses_of, place_of, found_slot, found_place, first_known}
+use Rattle.clock2q_directory.proofs.Indexes.{candidates_there}
+use Rattle.clock2q_directory.proofs.Lookups.{Asked, begins_with}
+use Rattle.clock2q_directory.proofs.Views.{candidates-slots, candidates-places, candidates-own}
+use Rattle.clock2q_directory.proofs.Forgetting.{placed}
+
+module _ (h : ℕ) (hs : List ℕ) where
+  pub slots-first : h < first_remembered → slots_among (h ∷ hs) ≡ h ∷ slots_among hs
+  slots-first l = rw (lt-ltb h first_remembered l) refl
+
+  slots-passed : first_remembered ≤ h → slots_among (h ∷ hs) ≡ slots_among hs
+  slots-passed l = rw (le-ltb h first_remembered l) refl
+
+  places-first : first_remembered ≤ h → places_among (h ∷ hs) ≡ (h - first_remembered) ∷ places_among hs
+  places-first l = rw (le-ltb h first_remembered l) refl
+
+  places-passed : h < first_remembered → places_among (h ∷ hs) ≡ places_among hs
+  places-passed l = rw (lt-ltb h first_remembered l) refl
+
+-- if the next handle is a slot, it is the next to be compared
+pub asked-slot : {test : ℕ → Bool} {n bound : ℕ} {all : List ℕ} {asked : ℕ} (handles : List ℕ) {h : ℕ} → Asked test n bound all asked (slots_among handles)
+    → Some h ≡ slice_get handles 0 → h < first_remembered → Asked test n bound all asked (h ∷ slots_among (drop 1 handles))
+asked-slot {test} {n} {bound} {all} {asked} handles {h} a is l =
+    subst (λ z. Asked test n bound all asked z) (ap slots_among (begins_with is) ∙ slots-first h (drop 1 handles) l) a
+
+-- if all are slots, none is skipped
+pub slots-all : (hs : List ℕ) → AllByRecursion (λ h. h < first_remembered) hs → slots_among hs ≡ hs
+slots-all [] a = refl
+slots-all (h ∷ hs) a = slots-first h hs a.0 ∙ ap (λ zs. h ∷ zs) (slots-all hs a.1)
+
+-- the first that is found, of each kind
+pub record IsFirst (resident remembered_key : ℕ → Bool) (hs : List ℕ) (r : Found) : Type 0 where
+  pub slot : IfSome (found_slot r) (λ s. find resident (slots_among hs) ≡ Some s)
+  pub place : found_slot r ≡ None → found_place r ≡ find remembered_key (places_among hs)
+  pub absent : found_slot r ≡ None → found_place r ≡ None → find resident (slots_among hs) ≡ None
+
+module _ (a b : ℕ → Bool) where
+  pub first-known : (hs : List ℕ) → IsFirst a b hs (first_known a b hs)
+  first-known [] = record { slot = tt; place = λ _. refl; absent = λ _ _. refl }
+  first-known (h ∷ hs) =
+      let r = first-known hs in
+      elim (cases_Bool (ltb h first_remembered)) [
+        | inl l ↦
+            let below = ltb-true h first_remembered l in
+            let slots_are = slots-first h hs below in
+            let places_are = places-passed h hs below in
+            elim (cases_Bool (a h)) [
+              | inl q ↦
+                  let is : first_known a b (h ∷ hs) ≡ Found.Resident h = rw (l, q) refl in
+                  rw is (record { slot = ap (λ z. find a z) slots_are ∙ rw q refl; place = λ n. absurd (cc); absent = λ n. absurd (cc) })
+              | inr q ↦
+                  let is : first_known a b (h ∷ hs) ≡ first_known a b hs = rw (l, q) refl in
+                  let same : find a (slots_among (h ∷ hs)) ≡ find a (slots_among hs) = ap (λ z. find a z) slots_are ∙ rw q refl in
+                  rw is (record { slot = rw same r.slot; place = λ n. r.place n ∙ ap (λ z. find b z) (sym places_are); absent = λ n m. same ∙ r.absent n m })
+            ]
+        | inr l ↦
+            let past = ltb-false h first_remembered l in
+            let slots_are = slots-passed h hs past in
+            let places_are = places-first h hs past in
+            elim (cases_Bool (b (h - first_remembered))) [
+              | inl q ↦
+                  let is : first_known a b (h ∷ hs) ≡ Found.Remembered (h - first_remembered) = rw (l, q) refl in
+                  rw is (record { slot = tt; place = λ n. sym (ap (λ z. find b z) places_are ∙ rw q refl); absent = λ n m. absurd (cc) })
+              | inr q ↦
+                  let is : first_known a b (h ∷ hs) ≡ first_known a b hs = rw (l, q) refl in
+                  let same : find b (places_among (h ∷ hs)) ≡ find b (places_among hs) = ap (λ z. find b z) places_are ∙ rw q refl in
+                  rw is (record { slot = rw (ap (λ z. find a z) slots_are) r.slot; place = λ n. r.place n ∙ sym same; absent = λ n m. ap (λ z. find a z) slots_are ∙ r.absent n m })
+            ]
+      ]
+
+  -- none of the handles so far has the key, and no more were compared than there are
+  pub record LooksOn (all left : List ℕ) (slot_bound place_bound asked asked_now questions questions_now : ℕ) : Type 0 where
+    pub first : first_known a b all ≡ first_known a b left
+    pub slots : AllByRecursion (λ s. s < slot_bound) (slots_among left)
+    pub places : AllByRecursion (λ p. p < place_bound) (places_among left)
+    pub asked_from : asked ≤ asked_now
+    pub asked_most : asked_now + length (slots_among left) ≤ asked + length (slots_among all)
+    pub questions_from : questions ≤ questions_now
+    pub questions_most : questions_now + length (places_among left) ≤ questions + length (places_among all)
+
+  -- the next handle and the others
+  pub looks-next : {all left : List ℕ} {h n m p p' q q' : ℕ} → LooksOn all left n m p p' q q' → Some h ≡ slice_get left 0 → LooksOn all (h ∷ drop 1 left) n m p p' q q'
+  looks-next {all} {left} {h} {n} {m} {p} {p'} {q} {q'} on is = subst (λ z. LooksOn all z n m p p' q q') (begins_with is) on
+
+  module _ {all left : List ℕ} {h n m p p' q q' : ℕ} (on : LooksOn all (h ∷ left) n m p p' q q') where
+    module _ (l : h < first_remembered) where
+      slots_are : slots_among (h ∷ left) ≡ h ∷ slots_among left
+      slots_are = slots-first h left l
+
+      places_are : places_among (h ∷ left) ≡ places_among left
+      places_are = places-passed h left l
+
+      pub resident-there : h < n
+      resident-there = (subst (λ z. AllByRecursion (λ s. s < n) z) slots_are on.slots).0
+
+      pub resident-other : false ≡ a h → LooksOn all left n m p (p' + 1) q q'
+      resident-other other = record {
+        first = on.first ∙ rw (lt-ltb h first_remembered l, sym other) refl;
+        slots = (subst (λ z. AllByRecursion (λ s. s < n) z) slots_are on.slots).1;
+        places = subst (λ z. AllByRecursion (λ s. s < m) z) places_are on.places;
+        asked_from = omega (arith, on.asked_from);
+        asked_most = omega (arith, on.asked_most, ap (λ (z : List ℕ). length z) slots_are);
+        questions_from = on.questions_from;
+        questions_most = omega (arith, on.questions_most, ap (λ (z : List ℕ). length z) places_are);
+      }
+
+      pub resident-found : true ≡ a h → (Found.Resident h ≡ first_known a b all) × (p' + 1 ≤ p + length (slots_among all)) × (q' ≤ q + length (places_among all))
+      resident-found it = (
+        sym (on.first ∙ rw (lt-ltb h first_remembered l, sym it) refl),
+        omega (arith, on.asked_most, ap (λ (z : List ℕ). length z) slots_are),
+        omega (arith, on.questions_most),
+      )
+
+    module _ (l : first_remembered ≤ h) where
+      slots_still : slots_among (h ∷ left) ≡ slots_among left
+      slots_still = slots-passed h left l
+
+      places_still : places_among (h ∷ left) ≡ (h - first_remembered) ∷ places_among left
+      places_still = places-first h left l
+
+      pub place-there : h - first_remembered < m
+      place-there = (subst (λ z. AllByRecursion (λ s. s < m) z) places_still on.places).0
+
+      pub place-other : false ≡ b (h - first_remembered) → LooksOn all left n m p p' q (q' + 1)
+      place-other other = record {
+        first = on.first ∙ rw (le-ltb h first_remembered l, sym other) refl;
+        slots = subst (λ z. AllByRecursion (λ s. s < n) z) slots_still on.slots;
+        places = (subst (λ z. AllByRecursion (λ s. s < m) z) places_still on.places).1;
+        asked_from = on.asked_from;
+        asked_most = omega (arith, on.asked_most, ap (λ (z : List ℕ). length z) slots_still);
+        questions_from = omega (arith, on.questions_from);
+        questions_most = omega (arith, on.questions_most, ap (λ (z : List ℕ). length z) places_still);
+      }
+
+      pub place-found : true ≡ b (h - first_remembered)
+          → (Found.Remembered (h - first_remembered) ≡ first_known a b all) × (p' ≤ p + length (slots_among all)) × (q' + 1 ≤ q + length (places_among all))
+      place-found it = (
+        sym (on.first ∙ rw (le-ltb h first_remembered l, sym it) refl),
+        omega (arith, on.asked_most),
+        omega (arith, on.questions_most, ap (λ (z : List ℕ). length z) places_still),
+      )
+
+-- what the view of a history has in its index under a hash, and as a key's place
+module _ {K V : Type 0} (index : IndexState) (order : PlaceOrder) (keys : KeyPlaces K V) {s : Remembered K}
+    (is : remembered (entries_of keys.entries order.places) order.limit (places_from index order) (accesses_of order keys) keys.questions ≡ s) (x : ℕ) where
+  pub slots-shown : {handles : List ℕ} → handles ≡ candidates index.shared x → slots_among handles ≡ candidates (known.slots s.places.index) x
+  slots-shown at = ap slots_among at ∙ sym (candidates-slots index x) ∙ ap (λ (z : Remembered K). candidates (known.slots z.places.index) x) is
+
+  pub places-shown : length (candidates (known.places index) x) ≡ length (candidates (known.places s.places.index) x)
+  places-shown = ap (λ (z : Remembered K). length (candidates (known.places z.places.index) x)) is
+
+  pub questions-shown : keys.questions ≡ s.questions
+  questions-shown = ap (λ (z : Remembered K). z.questions) is
+
+  pub place-shown : {eq : K → K → Bool} → IsEquivalence eq → IsHistory eq index order keys → (key : K) → HasHash eq x key s.entries
+      → place_of (eq key) (map (λ e. e.1) s.entries) s.places.taken ≡ find (is_key_at eq key keys.entries) (candidates (known.places index) x)
+  place-shown {eq} laws h key hash =
+      sym (ap (λ (z : Remembered K). place_of (eq key) (map (λ e. e.1) z.entries) z.places.taken) is)
+      ∙ placed eq laws x key index order keys h (rw (← is) at hash)
+
+-- what a history's index has under a hash
+module _ {K V : Type 0} {eq : K → K → Bool} {index : IndexState} {order : PlaceOrder} {keys : KeyPlaces K V} (h : IsHistory eq index order keys) (x : ℕ) where
+  places_there : AllByRecursion (λ p. p < length keys.entries) (candidates (known.places index) x)
+  places_there = candidates_there (known.places index) keys.entries order.places x h.indexed
+
+  pub shared-places : is_shared index ≡ true → AllByRecursion (λ p. p < length keys.entries) (places_among (candidates index.shared x))
+  shared-places shared = subst (λ z. AllByRecursion (λ p. p < length keys.entries) z) (candidates-places index x shared) places_there
+
+  -- places in a table of their own are all below the first handle of a remembered key
+  pub own-places : is_shared index ≡ false → slots_among (candidates index.own x) ≡ candidates (known.places index) x
+  own-places own =
+      let bound : length keys.entries ≤ first_remembered = omega (arith, h.as_many, h.whole.within, h.short) in
+      ap slots_among (sym (candidates-own index x own)) ∙ slots-all (candidates (known.places index) x) (all_below (candidates (known.places index) x) (length keys.entries) bound places_there)
+    where
+      all_below : (ps : List ℕ) (n : ℕ) → n ≤ first_remembered → AllByRecursion (λ p. p < n) ps → AllByRecursion (λ p. p < first_remembered) ps
+      all_below [] n l a = tt
+      all_below (p ∷ ps) n l a = (omega (arith, a.0, l), all_below ps n l a.1)
+
+  pub own-there : is_shared index ≡ false → AllByRecursion (λ p. p < length keys.entries) (slots_among (candidates index.own x))
+  own-there own = subst (λ z. AllByRecursion (λ p. p < length keys.entries) z) (sym (own-places own)) places_there

@@ -1,0 +1,120 @@
+-- What a lookup of a key through an index finds, and how many comparisons it makes.
+use Rattle.std.proofs.Common.{◌≡◌, ℕ, suc, ◌+◌, ◌<◌, ◌≤◌, Bool, true, false, eqb, Option, Some, None, slice_get, List, [], ◌∷◌, drop, length, inl, inr, refl, sym, ap, ◌∙◌, subst, arith}
+use Rattle.std.specs.List.{find, AllByRecursion}
+use Rattle.std.specs.Cmp.{IsEquivalence}
+use Rattle.std.proofs.lemmas.Bool.{both_ways, cases_Bool, or_cases, eqb-true}
+use Rattle.clock2q_handles.specs.Homes.{candidates}
+use Rattle.clock2q_directory.specs.declared.keys.store.Entry.{Entry}
+use Rattle.clock2q_queues.specs.Rings.{has}
+use Rattle.clock2q_directory.specs.Keys.{hash_at, entries_of, is_key_at, questions_of}
+use Rattle.clock2q_directory.specs.Indexes.{IsIndex, AllDistinct, HasHash, is_named}
+use Rattle.clock2q_queues.proofs.Rings.{has_first, has_later}
+use Rattle.clock2q_directory.proofs.Entries.{key_there, hash_of_hashed, all_entry, same_place}
+use Rattle.clock2q_directory.proofs.Indexes.{named-own, candidate_there}
+
+-- The first that passes a test
+
+pub found_there : (test : ℕ → Bool) (cs : List ℕ) (p : ℕ) → Some p ≡ find test cs → (has p cs ≡ true) × (test p ≡ true)
+found_there test [] p e = absurd (cc)
+found_there test (c ∷ cs) p e = elim (cases_Bool (test c)) [
+  | inl h ↦
+      let q : p ≡ c = some_same p c (e ∙ rw h refl) in
+      (subst (λ z. has z (c ∷ cs) ≡ true) (sym q) (has_first c cs), subst (λ z. test z ≡ true) (sym q) h)
+  | inr h ↦ let r = found_there test cs p (e ∙ rw h refl) in (has_later p c cs r.0, r.1)
+]
+  where
+    some_same : (x y : ℕ) → Some x ≡ Some y → x ≡ y
+    some_same x y e = cc
+
+pub not_found : (test : ℕ → Bool) (cs : List ℕ) → None ≡ find test cs → (t : ℕ) → has t cs ≡ true → test t ≡ false
+not_found test [] e t g = absurd (both_ways false refl g)
+not_found test (c ∷ cs) e t g = elim (cases_Bool (test c)) [
+  | inl h ↦ absurd (none_some c (e ∙ rw h refl))
+  | inr h ↦ elim (or_cases (eqb t c) (has t cs) g) [
+    | inl q ↦ subst (λ z. test z ≡ false) (sym (eqb-true t c q)) h
+    | inr q ↦ not_found test cs (e ∙ rw h refl) t q
+  ]
+]
+  where
+    none_some : (x : ℕ) → None ≡ Some x → ⊥
+    none_some x e = cc
+
+-- if no two pass the test, and the same ones that pass are in both lists, the first is the same
+pub find-same : (test : ℕ → Bool) (cs ps : List ℕ) → ((t : ℕ) → has t cs ≡ true → has t ps ≡ true) → ((t : ℕ) → has t ps ≡ true → test t ≡ true → has t cs ≡ true)
+    → ((t u : ℕ) → has t ps ≡ true → has u ps ≡ true → test t ≡ true → test u ≡ true → eqb t u ≡ true) → find test cs ≡ find test ps
+find-same test cs ps into back one = of (find test cs) (find test ps) refl refl
+  where
+    of : (o q : Option ℕ) → o ≡ find test cs → q ≡ find test ps → find test cs ≡ find test ps
+    of None None e f = sym e ∙ f
+    of None (Some p) e f =
+        let s = found_there test ps p f in
+        absurd (both_ways (test p) (not_found test cs e p (back p s.0 s.1)) s.1)
+    of (Some c) None e f =
+        let r = found_there test cs c e in
+        absurd (both_ways (test c) (not_found test ps f c (into c r.0)) r.1)
+    of (Some c) (Some p) e f =
+        let r = found_there test cs c e in
+        let s = found_there test ps p f in
+        sym e ∙ ap (λ z. Some z) (eqb-true c p (one c p (into c r.0) s.0 r.1 s.1)) ∙ f
+
+module _ {K V : Type 0} (eq : K → K → Bool) (hash : ℕ) (key : K) (index : List (List (ℕ × ℕ))) (keys : List (Entry K V)) (places : List ℕ)
+    (i : IsIndex index keys places) (hashed : HasHash eq hash key (entries_of keys places)) where
+  -- a place of the list that has the key has the key's hash
+  pub hash_there : (t : ℕ) → has t places ≡ true → is_key_at eq key keys t ≡ true → hash_at keys t ≡ Some hash
+  hash_there t g k =
+      let e = key_there eq key keys t k in
+      hash_of_hashed keys t e.0 e.1 ∙ ap (λ z. Some z) (all_entry (λ e. eq key e.1 ≡ true → e.0 ≡ hash) keys places t e.0 hashed g e.1 e.2)
+
+  pub candidate : (t : ℕ) → has t places ≡ true → is_key_at eq key keys t ≡ true → has t (candidates index hash) ≡ true
+  candidate t g k =
+      let named : is_named index keys hash t ≡ true = named-own index keys hash t (hash_there t g k) in
+      i.listed hash t ∙ rw (g, named) refl
+
+  -- the first candidate that has the key is the place of the list that has it, or there is none
+  pub lookup : IsEquivalence eq → AllDistinct eq (entries_of keys places) → find (is_key_at eq key keys) (candidates index hash) ≡ find (is_key_at eq key keys) places
+  lookup laws distinct = find-same (is_key_at eq key keys) (candidates index hash) places
+      (λ t h. (candidate_there index keys places hash t i h).0) candidate
+      (λ t u g h k l. same_place eq laws key keys places distinct t u g h k l)
+
+-- Comparisons
+
+pub questions-most : (test : ℕ → Bool) (cs : List ℕ) → questions_of test cs ≤ length cs
+questions-most test [] = omega arith
+questions-most test (c ∷ cs) = elim (cases_Bool (test c)) [
+  | inl h ↦ rw h (omega arith)
+  | inr h ↦ rw h (omega (arith, questions-most test cs))
+]
+
+pub questions-within : (test : ℕ → Bool) {places all : List ℕ} (n : ℕ) → places ≡ all → length all ≡ n → questions_of test places ≤ n
+questions-within test {places} n same is = omega (arith, questions-most test places, ap (λ (z : List ℕ). length z) same, is)
+
+-- a list begins with its first element
+pub begins_with : {xs : List ℕ} {x : ℕ} → Some x ≡ slice_get xs 0 → xs ≡ x ∷ drop 1 xs
+begins_with {xs = []} e = absurd (cc)
+begins_with {xs = y ∷ xs} {x} e = let q : x ≡ y = cc in ap (λ z. z ∷ xs) (sym q)
+
+pub is_empty : {xs : List ℕ} → None ≡ slice_get xs 0 → xs ≡ []
+is_empty {xs = []} e = refl
+is_empty {xs = y ∷ xs} e = absurd (cc)
+
+-- none of the places compared so far has the key
+pub record Asked (test : ℕ → Bool) (n bound : ℕ) (all : List ℕ) (asked : ℕ) (left : List ℕ) : Type 0 where
+  pub found : find test all ≡ find test left
+  pub questions : n + questions_of test all ≡ asked + questions_of test left
+  pub there : AllByRecursion (λ place. place < bound) left
+
+pub asked-next : (test : ℕ → Bool) (n bound : ℕ) (all : List ℕ) (asked place : ℕ) (left : List ℕ)
+    → Asked test n bound all asked (place ∷ left) → false ≡ test place → Asked test n bound all (asked + 1) left
+asked-next test n bound all asked place left a other =
+    let m : questions_of test (place ∷ left) ≡ suc (questions_of test left) = rw (sym other) refl in
+    record {
+      found = a.found ∙ rw (sym other) refl;
+      questions = omega (arith, a.questions, m);
+      there = a.there.1;
+    }
+
+pub asked-found : {test : ℕ → Bool} {n bound : ℕ} {all : List ℕ} {asked : ℕ} (place : ℕ) (left : List ℕ) → Asked test n bound all asked (place ∷ left) → true ≡ test place
+    → (Some place ≡ find test all) × (asked + 1 ≡ n + questions_of test all)
+asked-found {test} place left a it =
+    let m : questions_of test (place ∷ left) ≡ 1 = rw (sym it) refl in
+    (sym (a.found ∙ rw (sym it) refl), omega (arith, a.questions, m))

@@ -1,0 +1,163 @@
+-- A key put at the front of the history.
+use Rattle.std.proofs.Common.{◌≡◌, ℕ, zero, suc, ◌+◌, ◌-◌, ◌^◌, ◌<◌, ◌≤◌, Bool, true, false, eqb, ltb, Option, Some, None, slice_get, List, [], ◌∷◌, length, take, inl, inr, refl, sym, ap, ◌∙◌, subst, arith}
+use Rattle.std.specs.Prelude.{if◌then◌else◌}
+use Rattle.std.specs.List.{last_or}
+use Rattle.std.proofs.lemmas.Bool.{both_ways, cases_Bool, eq-eqb, le-ltb}
+use Rattle.std.proofs.lemmas.List.{length-take}
+use Rattle.clock2q_handles.specs.Homes.{total, capacity, candidates, removed}
+use Rattle.clock2q_directory.specs.Index as known
+use Rattle.clock2q_directory.specs.Index.{IndexState, first_remembered, left, remembered_at, forgotten_at, HasPlaceRoom}
+use Rattle.clock2q_directory.specs.declared.keys.store.Entry.{Entry}
+use Rattle.clock2q_queues.specs.Rings.{has}
+use Rattle.clock2q_queues.specs.Order.{PlaceOrder, IsWholeOrder, used, place_for}
+use Rattle.clock2q_directory.specs.Keys.{KeyPlaces, entry, key_places, written, hash_at, hashed_at, entries_of}
+use Rattle.clock2q_directory.specs.Indexes.{IsIndex, AllDistinct, has_key}
+use Rattle.clock2q_directory.specs.History.{Places, IsHistory, MakesPlace, remembered, accesses_of, places_with, places_from, pushed_places, freed_place, oldest_hash, taking_free, taking_oldest}
+use Rattle.clock2q_queues.specs.Cells.{Rises}
+use Rattle.clock2q_queues.proofs.Rings.{differs, AllBelow-left}
+use Rattle.clock2q_directory.proofs.Entries.{slice_get-written, slice_get-written_other, length-written, entries-agree, entries-cons, entries-take}
+use Rattle.clock2q_directory.proofs.Histories.{shown-as}
+use Rattle.clock2q_directory.proofs.Views.{IsIndex-remembered, remembered-like, forgotten-like, slots-remembered, slots-left, slots-forgotten}
+use Rattle.clock2q_queues.proofs.Booleans.{or_parts}
+
+module _ {K : Type 0} (eq : K → K → Bool) where
+  key_absent-take : (key : K) (k : ℕ) (es : List (ℕ × K)) → has_key eq key es ≡ false → has_key eq key (take k es) ≡ false
+  key_absent-take key zero es h = refl
+  key_absent-take key (suc k) [] h = refl
+  key_absent-take key (suc k) (e ∷ es) h =
+      let p = or_parts (eq key e.1) (has_key eq key es) h in
+      rw p.0 (key_absent-take key k es p.1)
+
+  distinct-take : (k : ℕ) (es : List (ℕ × K)) → AllDistinct eq es → AllDistinct eq (take k es)
+  distinct-take zero es d = tt
+  distinct-take (suc k) [] d = tt
+  distinct-take (suc k) (e ∷ es) d = (key_absent-take e.1 k es d.0, distinct-take k es d.1)
+
+-- if the limit is zero, the resident only leaves
+pub pushed-nowhere : (limit hash slot oldest : ℕ) (p : Places) → length p.taken ≤ limit → limit ≡ 0 → pushed_places limit hash slot oldest p ≡ places_with (left hash slot p.index) p.taken p.free
+pushed-nowhere limit hash slot oldest p h none =
+    ap (λ b. if b then taking_free hash slot p else taking_oldest hash slot oldest (last_or None p.taken) p) (le-ltb (length p.taken) limit (omega (arith, none)))
+    ∙ ap (λ z. taking_oldest hash slot oldest (last_or None z) p) (empty p.taken (omega (arith, h, none)))
+  where
+    empty : (ps : List ℕ) → length ps ≡ 0 → ps ≡ []
+    empty [] e = refl
+    empty (p ∷ ps) e = absurd (omega arith)
+
+-- the slots after a key leaves
+module _ (limit hash slot oldest : ℕ) (p : Places) (below : slot < first_remembered) where
+  pub slots-pushed : known.slots (pushed_places limit hash slot oldest p).index ≡ removed eqb (known.slots p.index) hash slot
+  slots-pushed = elim (cases_Bool (ltb (length p.taken) limit)) [
+    | inl e ↦ rw e (slots-remembered p.index hash slot (place_for (length p.taken) p.free) below)
+    | inr e ↦ rw e (of (last_or None p.taken))
+  ]
+    where
+      of : (o : Option ℕ) → known.slots (taking_oldest hash slot oldest o p).index ≡ removed eqb (known.slots p.index) hash slot
+      of None = slots-left p.index hash slot below
+      of (Some place) = slots-remembered (forgotten_at oldest place p.index) hash slot place below ∙ ap (λ z. removed eqb z hash slot) (slots-forgotten p.index oldest place)
+
+  pub shared-pushed : known.is_shared (pushed_places limit hash slot oldest p).index ≡ known.is_shared p.index
+  shared-pushed = elim (cases_Bool (ltb (length p.taken) limit)) [
+    | inl e ↦ rw e (remembered-like p.index hash slot (place_for (length p.taken) p.free)).shared
+    | inr e ↦ rw e (of (last_or None p.taken))
+  ]
+    where
+      of : (o : Option ℕ) → known.is_shared (taking_oldest hash slot oldest o p).index ≡ known.is_shared p.index
+      of None = refl
+      of (Some place) = (remembered-like (forgotten_at oldest place p.index) hash slot place).shared ∙ (forgotten-like p.index oldest place).shared
+
+-- forgetting a key doesn't change the slots
+pub slots-freed : (hash : ℕ) (o : Option ℕ) (p : Places) → known.slots (freed_place hash o p).index ≡ known.slots p.index
+slots-freed hash None p = refl
+slots-freed hash (Some place) p = slots-forgotten p.index hash place
+
+pub shared-freed : (hash : ℕ) (o : Option ℕ) (p : Places) → known.is_shared (freed_place hash o p).index ≡ known.is_shared p.index
+shared-freed hash None p = refl
+shared-freed hash (Some place) p = (forgotten-like p.index hash place).shared
+
+-- a key was put at the front
+pub record Remembers {K V : Type 0} (eq : K → K → Bool) (hash slot : ℕ) (key : K) (index : IndexState) (order : PlaceOrder)
+    (keys : KeyPlaces K V) (index' : IndexState) (order' : PlaceOrder) (keys' : KeyPlaces K V) : Type 0 where
+  pub whole : IsHistory eq index' order' keys'
+  pub shown : remembered (entries_of keys'.entries order'.places) order'.limit (places_from index' order') (accesses_of order' keys') keys'.questions
+      ≡ remembered (take order.limit ((hash, key) ∷ entries_of keys.entries order.places)) order.limit (places_from index' order') (accesses_of order' keys') keys.questions
+  pub accesses : Rises 0 8 (accesses_of order keys) (accesses_of order' keys')
+  pub places : places_from index' order' ≡ pushed_places order.limit hash slot (oldest_hash (λ (e : ℕ × K). e.0) (entries_of keys.entries order.places)) (places_from index order)
+
+module _ {K V : Type 0} (eq : K → K → Bool) (hash slot : ℕ) (key : K) (value : V) (index index1 index' : IndexState) (order order' : PlaceOrder) (keys keys' : KeyPlaces K V) (place : ℕ)
+    (h : IsHistory eq index order keys) (some : 0 < order.limit) (m : MakesPlace index index1 order order' keys.entries place) where
+  abbrev pub fewer : List ℕ
+  fewer = take (order.limit - 1) order.places
+
+  pub write_fits : (place ≤ length keys.entries) × (place < keys.room)
+  write_fits = (m.next, omega (arith, m.below, h.room))
+
+  fewer_now : total (known.places index1) < order.limit
+  fewer_now = omega (arith, length-take (order.limit - 1) order.places, m.indexed.counted, some)
+
+  -- a table of the places' own has room for the place
+  pub place_room : HasPlaceRoom index1
+  place_room = record {
+    room = λ own. omega (arith, fewer_now, h.own_room (sym m.shared ∙ own), ap capacity m.as_many);
+    few = λ own. omega (arith, fewer_now, h.short);
+  }
+
+  pub place_below : place < 2 ^ 24
+  place_below = omega (arith, m.below, h.short)
+
+  -- the slot is still there
+  pub still_held : has slot (candidates (known.slots index) hash) ≡ true → has slot (candidates (known.slots index1) hash) ≡ true
+  still_held held = rw m.slots held
+
+  module _ (write : keys' ≡ key_places (written place (entry hash key value) keys.entries) keys.room (keys.writes + 1) keys.questions)
+      (below : slot < first_remembered) (held : has slot (candidates (known.slots index) hash) ≡ true)
+      (put : index' ≡ remembered_at hash slot place index1) (w : IsWholeOrder order')
+      (absent : has_key eq key (entries_of keys.entries order.places) ≡ false) where
+    wrote : keys'.entries ≡ written place (entry hash key value) keys.entries
+    wrote = ap (λ (z : KeyPlaces K V). z.entries) write
+
+    stands : slice_get keys'.entries place ≡ Some (entry hash key value)
+    stands = ap (λ z. slice_get z place) wrote ∙ slice_get-written place (entry hash key value) keys.entries m.next
+
+    stands_still : (t : ℕ) → has t fewer ≡ true → slice_get keys'.entries t ≡ slice_get keys.entries t
+    stands_still t g =
+        let d : eqb t place ≡ false = differs t place fewer g m.absent in
+        ap (λ z. slice_get z t) wrote ∙ slice_get-written_other place t (entry hash key value) keys.entries m.next (λ e. both_ways (eqb t place) d (eq-eqb t place e))
+
+    entries_now : entries_of keys'.entries order'.places ≡ take order.limit ((hash, key) ∷ entries_of keys.entries order.places)
+    entries_now =
+        let n : order.limit ≡ suc (order.limit - 1) = omega (arith, some) in
+        let below = AllBelow-left (used order) order.places order.free h.whole.below in
+        let at : hashed_at keys'.entries place ≡ Some (hash, key) = ap (λ z. elim z [ None ↦ None | Some e ↦ Some (e.hash, e.key) ]) stands in
+        ap (λ z. entries_of keys'.entries z) m.places
+        ∙ entries-cons keys'.entries place (hash, key) fewer at
+        ∙ ap (λ zs. (hash, key) ∷ zs) (entries-agree keys.entries keys'.entries fewer stands_still
+        ∙ entries-take keys.entries (used order) (order.limit - 1) order.places (omega (arith, h.as_many)) below)
+        ∙ ap (λ z. take z ((hash, key) ∷ entries_of keys.entries order.places)) (sym n)
+
+    counted : Rises 1 7 order.accesses order'.accesses → keys'.writes ≡ keys.writes + 1 → Rises 0 8 (accesses_of order keys) (accesses_of order' keys')
+    counted rises n = (omega (arith, rises.0), omega (arith, rises.1))
+
+    pub remembers : Remembers eq hash slot key index order keys index' order' keys'
+    remembers =
+        let some_slots : 0 < length (known.places index1) = rw m.as_many (elim h.some [ inl s ↦ s | inr none ↦ absurd (omega (arith, none, some)) ]) in
+        let hashes = (λ (t : ℕ) (g : has t fewer ≡ true). ap (λ z. elim z [ None ↦ None | Some e ↦ Some e.hash ]) (stands_still t g)) in
+        let at : hash_at keys'.entries place ≡ Some hash = ap (λ z. elim z [ None ↦ None | Some e ↦ Some e.hash ]) stands in
+        let indexed = IsIndex-remembered index1 keys.entries keys'.entries fewer hash slot place below m.indexed some_slots (still_held held) m.absent hashes at in
+        let like = remembered-like index1 hash slot place in
+        let shared : known.is_shared index' ≡ known.is_shared index = ap (λ z. known.is_shared z) put ∙ like.shared ∙ m.shared in
+        let slot_count : length (known.places index') ≡ length (known.places index) = ap (λ z. length (known.places z)) put ∙ like.places ∙ m.as_many in
+        record {
+          whole = record {
+            whole = w;
+            indexed = subst (λ z. IsIndex (known.places index') keys'.entries z) (sym m.places) (subst (λ z. IsIndex (known.places z) keys'.entries (place ∷ fewer)) (sym put) indexed);
+            distinct = subst (λ z. AllDistinct eq z) (sym entries_now) (distinct-take eq order.limit ((hash, key) ∷ entries_of keys.entries order.places) (absent, h.distinct));
+            as_many = ap (λ (z : List (Entry K V)). length z) wrote ∙ length-written place (entry hash key value) keys.entries m.next ∙ sym m.used_now;
+            room = rw (m.limit, ap (λ (z : KeyPlaces K V). z.room) write) h.room;
+            some = rw (m.limit, slot_count) h.some;
+            own_room = λ own. rw (m.limit, slot_count) (h.own_room (sym shared ∙ own));
+            short = rw m.limit h.short;
+          };
+          shown = shown-as _ _ entries_now m.limit (ap (λ (z : KeyPlaces K V). z.questions) write);
+          accesses = counted m.accesses (ap (λ (z : KeyPlaces K V). z.writes) write);
+          places = ap (λ z. places_with z order'.places order'.free) put ∙ m.placed hash slot;
+        }

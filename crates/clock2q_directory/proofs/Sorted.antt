@@ -1,0 +1,132 @@
+-- What holds of every index, and what its calls rely on.
+use Rattle.std.proofs.Common.{◌≡◌, ℕ, zero, suc, ◌+◌, ◌-◌, ◌^◌, ◌<◌, true, false, ◌&&◌, ◌==◌, if◌then◌else◌, eqb, ltb, Result, Ok, Err, IsOk, List, [], ◌∷◌, length, inl, inr, refl, sym, ap, ◌∙◌, subst, arith, eq-eqb, ne_eqb, eqb-true}
+use Rattle.std.specs.List.{list_any}
+use Rattle.std.proofs.lemmas.Bool.{both_ways, cases_Bool}
+use Rattle.std.proofs.lemmas.List.{length-map, length-replicate}
+use Rattle.std.proofs.lemmas.List.Sums.{sum_by-cons}
+use Rattle.clock2q_handles.specs.Changes.{PutIn}
+use Rattle.clock2q_handles.specs.Homes.{top, listed, no_entries, capacity, total, candidates, with_handle, removed, is_entry_of}
+use Rattle.clock2q_handles.specs.TableStep.{made_for}
+use Rattle.clock2q_handles.specs.declared.error.TableError.{TableError}
+use Rattle.clock2q_handles.proofs.FewerEntries.{total-no_entries}
+use Rattle.clock2q_queues.specs.Rings.{has}
+use Rattle.clock2q_directory.specs.Index.{IndexState, index_state, IsSorted, HasSlotRoom, HasPlaceRoom, first_remembered, is_shared, slots, places, beside, slot_entries, place_entries, slots_in, places_in}
+use Rattle.clock2q_directory.proofs.Indexes.{any-candidate, length-put, fits_new, total_new}
+use Rattle.clock2q_directory.proofs.Views.{place_of, listed-view, others-entered, others-left}
+
+-- The number of entries
+
+length-parted : (es : List (ℕ × ℕ)) → length es ≡ length (slot_entries es) + length (place_entries es)
+length-parted [] = refl
+length-parted (e ∷ es) = elim (cases_Bool (ltb e.1 first_remembered)) [
+  | inl b ↦ rw b (omega (arith, length-parted es))
+  | inr b ↦ rw b (omega (arith, length-parted es))
+]
+
+total-parted : (homes : List (List (ℕ × ℕ))) → total homes ≡ total (slots_in homes) + total (places_in homes)
+total-parted [] = refl
+total-parted (es ∷ homes) = omega (
+  arith,
+  length-parted es,
+  total-parted homes,
+  sum_by-cons length es homes,
+  sum_by-cons length (slot_entries es) (slots_in homes),
+  sum_by-cons length (place_entries es) (places_in homes),
+)
+
+total-both : (v : IndexState) → IsSorted v → total v.shared ≡ total (slots v) + beside v
+total-both v s = elim (cases_Bool (is_shared v)) [
+  | inl h ↦ rw h (total-parted v.shared)
+  | inr h ↦ rw h (omega (arith, total-parted v.shared, s.apart h))
+]
+
+none-parted : (homes : List (List (ℕ × ℕ))) → total homes ≡ 0 → total (places_in homes) ≡ 0
+none-parted homes none = omega (arith, total-parted homes, none)
+
+-- What a call relies on
+
+-- the places' own table has room for no entry only if it has no slots
+pub tells_shared : (v : IndexState) (n : ℕ) → IsSorted v → n ≡ capacity (length v.own) → eqb n 0 ≡ is_shared v
+tells_shared v n s is = elim (cases_Bool (is_shared v)) [
+  | inl h ↦ eq-eqb n 0 (let none = eqb-true (length v.own) 0 h in omega (arith, is, none)) ∙ sym h
+  | inr h ↦ ne_eqb n 0 (λ q. omega (arith, q, is, s.takes h)) ∙ sym h
+]
+
+pub slot_fits : (v : IndexState) → IsSorted v → HasSlotRoom v → total v.shared < capacity (length v.shared)
+slot_fits v s r = omega (arith, total-both v s, r.room, ap capacity (length-map v.shared slot_entries))
+
+pub slot_is_few : (v : IndexState) → IsSorted v → HasSlotRoom v → total v.shared + 1 < 2 ^ 24
+slot_is_few v s r = omega (arith, total-both v s, r.few)
+
+pub place_is_few : (v : IndexState) → is_shared v ≡ false → HasPlaceRoom v → total v.own + 1 < 2 ^ 24
+place_is_few v h r = subst (λ b. total (if b then places_in v.shared else v.own) + 1 < 2 ^ 24) h (r.few h)
+
+-- a put into a table with few entries succeeds
+pub put_done : (homes new : List (List (ℕ × ℕ))) (x h : ℕ) (r : Result (Unit {0}) TableError) → PutIn homes x h r new
+    → (total homes + 1 < 2 ^ 24 → IsOk r) → total homes + 1 < 2 ^ 24 → new ≡ with_handle homes x h
+put_done homes new x h (Ok u) put few short = put.0
+put_done homes new x h (Err e) put few short = let ok = few short in cc
+
+any-place : (x p : ℕ) (es : List (ℕ × ℕ)) → list_any (is_entry_of eqb x p) (place_entries es) ≡ true → list_any (is_entry_of eqb x (first_remembered + p)) es ≡ true
+any-place x p [] h = h
+any-place x p (e ∷ es) h = elim (cases_Bool (is_entry_of eqb x (first_remembered + p) e)) [
+  | inl t ↦ rw t refl
+  | inr t ↦ elim (cases_Bool (ltb e.1 first_remembered)) [
+    | inl b ↦ rw t (any-place x p es (rw b at h))
+    | inr b ↦
+        let t' : is_entry_of eqb x p (e.0, e.1 - first_remembered) ≡ false = ap (λ z. (e.0 == top x) && z) (sym (place_of e.1 p b)) ∙ t in
+        rw t (any-place x p es (rw (b, t') at h))
+  ]
+]
+
+-- the table that a place is in has an entry of it
+pub held_place : (v : IndexState) (x p : ℕ) → is_shared v ≡ true → has p (candidates (places v) x) ≡ true → list_any (is_entry_of eqb x (first_remembered + p)) (listed v.shared x) ≡ true
+held_place v x p h held =
+    let is : places v ≡ places_in v.shared = ap (λ b. if b then places_in v.shared else v.own) h in
+    any-place x p (listed v.shared x)
+    (ap (λ es. list_any (is_entry_of eqb x p) es) (sym (listed-view place_entries refl v.shared x)) ∙ any-candidate x p (listed (places_in v.shared) x)
+    ∙ subst (λ z. has p (candidates z x) ≡ true) is held)
+
+pub held_own : (v : IndexState) (x p : ℕ) → is_shared v ≡ false → has p (candidates (places v) x) ≡ true → list_any (is_entry_of eqb x p) (listed v.own x) ≡ true
+held_own v x p h held =
+    let is : places v ≡ v.own = ap (λ b. if b then places_in v.shared else v.own) h in
+    any-candidate x p (listed v.own x) ∙ subst (λ z. has p (candidates z x) ≡ true) is held
+
+-- What holds of every index
+
+sorted : (v w : IndexState) → IsSorted v → length w.own ≡ length v.own → (is_shared v ≡ false → places_in w.shared ≡ places_in v.shared) → IsSorted w
+sorted v w s own others =
+    let before = (λ (h : is_shared w ≡ false). sym (ap (λ n. n == 0) own) ∙ h) in
+    record {
+      apart = λ h. ap (λ (z : List (List (ℕ × ℕ))). total z) (others (before h)) ∙ s.apart (before h);
+      takes = λ h. subst (λ n. 0 < capacity n) (sym own) (s.takes (before h));
+    }
+
+pub sorted-entered : (v : IndexState) (homes : List (List (ℕ × ℕ))) (x s : ℕ) → s < first_remembered → IsSorted v → homes ≡ with_handle v.shared x s → IsSorted (index_state homes v.own)
+sorted-entered v homes x s below sorts is = sorted v (index_state homes v.own) sorts refl (λ _. ap (λ z. places_in z) is ∙ others-entered v.shared x s below)
+
+pub sorted-left : (v : IndexState) (homes : List (List (ℕ × ℕ))) (x s : ℕ) → s < first_remembered → IsSorted v → homes ≡ removed eqb v.shared x s → IsSorted (index_state homes v.own)
+sorted-left v homes x s below sorts is = sorted v (index_state homes v.own) sorts refl (λ _. ap (λ z. places_in z) is ∙ others-left v.shared x s below)
+
+pub sorted-remembered : (v : IndexState) (homes own : List (List (ℕ × ℕ))) (x s p : ℕ) → s < first_remembered → IsSorted v
+    → homes ≡ removed eqb v.shared x s → own ≡ with_handle v.own x p → IsSorted (index_state homes own)
+sorted-remembered v homes own x s p below sorts is own_is =
+    sorted v (index_state homes own) sorts (ap (λ (z : List (List (ℕ × ℕ))). length z) own_is ∙ length-put v.own x p) (λ _. ap (λ z. places_in z) is ∙ others-left v.shared x s below)
+
+pub sorted-cleared : (v : IndexState) (m : ℕ) → IsSorted v → IsSorted (index_state (no_entries m) (no_entries (length v.own)))
+sorted-cleared v m s =
+    let same : length (no_entries {E = ℕ × ℕ} (length v.own)) ≡ length v.own = length-replicate {A = List (ℕ × ℕ)} (length v.own) [] in
+    record {
+      apart = λ _. none-parted (no_entries m) (total-no_entries (λ (h : ℕ). h) m);
+      takes = λ h. subst (λ n. 0 < capacity n) (sym same) (s.takes (sym (ap (λ n. n == 0) same) ∙ h));
+    }
+
+made_takes : (m : ℕ) → (length (made_for {H = ℕ} m) == 0) ≡ false → 0 < capacity (length (made_for {H = ℕ} m))
+made_takes zero h = absurd (both_ways true h refl)
+made_takes (suc m) h = omega (arith, fits_new (suc m))
+
+pub sorted-made : (n m : ℕ) → IsSorted (index_state (made_for n) (made_for m))
+sorted-made n m = record {
+  apart = λ _. none-parted (made_for n) (total_new n);
+  takes = λ h. made_takes m h;
+}

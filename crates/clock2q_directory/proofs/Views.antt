@@ -1,0 +1,463 @@
+-- The slots and the places of an index, and how each of its calls changes them.
+use Rattle.std.proofs.Common.{◌≡◌, ℕ, zero, suc, ◌+◌, ◌-◌, ◌%◌, ◌<◌, Bool, true, false, not, ◌&&◌, ◌||◌, ◌==◌, if◌then◌else◌, eqb, ltb, Some, List, [], ◌∷◌, ◌++◌, length, map, set, get_or, inl, inr, refl, sym, ap, ◌∙◌, subst, arith, append-nil, eqb-true, eq-eqb, ne_eqb, lt-ltb, le-ltb, ltb-false}
+use Rattle.std.specs.List.{filter, list_any}
+use Rattle.std.proofs.lemmas.Bool.{both_ways, cases_Bool, cases_eq, eqb-false}
+use Rattle.std.proofs.lemmas.List.{append_assoc, length-append, length-map, map-set, set-get_or}
+use Rattle.std.proofs.lemmas.List.Elements.{filter-append}
+use Rattle.clock2q_handles.specs.Homes.{top, home, listed, total, candidates, with_list, with_handle, removed, without_first, is_entry_of}
+use Rattle.clock2q_handles.specs.Positions.{with_first, relabelled}
+use Rattle.clock2q_handles.proofs.Lookups.{with_top}
+use Rattle.clock2q_handles.proofs.Changes.{length-with_list, listed-with_same, listed-with_other, total-with_list}
+use Rattle.clock2q_directory.specs.declared.keys.store.Entry.{Entry}
+use Rattle.clock2q_queues.specs.Rings.{has, AllApart}
+use Rattle.clock2q_directory.specs.Keys.{hash_at}
+use Rattle.clock2q_directory.specs.Indexes.{IsIndex}
+use Rattle.clock2q_directory.specs.Index.{IndexState, index_state, first_remembered, is_shared, slots, places, entered, left, remembered_at, forgotten_at, slots_among, places_among, slot_entries, place_entries, slots_in, places_in}
+use Rattle.clock2q_queues.proofs.Booleans.{and_parts}
+use Rattle.clock2q_queues.proofs.Rings.{has-append, AllApart-append, AllApart-left, AllApart-right, AllApart-turned, apart_from}
+use Rattle.clock2q_directory.proofs.Indexes.{any-candidate, named-length, length-put, length-taken, total-put, IsIndex-put}
+
+-- Lists of which some elements are kept
+
+module _ {E : Type 0} (keep test : E → Bool) where
+  -- one that is kept may be taken out before or after
+  kept-without_first : ((e : E) → test e ≡ true → keep e ≡ true) → (es : List E) → filter keep (without_first test es) ≡ without_first test (filter keep es)
+  kept-without_first kept [] = refl
+  kept-without_first kept (e ∷ es) = elim (cases_Bool (test e)) [
+    | inl t ↦ rw (t, kept e t) (rw t refl)
+    | inr t ↦ elim (cases_Bool (keep e)) [
+      | inl k ↦ rw (t, k) (rw t (ap (λ zs. e ∷ zs) (kept-without_first kept es)))
+      | inr k ↦ rw (t, k) (kept-without_first kept es)
+    ]
+  ]
+
+  -- taking out one that isn't kept doesn't change those kept
+  lost-without_first : ((e : E) → test e ≡ true → keep e ≡ false) → (es : List E) → filter keep (without_first test es) ≡ filter keep es
+  lost-without_first lost [] = refl
+  lost-without_first lost (e ∷ es) = elim (cases_Bool (test e)) [
+    | inl t ↦ rw (t, lost e t) refl
+    | inr t ↦ elim (cases_Bool (keep e)) [
+      | inl k ↦ rw (t, k) (ap (λ zs. e ∷ zs) (lost-without_first lost es))
+      | inr k ↦ rw (t, k) (lost-without_first lost es)
+    ]
+  ]
+
+  -- putting one that isn't kept in its place is the same as taking it out
+  kept-with_first : (new : E) → keep new ≡ false → ((e : E) → test e ≡ true → keep e ≡ true) → (es : List E) → filter keep (with_first test new es) ≡ without_first test (filter keep es)
+  kept-with_first new none kept [] = refl
+  kept-with_first new none kept (e ∷ es) = elim (cases_Bool (test e)) [
+    | inl t ↦ rw (t, kept e t, none) (rw t refl)
+    | inr t ↦ elim (cases_Bool (keep e)) [
+      | inl k ↦ rw (t, k) (rw t (ap (λ zs. e ∷ zs) (kept-with_first new none kept es)))
+      | inr k ↦ rw (t, k) (kept-with_first new none kept es)
+    ]
+  ]
+
+  -- one that is among those kept is among all
+  any-kept : (es : List E) → list_any test (filter keep es) ≡ true → list_any test es ≡ true
+  any-kept [] h = h
+  any-kept (e ∷ es) h = elim (cases_Bool (test e)) [
+    | inl t ↦ rw t refl
+    | inr t ↦ elim (cases_Bool (keep e)) [
+      | inl k ↦ rw t (any-kept es (rw (k, t) at h))
+      | inr k ↦ rw t (any-kept es (rw k at h))
+    ]
+  ]
+
+-- The entries with slots, and those with places
+
+slot_is_below : (x s : ℕ) → s < first_remembered → (e : ℕ × ℕ) → is_entry_of eqb x s e ≡ true → ltb e.1 first_remembered ≡ true
+slot_is_below x s below e h = let q : e.1 ≡ s = eqb-true e.1 s (and_parts _ _ h).1 in rw q (lt-ltb s first_remembered below)
+
+slot_is_no_place : (x s : ℕ) → s < first_remembered → (e : ℕ × ℕ) → is_entry_of eqb x s e ≡ true → not (ltb e.1 first_remembered) ≡ false
+slot_is_no_place x s below e h = ap not (slot_is_below x s below e h)
+
+place_is_past : (p : ℕ) → ltb (first_remembered + p) first_remembered ≡ false
+place_is_past p = le-ltb (first_remembered + p) first_remembered (omega arith)
+
+place_is_no_slot : (x p : ℕ) (e : ℕ × ℕ) → is_entry_of eqb x (first_remembered + p) e ≡ true → ltb e.1 first_remembered ≡ false
+place_is_no_slot x p e h = let q : e.1 ≡ first_remembered + p = eqb-true e.1 (first_remembered + p) (and_parts _ _ h).1 in rw q (place_is_past p)
+
+-- a handle past the slots is a place's if it is that place past them
+pub place_of : (h p : ℕ) → ltb h first_remembered ≡ false → eqb h (first_remembered + p) ≡ eqb (h - first_remembered) p
+place_of h p past =
+    let l = ltb-false h first_remembered past in
+    elim (cases_Bool (eqb h (first_remembered + p))) [
+      | inl e ↦ let q = eqb-true h (first_remembered + p) e in e ∙ sym (eq-eqb (h - first_remembered) p (omega (arith, q)))
+      | inr e ↦ e ∙ sym (ne_eqb (h - first_remembered) p (λ q. eqb-false h (first_remembered + p) e (omega (arith, q, l))))
+    ]
+
+place_back : (p : ℕ) → first_remembered + p - first_remembered ≡ p
+place_back p = omega arith
+
+-- taking a place's handle out of the entries takes the place out of the places
+places-without_first : (x p : ℕ) (es : List (ℕ × ℕ)) → place_entries (without_first (is_entry_of eqb x (first_remembered + p)) es) ≡ without_first (is_entry_of eqb x p) (place_entries es)
+places-without_first x p [] = refl
+places-without_first x p (e ∷ es) = elim (cases_Bool (is_entry_of eqb x (first_remembered + p) e)) [
+  | inl t ↦
+      let b : ltb e.1 first_remembered ≡ false = place_is_no_slot x p e t in
+      let t' : is_entry_of eqb x p (e.0, e.1 - first_remembered) ≡ true = ap (λ z. (e.0 == top x) && z) (sym (place_of e.1 p b)) ∙ t in
+      rw (t, b) (rw t' refl)
+  | inr t ↦ elim (cases_Bool (ltb e.1 first_remembered)) [
+    | inl b ↦ rw (t, b) (places-without_first x p es)
+    | inr b ↦
+        let t' : is_entry_of eqb x p (e.0, e.1 - first_remembered) ≡ false = ap (λ z. (e.0 == top x) && z) (sym (place_of e.1 p b)) ∙ t in
+        rw (t, b) (rw t' (ap (λ zs. (e.0, e.1 - first_remembered) ∷ zs) (places-without_first x p es)))
+  ]
+]
+
+places-slot_added : (x s : ℕ) (es : List (ℕ × ℕ)) → s < first_remembered → place_entries (es ++ (top x, s) ∷ []) ≡ place_entries es
+places-slot_added x s es below =
+    let b : ltb s first_remembered ≡ true = lt-ltb s first_remembered below in
+    ap (λ zs. map (λ (e : ℕ × ℕ). (e.0, e.1 - first_remembered)) zs)
+    (filter-append (λ (e : ℕ × ℕ). not (ltb e.1 first_remembered)) es ((top x, s) ∷ []) ∙ rw b (append-nil _))
+
+slots-slot_added : (x s : ℕ) (es : List (ℕ × ℕ)) → s < first_remembered → slot_entries (es ++ (top x, s) ∷ []) ≡ slot_entries es ++ (top x, s) ∷ []
+slots-slot_added x s es below =
+    let b : ltb s first_remembered ≡ true = lt-ltb s first_remembered below in
+    filter-append (λ (e : ℕ × ℕ). ltb e.1 first_remembered) es ((top x, s) ∷ []) ∙ rw b refl
+
+-- a place that is put in for a slot goes between the places before it and those after it
+pub record IsPutBetween (x p : ℕ) (es es' : List (ℕ × ℕ)) : Type 0 where
+  pub before : List (ℕ × ℕ)
+  pub after : List (ℕ × ℕ)
+  pub old : place_entries es ≡ before ++ after
+  pub new : place_entries es' ≡ before ++ (top x, p) ∷ after
+
+put_between : (x s p : ℕ) (es : List (ℕ × ℕ)) → s < first_remembered → list_any (is_entry_of eqb x s) es ≡ true
+    → IsPutBetween x p es (with_first (is_entry_of eqb x s) (top x, first_remembered + p) es)
+put_between x s p [] below h = absurd (both_ways false refl h)
+put_between x s p (e ∷ es) below h = elim (cases_Bool (is_entry_of eqb x s e)) [
+  | inl t ↦ record {
+    before = [];
+    after = place_entries es;
+    old = let b : ltb e.1 first_remembered ≡ true = slot_is_below x s below e t in rw b refl;
+    new = rw (t, place_is_past p, place_back p) refl;
+  }
+  | inr t ↦
+      let rest = put_between x s p es below (rw t at h) in
+      elim (cases_Bool (ltb e.1 first_remembered)) [
+        | inl b ↦ record {
+          before = rest.before;
+          after = rest.after;
+          old = rw b rest.old;
+          new = rw (t, b) rest.new;
+        }
+        | inr b ↦ record {
+          before = (e.0, e.1 - first_remembered) ∷ rest.before;
+          after = rest.after;
+          old = rw b (ap (λ zs. (e.0, e.1 - first_remembered) ∷ zs) rest.old);
+          new = rw (t, b) (ap (λ zs. (e.0, e.1 - first_remembered) ∷ zs) rest.new);
+        }
+      ]
+]
+
+-- A view of each home's list
+
+module _ {E F : Type 0} (view : List E → List F) (empty : view [] ≡ []) where
+  get_or-view : (homes : List (List E)) (i : ℕ) → get_or (map view homes) i [] ≡ view (get_or homes i [])
+  get_or-view [] i = sym empty
+  get_or-view (es ∷ homes) zero = refl
+  get_or-view (es ∷ homes) (suc i) = get_or-view homes i
+
+  pub listed-view : (homes : List (List E)) (x : ℕ) → listed (map view homes) x ≡ view (listed homes x)
+  listed-view homes x = ap (λ n. get_or (map view homes) (x % n) []) (length-map homes view) ∙ get_or-view homes (home homes x)
+
+  view-with_list : (homes : List (List E)) (x : ℕ) (es : List E) → map view (with_list homes x es) ≡ with_list (map view homes) x (view es)
+  view-with_list homes x es = map-set view homes (home homes x) es ∙ ap (λ n. set (map view homes) (x % n) (view es)) (sym (length-map homes view))
+
+  -- a list whose view is unchanged
+  view-unseen : (homes : List (List E)) (x : ℕ) (es : List E) → view es ≡ view (listed homes x) → map view (with_list homes x es) ≡ map view homes
+  view-unseen homes x es same =
+      view-with_list homes x es ∙ ap (λ zs. with_list (map view homes) x zs) (same ∙ sym (listed-view homes x)) ∙ set-get_or (map view homes) (home (map view homes) x) []
+
+-- Lookups
+
+top-slots : (x : ℕ) (es : List (ℕ × ℕ)) → with_top x (slot_entries es) ≡ slots_among (with_top x es)
+top-slots x [] = refl
+top-slots x (e ∷ es) = elim (cases_Bool (e.0 == top x)) [
+  | inl t ↦ elim (cases_Bool (ltb e.1 first_remembered)) [
+    | inl b ↦ rw (t, b) (rw t (ap (λ zs. e.1 ∷ zs) (top-slots x es)))
+    | inr b ↦ rw (t, b) (top-slots x es)
+  ]
+  | inr t ↦ elim (cases_Bool (ltb e.1 first_remembered)) [
+    | inl b ↦ rw (t, b) (rw t (top-slots x es))
+    | inr b ↦ rw (t, b) (top-slots x es)
+  ]
+]
+
+top-places : (x : ℕ) (es : List (ℕ × ℕ)) → with_top x (place_entries es) ≡ places_among (with_top x es)
+top-places x [] = refl
+top-places x (e ∷ es) = elim (cases_Bool (e.0 == top x)) [
+  | inl t ↦ elim (cases_Bool (ltb e.1 first_remembered)) [
+    | inl b ↦ rw (t, b) (top-places x es)
+    | inr b ↦ rw (t, b) (rw t (ap (λ zs. (e.1 - first_remembered) ∷ zs) (top-places x es)))
+  ]
+  | inr t ↦ elim (cases_Bool (ltb e.1 first_remembered)) [
+    | inl b ↦ rw (t, b) (top-places x es)
+    | inr b ↦ rw (t, b) (rw t (top-places x es))
+  ]
+]
+
+-- a lookup's slots and places are those of the views
+pub candidates-slots : (v : IndexState) (x : ℕ) → candidates (slots v) x ≡ slots_among (candidates v.shared x)
+candidates-slots v x = ap (λ es. with_top x es) (listed-view slot_entries refl v.shared x) ∙ top-slots x (listed v.shared x)
+
+pub candidates-places : (v : IndexState) (x : ℕ) → is_shared v ≡ true → candidates (places v) x ≡ places_among (candidates v.shared x)
+candidates-places v x shared =
+    ap (λ b. candidates (if b then places_in v.shared else v.own) x) shared
+    ∙ ap (λ es. with_top x es) (listed-view place_entries refl v.shared x) ∙ top-places x (listed v.shared x)
+
+pub candidates-own : (v : IndexState) (x : ℕ) → is_shared v ≡ false → candidates (places v) x ≡ candidates v.own x
+candidates-own v x own = ap (λ b. candidates (if b then places_in v.shared else v.own) x) own
+
+-- A slot put in
+
+pub slots-entered : (v : IndexState) (x s : ℕ) → s < first_remembered → slots (entered x s v) ≡ with_handle (slots v) x s
+slots-entered v x s below =
+    view-with_list slot_entries refl v.shared x (listed v.shared x ++ (top x, s) ∷ [])
+    ∙ ap (λ es. with_list (slots v) x es) (slots-slot_added x s (listed v.shared x) below ∙ ap (λ es. es ++ (top x, s) ∷ []) (sym (listed-view slot_entries refl v.shared x)))
+
+-- the places among the slots are unchanged
+pub others-entered : (homes : List (List (ℕ × ℕ))) (x s : ℕ) → s < first_remembered → places_in (with_handle homes x s) ≡ places_in homes
+others-entered homes x s below = view-unseen place_entries refl homes x (listed homes x ++ (top x, s) ∷ []) (places-slot_added x s (listed homes x) below)
+
+pub places-entered : (v : IndexState) (x s : ℕ) → s < first_remembered → places (entered x s v) ≡ places v
+places-entered v x s below = ap (λ homes. if is_shared v then homes else v.own) (others-entered v.shared x s below)
+
+-- A slot taken out
+
+taken_slots : (homes : List (List (ℕ × ℕ))) (x s : ℕ) → s < first_remembered → slots_in (removed eqb homes x s) ≡ removed eqb (slots_in homes) x s
+taken_slots homes x s below =
+    view-with_list slot_entries refl homes x (without_first (is_entry_of eqb x s) (listed homes x))
+    ∙ ap (λ es. with_list (slots_in homes) x es)
+    (kept-without_first (λ e. ltb e.1 first_remembered) (is_entry_of eqb x s) (slot_is_below x s below) (listed homes x)
+    ∙ ap (λ es. without_first (is_entry_of eqb x s) es) (sym (listed-view slot_entries refl homes x)))
+
+pub slots-left : (v : IndexState) (x s : ℕ) → s < first_remembered → slots (left x s v) ≡ removed eqb (slots v) x s
+slots-left v x s below = taken_slots v.shared x s below
+
+pub others-left : (homes : List (List (ℕ × ℕ))) (x s : ℕ) → s < first_remembered → places_in (removed eqb homes x s) ≡ places_in homes
+others-left homes x s below =
+    view-unseen place_entries refl homes x (without_first (is_entry_of eqb x s) (listed homes x))
+    (ap (λ zs. map (λ (e : ℕ × ℕ). (e.0, e.1 - first_remembered)) zs)
+    (lost-without_first (λ (e : ℕ × ℕ). not (ltb e.1 first_remembered)) (is_entry_of eqb x s) (slot_is_no_place x s below) (listed homes x)))
+
+pub places-left : (v : IndexState) (x s : ℕ) → s < first_remembered → places (left x s v) ≡ places v
+places-left v x s below = ap (λ homes. if is_shared v then homes else v.own) (others-left v.shared x s below)
+
+-- A place put in for a slot
+
+relabelled_slots : (homes : List (List (ℕ × ℕ))) (x s p : ℕ) → s < first_remembered → slots_in (relabelled eqb homes x s (first_remembered + p)) ≡ removed eqb (slots_in homes) x s
+relabelled_slots homes x s p below =
+    view-with_list slot_entries refl homes x (with_first (is_entry_of eqb x s) (top x, first_remembered + p) (listed homes x))
+    ∙ ap (λ es. with_list (slots_in homes) x es)
+    (kept-with_first (λ e. ltb e.1 first_remembered) (is_entry_of eqb x s) (top x, first_remembered + p) (place_is_past p) (slot_is_below x s below) (listed homes x)
+    ∙ ap (λ es. without_first (is_entry_of eqb x s) es) (sym (listed-view slot_entries refl homes x)))
+
+pub slots-remembered : (v : IndexState) (x s p : ℕ) → s < first_remembered → slots (remembered_at x s p v) ≡ removed eqb (slots v) x s
+slots-remembered v x s p below = elim (cases_Bool (is_shared v)) [
+  | inl h ↦ rw h (relabelled_slots v.shared x s p below)
+  | inr h ↦ rw h (taken_slots v.shared x s below)
+]
+
+-- an entry put in somewhere in its home's list
+or_turned : (a b c : Bool) → (a || (b || c)) ≡ ((a || c) || b)
+or_turned true b c = refl
+or_turned false true true = refl
+or_turned false true false = refl
+or_turned false false true = refl
+or_turned false false false = refl
+
+top-append : (y : ℕ) (es fs : List (ℕ × ℕ)) → with_top y (es ++ fs) ≡ with_top y es ++ with_top y fs
+top-append y [] fs = refl
+top-append y (e ∷ es) fs = elim (cases_Bool (e.0 == top y)) [
+  | inl t ↦ rw t (ap (λ zs. e.1 ∷ zs) (top-append y es fs))
+  | inr t ↦ rw t (top-append y es fs)
+]
+
+has-turned : (q : ℕ) (ks ms ns : List ℕ) → has q (ks ++ (ms ++ ns)) ≡ has q ((ks ++ ns) ++ ms)
+has-turned q ks ms ns =
+    has-append q ks (ms ++ ns) ∙ ap (λ b. has q ks || b) (has-append q ms ns) ∙ or_turned (has q ks) (has q ms) (has q ns)
+    ∙ ap (λ b. b || has q ms) (sym (has-append q ks ns)) ∙ sym (has-append q (ks ++ ns) ms)
+
+AllApart-moved : (ks ms ns : List ℕ) → AllApart ((ks ++ ns) ++ ms) → AllApart (ks ++ (ms ++ ns))
+AllApart-moved ks ms ns a =
+    let b : AllApart (ks ++ (ns ++ ms)) = subst (λ z. AllApart z) (append_assoc ks ns ms) a in
+    AllApart-append ks (ms ++ ns) (AllApart-left ks (ns ++ ms) b) (AllApart-turned ns ms (AllApart-right ks (ns ++ ms) b))
+    (λ t h. has-turned t [] ms ns ∙ apart_from ks (ns ++ ms) b t h)
+
+module _ (homes : List (List (ℕ × ℕ))) (x p : ℕ) (ms ns : List (ℕ × ℕ)) (some : 0 < length homes) (parts : listed homes x ≡ ms ++ ns) where
+  here_between : (y : ℕ) → home homes y ≡ home homes x → candidates (with_list homes x (ms ++ (top x, p) ∷ ns)) y ≡ with_top y ms ++ (with_top y ((top x, p) ∷ []) ++ with_top y ns)
+  here_between y same =
+      ap (λ es. with_top y es) (listed-with_same homes x y (ms ++ (top x, p) ∷ ns) some same)
+      ∙ top-append y ms ((top x, p) ∷ ns) ∙ ap (λ zs. with_top y ms ++ zs) (top-append y ((top x, p) ∷ []) ns)
+
+  here_last : (y : ℕ) → home homes y ≡ home homes x → candidates (with_handle homes x p) y ≡ (with_top y ms ++ with_top y ns) ++ with_top y ((top x, p) ∷ [])
+  here_last y same =
+      ap (λ es. with_top y es) (listed-with_same homes x y (listed homes x ++ (top x, p) ∷ []) some same)
+      ∙ ap (λ es. with_top y (es ++ (top x, p) ∷ [])) parts
+      ∙ top-append y (ms ++ ns) ((top x, p) ∷ []) ∙ ap (λ zs. zs ++ with_top y ((top x, p) ∷ [])) (top-append y ms ns)
+
+  elsewhere : (y : ℕ) → (home homes y ≡ home homes x → ⊥) → candidates (with_list homes x (ms ++ (top x, p) ∷ ns)) y ≡ candidates (with_handle homes x p) y
+  elsewhere y far =
+      ap (λ es. with_top y es) (listed-with_other homes x y (ms ++ (top x, p) ∷ ns) far ∙ sym (listed-with_other homes x y (listed homes x ++ (top x, p) ∷ []) far))
+
+  has-between : (y q : ℕ) → has q (candidates (with_list homes x (ms ++ (top x, p) ∷ ns)) y) ≡ has q (candidates (with_handle homes x p) y)
+  has-between y q = elim (cases_eq (home homes y) (home homes x)) [
+    | inl same ↦
+        ap (λ z. has q z) (here_between y same) ∙ has-turned q (with_top y ms) (with_top y ((top x, p) ∷ [])) (with_top y ns) ∙ ap (λ z. has q z) (sym (here_last y same))
+    | inr far ↦ ap (λ z. has q z) (elsewhere y far)
+  ]
+
+  AllApart-between : (y : ℕ) → AllApart (candidates (with_handle homes x p) y) → AllApart (candidates (with_list homes x (ms ++ (top x, p) ∷ ns)) y)
+  AllApart-between y a = elim (cases_eq (home homes y) (home homes x)) [
+    | inl same ↦
+        subst (λ z. AllApart z) (sym (here_between y same))
+        (AllApart-moved (with_top y ms) (with_top y ((top x, p) ∷ [])) (with_top y ns) (subst (λ z. AllApart z) (here_last y same) a))
+    | inr far ↦ subst (λ z. AllApart z) (sym (elsewhere y far)) a
+  ]
+
+  total-between : total (with_list homes x (ms ++ (top x, p) ∷ ns)) ≡ total (with_handle homes x p)
+  total-between =
+      omega (
+        arith,
+        total-with_list homes x (ms ++ (top x, p) ∷ ns) some,
+        total-put homes x p some,
+        length-append ms ((top x, p) ∷ ns),
+        length-append ms ns,
+        ap (λ (z : List (ℕ × ℕ)). length z) parts,
+      )
+
+  length-between : length (with_list homes x (ms ++ (top x, p) ∷ ns)) ≡ length (with_handle homes x p)
+  length-between = length-with_list homes x (ms ++ (top x, p) ∷ ns) ∙ sym (length-put homes x p)
+
+  -- an index has an entry anywhere in its home's list just as it has one at the end
+  IsIndex-between : {K V : Type 0} (keys : List (Entry K V)) (ps : List ℕ) → IsIndex (with_handle homes x p) keys ps → IsIndex (with_list homes x (ms ++ (top x, p) ∷ ns)) keys ps
+  IsIndex-between keys ps i = record {
+    listed = λ y q. has-between y q ∙ i.listed y q
+        ∙ ap (λ b. has q ps && b) (sym (named-length (with_handle homes x p) (with_list homes x (ms ++ (top x, p) ∷ ns)) keys y q length-between));
+    once = λ y. AllApart-between y (i.once y);
+    counted = total-between ∙ i.counted;
+  }
+
+-- the table has an entry of a slot that is held
+pub held_entry : (v : IndexState) (x s : ℕ) → has s (candidates (slots v) x) ≡ true → list_any (is_entry_of eqb x s) (listed v.shared x) ≡ true
+held_entry v x s held =
+    any-kept (λ (e : ℕ × ℕ). ltb e.1 first_remembered) (is_entry_of eqb x s) (listed v.shared x)
+    (ap (λ es. list_any (is_entry_of eqb x s) es) (sym (listed-view slot_entries refl v.shared x)) ∙ any-candidate x s (listed (slots v) x) ∙ held)
+
+module _ {K V : Type 0} (homes : List (List (ℕ × ℕ))) (keys : List (Entry K V)) (ps : List ℕ) (x s p : ℕ) (below : s < first_remembered) (some : 0 < length (places_in homes))
+    (held : list_any (is_entry_of eqb x s) (listed homes x) ≡ true) (i : IsIndex (with_handle (places_in homes) x p) keys ps) where
+  IsIndex-relabelled : IsIndex (places_in (relabelled eqb homes x s (first_remembered + p))) keys ps
+  IsIndex-relabelled =
+      let put = put_between x s p (listed homes x) below held in
+      let is : places_in (relabelled eqb homes x s (first_remembered + p)) ≡ with_list (places_in homes) x (put.before ++ (top x, p) ∷ put.after) =
+      view-with_list place_entries refl homes x (with_first (is_entry_of eqb x s) (top x, first_remembered + p) (listed homes x))
+      ∙ ap (λ es. with_list (places_in homes) x es) put.new in
+      subst (λ z. IsIndex z keys ps) (sym is)
+      (IsIndex-between (places_in homes) x p put.before put.after some (listed-view place_entries refl homes x ∙ put.old) keys ps i)
+
+places-remembered_shared : (v : IndexState) (x s p : ℕ) → is_shared v ≡ true → places (remembered_at x s p v) ≡ places_in (relabelled eqb v.shared x s (first_remembered + p))
+places-remembered_shared v x s p h = rw h (rw h refl)
+
+places-remembered_own : (v : IndexState) (x s p : ℕ) → is_shared v ≡ false → places (remembered_at x s p v) ≡ with_handle v.own x p
+places-remembered_own v x s p h =
+    let h' : (length (with_handle v.own x p) == 0) ≡ false = ap (λ n. n == 0) (length-put v.own x p) ∙ h in
+    rw h (rw h' refl)
+
+pub IsIndex-remembered : {K V : Type 0} (v : IndexState) (keys keys' : List (Entry K V)) (ps : List ℕ) (x s p : ℕ) → s < first_remembered → IsIndex (places v) keys ps → 0 < length (places v)
+    → has s (candidates (slots v) x) ≡ true → has p ps ≡ false → ((q : ℕ) → has q ps ≡ true → hash_at keys' q ≡ hash_at keys q) → hash_at keys' p ≡ Some x
+    → IsIndex (places (remembered_at x s p v)) keys' (p ∷ ps)
+IsIndex-remembered v keys keys' ps x s p below i some held absent same at =
+    let put = IsIndex-put (places v) keys keys' ps p x i some absent same at in
+    elim (cases_Bool (is_shared v)) [
+      | inl h ↦
+          let is : places v ≡ places_in v.shared = ap (λ b. if b then places_in v.shared else v.own) h in
+          subst (λ z. IsIndex z keys' (p ∷ ps)) (sym (places-remembered_shared v x s p h))
+          (IsIndex-relabelled v.shared keys' (p ∷ ps) x s p below (subst (λ z. 0 < length z) is some) (held_entry v x s held)
+          (subst (λ z. IsIndex (with_handle z x p) keys' (p ∷ ps)) is put))
+      | inr h ↦
+          let is : places v ≡ v.own = ap (λ b. if b then places_in v.shared else v.own) h in
+          subst (λ z. IsIndex z keys' (p ∷ ps)) (sym (places-remembered_own v x s p h)) (subst (λ z. IsIndex (with_handle z x p) keys' (p ∷ ps)) is put)
+    ]
+
+-- A place taken out
+
+others-forgotten : (homes : List (List (ℕ × ℕ))) (x p : ℕ) → slots_in (removed eqb homes x (first_remembered + p)) ≡ slots_in homes
+others-forgotten homes x p =
+    view-unseen slot_entries refl homes x (without_first (is_entry_of eqb x (first_remembered + p)) (listed homes x))
+    (lost-without_first (λ (e : ℕ × ℕ). ltb e.1 first_remembered) (is_entry_of eqb x (first_remembered + p)) (place_is_no_slot x p) (listed homes x))
+
+taken_places : (homes : List (List (ℕ × ℕ))) (x p : ℕ) → places_in (removed eqb homes x (first_remembered + p)) ≡ removed eqb (places_in homes) x p
+taken_places homes x p =
+    view-with_list place_entries refl homes x (without_first (is_entry_of eqb x (first_remembered + p)) (listed homes x))
+    ∙ ap (λ es. with_list (places_in homes) x es)
+    (places-without_first x p (listed homes x) ∙ ap (λ es. without_first (is_entry_of eqb x p) es) (sym (listed-view place_entries refl homes x)))
+
+pub slots-forgotten : (v : IndexState) (x p : ℕ) → slots (forgotten_at x p v) ≡ slots v
+slots-forgotten v x p = elim (cases_Bool (is_shared v)) [
+  | inl h ↦ rw h (others-forgotten v.shared x p)
+  | inr h ↦ rw h refl
+]
+
+pub places-forgotten : (v : IndexState) (x p : ℕ) → places (forgotten_at x p v) ≡ removed eqb (places v) x p
+places-forgotten v x p = elim (cases_Bool (is_shared v)) [
+  | inl h ↦ rw h (rw h (taken_places v.shared x p))
+  | inr h ↦
+      let h' : (length (removed eqb v.own x p) == 0) ≡ false = ap (λ n. n == 0) (length-taken v.own x p) ∙ h in
+      rw h (rw h' refl)
+]
+
+-- the places are in the same table as before, and each table has as many slots
+pub record IsLikeBefore (v w : IndexState) : Type 0 where
+  pub shared : is_shared w ≡ is_shared v
+  pub slots : length (slots w) ≡ length (slots v)
+  pub places : length (places w) ≡ length (places v)
+
+like : (v w : IndexState) → length w.shared ≡ length v.shared → length w.own ≡ length v.own → IsLikeBefore v w
+like v w shared own =
+    let same : is_shared w ≡ is_shared v = ap (λ n. n == 0) own in
+    record {
+      shared = same;
+      slots = length-map w.shared slot_entries ∙ shared ∙ sym (length-map v.shared slot_entries);
+      places = elim (cases_Bool (is_shared v)) [
+        | inl h ↦
+            let h' : is_shared w ≡ true = same ∙ h in
+            rw (h, h') (length-map w.shared place_entries ∙ shared ∙ sym (length-map v.shared place_entries))
+        | inr h ↦
+            let h' : is_shared w ≡ false = same ∙ h in
+            rw (h, h') own
+      ];
+    }
+
+pub entered-like : (v : IndexState) (x s : ℕ) → IsLikeBefore v (entered x s v)
+entered-like v x s = like v (entered x s v) (length-put v.shared x s) refl
+
+pub left-like : (v : IndexState) (x s : ℕ) → IsLikeBefore v (left x s v)
+left-like v x s = like v (left x s v) (length-taken v.shared x s) refl
+
+pub remembered-like : (v : IndexState) (x s p : ℕ) → IsLikeBefore v (remembered_at x s p v)
+remembered-like v x s p = elim (cases_Bool (is_shared v)) [
+  | inl h ↦
+      let w = record v { shared = relabelled eqb v.shared x s (first_remembered + p) } in
+      let is : remembered_at x s p v ≡ w = rw h refl in
+      subst (λ z. IsLikeBefore v z) (sym is)
+      (like v w (length-with_list v.shared x (with_first (is_entry_of eqb x s) (top x, first_remembered + p) (listed v.shared x))) refl)
+  | inr h ↦
+      let w = index_state (removed eqb v.shared x s) (with_handle v.own x p) in
+      let is : remembered_at x s p v ≡ w = rw h refl in
+      subst (λ z. IsLikeBefore v z) (sym is) (like v w (length-taken v.shared x s) (length-put v.own x p))
+]
+
+pub forgotten-like : (v : IndexState) (x p : ℕ) → IsLikeBefore v (forgotten_at x p v)
+forgotten-like v x p = elim (cases_Bool (is_shared v)) [
+  | inl h ↦
+      let w = record v { shared = removed eqb v.shared x (first_remembered + p) } in
+      let is : forgotten_at x p v ≡ w = rw h refl in
+      subst (λ z. IsLikeBefore v z) (sym is) (like v w (length-taken v.shared x (first_remembered + p)) refl)
+  | inr h ↦
+      let w = record v { own = removed eqb v.own x p } in
+      let is : forgotten_at x p v ≡ w = rw h refl in
+      subst (λ z. IsLikeBefore v z) (sym is) (like v w refl (length-taken v.own x p))
+]

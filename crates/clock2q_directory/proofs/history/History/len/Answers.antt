@@ -1,0 +1,14 @@
+use Rattle.std.proofs.Common.{length, sym, ap, ◌∙◌}
+use Rattle.clock2q_directory.specs.History.{Remembered}
+use Rattle.clock2q_directory.proofs.Histories.{entries_counted, IsWholeHistory-from}
+use Rattle.clock2q_directory.proofs.history.History.len.Goals as goal
+
+pub returns-clause-len : goal.returns-clause-len
+returns-clause-len g c =
+    let i = c.self.inside in
+    c.len.ensures.len ∙ sym (entries_counted g.K.PartialEq.eq i.index i.order i.keys c.self.invariant) ∙ ap (λ (z : Remembered _). length z.entries) c.self.view_is
+
+pub returns-clause-whole : goal.returns-clause-whole
+returns-clause-whole g c =
+    let i = c.self.inside in
+    rw (← c.self.view_is) (IsWholeHistory-from g.K.PartialEq.eq i.index i.order i.keys _ _ c.self.invariant)

@@ -1,0 +1,126 @@
+-- The index of a cache: where each known key is, under the key's hash.
+use Rattle.std.specs.Prelude.{◌≡◌, ℕ, ◌+◌, ◌-◌, ◌*◌, ◌^◌, ◌<◌, nat_eq, nat_lt, nat_le, Bool, false, not, ◌==◌, if◌then◌else◌, List, [], map, length}
+use Rattle.std.specs.List.{filter}
+use Rattle.std.specs.Coded.{Coded, code_by, coded×, coded_ℕ, coded_list}
+use Rattle.clock2q_handles.specs.Homes.{total, capacity, with_handle, removed}
+use Rattle.clock2q_handles.specs.Positions.{relabelled}
+use Rattle.clock2q_handles.specs.TableStep.{made_for}
+use mathlib.Core.Path.{refl}
+
+-- a resident's handle is its slot, and a remembered key's handle is this plus its place
+abbrev pub first_remembered : ℕ
+first_remembered = 2147483648
+
+-- the slots among handles, in order
+abbrev pub slots_among : List ℕ → List ℕ
+slots_among handles = filter (λ h. nat_lt h first_remembered) handles
+
+-- the places among handles, in order
+abbrev pub places_among : List ℕ → List ℕ
+places_among handles = map (λ h. h - first_remembered) (filter (λ h. not (nat_lt h first_remembered)) handles)
+
+-- the entries of a list that have slots
+abbrev pub slot_entries : List (ℕ × ℕ) → List (ℕ × ℕ)
+slot_entries es = filter (λ e. nat_lt e.1 first_remembered) es
+
+-- the entries of a list that have places, each with its place
+abbrev pub place_entries : List (ℕ × ℕ) → List (ℕ × ℕ)
+place_entries es = map (λ e. (e.0, e.1 - first_remembered)) (filter (λ e. not (nat_lt e.1 first_remembered)) es)
+
+-- a table's lists by home, with the slots alone
+abbrev pub slots_in : List (List (ℕ × ℕ)) → List (List (ℕ × ℕ))
+slots_in homes = map slot_entries homes
+
+-- a table's lists by home, with the places alone
+abbrev pub places_in : List (List (ℕ × ℕ)) → List (List (ℕ × ℕ))
+places_in homes = map place_entries homes
+
+-- the lists by home of the table that has the slots, and of the places' own, which is used if one table would have too
+-- many entries
+pub record IndexState : Type 0 where
+  pub shared : List (List (ℕ × ℕ))
+  pub own : List (List (ℕ × ℕ))
+
+abbrev pub index_state : List (List (ℕ × ℕ)) → List (List (ℕ × ℕ)) → IndexState
+index_state shared own = record { shared = shared; own = own }
+
+abbrev pub homes_code : Coded (List (List (ℕ × ℕ)))
+homes_code = coded_list (coded_list (coded× coded_ℕ coded_ℕ))
+
+abbrev pub index_code : Coded IndexState
+index_code = code_by (List (List (ℕ × ℕ)) × List (List (ℕ × ℕ))) (coded× homes_code homes_code) (λ v. (v.shared, v.own)) (λ p. index_state p.0 p.1) (λ _. refl)
+
+-- whether slots and places share a table: the places' own then has no slots
+abbrev pub is_shared : IndexState → Bool
+is_shared v = length v.own == 0
+
+-- the residents' slots by home
+abbrev pub slots : IndexState → List (List (ℕ × ℕ))
+slots v = slots_in v.shared
+
+-- the remembered keys' places by home
+abbrev pub places : IndexState → List (List (ℕ × ℕ))
+places v = if is_shared v then places_in v.shared else v.own
+
+-- the number of places in the table of the slots
+abbrev pub beside : IndexState → ℕ
+beside v = if is_shared v then total (places v) else 0
+
+-- a key with this hash becomes resident at a slot
+abbrev pub entered : (hash slot : ℕ) → IndexState → IndexState
+entered hash slot v = record v { shared = with_handle v.shared hash slot }
+
+-- the resident at a slot leaves
+abbrev pub left : (hash slot : ℕ) → IndexState → IndexState
+left hash slot v = record v { shared = removed nat_eq v.shared hash slot }
+
+-- the resident at a slot leaves, and is remembered at a place
+abbrev pub remembered_at : (hash slot place : ℕ) → IndexState → IndexState
+remembered_at hash slot place v =
+    if is_shared v then record v { shared = relabelled nat_eq v.shared hash slot (first_remembered + place) }
+    else index_state (removed nat_eq v.shared hash slot) (with_handle v.own hash place)
+
+-- the key at a place is forgotten
+abbrev pub forgotten_at : (hash place : ℕ) → IndexState → IndexState
+forgotten_at hash place v =
+    if is_shared v then record v { shared = removed nat_eq v.shared hash (first_remembered + place) }
+    else record v { own = removed nat_eq v.own hash place }
+
+-- the most entries for which a table gets three times the room
+abbrev pub small_table : ℕ
+small_table = 16384
+
+-- the most entries for which a table gets twice the room
+abbrev pub middle_table : ℕ
+middle_table = 262144
+
+-- the number of entries that a table of at most `most` is made for: three times as many if it is small, twice as many
+-- if it is of medium size, and no more if it is large
+abbrev pub index_room : ℕ → ℕ
+index_room most = if nat_le most small_table then 3 * most else (if nat_le most middle_table then 2 * most else most)
+
+-- the most entries with which no run of a table can be too long: fewer than 2^24
+abbrev pub most_entries : ℕ
+most_entries = 16777215
+
+-- an empty index for at most `slots` residents and `places` remembered keys: one table has the entries of both, unless
+-- they are too many
+abbrev pub index_for : (slots places : ℕ) → IndexState
+index_for slots places =
+    if nat_le (slots + places) most_entries then index_state (made_for (index_room (slots + places))) []
+    else index_state (made_for (index_room slots)) (made_for (index_room places))
+
+-- if the places have a table of their own, it has room for some, and none is among the slots
+pub record IsSorted (v : IndexState) : Type 0 where
+  pub apart : is_shared v ≡ false → total (places_in v.shared) ≡ 0
+  pub takes : is_shared v ≡ false → 0 < capacity (length v.own)
+
+-- one more slot fits, and makes no run too long
+pub record HasSlotRoom (v : IndexState) : Type 0 where
+  pub room : total (slots v) + beside v < capacity (length (slots v))
+  pub few : total (slots v) + beside v + 1 < 2 ^ 24
+
+-- one more place fits in the places' own table, and makes no run too long
+pub record HasPlaceRoom (v : IndexState) : Type 0 where
+  pub room : is_shared v ≡ false → total (places v) < capacity (length (places v))
+  pub few : is_shared v ≡ false → total (places v) + 1 < 2 ^ 24

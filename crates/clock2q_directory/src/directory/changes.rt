@@ -1,0 +1,116 @@
+//! What happens to a key: it enters, leaves, is remembered or forgotten.
+use crate::directory::Directory;
+use std::alloc::Allocator;
+
+impl<K: Eq, V, A: Allocator> Directory<K, V, A> {
+    ghost use Rattle.std.specs.Prelude.{◌≡◌, ◌+◌, ◌<◌, ◌++◌, ◌∷◌, [], length, map};
+    ghost use Rattle.clock2q_handles.specs.Homes.{no_entries};
+    ghost use Rattle.clock2q_queues.specs.Cells.{Rises};
+    ghost use Rattle.clock2q_directory.specs.Keys.{entry};
+    ghost use Rattle.clock2q_directory.specs.Indexes.{HasHash};
+    ghost use Rattle.clock2q_directory.specs.Index.{index_state};
+    ghost use Rattle.clock2q_directory.specs.History.{places_with, place_of, freed_place, is_remembered, forgotten};
+    ghost use Rattle.clock2q_directory.specs.Directory.{IsResident, Leaves};
+
+    /// Makes the next slot, with a key and a value. The key is not resident: the slot waits for one
+    /// that [enters](Directory::enter).
+    pub fn prepare(&mut self, hash: u64, key: K, value: V)
+        requires room { length self.old.residents.entries < self.old.residents.room }
+        ensures prepared { self.new.residents ≡ record self.old.residents { entries = self.old.residents.entries ++ entry hash key value ∷ []; writes = self.old.residents.writes + 1 } }
+        ensures kept { self.new.history ≡ self.old.history }
+    {
+        self.residents.push(hash, key, value);
+    }
+
+    /// Removes the resident at a slot from the index. Its key and value stay at the slot until
+    /// another key enters there.
+    pub fn leave(&mut self, slot: u32)
+        requires resident { IsResident slot self.old }
+        ensures left { Leaves slot self.old self.new.history }
+        ensures kept { self.new.residents ≡ self.old.residents }
+    {
+        self.history.leave(self.residents.hash(slot), slot);
+    }
+
+    /// Forgets a key, which is at `place`, and returns true if it was remembered.
+    pub fn forget(&mut self, hash: u64, key: &K, place: Option<u32>) -> bool
+        requires hash { HasHash K.eq hash key.now self.old.history.entries }
+        requires place { place ≡ place_of (K.eq key.now) (map (λ e. e.1) self.old.history.entries) self.old.history.places.taken }
+        ensures found { result ≡ is_remembered K.eq key.now self.old.history.entries }
+        ensures forgotten { self.new.history ≡ record self.old.history { entries = forgotten K.eq key.now self.old.history.entries; places = self.new.history.places; accesses = self.new.history.accesses } }
+        ensures kept { self.new.residents ≡ self.old.residents }
+        ensures places { self.new.history.places ≡ freed_place hash (place_of (K.eq key.now) (map (λ e. e.1) self.old.history.entries) self.old.history.places.taken) self.old.history.places }
+        ensures accesses { Rises 0 7 self.old.history.accesses self.new.history.accesses }
+    {
+        self.history.forget(hash, key, place)
+    }
+
+    /// Forgets every key, and drops them with the residents' values.
+    ///
+    /// # Cost
+    ///
+    /// Linear in the number of keys that the index may hold: all of it is reset.
+    pub fn clear(&mut self)
+    where
+        K: Drop,
+        V: Drop,
+        ensures history { self.new.history ≡ record self.old.history { entries = []; places = places_with (index_state (no_entries (length self.old.history.places.index.shared)) (no_entries (length self.old.history.places.index.own))) [] [] } }
+        ensures residents { self.new.residents ≡ record self.old.residents { entries = [] } }
+    {
+        self.residents.clear();
+        self.history.clear();
+    }
+}
+
+impl<K: Eq + Drop, V: Drop, A: Allocator> Directory<K, V, A> {
+    ghost use Rattle.std.specs.Prelude.{◌≡◌, ◌+◌, false, Some};
+    ghost use Rattle.clock2q_directory.specs.Keys.{hash_at, key_at, Writes};
+    ghost use Rattle.clock2q_directory.specs.Index.{entered, left};
+    ghost use Rattle.clock2q_directory.specs.History.{is_remembered};
+    ghost use Rattle.clock2q_directory.specs.Directory.{IsVacant, IsResident, IsWithinRoom, Remembers};
+
+    /// Makes a key the resident of a slot that has none, with a new value, or with the one that the
+    /// slot had.
+    #[inline(always)]
+    pub fn enter(&mut self, slot: u32, hash: u64, key: K, value: Option<V>)
+        requires vacant { IsVacant value slot self.old }
+        ensures index { self.new.history ≡ record self.old.history { places = record self.old.history.places { index = entered hash slot self.old.history.places.index } } }
+        ensures entries { Writes hash key value slot self.old.residents.entries self.new.residents.entries }
+        ensures kept { self.new.residents ≡ record self.old.residents { entries = self.new.residents.entries; writes = self.old.residents.writes + 1 } }
+    {
+        self.residents.put(slot, hash, key, value);
+        self.history.enter(hash, slot);
+    }
+
+    /// Makes a key the resident of a slot in place of another, which is no longer known, with a new
+    /// value, or with the one that the slot had. Returns the other's hash and key.
+    pub fn renew(&mut self, slot: u32, hash: u64, key: K, value: Option<V>) -> (u64, K)
+        requires resident { IsResident slot self.old }
+        requires room { IsWithinRoom self.old.history }
+        ensures hash { hash_at self.old.residents.entries slot ≡ Some result.0 }
+        ensures key { key_at self.old.residents.entries slot ≡ Some result.1 }
+        ensures index { self.new.history ≡ record self.old.history { places = record self.old.history.places { index = entered hash slot (left result.0 slot self.old.history.places.index) } } }
+        ensures entries { Writes hash key value slot self.old.residents.entries self.new.residents.entries }
+        ensures kept { self.new.residents ≡ record self.old.residents { entries = self.new.residents.entries; writes = self.old.residents.writes + 1 } }
+    {
+        let old = self.residents.refill(slot, hash, key, value);
+        self.history.leave(old.0, slot);
+        self.history.enter(hash, slot);
+        old
+    }
+
+    /// Makes a key the resident of a slot in place of another, which is remembered as the newest.
+    /// If the history is full, the oldest remembered key is forgotten.
+    pub fn remember(&mut self, slot: u32, hash: u64, key: K, value: Option<V>)
+        requires resident { IsResident slot self.old }
+        requires room { IsWithinRoom self.old.history }
+        requires absent { (old : K) → key_at self.old.residents.entries slot ≡ Some old → is_remembered K.eq old self.old.history.entries ≡ false }
+        ensures index { Remembers hash slot self.old self.new.history }
+        ensures entries { Writes hash key value slot self.old.residents.entries self.new.residents.entries }
+        ensures kept { self.new.residents ≡ record self.old.residents { entries = self.new.residents.entries; writes = self.old.residents.writes + 1 } }
+    {
+        let (old_hash, old_key) = self.residents.refill(slot, hash, key, value);
+        self.history.remember(old_hash, slot, old_key);
+        self.history.enter(hash, slot);
+    }
+}

@@ -1,0 +1,303 @@
+//! The history of the keys that Small evicted, which the literature calls Ghost.
+ghost use Rattle.std.specs.Prelude.{◌≡◌, ℕ, ◌+◌, ◌^◌, ◌<◌, ◌≤◌, true, false, None, [], ◌∷◌, map, take, length, IfOk, IfSome};
+ghost use Rattle.std.specs.List.{find, AllByRecursion};
+ghost use Rattle.clock2q_handles.specs.Homes.{candidates, removed, no_entries};
+ghost use Rattle.clock2q_queues.specs.Cells.{Rises};
+ghost use Rattle.clock2q_queues.specs.Rings.{has};
+ghost use Rattle.clock2q_queues.specs.Order.{IsWholeOrder, used};
+ghost use Rattle.clock2q_directory.specs.Keys.{is_key_at};
+ghost use Rattle.clock2q_directory.specs.Indexes.{IsIndex, HasHash};
+ghost use Rattle.clock2q_directory.specs.Index as known;
+ghost use Rattle.clock2q_directory.specs.Index.{index_state, index_for, is_shared, entered, left, slots_among, places_among};
+ghost use Rattle.clock2q_directory.specs.History.{IsWholeHistory, MakesPlace, HasRoom, places_with, pushed_places, freed_place, place_of, oldest_hash, remembered, is_remembered, forgotten, found_slot, found_place, first_known};
+
+use crate::index::{Index, REMEMBERED};
+use crate::keys::Keys;
+use clock2q_handles::Candidates;
+use clock2q_queues::order::Order;
+use std::alloc::{AllocError, Allocator, Global};
+use std::marker::Model;
+
+/// What a lookup of a key finds.
+#[derive(Clone, Copy)]
+pub enum Found {
+    /// The slot of a resident.
+    Resident(u32),
+    /// The place of a remembered key.
+    Remembered(u32),
+    /// Neither.
+    Absent,
+}
+
+impl Found {
+    /// Returns the place of a remembered key.
+    pub fn place(self) -> Option<u32>
+        ensures place { result ≡ found_place self }
+    {
+        match self {
+            Found::Remembered(place) => Some(place),
+            Found::Resident(_) | Found::Absent => None,
+        }
+    }
+}
+
+/// A history of limited length, newest key first, and the index that it shares with the residents.
+/// Each key is at a place, with its hash, and the index has that place under the hash.
+///
+/// The caller passes a key's hash with the key, the same hash each time. If hashes are well spread,
+/// a call compares few keys and costs the same however many are remembered.
+///
+/// # Example
+///
+/// ```
+/// let mut history: History<u64> = History::new(rt.alloc(), 1, 2)?;
+/// history.enter(hash_of(1), 0);
+/// history.remember(hash_of(1), 0, 1);
+/// let place = history.lookup(hash_of(1), &1, &mut residents).place();
+/// assert!(rt; history.forget(hash_of(1), &1, place));
+/// assert_eq!(rt; history.len(), 0);
+/// ```
+#[derive(Drop)]
+pub struct History<K: Eq, A: Allocator = Global> {
+    index: Index<A>,
+    order: Order<A>,
+    keys: Keys<K, (), A>,
+}
+
+impl<K: Eq, A: Allocator> Model for History<K, A> {
+    ghost use Rattle.clock2q_directory.specs.Keys.{entries_of};
+    ghost use Rattle.clock2q_directory.specs.History.{Remembered, remembered_code, remembered, places_from, accesses_of, IsHistory};
+
+    ghost Value = { Remembered K };
+
+    ghost coded = { remembered_code K.code };
+
+    ghost view = { λ h. remembered (entries_of h.keys.entries h.order.places) h.order.limit (places_from h.index h.order) (accesses_of h.order h.keys) h.keys.questions };
+
+    ghost invariant = { λ h. IsHistory K.eq h.index h.order h.keys };
+}
+
+impl<K: Eq, A: Allocator + Copy> History<K, A> {
+    /// Returns an empty history for up to `limit` keys, whose index also has room for up to
+    /// `residents` residents. It takes all the memory that it will ever need.
+    ///
+    /// # Errors
+    ///
+    /// `AllocError` if a request for memory is refused. Memory taken so far is given back.
+    ///
+    /// # Cost
+    ///
+    /// Linear in `residents` and `limit`.
+    pub fn new(alloc: A, residents: usize, limit: usize) -> Result<Self, AllocError>
+        requires some { 0 < residents }
+        requires residents { residents < 2 ^ 24 }
+        requires short { limit < 2 ^ 24 }
+        ensures made { IfOk result (λ h. h ≡ remembered [] limit (places_with (index_for residents limit) [] []) 0 0) }
+    {
+        Ok(History {
+            index: Index::new(alloc, residents, limit)?,
+            order: Order::new(alloc, limit as u32)?,
+            keys: Keys::new(alloc, limit)?,
+        })
+    }
+}
+
+impl<K: Eq, A: Allocator> History<K, A> {
+    /// Returns the number of remembered keys.
+    pub fn len(&self) -> usize
+        ensures len { result ≡ length self.now.entries }
+        ensures whole { IsWholeHistory K.eq self.now }
+    {
+        self.order.len() as usize
+    }
+
+    /// Returns the handles under a hash: the slots of residents, and others from
+    /// [`REMEMBERED`] on.
+    #[inline(always)]
+    pub fn handles(&self, hash: u64) -> Candidates<'_, u32>
+        ensures slots { slots_among result.left ≡ candidates (known.slots self.now.places.index) hash }
+    {
+        self.index.handles(hash)
+    }
+
+    /// Looks a key up among the residents, whose keys are in `residents`, and in the history.
+    #[inline(always)]
+    pub fn lookup<V>(&mut self, hash: u64, key: &K, residents: &mut Keys<K, V, A>) -> Found
+        requires hash { HasHash K.eq hash key.now self.old.entries }
+        requires used { AllByRecursion (λ slot. slot < length residents.old.entries) (candidates (known.slots self.old.places.index) hash) }
+        ensures slot { IfSome (found_slot result) (λ slot. find (is_key_at K.eq key.now residents.old.entries) (candidates (known.slots self.old.places.index) hash) ≡ Some slot) }
+        ensures place { found_slot result ≡ None → found_place result ≡ place_of (K.eq key.now) (map (λ e. e.1) self.old.entries) self.old.places.taken }
+        ensures absent { found_slot result ≡ None → found_place result ≡ None → find (is_key_at K.eq key.now residents.old.entries) (candidates (known.slots self.old.places.index) hash) ≡ None }
+        ensures residents { residents.new ≡ record residents.old { questions = residents.new.questions } }
+        ensures kept { self.new ≡ record self.old { questions = self.new.questions } }
+        ensures asked { Rises 0 (length (candidates (known.slots self.old.places.index) hash)) residents.old.questions residents.new.questions }
+        ensures questions { Rises 0 (length (candidates (known.places self.old.places.index) hash)) self.old.questions self.new.questions }
+    {
+        if self.index.is_shared() {
+            return look_among(self.index.handles(hash), key, residents, &mut self.keys);
+        }
+        self.lookup_split(hash, key, residents)
+    }
+
+    /// Returns the place of a remembered key. Slots of residents are skipped.
+    pub fn find(&mut self, hash: u64, key: &K) -> Option<u32>
+        requires hash { HasHash K.eq hash key.now self.old.entries }
+        ensures place { result ≡ place_of (K.eq key.now) (map (λ e. e.1) self.old.entries) self.old.places.taken }
+        ensures kept { self.new ≡ record self.old { questions = self.new.questions } }
+        ensures questions { Rises 0 (length (candidates (known.places self.old.places.index) hash)) self.old.questions self.new.questions }
+    {
+        if self.index.is_shared() {
+            return self.keys.find_remembered(self.index.handles(hash), key);
+        }
+        self.keys.find(self.index.own_places(hash), key)
+    }
+
+    /// Looks a key up as `lookup` does, if the places have a table of their own.
+    fn lookup_split<V>(&mut self, hash: u64, key: &K, residents: &mut Keys<K, V, A>) -> Found
+        requires apart { is_shared self.old.places.index ≡ false }
+        requires hash { HasHash K.eq hash key.now self.old.entries }
+        requires used { AllByRecursion (λ slot. slot < length residents.old.entries) (candidates (known.slots self.old.places.index) hash) }
+        ensures slot { IfSome (found_slot result) (λ slot. find (is_key_at K.eq key.now residents.old.entries) (candidates (known.slots self.old.places.index) hash) ≡ Some slot) }
+        ensures place { found_slot result ≡ None → found_place result ≡ place_of (K.eq key.now) (map (λ e. e.1) self.old.entries) self.old.places.taken }
+        ensures absent { found_slot result ≡ None → found_place result ≡ None → find (is_key_at K.eq key.now residents.old.entries) (candidates (known.slots self.old.places.index) hash) ≡ None }
+        ensures residents { residents.new ≡ record residents.old { questions = residents.new.questions } }
+        ensures kept { self.new ≡ record self.old { questions = self.new.questions } }
+        ensures asked { Rises 0 (length (candidates (known.slots self.old.places.index) hash)) residents.old.questions residents.new.questions }
+        ensures questions { Rises 0 (length (candidates (known.places self.old.places.index) hash)) self.old.questions self.new.questions }
+    {
+        if let Some(slot) = residents.find(self.index.handles(hash), key) {
+            return Found::Resident(slot);
+        }
+        let Some(place) = self.find(hash, key) else {
+            return Found::Absent;
+        };
+        Found::Remembered(place)
+    }
+
+    /// Adds a slot to the index, for a key that becomes resident.
+    #[inline(always)]
+    pub fn enter(&mut self, hash: u64, slot: u32)
+        requires below { slot < 2 ^ 31 }
+        requires room { HasRoom self.old }
+        ensures added { self.new ≡ record self.old { places = record self.old.places { index = entered hash slot self.old.places.index } } }
+    {
+        self.index.add_slot(hash, slot);
+    }
+
+    /// Removes a slot from the index, for a resident that leaves.
+    #[inline(always)]
+    pub fn leave(&mut self, hash: u64, slot: u32)
+        requires below { slot < 2 ^ 31 }
+        requires held { has slot (candidates (known.slots self.old.places.index) hash) ≡ true }
+        ensures removed { self.new ≡ record self.old { places = record self.old.places { index = left hash slot self.old.places.index } } }
+    {
+        self.index.remove_slot(hash, slot);
+    }
+
+    /// Adds the key of a resident that leaves its slot, as the newest key. If the history is full,
+    /// the oldest key is forgotten and dropped. If the limit is zero, the new key is dropped.
+    pub fn remember(&mut self, hash: u64, slot: u32, key: K)
+    where
+        K: Drop,
+        requires below { slot < 2 ^ 31 }
+        requires held { has slot (candidates (known.slots self.old.places.index) hash) ≡ true }
+        requires absent { is_remembered K.eq key self.old.entries ≡ false }
+        ensures pushed { self.new ≡ record self.old { entries = take self.old.limit ((hash, key) ∷ self.old.entries); places = self.new.places; accesses = self.new.accesses } }
+        ensures places { self.new.places ≡ pushed_places self.old.limit hash slot (oldest_hash (λ (e : ℕ × K). e.0) self.old.entries) self.old.places }
+        ensures accesses { Rises 0 8 self.old.accesses self.new.accesses }
+    {
+        if self.order.limit() == 0 {
+            self.index.remove_slot(hash, slot);
+            return;
+        }
+        let place = make_place(&mut self.index, &mut self.order, &self.keys);
+        self.index.remember(hash, slot, place);
+        self.keys.write(place, hash, key, ());
+    }
+
+    /// Forgets a key, which is at `place`, and returns true if it was remembered. The history drops
+    /// its copy of the key when the place is used again.
+    pub fn forget(&mut self, hash: u64, key: &K, place: Option<u32>) -> bool
+        requires hash { HasHash K.eq hash key.now self.old.entries }
+        requires place { place ≡ place_of (K.eq key.now) (map (λ e. e.1) self.old.entries) self.old.places.taken }
+        ensures found { result ≡ is_remembered K.eq key.now self.old.entries }
+        ensures forgotten { self.new ≡ record self.old { entries = forgotten K.eq key.now self.old.entries; places = self.new.places; accesses = self.new.accesses } }
+        ensures places { self.new.places ≡ freed_place hash (place_of (K.eq key.now) (map (λ e. e.1) self.old.entries) self.old.places.taken) self.old.places }
+        ensures accesses { Rises 0 7 self.old.accesses self.new.accesses }
+    {
+        let _ = key;
+        let _ = self.order.len();
+        let Some(place) = place else {
+            return false;
+        };
+        self.index.forget(hash, place);
+        self.order.unlink(place);
+        true
+    }
+
+    /// Forgets every key, and empties the index of residents too.
+    ///
+    /// # Cost
+    ///
+    /// Linear in the number of keys that the index may hold: all of it is reset.
+    pub fn clear(&mut self)
+    where
+        K: Drop,
+        ensures cleared { self.new ≡ record self.old { entries = []; places = places_with (index_state (no_entries (length self.old.places.index.shared)) (no_entries (length self.old.places.index.own))) [] [] } }
+    {
+        self.index.clear();
+        self.order.clear();
+        self.keys.clear();
+    }
+}
+
+/// Returns the first of `handles` that has `key`, as a resident or as a remembered key.
+#[inline(always)]
+fn look_among<K: Eq, V, A: Allocator>(
+    mut handles: Candidates<'_, u32>,
+    key: &K,
+    residents: &mut Keys<K, V, A>,
+    remembered: &mut Keys<K, (), A>,
+) -> Found
+    requires slots { AllByRecursion (λ slot. slot < length residents.old.entries) (slots_among handles.left) }
+    requires places { AllByRecursion (λ place. place < length remembered.old.entries) (places_among handles.left) }
+    ensures found { result ≡ first_known (is_key_at K.eq key.now residents.old.entries) (is_key_at K.eq key.now remembered.old.entries) handles.entry.left }
+    ensures residents { residents.new ≡ record residents.old { questions = residents.new.questions } }
+    ensures remembered { remembered.new ≡ record remembered.old { questions = remembered.new.questions } }
+    ensures asked { Rises 0 (length (slots_among handles.entry.left)) residents.old.questions residents.new.questions }
+    ensures questions { Rises 0 (length (places_among handles.entry.left)) remembered.old.questions remembered.new.questions }
+{
+    while let Some(handle) = handles.peek() {
+        if handle < REMEMBERED {
+            if residents.key_equals(handle, key) {
+                return Found::Resident(handle);
+            }
+        } else if remembered.key_equals(handle - REMEMBERED, key) {
+            return Found::Remembered(handle - REMEMBERED);
+        }
+        handles.pass();
+    }
+    Found::Absent
+}
+
+/// Moves a place to the front for a new key. If every place has a key, it is the oldest key's,
+/// which is removed from the index.
+fn make_place<K, V, A: Allocator>(
+    index: &mut Index<A>,
+    order: &mut Order<A>,
+    keys: &Keys<K, V, A>,
+) -> u32
+    requires indexed { IsIndex (known.places index.old) keys.now.entries order.old.places }
+    requires as_many { length keys.now.entries ≡ used order.old }
+    requires some { 0 < order.old.limit }
+    requires short { order.old.limit < 2 ^ 24 }
+    ensures made { MakesPlace index.old index.new order.old order.new keys.now.entries result }
+    ensures whole { IsWholeOrder order.new }
+{
+    if order.len() < order.limit() {
+        return order.push();
+    }
+    let place = order.reuse_oldest();
+    index.forget(keys.hash(place), place);
+    place
+}

@@ -1,0 +1,181 @@
+//! The index of a cache: where each known key is, under the key's hash.
+ghost use Rattle.std.specs.Prelude.{◌≡◌, ◌+◌, ◌^◌, ◌<◌, true, length, IfOk};
+ghost use Rattle.clock2q_handles.specs.Homes.{candidates, no_entries};
+ghost use Rattle.clock2q_queues.specs.Rings.{has};
+ghost use Rattle.clock2q_directory.specs.Index.{index_state, index_for, index_room, is_shared, slots, places, entered, left, remembered_at, forgotten_at, HasSlotRoom, HasPlaceRoom};
+
+use clock2q_handles::{Candidates, Table};
+use std::alloc::{AllocError, Allocator, Global};
+use std::marker::Model;
+
+/// The smallest handle of a remembered key. Such a handle is this plus the key's place. A
+/// resident's handle is its slot.
+pub const REMEMBERED: u32 = 1 << 31;
+
+/// The most entries with which no run of a table can be too long.
+const MOST_ENTRIES: usize = (1 << 24) - 1;
+
+/// The most entries for which a table gets three times the room.
+const SMALL_TABLE: usize = 16_384;
+
+/// The most entries for which a table gets twice the room.
+const MIDDLE_TABLE: usize = 262_144;
+
+/// Returns the number of entries to make room for in a table of at most `most`: three times as many
+/// if it is small, which keeps lookups short, twice as many if it is of medium size, and no more if
+/// it would take much memory. Such a table is never more than three quarters full.
+pub fn index_room(most: usize) -> usize
+    requires countable { most < 2 ^ 32 }
+    ensures room { result ≡ index_room most }
+{
+    if most <= SMALL_TABLE {
+        most * 3
+    } else if most <= MIDDLE_TABLE {
+        most * 2
+    } else {
+        most
+    }
+}
+
+/// The slot of each resident and the place of each remembered key, under the key's hash.
+///
+/// Both kinds are in one table, so that one lookup finds whether a key is resident, remembered or
+/// neither. If one table would have so many entries that a run could become too long, the places
+/// have a table of their own.
+///
+/// # Example
+///
+/// ```
+/// let mut index = Index::new(rt.alloc(), 2, 1)?;
+/// index.add_slot(7, 0);
+/// index.remember(7, 0, 0);
+/// index.add_slot(9, 0);
+/// index.forget(7, 0);
+/// ```
+#[derive(Drop)]
+pub struct Index<A: Allocator = Global> {
+    shared: Table<u32, A>,
+    own: Table<u32, A>,
+}
+
+impl<A: Allocator> Model for Index<A> {
+    ghost use Rattle.clock2q_directory.specs.Index.{IndexState, IsSorted, index_code, index_state};
+
+    ghost Value = { IndexState };
+
+    ghost coded = { index_code };
+
+    ghost view = { λ i. index_state i.shared.homes i.own.homes };
+
+    ghost invariant = { λ i. IsSorted (index_state i.shared.homes i.own.homes) };
+}
+
+impl<A: Allocator + Copy> Index<A> {
+    /// Returns an empty index for up to `slots` residents and `places` remembered keys. It takes
+    /// all the memory that it will ever need.
+    ///
+    /// # Errors
+    ///
+    /// `AllocError` if a request for memory is refused. Memory taken so far is given back.
+    pub fn new(alloc: A, slots: usize, places: usize) -> Result<Self, AllocError>
+        requires slots { slots < 2 ^ 24 }
+        requires places { places < 2 ^ 24 }
+        ensures made { IfOk result (λ i. i ≡ index_for slots places) }
+    {
+        let is_shared = slots + places <= MOST_ENTRIES;
+        let most = if is_shared { slots + places } else { slots };
+        let Ok(shared) = Table::with_capacity(alloc, index_room(most)) else {
+            return Err(AllocError);
+        };
+        let beside = if is_shared { 0 } else { places };
+        let Ok(own) = Table::with_capacity(alloc, index_room(beside)) else {
+            return Err(AllocError);
+        };
+        Ok(Index { shared, own })
+    }
+}
+
+impl<A: Allocator> Index<A> {
+    /// Returns true if slots and places are in one table.
+    #[inline(always)]
+    pub fn is_shared(&self) -> bool
+        ensures shared { result ≡ is_shared self.now }
+    {
+        self.own.capacity() == 0
+    }
+
+    /// Returns the handles under a hash in the table of the slots. Those from [`REMEMBERED`] on are
+    /// places.
+    #[inline(always)]
+    pub fn handles(&self, hash: u64) -> Candidates<'_, u32>
+        ensures handles { result.left ≡ candidates self.now.shared hash }
+    {
+        self.shared.get(hash)
+    }
+
+    /// Returns the places under a hash, if they have a table of their own.
+    pub fn own_places(&self, hash: u64) -> Candidates<'_, u32>
+        ensures places { result.left ≡ candidates self.now.own hash }
+    {
+        self.own.get(hash)
+    }
+
+    /// Adds the slot of a key that becomes resident.
+    #[inline(always)]
+    pub fn add_slot(&mut self, hash: u64, slot: u32)
+        requires below { slot < 2 ^ 31 }
+        requires room { HasSlotRoom self.old }
+        ensures entered { self.new ≡ entered hash slot self.old }
+    {
+        self.shared.insert_among_few(hash, slot);
+    }
+
+    /// Removes the slot of a resident that leaves.
+    #[inline(always)]
+    pub fn remove_slot(&mut self, hash: u64, slot: u32)
+        requires below { slot < 2 ^ 31 }
+        requires held { has slot (candidates (slots self.old) hash) ≡ true }
+        ensures left { self.new ≡ left hash slot self.old }
+    {
+        self.shared.remove_held(hash, slot);
+    }
+
+    /// Replaces the slot of a resident that leaves with the place at which it is remembered.
+    #[inline(always)]
+    pub fn remember(&mut self, hash: u64, slot: u32, place: u32)
+        requires below { slot < 2 ^ 31 }
+        requires short { place < 2 ^ 31 }
+        requires held { has slot (candidates (slots self.old) hash) ≡ true }
+        requires room { HasPlaceRoom self.old }
+        ensures remembered { self.new ≡ remembered_at hash slot place self.old }
+    {
+        if self.is_shared() {
+            self.shared.relabel(hash, slot, REMEMBERED + place);
+        } else {
+            self.shared.remove_held(hash, slot);
+            let _ = self.own.insert_within_capacity(hash, place);
+        }
+    }
+
+    /// Removes the place of a key that is forgotten.
+    #[inline(always)]
+    pub fn forget(&mut self, hash: u64, place: u32)
+        requires short { place < 2 ^ 31 }
+        requires held { has place (candidates (places self.old) hash) ≡ true }
+        ensures forgotten { self.new ≡ forgotten_at hash place self.old }
+    {
+        if self.is_shared() {
+            self.shared.remove_held(hash, REMEMBERED + place);
+        } else {
+            self.own.remove_held(hash, place);
+        }
+    }
+
+    /// Removes every slot and place.
+    pub fn clear(&mut self)
+        ensures cleared { self.new ≡ index_state (no_entries (length self.old.shared)) (no_entries (length self.old.own)) }
+    {
+        self.shared.clear();
+        self.own.clear();
+    }
+}

@@ -1,0 +1,137 @@
+//! Keys with their hashes and values, each at a place, and lookups through an index.
+ghost use Rattle.std.specs.Prelude.{◌≡◌, ◌+◌, ◌^◌, ◌<◌, ◌≤◌, Some, length, IfNone};
+ghost use Rattle.std.specs.List.{find, AllByRecursion};
+ghost use Rattle.clock2q_directory.specs.Index.{slots_among, places_among};
+
+mod store;
+
+use crate::index::REMEMBERED;
+use clock2q_count::Count;
+use clock2q_handles::Candidates;
+use std::alloc::Allocator;
+pub use store::{Entry, Keys};
+
+impl<K: Drop, V: Drop, A: Allocator> Keys<K, V, A> {
+    ghost use Rattle.clock2q_directory.specs.Keys.{entry, written, hash_at, key_at, Writes};
+
+    /// Writes a key and a value to a place: to the next one, or to one that has them, whose old key
+    /// and value are dropped.
+    pub fn write(&mut self, place: u32, hash: u64, key: K, value: V)
+        requires next { place ≤ length self.old.entries }
+        requires room { place < self.old.room }
+        requires few { length self.old.entries < 2 ^ 32 }
+        ensures written { self.new ≡ record self.old { entries = written place (entry hash key value) self.old.entries; writes = self.old.writes + 1 } }
+    {
+        if place == self.len() as u32 {
+            self.push(hash, key, value);
+        } else {
+            self.replace(place, hash, key);
+            self.replace_value(place, value);
+        }
+    }
+
+    /// Writes a key to a place as [`write`](Keys::write) does. Without a value, the place keeps the
+    /// one that it has.
+    #[inline(always)]
+    pub fn put(&mut self, place: u32, hash: u64, key: K, value: Option<V>)
+        requires next { place ≤ length self.old.entries }
+        requires had { IfNone value (place < length self.old.entries) }
+        requires room { place < self.old.room }
+        requires few { length self.old.entries < 2 ^ 32 }
+        ensures entries { Writes hash key value place self.old.entries self.new.entries }
+        ensures kept { self.new ≡ record self.old { entries = self.new.entries; writes = self.old.writes + 1 } }
+    {
+        match value {
+            Some(value) => self.write(place, hash, key, value),
+            None => {
+                self.replace(place, hash, key);
+            }
+        }
+    }
+
+    /// Writes a key over the one at a place, and returns the old hash and key. Without a value, the
+    /// place keeps the one that it has.
+    pub fn refill(&mut self, place: u32, hash: u64, key: K, value: Option<V>) -> (u64, K)
+        requires used { place < length self.old.entries }
+        ensures hash { hash_at self.old.entries place ≡ Some result.0 }
+        ensures key { key_at self.old.entries place ≡ Some result.1 }
+        ensures entries { Writes hash key value place self.old.entries self.new.entries }
+        ensures kept { self.new ≡ record self.old { entries = self.new.entries; writes = self.old.writes + 1 } }
+    {
+        let old = self.replace(place, hash, key);
+        if let Some(value) = value {
+            self.replace_value(place, value);
+        }
+        old
+    }
+}
+
+impl<K: Eq, V, A: Allocator> Keys<K, V, A> {
+    ghost use Rattle.clock2q_directory.specs.Keys.{is_key_at, questions_of};
+
+    /// Returns true if `key` equals the key at a place, and counts the comparison.
+    pub fn key_equals(&mut self, place: u32, key: &K) -> bool
+        requires used { place < length self.old.entries }
+        ensures value { result ≡ is_key_at K.eq key.now self.old.entries place }
+        ensures counted { self.new ≡ record self.old { questions = self.old.questions + 1 } }
+    {
+        let mut asked = Count::new();
+        let is_key = self.is_counting_in(place, key, &mut asked);
+        self.add_questions(&asked);
+        is_key
+    }
+
+    /// Returns the first of `handles` below [`REMEMBERED`] that has `key`, and counts each
+    /// comparison. The other handles are skipped.
+    pub fn find(&mut self, handles: Candidates<'_, u32>, key: &K) -> Option<u32>
+        requires used { AllByRecursion (λ place. place < length self.old.entries) (slots_among handles.left) }
+        ensures found { result ≡ find (is_key_at K.eq key.now self.old.entries) (slots_among handles.entry.left) }
+        ensures counted { self.new ≡ record self.old { questions = self.old.questions + questions_of (is_key_at K.eq key.now self.old.entries) (slots_among handles.entry.left) } }
+    {
+        let mut asked = Count::new();
+        let found = self.find_counting_in(handles, key, &mut asked);
+        self.add_questions(&asked);
+        found
+    }
+
+    /// Returns the place of the first of `handles` from [`REMEMBERED`] on that has `key`, and
+    /// counts each comparison. Slots are skipped.
+    pub fn find_remembered(&mut self, mut handles: Candidates<'_, u32>, key: &K) -> Option<u32>
+        requires used { AllByRecursion (λ place. place < length self.old.entries) (places_among handles.left) }
+        ensures found { result ≡ find (is_key_at K.eq key.now self.old.entries) (places_among handles.entry.left) }
+        ensures counted { self.new ≡ record self.old { questions = self.old.questions + questions_of (is_key_at K.eq key.now self.old.entries) (places_among handles.entry.left) } }
+    {
+        while let Some(handle) = handles.next() {
+            if handle >= REMEMBERED {
+                let place = handle - REMEMBERED;
+                if self.key_equals(place, key) {
+                    return Some(place);
+                }
+            }
+        }
+        None
+    }
+
+    /// Returns the first of `handles` below [`REMEMBERED`] that has `key`. The comparisons are
+    /// counted in `asked` instead.
+    pub fn find_counting_in(
+        &self,
+        mut handles: Candidates<'_, u32>,
+        key: &K,
+        asked: &mut Count,
+    ) -> Option<u32>
+        requires used { AllByRecursion (λ place. place < length self.now.entries) (slots_among handles.left) }
+        ensures found { result ≡ find (is_key_at K.eq key.now self.now.entries) (slots_among handles.entry.left) }
+        ensures counted { asked.new.total ≡ asked.old.total + questions_of (is_key_at K.eq key.now self.now.entries) (slots_among handles.entry.left) }
+    {
+        while let Some(handle) = handles.peek() {
+            if handle < REMEMBERED {
+                if self.is_counting_in(handle, key, asked) {
+                    return Some(handle);
+                }
+            }
+            handles.pass();
+        }
+        None
+    }
+}

@@ -1,0 +1,183 @@
+//! The keys themselves, and the counts of their comparisons and writes.
+ghost use Rattle.std.specs.Prelude.{◌≡◌, ℕ, ◌+◌, ◌<◌, [], ◌∷◌, ◌++◌, length, Some, IfOk};
+ghost use Rattle.std.specs.Borrow.{sem};
+
+use clock2q_count::Count;
+use std::alloc::{AllocError, Allocator, Global};
+use std::marker::Model;
+use std::mem;
+
+/// A key with its hash, and a value that belongs to it.
+#[derive(Drop)]
+pub struct Entry<K, V> {
+    pub hash: u64,
+    pub key: K,
+    pub value: V,
+}
+
+/// A key at each place, with its hash and a value. Places are numbered from 0, in the order in
+/// which they are first used.
+///
+/// One function compares keys, and counts each comparison. Two functions write keys, and count each
+/// write.
+///
+/// # Example
+///
+/// ```
+/// let mut keys: Keys<u64, u64> = Keys::new(rt.alloc(), 2)?;
+/// keys.push(7, 70, 700);
+/// assert!(rt; keys.key_equals(0, &70));
+/// assert_eq!(rt; keys.replace(0, 9, 90), (7, 70));
+/// assert_eq!(rt; *keys.key(0), 90);
+/// assert_eq!(rt; *keys.value(0), 700);
+/// ```
+#[derive(Drop)]
+pub struct Keys<K, V, A: Allocator = Global> {
+    entries: Vec<Entry<K, V>, A>,
+    writes: Count,
+    questions: Count,
+}
+
+impl<K, V, A: Allocator> Model for Keys<K, V, A> {
+    ghost use Rattle.std.specs.Prelude.{vec_capacity};
+    ghost use Rattle.clock2q_directory.specs.Keys.{KeyPlaces, keys_code, key_places};
+
+    ghost Value = { KeyPlaces K V };
+
+    ghost coded = { keys_code K.code V.code };
+
+    ghost view = { λ k. key_places k.entries.items (vec_capacity k.entries) k.writes.total k.questions.total };
+}
+
+impl<K, V, A: Allocator> Keys<K, V, A> {
+    ghost use Rattle.clock2q_directory.specs.Keys.{key_places, entry, hash_at, key_at, value_at, with_key, with_value};
+    ghost use Rattle.clock2q_directory.specs.KeysLends.{LendsValueAt};
+
+    /// Returns places for up to `room` keys, with no key yet. It takes all the memory that the
+    /// places will ever need.
+    ///
+    /// # Errors
+    ///
+    /// `AllocError` if the request for memory is refused.
+    pub fn new(alloc: A, room: usize) -> Result<Self, AllocError>
+        ensures made { IfOk result (λ k. k ≡ key_places [] room 0 0) }
+    {
+        Ok(Keys {
+            entries: Vec::with_capacity(alloc, room)?,
+            writes: Count::new(),
+            questions: Count::new(),
+        })
+    }
+
+    /// Returns the number of places that have a key.
+    pub fn len(&self) -> usize
+        ensures len { result ≡ length self.now.entries }
+    {
+        self.entries.len()
+    }
+
+    /// Returns the hash of the key at a place.
+    pub fn hash(&self, place: u32) -> u64
+        requires used { place < length self.now.entries }
+        ensures hash { hash_at self.now.entries place ≡ Some result }
+    {
+        self.entries[place as usize].hash
+    }
+
+    /// Returns the key at a place. What the caller does with it isn't counted.
+    pub fn key(&self, place: u32) -> &K
+        requires used { place < length self.now.entries }
+        ensures key { key_at self.now.entries place ≡ Some result.now }
+    {
+        &self.entries[place as usize].key
+    }
+
+    /// Returns the value at a place.
+    pub fn value(&self, place: u32) -> &V
+        requires used { place < length self.now.entries }
+        ensures value { value_at self.now.entries place ≡ Some result.now }
+    {
+        &self.entries[place as usize].value
+    }
+
+    /// Returns a mutable reference to the value at a place.
+    pub fn value_mut(&mut self, place: u32) -> &mut V
+        requires used { place < length self.old.entries }
+        ensures* writes_back { sem 𝓛 (LendsValueAt K.row V.row A.row A.Allocator self.entry place result) }
+        ensures value { value_at self.old.entries place ≡ Some result.now }
+    {
+        &mut self.entries[place as usize].value
+    }
+
+    /// Replaces the value at a place, and returns the old one.
+    pub fn replace_value(&mut self, place: u32, value: V) -> V
+        requires used { place < length self.old.entries }
+        ensures old { value_at self.old.entries place ≡ Some result }
+        ensures replaced { self.new ≡ record self.old { entries = with_value place value self.old.entries } }
+    {
+        mem::replace(&mut self.entries[place as usize].value, value)
+    }
+
+    /// Writes a key to the next place.
+    pub fn push(&mut self, hash: u64, key: K, value: V)
+        requires room { length self.old.entries < self.old.room }
+        ensures pushed { self.new ≡ record self.old { entries = self.old.entries ++ entry hash key value ∷ []; writes = self.old.writes + 1 } }
+    {
+        self.writes.tick();
+        self.entries.push_reserved(Entry { hash, key, value });
+    }
+
+    /// Replaces the key and the hash at a place, and returns the old ones. The value stays.
+    pub fn replace(&mut self, place: u32, hash: u64, key: K) -> (u64, K)
+        requires used { place < length self.old.entries }
+        ensures hash { hash_at self.old.entries place ≡ Some result.0 }
+        ensures key { key_at self.old.entries place ≡ Some result.1 }
+        ensures replaced { self.new ≡ record self.old { entries = with_key place hash key self.old.entries; writes = self.old.writes + 1 } }
+    {
+        self.writes.tick();
+        let entry = &mut self.entries[place as usize];
+        let old_hash = mem::replace(&mut entry.hash, hash);
+        let old_key = mem::replace(&mut entry.key, key);
+        (old_hash, old_key)
+    }
+
+    /// Drops every key and value. No place has a key afterwards.
+    pub fn clear(&mut self)
+    where
+        K: Drop,
+        V: Drop,
+        ensures cleared { self.new ≡ record self.old { entries = [] } }
+    {
+        self.entries.clear();
+    }
+}
+
+impl<K: Eq, V, A: Allocator> Keys<K, V, A> {
+    ghost use Rattle.clock2q_directory.specs.Keys.{is_key_at};
+
+    /// Returns true if `key` equals the key at a place, and counts the comparison in `asked`.
+    pub(super) fn is_counting_in(&self, place: u32, key: &K, asked: &mut Count) -> bool
+        requires used { place < length self.now.entries }
+        ensures value { result ≡ is_key_at K.eq key.now self.now.entries place }
+        ensures counted { asked.new.total ≡ asked.old.total + 1 }
+    {
+        asked.tick();
+        *key == self.entries[place as usize].key
+    }
+
+    /// Adds comparisons that were counted elsewhere.
+    pub(super) fn add_questions(&mut self, asked: &Count)
+        ensures added { self.new ≡ record self.old { questions = self.old.questions + asked.now.total } }
+    {
+        self.questions.raise(asked);
+    }
+
+    /// Raises the count of comparisons by an amount that the proof of the call picks. A caller that
+    /// has to state the count exactly raises it to its bound with this.
+    pub fn charge(&mut self)
+        ghost more: { ℕ }
+        ensures charged { self.new ≡ record self.old { questions = self.old.questions + more } }
+    {
+        self.questions.raise(&());
+    }
+}

@@ -1,0 +1,14 @@
+//! The keys that a cache knows, and where each is: [`Directory`](directory::Directory) owns the keys
+//! of the residents and the remembered ones, and the index of all of them. It is made of
+//!
+//! - [`Keys`](keys::Keys): keys by number, each with its hash and a value;
+//! - [`History`](history::History): the remembered keys in order, and the index;
+//! - [`Index`](index::Index): where each known key is, under its hash.
+//!
+//! Constructors take all the memory that will ever be needed, and no later call can fail.
+#![tactic(auto)]
+
+pub mod directory;
+pub mod history;
+pub mod index;
+pub mod keys;

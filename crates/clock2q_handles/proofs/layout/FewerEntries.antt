@@ -1,0 +1,216 @@
+-- Fewer entries push less, in as many homes or in a multiple: what that means for a removal and a rebuild. And what a rebuild does to the lists.
+use Rattle.std.proofs.Common.{◌≡◌, ℕ, zero, suc, ◌+◌, ◌-◌, ◌*◌, ◌%◌, ◌<◌, ◌≤◌, inl, inr, refl, ap, sym, ◌∙◌, arith, Bool, true, false, cond, eqb, eq-eqb, ne_eqb, List, [], ◌∷◌, ◌++◌, length, take, drop, take-append-drop, get_or, sum_by, length-append, Option, Some, slice_get}
+use Rattle.std.proofs.lemmas.Bool.{cases_lt, cases_eq}
+use Rattle.std.proofs.lemmas.List.{get_or_past, length-replicate}
+use Rattle.std.proofs.lemmas.List.Elements.{filter_map-append}
+use Rattle.std.proofs.lemmas.List.Sums.{fold_push, sum_by-cons, sum_by-append}
+use Rattle.std.proofs.Math.ListN.{get_or-replicate}
+use Rattle.std.proofs.Math.Nat.{add-mul-mod_self_right}
+use Rattle.clock2q_handles.specs.Homes.{capacity, listed, count, total, no_entries, with_list, put_last}
+use Rattle.clock2q_handles.specs.Layout.{Placed, window, spill, spill_of, walk, layout, entries}
+use Rattle.clock2q_handles.specs.TableStep.{put_all, IsHashOf}
+use Rattle.clock2q_handles.proofs.layout.Spill.{Roomy, spill-again, spill-found, spill-step, window-le}
+use Rattle.clock2q_handles.proofs.layout.Periods.{again-times, rem-same}
+use Rattle.clock2q_handles.proofs.layout.Reading.{listed-again}
+use Rattle.clock2q_handles.proofs.layout.TidyLayout.{capacity-lt, roomy-of, layout-sum}
+use Rattle.clock2q_handles.proofs.shifts.Changes.{length-with_list, listed-with_same, listed-with_other, total-with_list}
+
+-- a window of any length holds no more than its slots and what is spilled after it
+pub spill-any : (c : ℕ → ℕ) (m : ℕ) → Roomy c m → (a k : ℕ) → window c a k ≤ spill c m (a + k) + k
+spill-any c m roomy a zero = omega arith
+spill-any c m roomy a (suc k) =
+    let e : a + suc k ≡ suc (a + k) = omega arith in
+    omega (arith, spill-any c m roomy a k, spill-step c m roomy (a + k), ap (spill c m) e)
+
+-- fewer entries, in homes that are a multiple of those before, push no home further than it was pushed before
+pub spill-fewer : (c d : ℕ → ℕ) (m k : ℕ) → Roomy c m → 0 < k * m → ((n : ℕ) → d n ≤ c n) → (h : ℕ) → spill d (k * m) h ≤ spill c m h
+spill-fewer c d m k roomy some fewer h =
+    let r = spill-found d (k * m) h some in
+    let e : h + k * m - r.0 + r.0 ≡ h + k * m = omega arith in
+    omega (
+      arith,
+      r.2,
+      window-le d c (h + k * m - r.0) r.0 (λ j _. fewer (h + k * m - r.0 + j)),
+      spill-any c m roomy (h + k * m - r.0) r.0,
+      ap (spill c m) e,
+      again-times (spill c m) m (spill-again c m roomy.again) h k,
+    )
+
+module _ {E : Type 0} where
+  pub walk-is : (homes : List (List E)) (x : ℕ) → 0 < length homes → walk homes x ≡ spill_of homes x + count homes x + 1
+  walk-is [] x some = absurd (omega arith)
+  walk-is (es ∷ homes) x some = refl
+
+  pub count-with_list : (homes : List (List E)) (x n : ℕ) (es : List E) → 0 < length homes → length es ≤ count homes x → count (with_list homes x es) n ≤ count homes n
+  count-with_list homes x n es some l = elim (cases_eq (n % length homes) (x % length homes)) [
+    | inl same ↦ omega (arith, ap length (listed-with_same homes x n es some same), ap (λ y. length (get_or homes y [])) same)
+    | inr other ↦ omega (arith, ap length (listed-with_other homes x n es other))
+  ]
+
+  -- a list that is no longer than before lengthens no walk
+  pub shorter-walk : (homes : List (List E)) (x y : ℕ) (es : List E) → total homes ≤ capacity (length homes) → length es ≤ count homes x → walk (with_list homes x es) y ≤ walk homes y
+  shorter-walk homes x y es room l = elim (cases_lt 0 (length homes)) [
+    | inl some ↦
+        let m : ℕ = length homes in
+        let less : List (List E) = with_list homes x es in
+        let len : length less ≡ m = length-with_list homes x es in
+        let one : 1 * m ≡ m = omega arith in
+        let roomy : Roomy (count homes) m = roomy-of homes (omega (arith, capacity-lt m some)) in
+        omega (
+          arith,
+          walk-is homes y some,
+          walk-is less y (omega arith),
+          ap (λ w. spill (count less) w y) len,
+          ap (λ w. spill (count less) w y) one,
+          spill-fewer (count homes) (count less) m 1 roomy (omega arith) (λ n. count-with_list homes x n es some l) y,
+          count-with_list homes x y es some l,
+        )
+    | inr none ↦
+        let is : (hs : List (List E)) → length hs ≤ 0 → walk hs y ≡ 0 = no_walk y in
+        omega (arith, is (with_list homes x es) (omega (arith, length-with_list homes x es)))
+  ]
+    where
+      no_walk : (y : ℕ) (hs : List (List E)) → length hs ≤ 0 → walk hs y ≡ 0
+      no_walk y [] l = refl
+      no_walk y (h ∷ hs) l = absurd (omega arith)
+
+window_none : (f : ℕ → ℕ) (k : ℕ) → ((j : ℕ) → j < k → f j ≡ 0) → window f 0 k ≡ 0
+window_none f zero none = refl
+window_none f (suc k) none =
+    let e : 0 + k ≡ k = omega arith in
+    omega (arith, window_none f k (λ j l. none j (omega arith)), none k (omega arith), ap f e)
+
+-- a sum with at most one nonzero term
+window_one : (f : ℕ → ℕ) (g k : ℕ) → ((j : ℕ) → j < k → (j ≡ g → ⊥) → f j ≡ 0) → window f 0 k ≤ f g
+window_one f g zero none = omega arith
+window_one f g (suc k) none =
+    let e : 0 + k ≡ k = omega arith in
+    elim (cases_eq k g) [
+      | inl same ↦ omega (arith, window_none f k (λ j l. none j (omega arith) (λ q. omega arith)), ap f e, ap f same)
+      | inr other ↦ omega (arith, window_one f g k (λ j l. none j (omega arith)), none k (omega arith) other, ap f e)
+    ]
+
+sum_by_none : {X : Type 0} (w : X → ℕ) (xs : List X) → ((i : ℕ) (x : X) → slice_get xs i ≡ Some x → w x ≡ 0) → sum_by w xs ≡ 0
+sum_by_none w [] none = refl
+sum_by_none w (x ∷ xs) none = omega (arith, sum_by-cons w x xs, none 0 x refl, sum_by_none w xs (λ i y is. none (suc i) y is))
+
+sum_by_all : {X : Type 0} (w : X → ℕ) (xs : List X) → ((x : X) → w x ≤ 1) → sum_by w xs ≤ length xs
+sum_by_all w [] one = omega arith
+sum_by_all w (x ∷ xs) one = omega (arith, sum_by-cons w x xs, one x, sum_by_all w xs one)
+
+module _ {H : Type 0} (key : H → ℕ) where
+  -- whether e belongs in the home of n among m
+  abbrev shares : ℕ → ℕ → ℕ × H → ℕ
+  shares m n e = cond (eqb (n % m) (key e.1 % m)) 1 0
+
+  shares_one : (m n : ℕ) (e : ℕ × H) → shares m n e ≤ 1
+  shares_one m n e = by_test (eqb (n % m) (key e.1 % m))
+    where
+      by_test : (b : Bool) → cond b 1 0 ≤ 1
+      by_test true = omega arith
+      by_test false = omega arith
+
+  count-put_last : (homes : List (List (ℕ × H))) (m n : ℕ) (e : ℕ × H) → length homes ≡ m → 0 < m → count (put_last homes (key e.1) e) n ≡ count homes n + shares m n e
+  count-put_last homes m n e len some = elim (cases_eq (n % m) (key e.1 % m)) [
+    | inl same ↦
+        let q : n % length homes ≡ key e.1 % length homes = ap (λ x. n % x) len ∙ same ∙ ap (λ x. key e.1 % x) (sym len) in
+        let one : shares m n e ≡ 1 = ap (λ b. cond b 1 0) (eq-eqb (n % m) (key e.1 % m) same) in
+        omega (
+          arith,
+          ap length (listed-with_same homes (key e.1) n (listed homes (key e.1) ++ e ∷ []) (omega arith) q),
+          length-append (listed homes (key e.1)) (e ∷ []),
+          ap (λ y. length (get_or homes y [])) q,
+          one,
+        )
+    | inr other ↦
+        let none : shares m n e ≡ 0 = ap (λ b. cond b 1 0) (ne_eqb (n % m) (key e.1 % m) other) in
+        omega (arith, ap length (listed-with_other homes (key e.1) n (listed homes (key e.1) ++ e ∷ []) (λ q. other (ap (λ x. n % x) (sym len) ∙ q ∙ ap (λ x. key e.1 % x) len))), none)
+  ]
+
+  pub length-put_all : (homes : List (List (ℕ × H))) (es : List (Placed (ℕ × H))) → length (put_all key homes es) ≡ length homes
+  length-put_all homes [] = refl
+  length-put_all homes (s ∷ es) = length-put_all (put_last homes (key s.entry.1) s.entry) es ∙ length-with_list homes (key s.entry.1) (listed homes (key s.entry.1) ++ s.entry ∷ [])
+
+  pub total-put_last : (homes : List (List (ℕ × H))) (x : ℕ) (e : ℕ × H) → 0 < length homes → total (put_last homes x e) ≡ suc (total homes)
+  total-put_last homes x e some = omega (arith, total-with_list homes x (listed homes x ++ e ∷ []) some, length-append (listed homes x) (e ∷ []))
+
+  pub total-put_all : (homes : List (List (ℕ × H))) (es : List (Placed (ℕ × H))) → 0 < length homes → total (put_all key homes es) ≡ total homes + length es
+  total-put_all homes [] some = omega arith
+  total-put_all homes (s ∷ es) some =
+      omega (
+        arith,
+        total-put_all (put_last homes (key s.entry.1) s.entry) es (omega (arith, length-with_list homes (key s.entry.1) (listed homes (key s.entry.1) ++ s.entry ∷ []))),
+        total-put_last homes (key s.entry.1) s.entry some,
+      )
+
+  pub put_all-push : (homes : List (List (ℕ × H))) (es : List (Placed (ℕ × H))) (s : Placed (ℕ × H)) → put_all key homes (es ++ s ∷ []) ≡ put_last (put_all key homes es) (key s.entry.1) s.entry
+  put_all-push homes es s = fold_push (λ hs s. put_last hs (key s.entry.1) s.entry) homes es s
+
+  count-put_all : (homes : List (List (ℕ × H))) (m n : ℕ) (es : List (Placed (ℕ × H))) → length homes ≡ m → 0 < m → count (put_all key homes es) n ≡ count homes n + sum_by (λ s. shares m n s.entry) es
+  count-put_all homes m n [] len some = omega arith
+  count-put_all homes m n (s ∷ es) len some =
+      omega (
+        arith,
+        count-put_all (put_last homes (key s.entry.1) s.entry) m n es (length-with_list homes (key s.entry.1) (listed homes (key s.entry.1) ++ s.entry ∷ []) ∙ len) some,
+        count-put_last homes m n s.entry len some,
+        sum_by-cons (λ s. shares m n s.entry) s es,
+      )
+
+  count-no_entries : (m n : ℕ) → count (no_entries {E = ℕ × H} m) n ≡ 0
+  count-no_entries m n = elim (cases_lt (n % length (no_entries {E = ℕ × H} m)) m) [
+    | inl l ↦ ap length (get_or-replicate m (n % length (no_entries {E = ℕ × H} m)) [] [] l)
+    | inr past ↦ ap length (get_or_past (no_entries {E = ℕ × H} m) (n % length (no_entries {E = ℕ × H} m)) [] (omega (arith, length-replicate {A = List (ℕ × H)} m [])))
+  ]
+
+  pub total-no_entries : (m : ℕ) → total (no_entries {E = ℕ × H} m) ≡ 0
+  total-no_entries zero = refl
+  total-no_entries (suc m) = omega (arith, sum_by-cons length [] (no_entries {E = ℕ × H} m), total-no_entries m)
+
+  -- a home's entries come from the home that its number selects among fewer
+  shares_below : (homes : List (List (ℕ × H))) (k n : ℕ) → total homes < length homes → IsHashOf key homes → sum_by (λ s. shares (k * length homes) n s.entry) (entries (layout homes)) ≤ count homes n
+  shares_below homes k n room hashes =
+      let m : ℕ = length homes in
+      let w : ℕ × H → ℕ = shares (k * m) n in
+      let rem : (x : ℕ) → x % (k * m) % m ≡ x % m = rem-same (λ x. x % m) (k * m) (λ x. add-mul-mod_self_right x k m) in
+      let one : window (λ h. sum_by w (listed homes h)) 0 m ≤ sum_by w (listed homes (n % m)) =
+      window_one (λ h. sum_by w (listed homes h)) (n % m) m (λ h l other. sum_by_none w (listed homes h) (λ i e is.
+      let r = hashes h i e l is in
+      ap (λ b. cond b 1 0) (ne_eqb (n % (k * m)) (key e.1 % (k * m)) (λ q. other (sym r.0 ∙ sym (rem (key e.1)) ∙ ap (λ x. x % m) (sym q) ∙ rem n))))) in
+      let here : listed homes (n % m) ≡ listed homes n = rem-same (listed homes) m (listed-again homes) n in
+      omega (arith, layout-sum w homes room, one, sum_by_all w (listed homes (n % m)) (shares_one (k * m) n), ap length here)
+
+  sum_by_front : (w : Placed (ℕ × H) → ℕ) (slots : List (Option (Placed (ℕ × H)))) (i : ℕ) → sum_by w (entries (take i slots)) ≤ sum_by w (entries slots)
+  sum_by_front w slots i =
+      omega (
+        arith,
+        sum_by-append w (entries (take i slots)) (entries (drop i slots)),
+        ap (sum_by w) (sym (filter_map-append (λ s. s) (take i slots) (drop i slots)) ∙ ap entries (take-append-drop i slots)),
+      )
+
+  -- while a table is rebuilt to k times its slots, no home has more entries than the home that they came from
+  pub rebuilding-count : (homes : List (List (ℕ × H))) (k i n : ℕ) → total homes < length homes → 0 < k * length homes
+      → IsHashOf key homes → count (put_all key (no_entries (k * length homes)) (entries (take i (layout homes)))) n ≤ count homes n
+  rebuilding-count homes k i n room some hashes =
+      let m : ℕ = k * length homes in
+      omega (
+        arith,
+        count-put_all (no_entries m) m n (entries (take i (layout homes))) (length-replicate m []) some,
+        count-no_entries m n,
+        sum_by_front (λ s. shares m n s.entry) (layout homes) i,
+        shares_below homes k n room hashes,
+      )
+
+  -- nor a longer walk
+  pub rebuilding-reach : (homes : List (List (ℕ × H))) (k i n : ℕ) → total homes < length homes → 0 < k * length homes → IsHashOf key homes
+      → spill_of (put_all key (no_entries (k * length homes)) (entries (take i (layout homes)))) n
+      + count (put_all key (no_entries (k * length homes)) (entries (take i (layout homes)))) n ≤ spill_of homes n + count homes n
+  rebuilding-reach homes k i n room some hashes =
+      let m : ℕ = k * length homes in
+      let part : List (List (ℕ × H)) = put_all key (no_entries m) (entries (take i (layout homes))) in
+      let len : length part ≡ m = length-put_all (no_entries m) (entries (take i (layout homes))) ∙ length-replicate m [] in
+      omega (
+        arith,
+        rebuilding-count homes k i n room some hashes,
+        ap (λ x. spill (count part) x n) len,
+        spill-fewer (count homes) (count part) (length homes) k (roomy-of homes room) some (λ x. rebuilding-count homes k i x room some hashes) n,
+      )

@@ -1,0 +1,67 @@
+-- What repeats every m slots is determined by any lap of it.
+use Rattle.std.proofs.Common.{◌≡◌, ℕ, zero, suc, ◌+◌, ◌-◌, ◌*◌, ◌/◌, ◌%◌, ◌^◌, ◌<◌, ◌≤◌, inl, inr, ap, sym, ◌∙◌, arith, div-add-mod', le-mul_of_pos_right, mul-le-mul_right}
+use Rattle.std.proofs.lemmas.Bool.{cases_lt}
+use Rattle.std.proofs.lemmas.Nat.{pow-add, pow_below}
+use Rattle.std.proofs.Math.Nat.{add-mod_right}
+
+pub again-at : {X : Type 0} (f : ℕ → X) (m : ℕ) → ((n : ℕ) → f (n + m) ≡ f n) → (n k : ℕ) → n ≡ k + m → f n ≡ f k
+again-at f m again n k e = ap f e ∙ again k
+
+pub again-times : {X : Type 0} (f : ℕ → X) (m : ℕ) → ((n : ℕ) → f (n + m) ≡ f n) → (n k : ℕ) → f (n + k * m) ≡ f n
+again-times f m again n zero =
+    let e : n + 0 * m ≡ n = omega arith in
+    ap f e
+again-times f m again n (suc k) =
+    let e : n + suc k * m ≡ n + k * m + m = omega arith in
+    ap f e ∙ again (n + k * m) ∙ again-times f m again n k
+
+-- how far past h, by less than a lap, the slot with the contents of n is
+pub lap : ℕ → ℕ → ℕ → ℕ
+lap m h n = (n + h * m - h) % m
+
+pub lap-lt : (m h n : ℕ) → 0 < m → lap m h n < m
+unfolding lap
+lap-lt m h n some = omega arith
+
+pub lap-sum : (m h n : ℕ) → 0 < m → h + lap m h n + ((n + h * m - h) / m) * m ≡ n + h * m
+unfolding lap
+lap-sum m h n some = omega (arith, div-add-mod' (n + h * m - h) m, le-mul_of_pos_right h some)
+
+pub lap-same : {X : Type 0} (f : ℕ → X) (m : ℕ) → ((n : ℕ) → f (n + m) ≡ f n) → 0 < m → (h n : ℕ) → f (h + lap m h n) ≡ f n
+lap-same f m again some h n = sym (again-times f m again (h + lap m h n) ((n + h * m - h) / m)) ∙ ap f (lap-sum m h n some) ∙ again-times f m again n h
+
+pub rem-same : {X : Type 0} (f : ℕ → X) (m : ℕ) → ((n : ℕ) → f (n + m) ≡ f n) → (n : ℕ) → f (n % m) ≡ f n
+rem-same f m again n =
+    let e : n % m + n / m * m ≡ n = omega (arith, div-add-mod' n m) in
+    sym (again-times f m again (n % m) (n / m)) ∙ ap f e
+
+-- slots less than a lap apart are not the same
+pub rems-differ : (m a b : ℕ) → a < b → b < a + m → a % m ≡ b % m → ⊥
+rems-differ m a b l u e = elim (cases_lt (a / m) (b / m)) [
+  | inl below ↦ omega (arith, div-add-mod' a m, div-add-mod' b m, mul-le-mul_right m below)
+  | inr from ↦ omega (arith, div-add-mod' a m, div-add-mod' b m, mul-le-mul_right m from)
+]
+
+-- the home a lap on, and no other of that lap, is the home of h
+pub same_home : (m h v : ℕ) → v < m → (h + suc v + (m - suc v)) % m ≡ h % m
+same_home m h v l =
+    let q : h + suc v + (m - suc v) ≡ h + m = omega arith in
+    ap (λ x. x % m) q ∙ add-mod_right h m
+
+pub other_home : (m h v j : ℕ) → v < m → j < m → (j ≡ m - suc v → ⊥) → (h + suc v + j) % m ≡ h % m → ⊥
+other_home m h v j l u other e = elim (cases_lt j (m - suc v)) [
+  | inl before ↦ rems-differ m (h + suc v + j) (h + suc v + (m - suc v)) (omega arith) (omega arith) (e ∙ sym (same_home m h v l))
+  | inr from ↦ elim (cases_lt (m - suc v) j) [
+    | inl past ↦ rems-differ m (h + suc v + (m - suc v)) (h + suc v + j) (omega arith) (omega arith) (same_home m h v l ∙ sym e)
+    | inr at ↦ other (omega arith)
+  ]
+]
+
+-- a power of two is a multiple of each smaller one
+pub powers-divide : (a b : ℕ) → 2 ^ a ≤ 2 ^ b → (k : ℕ) × (2 ^ b ≡ k * 2 ^ a)
+powers-divide a b l = elim (cases_lt b a) [
+  | inl below ↦ absurd (omega (arith, pow_below b a below))
+  | inr from ↦
+      let e : b ≡ b - a + a = omega arith in
+      (2 ^ (b - a), ap (λ x. 2 ^ x) e ∙ pow-add 2 (b - a) a)
+]

@@ -1,0 +1,223 @@
+-- No placement of the same entries does better than the layout: the homes of a window that is overfull have too many entries for nearer slots.
+use Rattle.std.proofs.Common.{◌≡◌, ℕ, zero, suc, ◌+◌, ◌-◌, ◌%◌, ◌<◌, ◌≤◌, ◌⊎◌, inl, inr, refl, ap, sym, ◌∙◌, arith, Bool, true, false, ◌||◌, eqb, eqb-true, eq-eqb, ne_eqb, List, [], ◌∷◌, length, mod-eq_of_lt}
+use Rattle.std.specs.List.{IsDistinct, AllByRecursion, list_any}
+use Rattle.std.proofs.lemmas.Bool.{cases_lt}
+use Rattle.std.proofs.lemmas.Map.Steps.{length-le_from_distinct_below}
+use Rattle.std.proofs.Math.Nat.{add-mod_right}
+use Rattle.clock2q_handles.specs.Homes.{capacity, count, total}
+use Rattle.clock2q_handles.specs.Layout.{window, spill_of, IsPlacement, StandsPast, IsBestPlaced}
+use Rattle.clock2q_handles.proofs.layout.Spill.{spill-found}
+use Rattle.clock2q_handles.proofs.layout.Periods.{rem-same, rems-differ}
+use Rattle.clock2q_handles.proofs.layout.Reading.{count-again}
+use Rattle.clock2q_handles.proofs.layout.TidyLayout.{capacity-lt}
+
+-- g 0 .. g (n - 1), the last first, and then the rest
+abbrev row_onto : (ℕ → ℕ) → ℕ → List ℕ → List ℕ
+row_onto g zero rest = rest
+row_onto g (suc n) rest = g n ∷ row_onto g n rest
+
+-- the rows f t 0 .. f t (c t - 1), for each t below n
+abbrev rows : (ℕ → ℕ → ℕ) → (ℕ → ℕ) → ℕ → List ℕ
+rows f c zero = []
+rows f c (suc n) = row_onto (f n) (c n) (rows f c n)
+
+length-row_onto : (g : ℕ → ℕ) (n : ℕ) (rest : List ℕ) → length (row_onto g n rest) ≡ length rest + n
+length-row_onto g zero rest = omega arith
+length-row_onto g (suc n) rest = omega (arith, length-row_onto g n rest)
+
+length-rows : (f : ℕ → ℕ → ℕ) (c : ℕ → ℕ) (n : ℕ) → length (rows f c n) ≡ window c 0 n
+length-rows f c zero = refl
+length-rows f c (suc n) =
+    let z : 0 + n ≡ n = omega arith in
+    omega (arith, length-row_onto (f n) (c n) (rows f c n), length-rows f c n, ap c z)
+
+among : (q x : ℕ) (xs : List ℕ) → list_any (eqb q) (x ∷ xs) ≡ true → (q ≡ x) ⊎ (list_any (eqb q) xs ≡ true)
+among q x xs h = by_test (eqb q x) refl h
+  where
+    by_test : (b : Bool) → eqb q x ≡ b → (b || list_any (eqb q) xs) ≡ true → (q ≡ x) ⊎ (list_any (eqb q) xs ≡ true)
+    by_test true e h = inl (eqb-true q x e)
+    by_test false e h = inr h
+
+among_rest : (q x : ℕ) (xs : List ℕ) → list_any (eqb q) xs ≡ true → list_any (eqb q) (x ∷ xs) ≡ true
+among_rest q x xs h = by_test (eqb q x)
+  where
+    by_test : (b : Bool) → (b || list_any (eqb q) xs) ≡ true
+    by_test true = refl
+    by_test false = h
+
+all_among : (P : ℕ → Type 0) (xs : List ℕ) → ((y : ℕ) → list_any (eqb y) xs ≡ true → P y) → AllByRecursion P xs
+all_among P [] h = tt
+all_among P (x ∷ xs) h = (h x (rw (eq-eqb x x refl)), all_among P xs (λ y l. h y (among_rest y x xs l)))
+
+among-row_onto : (q : ℕ) (g : ℕ → ℕ) (n : ℕ) (rest : List ℕ) → list_any (eqb q) (row_onto g n rest) ≡ true → ((j : ℕ) × (j < n) × (g j ≡ q)) ⊎ (list_any (eqb q) rest ≡ true)
+among-row_onto q g zero rest h = inr h
+among-row_onto q g (suc n) rest h = elim (among q (g n) (row_onto g n rest) h) [
+  | inl here ↦ inl (n, omega arith, sym here)
+  | inr later ↦ elim (among-row_onto q g n rest later) [ inl r ↦ inl (r.0, omega arith, r.2) | inr r ↦ inr r ]
+]
+
+among-rows : (q : ℕ) (f : ℕ → ℕ → ℕ) (c : ℕ → ℕ) (n : ℕ) → list_any (eqb q) (rows f c n) ≡ true → (t : ℕ) × (j : ℕ) × (t < n) × (j < c t) × (f t j ≡ q)
+among-rows q f c zero h = absurd (cc)
+among-rows q f c (suc n) h = elim (among-row_onto q (f n) (c n) (rows f c n) h) [
+  | inl r ↦ (n, r.0, omega arith, r.1, r.2)
+  | inr later ↦
+      let r = among-rows q f c n later in
+      (r.0, r.1, omega arith, r.3, r.4)
+]
+
+distinct-row_onto : (g : ℕ → ℕ) (n : ℕ) (rest : List ℕ) → IsDistinct eqb rest → ((i j : ℕ) → i < j → j < n → g i ≡ g j → ⊥)
+    → ((j : ℕ) → j < n → list_any (eqb (g j)) rest ≡ true → ⊥) → IsDistinct eqb (row_onto g n rest)
+unfolding IsDistinct
+distinct-row_onto g zero rest d inj other = d
+distinct-row_onto g (suc n) rest d inj other = (
+  all_among (λ y. eqb (g n) y ≡ false) (row_onto g n rest) (λ y l. ne_eqb (g n) y (λ e. elim (among-row_onto y g n rest l) [
+    | inl r ↦ inj r.0 n r.1 (omega arith) (r.2 ∙ sym e)
+    | inr later ↦ other n (omega arith) (ap (λ x. list_any (eqb x) rest) e ∙ later)
+  ])),
+  distinct-row_onto g n rest d (λ i j l u. inj i j l (omega arith)) (λ j l. other j (omega arith)),
+)
+
+distinct-rows : (f : ℕ → ℕ → ℕ) (c : ℕ → ℕ) (n : ℕ) → ((t j u k : ℕ) → t < n → j < c t → u < n → k < c u → f t j ≡ f u k → (t ≡ u) × (j ≡ k)) → IsDistinct eqb (rows f c n)
+unfolding IsDistinct
+distinct-rows f c zero inj = tt
+distinct-rows f c (suc n) inj =
+    distinct-row_onto (f n) (c n) (rows f c n) (distinct-rows f c n (λ t j u k lt lj lu lk. inj t j u k (omega arith) lj (omega arith) lk))
+    (λ i j l u e. omega (arith, (inj n i n j (omega arith) (omega arith) (omega arith) u e).1)) (λ j l h.
+    let r = among-rows (f n j) f c n h in
+    omega (arith, (inj r.0 r.1 n j (omega arith) r.3 (omega arith) l r.4).0, r.2))
+
+-- there are at most b distinct numbers below b
+pub pairs-fit : (f : ℕ → ℕ → ℕ) (c : ℕ → ℕ) (n b : ℕ) → ((t j u k : ℕ) → t < n → j < c t → u < n → k < c u → f t j ≡ f u k → (t ≡ u) × (j ≡ k))
+    → ((t j : ℕ) → t < n → j < c t → f t j < b) → window c 0 n ≤ b
+pairs-fit f c n b inj below = omega (
+  arith,
+  length-rows f c n,
+  length-le_from_distinct_below (rows f c n) b (distinct-rows f c n inj) (λ q l.
+      let r = among-rows q f c n l in
+      omega (arith, below r.0 r.1 r.2 r.3, r.4)),
+)
+
+-- one of them is at least b, or all are below
+some_in_row : (g : ℕ → ℕ) (n b : ℕ) → ((j : ℕ) × (j < n) × (b ≤ g j)) ⊎ ((j : ℕ) → j < n → g j < b)
+some_in_row g zero b = inr (λ j l. absurd (omega arith))
+some_in_row g (suc n) b = elim (some_in_row g n b) [
+  | inl r ↦ inl (r.0, omega arith, r.2)
+  | inr all ↦ elim (cases_lt (g n) b) [
+    | inl below ↦ inr (λ j l. elim (cases_lt j n) [
+      | inl u ↦ all j u
+      | inr v ↦
+          let e : j ≡ n = omega arith in
+          omega (arith, ap g e)
+    ])
+    | inr from ↦ inl (n, omega arith, from)
+  ]
+]
+
+some_in_rows : (f : ℕ → ℕ → ℕ) (c : ℕ → ℕ) (n b : ℕ) → ((t : ℕ) × (j : ℕ) × (t < n) × (j < c t) × (b ≤ f t j)) ⊎ ((t j : ℕ) → t < n → j < c t → f t j < b)
+some_in_rows f c zero b = inr (λ t j l. absurd (omega arith))
+some_in_rows f c (suc n) b = elim (some_in_rows f c n b) [
+  | inl r ↦ inl (r.0, r.1, omega arith, r.3, r.4)
+  | inr all ↦ elim (some_in_row (f n) (c n) b) [
+    | inl r ↦ inl (n, r.0, omega arith, r.1, r.2)
+    | inr row ↦ inr (λ t j l lj. elim (cases_lt t n) [
+      | inl u ↦ all t j u lj
+      | inr v ↦
+          let e : t ≡ n = omega arith in
+          omega (arith, row j (omega (arith, ap c e)), ap (λ x. f x j) e)
+    ])
+  ]
+]
+
+window-from : (c : ℕ → ℕ) (a k : ℕ) → window (λ t. c (a + t)) 0 k ≡ window c a k
+window-from c a zero = refl
+window-from c a (suc k) =
+    let e : a + (0 + k) ≡ a + k = omega arith in
+    omega (arith, window-from c a k, ap c e)
+
+-- slot p, reached from home g circularly
+round_trip : (m g p : ℕ) → g < m → p < m → (g + (p + m - g) % m) % m ≡ p
+round_trip m g p lg lp = elim (cases_lt p g) [
+  | inl below ↦
+      let r : (p + m - g) % m ≡ p + m - g = mod-eq_of_lt (omega arith) in
+      let e : g + (p + m - g) ≡ p + m = omega arith in
+      ap (λ x. (g + x) % m) r ∙ ap (λ x. x % m) e ∙ add-mod_right p m ∙ mod-eq_of_lt lp
+  | inr from ↦
+      let e : p + m - g ≡ p - g + m = omega arith in
+      let r : (p + m - g) % m ≡ p - g = ap (λ x. x % m) e ∙ add-mod_right (p - g) m ∙ mod-eq_of_lt (omega arith) in
+      let s : g + (p - g) ≡ p = omega arith in
+      ap (λ x. (g + x) % m) r ∙ ap (λ x. x % m) s ∙ mod-eq_of_lt lp
+]
+
+module _ {E : Type 0} (homes : List (List E)) (room : total homes < length homes) (place : ℕ → ℕ → ℕ)
+    (placement : IsPlacement homes place) (h : ℕ) (within : h < length homes) (has : 0 < count homes h) where
+  -- the homes of the window that attains the spill, and h after them
+  abbrev wide : ℕ
+  wide = (spill-found (count homes) (length homes) h (omega arith)).0
+
+  abbrev from_home : ℕ → ℕ
+  from_home t = (h + length homes - wide + t) % length homes
+
+  -- how far from the window's start an entry of home t is
+  abbrev offset : ℕ → ℕ → ℕ
+  offset t j = t + (place (from_home t) j + length homes - from_home t) % length homes
+
+  wide_lt : wide < length homes
+  wide_lt = (spill-found (count homes) (length homes) h (omega arith)).1
+
+  wide_sum : window (count homes) (h + length homes - wide) wide ≡ spill_of homes h + wide
+  wide_sum = (spill-found (count homes) (length homes) h (omega arith)).2
+
+  home_lt : (t : ℕ) → from_home t < length homes
+  home_lt t = omega arith
+
+  home_count : (t : ℕ) → count homes (from_home t) ≡ count homes (h + length homes - wide + t)
+  home_count t = rem-same (count homes) (length homes) (count-again homes) (h + length homes - wide + t)
+
+  slot_of : (t j : ℕ) → j < count homes (h + length homes - wide + t) → (h + length homes - wide + offset t j) % length homes ≡ place (from_home t) j
+  slot_of t j l =
+      let m : ℕ = length homes in
+      let d : ℕ = (place (from_home t) j + m - from_home t) % m in
+      let e : h + m - wide + (t + d) ≡ h + m - wide + t + d = omega arith in
+      ap (λ x. x % m) e ∙ sym (rem-same (λ x. (x + d) % m) m (λ n. let q : n + m + d ≡ n + d + m = omega arith in ap (λ x. x % m) q ∙ add-mod_right (n + d) m) (h + m - wide + t))
+      ∙ round_trip m (from_home t) (place (from_home t) j) (home_lt t) (placement.within (from_home t) j (home_lt t) (omega (arith, home_count t)))
+
+  offsets_apart : (t j u k : ℕ) → t < suc wide → j < count homes (h + length homes - wide + t)
+      → u < suc wide → k < count homes (h + length homes - wide + u) → offset t j ≡ offset u k → (t ≡ u) × (j ≡ k)
+  offsets_apart t j u k lt lj lu lk e =
+      let m : ℕ = length homes in
+      let same : place (from_home t) j ≡ place (from_home u) k = sym (slot_of t j lj) ∙ ap (λ x. (h + m - wide + x) % m) e ∙ slot_of u k lk in
+      let r = placement.apart (from_home t) j (from_home u) k (home_lt t) (omega (arith, home_count t)) (home_lt u) (omega (arith, home_count u)) same in (
+        elim (cases_lt t u) [
+          | inl below ↦ absurd (rems-differ m (h + m - wide + t) (h + m - wide + u) (omega arith) (omega (arith, wide_lt)) r.0)
+          | inr from ↦ elim (cases_lt u t) [
+            | inl above ↦ absurd (rems-differ m (h + m - wide + u) (h + m - wide + t) (omega arith) (omega (arith, wide_lt)) (sym r.0))
+            | inr upto ↦ omega arith
+          ]
+        ],
+        r.1,
+      )
+
+  -- too many for nearer slots
+  overfull : window (λ t. count homes (h + length homes - wide + t)) 0 (suc wide) ≡ suc (spill_of homes h + count homes h - 1 + wide)
+  overfull =
+      let e : h + length homes - wide + wide ≡ h + length homes = omega (arith, wide_lt) in
+      omega (arith, window-from (count homes) (h + length homes - wide) (suc wide), wide_sum, ap (count homes) e, count-again homes h)
+
+  some_past : StandsPast homes place (spill_of homes h + count homes h - 1)
+  some_past =
+      elim (some_in_rows (λ t j. (place (from_home t) j + length homes - from_home t) % length homes)
+      (λ t. count homes (h + length homes - wide + t)) (suc wide) (spill_of homes h + count homes h - 1)) [
+        | inl r ↦ (from_home r.0, r.1, home_lt r.0, omega (arith, home_count r.0, r.3), r.4)
+        | inr all ↦ absurd (omega (
+          arith,
+          overfull,
+          pairs-fit offset (λ t. count homes (h + length homes - wide + t))
+              (suc wide) (spill_of homes h + count homes h - 1 + wide) offsets_apart (λ t j lt lj. omega (arith, all t j lt lj)),
+        ))
+      ]
+
+-- however a table's entries are placed, some entry is as far past its home as any in the layout
+pub best-placed : {E : Type 0} (homes : List (List E)) → total homes ≤ capacity (length homes) → IsBestPlaced homes
+best-placed homes room place placement h i within l =
+    let r = some_past homes (omega (arith, capacity-lt (length homes) (omega arith))) place placement h within (omega arith) in
+    (r.0, r.1, r.2, r.3, omega (arith, r.4))

@@ -1,0 +1,50 @@
+-- How far the occupied slots from a home go.
+use Rattle.std.proofs.Common.{◌≡◌, ℕ, zero, suc, ◌+◌, ◌<◌, ◌≤◌, refl, ap, ◌∙◌, arith, List, length, Option, Some, None}
+use Rattle.clock2q_handles.specs.Layout.{Placed, reach, slot_at, occupied, run}
+
+module _ {E : Type 0} where
+  occupied-none : (A : ℕ → Option (Placed E)) (n k : ℕ) → A n ≡ None → occupied A n (suc k) ≡ 0
+  occupied-none A n k e = ap (λ o. elim o [ None ↦ 0 | Some _ ↦ suc (occupied A (suc n) k) ]) e
+
+  occupied-some : (A : ℕ → Option (Placed E)) (n k : ℕ) → 1 ≤ reach (A n) → occupied A n (suc k) ≡ suc (occupied A (suc n) k)
+  occupied-some A n k l = by_slot (A n) l
+    where
+      by_slot : (o : Option (Placed E)) → 1 ≤ reach o → ◌≡◌ {A = ℕ} (elim o [ None ↦ 0 | Some _ ↦ suc (occupied A (suc n) k) ]) (suc (occupied A (suc n) k))
+      by_slot None l = absurd (omega arith)
+      by_slot (Some s) l = refl
+
+  occupied-is : (A : ℕ → Option (Placed E)) (h v k : ℕ) → v < k → A (h + v) ≡ None → ((j : ℕ) → j < v → 1 ≤ reach (A (h + j))) → occupied A h k ≡ v
+  occupied-is A h zero zero l hole full = absurd (omega arith)
+  occupied-is A h zero (suc k) l hole full =
+      let e : h ≡ h + 0 = omega arith in
+      occupied-none A h k (ap A e ∙ hole)
+  occupied-is A h (suc v) zero l hole full = absurd (omega arith)
+  occupied-is A h (suc v) (suc k) l hole full =
+      let e : h ≡ h + 0 = omega arith in
+      let s : suc h + v ≡ h + suc v = omega arith in
+      let here : 1 ≤ reach (A h) = omega (arith, full 0 (omega arith), ap (λ x. reach (A x)) e) in
+      occupied-some A h k here ∙ ap suc (occupied-is A (suc h) v k (omega arith) (ap A s ∙ hole) (λ j l.
+      let q : h + suc j ≡ suc h + j = omega arith in
+      omega (arith, full (suc j) (omega arith), ap (λ x. reach (A x)) q)))
+
+  occupied-above : (A : ℕ → Option (Placed E)) (h v k : ℕ) → v ≤ k → ((j : ℕ) → j < v → 1 ≤ reach (A (h + j))) → v ≤ occupied A h k
+  occupied-above A h zero k l full = omega arith
+  occupied-above A h (suc v) zero l full = absurd (omega arith)
+  occupied-above A h (suc v) (suc k) l full =
+      let e : h ≡ h + 0 = omega arith in
+      let here : 1 ≤ reach (A h) = omega (arith, full 0 (omega arith), ap (λ x. reach (A x)) e) in
+      omega (
+        arith,
+        occupied-some A h k here,
+        occupied-above A (suc h) v k (omega arith) (λ j l.
+            let q : h + suc j ≡ suc h + j = omega arith in
+            omega (arith, full (suc j) (omega arith), ap (λ x. reach (A x)) q)),
+      )
+
+  -- the run of h ends at the first empty slot
+  pub run-is : (slots : List (Option (Placed E))) (h v : ℕ) → v < length slots → slot_at slots (h + v) ≡ None → ((j : ℕ) → j < v → 1 ≤ reach (slot_at slots (h + j))) → run slots h ≡ v
+  run-is slots h v l hole full = occupied-is (slot_at slots) h v (length slots) l hole full
+
+  -- and it is no shorter than the occupied slots from h on
+  pub run-above : (slots : List (Option (Placed E))) (h v : ℕ) → v ≤ length slots → ((j : ℕ) → j < v → 1 ≤ reach (slot_at slots (h + j))) → v ≤ run slots h
+  run-above slots h v l full = occupied-above (slot_at slots) h v (length slots) l full

@@ -1,0 +1,141 @@
+-- The layout as a list of slots, and the lists read off one.
+use Rattle.std.proofs.Common.{◌≡◌, ℕ, zero, suc, ◌+◌, ◌%◌, ◌<◌, ◌≤◌, inl, inr, refl, ap, sym, ◌∙◌, arith, List, [], ◌∷◌, length, set, replicate, get_or, get_or-set_same, get_or-set_other, length-set, Option, Some, None, mod-eq_of_lt, slice_get}
+use Rattle.std.proofs.lemmas.Bool.{cases_lt}
+use Rattle.std.proofs.lemmas.List.{get_or_past, length-replicate}
+use Rattle.std.proofs.lemmas.Option.{slice_get_within}
+use Rattle.std.proofs.Math.ListN.{get_or-replicate}
+use Rattle.std.proofs.Math.Nat.{add-mod_right}
+use Rattle.clock2q_handles.specs.Homes.{listed, count}
+use Rattle.clock2q_handles.specs.Layout.{Placed, placed, spill, spill_of, slot_at, put_from, layout_upto, layout}
+use Rattle.clock2q_handles.proofs.layout.Spill.{Roomy, spill-again, spill-lt}
+use Rattle.clock2q_handles.proofs.layout.Tiles.{IsGap, apart}
+use Rattle.clock2q_handles.proofs.layout.Periods.{rem-same, rems-differ}
+use Rattle.clock2q_handles.proofs.layout.Laid.{IsLaid}
+
+module _ {E : Type 0} where
+  pub slot-again : (slots : List (Option (Placed E))) (n : ℕ) → slot_at slots (n + length slots) ≡ slot_at slots n
+  slot-again slots n = ap (λ x. get_or slots x None) (add-mod_right n (length slots))
+
+  pub listed-again : (homes : List (List E)) (n : ℕ) → listed homes (n + length homes) ≡ listed homes n
+  listed-again homes n = ap (λ x. get_or homes x []) (add-mod_right n (length homes))
+
+  pub count-again : (homes : List (List E)) (n : ℕ) → count homes (n + length homes) ≡ count homes n
+  count-again homes n = ap length (listed-again homes n)
+
+  -- the slots in which a list is put
+
+  pub length-put_from : (slots : List (Option (Placed E))) (n d : ℕ) (es : List E) → length (put_from slots n d es) ≡ length slots
+  length-put_from slots n d [] = refl
+  length-put_from slots n d (e ∷ es) = length-put_from (set slots (n % length slots) (Some (placed d e))) (suc n) (suc d) es ∙ length-set slots (n % length slots) (Some (placed d e))
+
+  put_from_other : (m : ℕ) (slots : List (Option (Placed E))) (n d : ℕ) (es : List E) (p : ℕ) → length slots ≡ m
+      → ((i : ℕ) → i < length es → p ≡ (n + i) % m → ⊥) → get_or (put_from slots n d es) p None ≡ get_or slots p None
+  put_from_other m slots n d [] p len other = refl
+  put_from_other m slots n d (e ∷ es) p len other =
+      let z : n + 0 ≡ n = omega arith in
+      put_from_other m (set slots (n % length slots) (Some (placed d e))) (suc n) (suc d) es p (length-set slots (n % length slots) (Some (placed d e)) ∙ len) (λ i l q.
+      let s : suc n + i ≡ n + suc i = omega arith in
+      other (suc i) (omega arith) (q ∙ ap (λ x. x % m) s))
+      ∙ get_or-set_other slots (n % length slots) p (Some (placed d e)) None (λ q. other 0 (omega arith) (q ∙ ap (λ x. n % x) len ∙ ap (λ x. x % m) (sym z)))
+
+  put_from_at : (m : ℕ) (slots : List (Option (Placed E))) (n d : ℕ) (es : List E) (i : ℕ) (e : E) → length slots ≡ m → 0 < m
+      → length es ≤ m → slice_get es i ≡ Some e → get_or (put_from slots n d es) ((n + i) % m) None ≡ Some (placed (d + i) e)
+  put_from_at m slots n d [] i e len some fits is = absurd (cc)
+  put_from_at m slots n d (x ∷ es) zero e len some fits is =
+      let z : n + 0 ≡ n = omega arith in
+      let o : d ≡ d + 0 = omega arith in
+      let s : x ≡ e = cc in
+      let l : n % length slots < length slots = omega arith in
+      ap (λ y. get_or (put_from slots n d (x ∷ es)) (y % m) None) z
+      ∙ put_from_other m (set slots (n % length slots) (Some (placed d x))) (suc n) (suc d) es (n % m) (length-set slots (n % length slots) (Some (placed d x))
+      ∙ len) (λ i u q. rems-differ m n (suc n + i) (omega arith) (omega arith) q) ∙ ap (λ y. get_or (set slots (n % length slots) (Some (placed d x))) (n % y) None) (sym len)
+      ∙ get_or-set_same slots (n % length slots) (Some (placed d x)) None l ∙ ap (λ y. Some (placed d y)) s ∙ ap (λ y. Some (placed y e)) o
+  put_from_at m slots n d (x ∷ es) (suc i) e len some fits is =
+      let s : n + suc i ≡ suc n + i = omega arith in
+      let o : suc d + i ≡ d + suc i = omega arith in
+      ap (λ y. get_or (put_from slots n d (x ∷ es)) (y % m) None) s
+      ∙ put_from_at m (set slots (n % length slots) (Some (placed d x))) (suc n) (suc d) es i e (length-set slots (n % length slots) (Some (placed d x)) ∙ len) some (omega arith) is
+      ∙ ap (λ y. Some (placed y e)) o
+
+  pub length-layout_upto : (homes : List (List E)) (k : ℕ) → length (layout_upto homes k) ≡ length homes
+  length-layout_upto homes zero = length-replicate (length homes) None
+  length-layout_upto homes (suc k) = length-put_from (layout_upto homes k) (k + spill_of homes k) (spill_of homes k) (listed homes k) ∙ length-layout_upto homes k
+
+  pub length-layout : (homes : List (List E)) → length (layout homes) ≡ length homes
+  unfolding layout
+  length-layout homes = length-layout_upto homes (length homes)
+
+  upto_other : (homes : List (List E)) (p k : ℕ) → ((h i : ℕ) → h < k → i < count homes h → p ≡ (h + spill_of homes h + i) % length homes → ⊥) → get_or (layout_upto homes k) p None ≡ None
+  upto_other homes p zero other = elim (cases_lt p (length homes)) [
+    | inl l ↦ get_or-replicate (length homes) p None None l
+    | inr past ↦ get_or_past (replicate (length homes) None) p None (omega (arith, length-replicate {A = Option (Placed E)} (length homes) None))
+  ]
+  upto_other homes p (suc k) other =
+      put_from_other (length homes) (layout_upto homes k) (k + spill_of homes k) (spill_of homes k) (listed homes k) p (length-layout_upto homes k) (λ i l. other k i (omega arith) l)
+      ∙ upto_other homes p k (λ h i l. other h i (omega arith))
+
+  module _ (homes : List (List E)) (roomy : Roomy (count homes) (length homes)) where
+    upto_at : (k : ℕ) → k ≤ length homes → (h i : ℕ) (e : E) → h < k → slice_get (listed homes h) i ≡ Some e
+        → get_or (layout_upto homes k) ((h + spill_of homes h + i) % length homes) None ≡ Some (placed (spill_of homes h + i) e)
+    upto_at zero u h i e l is = absurd (omega arith)
+    upto_at (suc k) u h i e l is = elim (cases_lt h k) [
+      | inl below ↦ put_from_other (length homes) (layout_upto homes k) (k + spill_of homes k) (spill_of homes k) (listed homes k) ((h + spill_of homes h + i) % length homes)
+          (length-layout_upto homes k) (λ j lj. rems-differ (length homes) (h + spill_of homes h + i) (k + spill_of homes k + j)
+          (omega (arith, apart (count homes) (length homes) roomy h k below, slice_get_within (listed homes h) i e is))
+          (omega (arith, apart (count homes) (length homes) roomy k (h + length homes) (omega arith), spill-again (count homes) (length homes) roomy.again h)))
+          ∙ upto_at k (omega arith) h i e below is
+      | inr from ↦
+          let s : h ≡ k = omega arith in
+          let same : slice_get (listed homes k) i ≡ Some e = ap (λ x. slice_get (listed homes x) i) (sym s) ∙ is in
+          ap (λ x. get_or (layout_upto homes (suc k)) ((x + spill_of homes x + i) % length homes) None) s
+          ∙ put_from_at (length homes) (layout_upto homes k) (k + spill_of homes k) (spill_of homes k) (listed homes k) i e (length-layout_upto homes k) (omega arith)
+          (omega (arith, apart (count homes) (length homes) roomy k (suc k) (omega arith), spill-lt (count homes) (length homes) roomy (suc k))) same
+          ∙ ap (λ x. Some (placed (spill_of homes x + i) e)) (sym s)
+    ]
+
+    at_slot : (n : ℕ) → slot_at (layout homes) n ≡ get_or (layout_upto homes (length homes)) (n % length homes) None
+    unfolding layout
+    at_slot n = ap (λ x. get_or (layout_upto homes (length homes)) (n % x) None) (length-layout homes)
+
+    gap_other : (n : ℕ) → n < length homes → IsGap (count homes) (length homes) n → (h i : ℕ) → h < length homes → i < count homes h → n ≡ (h + spill_of homes h + i) % length homes → ⊥
+    gap_other n l g h i lh li e =
+        let r : n % length homes ≡ n = mod-eq_of_lt l in
+        elim (cases_lt h n) [
+          | inl below ↦ rems-differ (length homes) (h + spill_of homes h + i) n (omega (arith, apart (count homes) (length homes) roomy h n below)) (omega arith) (sym e ∙ sym r)
+          | inr from ↦ elim (cases_lt n h) [
+            | inl above ↦ rems-differ (length homes) (h + spill_of homes h + i) (n + length homes)
+                (omega (arith, apart (count homes) (length homes) roomy h (n + length homes) (omega arith), spill-again (count homes) (length homes) roomy.again n))
+                (omega arith) (sym e ∙ sym r ∙ sym (add-mod_right n (length homes)))
+            | inr upto ↦
+                let s : h ≡ n = omega arith in
+                omega (arith, ap (count homes) s)
+          ]
+        ]
+
+    -- the layout lays out the lists
+    pub layout-laid : IsLaid (length homes) (listed homes) (slot_at (layout homes))
+    layout-laid = record {
+      standing = λ h i e is.
+          let m : ℕ = length homes in
+          let g : ℕ = h % m in
+          let lg : g < m = omega (arith, roomy.room) in
+          let ls : listed homes g ≡ listed homes h = rem-same (listed homes) m (listed-again homes) h in
+          let ss : spill_of homes g ≡ spill_of homes h = rem-same (spill (count homes) m) m (spill-again (count homes) m roomy.again) h in
+          let here : get_or (layout_upto homes m) ((g + spill_of homes g + i) % m) None ≡ Some (placed (spill_of homes g + i) e) =
+          upto_at m (omega arith) g i e lg (ap (λ xs. slice_get xs i) ls ∙ is) in
+          let rem : (g + spill_of homes h + i) % m ≡ (h + spill_of homes h + i) % m =
+          rem-same (λ x. (x + spill_of homes h + i) % m) m (λ n. let e : n + m + spill_of homes h + i ≡ n + spill_of homes h + i + m = omega arith in
+          ap (λ x. x % m) e ∙ add-mod_right (n + spill_of homes h + i) m) h in
+          at_slot (h + spill_of homes h + i) ∙ ap (λ x. get_or (layout_upto homes m) x None) (sym rem)
+          ∙ ap (λ x. get_or (layout_upto homes m) ((g + x + i) % m) None) (sym ss) ∙ here ∙ ap (λ x. Some (placed (x + i) e)) ss;
+      rest = λ n g.
+          let m : ℕ = length homes in
+          let ln : n % m < m = omega (arith, roomy.room) in
+          at_slot n ∙ upto_other homes (n % m) m
+          (gap_other (n % m) ln
+          (record {
+            spilled = rem-same (spill (count homes) m) m (spill-again (count homes) m roomy.again) n
+                ∙ g.spilled;
+            counted = rem-same (count homes) m (count-again homes) n ∙ g.counted;
+          }));
+    }

@@ -1,0 +1,208 @@
+-- When a table's entries are too far past their homes: what that takes, where it shows in the slots, and when an insertion makes it so.
+use Rattle.std.proofs.Common.{◌≡◌, ℕ, zero, suc, ◌+◌, ◌-◌, ◌*◌, ◌%◌, ◌^◌, ◌<◌, ◌≤◌, ◌⊎◌, inl, inr, refl, ap, sym, ◌∙◌, subst, arith, List, [], ◌∷◌, ◌++◌, length, take, length-append, Option, None}
+use Rattle.std.proofs.lemmas.Bool.{cases_lt}
+use Rattle.clock2q_handles.specs.Homes.{capacity, listed, count, total, no_entries, put_last}
+use Rattle.clock2q_handles.specs.Layout.{Placed, spill, spill_of, slot_at, layout, entries, reach, homes_of, IsTidy, IsTooLong}
+use Rattle.clock2q_handles.specs.TableStep.{put_all, rebuilt, IsHashOf}
+use Rattle.clock2q_handles.proofs.layout.Spill.{Roomy, spill-again, spill-found, spill-lt, within_lap}
+use Rattle.clock2q_handles.proofs.layout.Tiles.{IsGap, taken, apart}
+use Rattle.clock2q_handles.proofs.layout.Periods.{lap, lap-lt, lap-same, rem-same}
+use Rattle.clock2q_handles.proofs.layout.Laid.{IsLaid, get_some, part-reach, gap-reach, reach-none}
+use Rattle.clock2q_handles.proofs.layout.Walk.{Stops, after, stop}
+use Rattle.clock2q_handles.proofs.layout.Reading.{slot-again, count-again}
+use Rattle.clock2q_handles.proofs.layout.TidyLayout.{capacity-lt, roomy-of, sum-window, length-homes_of, tidy-vacant, tidy-total, read-laid-homes}
+use Rattle.clock2q_handles.proofs.layout.Gaps.{IsOneMore}
+use Rattle.clock2q_handles.proofs.shifts.Changes.{length-with_list, listed-with_same, total-with_list, vacant_within, read-stop, one-put, roomy_at, other_at}
+use Rattle.clock2q_handles.proofs.layout.FewerEntries.{rebuilding-count, rebuilding-reach}
+use Rattle.clock2q_handles.proofs.rebuild.Hashes.{entries-all, rebuilt-length, rebuilt-total}
+
+module _ {E : Type 0} where
+  -- no home reaches further than there are entries
+  pub reach-total : (homes : List (List E)) → total homes < length homes → (h : ℕ) → spill_of homes h + count homes h ≤ total homes
+  reach-total homes room h =
+      let m : ℕ = length homes in
+      let roomy : Roomy (count homes) m = roomy-of homes room in
+      let r = spill-found (count homes) m h (omega arith) in
+      let e : h + m - r.0 + r.0 ≡ h + m = omega arith in
+      omega (arith, r.2, within_lap (count homes) m roomy (h + m - r.0) (suc r.0) r.1, ap (count homes) e, count-again homes h, sum-window length homes)
+
+  -- so it takes 2^24 entries for one to be too far
+  pub too-long-total : (homes : List (List E)) → total homes ≤ capacity (length homes) → IsTooLong homes → 2 ^ 24 ≤ total homes
+  too-long-total homes room long = omega (arith, reach-total homes (omega (arith, capacity-lt (length homes) (omega arith))) long.0, long.3)
+
+  -- it is enough to find such a home, counted past the last
+  too-long-at : (homes : List (List E)) → total homes < length homes → (n : ℕ) → 0 < count homes n → 2 ^ 24 ≤ spill_of homes n + count homes n → IsTooLong homes
+  too-long-at homes room n some far =
+      let m : ℕ = length homes in
+      let c : count homes (n % m) ≡ count homes n = rem-same (count homes) m (count-again homes) n in
+      let s : spill_of homes (n % m) ≡ spill_of homes n = rem-same (spill (count homes) m) m (spill-again (count homes) m (count-again homes)) n in
+      (n % m, omega arith, omega arith, omega arith)
+
+  module _ (slots : List (Option (Placed E))) (tidy : IsTidy slots) where
+    read_laid : 0 < length slots → IsLaid (length slots) (listed (homes_of slots)) (slot_at slots)
+    read_laid some =
+        let w = tidy-vacant slots tidy some in
+        subst (λ x. IsLaid x (listed (homes_of slots)) (slot_at slots)) (length-homes_of slots) (read-laid-homes slots tidy.ordered w.0 w.1 some)
+
+    read_room : 0 < length slots → total (homes_of slots) < length slots
+    read_room some = omega (arith, tidy.room, tidy-total slots tidy, capacity-lt (length slots) some)
+
+    read_roomy : 0 < length slots → Roomy (count (homes_of slots)) (length slots)
+    read_roomy some = roomy_at (homes_of slots) (length slots) (length-homes_of slots) (read_room some)
+
+    -- the first empty slot from h on
+    upto_vacant : (h k : ℕ) → ((v : ℕ) × (v < k) × (slot_at slots (h + v) ≡ None) × ((j : ℕ) → j < v → 1 ≤ reach (slot_at slots (h + j)))) ⊎ ((j : ℕ) → j < k → 1 ≤ reach (slot_at slots (h + j)))
+    upto_vacant h zero = inr (λ j l. absurd (omega arith))
+    upto_vacant h (suc k) = elim (upto_vacant h k) [
+      | inl r ↦ inl (r.0, omega arith, r.2, r.3)
+      | inr all ↦ elim (cases_lt 0 (reach (slot_at slots (h + k)))) [
+        | inl full ↦ inr (λ j l. elim (cases_lt j k) [
+          | inl u ↦ all j u
+          | inr v ↦
+              let e : j ≡ k = omega arith in
+              omega (arith, ap (λ x. reach (slot_at slots (h + x))) e)
+        ])
+        | inr empty ↦ inl (k, omega arith, reach-none (slot_at slots (h + k)) (omega arith), all)
+      ]
+    ]
+
+    pub first-vacant : 0 < length slots → (h : ℕ) → (v : ℕ) × (v < length slots) × (slot_at slots (h + v) ≡ None) × ((j : ℕ) → j < v → 1 ≤ reach (slot_at slots (h + j)))
+    first-vacant some h =
+        let w = tidy-vacant slots tidy some in
+        elim (upto_vacant h (length slots)) [
+          | inl r ↦ r
+          | inr all ↦ absurd (omega (arith, vacant_within (slot_at slots) (length slots) h (length slots) (slot-again slots) some w.0 w.1 all))
+        ]
+
+    module _ (h d : ℕ) (e : E) (stops : Stops (slot_at slots) h 0 d) (fits : total (homes_of slots) < capacity (length slots)) where
+      abbrev more : List (List E)
+      more = put_last (homes_of slots) h e
+
+      some_slots : 0 < length slots
+      some_slots = omega arith
+
+      more_total : total more ≡ suc (total (homes_of slots))
+      more_total = omega (arith, total-with_list (homes_of slots) h (listed (homes_of slots) h ++ e ∷ []) (omega (arith, length-homes_of slots)), length-append (listed (homes_of slots) h) (e ∷ []))
+
+      more_length : length more ≡ length slots
+      more_length = length-with_list (homes_of slots) h (listed (homes_of slots) h ++ e ∷ []) ∙ length-homes_of slots
+
+      more_room : total more < length slots
+      more_room = omega (arith, more_total, capacity-lt (length slots) some_slots)
+
+      more_here : count more h ≡ suc (count (homes_of slots) h)
+      more_here =
+          omega (
+            arith,
+            ap length (listed-with_same (homes_of slots) h h (listed (homes_of slots) h ++ e ∷ []) (omega (arith, length-homes_of slots)) refl),
+            length-append (listed (homes_of slots) h) (e ∷ []),
+          )
+
+      stop_sum : d ≡ spill (count (homes_of slots)) (length slots) h + count (homes_of slots) h
+      stop_sum = read-stop slots tidy some_slots h d stops ∙ ap (λ x. spill (count (homes_of slots)) x h + count (homes_of slots) h) (length-homes_of slots)
+
+      module _ (v : ℕ) (within : v < length slots) (hole : slot_at slots (h + v) ≡ None) (full : (j : ℕ) → j < v → 1 ≤ reach (slot_at slots (h + j))) where
+        one : IsOneMore (count (homes_of slots)) (count more) (length slots) (h + suc v) (length slots - suc v)
+        one = one-put (length slots) h v (listed (homes_of slots)) (listed more) (slot_at slots) (read_roomy some_slots) (roomy_at more (length slots) more_length more_room) within more_here
+            (λ n q. ap length (other_at (homes_of slots) (length slots) h (listed (homes_of slots) h ++ e ∷ []) (length-homes_of slots) n q)) (read_laid some_slots) (slot-again slots) hole full
+
+        there : h + suc v + (length slots - suc v) ≡ h + length slots
+        there = omega arith
+
+        same_spill : spill (count more) (length slots) h ≡ spill (count (homes_of slots)) (length slots) h
+        same_spill =
+            let c : ℕ → ℕ = count (homes_of slots) in
+            let m : ℕ = length slots in
+            omega (
+              arith,
+              one.spills (m - suc v) (omega arith),
+              ap (spill c m) there,
+              ap (spill (count more) m) there,
+              spill-again c m (read_roomy some_slots).again h,
+              spill-again (count more) m (roomy_at more m more_length more_room).again h,
+            )
+
+        new_long : 2 ^ 24 ≤ suc d → IsTooLong more
+        new_long far =
+            too-long-at more (omega (arith, more_room, more_length)) h (omega (arith, more_here)) (omega (arith, far, stop_sum, same_spill, more_here, ap (λ x. spill (count more) x h) more_length))
+
+        moved_long : (j : ℕ) → d ≤ j → j < v → 2 ^ 24 ≤ suc (reach (slot_at slots (h + j))) → IsTooLong more
+        moved_long j from upto far =
+            let c : ℕ → ℕ = count (homes_of slots) in
+            let m : ℕ = length slots in
+            let n : ℕ = h + j + m in
+            let same : reach (slot_at slots n) ≡ reach (slot_at slots (h + j)) = ap reach (slot-again slots (h + j)) in
+            let near : reach (slot_at slots (h + j)) ≤ j + 0 = after (slot_at slots) tidy.ordered h 0 d stops.stop j from in
+            elim (taken c m (read_roomy some_slots) n (omega (arith, spill-lt c m (read_roomy some_slots) 0))) [
+              | inl g ↦ absurd (omega (arith, same, gap-reach m (listed (homes_of slots)) (slot_at slots) (read_roomy some_slots) (read_laid some_slots) n g, far))
+              | inr p ↦
+                  let r : reach (slot_at slots n) ≡ suc (n - p.0) = part-reach m (listed (homes_of slots)) (slot_at slots) (read_roomy some_slots) (read_laid some_slots) n p.0 p.1 in
+                  let k : ℕ = p.0 - (h + suc v) in
+                  let q : h + suc v + k ≡ p.0 = omega (arith, r, same, near) in
+                  let sp : spill (count more) m p.0 ≡ suc (spill c m p.0) = omega (arith, one.spills k (omega (arith, r, same, near)), r, same, near, ap (spill c m) q, ap (spill (count more) m) q) in
+                  let ct : count more p.0 ≡ c p.0 = omega (arith, one.same k (omega (arith, r, same, near)) (λ z. omega (arith, r, same, near)), ap c q, ap (count more) q) in
+                  too-long-at more (omega (arith, more_room, more_length)) p.0 (omega (arith, ct)) (omega (arith, far, r, same, sp, ct, ap (λ x. spill (count more) x p.0) more_length))
+            ]
+
+      -- the new entry would be too far
+      pub long-by-new : 2 ^ 24 ≤ suc d → IsTooLong more
+      long-by-new far =
+          let v = first-vacant some_slots h in
+          new_long v.0 v.1 v.2 v.3 far
+
+      -- an entry after it would
+      pub long-by-moved : (j : ℕ) → d ≤ j → ((i : ℕ) → d ≤ i → i ≤ j → 1 ≤ reach (slot_at slots (h + i))) → 2 ^ 24 ≤ suc (reach (slot_at slots (h + j))) → IsTooLong more
+      long-by-moved j from full far =
+          let v = first-vacant some_slots h in
+          let l : j < v.0 = elim (cases_lt j v.0) [
+            | inl l ↦ l
+            | inr u ↦ elim (cases_lt v.0 d) [
+              | inl early ↦ absurd (omega (arith, stops.before v.0 early, ap reach v.2))
+              | inr late ↦ absurd (omega (arith, full v.0 late u, ap reach v.2))
+            ]
+          ] in
+          moved_long v.0 v.1 v.2 v.3 j from l far
+
+-- a rebuild to k times the slots never makes the table too long on its way
+pub rebuilding-short : {H : Type 0} (key : H → ℕ) (homes : List (List (ℕ × H))) (k i : ℕ) → total homes < length homes → 0 < k * length homes
+    → IsHashOf key homes → (IsTooLong homes → ⊥) → IsTooLong (put_all key (no_entries (k * length homes)) (entries (take i (layout homes)))) → ⊥
+rebuilding-short key homes k i room some hashes short long =
+    short (too-long-at homes room long.0 (omega (arith, long.2, rebuilding-count key homes k i long.0 room some hashes))
+    (omega (arith, long.3, rebuilding-reach key homes k i long.0 room some hashes)))
+
+module _ {H : Type 0} (key : H → ℕ) (homes : List (List (ℕ × H))) (m : ℕ) (room : total homes ≤ capacity (length homes))
+    (fits : total homes < m) (multiple : 0 < length homes → (k : ℕ) × (m ≡ k * length homes)) (hashes : IsHashOf key homes) where
+  -- a rebuild gives no home a longer reach than the home that its entries came from had
+  pub rebuilt-reach : (n : ℕ) → spill_of (rebuilt key m homes) n + count (rebuilt key m homes) n ≤ spill_of homes n + count homes n
+  rebuilt-reach n = elim (cases_lt 0 (length homes)) [
+    | inl some ↦
+        let k = multiple some in
+        let below : total homes < length homes = omega (arith, room, capacity-lt (length homes) some) in
+        let all : put_all key (no_entries (k.0 * length homes)) (entries (take (length (layout homes)) (layout homes))) ≡ rebuilt key m homes =
+        ap (λ es. put_all key (no_entries (k.0 * length homes)) es) (entries-all (layout homes)) ∙ ap (λ x. rebuilt key x homes) (sym k.1) in
+        subst (λ hs. spill_of hs n + count hs n ≤ spill_of homes n + count homes n) all (rebuilding-reach key homes k.0 (length (layout homes)) n below (omega (arith, k.1, fits)) hashes)
+    | inr none ↦ omega (
+      arith,
+      reach-total (rebuilt key m homes) (omega (arith, rebuilt-length key homes m, rebuilt-total key homes m room (omega arith))) n,
+      rebuilt-total key homes m room (omega arith),
+      room,
+    )
+  ]
+
+  -- so it is never refused for a run
+  pub rebuilt-short : (IsTooLong homes → ⊥) → IsTooLong (rebuilt key m homes) → ⊥
+  rebuilt-short short long = elim (cases_lt 0 (length homes)) [
+    | inl some ↦
+        let k = multiple some in
+        let below : total homes < length homes = omega (arith, room, capacity-lt (length homes) some) in
+        let all : rebuilt key m homes ≡ put_all key (no_entries (k.0 * length homes)) (entries (take (length (layout homes)) (layout homes))) =
+        ap (λ x. rebuilt key x homes) k.1 ∙ ap (λ es. put_all key (no_entries (k.0 * length homes)) es) (sym (entries-all (layout homes))) in
+        rebuilding-short key homes k.0 (length (layout homes)) below (omega (arith, k.1, fits)) hashes short (subst IsTooLong all long)
+    | inr none ↦ omega (
+      arith,
+      reach-total (rebuilt key m homes) (omega (arith, rebuilt-length key homes m, rebuilt-total key homes m room (omega arith))) long.0,
+      rebuilt-total key homes m room (omega arith),
+      room,
+      long.3,
+    )
+  ]

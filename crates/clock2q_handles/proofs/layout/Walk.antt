@@ -1,0 +1,281 @@
+-- Slots in order, as a walk from a home sees them: entries of earlier homes, its own, and then an empty slot or an entry nearer its home. They are the layout of the lists that are read off them.
+use Rattle.std.proofs.Common.{◌≡◌, ℕ, zero, suc, ◌+◌, ◌-◌, ◌<◌, ◌≤◌, ◌⊎◌, inl, inr, min, refl, ap, sym, ◌∙◌, arith, List, [], ◌∷◌, ◌++◌, length, Option, Some, None, append-nil, length-append, slice_get}
+use Rattle.std.proofs.lemmas.Bool.{cases_lt}
+use Rattle.std.proofs.lemmas.Option.{slice_get_within}
+use Rattle.clock2q_handles.specs.Layout.{Placed, placed, window, spill, reach, at_home, met, IsOrdered}
+use Rattle.clock2q_handles.proofs.layout.Spill.{Roomy, spill-again, window-lap}
+use Rattle.clock2q_handles.proofs.layout.Tiles.{unique}
+use Rattle.clock2q_handles.proofs.layout.Periods.{lap, lap-lt, lap-same}
+use Rattle.clock2q_handles.proofs.layout.Laid.{counts, IsLaid, at_home-own, at_home-other, reach-none, met-last, met-add, met-again}
+
+-- the first n slots from h on hold entries at least t further from their homes than the slot is from h, and slot n doesn't
+pub record Stops {E : Type 0} (A : ℕ → Option (Placed E)) (h t n : ℕ) : Type 0 where
+  pub before : (j : ℕ) → j < n → j + t < reach (A (h + j))
+  pub stop : reach (A (h + n)) ≤ n + t
+
+pub slice_get-append : {E : Type 0} (xs ys : List E) (i : ℕ) (e : E) → slice_get (xs ++ ys) i ≡ Some e → (slice_get xs i ≡ Some e) ⊎ ((length xs ≤ i) × (slice_get ys (i - length xs) ≡ Some e))
+slice_get-append [] ys i e is =
+    let z : i ≡ i - 0 = omega arith in
+    inr (omega arith, ap (slice_get ys) (sym z) ∙ is)
+slice_get-append (x ∷ xs) ys zero e is = inl is
+slice_get-append (x ∷ xs) ys (suc i) e is = elim (slice_get-append xs ys i e is) [
+  | inl l ↦ inl l
+  | inr r ↦
+      let s : i - length xs ≡ suc i - suc (length xs) = omega arith in
+      inr (omega arith, ap (slice_get ys) (sym s) ∙ r.1)
+]
+
+module _ {E : Type 0} (A : ℕ → Option (Placed E)) (ordered : IsOrdered A) where
+  later : (h t n : ℕ) → reach (A (h + n)) ≤ n + t → (k : ℕ) → reach (A (h + (n + k))) ≤ n + k + t
+  later h t n stop zero =
+      let e : n + 0 ≡ n = omega arith in
+      omega (arith, ap (λ x. reach (A (h + x))) e)
+  later h t n stop (suc k) =
+      let e : h + (n + suc k) ≡ suc (h + (n + k)) = omega arith in
+      omega (arith, later h t n stop k, ordered.next (h + (n + k)), ap (λ x. reach (A x)) e)
+
+  -- past the stop no entry is further from its home either
+  pub after : (h t n : ℕ) → reach (A (h + n)) ≤ n + t → (j : ℕ) → n ≤ j → reach (A (h + j)) ≤ j + t
+  after h t n stop j l =
+      let e : n + (j - n) ≡ j = omega arith in
+      omega (arith, later h t n stop (j - n), ap (λ x. reach (A (h + x))) e)
+
+  -- so every slot before another with such an entry has one
+  pub passed : (h t n : ℕ) → n + t < reach (A (h + n)) → (j : ℕ) → j ≤ n → j + t < reach (A (h + j))
+  passed h t n far j l = elim (cases_lt (j + t) (reach (A (h + j)))) [
+    | inl far_too ↦ far_too
+    | inr near ↦ absurd (omega (arith, after h t j near n l))
+  ]
+
+  pub stops-unique : (h t n k : ℕ) → Stops A h t n → Stops A h t k → n ≡ k
+  stops-unique h t n k p q = elim (cases_lt n k) [
+    | inl below ↦ absurd (omega (arith, q.before n below, p.stop))
+    | inr from ↦ elim (cases_lt k n) [ inl below ↦ absurd (omega (arith, p.before k below, q.stop)) | inr upto ↦ omega arith ]
+  ]
+
+  -- past its stop a walk meets no entry of its home
+  pub met-late : (h n k : ℕ) → reach (A (h + n)) ≤ n → met A h n k ≡ []
+  met-late h n zero l = refl
+  met-late h n (suc k) l =
+      let here : at_home (A (h + n)) n ≡ [] = at_home-other (A (h + n)) n (λ e. omega arith) in
+      let next : reach (A (h + suc n)) ≤ suc n = omega (arith, after h 0 n (omega arith) (suc n) (omega arith)) in
+      ap (λ xs. xs ++ met A h (suc n) k) here ∙ met-late h (suc n) k next
+
+  stop_upto : (h t k : ℕ) → ((n : ℕ) × (n < k) × Stops A h t n) ⊎ ((j : ℕ) → j < k → j + t < reach (A (h + j)))
+  stop_upto h t zero = inr (λ j l. absurd (omega arith))
+  stop_upto h t (suc k) = elim (stop_upto h t k) [
+    | inl found ↦ inl (found.0, omega arith, found.2)
+    | inr all ↦ elim (cases_lt (k + t) (reach (A (h + k)))) [
+      | inl far ↦ inr (λ j l. passed h t k far j (omega arith))
+      | inr near ↦ inl (k, omega arith, record { before = all; stop = near })
+    ]
+  ]
+
+  module _ (m : ℕ) (again : (n : ℕ) → A (n + m) ≡ A n) (some : 0 < m) (v : ℕ) (vacant : A v ≡ None) where
+    -- where a walk from h stops
+    pub stop : (h t : ℕ) → (n : ℕ) × (n < m) × Stops A h t n
+    stop h t =
+        let l : lap m h v < m = lap-lt m h v some in
+        elim (stop_upto h t (suc (lap m h v))) [
+          | inl found ↦ (found.0, omega arith, found.2)
+          | inr all ↦ absurd (omega (arith, all (lap m h v) (omega arith), ap reach (lap-same A m again some h v ∙ vacant)))
+        ]
+
+    -- the number of entries of earlier homes from h on
+    pub pushed : ℕ → ℕ
+    pushed h = (stop h 1).0
+
+    -- the number with those of h
+    pub ending : ℕ → ℕ
+    ending h = (stop h 0).0
+
+    pub pushed-stops : (h : ℕ) → Stops A h 1 (pushed h)
+    unfolding pushed
+    pushed-stops h = (stop h 1).2
+
+    pub ending-stops : (h : ℕ) → Stops A h 0 (ending h)
+    unfolding ending
+    ending-stops h = (stop h 0).2
+
+    ending-lt : (h : ℕ) → ending h < m
+    unfolding ending
+    ending-lt h = (stop h 0).1
+
+    pushed-le : (h : ℕ) → pushed h ≤ ending h
+    pushed-le h = elim (cases_lt (ending h) (pushed h)) [
+      | inl below ↦ absurd (omega (arith, (pushed-stops h).before (ending h) below, (ending-stops h).stop))
+      | inr upto ↦ upto
+    ]
+
+    one_on : (h : ℕ) → Stops A (suc h) 1 (ending h - 1)
+    one_on h = record {
+      before = λ j l.
+          let e : h + suc j ≡ suc h + j = omega arith in
+          omega (arith, (ending-stops h).before (suc j) (omega arith), ap (λ x. reach (A x)) e);
+      stop = elim (cases_lt 0 (ending h)) [
+        | inl more ↦
+            let e : h + ending h ≡ suc h + (ending h - 1) = omega arith in
+            omega (arith, (ending-stops h).stop, ap (λ x. reach (A x)) e)
+        | inr none ↦
+            let z : h + ending h ≡ h = omega arith in
+            let e : suc h + (ending h - 1) ≡ suc h = omega arith in
+            omega (arith, (ending-stops h).stop, ordered.next h, ap (λ x. reach (A x)) z, ap (λ x. reach (A x)) e)
+      ];
+    }
+
+    pushed-step : (h : ℕ) → pushed (suc h) ≡ ending h - 1
+    pushed-step h = stops-unique (suc h) 1 (pushed (suc h)) (ending h - 1) (pushed-stops (suc h)) (one_on h)
+
+    stops-again : (h t n : ℕ) → Stops A h t n → Stops A (h + m) t n
+    stops-again h t n s =
+        let same : (j : ℕ) → A (h + m + j) ≡ A (h + j) = λ j. let e : h + m + j ≡ h + j + m = omega arith in ap A e ∙ again (h + j) in
+        record { before = λ j l. omega (arith, s.before j l, ap reach (same j)); stop = omega (arith, s.stop, ap reach (same n)) }
+
+    pushed-again : (h : ℕ) → pushed (h + m) ≡ pushed h
+    pushed-again h = stops-unique (h + m) 1 (pushed (h + m)) (pushed h) (pushed-stops (h + m)) (stops-again h 1 (pushed h) (pushed-stops h))
+
+    met_next : (h k : ℕ) → met A h 0 (suc k) ≡ met A h 0 k ++ at_home (A (h + k)) k
+    met_next h k =
+        let z : 0 + k ≡ k = omega arith in
+        met-last A h 0 k ∙ ap (λ x. met A h 0 k ++ at_home (A (h + x)) x) z
+
+    at_home_there : (h k : ℕ) → pushed h ≤ k → k < ending h → reach (A (h + k)) ≡ suc k
+    at_home_there h k from upto = omega (arith, after h 1 (pushed h) (pushed-stops h).stop k from, (ending-stops h).before k upto)
+
+    at_home_early : (h k : ℕ) → k < pushed h → at_home (A (h + k)) k ≡ []
+    at_home_early h k l = at_home-other (A (h + k)) k (λ e. omega (arith, (pushed-stops h).before k l))
+
+    at_home_late : (h k : ℕ) → ending h ≤ k → at_home (A (h + k)) k ≡ []
+    at_home_late h k l = at_home-other (A (h + k)) k (λ e. omega (arith, after h 0 (ending h) (ending-stops h).stop k l))
+
+    -- among the first k slots a walk meets the home's entries from the pushed ones on
+    pub met-length : (h k : ℕ) → length (met A h 0 k) ≡ min k (ending h) - min k (pushed h)
+    met-length h zero = omega arith
+    met-length h (suc k) =
+        let sum : length (met A h 0 (suc k)) ≡ length (met A h 0 k) + length (at_home (A (h + k)) k) = ap length (met_next h k) ∙ length-append (met A h 0 k) (at_home (A (h + k)) k) in
+        let l : pushed h ≤ ending h = pushed-le h in
+        elim (cases_lt k (pushed h)) [
+          | inl early ↦ omega (arith, sum, met-length h k, ap length (at_home_early h k early))
+          | inr from ↦ elim (cases_lt k (ending h)) [
+            | inl upto ↦ omega (arith, sum, met-length h k, ap length (at_home-own (A (h + k)) k (at_home_there h k from upto)).2)
+            | inr late ↦ omega (arith, sum, met-length h k, ap length (at_home_late h k late))
+          ]
+        ]
+
+    pub met-entry : (h k i : ℕ) (e : E) → slice_get (met A h 0 k) i ≡ Some e → A (h + (pushed h + i)) ≡ Some (placed (pushed h + i) e)
+    met-entry h zero i e is = absurd (cc)
+    met-entry h (suc k) i e is = elim (slice_get-append (met A h 0 k) (at_home (A (h + k)) k) i e (ap (λ xs. slice_get xs i) (sym (met_next h k)) ∙ is)) [
+      | inl front ↦ met-entry h k i e front
+      | inr last ↦ elim (cases_lt k (pushed h)) [
+        | inl early ↦ absurd (omega (arith, slice_get_within (at_home (A (h + k)) k) (i - length (met A h 0 k)) e last.1, ap length (at_home_early h k early)))
+        | inr from ↦ elim (cases_lt k (ending h)) [
+          | inl upto ↦
+              let own = at_home-own (A (h + k)) k (at_home_there h k from upto) in
+              let at : i ≡ k - pushed h = omega (arith, last.0, met-length h k, slice_get_within (at_home (A (h + k)) k) (i - length (met A h 0 k)) e last.1, ap length own.2) in
+              let z : i - length (met A h 0 k) ≡ 0 = omega (arith, met-length h k) in
+              let is_own : Some own.0 ≡ Some e = ap (λ xs. slice_get xs 0) (sym own.2) ∙ ap (slice_get (at_home (A (h + k)) k)) (sym z) ∙ last.1 in
+              let s : own.0 ≡ e = cc in
+              let p : pushed h + i ≡ k = omega arith in
+              ap (λ x. A (h + x)) p ∙ own.1 ∙ ap (λ x. Some (placed k x)) s ∙ ap (λ x. Some (placed x e)) (sym p)
+          | inr late ↦ absurd (omega (arith, slice_get_within (at_home (A (h + k)) k) (i - length (met A h 0 k)) e last.1, ap length (at_home_late h k late)))
+        ]
+      ]
+    ]
+
+    -- each home's list, read off the slots
+    abbrev pub lists : ℕ → List E
+    lists h = met A h 0 m
+
+    lists-length : (h : ℕ) → length (lists h) ≡ ending h - pushed h
+    lists-length h = omega (arith, met-length h m, ending-lt h, pushed-le h)
+
+    pub lists-again : (h : ℕ) → lists (h + m) ≡ lists h
+    lists-again h = met-again A m h 0 m again
+
+    lap_sum : (z k : ℕ) → window (counts lists) z k + pushed z ≤ pushed (z + k) + k
+    lap_sum z zero =
+        let e : z + 0 ≡ z = omega arith in
+        omega (arith, ap pushed e)
+    lap_sum z (suc k) =
+        let e : z + suc k ≡ suc (z + k) = omega arith in
+        omega (arith, ap pushed e, lap_sum z k, lists-length (z + k), pushed-step (z + k), pushed-le (z + k))
+
+    ending_at_vacant : ending v ≡ 0
+    ending_at_vacant = elim (cases_lt 0 (ending v)) [
+      | inl more ↦
+          let e : v + 0 ≡ v = omega arith in
+          absurd (omega (arith, (ending-stops v).before 0 more, ap (λ x. reach (A x)) e, ap reach vacant))
+      | inr none ↦ omega arith
+    ]
+
+    pub lists-roomy : Roomy (counts lists) m
+    lists-roomy = record {
+      again = λ n. ap length (lists-again n);
+      room =
+          let k : ℕ = m - 1 in
+          let e : m ≡ suc k = omega arith in
+          let s : suc v + k ≡ v + m = omega arith in
+          let none : counts lists v ≡ 0 = omega (arith, lists-length v, ending_at_vacant) in
+          omega (
+            arith,
+            window-lap (counts lists) m (λ n. ap length (lists-again n)) (suc v),
+            ap (window (counts lists) (suc v)) e,
+            lap_sum (suc v) k,
+            ap pushed s,
+            pushed-again v,
+            pushed-le v,
+            ending_at_vacant,
+            none,
+            ap length (lists-again v),
+            ap (counts lists) s,
+          );
+    }
+
+    spill_from : (j : ℕ) → j ≤ m → spill (counts lists) m (suc v + j) ≡ pushed (suc v + j)
+    spill_from =
+        let o : suc v + 0 ≡ suc v = omega arith in
+        unique (counts lists) m lists-roomy (suc v) (λ j. pushed (suc v + j)) (omega (arith, ap pushed o, pushed-step v, ending_at_vacant))
+        (omega (arith, pushed-again (suc v), pushed-step v, ending_at_vacant)) (λ j l.
+        let e : suc v + suc j ≡ suc (suc v + j) = omega arith in
+        omega (arith, ap pushed e, pushed-step (suc v + j), lists-length (suc v + j), pushed-le (suc v + j)))
+
+    -- what is spilled at a home is what a walk from it passes first
+    pub spill-pushed : (h : ℕ) → spill (counts lists) m h ≡ pushed h
+    spill-pushed h = sym (lap-same (spill (counts lists) m) m (spill-again (counts lists) m (λ n. ap length (lists-again n))) some (suc v) h)
+        ∙ spill_from (lap m (suc v) h) (omega (arith, lap-lt m (suc v) h some)) ∙ lap-same pushed m pushed-again some (suc v) h
+
+    -- and with its own entries it has passed all up to its stop
+    pub ending-sum : (h : ℕ) → ending h ≡ spill (counts lists) m h + counts lists h
+    ending-sum h = omega (arith, spill-pushed h, lists-length h, pushed-le h)
+
+    -- slots in order are the layout of the lists that are read off them
+    pub ordered-laid : IsLaid m lists A
+    ordered-laid = record {
+      standing = λ h i e is.
+          let s : h + (pushed h + i) ≡ h + spill (counts lists) m h + i = omega (arith, spill-pushed h) in
+          let d : pushed h + i ≡ spill (counts lists) m h + i = omega (arith, spill-pushed h) in
+          ap A (sym s) ∙ met-entry h m i e is ∙ ap (λ x. Some (placed x e)) d;
+      rest = λ n g. reach-none (A n) (
+          let z : ending n ≡ 0 = omega (arith, ending-sum n, g.spilled, g.counted) in
+          let e : n + ending n ≡ n = omega arith in
+          omega (arith, (ending-stops n).stop, ap (λ x. reach (A x)) e));
+    }
+
+    -- a walk stops past its home's last entry
+    pub stop-sum : (h n : ℕ) → Stops A h 0 n → n ≡ spill (counts lists) m h + counts lists h
+    stop-sum h n s = stops-unique h 0 n (ending h) s (ending-stops h) ∙ ending-sum h
+
+    -- an entry's displacement: what is spilled at its home, and the home's entries before it
+    pub met-count : (h d : ℕ) → reach (A (h + d)) ≡ suc d → spill (counts lists) m h + length (met A h 0 d) ≡ d
+    met-count h d r =
+        let from : pushed h ≤ d = elim (cases_lt d (pushed h)) [ inl early ↦ absurd (omega (arith, (pushed-stops h).before d early)) | inr from ↦ from ] in
+        let upto : d < ending h = elim (cases_lt d (ending h)) [ inl upto ↦ upto | inr late ↦ absurd (omega (arith, after h 0 (ending h) (ending-stops h).stop d late)) ] in
+        omega (arith, met-length h d, spill-pushed h)
+
+    -- a home's list is what its walk meets up to the stop
+    pub met-stop : (h n : ℕ) → n ≤ m → Stops A h 0 n → lists h ≡ met A h 0 n
+    met-stop h n l s =
+        let e : m ≡ n + (m - n) = omega arith in
+        let z : 0 + n ≡ n = omega arith in
+        let stop : reach (A (h + n)) ≤ n = omega (arith, s.stop) in
+        ap (met A h 0) e ∙ met-add A h 0 n (m - n) ∙ ap (λ x. met A h 0 n ++ met A h x (m - n)) z ∙ ap (λ xs. met A h 0 n ++ xs) (met-late h n (m - n) stop) ∙ append-nil (met A h 0 n)

@@ -1,0 +1,3 @@
+-- Candidates offered to a closure.
+pub mod Offering
+pub mod Accepting

@@ -1,0 +1,122 @@
+-- Tables in which each handle was put in under the hash that one function gives it.
+use Rattle.std.proofs.Common.{◌≡◌, ◌≢◌, ℕ, ◌<◌, ◌≤◌, ◌==◌, nat_le, zero, suc, Bool, true, false, cond, List, [], ◌∷◌, Option, Some, None, Result, Ok, Err, refl, sym, ap, ◌∙◌, subst, arith, length, slice_get}
+use Rattle.std.specs.Prelude.{OnOk, OnErr, ◌+◌, ◌*◌}
+use Rattle.clock2q_handles.specs.declared.error.TableError.{TableError}
+use Rattle.clock2q_handles.specs.declared.error.TableError.TheVariants.{Memory, Size, RunTooLong}
+use Rattle.clock2q_handles.specs.Offers.{Settles, FindsOrPuts}
+use Rattle.clock2q_handles.specs.Changes.{PutIn}
+use lib.Dec.{T, eqb→eq}
+use Rattle.std.specs.Fn.{Called, Takes, Mut}
+use Rattle.clock2q_handles.specs.Homes.{top, capacity, total, with_handle, removed}
+use Rattle.clock2q_handles.specs.TableStep.{TableValue, IsHashOf, IsShortOf, doubled_until, grown, reserved, rebuilt, doubled, fit}
+use Rattle.clock2q_handles.specs.Rehash.{GivesHashes, AnswersInTurn, AfterGrowth, IsHeld, held_handles}
+use Rattle.clock2q_handles.proofs.rebuild.HeldHandles.{by_slot_held}
+use Rattle.clock2q_handles.proofs.rebuild.Hashes.{hashes-put_last, hashes-rebuilt, hashes-removed, rebuilt-length}
+
+one_of : (m x : ℕ) (b : Bool) → 0 < m → 0 < x → 0 < elim b [ true ↦ m | false ↦ x ]
+one_of m x true some other = some
+one_of m x false some other = other
+
+-- doubling leaves a count of slots that isn't 0
+until_some : (e m k : ℕ) → 0 < m → 0 < doubled_until e m k
+until_some e m zero some = some
+until_some e m (suc k) some = one_of m (doubled_until e (2 * m) k) (nat_le e (capacity m)) some (until_some e (2 * m) k (omega (arith, some)))
+
+pub fit_some : (e : ℕ) → 0 < fit e
+unfolding fit
+fit_some e = until_some e 16 e (omega arith)
+
+module _ {H : Type 0} (key : H → ℕ) where
+  -- a table with no slots is full
+  some_slots : (homes : List (List (ℕ × H))) → (total homes == capacity (length homes)) ≡ false → 0 < length homes
+  some_slots [] q = absurd (cc)
+  some_slots (es ∷ homes) q = omega arith
+
+  grown_by : (homes : List (List (ℕ × H))) (b : Bool) → (total homes == capacity (length homes)) ≡ b → IsHashOf key homes
+      → (0 < length (cond b (rebuilt key (doubled (length homes)) homes) homes)) × IsHashOf key (cond b (rebuilt key (doubled (length homes)) homes) homes)
+  grown_by homes true q hashes = (
+    omega (arith, rebuilt-length key homes (doubled (length homes))),
+    hashes-rebuilt key homes (doubled (length homes)) (omega (arith, eqb→eq (total homes) (capacity (length homes)) (subst T (sym q) tt))) (omega arith) hashes,
+  )
+  grown_by homes false q hashes = (some_slots homes q, hashes)
+
+  -- a table that grew if it was full
+  pub keyed_grown : (homes : List (List (ℕ × H))) → IsHashOf key homes → (0 < length (grown key homes)) × IsHashOf key (grown key homes)
+  keyed_grown homes hashes = grown_by homes (total homes == capacity (length homes)) refl hashes
+
+  -- one more handle
+  pub keyed_inserted : (homes : List (List (ℕ × H))) (v : H) → IsHashOf key homes → IsHashOf key (with_handle (grown key homes) (key v) v)
+  keyed_inserted homes v hashes =
+      let g = keyed_grown homes hashes in
+      hashes-put_last key (grown key homes) (key v) (top (key v), v) g.0 g.1 refl refl
+
+  reserved_by : (homes : List (List (ℕ × H))) (m : ℕ) (b : Bool) → total homes ≤ capacity (length homes) → 0 < m → IsHashOf key homes → IsHashOf key (cond b homes (rebuilt key m homes))
+  reserved_by homes m true room some hashes = hashes
+  reserved_by homes m false room some hashes = hashes-rebuilt key homes m room some hashes
+
+  keyed_inserted_under : (homes : List (List (ℕ × H))) (h : ℕ) (v : H) → h ≡ key v → IsHashOf key homes → IsHashOf key (with_handle (grown key homes) h v)
+  keyed_inserted_under homes h v is hashes = subst (λ x. IsHashOf key (with_handle (grown key homes) x v)) (sym is) (keyed_inserted homes v hashes)
+
+  keyed_settled : (homes new : List (List (ℕ × H))) (h : ℕ) (v : H) (found : Option H) (result : Result (H × Bool) TableError)
+      → h ≡ key v → Settles (grown key homes) h v found result new → IsHashOf key homes → IsHashOf key new
+  keyed_settled homes new h v (Some c) result is s hashes = subst (IsHashOf key) (sym s.1) (keyed_grown homes hashes).1
+  keyed_settled homes new h v None (Ok r) is s hashes = subst (IsHashOf key) (sym s.1) (keyed_inserted_under homes h v is hashes)
+  keyed_settled homes new h v None (Err e) is s hashes = subst (IsHashOf key) (sym s.1) (keyed_grown homes hashes).1
+
+  module _ {F : Type 0} (g : Mut F (H × Unit {0}) ℕ) (f : F) (homes new : List (List (ℕ × H))) (h : ℕ) (v : H) where
+    -- what an insertion results in, however it ends
+    pub keyed_put : (result : Result (Unit {0}) TableError) → (result ≢ Err Memory → AfterGrowth g f homes (λ hs. PutIn hs h v result new)) → (result ≡ Err Memory → new ≡ homes)
+        → h ≡ key v → IsHashOf key homes → GivesHashes g key homes f → IsHashOf key new
+    keyed_put (Ok r) put memory is hashes gives = subst (IsHashOf key) (sym (put (λ e. absurd (cc)) key (λ _. gives)).0) (keyed_inserted_under homes h v is hashes)
+    keyed_put (Err Memory) put memory is hashes gives = subst (IsHashOf key) (sym (memory refl)) hashes
+    keyed_put (Err Size) put memory is hashes gives = subst (IsHashOf key) (sym (put (λ e. absurd (cc)) key (λ _. gives)).1) (keyed_grown homes hashes).1
+    keyed_put (Err RunTooLong) put memory is hashes gives = subst (IsHashOf key) (sym (put (λ e. absurd (cc)) key (λ _. gives)).1) (keyed_grown homes hashes).1
+
+    keyed_settles : {M : Type 0} (m : Mut M (H × Unit {0}) Bool) (matches : M) (result : Result (H × Bool) TableError)
+        → (last : M) × AfterGrowth g f homes (λ hs. FindsOrPuts m matches hs h v result new last)
+        → h ≡ key v → IsHashOf key homes → GivesHashes g key homes f → IsHashOf key new
+    keyed_settles m matches result settles is hashes gives =
+        let s = settles.1 key (λ _. gives) in
+        keyed_settled homes new h v s.0 result is s.2 hashes
+
+    -- what a handle that is found or put in results in
+    pub keyed_found : {M : Type 0} (m : Mut M (H × Unit {0}) Bool) (matches : M) (result : Result (H × Bool) TableError)
+        → (result ≢ Err Memory → (last : M) × AfterGrowth g f homes (λ hs. FindsOrPuts m matches hs h v result new last))
+        → (result ≡ Err Memory → new ≡ homes) → h ≡ key v → IsHashOf key homes → GivesHashes g key homes f → IsHashOf key new
+    keyed_found m matches (Ok r) settles memory is hashes gives = keyed_settles m matches (Ok r) (settles (λ e. absurd (cc))) is hashes gives
+    keyed_found m matches (Err Memory) settles memory is hashes gives = subst (IsHashOf key) (sym (memory refl)) hashes
+    keyed_found m matches (Err Size) settles memory is hashes gives = keyed_settles m matches (Err Size) (settles (λ e. absurd (cc))) is hashes gives
+    keyed_found m matches (Err RunTooLong) settles memory is hashes gives = keyed_settles m matches (Err RunTooLong) (settles (λ e. absurd (cc))) is hashes gives
+
+    -- what a reservation results in
+    pub keyed_reserved : (before after : TableValue H) (n : ℕ) (result : Result (Unit {0}) TableError)
+        → OnOk result ((k : H → ℕ) → (IsShortOf homes n → GivesHashes g k homes f) → new ≡ reserved k homes n)
+        → OnErr result (after ≡ before) → new ≡ after.homes → before.homes ≡ homes → total homes ≤ capacity (length homes) → IsHashOf key homes → GivesHashes g key homes f → IsHashOf key new
+    keyed_reserved before after n (Ok r) ok err to from room hashes gives =
+        subst (IsHashOf key) (sym (ok key (λ _. gives))) (reserved_by homes (fit (total homes + n)) (nat_le (total homes + n) (capacity (length homes))) room (fit_some (total homes + n)) hashes)
+    keyed_reserved before after n (Err e) ok err to from room hashes gives = subst (IsHashOf key) (sym (to ∙ ap (λ t. t.homes) err ∙ from)) hashes
+
+  -- one handle less
+  pub keyed_removed : (eq : H → H → Bool) (homes : List (List (ℕ × H))) (x : ℕ) (v : H) → IsHashOf key homes → IsHashOf key (removed eq homes x v)
+  keyed_removed eq [] x v hashes = hashes
+  keyed_removed eq (es ∷ homes) x v hashes = hashes-removed key eq (es ∷ homes) x v (omega arith) hashes
+
+  module _ {F : Type 0} (g : Mut F (H × Unit {0}) ℕ) (homes : List (List (ℕ × H))) (I : F → Type 0) (takes : (f : F) (h : H) → I f → IsHeld homes h → Takes g f (h, tt))
+      (says : (f : F) (h : H) (r : ℕ) (next : F) → I f → IsHeld homes h → Called g f (h, tt) r next → (r ≡ key h) × I next) where
+    in_turn_by : (hs : List H) (f : F) → I f → ((i : ℕ) (h : H) → slice_get hs i ≡ Some h → IsHeld homes h) → AnswersInTurn g key f hs
+    in_turn_by [] f i held = tt
+    in_turn_by (h ∷ hs) f i held = (
+      takes f h i (held 0 h refl),
+      λ r next called.
+          let s = says f h r next i (held 0 h refl) called in
+          (s.0, in_turn_by hs next s.1 (λ k v is. held (suc k) v is)),
+    )
+
+    -- if what a closure needs survives its calls on held handles, and it returns its key, it returns the hash of each held handle
+    pub keyed_given_by : (f : F) → I f → IsHashOf key homes → GivesHashes g key homes f
+    keyed_given_by f i hashes = record { in_turn = in_turn_by (held_handles homes) f i (by_slot_held homes); hashes = hashes }
+
+  -- a closure that returns its key returns the hash of each held handle
+  pub keyed_given : {F : Type 0} (g : Mut F (H × Unit {0}) ℕ) (homes : List (List (ℕ × H))) (f : F) → IsHashOf key homes
+      → ((f' : F) (h : H) → Takes g f' (h, tt)) → ((f' : F) (h : H) (r : ℕ) (next : F) → Called g f' (h, tt) r next → r ≡ key h) → GivesHashes g key homes f
+  keyed_given g homes f hashes takes answers = keyed_given_by g homes (λ _. Unit {0}) (λ f' h _ _. takes f' h) (λ f' h r next _ _ called. (answers f' h r next called, tt)) f tt hashes

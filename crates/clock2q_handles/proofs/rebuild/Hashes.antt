@@ -1,0 +1,140 @@
+-- One function that gives each entry's handle a hash of the entry's home and fingerprint: it does so after each change, and through a rebuild.
+use Rattle.std.proofs.Common.{◌≡◌, ℕ, zero, suc, ◌-◌, ◌%◌, ◌<◌, ◌≤◌, inl, inr, refl, ap, sym, ◌∙◌, subst, arith, Bool, true, false, cond, List, [], ◌∷◌, ◌++◌, length, take, drop, take-append-drop, take-suc, take_all, get_or, append-nil, length-append, Option, Some, None, slice_get, mod-eq_of_lt}
+use Rattle.std.proofs.lemmas.Bool.{cases_lt, cases_eq}
+use Rattle.std.proofs.lemmas.List.{get_or_past, length-replicate}
+use Rattle.std.proofs.lemmas.List.Elements.{filter_map-append}
+use Rattle.std.proofs.lemmas.Option.{slice_get_within}
+use Rattle.std.proofs.Math.ListN.{get_or-replicate}
+use Rattle.clock2q_handles.specs.Homes.{top, capacity, home, listed, total, no_entries, with_list, put_last, without_first, is_entry_of, removed}
+use Rattle.clock2q_handles.specs.Layout.{Placed, slot_at, layout, entries, homes_of, IsTidy, reach}
+use Rattle.clock2q_handles.specs.TableStep.{put_all, rebuilt, IsHashOf}
+use Rattle.clock2q_handles.proofs.layout.Walk.{slice_get-append}
+use Rattle.clock2q_handles.proofs.layout.TidyLayout.{layout-only, capacity-lt, length-homes_of, tidy-layout, tidy-total, layout-total, layout-tidy, layout-read}
+use Rattle.clock2q_handles.proofs.shifts.Changes.{length-with_list, listed-with_same, listed-with_other}
+use Rattle.clock2q_handles.proofs.layout.FewerEntries.{length-put_all, total-put_all, total-no_entries}
+
+module _ {E : Type 0} where
+  -- the entries before a slot, once it is passed
+  pub entries-none : (slots : List (Option (Placed E))) (k : ℕ) → k < length slots → get_or slots k None ≡ None → entries (take (suc k) slots) ≡ entries (take k slots)
+  entries-none slots k l none = ap entries (take-suc slots k None l) ∙ filter_map-append (λ s. s) (take k slots) (get_or slots k None ∷ [])
+      ∙ ap (λ o. entries (take k slots) ++ entries (o ∷ [])) none ∙ append-nil (entries (take k slots))
+
+  pub entries-some : (slots : List (Option (Placed E))) (k : ℕ) (s : Placed E) → k < length slots → get_or slots k None ≡ Some s → entries (take (suc k) slots) ≡ entries (take k slots) ++ s ∷ []
+  entries-some slots k s l some =
+      ap entries (take-suc slots k None l) ∙ filter_map-append (λ s. s) (take k slots) (get_or slots k None ∷ []) ∙ ap (λ o. entries (take k slots) ++ entries (o ∷ [])) some
+
+  pub entries-all : (slots : List (Option (Placed E))) → entries (take (length slots) slots) ≡ entries slots
+  entries-all slots = ap entries (take_all (length slots) slots (omega arith))
+
+  pub entries-front : (slots : List (Option (Placed E))) (k : ℕ) → length (entries (take k slots)) ≤ length (entries slots)
+  entries-front slots k =
+      omega (arith, length-append (entries (take k slots)) (entries (drop k slots)), ap length (sym (filter_map-append (λ s. s) (take k slots) (drop k slots)) ∙ ap entries (take-append-drop k slots)))
+
+  -- each entry by slot is in a slot
+  pub entries-from : (slots : List (Option (Placed E))) (i : ℕ) (s : Placed E) → slice_get (entries slots) i ≡ Some s → (n : ℕ) × (n < length slots) × (get_or slots n None ≡ Some s)
+  entries-from [] i s is = absurd (cc)
+  entries-from (None ∷ slots) i s is =
+      let r = entries-from slots i s is in
+      (suc r.0, omega arith, r.2)
+  entries-from (Some t ∷ slots) zero s is = (0, omega arith, is)
+  entries-from (Some t ∷ slots) (suc i) s is =
+      let r = entries-from slots i s is in
+      (suc r.0, omega arith, r.2)
+
+  kept_by : (test : E → Bool) (x : E) (es : List E) (i : ℕ) (e : E) (b : Bool) → ((i : ℕ) → slice_get (without_first test es) i ≡ Some e → (j : ℕ) × (slice_get es j ≡ Some e))
+      → slice_get (cond b es (x ∷ without_first test es)) i ≡ Some e → (j : ℕ) × (slice_get (x ∷ es) j ≡ Some e)
+  kept_by test x es i e true rest is = (suc i, is)
+  kept_by test x es zero e false rest is = (0, is)
+  kept_by test x es (suc i) e false rest is =
+      let r = rest i is in
+      (suc r.0, r.1)
+
+  -- what is left of a list was in it
+  pub without_first-from : (test : E → Bool) (es : List E) (e : E) (i : ℕ) → slice_get (without_first test es) i ≡ Some e → (j : ℕ) × (slice_get es j ≡ Some e)
+  without_first-from test [] e i is = absurd (cc)
+  without_first-from test (x ∷ es) e i is = kept_by test x es i e (test x) (without_first-from test es e) is
+
+module _ {H : Type 0} (key : H → ℕ) where
+  -- an entry of any home, counted past the last
+  pub hash-at : (homes : List (List (ℕ × H))) → IsHashOf key homes → 0 < length homes → (n i : ℕ) (e : ℕ × H)
+      → slice_get (listed homes n) i ≡ Some e → (home homes (key e.1) ≡ home homes n) × (top (key e.1) ≡ e.0)
+  hash-at homes hashes some n i e is =
+      let q : n % length homes % length homes ≡ n % length homes = mod-eq_of_lt (omega arith) in
+      hashes (n % length homes) i e (omega arith) (ap (λ x. slice_get (get_or homes x []) i) q ∙ is)
+
+  -- an entry in a slot
+  pub hash-slot : (slots : List (Option (Placed (ℕ × H)))) → IsTidy slots → IsHashOf key (homes_of slots) → (n : ℕ) (s : Placed (ℕ × H)) → slot_at slots n ≡ Some s → top (key s.entry.1) ≡ s.entry.0
+  hash-slot slots tidy hashes n s is = elim (cases_lt 0 (length slots)) [
+    | inl some ↦
+        let homes : List (List (ℕ × H)) = homes_of slots in
+        let len : length homes ≡ length slots = length-homes_of slots in
+        let room : total homes < length homes = omega (arith, tidy.room, tidy-total slots tidy, capacity-lt (length slots) some) in
+        let r = layout-only homes room n s (ap (λ x. slot_at x n) (sym (tidy-layout slots tidy)) ∙ is) in
+        (hash-at homes hashes (omega (arith, some, len)) r.0 r.1 s.entry r.2).1
+    | inr none ↦ absurd (omega (arith, ap reach is, ap reach (get_or_past slots (n % length slots) None (omega arith))))
+  ]
+
+  -- homes without entries need no hashes
+  pub hashes-none : (m : ℕ) → IsHashOf key (no_entries m)
+  hashes-none m h i e l is =
+      let none : listed (no_entries {E = ℕ × H} m) h ≡ [] =
+      get_or-replicate m (h % length (no_entries {E = ℕ × H} m)) [] [] (omega (arith, l, length-replicate {A = List (ℕ × H)} m [], mod-eq_of_lt l)) in
+      absurd (omega (arith, slice_get_within (listed (no_entries {E = ℕ × H} m) h) i e is, ap length none))
+
+  -- a list in place of a home's, each entry of which has a hash of that home
+  pub hashes-with_list : (homes : List (List (ℕ × H))) (x : ℕ) (es : List (ℕ × H)) → IsHashOf key homes
+      → ((i : ℕ) (e : ℕ × H) → slice_get es i ≡ Some e → (home homes (key e.1) ≡ home homes x) × (top (key e.1) ≡ e.0)) → IsHashOf key (with_list homes x es)
+  hashes-with_list homes x es hashes new h i e l is =
+      let len : length (with_list homes x es) ≡ length homes = length-with_list homes x es in
+      let l' : h < length homes = omega (arith, l, len) in
+      let rem : h % length homes ≡ h = mod-eq_of_lt l' in
+      let into : home (with_list homes x es) (key e.1) ≡ home homes (key e.1) = ap (λ m. key e.1 % m) len in
+      elim (cases_eq (h % length homes) (x % length homes)) [
+        | inl same ↦
+            let r = new i e (ap (λ xs. slice_get xs i) (sym (listed-with_same homes x h es (omega arith) same)) ∙ is) in
+            (into ∙ r.0 ∙ sym same ∙ rem, r.1)
+        | inr other ↦
+            let r = hashes h i e l' (ap (λ xs. slice_get xs i) (sym (listed-with_other homes x h es other)) ∙ is) in
+            (into ∙ r.0, r.1)
+      ]
+
+  -- an entry put last
+  pub hashes-put_last : (homes : List (List (ℕ × H))) (x : ℕ) (e : ℕ × H) → 0 < length homes → IsHashOf key homes
+      → home homes (key e.1) ≡ home homes x → top (key e.1) ≡ e.0 → IsHashOf key (put_last homes x e)
+  hashes-put_last homes x e some hashes into fingerprint = hashes-with_list homes x (listed homes x ++ e ∷ []) hashes (λ i f is. elim (slice_get-append (listed homes x) (e ∷ []) i f is) [
+    | inl old ↦ hash-at homes hashes some x i f old
+    | inr new ↦
+        let z : i - length (listed homes x) ≡ 0 = omega (arith, slice_get_within (e ∷ []) (i - length (listed homes x)) f new.1) in
+        let q : Some e ≡ Some f = ap (slice_get (e ∷ [])) (sym z) ∙ new.1 in
+        let s : e ≡ f = cc in
+        subst (λ g. (home homes (key g.1) ≡ home homes x) × (top (key g.1) ≡ g.0)) s (into, fingerprint)
+  ])
+
+  -- an entry removed
+  pub hashes-removed : (eq : H → H → Bool) (homes : List (List (ℕ × H))) (x : ℕ) (v : H) → 0 < length homes → IsHashOf key homes → IsHashOf key (removed eq homes x v)
+  hashes-removed eq homes x v some hashes = hashes-with_list homes x (without_first (is_entry_of eq x v) (listed homes x)) hashes (λ i e is.
+      let r = without_first-from (is_entry_of eq x v) (listed homes x) e i is in
+      hash-at homes hashes some x r.0 e r.1)
+
+  -- entries put in one after another
+  pub hashes-put_all : (homes : List (List (ℕ × H))) (es : List (Placed (ℕ × H))) → 0 < length homes → IsHashOf key homes
+      → ((i : ℕ) (s : Placed (ℕ × H)) → slice_get es i ≡ Some s → top (key s.entry.1) ≡ s.entry.0) → IsHashOf key (put_all key homes es)
+  hashes-put_all homes [] some hashes all = hashes
+  hashes-put_all homes (s ∷ es) some hashes all =
+      hashes-put_all (put_last homes (key s.entry.1) s.entry) es (omega (arith, some, length-with_list homes (key s.entry.1) (listed homes (key s.entry.1) ++ s.entry ∷ [])))
+      (hashes-put_last homes (key s.entry.1) s.entry some hashes refl (all 0 s refl)) (λ i t is. all (suc i) t is)
+
+  -- the entries keep their fingerprints and homes through a rebuild
+  pub hashes-rebuilt : (homes : List (List (ℕ × H))) (m : ℕ) → total homes ≤ capacity (length homes) → 0 < m → IsHashOf key homes → IsHashOf key (rebuilt key m homes)
+  hashes-rebuilt homes m room some hashes = hashes-put_all (no_entries m) (entries (layout homes)) (omega (arith, some, length-replicate {A = List (ℕ × H)} m [])) (hashes-none m) (λ i s is.
+      let r = entries-from (layout homes) i s is in
+      let q : r.0 % length (layout homes) ≡ r.0 = mod-eq_of_lt r.1 in
+      hash-slot (layout homes) (layout-tidy homes room) (subst (IsHashOf key) (sym (layout-read homes room)) hashes) r.0 s (ap (λ x. get_or (layout homes) x None) q ∙ r.2))
+
+  pub rebuilt-length : (homes : List (List (ℕ × H))) (m : ℕ) → length (rebuilt key m homes) ≡ m
+  rebuilt-length homes m = length-put_all key (no_entries m) (entries (layout homes)) ∙ length-replicate m []
+
+  -- as many entries as before
+  pub rebuilt-total : (homes : List (List (ℕ × H))) (m : ℕ) → total homes ≤ capacity (length homes) → 0 < m → total (rebuilt key m homes) ≡ total homes
+  rebuilt-total homes m room some =
+      omega (arith, total-put_all key (no_entries m) (entries (layout homes)) (omega (arith, some, length-replicate {A = List (ℕ × H)} m [])), total-no_entries key m, layout-total homes room)

@@ -1,0 +1,13 @@
+-- Entries put in and removed: what one write results in, what moving the rest of a run results in, and what that does to the lists.
+pub mod Cells
+pub mod Moves
+pub mod Shifts
+pub mod Changes
+pub mod Removals
+pub mod Steps
+pub mod Carrying
+pub mod PuttingAndTaking
+pub mod Wrapping
+pub mod Insertions
+pub mod FewEntries
+pub mod Relabelling

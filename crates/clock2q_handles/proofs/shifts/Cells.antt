@@ -1,0 +1,122 @@
+-- Two vectors side by side, read and written as one list of slots.
+use Rattle.std.proofs.Common.{◌≡◌, ℕ, zero, suc, ◌+◌, ◌-◌, ◌%◌, ◌<◌, List, [], ◌∷◌, length, get_or, take, ◌++◌, refl, sym, ap, ◌∙◌, subst, arith, Some, None, IfSome}
+use Rattle.std.proofs.Math.ListN.{set, replicate}
+use Rattle.std.proofs.Math.Nat.{sub-zero, mod-eq_of_lt}
+use Rattle.std.proofs.Math.Seq.{take-append_seam, set-get_or}
+use Rattle.std.proofs.lemmas.Nat.{and_mask}
+use Rattle.std.specs.Int.Bits.{bit_and}
+use Rattle.clock2q_handles.specs.Layout.{slot_at}
+use Rattle.clock2q_handles.specs.Slots.{Mark, meaning, cell, mark_of, cells, SlotsValue, slots_value, IsSlotCount}
+use Rattle.clock2q_handles.specs.Readers.{ReaderValue, reader_value}
+use Rattle.clock2q_handles.specs.declared.metadata.Metadata.{Metadata}
+
+-- masking by a slot count minus one is a remainder
+pub slot_mask : (n m : ℕ) → IsSlotCount m → 0 < m → bit_and n (m - 1) ≡ n % m
+slot_mask n m is_count some =
+    let p = is_count.power some in
+    ap (λ q. bit_and n (q - 1)) p.1 ∙ and_mask n p.0 ∙ ap (λ q. n % q) (sym p.1)
+
+-- an empty vector that is filled up
+filled : {X : Type 0} (n k : ℕ) (xs : List X) (x : X) → xs ≡ [] → k ≡ 0 → take n xs ++ replicate (n - k) x ≡ replicate n x
+filled n k xs x e ek = rw (e, ek, sub-zero) (elim n as (λ i. take i [] ++ replicate i x ≡ replicate i x) [ zero ↦ refl | suc i ↦ refl ])
+
+module _ {H : Type 0} where
+  -- a cell has the mark that it was made with
+  pub mark_of-cell : (s : Mark) (v : H) → mark_of (cell s v) ≡ s
+  mark_of-cell None v = refl
+  mark_of-cell (Some s) v = refl
+
+  -- a cell has the handle that it was made with
+  pub handle_of_cell : (s : Mark) (v : H) → IfSome (cell s v) (λ p. v ≡ p.entry.1)
+  handle_of_cell None v = tt
+  handle_of_cell (Some s) v = refl
+
+  pub length-cells : (ms : List Metadata) (vs : List H) → length vs ≡ length ms → length (cells ms vs) ≡ length ms
+  length-cells [] vs e = refl
+  length-cells (m ∷ ms) [] e = e
+  length-cells (m ∷ ms) (v ∷ vs) e = ap suc (length-cells ms vs (omega (arith, e)))
+
+  -- there is a word of metadata for each slot that contracts see
+  pub words : (ms : List Metadata) (vs : List H) {w : ℕ} {s : SlotsValue H} → length vs ≡ length ms → slots_value (cells ms vs) w ≡ s → length ms ≡ length s.slots
+  words ms vs as_many is = sym (length-cells ms vs as_many) ∙ ap (λ t. length t.slots) is
+
+  pub read_words : (ms : List Metadata) (vs : List H) {r h : ℕ} {s : ReaderValue H} → length vs ≡ length ms → reader_value (cells ms vs) r h ≡ s → length ms ≡ length s.slots
+  read_words ms vs as_many is = sym (length-cells ms vs as_many) ∙ ap (λ t. length t.slots) is
+
+  -- the contents of a slot, read off the two vectors
+  pub get_or-cells : (ms : List Metadata) (vs : List H) (n : ℕ) (m : Metadata) (v : H) → length vs ≡ length ms
+      → n < length ms → get_or (cells ms vs) n None ≡ cell (meaning (get_or ms n m)) (get_or vs n v)
+  get_or-cells [] vs n m v e h = absurd (omega (arith, h))
+  get_or-cells (x ∷ ms) [] n m v e h = absurd (omega (arith, e))
+  get_or-cells (x ∷ ms) (y ∷ vs) zero m v e h = refl
+  get_or-cells (x ∷ ms) (y ∷ vs) (suc n) m v e h = get_or-cells ms vs n m v (omega (arith, e)) (omega (arith, h))
+
+  -- a slot written in both vectors is written in the list
+  pub set-cells : (ms : List Metadata) (vs : List H) (n : ℕ) (m : Metadata) (v : H) → length vs ≡ length ms → cells (set ms n m) (set vs n v) ≡ set (cells ms vs) n (cell (meaning m) v)
+  set-cells [] vs n m v e = refl
+  set-cells (x ∷ ms) [] n m v e = absurd (omega (arith, e))
+  set-cells (x ∷ ms) (y ∷ vs) zero m v e = refl
+  set-cells (x ∷ ms) (y ∷ vs) (suc n) m v e = ap (λ c. cell (meaning x) y ∷ c) (set-cells ms vs n m v (omega (arith, e)))
+
+  -- empty marks make empty slots
+  pub cells-replicate : (n : ℕ) (m : Metadata) (v : H) → meaning m ≡ None → cells (replicate n m) (replicate n v) ≡ replicate n None
+  cells-replicate zero m v e = refl
+  cells-replicate (suc n) m v e = ap (λ s. cell s v ∷ cells (replicate n m) (replicate n v)) e ∙ ap (λ c. None ∷ c) (cells-replicate n m v e)
+
+  -- they do so whatever the handles are
+  pub cells-emptied : (ms : List Metadata) (vs : List H) (n : ℕ) (m : Metadata) → meaning m ≡ None → ms ≡ replicate n m → length vs ≡ n → cells ms vs ≡ replicate n None
+  cells-emptied ms vs n m e is len = ap (λ x. cells x vs) is ∙ emptied n vs len
+    where
+      emptied : (n : ℕ) (vs : List H) → length vs ≡ n → cells (replicate n m) vs ≡ replicate n None
+      emptied zero vs l = refl
+      emptied (suc n) [] l = absurd (omega (arith, l))
+      emptied (suc n) (v ∷ vs) l = ap (λ s. s ∷ cells (replicate n m) vs) (ap (λ s. cell s v) e) ∙ ap (λ c. None ∷ c) (emptied n vs (omega (arith, l)))
+
+  -- vectors that are filled up with empty marks make empty slots
+  pub filled_cells : (n i j : ℕ) (ms ms' : List Metadata) (vs vs' : List H) (m : Metadata) (v : H) → meaning m ≡ None → ms ≡ [] → vs ≡ []
+      → i ≡ 0 → j ≡ 0 → ms' ≡ take n ms ++ replicate (n - i) m → vs' ≡ take n vs ++ replicate (n - j) v → cells ms' vs' ≡ replicate n None
+  filled_cells n i j ms ms' vs vs' m v e none-ms none-vs ei ej er es =
+      ap (λ x. cells x vs') (er ∙ filled n i ms m none-ms ei) ∙ ap (λ x. cells (replicate n m) x) (es ∙ filled n j vs v none-vs ej) ∙ cells-replicate n m v e
+
+  -- the mark of a slot that is read
+  pub mark_read : (ms : List Metadata) (vs : List H) (n k : ℕ) (m : Metadata) → length vs ≡ length ms
+      → k ≡ n % length (cells ms vs) → k < length ms → m ≡ get_or ms k m → meaning m ≡ mark_of (slot_at (cells ms vs) n)
+  mark_read ms [] n k m same at within is = absurd (omega (arith, same, within))
+  mark_read ms (v ∷ vs) n k m same at within is =
+      ap meaning is ∙ sym (mark_of-cell (meaning (get_or ms k m)) (get_or (v ∷ vs) k v))
+      ∙ ap mark_of (sym (get_or-cells ms (v ∷ vs) k m v same within) ∙ ap (λ j. get_or (cells ms (v ∷ vs)) j None) at)
+
+  -- the handle of a slot that is read
+  pub handle_read : (ms : List Metadata) (vs : List H) (n k : ℕ) (m : Metadata) (v : H) → length vs ≡ length ms
+      → k ≡ n % length (cells ms vs) → k < length ms → v ≡ get_or vs k v → IfSome (slot_at (cells ms vs) n) (λ p. v ≡ p.entry.1)
+  handle_read ms vs n k m v same at within is =
+      subst (λ s. IfSome s (λ p. v ≡ p.entry.1)) (ap (λ w. cell (meaning (get_or ms k m)) w) is
+      ∙ sym (get_or-cells ms vs k m v same within) ∙ ap (λ j. get_or (cells ms vs) j None) at) (handle_of_cell (meaning (get_or ms k m)) v)
+
+  -- the same for a slot named by its number
+  pub at_slot : (ms : List Metadata) (vs : List H) (k : ℕ) → length vs ≡ length ms → k < length ms → k ≡ k % length (cells ms vs)
+  at_slot ms vs k same within = sym (mod-eq_of_lt (omega (arith, within, length-cells ms vs same)))
+
+  pub mark_read_at : (ms : List Metadata) (vs : List H) (k : ℕ) (m : Metadata) → length vs ≡ length ms → k < length ms → m ≡ get_or ms k m → meaning m ≡ mark_of (slot_at (cells ms vs) k)
+  mark_read_at ms vs k m same within is = mark_read ms vs k k m same (at_slot ms vs k same within) within is
+
+  pub handle_read_at : (ms : List Metadata) (vs : List H) (k : ℕ) (v : H) → length vs ≡ length ms → k < length ms → v ≡ get_or vs k v → IfSome (slot_at (cells ms vs) k) (λ p. v ≡ p.entry.1)
+  handle_read_at ms vs k v same within is = handle_read ms vs k k (record { word = 0 }) v same (at_slot ms vs k same within) within is
+
+  pub mark_read_or : (ms : List Metadata) (vs : List H) (k : ℕ) (z : Metadata) → length vs ≡ length ms → k < length ms → meaning (get_or ms k z) ≡ mark_of (slot_at (cells ms vs) k)
+  mark_read_or ms [] k z same within = absurd (omega (arith, same, within))
+  mark_read_or ms (v ∷ vs) k z same within =
+      sym (mark_of-cell (meaning (get_or ms k z)) (get_or (v ∷ vs) k v))
+      ∙ ap mark_of (sym (get_or-cells ms (v ∷ vs) k z v same within) ∙ ap (λ j. get_or (cells ms (v ∷ vs)) j None) (at_slot ms (v ∷ vs) k same within))
+
+module _ {H : Type 0} where
+  -- a handle that is written alone
+  pub relabelled_cells : (ms : List Metadata) (vs : List H) (n : ℕ) (v : H) → length vs ≡ length ms → n < length ms
+      → cells ms (set vs n v) ≡ set (cells ms vs) n (cell (mark_of (slot_at (cells ms vs) n)) v)
+  relabelled_cells ms vs n v same within =
+      let z : Metadata = record { word = 0 } in
+      ap (λ x. cells x (set vs n v)) (sym (set-get_or ms n z)) ∙ set-cells ms vs n (get_or ms n z) v same ∙ ap (λ m. set (cells ms vs) n (cell m v)) (mark_read_or ms vs n z same within)
+
+-- a vector whose slice was written contains what the slice does
+pub kept_whole : {X : Type 0} (xs ys : List X) (n : ℕ) → length xs ≡ n → take n (xs ++ ys) ≡ xs
+kept_whole xs ys n len = ap (λ k. take k (xs ++ ys)) (sym len) ∙ take-append_seam xs ys

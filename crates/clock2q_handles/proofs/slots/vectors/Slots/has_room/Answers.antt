@@ -1,0 +1,65 @@
+use Rattle.std.proofs.Common.{◌≡◌, ◌≤◌, ◌<◌, suc, inl, inr, arith, ap, sym, subst}
+use Rattle.std.proofs.lemmas.Bool.{cases_lt}
+use Rattle.clock2q_handles.specs.Layout.{slot_at, reach, longest_reach}
+use Rattle.clock2q_handles.specs.Slots.{mark_reach, meaning}
+use Rattle.clock2q_handles.proofs.shifts.Moves.{refused, occupied_of_meaning, vacant_of_meaning, reach_of_meaning}
+use Rattle.clock2q_handles.proofs.shifts.Carrying.{IsPassing, pass_begins, pass_slot, pass_lap, pass_goes, pass_room, pass_far}
+use Rattle.clock2q_handles.proofs.slots.vectors.Slots.has_room.Given.{Over}
+use Rattle.clock2q_handles.proofs.slots.vectors.Slots.has_room.Goals.{After-after-slot}
+use Rattle.clock2q_handles.proofs.slots.vectors.Slots.has_room.Goals as goal
+
+pub returns-then-not-is_near-clause-far : goal.returns-then-not-is_near-clause-far
+returns-then-not-is_near-clause-far g c = elim (cases_lt longest_reach (mark_reach c.args.gap.now.mark)) [
+  | inl far ↦ inl far
+  | inr near ↦ absurd (refused c.is_near.result c.is_near.ensures c.if-not-is_near.true (omega (arith, near, ap mark_reach c.wanted.ensures)))
+]
+
+pub loop-metadata-init : goal.loop-metadata-init
+loop-metadata-init g c = record {
+  own = omega (arith, c.is_near.ensures.0 c.if-not-is_near.false, ap mark_reach c.wanted.ensures);
+  passing = subst (IsPassing c.args.self.now.slots c.args.gap.now.position) (sym c.slot-slot.ensures) (pass_begins c.args.self.now.slots c.args.gap.now.position c.requires.within);
+}
+
+pub metadata-metadata-requires : goal.metadata-metadata-requires
+metadata-metadata-requires g c = pass_slot c.args.self.now.slots c.args.gap.now.position c.loop-metadata.invariant.passing
+
+pub returns-then-is_empty-clause-room : goal.returns-then-is_empty-clause-room
+returns-then-is_empty-clause-room g c =
+    pass_room c.args.self.now.slots c.args.gap.now.position c.loop-metadata.invariant.passing c.loop-metadata.invariant.own
+    (vacant_of_meaning _ _ (c.is_empty.ensures.0 c.if-is_empty.true) c.metadata-metadata.ensures)
+
+pub returns-then-not-can_move_on-clause-far : goal.returns-then-not-can_move_on-clause-far
+returns-then-not-can_move_on-clause-far g c =
+    let here = reach_of_meaning (meaning c.metadata-metadata.result) (slot_at c.args.self.now.slots c.loop-metadata.slot) c.metadata-metadata.ensures in
+    let far : longest_reach ≤ reach (slot_at c.args.self.now.slots c.loop-metadata.slot) = elim (cases_lt 16777214 (mark_reach (meaning c.metadata-metadata.result))) [
+      | inl far ↦ omega (arith, far, here)
+      | inr near ↦ absurd (refused c.can_move_on.result c.can_move_on.ensures c.if-not-can_move_on.true near)
+    ] in
+    pass_far c.args.self.now.slots c.args.gap.now.position c.loop-metadata.invariant.passing c.args.gap.now.mark far
+
+pub after-slot-requires : goal.after-slot-requires
+after-slot-requires g c = pass_slot c.args.self.now.slots c.args.gap.now.position c.loop-metadata.invariant.passing
+
+-- the entry there may move on, and the walk continues past it
+on : (g : Over) (c : After-after-slot g) → 0 < reach (slot_at c.args.self.now.slots c.loop-metadata.slot) → reach (slot_at c.args.self.now.slots c.loop-metadata.slot) < longest_reach
+    → (next : IsPassing c.args.self.now.slots c.args.gap.now.position c.after-slot.result) × (next.steps ≡ suc c.loop-metadata.invariant.passing.steps)
+on g c some near = pass_goes c.args.self.now.slots c.args.gap.now.position c.loop-metadata.invariant.passing c.requires.tidy some near c.after-slot.result c.after-slot.ensures.after
+
+pub loop-metadata-smaller : goal.loop-metadata-smaller
+loop-metadata-smaller g c =
+    let slots = c.args.self.now.slots in
+    let s = c.args.gap.now.position in
+    let some = occupied_of_meaning c.is_empty.result (meaning c.metadata-metadata.result) (slot_at slots c.loop-metadata.slot) c.is_empty.ensures c.if-is_empty.false c.metadata-metadata.ensures in
+    let here = reach_of_meaning (meaning c.metadata-metadata.result) (slot_at slots c.loop-metadata.slot) c.metadata-metadata.ensures in
+    let next = on g (goal.at.loop-metadata-smaller g c).After-after-slot some (omega (arith, c.can_move_on.ensures.0 c.if-not-can_move_on.false, here)) in
+    omega (arith, pass_lap slots s c.loop-metadata.invariant.passing, pass_lap slots s next.0, next.1, next.0.within)
+
+pub loop-metadata-preserved : goal.loop-metadata-preserved
+loop-metadata-preserved g c =
+    let slots = c.args.self.now.slots in
+    let some = occupied_of_meaning c.is_empty.result (meaning c.metadata-metadata.result) (slot_at slots c.loop-metadata.slot) c.is_empty.ensures c.if-is_empty.false c.metadata-metadata.ensures in
+    let here = reach_of_meaning (meaning c.metadata-metadata.result) (slot_at slots c.loop-metadata.slot) c.metadata-metadata.ensures in
+    record {
+      own = c.loop-metadata.invariant.own;
+      passing = (on g (goal.at.loop-metadata-preserved g c).After-after-slot some (omega (arith, c.can_move_on.ensures.0 c.if-not-can_move_on.false, here))).0;
+    }

@@ -1,0 +1,92 @@
+use Rattle.std.proofs.Common.{rules, ◌≡◌, ◌+◌, ◌<◌, ◌%◌, length, arith, ap, sym, ◌∙◌, subst, refl, get_or, length-set, None}
+use Rattle.std.proofs.Math.ListN.{set}
+use Rattle.clock2q_handles.specs.Layout.{slot_at}
+use Rattle.clock2q_handles.specs.Slots.{cell, cells, meaning}
+use Rattle.clock2q_handles.proofs.layout.Periods.{lap}
+use Rattle.clock2q_handles.proofs.shifts.Cells.{length-cells, mark_read_or, handle_read_at}
+use Rattle.clock2q_handles.proofs.shifts.Moves.{near_of_meaning}
+use Rattle.clock2q_handles.proofs.shifts.Carrying.{CloseState, close_begins, close_slot, close_lap, close_goes, close_ends}
+use Rattle.clock2q_handles.proofs.slots.vectors.close.Given.{Over}
+use Rattle.clock2q_handles.proofs.slots.vectors.close.Goals.{After-after-next, After-write}
+use Rattle.clock2q_handles.proofs.slots.vectors.close.Goals as goal
+
+pub loop-word-init : goal.loop-word-init
+loop-word-init g c = record {
+  pair = c.requires.pair;
+  len = refl;
+  state = close_begins (cells c.args.metadata.now c.args.handles.now) c.args.slot c.args.writes.now.total c.requires.within c.requires.occupied;
+}
+
+pub after-next-requires-clause-within : goal.after-next-requires-clause-within
+after-next-requires-clause-within g c =
+    let at = close_slot (cells c.args.metadata.now c.args.handles.now) (cells c.loop-word.metadata c.loop-word.handles) c.requires.tidy _ _ _ _ c.loop-word.invariant.state in
+    omega (arith, at, length-cells c.loop-word.metadata c.loop-word.handles c.loop-word.invariant.pair.same)
+
+pub offset_bounds-metadata-next : goal.offset_bounds-metadata-next
+offset_bounds-metadata-next g c = let l : c.after-next.result < length c.args.metadata.now = omega (arith, c.after-next.ensures.within, c.loop-word.invariant.len) in search rules
+
+pub offset_bounds-handles-next : goal.offset_bounds-handles-next
+offset_bounds-handles-next g c =
+    let l : c.after-next.result < length c.args.handles.now = omega (arith, c.after-next.ensures.within, c.loop-word.invariant.pair.same, c.loop-word.auto.handles) in search rules
+
+pub bounds-handles-next : goal.bounds-handles-next
+bounds-handles-next g c = omega (arith, c.after-next.ensures.within, c.loop-word.invariant.pair.same)
+
+pub write-requires-clause-within : goal.write-requires-clause-within
+write-requires-clause-within g c = close_slot (cells c.args.metadata.now c.args.handles.now) (cells c.loop-word.metadata c.loop-word.handles) c.requires.tidy _ _ _ _ c.loop-word.invariant.state
+
+-- the slot after it, in the slots that contracts see
+next : (g : Over) (c : After-after-next g) → c.after-next.result ≡ (c.loop-word.hole + 1) % length (cells c.loop-word.metadata c.loop-word.handles)
+next g c = c.after-next.ensures.after ∙ ap (λ m. (c.loop-word.hole + 1) % m) (sym (length-cells c.loop-word.metadata c.loop-word.handles c.loop-word.invariant.pair.same))
+
+-- what the next turn starts from
+more : (g : Over) (c : After-write g) → c.after-next.result ≡ (c.loop-word.hole + 1) % length (cells c.loop-word.metadata c.loop-word.handles)
+    → CloseState (cells c.args.metadata.now c.args.handles.now) (cells c.write.new.metadata c.write.new.handles)
+    c.args.slot c.after-next.result c.args.writes.now.total (c.loop-word.writes.total + 1)
+more g c on =
+    close_goes (cells c.args.metadata.now c.args.handles.now) (cells c.loop-word.metadata c.loop-word.handles)
+    c.requires.tidy c.args.slot c.loop-word.hole _ _ c.loop-word.invariant.state c.after-next.result on (cells c.write.new.metadata c.write.new.handles)
+    (meaning (get_or c.loop-word.metadata c.after-next.result (record { word = 0 }))) (meaning c.one_nearer.result) c.index-handles-next.result
+    (mark_read_or c.loop-word.metadata c.loop-word.handles c.after-next.result (record { word = 0 }) c.loop-word.invariant.pair.same c.after-next.ensures.within)
+    (c.can_move_back.ensures.0 c.if-not-can_move_back.false) c.one_nearer.ensures
+    (handle_read_at c.loop-word.metadata c.loop-word.handles c.after-next.result c.index-handles-next.result c.loop-word.invariant.pair.same c.after-next.ensures.within c.index-handles-next.is)
+    c.write.ensures.written
+
+pub loop-word-smaller : goal.loop-word-smaller
+loop-word-smaller g c =
+    let before = goal.at.loop-word-smaller g c in
+    let state = c.loop-word.invariant.state in
+    let then = more g before.After-write (next g before.After-after-next) in
+    let old = cells c.args.metadata.now c.args.handles.now in
+    let was : lap (length old) c.args.slot c.loop-word.hole ≡ state.steps = close_lap old (cells c.loop-word.metadata c.loop-word.handles) c.requires.tidy _ _ _ _ state in
+    let is : lap (length old) c.args.slot c.after-next.result ≡ then.steps = close_lap old (cells c.write.new.metadata c.write.new.handles) c.requires.tidy _ _ _ _ then in
+    omega (arith, was, is, then.within, state.writes, then.writes)
+
+pub loop-word-preserved : goal.loop-word-preserved
+loop-word-preserved g c =
+    let before = goal.at.loop-word-preserved g c in
+    record {
+      pair = c.write.ensures.pair;
+      len = c.write.ensures.len ∙ c.loop-word.invariant.len;
+      state = subst (λ w. CloseState (cells c.args.metadata.now c.args.handles.now) (cells c.write.new.metadata c.write.new.handles) c.args.slot c.after-next.result c.args.writes.now.total w)
+          (sym c.write.ensures.counted) (more g before.After-write (next g before.After-after-next));
+    }
+
+pub write-requires-2-clause-within : goal.write-requires-2-clause-within
+write-requires-2-clause-within g c = close_slot (cells c.args.metadata.now c.args.handles.now) (cells c.loop-word.metadata c.loop-word.handles) c.requires.tidy _ _ _ _ c.loop-word.invariant.state
+
+pub returns-clause-taken : goal.returns-clause-taken
+returns-clause-taken g c =
+    let now = cells c.loop-word.metadata c.loop-word.handles in
+    let written = c.write-2.ensures.written ∙ ap (λ m. set now c.loop-word.hole (cell m c.default.result)) c.empty.ensures in
+    let on = next g (goal.at.returns-clause-taken g c).After-after-next in
+    let near = near_of_meaning c.can_move_back.result _ (slot_at now c.after-next.result) c.can_move_back.ensures c.if-not-can_move_back.true
+    (mark_read_or c.loop-word.metadata c.loop-word.handles c.after-next.result (record { word = 0 }) c.loop-word.invariant.pair.same c.after-next.ensures.within) in
+    record {
+      closes = λ h n e come was.
+          let ended =
+          close_ends (cells c.args.metadata.now c.args.handles.now) now c.requires.tidy c.args.slot c.loop-word.hole _ _
+          c.loop-word.invariant.state c.after-next.result on (cells c.write-2.new.metadata c.write-2.new.handles) near written h n e come was in
+          (ended.0, ended.1, omega (arith, ended.2, c.write-2.ensures.counted));
+      len = ap length written ∙ length-set now c.loop-word.hole None ∙ c.loop-word.invariant.state.len;
+    }

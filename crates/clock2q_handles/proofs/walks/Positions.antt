@@ -1,0 +1,97 @@
+-- Where a home's entries are and its walks end, as slots show it.
+use Rattle.std.proofs.Common.{◌≡◌, ℕ, suc, ◌+◌, ◌-◌, ◌%◌, ◌<◌, ◌≤◌, refl, ap, sym, ◌∙◌, arith, List, [], ◌∷◌, ◌++◌, length, take, drop, set, Option, Some, slice_get}
+use Rattle.std.proofs.Math.Seq.{take-append_seam, set-append_seam}
+use Rattle.clock2q_handles.specs.Homes.{top, listed, count, with_list}
+use Rattle.clock2q_handles.specs.Layout.{Placed, placed, slot_at, reach, met, homes_of, layout, spill_of, IsTidy}
+use Rattle.clock2q_handles.specs.Slots.{Mark, mark_reach}
+use Rattle.clock2q_handles.specs.Shifts.{HasCome}
+use Rattle.clock2q_handles.specs.Candidates.{EndsAt}
+use Rattle.clock2q_handles.specs.Positions.{StandsAt, gap_value, gap_of, with_entry}
+use Rattle.clock2q_handles.proofs.layout.Reading.{slot-again}
+use Rattle.clock2q_handles.proofs.layout.Periods.{rem-same}
+use Rattle.clock2q_handles.proofs.layout.Walk.{passed, stop}
+use Rattle.clock2q_handles.proofs.shifts.Carrying.{slot_from}
+use Rattle.clock2q_handles.proofs.walks.Cursors.{rem-plus}
+use Rattle.clock2q_handles.proofs.layout.FewerEntries.{walk-is}
+use Rattle.clock2q_handles.proofs.layout.TidyLayout.{length-homes_of, layout-standing, tidy-layout, tidy-room, tidy-vacant, capacity-lt}
+use Rattle.clock2q_handles.proofs.shifts.Changes.{read-split, read-stop, read-count, list_without}
+use Rattle.clock2q_handles.proofs.shifts.Steps.{past_home}
+use Rattle.clock2q_handles.proofs.walks.Yields.{walk-at, walk-beyond}
+
+module _ {E : Type 0} where
+  slice_get-seam : (xs ys : List E) (e : E) → slice_get (xs ++ e ∷ ys) (length xs) ≡ Some e
+  slice_get-seam [] ys e = refl
+  slice_get-seam (x ∷ xs) ys e = slice_get-seam xs ys e
+
+  -- if there is an entry, there are slots
+  pub some_homes : (homes : List (List E)) (x i : ℕ) (e : E) → slice_get (listed homes x) i ≡ Some e → 0 < length homes
+  some_homes [] x i e is = absurd (cc)
+  some_homes (es ∷ homes) x i e is = omega arith
+
+  -- the slot of an entry, by its displacement
+  pub position_at : (slots : List (Option (Placed E))) (x i n : ℕ) (e : E) → StandsAt (homes_of slots) x i e n → n ≡ (x + (spill_of (homes_of slots) x + i)) % length slots
+  position_at slots x i n e stands =
+      let q : x + spill_of (homes_of slots) x + i ≡ x + (spill_of (homes_of slots) x + i) = omega arith in
+      stands.slot ∙ ap (λ m. (x + spill_of (homes_of slots) x + i) % m) (length-homes_of slots) ∙ ap (λ k. k % length slots) q
+
+  -- the contents of a slot that is counted past the last
+  pub slot_near : (slots : List (Option (Placed E))) (k n : ℕ) → n ≡ k % length slots → slot_at slots n ≡ slot_at slots k
+  slot_near slots k n at = ap (slot_at slots) at ∙ rem-same (slot_at slots) (length slots) (slot-again slots) k
+
+  module _ (slots : List (Option (Placed E))) (tidy : IsTidy slots) (some : 0 < length slots) where
+    -- the contents of slot s, n past the home of x
+    pub past_at : (x n s : ℕ) → s ≡ (x % length slots + n) % length slots → slot_at slots s ≡ slot_at slots (x + n)
+    past_at x n s at = slot_from slots (x % length slots) n s at ∙ past_home slots (length slots) (x % length slots) x refl refl n
+
+    -- entry i of the home of x is `spill + i` past it
+    pub standing : (x i n : ℕ) (e : E) → StandsAt (homes_of slots) x i e n → slot_at slots (x + (spill_of (homes_of slots) x + i)) ≡ Some (placed (spill_of (homes_of slots) x + i) e)
+    standing x i n e stands =
+        let homes = homes_of slots in
+        let room : 0 < length homes = omega (arith, some, length-homes_of slots) in
+        let q : x + (spill_of homes x + i) ≡ x + spill_of homes x + i = omega arith in
+        ap (λ s. slot_at s (x + (spill_of homes x + i))) (tidy-layout slots tidy) ∙ ap (slot_at (layout homes)) q
+        ∙ layout-standing homes (omega (arith, tidy-room slots tidy, capacity-lt (length homes) room)) x i e stands.entry
+
+    module _ (x d : ℕ) (e : E) (here : slot_at slots (x + d) ≡ Some (placed d e)) where
+      -- it is within a lap
+      pub here_within : d < length slots
+      here_within = let beyond = walk-beyond slots tidy x d some (omega (arith, ap reach here)) in omega (arith, beyond.0, beyond.1)
+
+      -- the entries of its home before it
+      pub here_index : (i : ℕ) → spill_of (homes_of slots) x + i ≡ d → i ≡ length (met (slot_at slots) x 0 d)
+      here_index i at = omega (arith, at, read-count slots tidy some x d (ap reach here))
+
+      pub here_stands : (s : ℕ) → s ≡ (x + d) % length slots → StandsAt (homes_of slots) x (length (met (slot_at slots) x 0 d)) e s
+      here_stands s at =
+          let before : List E = met (slot_at slots) x 0 d in
+          let q : x + d ≡ x + spill_of (homes_of slots) x + length before = omega (arith, read-count slots tidy some x d (ap reach here)) in
+          record {
+            entry = ap (λ es. slice_get es (length before)) (read-split slots x d e here_within here) ∙ slice_get-seam before (met (slot_at slots) x (suc d) (length slots - suc d)) e;
+            slot = at ∙ ap (λ k. k % length slots) q ∙ ap (λ m. (x + spill_of (homes_of slots) x + length before) % m) (sym (length-homes_of slots));
+          }
+
+      -- and with another in its place
+      pub here_with : (i : ℕ) (e' : E) → i ≡ length (met (slot_at slots) x 0 d)
+          → with_list (homes_of slots) x (met (slot_at slots) x 0 d ++ e' ∷ met (slot_at slots) x (suc d) (length slots - suc d)) ≡ with_entry (homes_of slots) x i e'
+      here_with i e' at =
+          let before : List E = met (slot_at slots) x 0 d in
+          let after : List E = met (slot_at slots) x (suc d) (length slots - suc d) in
+          let other : set (listed (homes_of slots) x) i e' ≡ before ++ e' ∷ after =
+          ap (λ k. set (listed (homes_of slots) x) k e') at ∙ ap (λ es. set es (length before) e') (read-split slots x d e here_within here) ∙ set-append_seam before e after e' in
+          ap (with_list (homes_of slots) x) (sym other)
+
+module _ {H : Type 0} (slots : List (Option (Placed (ℕ × H)))) (tidy : IsTidy slots) (some : 0 < length slots) (x n : ℕ) where
+  -- a walk ends at the gap
+  pub ends_gap : (s : Mark) → EndsAt slots x s n → gap_value n s ≡ gap_of (homes_of slots) x
+  ends_gap s ends =
+      let homes = homes_of slots in
+      let d : ℕ = ends.walk.distance in
+      let come = ends.walk.come in
+      let past = past_home slots (length slots) (x % length slots) x refl refl in
+      let end : reach (slot_at slots (x + d)) ≤ d = omega (arith, ends.stop, ap mark_reach ends.walk.mark, ap reach (past_at slots tidy some x d n come.slot)) in
+      let sum : d ≡ spill_of homes x + count homes x =
+      omega (arith, walk-at slots tidy x d some (λ j l. omega (arith, come.passed j l, ap reach (past j))) end, walk-is homes x (omega (arith, some, length-homes_of slots))) in
+      let q : x + d ≡ x + spill_of homes x + count homes x = omega (arith, sum) in
+      ap (λ k. gap_value k s)
+      (come.slot ∙ rem-plus (length slots) x d ∙ ap (λ k. k % length slots) q ∙ ap (λ m. (x + spill_of homes x + count homes x) % m) (sym (length-homes_of slots)))
+      ∙ ap (gap_value ((x + spill_of homes x + count homes x) % length homes)) (ends.walk.mark ∙ ap (λ k. Some (k, top x)) sum)

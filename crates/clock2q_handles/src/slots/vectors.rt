@@ -1,0 +1,283 @@
+//! The two vectors of a table's slots. Only this module writes them, and it counts each write of a
+//! slot.
+ghost use Rattle.clock2q_handles.specs.Found.{TakesOutAt};
+ghost use Rattle.clock2q_handles.specs.Layout.{IsTidy, slot_at, reach};
+ghost use Rattle.clock2q_handles.specs.Shifts.{HasRoomAt, PutsAt};
+ghost use Rattle.clock2q_handles.specs.Slots.{cell, cells, meaning, ArePaired, IsSlotCount};
+ghost use Rattle.std.specs.Prelude.{◌≡◌, ◌+◌, ◌%◌, ◌^◌, ◌<◌, [], None, IfOk, IfSome, length, replicate, set};
+
+use crate::gap::Gap;
+use crate::metadata::Metadata;
+use crate::slots::SlotsRef;
+use clock2q_count::Count;
+use std::alloc::{AllocError, Allocator};
+use std::marker::Model;
+
+/// The slots: a power of two of them, or none, and the number of writes to them.
+#[derive(Drop)]
+pub(crate) struct Slots<H, A: Allocator> {
+    metadata: Vec<Metadata, A>,
+    handles: Vec<H, A>,
+    writes: Count,
+}
+
+impl<H, A: Allocator> Model for Slots<H, A> {
+    ghost use Rattle.clock2q_handles.specs.Slots.{SlotsValue, slots_code, slots_value, cells, ArePaired};
+
+    ghost Value = { SlotsValue H };
+
+    ghost coded = { slots_code H.code };
+
+    ghost view = { λ s. slots_value (cells s.metadata.items s.handles.items) s.writes.total };
+
+    ghost invariant = { λ s. ArePaired s.metadata.items s.handles.items };
+}
+
+impl<H: Copy + Default, A: Allocator> Slots<H, A> {
+    ghost use Rattle.clock2q_handles.specs.Slots.{slots_value, mark_of};
+
+    /// Returns no slots, without allocating.
+    pub(crate) fn new(alloc: A) -> Slots<H, A>
+    where
+        A: Copy,
+        ensures { result ≡ slots_value [] 0 }
+    {
+        Slots {
+            metadata: Vec::new(alloc),
+            handles: Vec::new(alloc),
+            writes: Count::new(),
+        }
+    }
+
+    /// Returns `count` empty slots.
+    pub(crate) fn with_count(alloc: A, count: usize) -> Result<Slots<H, A>, AllocError>
+    where
+        A: Copy,
+        requires { IsSlotCount count }
+        ensures { IfOk result (λ s. s ≡ slots_value (replicate count None) 0) }
+    {
+        let mut metadata = Vec::with_capacity(alloc, count)?;
+        let mut handles = Vec::with_capacity(alloc, count)?;
+        metadata.resize(count, Metadata::empty())?;
+        handles.resize(count, H::default())?;
+        Ok(Slots {
+            metadata,
+            handles,
+            writes: Count::new(),
+        })
+    }
+
+    pub(crate) fn allocator(&self) -> A
+    where
+        A: Copy,
+    {
+        *self.metadata.allocator()
+    }
+
+    /// Adds the writes counted for the slots that these replace.
+    pub(crate) fn take_over_writes(&mut self, replaced: &Slots<H, A>)
+        ensures counted { self.new ≡ slots_value self.old.slots (self.old.writes + replaced.now.writes) }
+    {
+        self.writes.raise(&replaced.writes);
+    }
+
+    /// Returns a view that reads the slots.
+    #[inline(always)]
+    pub(crate) fn view(&self) -> SlotsRef<'_, H>
+        ensures shown { cells result.metadata.now result.handles.now ≡ self.now.slots }
+        ensures count { length result.metadata.now ≡ length self.now.slots }
+        ensures same { length result.handles.now ≡ length result.metadata.now }
+    {
+        SlotsRef::new(self.metadata.as_slice(), self.handles.as_slice())
+    }
+
+    /// Returns the number of slots.
+    pub(crate) fn count(&self) -> usize
+        ensures count { result ≡ length self.now.slots }
+        ensures power { IsSlotCount (length self.now.slots) }
+        ensures small { length self.now.slots < 2 ^ 63 }
+    {
+        self.metadata.len()
+    }
+
+    pub(crate) fn metadata(&self, slot: usize) -> Metadata
+        requires { slot < length self.now.slots }
+        ensures { meaning result ≡ mark_of (slot_at self.now.slots slot) }
+    {
+        self.metadata[slot]
+    }
+
+    pub(crate) fn handle(&self, slot: usize) -> H
+        requires { slot < length self.now.slots }
+        ensures { IfSome (slot_at self.now.slots slot) (λ p. result ≡ p.entry.1) }
+    {
+        self.handles[slot]
+    }
+
+    /// Writes the handle of a slot.
+    #[inline(always)]
+    pub(crate) fn relabel_at(&mut self, slot: usize, handle: H)
+        requires { slot < length self.old.slots }
+        ensures { self.new ≡ slots_value (set self.old.slots slot (cell (mark_of (slot_at self.old.slots slot)) handle)) (self.old.writes + 1) }
+    {
+        self.handles[slot] = handle;
+        self.writes.tick();
+    }
+
+    /// Inserts an entry at a gap. The rest of the run moves on by one slot.
+    #[inline(always)]
+    pub(crate) fn put_at(&mut self, gap: &Gap, handle: H)
+        requires tidy { IsTidy self.old.slots }
+        requires within { gap.now.position < length self.old.slots }
+        requires room { HasRoomAt self.old.slots gap.now.mark gap.now.position }
+        ensures puts { PutsAt self.old.slots self.new.slots gap.now.mark gap.now.position handle self.old.writes self.new.writes }
+        ensures small { length self.old.slots < 2 ^ 63 }
+    {
+        carry(
+            self.metadata.as_mut_slice(),
+            self.handles.as_mut_slice(),
+            &mut self.writes,
+            gap.slot(),
+            gap.wanted().metadata(),
+            handle,
+        );
+    }
+
+    /// Removes the entry in a slot. The entries after it move back by one slot, up to an empty slot
+    /// or an entry at its home.
+    #[inline(always)]
+    pub(crate) fn take_out(&mut self, slot: usize)
+        requires tidy { IsTidy self.old.slots }
+        requires within { slot < length self.old.slots }
+        requires occupied { 0 < reach (slot_at self.old.slots slot) }
+        ensures taken { TakesOutAt self.old.slots self.new.slots slot self.old.writes self.new.writes }
+    {
+        close(
+            self.metadata.as_mut_slice(),
+            self.handles.as_mut_slice(),
+            &mut self.writes,
+            slot,
+        );
+    }
+
+    /// Empties every slot. The handles stay in memory, but no lookup reaches them.
+    pub(crate) fn clear(&mut self)
+        ensures { self.new ≡ slots_value (replicate (length self.old.slots) None) (self.old.writes + length self.old.slots) }
+    {
+        fill(
+            self.metadata.as_mut_slice(),
+            Metadata::empty(),
+            &mut self.writes,
+        );
+    }
+}
+
+/// Writes an entry to a slot, and moves the entries from there on by one slot, up to an empty slot.
+#[inline(always)]
+fn carry<H: Copy>(
+    metadata: &mut [Metadata],
+    handles: &mut [H],
+    writes: &mut Count,
+    mut slot: usize,
+    mut word: Metadata,
+    mut handle: H,
+)
+    requires pair { ArePaired metadata.old handles.old }
+    requires tidy { IsTidy (cells metadata.old handles.old) }
+    requires within { slot < length (cells metadata.old handles.old) }
+    requires room { HasRoomAt (cells metadata.old handles.old) (meaning word) slot }
+    ensures puts { PutsAt (cells metadata.old handles.old) (cells metadata.new handles.new) (meaning word) slot handle writes.old.total writes.new.total }
+    ensures pair { ArePaired metadata.new handles.new }
+    ensures len { length metadata.new ≡ length metadata.old }
+{
+    let mut there = metadata[slot];
+    while !there.is_empty() {
+        let held = handles[slot];
+        write(metadata, handles, writes, slot, word, handle);
+        word = there.one_further();
+        handle = held;
+        slot = after(slot, metadata.len());
+        there = metadata[slot];
+    }
+    write(metadata, handles, writes, slot, word, handle);
+}
+
+/// Empties a slot, once the entries after it have moved back by one slot, up to an empty slot or an
+/// entry at its home.
+#[inline(always)]
+fn close<H: Copy + Default>(
+    metadata: &mut [Metadata],
+    handles: &mut [H],
+    writes: &mut Count,
+    slot: usize,
+)
+    requires pair { ArePaired metadata.old handles.old }
+    requires tidy { IsTidy (cells metadata.old handles.old) }
+    requires within { slot < length (cells metadata.old handles.old) }
+    requires occupied { 0 < reach (slot_at (cells metadata.old handles.old) slot) }
+    ensures taken { TakesOutAt (cells metadata.old handles.old) (cells metadata.new handles.new) slot writes.old.total writes.new.total }
+    ensures pair { ArePaired metadata.new handles.new }
+    ensures len { length metadata.new ≡ length metadata.old }
+{
+    let mut hole = slot;
+    loop {
+        let next = after(hole, metadata.len());
+        let word = metadata[next];
+        if !word.can_move_back() {
+            break;
+        }
+        let handle = handles[next];
+        write(metadata, handles, writes, hole, word.one_nearer(), handle);
+        hole = next;
+    }
+    write(
+        metadata,
+        handles,
+        writes,
+        hole,
+        Metadata::empty(),
+        H::default(),
+    );
+}
+
+/// Writes a slot in both vectors, and counts the write.
+fn write<H: Copy>(
+    metadata: &mut [Metadata],
+    handles: &mut [H],
+    writes: &mut Count,
+    slot: usize,
+    word: Metadata,
+    handle: H,
+)
+    requires pair { ArePaired metadata.old handles.old }
+    requires within { slot < length (cells metadata.old handles.old) }
+    ensures written { cells metadata.new handles.new ≡ set (cells metadata.old handles.old) slot (cell (meaning word) handle) }
+    ensures counted { writes.new.total ≡ writes.old.total + 1 }
+    ensures pair { ArePaired metadata.new handles.new }
+    ensures len { length metadata.new ≡ length metadata.old }
+{
+    metadata[slot] = word;
+    handles[slot] = handle;
+    writes.tick();
+}
+
+/// Returns the slot after `slot`, of `count` slots: slot 0 after the last.
+pub(super) fn after(slot: usize, count: usize) -> usize
+    requires count { IsSlotCount count }
+    requires within { slot < count }
+    ensures after { result ≡ (slot + 1) % count }
+    ensures within { result < count }
+{
+    (slot + 1) & (count - 1)
+}
+
+/// Writes the same word to each slot, and counts the slots as written.
+fn fill(metadata: &mut [Metadata], word: Metadata, writes: &mut Count)
+    ensures filled { metadata.new ≡ replicate (length metadata.old) word }
+    ensures counted { writes.new.total ≡ writes.old.total + length metadata.old }
+{
+    for at in 0..metadata.len() {
+        metadata[at] = word;
+        writes.tick();
+    }
+}

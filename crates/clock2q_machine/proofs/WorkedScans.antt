@@ -1,0 +1,35 @@
+-- Scans worked out by hand: which keys of Main leave, and what stays unchanged.
+use Rattle.std.proofs.Common.{◌≡◌, ℕ, Bool, false, true, eqb, List, [], ◌∷◌, ◌++◌, map, refl}
+use Rattle.std.specs.Prelude.{None}
+use Rattle.std.specs.List.{range_with_len}
+use Rattle.clock2q_machine.specs.Machine.{vacancy}
+use Rattle.clock2q_machine.specs.Calls.{Get}
+use Rattle.clock2q_machine.specs.Steps.{after_all}
+use Rattle.clock2q_machine.specs.Scans.{scan, set_in_small, IsScan, left_main}
+use Rattle.clock2q_machine.proofs.WorkedRuns.{puts, gets, state}
+
+-- each number of a range as the value of itself
+abbrev numbers : ℕ → ℕ → List (ℕ × ℕ)
+numbers from n = map (λ k. (k, k)) (range_with_len from n)
+
+-- a full cache of twenty, in which old key 1 and young key 2 of Small were hit: key 1 is promoted to Main, and key 3
+-- leaves
+one_leaves : let m = state 20 (puts 1 20 ++ Get 1 ∷ Get 2 ∷ []) in
+    let later = after_all eqb (scan (numbers 21 60)) m in
+    (vacancy m ≡ None) × ((set_in_small m ≡ 1) × ((left_main eqb m later ≡ 1) × (map (λ e. e.key) later.main ≡ range_with_len 4 17 ++ 1 ∷ [])))
+one_leaves = (refl, (refl, (refl, refl)))
+
+-- if no old key of Small was hit, Main is unchanged, including its bits and hand
+none_leaves : let m = state 20 (puts 1 20 ++ gets 5 3) in
+    let later = after_all eqb (scan (numbers 21 60)) m in
+    (set_in_small m ≡ 0) × ((left_main eqb m later ≡ 0) × (map {B = ℕ × Bool} (λ e. (e.key, e.bit)) later.main
+    ≡ (3, false) ∷ (4, false) ∷ (5, true) ∷ (6, true) ∷ (7, true) ∷ map {B = ℕ × Bool} (λ k. (k, false)) (range_with_len 8 13)))
+none_leaves = (refl, (refl, refl))
+
+-- a scan requires that none of its keys is known: key 2 is remembered, and enters Main in place of key 3
+a_key_that_is_remembered : let m = state 20 (puts 1 20 ++ puts 21 2) in
+    (m.history ≡ 2 ∷ 1 ∷ []) × (left_main eqb m (after_all eqb (scan ((2, 2) ∷ [])) m) ≡ 1)
+a_key_that_is_remembered = (refl, refl)
+
+its_keys_differ : IsScan eqb ((21, 21) ∷ (22, 22) ∷ []) (state 20 (puts 1 20))
+its_keys_differ = (refl, ((refl, tt), (refl, (tt, tt))))
