@@ -1,11 +1,11 @@
 //! A fixed-capacity key-value cache with Clock2Q+ replacement, its calls as data, and the handle
 //! table that it looks keys up through.
 //!
-//! A [`Cache`] shares its capacity out among two queues. New keys enter Small, or Main while the
-//! cache isn't full and Small has its share. What is hit in Small once it is no longer among the
-//! newest, the window, goes on to Main, a ring in which a hand gives each entry that was hit a
-//! second chance. Keys that Small evicts are remembered for a while without their values, and one
-//! that comes back enters Main at once.
+//! A [`Cache`] divides its capacity between two queues. New keys enter Small, or Main while the
+//! cache isn't full and Small has its share. A key in Small stays young for a window of further
+//! admissions to Small. A key that is hit there later moves on to Main, a ring in which a hand
+//! gives each entry that was hit a second chance. Keys that Small evicts are remembered for a while
+//! without their values, and one that comes back enters Main at once.
 //!
 //! | Capacity | Small | Main | Window | Remembered |
 //! |---|---|---|---|---|
@@ -15,8 +15,8 @@
 //! | 100 | 10 | 90 | 5 | 50 |
 //! | 1,000,000 | 100,000 | 900,000 | 50,000 | 500,000 |
 //!
-//! [`Cache::with_policy`] takes other shares. All memory is taken by the constructor: no later call
-//! asks for any or refuses anything.
+//! [`Cache::with_policy`] takes other shares. The constructor takes all memory: no later call asks
+//! for any or refuses anything.
 //!
 //! # Example
 //!
@@ -27,8 +27,8 @@
 //! assert_eq!(rt; cache.get(&1), Some(&10));
 //! ```
 //!
-//! A test of the crate `clock2q_tests`, `first_example`, runs these lines; `rt` is what a test or
-//! `main` is given. The crate `clock2q_uses` has whole callers, each of them proved.
+//! A test of the crate `tests_library`, `first_example`, runs these lines; `rt` is what a test or
+//! `main` receives. The crate `clock2q_uses` has whole callers, each of them proved.
 #![tactic(auto)]
 
 pub use clock2q_cache as cache;

@@ -1,20 +1,20 @@
--- What holds of a cache's fields goes on to hold after each change of the layers, and the machine becomes what it should.
+-- A cache's fields keep their invariant after each change of the layers, and the machine becomes what it should.
 use Rattle.std.proofs.Common.{◌≡◌, ℕ, suc, ◌+◌, ◌^◌, ◌<◌, ◌≤◌, Bool, true, false, Option, Some, None, List, [], ◌∷◌, ◌++◌, map, length, drop, reverse, refl, sym, ap, ◌∙◌, subst, arith, ne_eqb, length-append, eqb}
 use Rattle.clock2q_cache.proofs.Names.{key_at-own, key_at-others, values-written, length-values, if◌then◌else◌, IfNone, IsEquivalence, last_or, AllByRecursion, total, capacity, candidates, with_handle, has, KeyPlaces, entry, written, hash_at, key_at, admitted, QueueState, slots_of, IndexState, is_shared, slots, Remembered, most_beside, has-append, length-put, named-own, or_parts, Shares, main_share, Machine, Placement, vacancy, vacant_slot, into_main, into_small, into_small_at, joining_main, replacing_victim, stored, IsWhole, known_count, IsValueFor, Fills, Writes, machine_of, places_of, with_keys_small, with_keys_main, IsStored, IsSized, IsKept, IsPlaced, whole-stored, placed-admitted, placed-joining, slots-entered, slots-left, removed, left}
-use Rattle.clock2q_queues.specs.Index as known
+use Rattle.clock2q_directory.specs.Index as known
 use Rattle.clock2q_machine.specs.Entries as machine
 use Rattle.clock2q_cache.proofs.WithKeys.{small-admitted, main-behind, small_with, main_with, keys-agree, length-small, length-main}
 use Rattle.clock2q_cache.proofs.Stored.{stored-entered}
 use Rattle.clock2q_cache.proofs.Slots.{times, times-cons, times-both, times-pushed, times-admitted, length-admitted, stored-moved, vacant, vacancy-taken, vacancy-there, small_have, main_have, length-places}
 
--- a history of which the index alone changed
+-- a history in which only the index changed
 pub record IsReindexed {K : Type 0} (h h' : Remembered K) : Type 0 where
   pub entries : h'.entries ≡ h.entries
   pub limit : h'.limit ≡ h.limit
   pub beside : most_beside h' ≡ most_beside h
 
 module _ {K : Type 0} (h : Remembered K) {h' : Remembered K} {index : IndexState} (is : h' ≡ record h { places = record h.places { index = index } }) where
-  -- where the places stand in the same table
+  -- if the places are in the same table as before
   pub reindexed : is_shared index ≡ is_shared h.places.index → IsReindexed h h'
   reindexed shared = record {
     entries = ap (λ (z : Remembered K). z.entries) is;
@@ -22,18 +22,18 @@ module _ {K : Type 0} (h : Remembered K) {h' : Remembered K} {index : IndexState
     beside = ap (λ (z : Remembered K). most_beside z) is ∙ ap (λ b. if b then h.limit else 0) shared;
   }
 
-  -- the slots then are those of the new index
+  -- the slots are then those of the new index
   pub now-slots : {homes : List (List (ℕ × ℕ))} → slots index ≡ homes → slots h'.places.index ≡ homes
   now-slots same = ap (λ (z : Remembered K). slots z.places.index) is ∙ same
 
--- the slots where one took the place of another
+-- the slots after one replaced another
 pub slots-renewed : {K : Type 0} (h : Remembered K) {h' : Remembered K} (old hsh : ℕ) {slot : ℕ}
     → h' ≡ record h { places = record h.places { index = known.entered hsh slot (left old slot h.places.index) } } → slot < 2 ^ 24
     → slots h'.places.index ≡ with_handle (removed eqb (slots h.places.index) old slot) hsh slot
 slots-renewed h old hsh {slot} is below = now-slots h is (slots-entered (left old slot h.places.index) hsh slot (omega (arith, below))
     ∙ ap (λ z. with_handle z hsh slot) (slots-left h.places.index old slot (omega (arith, below))))
 
--- the layers are as large as they were
+-- the layers are as large as before
 pub sized-same : {shares : Shares} {q q' : QueueState} {limit limit' beside beside' homes homes' keys_room keys_room' free_room free_room' : ℕ}
     → IsSized shares q limit beside homes keys_room free_room → q'.slots ≡ q.slots → q'.window ≡ q.window → limit' ≡ limit → beside' ≡ beside → homes' ≡ homes
     → keys_room' ≡ keys_room → free_room' ≡ free_room → IsSized shares q' limit' beside' homes' keys_room' free_room'
@@ -72,11 +72,11 @@ module _ {K V : Type 0} {eq : K → K → Bool} {hash : K → ℕ} {shares : Sha
   pub index_some : 0 < length index
   index_some = omega (arith, kept.sized.spacious, kept.whole.small_below)
 
-  -- a resident's slot stands in the index under its key's hash
+  -- a resident's slot is in the index under its key's hash
   pub resident-held : (slot : ℕ) {old : ℕ} → has slot (places_of q) ≡ true → hash_at keys.entries slot ≡ Some old → has slot (candidates index old) ≡ true
   resident-held slot {old} there at = kept.stored.indexed.listed old slot ∙ rw (there, named-own index keys.entries old slot at) refl
 
-  -- a slot that a key may take which joins a queue
+  -- a slot that a key that joins a queue may take
   pub record IsFree (slot : ℕ) : Type 0 where
     pub taken : vacancy m ≡ Some slot
     pub absent : has slot (places_of q) ≡ false
@@ -90,7 +90,7 @@ module _ {K V : Type 0} {eq : K → K → Bool} {hash : K → ℕ} {shares : Sha
     pub index_room : total index + most_beside h < capacity (length index)
     pub few : total index + most_beside h + 1 < 2 ^ 24
 
-  -- the slot that is picked is one where a queue has room
+  -- the slot that is picked is free if a queue has room
   is-free : {slot made : ℕ} → made ≡ length keys.entries → vacant_slot (reverse free) made (made + 1) ≡ Some slot → length q.small + length q.main < shares.capacity → IsFree slot
   is-free {slot} {made} is picked few =
       let taken = vacancy-taken laws kept slot (vacancy-there laws kept few) (subst (λ z. vacant_slot (reverse free) z (z + 1) ≡ Some slot) is picked) in
@@ -116,14 +116,14 @@ module _ {K V : Type 0} {eq : K → K → Bool} {hash : K → ℕ} {shares : Sha
   pub free-main : {slot made : ℕ} → made ≡ length keys.entries → vacant_slot (reverse free) made (made + 1) ≡ Some slot → length m.main < main_share shares → IsFree slot
   free-main is picked some = is-free is picked (omega (arith, some, kept.whole.small_within, kept.whole.small_below, length_in_small, length_in_main))
 
-  -- a key that has its slot: what holds goes on to hold, and the machine is as it should be
+  -- a key that has its slot: the invariant still holds, and the machine is as it should be
   pub record IsDone (slot : ℕ) (value : Option V) (p : Placement K V) (q' : QueueState) (h' : Remembered K)
       (index' : List (List (ℕ × ℕ))) (keys' : KeyPlaces K V) (free' : List ℕ) (room' : ℕ) : Type 0 where
     pub holds : IsKept eq hash shares q' h' index' keys' free' room'
     pub fills : Fills value p m (machine_of shares q' keys'.entries h'.entries free')
     pub at : slot ≡ p.slot
 
-  -- the same, once the index beside the history changed
+  -- the same, after the index beside the history changed
   pub done-reindexed : {slot : ℕ} {value : Option V} {p : Placement K V} {q' : QueueState} {h1 h2 : Remembered K} {index' : List (List (ℕ × ℕ))} {keys' : KeyPlaces K V} {free' : List ℕ} {room' : ℕ}
       → IsReindexed h1 h2 → IsDone slot value p q' h1 index' keys' free' room' → IsDone slot value p q' h2 index' keys' free' room'
   done-reindexed {value = value} {p = p} {q' = q'} {keys' = keys'} {free' = free'} moved d = record {
@@ -145,12 +145,12 @@ module _ {K V : Type 0} {eq : K → K → Bool} {hash : K → ℕ} {shares : Sha
     at = at;
   }
 
-  -- where a slot was made before, a key may keep its value
+  -- if a slot was made before, a key may keep its value
   made-there : {slot s : ℕ} (value : Option V) → s ≡ slot → IfNone value (s < length m.values) → IfNone value (slot < length keys.entries)
   made-there None is made = omega (arith, is, made, length-values keys.entries)
   made-there (Some v) is made = tt
 
-  -- where a key goes that joins a queue
+  -- where a key that joins a queue goes
   into-small : {slot : ℕ} (key : K) → vacancy m ≡ Some slot → into_small key m ≡ into_small_at key (Some slot) None m
   into-small key taken = ap (λ v. into_small_at key v (last_or None m.small) m) taken
 

@@ -1,9 +1,10 @@
--- What holds of a cache's fields goes on to hold where a key's history is erased or a value is replaced, and holds of a new cache.
+-- A cache's fields keep their invariant when a key's history is erased or a value is replaced, and those of a new cache
+-- have it.
 use Rattle.std.proofs.Common.{◌≡◌, ℕ, zero, suc, ◌<◌, ◌==◌, Bool, true, false, not, ◌||◌, ◌&&◌, eqb, Option, Some, None, slice_get, List, [], ◌∷◌, ◌++◌, map, length, reverse, inl, inr, refl, sym, ap, ◌∙◌, subst, arith, eqb-true, eq-eqb}
 use Rattle.clock2q_cache.proofs.Names.{nat_le, is_some, slice_set, IsEquivalence, filter, list_any, AllByRecursion, cases_Bool, both_ways, Entry, below-more, KeyPlaces, entry, written, hash_at, key_at, with_value, IsIndex, HasHash, no_entries, QueueState, slots_of, Remembered, most_beside, slice_get-written, slice_get-written_other, length-written, set-written, all-written, values-written, length-values, IsIndex-cleared, length-cleared, IsIndex-kept, Shares, Machine, stored, empty, vacancy, goes_to_main, IsWhole, machine_of, places_of, IsStored, IsSized, IsKept, some_is, whole-forgotten, all_resident, small_share, whole-changed, lasting-empty, All-from_recursion, recursion_from_All, All-filter, slice_get_some}
 use Rattle.std.proofs.lemmas.Bool.{le-leb}
 use Rattle.clock2q_queues.proofs.Booleans.{or_false}
-use Rattle.clock2q_queues.specs.History.{forgotten}
+use Rattle.clock2q_directory.specs.History.{forgotten}
 use Rattle.clock2q_machine.specs.Machine as cache
 use Rattle.clock2q_cache.proofs.WithKeys.{small_with, main_with, keys-agree}
 use Rattle.clock2q_cache.proofs.CacheInvariant.{sized-same}
@@ -69,7 +70,7 @@ module _ {K V : Type 0} {eq : K → K → Bool} {hash : K → ℕ} {shares : Sha
   abbrev m : Machine K V
   m = machine_of shares q keys.entries h.entries free
 
-  -- keys are asked about
+  -- keys are compared
   pub kept-asked : (keys' : KeyPlaces K V) → keys'.entries ≡ keys.entries → keys'.room ≡ keys.room → IsKept eq hash shares q h index keys' free room
   kept-asked keys' entries keys_room = record {
     whole = subst (λ z. IsWhole eq (machine_of shares q z h.entries free)) (sym entries) kept.whole;
@@ -127,7 +128,7 @@ module _ {K V : Type 0} {eq : K → K → Bool} {hash : K → ℕ} {shares : Sha
     }
 
 module _ {K V : Type 0} where
-  -- whether a key that the history hasn't enters Main, where there is a vacancy, and where there is none
+  -- whether a key that the history doesn't have enters Main, with a vacancy and without one
   module _ (m : Machine K V) {known : Bool} {share : ℕ} (new : known ≡ false) (at : share ≡ m.shares.small) where
     pub admits-vacant : {n : ℕ} → is_some (vacancy m) ≡ true → n ≡ length m.small → nat_le share n ≡ goes_to_main known m
     admits-vacant {n} vacant is =
@@ -140,7 +141,7 @@ module _ {K V : Type 0} where
     pub admits-full : is_some (vacancy m) ≡ false → (share == 0) ≡ goes_to_main known m
     admits-full full = rw (new, full, at) (sym (or_false (m.shares.small == 0)))
 
-  -- a full cache has an entry in Small, where that has a share
+  -- a full cache has an entry in Small, if Small has a share
   pub small-some : (eq : K → K → Bool) (m : Machine K V) → IsWhole eq m → is_some (vacancy m) ≡ false → goes_to_main false m ≡ false → 0 < length m.small
   small-some eq m whole none small =
       omega (arith, all_resident eq m whole (nothing (vacancy m) none), small_share m.shares.small (is_some (vacancy m) && nat_le m.shares.small (length m.small)) small)
@@ -173,7 +174,7 @@ module _ {K V : Type 0} where
       is : machine_of shares q keys.entries h.entries free ≡ empty shares
       is = cc (ap (λ z. map (λ (e : ℕ × K). e.1) z) entries, ap (λ (z : List ℕ). reverse z) none, ap (λ z. map (λ (e : Entry K V). e.value) z) keyed)
 
-  -- a cache that is emptied
+  -- a cache that is cleared
   pub kept-cleared : {eq : K → K → Bool} {hash : K → ℕ} {shares : Shares} {q q' : QueueState} {h h' : Remembered K} {index index' : List (List (ℕ × ℕ))} {keys keys' : KeyPlaces K V}
       {free free' : List ℕ} {room room' : ℕ} → IsEquivalence eq → IsKept eq hash shares q h index keys free room
       → q'.small ≡ [] → q'.main ≡ [] → h'.entries ≡ [] → keys'.entries ≡ [] → free' ≡ [] → index' ≡ no_entries (length index)

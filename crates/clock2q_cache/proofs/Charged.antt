@@ -1,4 +1,4 @@
--- A cache whose counts are brought to their bounds before a value of it is lent.
+-- A cache whose counts are raised to their bounds before a value of it is lent.
 use Rattle.std.proofs.Common.{◌≡◌, ℕ, ◌+◌, ◌-◌, Bool, refl, sym, ◌∙◌, arith}
 use Rattle.clock2q_cache.proofs.Names.{HashMembers, inspections_for, CacheState, cache_state, Put, most_links, most_keys, with_slot, Takes, Costs, Spends, accesses_for, alike, Machine, stored, known_with, put, slotted, stored_same}
 use Rattle.std.specs.declared.hash.Hasher as hasher
@@ -18,12 +18,12 @@ module _ {K V S H : Type 0} (key : HashMembers K) (build : builder.Ghosts S H) (
       let keys_are : new.counts.questions + (keys - new.counts.questions) ≡ most_keys key build hash k old = omega (arith, is_keys, spent.questions.1) in
       cc (taken.writes w, spent.inspections)
 
--- counts at their bounds are those of a put
+-- counts at their bounds are within the cost of a put
 pub charged-costs : {K V S H : Type 0} {key : HashMembers K} {build : builder.Ghosts S H} {hash : hasher.Ghosts H} {k : K} (w : V) (old : CacheState K V S)
     → Costs key build hash (Put k w) old (with_slot key build hash k w old)
 charged-costs w old = costs-of refl (record { inspections = refl; accesses = (omega arith, omega arith); questions = (omega arith, omega arith) })
 
--- what was taken and is not written to is as it was taken
+-- a value that was taken and is not written to stays as it was taken
 pub unwritten : {K V : Type 0} {is : K → Bool} {key : K} {made : V → Type 0} {old new : Machine K V} {slot : ℕ} (t : Takes is key made old slot new)
     → put is key t.value old ≡ slotted is key t.value old
 unwritten {new = new} {slot} t = sym (t.writes t.value) ∙ stored_same new slot t.value t.there ∙ t.becomes

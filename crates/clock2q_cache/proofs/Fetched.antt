@@ -1,8 +1,8 @@
--- A key that is hit, or else inserted with a value that was made.
+-- A key that is hit, or inserted with a value that was made.
 use Rattle.std.proofs.Common.{◌≡◌, ℕ, Bool, Some, None, refl, sym, ap, ◌∙◌, subst}
 use Rattle.clock2q_cache.proofs.Names.{is_some, if◌then◌else◌, slice_get, IsEquivalence, UnwrapsOrElse, option_and_then, Machine, slot_of, value_of, hit, inserted, placement, put, fetched, replaced_at, IsWhole, Fetches, resident_made, stored_again, stored_same, get-within, slot_at_most, inserted_value}
 
--- so what was fetched and is not written to is as it was fetched
+-- so a value that was fetched and is not written to stays as it was fetched
 pub unwritten : {K V : Type 0} {is : K → Bool} {key : K} {made : V → Type 0} {old new : Machine K V} {slot : ℕ} (f : Fetches is key made old slot new)
     → put is key f.value old ≡ fetched is key f.value old
 unwritten {new = new} {slot} f = sym (f.writes f.value) ∙ stored_same new slot f.value f.there ∙ f.becomes

@@ -1,4 +1,4 @@
--- Slots that were never made are made and free.
+-- Slots that were never made are made, and are free.
 use Rattle.std.proofs.Common.{◌≡◌, ℕ, suc, ◌+◌, ◌-◌, ◌<◌, Bool, true, Option, Some, None, slice_get, List, [], ◌∷◌, ◌++◌, map, length, reverse, refl, sym, ap, ◌∙◌, subst, arith, length-append, ◌||◌}
 use Rattle.clock2q_cache.proofs.Names.{length-values, IsEquivalence, Mut, Called, FoldsTo, AllByRecursion, range_with_len, append-nil, append_assoc, map-append, reverse-append, reverse-reverse, or_true, Entry, has, KeyPlaces, entry, key_at, QueueState, slots_of, Remembered, has-append, below_of, below-has, IsIndex-kept, FillsUp, Shares, Machine, prefilled, IsWhole, machine_of, places_of, with_keys_small, with_keys_main, IsStored, IsKept, lasting-prefilled, get-append}
 use Rattle.clock2q_cache.proofs.WithKeys.{small_with, main_with, keys-agree}
@@ -9,7 +9,7 @@ all-append : {X : Type 0} (P : X → Type 0) (xs ys : List X) → AllByRecursion
 all-append P [] ys a b = b
 all-append P (x ∷ xs) ys a b = (a.0, all-append P xs ys a.1 b)
 
--- one slot more is freed, below the others
+-- one more slot is freed, below the others
 pub freed-more : (free : List ℕ) (slot to : ℕ) → slot < to → (free ++ reverse (range_with_len (slot + 1) (to - (slot + 1)))) ++ slot ∷ [] ≡ free ++ reverse (range_with_len slot (to - slot))
 freed-more free slot to h =
     let n : to - slot ≡ suc (to - (slot + 1)) = omega (arith, h) in
@@ -31,7 +31,7 @@ module _ {F K V : Type 0} {g : Mut F Unit V} {f : F} {hash : K → ℕ} {old : L
         (FoldsTo-push (λ p value q. Called g p tt value q) f (map (λ (e : Entry K V). e.value) s.added) p value last s.called called);
   }
 
-  -- as many as there are
+  -- there are as many entries as asked for
   pub FillsUp-length : {n : ℕ} {now : List (Entry K V)} {p : F} → FillsUp g f hash n old now p → length now ≡ n
   FillsUp-length s = ap (λ (z : List (Entry K V)). length z) s.is ∙ length-append old s.added ∙ s.as_many
 
@@ -49,7 +49,7 @@ module _ {K V : Type 0} {eq : K → K → Bool} {hash : K → ℕ} {shares : Sha
   pub made-count : length m.values + length made ≡ shares.capacity
   made-count = omega (arith, as_many, length-values keys.entries, length-values added)
 
-  -- the entries that were there stand where they stood
+  -- the entries that were there are where they were
   before : {Y : Type 0} (f : Option (Entry K V) → Y) (t : ℕ) → has t (places_of q) ≡ true → f (slice_get (keys.entries ++ added) t) ≡ f (slice_get keys.entries t)
   before f t g = ap f (get-append keys.entries added t (below_of (length keys.entries) (places_of q) kept.stored.made t g))
 

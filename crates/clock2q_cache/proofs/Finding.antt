@@ -1,7 +1,7 @@
--- What a lookup through the index finds is the machine's slot of the key, and what a hit there makes of the machine.
+-- A lookup through the index finds the machine's slot of the key, and a hit there does what the machine's does.
 use Rattle.std.proofs.Common.{◌≡◌, ℕ, zero, suc, ◌+◌, ◌<◌, ◌≤◌, ◌⊎◌, Bool, true, false, ◌&&◌, cond, eqb, Option, Some, None, slice_get, List, [], ◌∷◌, ◌++◌, map, length, inl, inr, refl, sym, ap, ◌∙◌, subst, arith, eqb-true}
 use Rattle.clock2q_cache.proofs.Names.{IfSome, IsEquivalence, option_map, count_by, find, list_any, cons_option, AllByRecursion, cases_Bool, both_ways, or_cases, sum_by-cons, sum_by-append, candidates, or_true, touched, slots_of-hit, Entry, has, KeyPlaces, key_at, hashed_at, entries_of, is_key_at, AllDistinct, HasHash, small_hit_at, main_hit_at, then_some, QueueState, slots_of, Remembered, place_of, found_slot, found_place, has-append, has_first, below_of, same_place, key_there, any_entry, length-values, lookup, found_there, not_found, Shares, SmallEntry, MainEntry, Machine, slot_of, hit, is_at, IsWhole, machine_of, places_of, with_keys_small, with_keys_main, IsStored, IsKept, whole-hit, some_is, candidates_there}
-use Rattle.clock2q_queues.specs.declared.history.Found.{Found}
+use Rattle.clock2q_directory.specs.declared.history.Found.{Found}
 use Rattle.clock2q_machine.specs.Entries as machine
 use Rattle.clock2q_cache.proofs.WithKeys.{HaveKeys, have_later, paired, paired-cons, small-hit, main-hit}
 use Rattle.clock2q_cache.proofs.Indexed.{residents-paired}
@@ -20,7 +20,7 @@ pub counted-map : {X Y : Type 0} (is : Y → Bool) (f : X → Y) (xs : List X) �
 counted-map is f [] = refl
 counted-map is f (x ∷ xs) = omega (arith, sum_by-cons (λ y. cond (is y) 1 0) (f x) (map f xs), sum_by-cons (λ x. cond (is (f x)) 1 0) x xs, counted-map is f xs)
 
--- a test of slots that tells whether the key there passes
+-- a test of slots that returns whether the key there passes
 paired-found : {K : Type 0} (key : ℕ → Option K) (is : K → Bool) (passes : ℕ → Bool) → ((t : ℕ) (k : K) → key t ≡ Some k → passes t ≡ is k) → (ps : List ℕ) → HaveKeys key ps
     → option_map (λ (r : K × ℕ). r.1) (find (λ r. is r.0) (paired key ps)) ≡ find passes ps
 paired-found key is passes tells [] h = refl
@@ -31,7 +31,7 @@ paired-found {K} key is passes tells (p ∷ ps) h =
     ∙ elim (cases_Bool (is k.0)) [ inl y ↦ rw (t, y) refl | inr n ↦ rw (t, n) (paired-found key is passes tells ps (have_later key p ps h)) ]
 
 module _ {K V : Type 0} (entries : List (Entry K V)) where
-  -- whether a key is the one there
+  -- whether a key is the one at a place
   pub key-tells : (eq : K → K → Bool) (key : K) (t : ℕ) (k : K) → key_at entries t ≡ Some k → is_key_at eq key entries t ≡ eq key k
   key-tells eq key t k h = of (slice_get entries t) h
     where
@@ -55,7 +55,7 @@ module _ {K V : Type 0} (entries : List (Entry K V)) where
         sum_by-cons (λ (x : K × ℕ). cond (is x.0) 1 0) (e.key, p) (paired (key_at entries) ps),
       )
 
--- where each key stands once at most, no two are the same
+-- if each key occurs at most once, no two are equal
 distinct-once : {K : Type 0} (eq : K → K → Bool) → IsEquivalence eq → (es : List (ℕ × K)) → ((k : K) → count_by (λ (e : ℕ × K). eq k e.1) es ≤ 1) → AllDistinct eq es
 distinct-once eq laws [] h = tt
 distinct-once eq laws (e ∷ es) h = (
@@ -63,7 +63,7 @@ distinct-once eq laws (e ∷ es) h = (
   distinct-once eq laws es (λ k. omega (arith, h k, sum_by-cons (λ (x : ℕ × _). cond (eq k x.1) 1 0) e es)),
 )
 
--- each key has its hash, so equal ones the same
+-- each key has its hash, so equal keys have the same one
 hashes-same : {K V : Type 0} (eq : K → K → Bool) (hash : K → ℕ) (key : K) (entries : List (Entry K V)) (ps : List ℕ)
     → ((x y : K) → eq x y ≡ true → hash x ≡ hash y) → AllByRecursion (λ e. e.hash ≡ hash e.key) entries → HasHash eq (hash key) key (entries_of entries ps)
 hashes-same eq hash key entries [] respects a = tt
@@ -75,13 +75,13 @@ hashes-same {K} {V} eq hash key entries (p ∷ ps) respects a = of (hashes-same 
     of r (e ∷ es) zero b = ((λ q. b.0 ∙ sym (respects key e.key q)), r)
     of r (e ∷ es) (suc t) b = of r es t b.1
 
--- what isn't a resident has no slot
+-- a result that isn't a resident has no slot
 pub no-slot : (r : Found) → ((slot : ℕ) → r ≡ Found.Resident slot → ⊥) → None ≡ found_slot r
 no-slot (Found.Resident slot) other = absurd (other slot refl)
 no-slot (Found.Remembered place) other = refl
 no-slot Found.Absent other = refl
 
--- a key whose place is found is among the keys
+-- a key whose place is found is one of the keys
 placed-any : {K : Type 0} (is : K → Bool) (ks : List K) (ps : List ℕ) (p : ℕ) → place_of is ks ps ≡ Some p → list_any is ks ≡ true
 placed-any is [] ps p e = absurd (cc)
 placed-any is (k ∷ ks) [] p e = absurd (cc)
@@ -97,7 +97,7 @@ any-counted is (k ∷ ks) e = elim (cases_Bool (is k)) [
   | inr f ↦ omega (arith, sum_by-cons (λ x. cond (is x) 1 0) k ks, any-counted is ks (rw f at e))
 ]
 
--- a resident's slot stands in one of the queues
+-- a resident's slot is in one of the queues
 pub either-queue : (q : QueueState) (slot : ℕ) → has slot (places_of q) ≡ true → (has slot (slots_of q.small) ≡ true) ⊎ (has slot (slots_of q.main) ≡ true)
 either-queue q slot there = or_cases (has slot (slots_of q.small)) (has slot (slots_of q.main)) (sym (has-append slot (slots_of q.small) (slots_of q.main)) ∙ there)
 
@@ -138,7 +138,7 @@ module _ {K V : Type 0} {eq : K → K → Bool} {hash : K → ℕ} {shares : Sha
     pub found-there : (slot : ℕ) → slot_of (eq key) m ≡ Some slot → (has slot (places_of q) ≡ true) × (is_key_at eq key keys.entries slot ≡ true)
     found-there slot is = found_there (is_key_at eq key keys.entries) (places_of q) slot (sym is ∙ slot-among)
 
-    -- a key that the history has is no resident's
+    -- a key in the history is not a resident
     unresident : list_any (eq key) m.history ≡ true → None ≡ slot_of (eq key) m
     unresident remembered = of (slot_of (eq key) m) refl
       where
@@ -150,7 +150,7 @@ module _ {K V : Type 0} {eq : K → K → Bool} {hash : K → ℕ} {shares : Sha
             let resident = any-counted (λ (x : ℕ × K). eq key x.1) (entries_of keys.entries (places_of q)) (any_entry eq key keys.entries (places_of q) slot e.0 f.0 e.1 e.2) in
             absurd (omega (arith, kept.whole.keys_once key, resident, known_residents (eq key), any-counted (eq key) m.history remembered))
 
-    -- what a lookup among residents and remembered keys finds
+    -- what a lookup among both residents and remembered keys finds
     pub looked : ((x y : K) → eq x y ≡ true → hash x ≡ hash y) → (hsh : ℕ) → hsh ≡ hash key → (r : Found)
         → IfSome (found_slot r) (λ slot. find (is_key_at eq key keys.entries) (candidates index hsh) ≡ Some slot)
         → (found_slot r ≡ None → found_place r ≡ place_of (eq key) m.history h.places.taken)

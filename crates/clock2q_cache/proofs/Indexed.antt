@@ -1,7 +1,7 @@
--- What stands in the index, in terms of the machine.
+-- What is in the index, in terms of the machine.
 use Rattle.std.proofs.Common.{◌≡◌, ℕ, suc, ◌≤◌, ◌==◌, Bool, true, false, ◌||◌, ◌&&◌, eqb, Option, Some, None, slice_get, List, [], ◌∷◌, map, length, inl, inr, refl, sym, ap, ◌∙◌, subst, arith, eqb-true}
 use Rattle.clock2q_cache.proofs.Names.{slice_get_some, list_any, zip, cons_option, AllByRecursion, cases_Bool, length-map, IsEquivalence, Entry, has, AllBelow, KeyPlaces, key_at, hash_at, hashed_at, entries_of, IsIndex, is_named, is_alike, QueueState, Remembered, IsWholeHistory, has_first, Shares, residents, machine_of, places_of, IsKept, HasPlaces, some_is}
-use Rattle.clock2q_queues.specs.Index as known
+use Rattle.clock2q_directory.specs.Index as known
 use Rattle.clock2q_cache.proofs.WithKeys.{HaveKeys, have_later, paired, paired-cons, residents-keyed}
 use Rattle.clock2q_cache.proofs.Stored.{hash-of-key}
 use Rattle.clock2q_cache.proofs.Slots.{small_have, main_have}
@@ -18,11 +18,11 @@ length-paired key (s ∷ ss) h =
     ap (λ (z : List (_ × ℕ)). length z) (paired-cons key s ss k.0 k.1) ∙ ap suc (length-paired key ss (have_later key s ss h))
 
 module _ {K V : Type 0} (hash : K → ℕ) (entries : List (Entry K V)) where
-  -- a key stands at a place with its hash
+  -- a place has a key, with the key's hash
   abbrev pub Stands : ℕ → Type 0
   Stands s = (k : K) × (hashed_at entries s ≡ Some (hash k, k))
 
-  -- a part of what stands at a place
+  -- a part of what is at a place
   part-of : {Y : Type 0} (f : ℕ × K → Y) (o : Option (Entry K V)) (x : ℕ × K) → elim o [ None ↦ None | Some e ↦ Some (e.hash, e.key) ] ≡ Some x
       → elim o [ None ↦ None | Some e ↦ Some (f (e.hash, e.key)) ] ≡ Some (f x)
   part-of f None x q = absurd (cc)
@@ -41,7 +41,7 @@ module _ {K V : Type 0} (hash : K → ℕ) (entries : List (Entry K V)) where
     | inr differ ↦ stand_have ss a.1 t (subst (λ b. (b || has t ss) ≡ true) differ g)
   ]
 
-  -- where every key has its hash, each place that was used has one
+  -- if every key has its hash, each place that was used has one
   stored_stand : (places : List ℕ) → AllBelow (length entries) places → AllByRecursion (λ e. e.hash ≡ hash e.key) entries → AllByRecursion Stands places
   stored_stand [] below all = tt
   stored_stand (s ∷ ss) below all =
@@ -79,7 +79,7 @@ module _ {K V : Type 0} (hash : K → ℕ) (entries : List (Entry K V)) where
       counted = is.counted ∙ sym (length-paired (key_at entries) places (stand_have places a));
     }
 
-  -- every key of a list of places that has as many keys stands with its hash
+  -- if a list of places has as many keys as places, each place has its key with the key's hash
   entries_within : (places : List ℕ) → length (entries_of entries places) ≤ length places
   entries_within [] = omega arith
   entries_within (s ∷ ss) = of (hashed_at entries s) (entries_within ss)
@@ -88,7 +88,7 @@ module _ {K V : Type 0} (hash : K → ℕ) (entries : List (Entry K V)) where
       of None l = omega (arith, l)
       of (Some e) l = omega (arith, l)
 
-  -- what the history tells: its keys stand at its places
+  -- what is known of the history: its keys are at its places
   pub record Told (places : List ℕ) : Type 0 where
     pub stand : AllByRecursion Stands places
     pub zipped : zip (map (λ (e : ℕ × K). e.1) (entries_of entries places)) places ≡ paired (key_at entries) places

@@ -1,4 +1,4 @@
--- What the insertion of a key spends.
+-- What the insertion of a key costs.
 use Rattle.std.proofs.Common.{◌≡◌, ℕ, ◌+◌, ◌<◌, ◌≤◌, ◌==◌, Bool, true, false, not, ◌&&◌, List, [], ◌∷◌, length, Option, Some, None, refl, ap, sym, ◌∙◌, arith, eq-eqb, ne_eqb}
 use Rattle.clock2q_cache.proofs.Names.{if◌then◌else◌, is_some, IfSome, list_any, last_or, IsEquivalence, KeyPlaces, key_at, inspections, QueueState, Entry, Remembered, Places, Age, is_promoted, last_some, none_is, Shares, main_share, SmallEntry, Machine, slot_of, vacancy, goes_to_main, forgotten, goes_on, takes_victim, inspections_for, placed_inspections, main_inspections, small_inspections, machine_of, IsKept, counts_of, Counts, Spends, accesses_for}
 use Rattle.clock2q_queues.specs.Cells.{Rises}
@@ -22,7 +22,7 @@ module _ {K V : Type 0} (q : QueueState) (h : Remembered K) (keys : KeyPlaces K 
         questions = (omega (arith, asked, told), omega (arith, asked, told));
       }
 
-  -- one that takes the slot of Small's tail, which goes out
+  -- a key that takes the slot of Small's tail, which is evicted
   pub evicted-spends : {small : List (ℕ × Age)} {main : List (ℕ × Bool)} {kept : List (ℕ × K)} {places : Places} {h' : Remembered K} → q' ≡ record q { small = small; main = main; accesses = q'.accesses } → Rises 5 8 q.accesses q'.accesses
       → h' ≡ record h { entries = kept; places = places; accesses = h'.accesses } → Rises 0 8 h.accesses h'.accesses
       → keys' ≡ record keys { entries = es; writes = n } → Spends 0 28 0 (counts_of q h keys) (counts_of q' h' keys')
@@ -37,7 +37,7 @@ module _ {K V : Type 0} (q : QueueState) (h : Remembered K) (keys : KeyPlaces K 
 
 module _ {K V : Type 0} {eq : K → K → Bool} {hash : K → ℕ} {shares : Shares} {q : QueueState} {h : Remembered K} {index : List (List (ℕ × ℕ))} {keys : KeyPlaces K V} {free : List ℕ} {room : ℕ}
     (laws : IsEquivalence eq) (kept : IsKept eq hash shares q h index keys free room) where
-  -- one that takes the slot of Main's victim, and whatever else changes the queues spends so much
+  -- a key that takes the slot of Main's victim; any other change of the queues costs as much
   pub victim-spends : {q' : QueueState} {keys' : KeyPlaces K V} {small : List (ℕ × Age)} {main : List (ℕ × Bool)} {es : List (Entry K V)} {n looks : ℕ}
       → looks ≡ q.inspections + inspections q.main → Rises (inspections q.main) (inspections q.main + 28) q.accesses q'.accesses
       → q' ≡ record q { small = small; main = main; accesses = q'.accesses; inspections = looks }
@@ -66,7 +66,7 @@ module _ {K V : Type 0} (m : Machine K V) where
   pub room-inspections : length m.main < main_share m.shares → main_inspections m ≡ 0
   room-inspections room = ap (λ b. if b then machine.inspections m.main else 0) (ne_eqb (length m.main) (main_share m.shares) (λ e. omega (arith, e, room)))
 
-  -- into a full Small, whose tail goes on or out
+  -- into a full Small, whose tail moves on or is evicted
   tail-goes : (b : Bool) → 0 < length m.small → IfSome (last_or None m.small) (λ tail. b ≡ is_promoted tail.age) → goes_on (last_or None m.small) ≡ b
   tail-goes b some at = of (last_or None m.small) refl at where
     of : (o : Option (SmallEntry K)) → last_or None m.small ≡ o → IfSome o (λ tail. b ≡ is_promoted tail.age) → goes_on o ≡ b
@@ -91,7 +91,7 @@ module _ {K V : Type 0} (m : Machine K V) where
         of true = refl
         of false = refl
 
--- a key whose history is erased first goes into Main or Small
+-- a key whose history is erased first enters Main or Small
 pub record IsSent {K V : Type 0} (is : K → Bool) (m m1 : Machine K V) (main : Bool) : Type 0 where
   pub known : Bool
   pub had : known ≡ list_any is m.history
@@ -102,15 +102,15 @@ module _ {K V : Type 0} {is : K → Bool} {m m1 : Machine K V} {main : Bool} (s 
   pub goes-there : main ≡ goes_to_main (list_any is m.history) m
   goes-there = s.goes ∙ ap (λ z. goes_to_main s.known z) s.erased ∙ ap (λ b. goes_to_main b m) s.had
 
-  -- how often the hand looks then
+  -- the number of inspections by the hand then
   pub placed-inspections : slot_of is m ≡ None → placed_inspections main m1 ≡ inspections_for is m
   placed-inspections absent = ap (placed_inspections main) s.erased ∙ ap (λ b. placed_inspections b m) goes-there ∙ sym (insertion m is absent)
 
--- after Small's tail was looked at
+-- after a look at Small's tail
 pub looked-spends : {looks : ℕ} {a b c : Counts} → Spends 0 1 0 a b → Spends looks (looks + 28) 0 b c → Spends looks (looks + 29) 0 a c
 looked-spends before after = spends-both before after (omega arith) (omega arith) (omega arith)
 
--- after the key's history was erased
+-- after the key's history is erased
 pub forgotten-spends : {looks : ℕ} {a b c : Counts} → Spends 0 7 0 a b → Spends looks (looks + 29) 0 b c → Spends looks (looks + 36) 0 a c
 forgotten-spends before after = spends-both before after (omega arith) (omega arith) (omega arith)
 

@@ -1,4 +1,4 @@
--- A closure may be called so often in turn where what it needs lasts through its calls.
+-- A closure may be called this number of times in turn if each call keeps what it needs.
 use Rattle.std.proofs.Common.{◌≡◌, ℕ, zero, suc, ◌+◌, ◌-◌, ◌<◌, [], ◌∷◌, length, refl, subst, arith}
 use Rattle.clock2q_cache.proofs.Names.{Mut, Called, always_mut, mut_next, Machine, TakesTimes, MayMake}
 use Rattle.std.specs.Fn.{Takes}
@@ -14,11 +14,11 @@ module _ {F V : Type 0} (g : Mut F Unit V) where
       (f : F) → I f → MayMake g f m
   made_by I m takes keeps f i = record { in_turn = times_by I takes keeps (m.shares.capacity - length m.values) f i }
 
-  -- and so may one that may always be called
+  -- and so may a closure that may always be called
   pub made_always : {K : Type 0} (m : Machine K V) (f : F) → always_mut g f → MayMake g f m
   made_always m f always = made_by (always_mut g) m (λ f may. (may.at (tt ∷ [])).0) (λ f value next may called. mut_next g f tt value next next called refl may) f always
 
-  -- where calls are left, one may be made, and then as many as are left after it
+  -- if calls are left, one may be made, and after it the ones that are then left
   pub next_call : (many counter : ℕ) (f : F) → counter < many → TakesTimes g (many - counter) f
       → Takes g f tt × ((value : V) (next : F) → Called g f tt value next → TakesTimes g (many - (counter + 1)) next)
   next_call many counter f less takes =

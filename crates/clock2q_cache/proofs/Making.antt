@@ -1,11 +1,11 @@
--- Where a key that is placed makes a slot, and where it finds the value of one.
+-- When a key that is placed makes a slot, and when it finds a value in one.
 use Rattle.std.proofs.Common.{◌≡◌, ℕ, ◌<◌, ◌==◌, Bool, true, false, not, ◌&&◌, List, [], ◌∷◌, length, inl, inr, Option, Some, None, refl, sym, ap, ◌∙◌, subst, arith, eq-eqb, eqb-true, ne_eqb}
 use Rattle.clock2q_cache.proofs.Names.{if◌then◌else◌, nat_lt, is_some, slice_get, IfSome, IfNone, IsEquivalence, count_by, last_or, UnwrapsOrElse, cases_lt, lt-ltb, le-ltb, eqb-false, ltb-true, ltb-false, slice_get_within, slice_get_past, sum_by-cons, and_true, and_false, main_share, MainEntry, Machine, Placement, vacancy, vacant_slot, goes_to_main, into_main, into_small, into_small_at, joining_main, replacing_victim, placement, forgotten, slot_of, stored, reused, inserted, hit, slotted_at, fetched_value, replaced_at, IsWhole, Reuses, Takes, IsValueFor, Fills, placed, next_is_vacant, makes_slot, one_if, some_is, none_is, stands_made, victim_made, no_vacancy, all_resident, placed-main, placed-small, length-from_victim, resident_made, get-within, slot_at_most, reused_value, stored_again, stored_same}
 use Rattle.clock2q_machine.specs.Entries.{from_victim}
 use Rattle.clock2q_cache.proofs.Insertions.{IsSent, goes-there}
 
 module _ {K V : Type 0} (eq : K → K → Bool) (m : Machine K V) (h : IsWhole eq m) where
-  -- the vacancy is a new slot where none is free
+  -- the vacancy is a new slot if none is free
   vacant-made : (slot : ℕ) → vacancy m ≡ Some slot → nat_lt slot (length m.values) ≡ not (next_is_vacant m)
   vacant-made slot is = by m.free refl is where
     by : (free : List ℕ) → m.free ≡ free → vacant_slot free (length m.values) m.shares.capacity ≡ Some slot
@@ -53,12 +53,12 @@ module _ {K V : Type 0} (eq : K → K → Bool) (m : Machine K V) (h : IsWhole e
     placed-makes true small = main-makes
     placed-makes false small = small-makes (small refl)
 
--- where a key that had no history goes
+-- where a key without a history goes
 pub goes-unknown : {K V : Type 0} (known : Bool) (m : Machine K V) → goes_to_main known m ≡ false → goes_to_main false m ≡ false
 goes-unknown true m e = cc
 goes-unknown false m e = e
 
--- how a key is placed whose history is erased first
+-- how a key is placed if its history is erased first
 module _ {K V : Type 0} (eq : K → K → Bool) (key : K) {m m1 : Machine K V} {main : Bool} (s : IsSent (eq key) m m1 main) where
   pub small-unknown : main ≡ false → goes_to_main false m1 ≡ false
   small-unknown small = goes-unknown s.known m1 (sym s.goes ∙ small)
@@ -83,12 +83,12 @@ module _ {K V : Type 0} (eq : K → K → Bool) (key : K) {m m1 : Machine K V} {
     pub values-there : (placement (eq key) key m).machine.values ≡ m.values
     values-there = ap (λ (p : Placement K V). p.machine.values) (sym placed-there) ∙ placed-values eq m1 whole key main small-unknown ∙ ap (λ (z : Machine K V). z.values) s.erased
 
--- where no value is brought, the slot was made
+-- if no value is given, the slot was made before
 pub made-or-none : {V : Type 0} (value : Option V) (slot made : ℕ) → nat_lt slot made ≡ not (is_some value) → IfNone value (slot < made)
 made-or-none None slot made is = ltb-true slot made is
 made-or-none (Some v) slot made is = tt
 
--- a slot keeps its value, or a new one has the one that was made
+-- a slot keeps its value, or a new one gets the one that was made
 module _ {K V : Type 0} (is : K → Bool) (key : K) (made : V → Type 0) (m : Machine K V) (values : (placement is key m).machine.values ≡ m.values) where
   pub reuses : (value : Option V) (new : Machine K V) → nat_lt (placement is key m).slot (length m.values) ≡ not (is_some value)
       → IfSome value made → Fills value (placement is key m) m new → Reuses is key made m new

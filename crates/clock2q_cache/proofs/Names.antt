@@ -13,29 +13,30 @@ pub use Rattle.std.specs.Option.{UnwrapsOrElse, option_and_then, option_map}
 pub use Rattle.std.specs.Prelude.{if◌then◌else◌, IfNone, nat_le, is_some, slice_set, IfSome, slice_get, nat_lt, IsSome, ◌-◌, ◌≡◌, ◌*◌}
 pub use denote.Param.Always.{always_mut, mut_next}
 pub use Rattle.clock2q_handles.specs.Homes.{total, capacity, candidates, with_handle, no_entries, removed}
-pub use Rattle.clock2q_queues.specs.History.{Remembered, most_beside, place_of, found_slot, found_place, IsWholeHistory, Places, oldest_hash, pushed_places, is_remembered}
-pub use Rattle.clock2q_queues.specs.Index.{IndexState, is_shared, slots, left}
-pub use Rattle.clock2q_queues.specs.Indexes.{IsIndex, HasHash, AllDistinct, is_named, is_alike}
-pub use Rattle.clock2q_queues.specs.Keys.{KeyPlaces, entry, written, hash_at, key_at, with_value, hashed_at, entries_of, is_key_at, questions_of, with_key}
+pub use Rattle.clock2q_directory.specs.Directory.{Known}
+pub use Rattle.clock2q_directory.specs.History.{Remembered, most_beside, place_of, found_slot, found_place, IsWholeHistory, Places, oldest_hash, pushed_places, is_remembered}
+pub use Rattle.clock2q_directory.specs.Index.{IndexState, is_shared, slots, left}
+pub use Rattle.clock2q_directory.specs.Indexes.{IsIndex, HasHash, AllDistinct, is_named, is_alike}
+pub use Rattle.clock2q_directory.specs.Keys.{KeyPlaces, entry, written, hash_at, key_at, with_value, hashed_at, entries_of, is_key_at, questions_of, with_key, IsValueFor, Writes}
 pub use Rattle.clock2q_queues.specs.MainRing.{main_hit_at, inspections, set_front, from_victim}
 pub use Rattle.clock2q_queues.specs.Queues.{QueueState, slots_of, tail_promoted, without_slot}
 pub use Rattle.clock2q_queues.specs.Rings.{has, AllBelow, AllApart, without}
 pub use Rattle.clock2q_queues.specs.Small.{admitted, small_hit_at}
-pub use Rattle.clock2q_queues.specs.declared.keys.store.Entry.{Entry}
+pub use Rattle.clock2q_directory.specs.declared.keys.store.Entry.{Entry}
 pub use Rattle.clock2q_queues.proofs.Booleans.{or_parts, or_true, and_true, and_false}
-pub use Rattle.clock2q_queues.proofs.Emptied.{cleared_like, slots-cleared, for-new, new-none, emptied-slots}
-pub use Rattle.clock2q_queues.proofs.Entries.{key_at-own, key_at-others, values-written, length-values, slice_get-written, slice_get-written_other, length-written, set-written, all-written, same_place, key_there, any_entry, slice_get_some, value-there, hash_at-own, hash_at-others, written-replaced}
-pub use Rattle.clock2q_queues.proofs.Indexes.{length-put, named-own, IsIndex-cleared, length-cleared, IsIndex-kept, candidate_there, length-taken, IsIndex-put, IsIndex-taken, candidates_there}
-pub use Rattle.clock2q_queues.proofs.Lookups.{lookup, found_there, not_found, questions-most}
-pub use Rattle.clock2q_queues.proofs.Remembering.{slots-pushed, shared-pushed, slots-freed, shared-freed}
+pub use Rattle.clock2q_directory.proofs.Emptied.{cleared_like, slots-cleared, for-new, new-none, emptied-slots}
+pub use Rattle.clock2q_directory.proofs.Entries.{key_at-own, key_at-others, values-written, length-values, slice_get-written, slice_get-written_other, length-written, set-written, all-written, same_place, key_there, any_entry, slice_get_some, value-there, hash_at-own, hash_at-others, written-replaced}
+pub use Rattle.clock2q_directory.proofs.Indexes.{length-put, named-own, IsIndex-cleared, length-cleared, IsIndex-kept, candidate_there, length-taken, IsIndex-put, IsIndex-taken, candidates_there}
+pub use Rattle.clock2q_directory.proofs.Lookups.{lookup, found_there, not_found, questions-most}
+pub use Rattle.clock2q_directory.proofs.Remembering.{slots-pushed, shared-pushed, slots-freed, shared-freed}
 pub use Rattle.clock2q_queues.proofs.Rings.{has-append, has_first, has_later, below-more, below_of, below-has, eqb_swap, eqb_self, has-without, has-without_test}
 pub use Rattle.clock2q_queues.proofs.SlotLists.{slots_of-hit, slots_of-append, slots_of-mapped, slots_of-filter}
-pub use Rattle.clock2q_queues.proofs.Views.{slots-entered, slots-left}
+pub use Rattle.clock2q_directory.proofs.Views.{slots-entered, slots-left}
 pub use Rattle.clock2q_machine.specs.Ages.{Age, is_promoted, touched, grown}
 pub use Rattle.clock2q_machine.specs.Bounds.{inspections_for, goes_on, takes_victim, set_bits, inspections_of}
 pub use Rattle.clock2q_machine.specs.Calls.{Put, Call, Get, GetAt, Set, Remove, Retain, Prefill, Try, Clear, With}
 pub use Rattle.clock2q_machine.specs.Entries.{SmallEntry, MainEntry}
-pub use Rattle.clock2q_machine.specs.Machine.{Machine, Placement, vacancy, vacant_slot, into_main, into_small, into_small_at, joining_main, replacing_victim, stored, empty, goes_to_main, slot_of, value_of, hit, inserted, placement, prefilled, residents, forgotten, reused, resident_at, evicting_tail, promoting_tail, by_slot, vacated, vacated_all, removed_at}
+pub use Rattle.clock2q_machine.specs.Machine.{Machine, Placement, vacancy, vacant_slot, into_main, into_small, into_small_at, joining_main, replacing_victim, stored, empty, goes_to_main, slot_of, value_of, hit, inserted, placement, prefilled, residents, resident_count, forgotten, reused, resident_at, evicting_tail, promoting_tail, by_slot, vacated, vacated_all, removed_at}
 pub use Rattle.clock2q_machine.specs.Shares.{Shares, main_share, history_share}
 pub use Rattle.clock2q_machine.specs.Steps.{put, slotted, fetched, replaced_at, is_at, slotted_at, fetched_value, refused_slots, retained, after, hit_at, replaced}
 pub use Rattle.clock2q_machine.specs.Whole.{IsWhole, known_count, standings}
@@ -53,6 +54,6 @@ pub use Rattle.clock2q_cache.specs.Closures.{Takes, Fetches, FillsUp, Reuses, As
 pub use Rattle.clock2q_cache.specs.Costs.{Costs, Spends, accesses_for, alike, Becomes, most_accesses, most_questions}
 pub use Rattle.clock2q_cache.specs.Hashes.{hash_of}
 pub use Rattle.clock2q_cache.specs.Indexed.{HasPlaces, IsIndexed, IsSpacious}
-pub use Rattle.clock2q_cache.specs.Insertions.{IsValueFor, Fills, Writes, placed_inspections, main_inspections, small_inspections, placed, next_is_vacant, makes_slot}
+pub use Rattle.clock2q_cache.specs.Insertions.{Fills, placed_inspections, main_inspections, small_inspections, placed, next_is_vacant, makes_slot}
 pub use Rattle.clock2q_cache.specs.Makers.{TakesTimes, MayMake}
 pub use Rattle.clock2q_cache.specs.Places.{known_with, remembering, left_by, entered, key_out, discarded}

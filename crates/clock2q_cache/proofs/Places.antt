@@ -1,13 +1,13 @@
--- Which resident stands at a slot, and what an insertion makes of the index.
+-- Which resident is at a slot, and what an insertion does to the index.
 use Rattle.std.proofs.Common.{◌≡◌, ℕ, ◌==◌, Bool, true, false, eqb, Option, Some, None, List, [], ◌∷◌, map, inl, inr, refl, sym, ap, ◌∙◌, eqb-true, eq-eqb}
 use Rattle.clock2q_cache.proofs.Names.{find, last_or, AllByRecursion, IsEquivalence, cases_Bool, has, KeyPlaces, key_at, hash_at, QueueState, slots_of, Remembered, Places, oldest_hash, pushed_places, has_first, eqb_swap, Shares, history_share, Machine, resident_at, machine_of, places_of, IsKept, if◌then◌else◌, IfSome, option_map, is_promoted, SmallEntry, remembering, left_by, entered, key_out}
-use Rattle.clock2q_queues.specs.Index as known
+use Rattle.clock2q_directory.specs.Index as known
 use Rattle.clock2q_cache.proofs.WithKeys.{HaveKeys, have_later, paired, paired-cons}
 use Rattle.clock2q_cache.proofs.Stored.{have_keys, hash-of-key}
 use Rattle.clock2q_cache.proofs.Renewed.{last_entry, tail_key}
 use Rattle.clock2q_cache.proofs.Indexed.{residents-paired}
 
--- the key at a place with the place, if it is one of these
+-- the key at a place with the place, if it is one of these places
 paired-at : {K : Type 0} (key : ℕ → Option K) (slot : ℕ) (ss : List ℕ) → HaveKeys key ss
     → find (λ (r : K × ℕ). r.1 == slot) (paired key ss) ≡ (if has slot ss then option_map (λ k. (k, slot)) (key slot) else None)
 paired-at key slot [] h = refl
@@ -22,13 +22,13 @@ paired-at {K} key slot (s ∷ ss) h =
       | inr e ↦ rw (e, eqb_swap slot s e) (paired-at key slot ss (have_later key s ss h))
     ]
 
--- whether Small's tail goes out
+-- whether Small's tail is evicted
 pub key-out : {K : Type 0} (b : Bool) (o : Option (SmallEntry K)) → IfSome o (λ tail. b ≡ is_promoted tail.age) → key_out o ≡ (if b then None else option_map (λ tail. tail.key) o)
 key-out true None at = refl
 key-out false None at = refl
 key-out b (Some tail) at = ap (λ z. if z then None else Some tail.key) (sym at)
 
--- the hash beside the oldest key is that of the key
+-- the hash stored with the oldest key is that of the key
 oldest-hashed : {K : Type 0} (hash : K → ℕ) (o : Option (ℕ × K)) (p : Option K) (es : List (ℕ × K))
     → ◌≡◌ {A = ℕ} (elim o [ None ↦ 0 | Some e ↦ e.0 ]) (elim p [ None ↦ 0 | Some k ↦ hash k ]) → AllByRecursion (λ (e : ℕ × K). e.0 ≡ hash e.1) es
     → ◌≡◌ {A = ℕ} (elim (last_or o es) [ None ↦ 0 | Some e ↦ e.0 ]) (elim (last_or p (map (λ (e : ℕ × K). e.1) es)) [ None ↦ 0 | Some k ↦ hash k ])
@@ -61,7 +61,7 @@ module _ {K V : Type 0} {eq : K → K → Bool} {hash : K → ℕ} {shares : Sha
         indexed ∙ ap (λ x. record p { index = known.entered x slot p.index }) is
         ∙ sym (ap (λ z. let r = left_by hash z slot p in record r { index = known.entered (hash key) slot r.index }) (resident-none slot absent))
 
-    -- a key takes the slot of a resident that leaves
+    -- a key takes the slot of a resident, which leaves
     pub entered-renewed : {old : ℕ} → has slot (places_of q) ≡ true → hash_at keys.entries slot ≡ Some old
         → p' ≡ record p { index = known.entered hsh slot (known.left old slot p.index) } → p' ≡ entered hash key slot None m p
     entered-renewed {old} there at indexed =
@@ -70,7 +70,7 @@ module _ {K V : Type 0} {eq : K → K → Bool} {hash : K → ℕ} {shares : Sha
         ∙ ap (λ x. record p { index = known.entered (hash key) slot (known.left x slot p.index) }) (hash-of-key hash keys.entries slot old k.0 kept.stored.hashed at k.1)
         ∙ sym (ap (λ z. let r = left_by hash z slot p in record r { index = known.entered (hash key) slot r.index }) (resident-there slot k.0 there k.1))
 
-    -- a key takes the slot of Small's tail, whose key goes out into the history
+    -- a key takes the slot of Small's tail, whose key goes into the history
     pub entered-evicting : {key_out : K} {old : ℕ} → last_or None (slots_of q.small) ≡ Some slot → key_at keys.entries slot ≡ Some key_out → hash_at keys.entries slot ≡ Some old
         → (let r = pushed_places h.limit old slot (oldest_hash (λ (e : ℕ × K). e.0) h.entries) p in p' ≡ record r { index = known.entered hsh slot r.index })
         → p' ≡ entered hash key slot (option_map (λ (e : SmallEntry K). e.key) (last_or None m.small)) m p

@@ -1,6 +1,7 @@
--- A key that takes the slot of another: Main's victim's, or that of Small's tail.
+-- A key that takes the slot of another: of Main's victim, or of Small's tail.
 use Rattle.std.proofs.Common.{◌≡◌, ℕ, suc, ◌+◌, ◌-◌, ◌^◌, ◌<◌, ◌≤◌, ◌==◌, Bool, true, false, cond, eqb, Option, Some, None, List, [], ◌∷◌, ◌++◌, map, length, take, drop, refl, sym, ap, ◌∙◌, subst, arith, eq-eqb, length-append}
-use Rattle.clock2q_cache.proofs.Names.{key_at-own, key_at-others, values-written, length-values, if◌then◌else◌, slice_get, IfSome, IsEquivalence, last_or, AllByRecursion, take-map, length-map, take-append-drop, slots_of-append, slots_of-mapped, sum_by-append, total, capacity, with_handle, removed, Age, is_promoted, has, AllApart, KeyPlaces, entry, hash_at, key_at, IsIndex, admitted, set_front, from_victim, QueueState, slots_of, Remembered, is_remembered, most_beside, has-append, eqb_self, has_first, below_of, length-put, length-taken, Shares, main_share, history_share, SmallEntry, MainEntry, Machine, Placement, vacancy, into_main, into_small, into_small_at, joining_main, replacing_victim, evicting_tail, promoting_tail, stored, known_count, machine_of, places_of, with_keys_small, with_keys_main, IsStored, IsKept, Writes, IsPlaced, some_is, placed-replacing, placed-evicting, placed-promoting, weight-last, All-from_recursion, recursion_from_All, All-take, tail_promoted}
+use Rattle.clock2q_cache.proofs.Names.{Known, slots, key_at-own, key_at-others, values-written, length-values, if◌then◌else◌, slice_get, IfSome, IsEquivalence, last_or, AllByRecursion, take-map, length-map, take-append-drop, slots_of-append, slots_of-mapped, sum_by-append, total, capacity, with_handle, removed, Age, is_promoted, has, AllApart, KeyPlaces, entry, hash_at, key_at, IsIndex, admitted, set_front, from_victim, QueueState, slots_of, Remembered, is_remembered, most_beside, has-append, eqb_self, has_first, below_of, length-put, length-taken, Shares, main_share, history_share, SmallEntry, MainEntry, Machine, Placement, vacancy, into_main, into_small, into_small_at, joining_main, replacing_victim, evicting_tail, promoting_tail, stored, known_count, machine_of, places_of, with_keys_small, with_keys_main, IsStored, IsKept, Writes, IsPlaced, some_is, placed-replacing, placed-evicting, placed-promoting, weight-last, All-from_recursion, recursion_from_All, All-take, tail_promoted}
+use Rattle.clock2q_directory.specs.Directory.{IsResident, IsWithinRoom}
 use Rattle.clock2q_cache.proofs.Changed.{known-any}
 use Rattle.clock2q_cache.proofs.Finding.{none-has, counted-map}
 use Rattle.clock2q_cache.proofs.Insertions.{no_last}
@@ -50,7 +51,7 @@ module _ {K V : Type 0} {eq : K → K → Bool} {hash : K → ℕ} {shares : Sha
   once_at : (t : ℕ) → times t (slots_of q.small) + times t (slots_of q.main) ≤ 1
   once_at t = omega (arith, at_most_once laws kept t, times-both t q)
 
-  -- what `renew` asks for
+  -- what `renew` requires
   pub resident-there : (slot : ℕ) → has slot (places_of q) ≡ true → (places : List ℕ) × IsIndex index keys.entries places × AllApart places × (has slot places ≡ true)
   resident-there slot there = (places_of q, kept.stored.indexed, apart laws kept, there)
 
@@ -169,11 +170,11 @@ module _ {K V : Type 0} {eq : K → K → Bool} {hash : K → ℕ} {shares : Sha
     front_entries = small-take (key_at keys.entries) (length q.small - 1) q.small (small_have laws kept)
         ∙ ap (λ n. take (n - 1) m.small) (sym (length_in_small laws kept))
 
-    -- it is the key that was there
+    -- it is the key that was at the tail
     tail_is : (old_key : K) → key_at keys.entries tail ≡ Some old_key → tail_key.0 ≡ old_key
     tail_is old_key key_is = some_is tail_key.0 old_key (sym tail_key.1 ∙ key_is)
 
-    -- and has no history
+    -- and it has no history
     pub tail-unremembered : (old_key : K) → key_at keys.entries tail ≡ Some old_key → is_remembered eq old_key h.entries ≡ false
     tail-unremembered old_key key_is =
         let w = (weight-last (λ (e : SmallEntry K). cond (eq old_key e.key) 1 0) None m.small tail_entry small_some last_entry).0 in
@@ -181,14 +182,14 @@ module _ {K V : Type 0} {eq : K → K → Bool} {hash : K → ℕ} {shares : Sha
         ap {B = ℕ} (λ b. cond b 1 0) (subst (λ z. eq old_key z ≡ true) (sym (tail_is old_key key_is)) (laws.refl old_key)) in
         known-any (eq old_key) h.entries ∙ none-has (eq old_key) m.history (omega (arith, kept.whole.keys_once old_key, w, own))
 
-    -- where a key goes then
+    -- where a key then goes
     abbrev onto : K → Bool → Placement K V
     onto key b = if b then promoting_tail key tail_entry (machine.from_victim m.main) m else evicting_tail key tail_entry m
 
     into-tail : (key : K) → vacancy m ≡ None → into_small key m ≡ onto key (is_promoted tail_at.0)
     into-tail key none = ap (λ z. into_small_at key z (last_or None m.small) m) none ∙ ap (λ z. into_small_at key None z m) last_entry
 
-  -- whether Small's tail goes on
+  -- whether Small's tail moves on
   pub tail-tells : 0 < length m.small → (b : Bool) → b ≡ tail_promoted (last_or None q.small) → IfSome (last_or None m.small) (λ tail. b ≡ is_promoted tail.age)
   tail-tells some b is = of (last_or None (slots_of q.small)) refl
     where
@@ -238,7 +239,7 @@ module _ {K V : Type 0} {eq : K → K → Bool} {hash : K → ℕ} {shares : Sha
         ∙ ap (λ z. machine.small_admitted q.window key slot z) (small_other (front tail last) none ∙ front_entries tail last)
         ∙ ap (λ z. machine.small_admitted z key slot (take (length m.small - 1) m.small)) kept.sized.window
 
-    -- that of Main's victim, and goes to the end of Main
+    -- a key takes the slot of Main's victim, and goes to the end of Main
     pub replaced-done : {q' : QueueState} {looks : ℕ} (first : slice_get (from_victim q.main) 0 ≡ Some (slot, false)) → length m.main ≡ main_share shares
         → q' ≡ record q { main = rest slot first ++ (slot, false) ∷ []; accesses = q'.accesses; inspections = looks }
         → IsDone laws kept slot value (into_main key m) q' h index' keys' free room
@@ -256,7 +257,7 @@ module _ {K V : Type 0} {eq : K → K → Bool} {hash : K → ℕ} {shares : Sha
         (λ u. omega (arith, times-both u q1, times-pushed u (rest slot first) (slot, false), rest_times slot first u, times-both u q))
         (omega (arith, length-append (rest slot first) ((slot, false) ∷ []), length-rest slot first))))
 
-    -- that of Small's tail, whose key goes out
+    -- a key takes the slot of Small's tail, whose key is evicted
     pub evicted-done : {q' : QueueState} {h' : Remembered K} {old_key : K} (last : last_or None (slots_of q.small) ≡ Some slot) → key_at keys.entries slot ≡ Some old_key
         → vacancy m ≡ None → IfSome (last_or None m.small) (λ tail. is_promoted tail.age ≡ false)
         → q' ≡ record q { small = admitted q.window slot (front slot last); accesses = q'.accesses }
@@ -280,7 +281,7 @@ module _ {K V : Type 0} {eq : K → K → Bool} {hash : K → ℕ} {shares : Sha
         (λ u. omega (arith, times-both u q1, times-admitted u q.window slot (front slot last), front_times slot last u, times-both u q))
         (omega (arith, length-admitted q.window slot (front slot last), length-front slot last))))
 
-    -- that of Main's victim, while Small's tail goes to the end of Main
+    -- a key takes the slot of Main's victim, while Small's tail goes to the end of Main
     pub promoted-done : {q' : QueueState} {tail looks : ℕ} (last : last_or None (slots_of q.small) ≡ Some tail) (first : slice_get (from_victim q.main) 0 ≡ Some (slot, false))
         → vacancy m ≡ None → IfSome (last_or None m.small) (λ tail. is_promoted tail.age ≡ true)
         → q' ≡ record q { small = admitted q.window slot (front tail last); main = rest slot first ++ (tail, false) ∷ []; accesses = q'.accesses; inspections = looks }
@@ -309,3 +310,15 @@ module _ {K V : Type 0} {eq : K → K → Bool} {hash : K → ℕ} {shares : Sha
           rest_times slot first u,
         ))
         (omega (arith, length-admitted q.window slot (front tail last), length-front tail last, length-append (rest slot first) ((tail, false) ∷ []), length-rest slot first))))
+
+-- what the directory requires of a resident's slot
+module _ {K V : Type 0} {eq : K → K → Bool} {hash : K → ℕ} {shares : Shares} {q : QueueState} (d : Known K V) {free : List ℕ} {room : ℕ}
+    (laws : IsEquivalence eq) (kept : IsKept eq hash shares q d.history (slots d.history.places.index) d.residents free room) where
+  pub is-resident : (slot : ℕ) → has slot (places_of q) ≡ true → IsResident slot d
+  is-resident slot there =
+      let r = resident-there laws kept slot there in
+      let b = slot-below laws kept slot there in
+      record { taken = r.0; indexed = r.1; apart = r.2; there = r.3; made = b.0; below = b.2 }
+
+  pub within-room : IsWithinRoom d.history
+  within-room = let r = room-there laws kept in record { room = r.0; few = r.1 }

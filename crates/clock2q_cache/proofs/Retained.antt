@@ -1,4 +1,5 @@
--- The residents of the first slots were asked, and those that were refused left: one slot more, until all were asked.
+-- The closure was called for the residents of the first slots, and those that it refused left: one slot at a time, up
+-- to the last.
 use Rattle.std.proofs.Common.{◌≡◌, ℕ, zero, suc, ◌+◌, ◌-◌, ◌<◌, ◌≤◌, ◌==◌, Bool, true, false, not, cond, eqb, Option, Some, None, List, [], ◌∷◌, ◌++◌, map, length, inl, inr, refl, sym, ap, ◌∙◌, subst, arith, eqb-true, ne_eqb, length-append}
 use Rattle.clock2q_cache.proofs.Names.{slice_get, Mut, Called, always_mut, mut_next, filter, filter_map, cons_option, find, range_with_len, cases_Bool, append-nil, map-append, length-map, filter_map-append, fold-append, AsksResident, MayBeAsked, Retains, TakesInTurn, SmallEntry, MainEntry, Machine, by_slot, resident_at, vacated, vacated_all, refused_slots, retained}
 use Rattle.std.specs.Borrow.{Bor}
@@ -24,7 +25,7 @@ refused-more (c ∷ bits) [] b s many = absurd (omega (arith, many))
 refused-more (true ∷ bits) (t ∷ slots) b s many = refused-more bits slots b s (omega (arith, many))
 refused-more (false ∷ bits) (t ∷ slots) b s many = ap (λ zs. t ∷ zs) (refused-more bits slots b s (omega (arith, many)))
 
--- a resident that leaves is another one's neighbour, and no more
+-- when a resident leaves, the others stay as they are
 module _ {K X : Type 0} (at : X → K × ℕ) (s t : ℕ) (differ : eqb s t ≡ false) where
   others : (es : List X) (rs rs' : List (K × ℕ)) → find (λ (r : K × ℕ). r.1 == t) rs' ≡ find (λ (r : K × ℕ). r.1 == t) rs
       → find (λ (r : K × ℕ). r.1 == t) (map at (filter (λ e. not ((at e).1 == s)) es) ++ rs') ≡ find (λ (r : K × ℕ). r.1 == t) (map at es ++ rs)
@@ -57,18 +58,18 @@ module _ {F K V : Type 0} (g : Mut F (Bor K × (Bor V × Unit {0})) Bool) where
     in_turn_by [] f i = tt
     in_turn_by (r ∷ rs) f i = λ key value shows there. (takes f key value r.1 i there, λ b next called. in_turn_by rs next (keeps f key value r.1 b next i there called))
 
-  -- where what a closure needs lasts through its calls, it may be asked about the residents
+  -- if what a closure needs lasts through its calls, it may be called for each resident
   pub asked_by : (I : F → Type 0) (m : Machine K V) (takes : (f : F) (key : Bor K) (value : Bor V) (slot : ℕ) → I f → slice_get m.values slot ≡ Some value.now → Takes g f (key, (value, tt)))
       (keeps : (f : F) (key : Bor K) (value : Bor V) (slot : ℕ) (b : Bool) (next : F) → I f → slice_get m.values slot ≡ Some value.now → Called g f (key, (value, tt)) b next → I next)
       (f : F) → I f → MayBeAsked g f m
   asked_by I m takes keeps f i = record { in_turn = in_turn_by I m.values takes keeps _ f i }
 
-  -- and so may one that may always be called
+  -- and so may a closure that may always be called
   pub asked_always : (m : Machine K V) (f : F) → always_mut g f → MayBeAsked g f m
   asked_always m f always = asked_by (always_mut g) m (λ f key value slot may there. (may.at ((key, (value, tt)) ∷ [])).0)
       (λ f key value slot b next may there called. mut_next g f (key, (value, tt)) b next next called refl may) f always
 
-  -- a closure that answers as a test does, as long as what it needs lasts, keeps the residents that pass the test
+  -- a closure that returns what a test does, as long as what it needs lasts, keeps the residents that pass the test
   module _ (I : F → Type 0) (m : Machine K V) (test : K × ℕ → Bool)
       (says : (f : F) (key : Bor K) (value : Bor V) (r : K × ℕ) (b : Bool) (next : F) → I f → key.now ≡ r.0
       → slice_get m.values r.1 ≡ Some value.now → Called g f (key, (value, tt)) b next → (b ≡ test r) × I next) where
@@ -95,7 +96,7 @@ module _ {F K V : Type 0} (g : Mut F (Bor K × (Bor V × Unit {0})) Bool) (f : F
       ap (λ z. below z) e ∙ ap (λ z. filter_map (resident_at old) z) (range-last 0 n ∙ ap (λ z. range_with_len 0 n ++ z ∷ []) start) ∙ filter_map-append (resident_at old) (range_with_len 0 n) (n ∷ [])
       ∙ ap (λ z. below n ++ cons_option z []) at
 
-  -- the residents at this slot and above it
+  -- the residents at this slot and above
   abbrev pub above : ℕ → List (K × ℕ)
   above n = filter_map (resident_at old) (range_with_len n (length old.values - n))
 
@@ -104,7 +105,7 @@ module _ {F K V : Type 0} (g : Mut F (Bor K × (Bor V × Unit {0})) Bool) (f : F
       let e : length old.values - n ≡ suc (length old.values - (n + 1)) = omega (arith, made) in
       ap (λ z. filter_map (resident_at old) (range_with_len n z)) e ∙ ap (λ z. cons_option z (above (n + 1))) at
 
-  -- these were asked, and those that were refused left
+  -- the closure was called for these, and those that it refused left
   pub record RetainsOver (rs : List (K × ℕ)) (f' : F) (now : Machine K V) : Type 0 where
     pub bits : List Bool
     pub as_many : length bits ≡ length rs
@@ -127,7 +128,7 @@ module _ {F K V : Type 0} (g : Mut F (Bor K × (Bor V × Unit {0})) Bool) (f : F
       left true ss e = e ∙ sym (fold-append (λ state slot. vacated slot state) old ss [])
       left false ss e = ap (λ z. vacated r.1 z) e ∙ sym (fold-append (λ state slot. vacated slot state) old ss (r.1 ∷ []))
 
-  -- the residents below were asked, and nothing else changed
+  -- the closure was called for the residents below, and nothing else changed
   pub record RetainsBelow (n : ℕ) (f' : F) (now : Machine K V) : Type 0 where
     pub over : RetainsOver (below n) f' now
     pub later : (t : ℕ) → n ≤ t → resident_at now t ≡ resident_at old t
@@ -159,7 +160,7 @@ module _ {F K V : Type 0} (g : Mut F (Bor K × (Bor V × Unit {0})) Bool) (f : F
       there : slice_get old.values n ≡ Some value.now
       there = subst (λ z. slice_get z n ≡ Some value.now) h.values shown
 
-      -- the closure may be called at this one
+      -- the closure may be called for this one
       pub retains-asks : Takes g f' (key, (value, tt))
       retains-asks = (turn key value refl there).0
 
@@ -179,7 +180,7 @@ module _ {F K V : Type 0} (g : Mut F (Bor K × (Bor V × Unit {0})) Bool) (f : F
           values = h.values;
         }
 
-        -- it leaves
+        -- the resident leaves
         pub retains-refused : Called g f' (key, (value, tt)) false last → RetainsBelow (n + 1) last (vacated n now)
         retains-refused called = record {
           callable = (turn key value refl there).1 false last called;
@@ -188,7 +189,7 @@ module _ {F K V : Type 0} (g : Mut F (Bor K × (Bor V × Unit {0})) Bool) (f : F
           values = h.values;
         }
 
-  -- all were asked
+  -- the closure was called for all
   pub retains-all : (n : ℕ) (f' : F) (now : Machine K V) → n ≡ length old.values → RetainsBelow n f' now → Retains g f old now
   retains-all n f' now all h =
       let o : RetainsOver (below (length old.values)) f' now = subst (λ z. RetainsOver (below z) f' now) all h.over in

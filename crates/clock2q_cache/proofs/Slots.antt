@@ -1,10 +1,10 @@
--- How often a slot stands in a cache's queues, and which slots are apart.
+-- How often a slot occurs in a cache's queues, and which slots are distinct.
 use Rattle.std.proofs.Common.{◌≡◌, ℕ, zero, suc, ◌+◌, ◌<◌, ◌≤◌, ◌==◌, Bool, true, false, cond, eqb, Option, Some, None, List, [], ◌∷◌, ◌++◌, map, length, take, drop, reverse, inl, inr, refl, sym, ap, ◌∙◌, subst, arith, eqb-true, eq-eqb, length-append}
 use Rattle.clock2q_cache.proofs.Names.{length-values, if◌then◌else◌, nat_lt, is_some, count_by, cases_Bool, cases_lt, both_ways, lt-ltb, le-ltb, length-map, sum_by-cons, sum_by-append, slots_of-mapped, some_is, none_is, or_true, or_parts, Entry, has, AllApart, KeyPlaces, key_at, Remembered, IsEquivalence, Age, grown, admitted, set_front, from_victim, QueueState, slots_of, has-append, eqb_self, eqb_swap, Shares, Machine, vacancy, vacant_slot, standings, machine_of, places_of, IsStored, IsKept}
 use Rattle.clock2q_cache.proofs.WithKeys.{HaveKeys, standing-keyed, length-small, length-main}
 use Rattle.clock2q_cache.proofs.Stored.{have_keys, stored-same}
 
--- how often a slot stands among these
+-- how often a slot occurs in a list
 abbrev pub times : ℕ → List ℕ → ℕ
 times t xs = count_by (λ s. s == t) xs
 
@@ -30,7 +30,7 @@ times-apart [] h = tt
 times-apart (x ∷ xs) h =
     (times-none x xs (omega (arith, h x, times-cons x x xs, ap {B = ℕ} (λ b. cond b 1 0) (eqb_self x))), times-apart xs (λ t. omega (arith, h t, times-cons t x xs)))
 
--- a slot that stands as often stands as well
+-- a slot that occurs as often in two lists is in both or in neither
 pub times-absent : (t : ℕ) (xs : List ℕ) → has t xs ≡ false → times t xs ≡ 0
 times-absent t [] h = refl
 times-absent t (x ∷ xs) h =
@@ -46,7 +46,7 @@ has-times t xs ys e = elim (cases_Bool (has t ys)) [
   | inr absent ↦ times-none t xs (e ∙ times-absent t ys absent) ∙ sym absent
 ]
 
--- how often a slot stands in both queues, and where one entered behind or in front
+-- how often a slot occurs in both queues, and after one entered at the end or at the front
 pub times-both : (t : ℕ) (q : QueueState) → times t (places_of q) ≡ times t (slots_of q.small) + times t (slots_of q.main)
 times-both t q = sum_by-append (λ s. cond (s == t) 1 0) (slots_of q.small) (slots_of q.main)
 
@@ -63,7 +63,7 @@ times-admitted t window slot es = ap (times t) (slots-admitted window slot es) �
 pub length-admitted : (window slot : ℕ) (es : List (ℕ × Age)) → length (admitted window slot es) ≡ suc (length es)
 length-admitted window slot es = ap suc (length-map es (λ e. (e.0, grown window e.1)))
 
--- the hand's choice moves entries, and takes none out
+-- the hand's choice moves entries, and removes none
 length-split : (n : ℕ) (main : List (ℕ × Bool)) → length (drop n main) + length (map {B = ℕ × Bool} (λ (e : ℕ × Bool). (e.0, false)) (take n main)) ≡ length main
 length-split zero main = omega arith
 length-split (suc n) [] = refl
@@ -97,7 +97,7 @@ module _ {K V : Type 0} {eq : K → K → Bool} {hash : K → ℕ} {shares : Sha
   pub at_most_once : (t : ℕ) → times t (places_of q) + times t (reverse free) ≤ 1
   at_most_once t = omega (arith, standing-times t, kept.whole.slots_once t, once_at_most (nat_lt t (length m.values)))
 
-  -- no slot is two residents'
+  -- no two residents have the same slot
   pub apart : AllApart (places_of q)
   apart = times-apart (places_of q) (λ t. omega (arith, at_most_once t))
 
@@ -111,7 +111,7 @@ module _ {K V : Type 0} {eq : K → K → Bool} {hash : K → ℕ} {shares : Sha
     ],
   )
 
-  -- nor has the next slot
+  -- neither has the next slot
   next_slot : has (length m.values) (places_of q) ≡ false
   next_slot =
       times-none (length m.values) (places_of q)
@@ -138,7 +138,7 @@ module _ {K V : Type 0} {eq : K → K → Bool} {hash : K → ℕ} {shares : Sha
         | inr above ↦ absurd (none_is slot (sym (ap (λ b. if b then Some (length m.values) else None) (le-ltb (length m.values) shares.capacity above)) ∙ e))
       ]
 
-  -- the slot that is taken is the vacancy, where there is one
+  -- the slot that is taken is the vacancy, if there is one
   pub vacancy-taken : (slot : ℕ) → is_some (vacancy m) ≡ true → vacant_slot (reverse free) (length keys.entries) (length keys.entries + 1) ≡ Some slot → vacancy m ≡ Some slot
   vacancy-taken slot some taken = of (reverse free) some taken
     where
@@ -154,7 +154,7 @@ module _ {K V : Type 0} {eq : K → K → Bool} {hash : K → ℕ} {shares : Sha
             (sym (ap (λ (z : Option ℕ). is_some z) (ap (λ b. if b then Some (length m.values) else None) (le-ltb (length m.values) shares.capacity above))) ∙ some))
       ]
 
-  -- where fewer slots are residents' than there may be, there is a vacancy
+  -- if fewer slots than the capacity have a resident, there is a vacancy
   pub vacancy-there : length q.small + length q.main < shares.capacity → is_some (vacancy m) ≡ true
   vacancy-there few = of (reverse free) refl
     where

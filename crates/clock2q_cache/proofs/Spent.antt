@@ -1,11 +1,11 @@
--- What the parts of a call spend.
+-- What the parts of a call cost.
 use Rattle.std.proofs.Common.{◌≡◌, ℕ, ◌+◌, ◌*◌, ◌≤◌, Bool, true, false, List, length, Some, None, refl, ap, sym, ◌∙◌, subst, arith}
 use Rattle.clock2q_cache.proofs.Names.{HashMembers, candidates, KeyPlaces, questions_of, Remembered, QueueState, questions-most, set_bits, inspections_of, Call, Get, GetAt, Set, Remove, Retain, Prefill, counts_of, CacheState, Counts, residents_in, Spends, Costs, Becomes, most_accesses, most_questions, hash_of, slot_of, hit, stored, prefilled, vacated, removed_at, then_some, is_at, after, hit_at, retained, replaced, replaced_at, hit-absent}
 use Rattle.std.specs.declared.hash.Hasher as hasher
 use Rattle.std.specs.declared.hash.BuildHasher as builder
 use Rattle.clock2q_machine.proofs.Clock.{clock_bounded}
 
--- two parts of a call, of which each spends its own
+-- two parts of a call, each with its cost
 pub spends-both : {i j n l k x l' k' x' : ℕ} {a b c : Counts} → Spends i l k a b → Spends j l' k' b c → i + j ≡ n → l + l' ≤ x → k + k' ≤ x' → Spends n x x' a c
 spends-both before after looks links keys = record {
   inspections = omega (arith, before.inspections, after.inspections, looks);
@@ -13,7 +13,7 @@ spends-both before after looks links keys = record {
   questions = (omega (arith, before.questions.0, after.questions.0), omega (arith, before.questions.1, after.questions.1, keys));
 }
 
--- no more than it may
+-- a cost within a larger bound
 pub spends-more : {i l k l' k' : ℕ} {a b : Counts} → Spends i l k a b → l ≤ l' → k ≤ k' → Spends i l' k' a b
 spends-more spent links keys = record {
   inspections = spent.inspections;
@@ -22,7 +22,7 @@ spends-more spent links keys = record {
 }
 
 module _ {K V : Type 0} (q : QueueState) (h : Remembered K) (keys keys' : KeyPlaces K V) where
-  -- a lookup asks at most as many keys as there are places to look at
+  -- a lookup asks at most as many questions as there are places
   pub asked-spends : (test : ℕ → Bool) {places all : List ℕ} → places ≡ all
       → keys' ≡ record keys { questions = keys.questions + questions_of test places } → Spends 0 0 (length all) (counts_of q h keys) (counts_of q h keys')
   asked-spends test {places} same is =
@@ -30,7 +30,7 @@ module _ {K V : Type 0} (q : QueueState) (h : Remembered K) (keys keys' : KeyPla
       let most = ap (λ (z : List ℕ). length z) same in
       record { inspections = omega arith; accesses = (omega arith, omega arith); questions = (omega (arith, asked), omega (arith, asked, most, questions-most test places)) }
 
-  -- keys that are only made ask none
+  -- making keys asks no question
   pub made-spends : keys'.questions ≡ keys.questions → Spends 0 0 0 (counts_of q h keys) (counts_of q h keys')
   made-spends same = record { inspections = omega arith; accesses = (omega arith, omega arith); questions = (omega (arith, same), omega (arith, same)) }
 
@@ -42,7 +42,7 @@ some-some : (b : Bool) (slot resident : ℕ) → Some resident ≡ then_some b s
 some-some true slot resident e = refl
 some-some false slot resident e = cc
 
--- one slot more of all: its resident stays or leaves
+-- one more of the slots: its resident stays or leaves
 pub slot-stays : (slot : ℕ) {a b : Counts} → Spends 0 (8 * slot) 0 a b → Spends 0 (8 * (slot + 1)) 0 a b
 slot-stays slot before = spends-more before (omega arith) (omega arith)
 
@@ -56,7 +56,7 @@ module _ {K V S H : Type 0} {key : HashMembers K} {build : builder.Ghosts S H} {
       → Costs key build hash call old new
   costs-of {call} {old} {new} is spent = record { counts = spent; clock = omega (arith, spent.inspections, clock_bounded key.eq call old.machine, ap set_bits is) }
 
-  -- a call that lets the hand inspect nothing, and sets no bit
+  -- a call in which the hand inspects nothing, and no bit is set
   pub prefill-costs : {values : List V} (made : List V) {old new : CacheState K V S} → new.machine ≡ prefilled made old.machine
       → Spends 0 0 0 old.counts new.counts → Costs key build hash (Prefill values) old new
   prefill-costs made is spent = record { counts = spent; clock = omega (arith, spent.inspections, ap set_bits is) }
@@ -78,7 +78,7 @@ module _ {K V S H : Type 0} {key : HashMembers K} {build : builder.Ghosts S H} {
       → Becomes key build hash (Get k) (hit (key.eq k) old.machine) old new → Becomes key build hash (Get k) old.machine old new
   unhit-becomes {k} {old} {new} absent missed = subst (λ m. Becomes key build hash (Get k) m old new) (hit-absent (key.eq k) old.machine absent) missed
 
-  -- a lookup that finds one, which is hit
+  -- a lookup that finds a resident, which is hit
   pub hit-becomes : {k : K} {x : ℕ} {old found new : CacheState K V S} → x ≡ hash_of build hash old.hasher (key.hash_input k)
       → found ≡ record old { counts = found.counts } → Spends 0 0 (length (candidates (residents_in old.known) x)) old.counts found.counts
       → new ≡ record found { machine = new.machine } → new.machine ≡ hit (key.eq k) found.machine
@@ -98,7 +98,7 @@ module _ {K V S H : Type 0} {key : HashMembers K} {build : builder.Ghosts S H} {
       (is ∙ ap (λ (z : CacheState K V S). vacated slot z.machine) kept ∙ ap (λ o. removed_at (key.eq k) o old.machine) there)
       (spends-both asked left (omega arith) (omega arith) (omega arith))
 
-  -- the value of the key that is hit is lent, and this is left behind the reference
+  -- the value of the key that is hit is lent, and this value is left behind the reference
   pub lent-becomes : {k : K} {slot : ℕ} {value : V} {old new : CacheState K V S} → Some slot ≡ slot_of (key.eq k) old.machine
       → Becomes key build hash (Get k) (hit (key.eq k) old.machine) old new
       → Becomes key build hash (Set k value) (replaced (key.eq k) value old.machine) old (record new { machine = stored slot value new.machine })

@@ -1,4 +1,4 @@
--- The keys by slot and their index: what becomes of them where a key enters or one is replaced.
+-- The keys by slot and their index, after a key enters or replaces another.
 use Rattle.std.proofs.Common.{◌≡◌, ℕ, zero, suc, ◌+◌, ◌^◌, ◌<◌, ◌≤◌, true, false, ◌&&◌, eqb, Some, None, List, [], ◌∷◌, length, inl, inr, refl, sym, ap, ◌∙◌, subst, arith, eqb-true}
 use Rattle.clock2q_cache.proofs.Names.{slice_set, AllByRecursion, cases_Bool, total, capacity, with_handle, removed, Entry, has, without, AllApart, AllBelow, entry, written, with_key, hash_at, key_at, IsIndex, is_named, eqb_self, below_of, has-without, has-without_test, below-has, below-more, and_true, and_false, some_is, length-written, slice_get_some, set-written, all-written, value-there, hash_at-own, hash_at-others, IsIndex-put, IsIndex-taken, length-taken, IsStored, Writes}
 use Rattle.clock2q_queues.proofs.Joining.{length-without}
@@ -9,16 +9,6 @@ module _ {K V : Type 0} where
   have_keys entries places b t h =
       let e = slice_get_some entries t (below_of (length entries) places b t h) in
       (e.0.key, ap (λ z. elim z [ None ↦ None | Some e ↦ Some e.key ]) e.1)
-
-  -- a key that comes with a value, and one that finds its slot's
-  pub brings-value : (s hash : ℕ) (key : K) (value : V) (es new : List (Entry K V)) → new ≡ written s (entry hash key value) es → Writes hash key (Some value) s es new
-  brings-value s hash key value es new is = record { held = value; is = refl; becomes = is }
-
-  pub keeps-value : (s hash : ℕ) (key : K) (es new : List (Entry K V)) → s < length es → new ≡ with_key s hash key es → Writes hash key None s es new
-  keeps-value s hash key es new there is =
-      let e = slice_get_some es s there in
-      let keyed : with_key s hash key es ≡ slice_set es s (entry hash key e.0.value) = ap (λ z. elim z [ None ↦ es | Some e ↦ slice_set es s (entry hash key e.value) ]) e.1 in
-      record { held = e.0.value; is = value-there es s ∙ ap (λ z. elim z [ None ↦ None | Some e ↦ Some e.value ]) e.1; becomes = is ∙ keyed ∙ set-written s (entry hash key e.0.value) es there }
 
 module _ {K V : Type 0} (hash : K → ℕ) where
   -- the same places in another order
@@ -48,7 +38,7 @@ module _ {K V : Type 0} (hash : K → ℕ) where
         hashed = all-written (λ e. e.hash ≡ hash e.key) slot e entries i.hashed refl;
       }
 
-  -- a resident's slot goes out of the index
+  -- a resident's slot leaves the index
   pub stored-left : (index : List (List (ℕ × ℕ))) (entries : List (Entry K V)) (places : List ℕ) (slot old : ℕ)
       → IsStored hash index entries places → 0 < length index → AllApart places → hash_at entries slot ≡ Some old
       → IsStored hash (removed eqb index old slot) entries (without slot places)
@@ -75,22 +65,6 @@ module _ {K V : Type 0} (hash : K → ℕ) where
         | inl e ↦ subst (λ z. has z places ≡ true) (sym (eqb-true t slot e)) there ∙ rw e refl
         | inr e ↦ rw (e, has-without_test t slot places, e) (sym (and_true (has t places)))
       ]
-
--- one of the places goes out of an index: it has room for another
-pub left-room : {K V : Type 0} (index index' : List (List (ℕ × ℕ))) (entries : List (Entry K V)) (places : List ℕ) (slot old : ℕ)
-    → IsIndex index entries places → AllApart places → has slot places ≡ true → hash_at entries slot ≡ Some old
-    → (beside : ℕ) → total index + beside < 2 ^ 24 → total index + beside ≤ capacity (length index) → index' ≡ removed eqb index old slot
-    → (total index' + beside < capacity (length index')) × (total index' + beside + 1 < 2 ^ 24)
-left-room index index' entries places slot old i apart there at beside few room is =
-    let n = length-without slot places apart there in
-    let some : 0 < length index = some_homes (length index) (omega (arith, n, i.counted, room)) in
-    let homes : length index' ≡ length index = ap (λ (z : List (List (ℕ × ℕ))). length z) is ∙ length-taken index old slot in
-    let count : total index' ≡ length (without slot places) = ap (λ z. total z) is ∙ (IsIndex-taken index entries places slot old i some apart at).counted in
-    (rw homes (omega (arith, n, count, i.counted, room)), omega (arith, n, count, i.counted, few))
-  where
-    some_homes : (n : ℕ) → 0 < capacity n → 0 < n
-    some_homes zero h = absurd (omega arith)
-    some_homes (suc n) h = omega arith
 
 -- what holds of all entries holds of the one at a place
 module _ {K V : Type 0} (hash : K → ℕ) where

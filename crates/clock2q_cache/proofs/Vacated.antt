@@ -1,13 +1,14 @@
--- Which slots have a resident, and what a cache's fields become where one of them leaves.
-use Rattle.std.proofs.Common.{◌≡◌, ℕ, ◌+◌, ◌<◌, ◌==◌, Bool, true, not, eqb, Option, Some, List, [], ◌∷◌, ◌++◌, length, reverse, inl, inr, refl, sym, ap, ◌∙◌, subst, arith, eq-eqb}
-use Rattle.clock2q_cache.proofs.Names.{length-values, is_some, IsSome, IsEquivalence, option_map, filter, find, count_by, cases_Bool, both_ways, slots_of-filter, some_is, filter-append, removed, has, without, KeyPlaces, hash_at, key_at, QueueState, slots_of, without_slot, Remembered, below_of, length-taken, Shares, Machine, residents, resident_at, slot_of, vacated, IsWhole, machine_of, places_of, with_keys_small, with_keys_main, IsStored, IsKept, whole-vacated}
+-- Which slots have a resident, and what a cache's fields become when one of them leaves.
+use Rattle.std.proofs.Common.{◌≡◌, ℕ, ◌+◌, ◌<◌, ◌≤◌, ◌==◌, Bool, true, not, eqb, Option, Some, List, [], ◌∷◌, ◌++◌, map, length, reverse, inl, inr, refl, sym, ap, ◌∙◌, subst, arith, eq-eqb}
+use Rattle.std.proofs.lemmas.List.Sums.{length-filter, count_by-le-length}
+use Rattle.clock2q_cache.proofs.Names.{length-values, is_some, IsSome, IsEquivalence, option_map, filter, find, count_by, cases_Bool, both_ways, slots_of-filter, some_is, filter-append, removed, has, without, KeyPlaces, hash_at, key_at, QueueState, slots_of, without_slot, Remembered, below_of, length-taken, Shares, Machine, residents, resident_at, resident_count, slot_of, vacated, SmallEntry, MainEntry, append-nil, IsWhole, machine_of, places_of, with_keys_small, with_keys_main, IsStored, IsKept, whole-vacated}
 use Rattle.clock2q_cache.proofs.WithKeys.{standing-keyed, small-without, main-without}
 use Rattle.clock2q_cache.proofs.Stored.{stored-left, have_keys}
 use Rattle.clock2q_cache.proofs.Slots.{small_have, main_have, apart, times-some, times-both}
 use Rattle.clock2q_cache.proofs.Places.{resident-there, resident-none}
 use Rattle.clock2q_cache.proofs.CacheInvariant.{index_some, sized-same}
 
--- a key that is found stands at its slot
+-- a key that is found is at its slot
 pub found-resident : {K V : Type 0} (is : K → Bool) (m : Machine K V) (slot : ℕ) → slot_of is m ≡ Some slot → IsSome (resident_at m slot)
 found-resident {K} {V} is m slot found = among (residents m) found
   where
@@ -21,12 +22,32 @@ found-resident {K} {V} is m slot found = among (residents m) found
       ]
     ]
 
+-- fewer entries are left if there was one at the slot
+module _ {K X : Type 0} (at : X → K × ℕ) (slot : ℕ) where
+  not-more : (es : List X) → length (filter (λ e. not ((at e).1 == slot)) es) ≤ length es
+  not-more es = omega (arith, length-filter (λ e. not ((at e).1 == slot)) es, count_by-le-length (λ e. not ((at e).1 == slot)) es)
+
+  fewer : (es : List X) (rs : List (K × ℕ)) (left all : ℕ) → left ≤ all → (is_some (find (λ (r : K × ℕ). r.1 == slot) rs) ≡ true → left + 1 ≤ all)
+      → is_some (find (λ (r : K × ℕ). r.1 == slot) (map at es ++ rs)) ≡ true → length (filter (λ e. not ((at e).1 == slot)) es) + left + 1 ≤ length es + all
+  fewer [] rs left all within last there = omega (arith, last there)
+  fewer (e ∷ es) rs left all within last there = elim (cases_Bool (eqb (at e).1 slot)) [
+    | inl i ↦ rw i (omega (arith, not-more es, within))
+    | inr i ↦ rw i (omega (arith, fewer es rs left all within last (rw i at there)))
+  ]
+
+pub fewer-residents : {K V : Type 0} (m : Machine K V) (slot : ℕ) → IsSome (resident_at m slot) → resident_count (vacated slot m) + 1 ≤ resident_count m
+fewer-residents {K} {V} m slot there =
+    let in-main : MainEntry K → K × ℕ = λ e. (e.key, e.slot) in
+    fewer (λ (e : SmallEntry K). (e.key, e.slot)) slot m.small (map in-main m.main) (length (filter (λ e. not (e.slot == slot)) m.main)) (length m.main)
+    (not-more in-main slot m.main)
+    (λ some. omega (arith, fewer in-main slot m.main [] 0 0 (omega arith) (λ no. absurd (cc)) (rw (append-nil (map in-main m.main)) some))) there
+
 module _ {K V : Type 0} {eq : K → K → Bool} {hash : K → ℕ} {shares : Shares} {q : QueueState} {h : Remembered K} {index : List (List (ℕ × ℕ))} {keys : KeyPlaces K V} {free : List ℕ} {room : ℕ}
     (laws : IsEquivalence eq) (kept : IsKept eq hash shares q h index keys free room) where
   abbrev m : Machine K V
   m = machine_of shares q keys.entries h.entries free
 
-  -- a slot has a resident where it stands in a queue
+  -- a slot has a resident if it is in a queue
   pub resident-some : (t : ℕ) → is_some (resident_at m t) ≡ has t (places_of q)
   resident-some t = elim (cases_Bool (has t (places_of q))) [
     | inl g ↦ let k = have_keys keys.entries (places_of q) kept.stored.made t g in ap (λ (z : Option (K × ℕ)). is_some z) (resident-there laws kept t k.0 g k.1) ∙ sym g

@@ -1,4 +1,4 @@
--- What becomes of the queues' lists of slots is what becomes of the machine's, with the keys that stand at the slots.
+-- The queues' lists of slots, with the keys at the slots, change as the machine's lists do.
 use Rattle.std.proofs.Common.{◌≡◌, ℕ, zero, suc, ◌+◌, ◌==◌, Bool, true, false, not, cond, eqb, Option, Some, None, List, [], ◌∷◌, ◌++◌, map, length, take, drop, inl, inr, refl, sym, ap, ◌∙◌, subst, arith}
 use Rattle.clock2q_cache.proofs.Names.{if◌then◌else◌, last_or, count_by, cons_option, filter, filter_map, option_map, cases_Bool, filter_map-append, sum_by-cons, Age, grown, touched, has, admitted, small_hit_at, set_front, inspections, from_victim, main_hit_at, slots_of, without_slot, has_first, has_later, SmallEntry, MainEntry, with_keys_small, with_keys_main}
 use Rattle.clock2q_machine.specs.Ages as ages
@@ -19,14 +19,14 @@ module _ {K : Type 0} (key : ℕ → Option K) where
   pub have_later : (s : ℕ) (ss : List ℕ) → HaveKeys (s ∷ ss) → HaveKeys ss
   have_later s ss h t g = h t (has_later t s ss g)
 
-  -- the keys that stand at these places, each with its place
+  -- the keys at these places, each with its place
   abbrev pub paired : List ℕ → List (K × ℕ)
   paired places = filter_map (λ s. option_map (λ k. (k, s)) (key s)) places
 
   pub paired-cons : (s : ℕ) (ss : List ℕ) (k : K) → key s ≡ Some k → paired (s ∷ ss) ≡ (k, s) ∷ paired ss
   paired-cons s ss k h = ap (λ o. cons_option (option_map (λ (k : K). (k, s)) o) (paired ss)) h
 
--- a queue's entries, and what they are with the keys that stand at their slots
+-- a queue's entries, and the same with the keys at their slots
 pub data Keyed {K X R : Type 0} (make : ℕ × X → K → R) (key : ℕ → Option K) : List (ℕ × X) → List R → Type 0 where
   unkeyed : Keyed make key [] []
   keyed : {e : ℕ × X} {es : List (ℕ × X)} {rs : List R} (k : K) → key e.0 ≡ Some k → Keyed make key es rs → Keyed make key (e ∷ es) (make e k ∷ rs)
@@ -57,7 +57,7 @@ module _ {K X R : Type 0} (make : ℕ × X → K → R) (key : ℕ → Option K)
       ∙ ap (λ z. cons_option (option_map (λ k. make e k) (key e.0)) z) (keys-agree key' es (λ t g. h t (has_later t e.0 (slots_of es) g)))
 
 module _ {K X R : Type 0} {make : ℕ × X → K → R} {key : ℕ → Option K} where
-  -- as many as there are slots
+  -- there are as many as slots
   length-keyed : {es : List (ℕ × X)} {rs : List R} → Keyed make key es rs → length rs ≡ length es
   length-keyed unkeyed = refl
   length-keyed (keyed k at r) = ap suc (length-keyed r)
@@ -92,7 +92,7 @@ module _ {K X R : Type 0} {make : ℕ × X → K → R} {key : ℕ → Option K}
       ap (λ z. z ∷ map show rs) (shown e k) ∙ ap (λ zs. (k, e.0) ∷ zs) (keyed-paired show shown r) ∙ sym (paired-cons key e.0 (slots_of es) k at)
 
   module _ (slot : R → ℕ) (stands : (e : ℕ × X) (k : K) → slot (make e k) ≡ e.0) (t : ℕ) where
-    -- how often a slot stands
+    -- how often a slot occurs
     pub keyed-standing : {es : List (ℕ × X)} {rs : List R} → Keyed make key es rs → count_by (λ r. slot r == t) rs ≡ count_by (λ s. s == t) (slots_of es)
     keyed-standing unkeyed = refl
     keyed-standing (keyed {e} {es} {rs} k at r) = omega (
@@ -111,7 +111,7 @@ module _ {K X R : Type 0} {make : ℕ × X → K → R} {key : ℕ → Option K}
       | inr q ↦ rw (stands e k, q) (keyed k at (keyed-without r))
     ]
 
-  -- a hit, where the key passes the test at this slot alone
+  -- a hit, if the key passes the test only at this slot
   keyed-hit : (of : R → K) (h : X → X) (g : R → R) → ((e : ℕ × X) (k : K) → of (make e k) ≡ k) → ((e : ℕ × X) (k : K) → g (make e k) ≡ make (e.0, h e.1) k)
       → (is : K → Bool) (slot : ℕ) {es : List (ℕ × X)} {rs : List R} → ((t : ℕ) (k : K) → has t (slots_of es) ≡ true → key t ≡ Some k → is k ≡ eqb t slot) → Keyed make key es rs
       → Keyed make key (map {B = ℕ × X} (λ e. if e.0 == slot then (e.0, h e.1) else e) es) (map (λ r. if is (of r) then g r else r) rs)
@@ -154,7 +154,7 @@ module _ {K : Type 0} (key : ℕ → Option K) where
       keys-cons small_with key (slot, ages.Young 0) (map {B = ℕ × Age} (λ (e : ℕ × Age). (e.0, grown window e.1)) es) k h
       ∙ ap (λ zs. small_with (slot, ages.Young 0) k ∷ zs) (sym (small-grown window es))
 
-  -- a slot that is put behind the hand
+  -- a slot that is put at the end, behind the hand
   pub main-behind : (slot : ℕ) (k : K) (es : List (ℕ × Bool)) → key slot ≡ Some k → with_keys_main key (es ++ (slot, false) ∷ []) ≡ machine.behind_hand k slot (with_keys_main key es)
   main-behind slot k es h =
       filter_map-append (λ (e : ℕ × Bool). option_map (λ k. main_with e k) (key e.0)) es ((slot, false) ∷ [])
@@ -187,7 +187,7 @@ module _ {K : Type 0} (key : ℕ → Option K) where
       ap (λ n. drop n (with_keys_main key es) ++ map (λ (e : MainEntry K). record e { bit = false }) (take n (with_keys_main key es))) (main-passed r)
       ∙ sym (keyed-is main_with key (append-keyed (drop-keyed (set_front es) r) (main-cleared (take-keyed (set_front es) r))))
 
-  -- a hit, where the key passes the test at this slot alone
+  -- a hit, if the key passes the test only at this slot
   module _ (is : K → Bool) (slot : ℕ) where
     pub small-hit : (es : List (ℕ × Age)) → ((t : ℕ) (k : K) → has t (slots_of es) ≡ true → key t ≡ Some k → is k ≡ eqb t slot) → HaveKeys key (slots_of es)
         → with_keys_small key (small_hit_at slot es) ≡ machine.small_hit is (with_keys_small key es)
@@ -199,7 +199,7 @@ module _ {K : Type 0} (key : ℕ → Option K) where
     main-hit es tells h =
         keyed-is main_with key (keyed-hit (λ (e : MainEntry K). e.key) (λ b. true) (λ e. record e { bit = true }) (λ e k. refl) (λ e k. refl) is slot tells (have-keyed main_with key es h))
 
-  -- how often a slot stands in both queues
+  -- how often a slot occurs in both queues
   pub standing-keyed : (t : ℕ) (small : List (ℕ × Age)) (main : List (ℕ × Bool)) → HaveKeys key (slots_of small) → HaveKeys key (slots_of main)
       → count_by (λ (e : SmallEntry K). e.slot == t) (with_keys_small key small) + count_by (λ (e : MainEntry K). e.slot == t) (with_keys_main key main)
       ≡ count_by (λ s. s == t) (slots_of small) + count_by (λ s. s == t) (slots_of main)

@@ -1,4 +1,4 @@
--- How many link accesses a call makes at most, worked out by hand.
+-- The bounds on link accesses of some calls, worked out by hand.
 use Rattle.std.proofs.Common.{◌≡◌, false, eqb, None, [], ◌∷◌, ◌++◌, refl}
 use Rattle.clock2q_cache.proofs.Names.{Put, Get, GetAt, Try, Retain, Clear, most_accesses}
 use Rattle.clock2q_machine.proofs.WorkedRuns.{puts, gets, state}

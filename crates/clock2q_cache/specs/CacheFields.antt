@@ -3,13 +3,13 @@ use Rattle.std.specs.Prelude.{◌≡◌, ℕ, ◌+◌, ◌^◌, ◌<◌, ◌≤�
 use Rattle.std.specs.List.{filter_map, AllByRecursion}
 use Rattle.std.specs.Option.{option_map}
 use Rattle.clock2q_machine.specs.Ages.{Age}
-use Rattle.clock2q_queues.specs.declared.keys.store.Entry.{Entry}
-use Rattle.clock2q_queues.specs.Keys.{KeyPlaces, key_at}
-use Rattle.clock2q_queues.specs.Indexes.{IsIndex}
+use Rattle.clock2q_directory.specs.declared.keys.store.Entry.{Entry}
+use Rattle.clock2q_directory.specs.Keys.{KeyPlaces, key_at}
+use Rattle.clock2q_directory.specs.Indexes.{IsIndex}
 use Rattle.clock2q_queues.specs.Rings.{AllBelow}
 use Rattle.clock2q_queues.specs.Queues.{QueueState, slots_of}
 use Rattle.clock2q_handles.specs.Homes.{capacity}
-use Rattle.clock2q_queues.specs.History.{Remembered, most_beside}
+use Rattle.clock2q_directory.specs.History.{Remembered, most_beside}
 use Rattle.clock2q_machine.specs.Shares.{Shares, history_share}
 use Rattle.clock2q_machine.specs.Entries.{SmallEntry, MainEntry}
 use Rattle.clock2q_machine.specs.Machine.{Machine}
@@ -17,11 +17,11 @@ use Rattle.clock2q_machine.specs.Whole.{IsWhole}
 use Rattle.clock2q_cache.specs.CacheState.{Counts}
 
 module _ {K : Type 0} where
-  -- Small with the keys that stand at its slots
+  -- Small, with the keys at its slots
   abbrev pub with_keys_small : (ℕ → Option K) → List (ℕ × Age) → List (SmallEntry K)
   with_keys_small key small = filter_map (λ e. option_map (λ k. record { key = k; slot = e.0; age = e.1 }) (key e.0)) small
 
-  -- Main with the keys that stand at its slots
+  -- Main, with the keys at its slots
   abbrev pub with_keys_main : (ℕ → Option K) → List (ℕ × Bool) → List (MainEntry K)
   with_keys_main key main = filter_map (λ e. option_map (λ k. record { key = k; slot = e.0; bit = e.1 }) (key e.0)) main
 
@@ -30,7 +30,8 @@ abbrev pub places_of : QueueState → List ℕ
 places_of q = slots_of q.small ++ slots_of q.main
 
 module _ {K V : Type 0} where
-  -- the machine, from the queues, the keys and values by slot, the keys of the history and the free slots, of which the last is the top
+  -- the machine, from the queues, the keys and values by slot, the keys of the history and the free slots, the last of
+  -- which is the top
   abbrev pub machine_of : Shares → QueueState → List (Entry K V) → List (ℕ × K) → List ℕ → Machine K V
   machine_of shares q entries history free = record {
     shares = shares;
@@ -41,7 +42,7 @@ module _ {K V : Type 0} where
     values = map (λ e. e.value) entries;
   }
 
-  -- each of these slots has a key, with its hash, and the index has just these
+  -- each of these slots has a key, with its hash, and the index has exactly these
   pub record IsStored (hash : K → ℕ) (index : List (List (ℕ × ℕ))) (entries : List (Entry K V)) (places : List ℕ) : Type 0 where
     pub made : AllBelow (length entries) places
     pub indexed : IsIndex index entries places
@@ -59,7 +60,7 @@ pub record IsSized (shares : Shares) (q : QueueState) (limit beside homes keys_r
   pub short : shares.capacity < 2 ^ 24
   pub few : shares.capacity + beside < 2 ^ 24
 
--- what holds of a cache's fields
+-- the invariant of a cache's fields
 pub record IsKept {K V : Type 0} (eq : K → K → Bool) (hash : K → ℕ) (shares : Shares) (q : QueueState)
     (h : Remembered K) (index : List (List (ℕ × ℕ))) (keys : KeyPlaces K V) (free : List ℕ) (room : ℕ) : Type 0 where
   pub whole : IsWhole eq (machine_of shares q keys.entries h.entries free)
@@ -67,6 +68,6 @@ pub record IsKept {K V : Type 0} (eq : K → K → Bool) (hash : K → ℕ) (sha
   pub hashed : AllByRecursion (λ e. e.0 ≡ hash e.1) h.entries
   pub sized : IsSized shares q h.limit (most_beside h) (length index) keys.room room
 
--- what was counted below
+-- what the layers below counted
 abbrev pub counts_of : {K V : Type 0} → QueueState → Remembered K → KeyPlaces K V → Counts
 counts_of q h keys = record { inspections = q.inspections; accesses = q.accesses + h.accesses; questions = h.questions + keys.questions }

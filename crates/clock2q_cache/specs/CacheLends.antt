@@ -1,27 +1,35 @@
--- What a cache is left as by a call that lends a value of it.
-use Rattle.std.specs.Prelude.{ℕ, Option, None, IfNone, Result, ⊤}
-use Rattle.std.specs.Borrow.{Fml, RattleType, MutBor, Lends, LendsSo, LendsSoOk, follows_so}
+-- What a call that lends a value of a cache leaves of the cache.
+use Rattle.std.specs.Prelude.{ℕ, Option, None, IfNone, Result, MatchResult, ⊤}
+use Rattle.std.specs.Borrow.{Fml, RattleType, Bor, MutBor, Lends, LendsSo, LendsSoOk, follows_so}
 use Rattle.std.specs.HashMap.Lent.{HashMembers}
 use Rattle.std.specs.declared.alloc.Allocator as alloc
 use Rattle.std.specs.declared.hash.Hasher as hasher
 use Rattle.std.specs.declared.hash.BuildHasher as builder
 use mathlib.Core.Option.{none}
-use Rattle.clock2q_machine.specs.Calls.{Call, Put, Get, Set, Try}
+use Rattle.clock2q_machine.specs.Calls.{Call, Put, Get, Set, With, Try}
 use Rattle.clock2q_cache.specs.Costs.{Becomes}
 use Rattle.clock2q_machine.specs.Machine.{Machine, stored}
-use Rattle.clock2q_machine.specs.Steps.{replaced, put}
+use Rattle.clock2q_machine.specs.Steps.{replaced, put, fetched}
 use Rattle.clock2q_cache.specs.CacheState.{CacheState}
 use Rattle.clock2q_cache.specs.Charged.{with_slot}
 use Rattle.clock2q_cache.specs.contracts.cache.Cache.{the_row}
 
 module _ (K V S A H : RattleType) (key : HashMembers K.Denot) (build : builder.Ghosts S.Denot H.Denot) (hash : hasher.Ghosts H.Denot) (heap : alloc.Ghosts A.Denot) where
-  -- the cache's type, as the logic holds it
+  -- the type of the cache, in the logic
   abbrev pub cache_row : RattleType
   cache_row = the_row K V S A H (record { hash_input = key.hash_input }) (record { eq = key.eq }) build hash heap
 
-  -- the machine is this one once the reference into the cache has ended, at the cost of the call
+  -- once the reference into the cache has ended, the machine is this one, at the cost of the call
   abbrev pub LeavesMachine : MutBor (CacheState K.Denot V.Denot S.Denot) → Call K.Denot V.Denot → Machine K.Denot V.Denot → Fml
   LeavesMachine c call m = follows_so cache_row cache_row c.ghost_name none (λ _ _. ⊤) (Becomes key build hash call m c.now)
+
+  -- the key was fetched, at the cost of the call, and has this value; at `Err` the machine is as it was
+  abbrev pub Tries : {E : Type 0} → CacheState K.Denot V.Denot S.Denot → K.Denot → Result (Bor V.Denot) E → CacheState K.Denot V.Denot S.Denot → Type 0
+  Tries old k r new = MatchResult r (λ value. Becomes key build hash (With k value.now) (fetched (key.eq k) k value.now old.machine) old new) (λ _. Becomes key build hash (Try k None) old.machine old new)
+
+  -- the same once the reference into the cache has ended
+  abbrev pub LeavesTried : {E : Type 0} → MutBor (CacheState K.Denot V.Denot S.Denot) → K.Denot → Result (Bor V.Denot) E → Fml
+  LeavesTried c k r = follows_so cache_row cache_row c.ghost_name none (λ _ _. ⊤) (Tries c.now k r)
 
   -- the value of that slot is what the caller leaves behind the reference, and nothing else changes
   abbrev pub LendsSlot : MutBor (CacheState K.Denot V.Denot S.Denot) → ℕ → MutBor V.Denot → Fml
@@ -36,6 +44,6 @@ module _ (K V S A H : RattleType) (key : HashMembers K.Denot) (build : builder.G
   abbrev pub LendsPut : {E : Type 0} → MutBor (CacheState K.Denot V.Denot S.Denot) → K.Denot → Result (MutBor V.Denot) E → Fml
   LendsPut c k r = LendsSoOk cache_row V c r (λ n w. Becomes key build hash (Put k w) (put (key.eq k) k w c.now.machine) c.now n) (λ n. Becomes key build hash (Try k None) c.now.machine c.now n)
 
-  -- the key has its slot, where the value is what the caller leaves behind the reference, as after `put`; the counts are brought to their bounds
+  -- the key has its slot, where the value is what the caller leaves behind the reference, as after `put`; the counts are raised to their bounds
   abbrev pub LendsTaken : MutBor (CacheState K.Denot V.Denot S.Denot) → K.Denot → MutBor V.Denot → Fml
   LendsTaken c k r = Lends cache_row V c r (λ w. with_slot key build hash k w c.now)

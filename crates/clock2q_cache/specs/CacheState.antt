@@ -1,11 +1,11 @@
 -- What contracts see of a cache.
 use Rattle.std.specs.Prelude.{ℕ, List, refl}
 use Rattle.std.specs.Coded.{Coded, code_by, coded×, coded_ℕ}
-use Rattle.clock2q_queues.specs.Index.{slots, places}
-use Rattle.clock2q_queues.specs.History.{Places, places_code}
+use Rattle.clock2q_directory.specs.Index.{slots, places}
+use Rattle.clock2q_directory.specs.History.{Places, places_code}
 use Rattle.clock2q_machine.specs.Machine.{Machine, machine_code}
 
--- how many inspections, accesses to links and questions there were
+-- the number of inspections, of accesses to links and of questions
 pub record Counts : Type 0 where
   pub inspections : ℕ
   pub accesses : ℕ
@@ -20,7 +20,8 @@ counts_code =
     code_by (ℕ × (ℕ × ℕ)) (coded× coded_ℕ (coded× coded_ℕ coded_ℕ)) (λ c. (c.inspections, (c.accesses, c.questions)))
     (λ p. record { inspections = p.0; accesses = p.1.0; questions = p.1.1 }) (λ _. refl)
 
--- the machine that the cache is, the index of its known keys with the places of its history's, what its hasher is, and what was counted
+-- the machine that the cache is, the index of its known keys with the places of the history's keys, the state of its
+-- hasher, and the counts
 pub record CacheState (K V S : Type 0) : Type 0 where
   pub machine : Machine K V
   pub known : Places
@@ -37,7 +38,7 @@ cache_code {K} {V} {S} key value hasher = code_by (Machine K V × (Places × (S 
     (λ p. cache_state p.0 p.1.0 p.1.1.0 p.1.1.1)
     (λ _. refl)
 
--- the lists by home of the residents' slots, and of the remembered keys' places: two views of the index
+-- by home, the slots of the residents and the places of the remembered keys: two views of the index
 abbrev pub residents_in : Places → List (List (ℕ × ℕ))
 residents_in p = slots p.index
 

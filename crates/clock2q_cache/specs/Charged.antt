@@ -1,4 +1,4 @@
--- What a cache is once a key has its slot and the counts were brought to their bounds.
+-- A cache in which a key has its slot and the counts are raised to their bounds.
 use Rattle.std.specs.Prelude.{ℕ, ◌+◌}
 use Rattle.std.specs.declared.hash.Hasher as hasher
 use Rattle.std.specs.declared.hash.BuildHasher as builder
@@ -10,7 +10,7 @@ use Rattle.clock2q_cache.specs.Places.{known_with}
 use Rattle.clock2q_machine.specs.Steps.{put}
 
 module _ {K V S H : Type 0} (key : HashMembers K) (build : builder.Ghosts S H) (hash : hasher.Ghosts H) where
-  -- the most accesses to links and questions that a call for a key's slot makes, added to what was counted
+  -- what was counted, plus the most accesses to links and questions that a call for a key's slot makes
   abbrev pub most_links : K → CacheState K V S → ℕ
   most_links k c = c.counts.accesses + accesses_for (key.eq k) c.machine
 

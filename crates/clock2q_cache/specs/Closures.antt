@@ -1,33 +1,34 @@
--- What the calls that are handed a closure ask of it.
+-- What the calls that take a closure require of it, and what they do with it.
 use Rattle.std.specs.Prelude.{◌≡◌, ℕ, ◌+◌, Bool, List, [], ◌∷◌, ◌++◌, map, length, slice_get, Some}
 use Rattle.std.specs.Borrow.{Bor}
 use Rattle.std.specs.Fn.{Mut, Called, Takes as IsCallableAt}
 use Rattle.std.specs.Option.{UnwrapsOrElse}
 use Rattle.std.specs.List.{FoldsTo, AllByRecursion}
 use Rattle.std.specs.List.Retain.{ReturnsInTurn}
-use Rattle.clock2q_queues.specs.declared.keys.store.Entry.{Entry}
+use Rattle.clock2q_directory.specs.declared.keys.store.Entry.{Entry}
 use Rattle.clock2q_machine.specs.Machine.{Machine, slot_of, value_of, placement, reused, stored, by_slot, prefilled}
 use Rattle.clock2q_machine.specs.Steps.{put, fetched, slotted, slotted_at, retained}
 
 module _ {F K V : Type 0} (g : Mut F (Bor K × (Bor V × Unit {0})) Bool) where
-  -- a call at the key of a resident and the value of its slot gave b
+  -- a call with the key of a resident and the value of its slot returned b
   pub record AsksResident (values : List V) (f : F) (resident : K × ℕ) (b : Bool) (f' : F) : Type 0 where
     pub key : Bor K
     pub value : Bor V
     pub shows : (key.now ≡ resident.0) × (slice_get values resident.1 ≡ Some value.now)
     pub called : Called g f (key, (value, tt)) b f'
 
-  -- f may be called at the key of the first resident and the value of its slot, and whatever it gives there, at the next
+  -- f may be called with the key of the first resident and the value of its slot and, whatever it returns, with the
+  -- next
   abbrev pub TakesInTurn : List V → F → List (K × ℕ) → Type 0
   TakesInTurn values f [] = Unit {0}
   TakesInTurn values f (r ∷ rs) = (key : Bor K) (value : Bor V) → key.now ≡ r.0 → slice_get values r.1 ≡ Some value.now
       → IsCallableAt g f (key, (value, tt)) × ((b : Bool) (next : F) → Called g f (key, (value, tt)) b next → TakesInTurn values next rs)
 
-  -- f may be asked about each resident, by ascending slot
+  -- f may be called for each resident, by ascending slot
   pub record MayBeAsked (f : F) (m : Machine K V) : Type 0 where
     pub in_turn : TakesInTurn m.values f (by_slot m)
 
-  -- there was one call for each resident, by ascending slot, and the residents at which it gave false left
+  -- there was one call for each resident, by ascending slot, and the residents for which it returned false left
   pub record Retains (f : F) (old new : Machine K V) : Type 0 where
     pub bits : List Bool
     pub last : F
@@ -36,7 +37,8 @@ module _ {F K V : Type 0} (g : Mut F (Bor K × (Bor V × Unit {0})) Bool) where
     pub becomes : new ≡ retained bits old
 
 module _ {F K V : Type 0} (g : Mut F Unit V) where
-  -- there was one call for each slot that was never made, in order, and each of these slots has the value that it gave
+  -- there was one call for each slot that was never made, in order, and each of these slots has the value that it
+  -- returned
   pub record Prefills (f : F) (old new : Machine K V) : Type 0 where
     pub made : List V
     pub last : F
@@ -44,7 +46,7 @@ module _ {F K V : Type 0} (g : Mut F Unit V) where
     pub called : FoldsTo (λ p value q. Called g p tt value q) f made last
     pub becomes : new ≡ prefilled made old
 
-  -- entries were added up to this many, each with the hash of its key and a value that the closure gave, in order
+  -- entries were added up to this number, each with the hash of its key and a value that the closure returned, in order
   pub record FillsUp (f : F) (hash : K → ℕ) (many : ℕ) (old new : List (Entry K V)) (last : F) : Type 0 where
     pub added : List (Entry K V)
     pub is : new ≡ old ++ added
@@ -53,7 +55,8 @@ module _ {F K V : Type 0} (g : Mut F Unit V) where
     pub called : FoldsTo (λ p value q. Called g p tt value q) f (map (λ e. e.value) added) last
 
 module _ {K V : Type 0} (is : K → Bool) (key : K) (made : V → Type 0) where
-  -- the key is hit, or else inserted with a value that was made; the value that it has stands at this slot, and another one there is as if it were put
+  -- the key is hit, or inserted with a value that was made; its value is at this slot, and storing another one there is
+  -- like a put
   pub record Fetches (old : Machine K V) (slot : ℕ) (new : Machine K V) : Type 0 where
     pub value : V
     pub had : UnwrapsOrElse (value_of is old) made value
@@ -61,13 +64,14 @@ module _ {K V : Type 0} (is : K → Bool) (key : K) (made : V → Type 0) where
     pub becomes : new ≡ fetched is key value old
     pub writes : (w : V) → stored slot w new ≡ put is key w old
 
-  -- the key is inserted; a slot that was made before keeps its value, and a new one has a value that was made
+  -- the key is inserted; a slot that was made before keeps its value, and a new one gets a value that was made
   pub record Reuses (old new : Machine K V) : Type 0 where
     pub value : V
     pub had : UnwrapsOrElse (slice_get old.values (placement is key old).slot) made value
     pub becomes : new ≡ reused is key value old
 
-  -- the key is hit, or else inserted; a slot that was made before keeps its value, and a new one has a value that was made; another value that is stored there is as if it were put
+  -- the key is hit or inserted; a slot that was made before keeps its value, and a new one gets a value that was made;
+  -- storing another value there is like a put
   pub record Takes (old : Machine K V) (slot : ℕ) (new : Machine K V) : Type 0 where
     pub value : V
     pub at : slot ≡ slotted_at (slot_of is old) is key old

@@ -1,4 +1,4 @@
--- What a call costs a cache: inspections of the hand, accesses of links, questions to keys.
+-- What a call costs a cache: inspections by the hand, accesses to links, questions to keys.
 use Rattle.std.specs.Prelude.{◌≡◌, ℕ, ◌+◌, ◌*◌, ◌≤◌, Bool, if◌then◌else◌, Some, None, is_some, length}
 use Rattle.std.specs.declared.hash.Hasher as hasher
 use Rattle.std.specs.declared.hash.BuildHasher as builder
@@ -11,17 +11,19 @@ use Rattle.clock2q_machine.specs.Bounds.{set_bits, inspections_for, inspections_
 use Rattle.clock2q_cache.specs.CacheState.{CacheState, Counts, residents_in, remembered_in}
 use Rattle.clock2q_cache.specs.Hashes.{hash_of}
 
--- the hand made so many inspections, and at most so many links were accessed and questions asked
+-- the hand made this many inspections, and at most this many links were accessed and questions asked
 pub record Spends (inspected links keys : ℕ) (old new : Counts) : Type 0 where
   pub inspections : new.inspections ≡ old.inspections + inspected
   pub accesses : Rises 0 links old.accesses new.accesses
   pub questions : Rises 0 keys old.questions new.questions
 
--- how often links may be accessed where a key is wanted: never if it is resident, else 36 times beside the hand's inspections
+-- the bound on accesses to links to fetch or insert a key: 0 if it is resident, otherwise 36 plus the hand's
+-- inspections
 abbrev pub accesses_for : {K V : Type 0} → (K → Bool) → Machine K V → ℕ
 accesses_for is m = if is_some (slot_of is m) then 0 else inspections_for is m + 36
 
--- how often a call may access links: so often for a key that it brings, and so often for each slot if it goes through all of them
+-- the bound on a call's accesses to links: the above for a key that it may insert, or some for each slot if it
+-- visits all of them
 abbrev pub most_accesses : {K V : Type 0} → (K → K → Bool) → Call K V → Machine K V → ℕ
 most_accesses eq (Put key value) m = accesses_for (eq key) m
 most_accesses eq (With key value) m = accesses_for (eq key) m
@@ -42,11 +44,11 @@ most_accesses eq IsEmpty m = 0
 most_accesses eq Capacity m = 0
 
 module _ {K V S H : Type 0} (key : HashMembers K) (build : builder.Ghosts S H) (hash : hasher.Ghosts H) where
-  -- how many slots and places stand in the index under the hash of a key
+  -- the number of slots and places in the index under the hash of a key
   abbrev pub alike : K → CacheState K V S → ℕ
   alike k c = let x = hash_of build hash c.hasher (key.hash_input k) in length (candidates (residents_in c.known) x) + length (candidates (remembered_in c.known) x)
 
-  -- how many questions a call may ask: one to each key under the hash of its own, or one to the key at its slot
+  -- the bound on a call's questions: one to each key under the hash of its own, or one to the key at its slot
   abbrev pub most_questions : Call K V → CacheState K V S → ℕ
   most_questions (Put k value) c = alike k c
   most_questions (Get k) c = alike k c
@@ -65,7 +67,8 @@ module _ {K V S H : Type 0} (key : HashMembers K) (build : builder.Ghosts S H) (
   most_questions IsEmpty c = 0
   most_questions Capacity c = 0
 
-  -- it spent no more than it may, and each inspection was paid for: by Main's victim, or by a bit of Main that was set before or by the call
+  -- the call spent no more than its bounds, and each inspection was paid for: by Main's victim, or by a bit of Main
+  -- that was set before or by the call
   pub record Costs (call : Call K V) (old new : CacheState K V S) : Type 0 where
     pub counts : Spends (inspections_of key.eq call old.machine) (most_accesses key.eq call old.machine) (most_questions call old) old.counts new.counts
     pub clock : new.counts.inspections + set_bits new.machine ≤ old.counts.inspections + main_victims key.eq call old.machine + settings key.eq call old.machine + set_bits old.machine

@@ -1,4 +1,4 @@
--- What stands in the index of a cache: the slot or place of each key under the key's hash, and nothing else.
+-- What is in the index of a cache: the slot or place of each key under the key's hash, and nothing else.
 use Rattle.std.specs.Prelude.{◌≡◌, ℕ, ◌+◌, ◌≤◌, ◌==◌, ◌&&◌, false, if◌then◌else◌, List, length}
 use Rattle.std.specs.List.{list_any, zip}
 use Rattle.std.specs.declared.hash.Hasher as hasher
@@ -6,14 +6,14 @@ use Rattle.std.specs.declared.hash.BuildHasher as builder
 use Rattle.std.specs.HashMap.Lent.{HashMembers}
 use Rattle.clock2q_handles.specs.Homes.{candidates, capacity, total}
 use Rattle.clock2q_queues.specs.Rings.{has, AllApart}
-use Rattle.clock2q_queues.specs.Indexes.{is_alike}
-use Rattle.clock2q_queues.specs.Index.{is_shared}
+use Rattle.clock2q_directory.specs.Indexes.{is_alike}
+use Rattle.clock2q_directory.specs.Index.{is_shared}
 use Rattle.clock2q_machine.specs.Machine.{residents}
 use Rattle.clock2q_machine.specs.Shares.{history_share}
 use Rattle.clock2q_cache.specs.CacheState.{CacheState, residents_in, remembered_in}
 use Rattle.clock2q_cache.specs.Hashes.{hash_of}
 
--- a lookup of a hash finds the places of the keys whose hash is like it, each once, and there are as many entries as keys
+-- a lookup of a hash finds the places of the keys with a hash like it, each once, and there are as many entries as keys
 pub record HasPlaces {K : Type 0} (hash : K → ℕ) (index : List (List (ℕ × ℕ))) (keys : List (K × ℕ)) : Type 0 where
   pub found : (x place : ℕ) → has place (candidates index x) ≡ list_any (λ e. (place == e.1) && is_alike index x (hash e.0)) keys
   pub once : (x : ℕ) → AllApart (candidates index x)
@@ -26,8 +26,8 @@ module _ {K V S H : Type 0} (key : HashMembers K) (build : builder.Ghosts S H) (
     pub as_many : length c.known.taken ≡ length c.machine.history
     pub remembered : HasPlaces (λ k. hash_of build hash c.hasher (key.hash_input k)) (remembered_in c.known) (zip c.machine.history c.known.taken)
 
--- the index has room for each key that it may ever have in three quarters of its slots: the residents and, where they
--- share their table, the remembered keys, which else have a table of their own
+-- three quarters of the index's slots are enough for every key that it may ever have: the residents and, if they share
+-- their table, the remembered keys, which otherwise have a table of their own
 pub record IsSpacious {K V S : Type 0} (c : CacheState K V S) : Type 0 where
   pub residents : c.machine.shares.capacity + (if is_shared c.known.index then history_share c.machine.shares else 0) ≤ capacity (length (residents_in c.known))
   pub remembered : is_shared c.known.index ≡ false → history_share c.machine.shares ≤ capacity (length (remembered_in c.known))

@@ -1,35 +1,24 @@
--- Where a key that is not known is inserted: how often the hand inspects, and the value that its slot has then. No public clause cites this file.
-use Rattle.std.specs.Prelude.{◌≡◌, ℕ, Bool, not, ◌&&◌, ◌==◌, if◌then◌else◌, nat_lt, List, map, length, slice_get, Option, Some, None, is_some}
+-- Where a key that is not known is inserted: the number of inspections by the hand, and the value that its slot then
+-- has. No public clause cites this file.
+use Rattle.std.specs.Prelude.{◌≡◌, ℕ, Bool, not, ◌&&◌, ◌==◌, if◌then◌else◌, nat_lt, length, Option, None, is_some}
 use Rattle.std.specs.List.{last_or}
 use Rattle.clock2q_machine.specs.Shares.{main_share}
 use Rattle.clock2q_machine.specs.Entries.{inspections}
-use Rattle.clock2q_queues.specs.declared.keys.store.Entry.{Entry}
-use Rattle.clock2q_queues.specs.Keys.{entry, written}
+use Rattle.clock2q_directory.specs.Keys.{IsValueFor}
 use Rattle.clock2q_machine.specs.Machine.{Machine, Placement, vacancy, into_main, into_small, stored}
 use Rattle.clock2q_machine.specs.Bounds.{goes_on}
 
 module _ {K V : Type 0} where
-  -- where it enters Main
+  -- for a key that enters Main
   abbrev pub main_inspections : Machine K V → ℕ
   main_inspections m = if length m.main == main_share m.shares then inspections m.main else 0
 
-  -- where it enters Small
+  -- for a key that enters Small
   abbrev pub small_inspections : Machine K V → ℕ
   small_inspections m = if not (is_some (vacancy m)) && goes_on (last_or None m.small) then inspections m.main else 0
 
--- the value of a slot: the one that was brought, else the one that the slot had
-abbrev pub IsValueFor : {V : Type 0} → Option V → ℕ → List V → V → Type 0
-IsValueFor (Some value) slot values v = v ≡ value
-IsValueFor None slot values v = slice_get values slot ≡ Some v
-
 module _ {K V : Type 0} where
-  -- a key stands at a slot, with such a value
-  pub record Writes (hash : ℕ) (key : K) (value : Option V) (slot : ℕ) (old new : List (Entry K V)) : Type 0 where
-    pub held : V
-    pub is : IsValueFor value slot (map (λ e. e.value) old) held
-    pub becomes : new ≡ written slot (entry hash key held) old
-
-  -- a key was placed, and its slot has such a value
+  -- a key was placed, and its slot has the given value or, without one, the value that it had
   pub record Fills (value : Option V) (p : Placement K V) (old new : Machine K V) : Type 0 where
     pub held : V
     pub is : IsValueFor value p.slot old.values held
@@ -39,7 +28,7 @@ module _ {K V : Type 0} where
   abbrev pub placed : Bool → K → Machine K V → Placement K V
   placed main key m = if main then into_main key m else into_small key m
 
-  -- how often the hand inspects then
+  -- the number of inspections by the hand then
   abbrev pub placed_inspections : Bool → Machine K V → ℕ
   placed_inspections main m = if main then main_inspections m else small_inspections m
 
@@ -47,6 +36,6 @@ module _ {K V : Type 0} where
   abbrev pub next_is_vacant : Machine K V → Bool
   next_is_vacant m = (length m.free == 0) && nat_lt (length m.values) m.shares.capacity
 
-  -- whether a slot is made for it: none is free, and it takes no one's
+  -- whether a slot is made for the key: none is free, and it takes no other key's
   abbrev pub makes_slot : Bool → Machine K V → Bool
   makes_slot main m = next_is_vacant m && not (main && (length m.main == main_share m.shares))

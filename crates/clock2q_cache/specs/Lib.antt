@@ -10,3 +10,4 @@ pub mod Charged
 pub mod Closures
 pub mod Insertions
 pub mod Makers
+pub mod Iteration

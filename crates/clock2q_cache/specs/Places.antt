@@ -1,4 +1,4 @@
--- What a call makes of the index of a cache, and of the places of its history's keys.
+-- What a call does to the index of a cache, and to the places of its history's keys.
 use Rattle.std.specs.Prelude.{◌≡◌, ℕ, Bool, if◌then◌else◌, Option, Some, None, is_some}
 use Rattle.std.specs.List.{list_any, last_or}
 use Rattle.std.specs.declared.hash.Hasher as hasher
@@ -7,13 +7,13 @@ use Rattle.std.specs.HashMap.Lent.{HashMembers}
 use Rattle.clock2q_machine.specs.Ages.{is_promoted}
 use Rattle.clock2q_machine.specs.Entries.{SmallEntry}
 use Rattle.clock2q_cache.specs.Hashes.{hash_of}
-use Rattle.clock2q_queues.specs.Index as known
-use Rattle.clock2q_queues.specs.History.{Places, place_of, freed_place, pushed_places, oldest_hash}
+use Rattle.clock2q_directory.specs.Index as known
+use Rattle.clock2q_directory.specs.History.{Places, place_of, freed_place, pushed_places, oldest_hash}
 use Rattle.clock2q_machine.specs.Shares.{history_share}
 use Rattle.clock2q_machine.specs.Machine.{Machine, resident_at, slot_of, vacancy, goes_to_main, forgotten, placement}
 use Rattle.clock2q_cache.specs.CacheState.{CacheState}
 
--- the resident that stood at a slot, if there was one, leaves
+-- the resident that was at a slot, if any, leaves
 abbrev pub left_by : {K : Type 0} → (K → ℕ) → Option (K × ℕ) → ℕ → Places → Places
 left_by hash None slot p = p
 left_by hash (Some r) slot p = record p { index = known.left (hash r.0) slot p.index }
@@ -24,43 +24,43 @@ module _ {K V : Type 0} where
   discarded is hash c = freed_place hash (place_of is c.machine.history c.known.taken) c.known
 
   module _ (hash : K → ℕ) where
-    -- a key goes out of its slot into the history
+    -- a key leaves its slot for the history
     abbrev pub remembering : K → ℕ → Machine K V → Places → Places
     remembering key slot m p = pushed_places (history_share m.shares) (hash key) slot (oldest_hash hash m.history) p
 
-    -- the slot is given up: by a key that goes out into the history, or else by the resident that stood there
+    -- the slot is vacated: by a key that goes into the history, or by the resident that was there
     abbrev pub vacated_for : Option K → ℕ → Machine K V → Places → Places
     vacated_for None slot m p = left_by hash (resident_at m slot) slot p
     vacated_for (Some key) slot m p = remembering key slot m p
 
-    -- a key stands at a slot, which another one gave up or none did
+    -- a key is at a slot that another one vacated, or that was free
     abbrev pub entered : K → ℕ → Option K → Machine K V → Places → Places
     entered key slot out m p = let q = vacated_for out slot m p in record q { index = known.entered (hash key) slot q.index }
 
 module _ {K : Type 0} where
-  -- the key of Small's tail, where the tail goes out
+  -- the key of Small's tail, if the tail is evicted
   abbrev pub key_out : Option (SmallEntry K) → Option K
   key_out None = None
   key_out (Some tail) = if is_promoted tail.age then None else Some tail.key
 
 module _ {K V : Type 0} where
-  -- the key that goes out where one enters Small, or where it enters Main or Small
+  -- the key that is evicted when one enters Small, or enters Main or Small
   abbrev pub out_of_small : Machine K V → Option K
   out_of_small m = if is_some (vacancy m) then None else key_out (last_or None m.small)
 
   abbrev pub out_of : Bool → Machine K V → Option K
   out_of main m = if main then None else out_of_small m
 
-  -- a key entered at a slot, and another one went out or none did
+  -- a key entered at a slot, and at most one other left for the history
   abbrev pub Reindexes : {S : Type 0} → (K → ℕ) → K → ℕ → Option K → CacheState K V S → CacheState K V S → Type 0
   Reindexes hash key slot out old new = new.known ≡ entered hash key slot out old.machine old.known
 
 module _ {K V S H : Type 0} (key : HashMembers K) (build : builder.Ghosts S H) (hash : hasher.Ghosts H) where
-  -- the hash of each key in a cache
+  -- the hash of a key in a cache
   abbrev pub hash_in : CacheState K V S → K → ℕ
   hash_in c k = hash_of build hash c.hasher (key.hash_input k)
 
-  -- the index once a key has its slot: as it was where it was resident
+  -- the index once a key has its slot: unchanged if the key was resident
   abbrev pub known_with : K → CacheState K V S → Places
   known_with k c = if is_some (slot_of (key.eq k) c.machine) then c.known else
       (let m = forgotten (key.eq k) c.machine in

@@ -1,4 +1,4 @@
--- What the calls of a list cost a cache, one after the other.
+-- What a list of calls costs a cache, one call after the other.
 use Rattle.std.specs.Prelude.{◌≡◌, List, [], ◌∷◌}
 use Rattle.std.specs.declared.hash.Hasher as hasher
 use Rattle.std.specs.declared.hash.BuildHasher as builder
@@ -10,7 +10,8 @@ use Rattle.clock2q_cache.specs.Costs.{Becomes}
 use Rattle.clock2q_cache.specs.Indexed.{IsIndexed, IsSpacious}
 
 module _ {K V S H : Type 0} (key : HashMembers K) (build : builder.Ghosts S H) (hash : hasher.Ghosts H) where
-  -- the cache went through the calls in order, each at its cost, and before each the index had the known keys and nothing else, in few enough of its slots
+  -- the cache ran the calls in order, each at its cost, and before each call the index had the known keys and nothing
+  -- else, in few enough of its slots
   abbrev pub RunsAtCost : List (Call K V) → CacheState K V S → CacheState K V S → Type 0
   RunsAtCost [] old new = new ≡ old
   RunsAtCost (call ∷ calls) old new = IsIndexed key build hash old × IsSpacious old

@@ -6,14 +6,15 @@ mod debug;
 mod fetching;
 mod filling;
 mod insertion;
+mod iteration;
 mod removal;
 
 use crate::hashes::hash_of;
 use crate::shares::Shares;
-use clock2q_count::Count;
-use clock2q_queues::history::{Found, History};
-use clock2q_queues::keys::Keys;
+use clock2q_directory::directory::Directory;
+use clock2q_directory::history::Found;
 use clock2q_queues::queues::Queues;
+pub use iteration::Iter;
 use std::alloc::{Allocator, Global};
 use std::hash::{BuildHasher, BuildHasherDefault, FoldHasher, Hash};
 use std::marker::Model;
@@ -23,23 +24,22 @@ pub const MAX_CAPACITY: usize = (1 << 24) - 1;
 
 /// The builder of the hashers that [`Cache::new`] uses.
 ///
-/// Its seed is fixed, so whoever chooses the keys can choose ones that collide. The replies stay the
-/// same, but 20,000 such keys took 250 times as long as others. Where strangers choose the keys,
-/// hand [`Cache::with_hasher`] a `RandomState` of `std::hash`.
+/// Its seed is fixed, so whoever chooses the keys can choose ones that collide. The replies stay
+/// the same, but 20,000 such keys took 250 times as long as others. If strangers choose the keys,
+/// pass a `RandomState` of `std::hash` to [`Cache::with_hasher`].
 pub type DefaultHashBuilder = BuildHasherDefault<FoldHasher>;
 
 /// A key-value cache of fixed capacity.
 ///
-/// No reply depends on a hash: keys are told apart by `Eq` alone. All memory is taken by the
-/// constructor: no later call asks for any.
+/// No reply depends on a hash: only `Eq` decides whether two keys are the same. The constructor
+/// takes all memory: no later call asks for any.
 ///
 /// # Cost
 ///
 /// A call that takes a key, except [`get_at`](Cache::get_at), hashes it once and compares it only
 /// with its candidates: the resident and remembered keys whose hashes have the same home and
-/// fingerprint. Each inspection by the hand is paid for: since the cache was made there were no
-/// more of them than keys that Main evicted and bits of Main that hits set. Of
-/// [`try_get_or_insert_with`](Cache::try_get_or_insert_with) no clause says so.
+/// fingerprint. Each inspection by the hand is paid for: since the cache was made, there have been
+/// no more of them than keys that Main evicted and bits of Main that hits set.
 ///
 /// # Example
 ///
@@ -53,8 +53,7 @@ pub type DefaultHashBuilder = BuildHasherDefault<FoldHasher>;
 pub struct Cache<K: Hash + Eq, V, S: BuildHasher = DefaultHashBuilder, A: Allocator = Global> {
     shares: Shares,
     queues: Queues<A>,
-    history: History<K, A>,
-    keys: Keys<K, V, A>,
+    directory: Directory<K, V, A>,
     free: Vec<u32, A>,
     hasher: S,
 }
@@ -62,7 +61,7 @@ pub struct Cache<K: Hash + Eq, V, S: BuildHasher = DefaultHashBuilder, A: Alloca
 impl<K: Hash + Eq, V, S: BuildHasher, A: Allocator> Model for Cache<K, V, S, A> {
     ghost use Rattle.std.specs.Prelude.{vec_capacity};
     ghost use Rattle.clock2q_cache.specs.CacheState.{CacheState, cache_state, cache_code};
-    ghost use Rattle.clock2q_queues.specs.Index.{slots};
+    ghost use Rattle.clock2q_directory.specs.Index.{slots};
     ghost use Rattle.clock2q_cache.specs.CacheFields.{machine_of, counts_of, IsKept};
     ghost use Rattle.clock2q_cache.specs.Hashes.{hash_of};
 
@@ -70,9 +69,9 @@ impl<K: Hash + Eq, V, S: BuildHasher, A: Allocator> Model for Cache<K, V, S, A> 
 
     ghost coded = { cache_code K.code V.code S.code };
 
-    ghost view = { λ c. cache_state (machine_of c.shares c.queues c.keys.entries c.history.entries c.free.items) c.history.places c.hasher (counts_of c.queues c.history c.keys) };
+    ghost view = { λ c. cache_state (machine_of c.shares c.queues c.directory.residents.entries c.directory.history.entries c.free.items) c.directory.history.places c.hasher (counts_of c.queues c.directory.history c.directory.residents) };
 
-    ghost invariant = { λ c. IsKept K.eq (λ k. hash_of S.BuildHasher S.Hasher.Hasher c.hasher (K.hash_input k)) c.shares c.queues c.history (slots c.history.places.index) c.keys c.free.items (vec_capacity c.free) };
+    ghost invariant = { λ c. IsKept K.eq (λ k. hash_of S.BuildHasher S.Hasher.Hasher c.hasher (K.hash_input k)) c.shares c.queues c.directory.history (slots c.directory.history.places.index) c.directory.residents c.free.items (vec_capacity c.free) };
 }
 
 impl<K: Hash + Eq, V, S: BuildHasher, A: Allocator> Cache<K, V, S, A> {
@@ -81,7 +80,7 @@ impl<K: Hash + Eq, V, S: BuildHasher, A: Allocator> Cache<K, V, S, A> {
     ghost use Rattle.std.specs.Borrow.{sem};
     ghost use Rattle.clock2q_machine.specs.Whole.{IsWhole};
     ghost use Rattle.clock2q_handles.specs.Homes.{candidates};
-    ghost use Rattle.clock2q_queues.specs.History.{found_slot, found_place, place_of};
+    ghost use Rattle.clock2q_directory.specs.History.{found_slot, found_place, place_of};
     ghost use Rattle.clock2q_cache.specs.CacheState.{residents_in, remembered_in};
     ghost use Rattle.clock2q_machine.specs.Calls.{Get, GetAt};
     ghost use Rattle.clock2q_cache.specs.CacheLends.{LeavesMachine, LendsHit, LendsSlot};
@@ -94,22 +93,21 @@ impl<K: Hash + Eq, V, S: BuildHasher, A: Allocator> Cache<K, V, S, A> {
     ghost use Rattle.clock2q_cache.specs.Places.{discarded};
     ghost use Rattle.clock2q_machine.specs.Steps.{is_at, hit_at, value_at};
 
-    /// Returns how many keys the cache can hold: the number that it was made with.
+    /// Returns the capacity that the cache was made with, in keys.
     pub fn capacity(&self) -> usize
         ensures capacity { result ≡ self.now.machine.shares.capacity }
     {
         self.shares.capacity()
     }
 
-    /// Returns how many keys the cache holds, at most its capacity. Keys that were evicted don't
-    /// count.
+    /// Returns the number of keys in the cache, at most its capacity. Evicted keys don't count.
     pub fn len(&self) -> usize
         ensures count { result ≡ resident_count self.now.machine }
         ensures whole { IsWhole K.eq self.now.machine }
         ensures indexed { IsIndexed K.Hash S.BuildHasher S.Hasher.Hasher self.now }
         ensures spacious { IsSpacious self.now }
     {
-        let _ = self.history.len();
+        let _ = self.directory.remembered_len();
         self.queues.small_len() + self.queues.main_len()
     }
 
@@ -158,8 +156,8 @@ impl<K: Hash + Eq, V, S: BuildHasher, A: Allocator> Cache<K, V, S, A> {
     {
         let hash = self.hash(key);
         let slot = self.find(hash, key)?;
-        // before the bit is set, so that where the entries are isn't read twice
-        let value = self.keys.value(slot);
+        // before the bit is set, so that the entries' position isn't read twice
+        let value = self.directory.value(slot);
         self.queues.hit(slot);
         Some(value)
     }
@@ -222,7 +220,7 @@ impl<K: Hash + Eq, V, S: BuildHasher, A: Allocator> Cache<K, V, S, A> {
         ensures* writes_back { sem 𝓛 (LendsSlot K.row V.row S.row A.row S.Hasher.row K.Hash S.BuildHasher S.Hasher.Hasher A.Allocator self.entry slot result) }
         ensures value { slice_get self.old.machine.values slot ≡ Some result.now }
     {
-        self.keys.value_mut(slot)
+        self.directory.value_mut(slot)
     }
 
     /// Returns the slot if the key is resident there.
@@ -234,14 +232,14 @@ impl<K: Hash + Eq, V, S: BuildHasher, A: Allocator> Cache<K, V, S, A> {
         ensures kept { self.new ≡ record self.old { counts = self.new.counts } }
         ensures counts { Spends 0 0 1 self.old.counts self.new.counts }
     {
-        if slot >= self.keys.len() {
+        if slot >= self.directory.made() {
             return None;
         }
         let slot = slot as u32;
         if !self.queues.is_resident(slot) {
             return None;
         }
-        self.keys.is(slot, key).then_some(slot)
+        self.directory.key_equals(slot, key).then_some(slot)
     }
 
     /// Returns the hash of a key.
@@ -258,9 +256,7 @@ impl<K: Hash + Eq, V, S: BuildHasher, A: Allocator> Cache<K, V, S, A> {
         ensures whole { IsWhole K.eq self.now.machine }
     {
         let hash = hash_of(&self.hasher, key);
-        let mut asked = Count::new();
-        self.keys
-            .find_counting_in(self.history.handles(hash), key, &mut asked)
+        self.directory.slot_of(hash, key)
     }
 
     /// Returns the slot of a resident key.
@@ -274,12 +270,12 @@ impl<K: Hash + Eq, V, S: BuildHasher, A: Allocator> Cache<K, V, S, A> {
         ensures kept { self.new ≡ record self.old { counts = self.new.counts } }
         ensures counts { Spends 0 0 (length (candidates (residents_in self.old.known) hash)) self.old.counts self.new.counts }
     {
-        self.keys.find(self.history.handles(hash), key)
+        self.directory.find_resident(hash, key)
     }
 
     /// Looks a key up among the residents and in the history.
     #[inline(always)]
-    pub(crate) fn look(&mut self, hash: u64, key: &K) -> Found
+    pub(crate) fn lookup(&mut self, hash: u64, key: &K) -> Found
         requires { hash ≡ hash_of S.BuildHasher S.Hasher.Hasher self.old.hasher (K.hash_input key.now) }
         ensures slot { found_slot result ≡ slot_of (K.eq key.now) self.old.machine }
         ensures made { IfSome (found_slot result) (λ slot. slot < length self.old.machine.values) }
@@ -290,7 +286,7 @@ impl<K: Hash + Eq, V, S: BuildHasher, A: Allocator> Cache<K, V, S, A> {
         ensures kept { self.new ≡ record self.old { counts = self.new.counts } }
         ensures counts { Spends 0 0 (alike K.Hash S.BuildHasher S.Hasher.Hasher key.now self.old) self.old.counts self.new.counts }
     {
-        self.history.look(hash, key, &mut self.keys)
+        self.directory.lookup(hash, key)
     }
 
     /// Returns the place of a remembered key.
@@ -300,7 +296,7 @@ impl<K: Hash + Eq, V, S: BuildHasher, A: Allocator> Cache<K, V, S, A> {
         ensures kept { self.new ≡ record self.old { counts = self.new.counts } }
         ensures counts { Spends 0 0 (length (candidates (remembered_in self.old.known) hash)) self.old.counts self.new.counts }
     {
-        self.history.find(hash, key)
+        self.directory.find_remembered(hash, key)
     }
 
     /// Returns the slot of a resident key, and records a hit on it.
@@ -325,7 +321,7 @@ impl<K: Hash + Eq, V, S: BuildHasher, A: Allocator> Cache<K, V, S, A> {
         self.queues.hit(slot);
     }
 
-    /// Removes the key, which stands at `place`, from the history, and returns true if it was there.
+    /// Removes the key, which is at `place`, from the history, and returns true if it was there.
     pub(crate) fn forget(&mut self, hash: u64, key: &K, place: Option<u32>) -> bool
         requires place { place ≡ place_of (K.eq key.now) self.old.machine.history self.old.known.taken }
         requires hash { hash ≡ hash_of S.BuildHasher S.Hasher.Hasher self.old.hasher (K.hash_input key.now) }
@@ -335,7 +331,7 @@ impl<K: Hash + Eq, V, S: BuildHasher, A: Allocator> Cache<K, V, S, A> {
         ensures places { self.new.known ≡ discarded (K.eq key.now) hash self.old }
         ensures counts { Spends 0 7 0 self.old.counts self.new.counts }
     {
-        self.history.discard(hash, key, place)
+        self.directory.forget(hash, key, place)
     }
 
     /// Returns the value of a slot.
@@ -343,7 +339,7 @@ impl<K: Hash + Eq, V, S: BuildHasher, A: Allocator> Cache<K, V, S, A> {
         requires { slot < length self.now.machine.values }
         ensures { slice_get self.now.machine.values slot ≡ Some result.now }
     {
-        self.keys.value(slot)
+        self.directory.value(slot)
     }
 }
 
@@ -362,9 +358,9 @@ impl<K: Hash + Eq + Drop, V: Drop, S: BuildHasher, A: Allocator> Cache<K, V, S, 
     ///
     /// # Cost
     ///
-    /// One hash of the key, and at most one question to each candidate among the residents and
-    /// in the history. No link is accessed if the key is resident; else there are at most 36
-    /// accesses to links more than inspections by the hand.
+    /// One hash of the key, and at most one question to each candidate among the residents and in
+    /// the history. No link is accessed if the key is resident; otherwise there are at most 36 more
+    /// accesses to links than inspections by the hand.
     pub fn put(&mut self, key: K, value: V) -> Option<V>
         ensures value { result ≡ value_of (K.eq key) self.old.machine }
         ensures machine { self.new.machine ≡ put (K.eq key) key value self.old.machine }
@@ -373,7 +369,7 @@ impl<K: Hash + Eq + Drop, V: Drop, S: BuildHasher, A: Allocator> Cache<K, V, S, 
         ensures costs { Costs K.Hash S.BuildHasher S.Hasher.Hasher (Put key value) self.old self.new }
     {
         let hash = self.hash(&key);
-        let found = self.look(hash, &key);
+        let found = self.lookup(hash, &key);
         let Found::Resident(slot) = found else {
             self.insert(hash, key, value, found.place());
             return None;
@@ -382,13 +378,13 @@ impl<K: Hash + Eq + Drop, V: Drop, S: BuildHasher, A: Allocator> Cache<K, V, S, 
         Some(self.replace(slot, value))
     }
 
-    /// Replaces the value of a slot, and returns the one before.
+    /// Replaces the value of a slot, and returns the old one.
     fn replace(&mut self, slot: u32, value: V) -> V
         requires { slot < length self.old.machine.values }
         ensures value { slice_get self.old.machine.values slot ≡ Some result }
         ensures machine { self.new.machine ≡ stored slot value self.old.machine }
         ensures kept { self.new ≡ record self.old { machine = self.new.machine } }
     {
-        self.keys.replace_value(slot, value)
+        self.directory.replace_value(slot, value)
     }
 }

@@ -1,4 +1,4 @@
-//! What making a cache, or running a list of commands, can refuse.
+//! The errors of making a cache, or of running a list of commands.
 ghost use Rattle.std.specs.Prelude.{◌≡◌};
 ghost use Rattle.clock2q_cache.specs.declared.error.CacheError.TheVariants.{Memory};
 
@@ -7,8 +7,8 @@ use thiserror::Error;
 
 /// The reason why a cache wasn't made, or a list of commands wasn't run.
 ///
-/// Nothing was done then: memory that was taken for the cache is given back, and none of the
-/// commands has run.
+/// Nothing was done then: memory that was taken for the cache is given back, and no command has
+/// run.
 ///
 /// # Example
 ///

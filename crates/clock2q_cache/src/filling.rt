@@ -1,4 +1,4 @@
-//! Slots made before they are needed: their keys and values, and the list of free slots.
+//! Making slots before they are needed: their keys and values, and the list of free slots.
 ghost use Rattle.std.specs.Prelude.{◌≡◌, ◌+◌, ◌-◌, ◌^◌, ◌≤◌, ◌++◌, reverse, length, vec_len, vec_capacity};
 ghost use Rattle.std.specs.List.{range_with_len};
 ghost use Rattle.clock2q_cache.specs.Closures.{FillsUp};
@@ -6,33 +6,34 @@ ghost use Rattle.clock2q_cache.specs.Hashes.{hash_of};
 ghost use Rattle.clock2q_cache.specs.Makers.{TakesTimes};
 
 use crate::hashes::hash_of;
-use clock2q_queues::keys::Keys;
+use clock2q_directory::directory::Directory;
 use std::alloc::Allocator;
 use std::hash::{BuildHasher, Hash};
 
-/// Adds default keys, each with a value that `make` returns, until there are `many`.
-pub(crate) fn fill<K: Hash + Default, V, S: BuildHasher, A: Allocator, F: FnMut() -> V>(
-    keys: &mut Keys<K, V, A>,
+/// Adds default keys, each with a value that `make` returns, until there are as many as `many`.
+pub(crate) fn fill<K: Hash + Eq + Default, V, S: BuildHasher, A: Allocator, F: FnMut() -> V>(
+    directory: &mut Directory<K, V, A>,
     hasher: &S,
     many: usize,
     mut make: F,
 )
-    requires callable { TakesTimes F.FnMut (many - length keys.old.entries) make }
-    requires within { length keys.old.entries ≤ many }
-    requires room { many ≤ keys.old.room }
-    ensures filled { (last : F) × FillsUp F.FnMut make (λ k. hash_of S.BuildHasher S.Hasher.Hasher hasher.now (K.hash_input k)) many keys.old.entries keys.new.entries last }
-    ensures kept_room { keys.new.room ≡ keys.old.room }
-    ensures questions { keys.new.questions ≡ keys.old.questions }
+    requires callable { TakesTimes F.FnMut (many - length directory.old.residents.entries) make }
+    requires within { length directory.old.residents.entries ≤ many }
+    requires room { many ≤ directory.old.residents.room }
+    ensures filled { (last : F) × FillsUp F.FnMut make (λ k. hash_of S.BuildHasher S.Hasher.Hasher hasher.now (K.hash_input k)) many directory.old.residents.entries directory.new.residents.entries last }
+    ensures kept_room { directory.new.residents.room ≡ directory.old.residents.room }
+    ensures questions { directory.new.residents.questions ≡ directory.old.residents.questions }
+    ensures history { directory.new.history ≡ directory.old.history }
 {
-    for _ in keys.len()..many {
+    for _ in directory.made()..many {
         let key = K::default();
         let hash = hash_of(hasher, &key);
-        keys.push(hash, key, make());
+        directory.prepare(hash, key, make());
     }
 }
 
 /// Adds the slots from `from` up to `to` to the free ones, the lowest last, so that it is the next
-/// that is used.
+/// to be used.
 pub(crate) fn free_down<A: Allocator>(free: &mut Vec<u32, A>, from: usize, to: usize)
     requires order { from ≤ to }
     requires few { to ≤ 2 ^ 32 }

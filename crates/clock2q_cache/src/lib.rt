@@ -1,11 +1,12 @@
 //! A fixed-capacity key-value cache with Clock2Q+ replacement.
 //!
 //! A new key enters Small, a short queue; while the cache isn't full and Small has its share, it
-//! enters Main. A key that reaches the end of Small is evicted, unless it was hit there after it
-//! had left the window, which is the newest part of Small: then it moves on to Main. Main is a ring
-//! with a hand. The hand evicts the first entry without a hit, and takes the hits of those that it
-//! passes. A key that Small evicts is remembered in the history, without its value, and enters Main
-//! at once if it comes back. A key that Main evicts isn't remembered.
+//! enters Main. A key in Small stays young for a window of further admissions to Small. A key that
+//! reaches the end of Small is evicted, unless it was hit there when it was no longer young: then
+//! it moves on to Main. Main is a ring with a hand. The hand evicts the first entry without a hit,
+//! and clears the hits of those that it passes. A key that Small evicts is remembered in the
+//! history, without its value, and enters Main at once if it comes back. A key that Main evicts
+//! isn't remembered.
 //!
 //! | Share | Of a capacity C |
 //! |---|---|
@@ -14,7 +15,7 @@
 //! | window | half of Small, rounded up |
 //! | history | half of C |
 //!
-//! A half and a tenth are rounded down where nothing else is said. The page of `clock2q` has these
+//! A half and a tenth are rounded down unless stated otherwise. The page of `clock2q` has these
 //! numbers for some capacities, and [`Cache::with_policy`] takes other ones.
 #![tactic(auto)]
 
@@ -22,9 +23,8 @@ mod cache;
 mod error;
 mod filling;
 mod hashes;
-mod index;
 mod shares;
 mod vacancies;
 
-pub use cache::{Cache, DefaultHashBuilder, MAX_CAPACITY};
+pub use cache::{Cache, DefaultHashBuilder, Iter, MAX_CAPACITY};
 pub use error::CacheError;

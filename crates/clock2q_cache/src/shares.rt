@@ -1,12 +1,12 @@
-//! How a cache's capacity is shared out among its queues.
+//! How a cache's capacity is divided among its queues.
 ghost use Rattle.std.specs.Prelude.{◌≡◌, ◌<◌, ◌≤◌, ◌^◌, MatchOption};
 ghost use Rattle.clock2q_machine.specs.Shares.{usual_shares, main_share, history_share};
 ghost use Rattle.clock2q_machine.specs.Policies.{IsPolicy, shares_of};
 
 use std::marker::Model;
 
-/// The capacity of a cache, Small's share of it, and the window: for how many admissions to Small
-/// an entry is young.
+/// The capacity of a cache, Small's share of it, and the window: the number of admissions to Small
+/// for which an entry is young.
 #[derive(Clone, Copy)]
 pub(crate) struct Shares {
     capacity: usize,
@@ -28,7 +28,7 @@ impl Model for Shares {
 }
 
 impl Shares {
-    /// Returns the shares of a cache that is made with a capacity alone.
+    /// Returns the shares of a cache that is made with only a capacity.
     pub(crate) fn usual(capacity: usize) -> Self
         requires { 0 < capacity }
         ensures { result ≡ usual_shares capacity }
@@ -45,8 +45,8 @@ impl Shares {
         }
     }
 
-    /// Returns the shares of a cache that is made with all three numbers, or `None` where they
-    /// don't fit together.
+    /// Returns the shares of a cache that is made with all three numbers, or `None` if they don't
+    /// fit together.
     pub(crate) fn new(capacity: usize, small: usize, window: usize) -> Option<Self>
         ensures { MatchOption result (¬ IsPolicy (shares_of capacity small window)) (λ shares. shares ≡ shares_of capacity small window) }
     {

@@ -4,8 +4,8 @@ ghost use Rattle.clock2q_machine.specs.Machine.{vacant_slot};
 
 use std::alloc::Allocator;
 
-/// Returns the slot for a new resident: the one that was freed last, else the lowest that has no
-/// value yet.
+/// Returns the slot for a new resident: the one that was freed last, otherwise the lowest that has
+/// no value yet.
 pub(crate) fn take_vacancy<A: Allocator>(free: &mut Vec<u32, A>, made: usize) -> u32
     requires { made < 2 ^ 32 }
     ensures slot { vacant_slot (reverse free.old.items) made (made + 1) ≡ Some result }
@@ -18,7 +18,7 @@ pub(crate) fn take_vacancy<A: Allocator>(free: &mut Vec<u32, A>, made: usize) ->
     }
 }
 
-/// Adds a slot to the free ones. It is the next of them that is taken.
+/// Adds a slot to the free ones. It is the next to be taken.
 pub(crate) fn free_slot<A: Allocator>(free: &mut Vec<u32, A>, slot: u32)
     requires room { vec_len free.old < vec_capacity free.old }
     ensures top { reverse free.new.items ≡ slot ∷ reverse free.old.items }

@@ -16,13 +16,13 @@ use Rattle.clock2q_machine.proofs.Entering.{weight-hit, same_slots, others_enter
 use Rattle.clock2q_machine.proofs.Laws.{inserted_there}
 use Rattle.clock2q_memo.specs.Memo.{Remembers, evaluations_for, looked_up}
 
--- tests that agree find the same
+-- tests that agree find the same element
 find_agree : {X : Type 0} (p q : X → Bool) → ((x : X) → p x ≡ q x) → (xs : List X) → find p xs ≡ find q xs
 find_agree p q same [] = refl
 find_agree p q same (x ∷ xs) = rw (same x, find_agree p q same xs) refl
 
 module _ {K V : Type 0} (eq : K → K → Bool) (laws : IsEquivalence eq) where
-  -- equal keys have one value
+  -- equal keys have the same value
   value_agree : (k key : K) → eq k key ≡ true → (m : Machine K V) → value_of (eq k) m ≡ value_of (eq key) m
   value_agree k key e m = ap (λ r. option_and_then (slice_get m.values) (option_map (λ x. x.1) r)) (find_agree (λ r. eq k r.0) (λ r. eq key r.0) (λ r. laws.congr k key r.0 e) (residents m))
 
@@ -61,7 +61,7 @@ module _ {K V : Type 0} (eq : K → K → Bool) (laws : IsEquivalence eq) where
     pub missed_hit : (key : K) → None ≡ value_of (eq key) m → hit (eq key) m ≡ m
     missed_hit key none = hit-absent (eq key) m (absent_if key none)
 
-    -- what a call leaves where the key was not resident
+    -- what a call leaves if the key was not resident
     pub looked_up_anew : (key : K) → None ≡ value_of (eq key) m → (v : V) → looked_up eq key v m ≡ inserted (eq key) key v m
     looked_up_anew key none v = rw (absent_if key none) refl
 
@@ -71,15 +71,15 @@ module _ {K V : Type 0} (eq : K → K → Bool) (laws : IsEquivalence eq) where
     pub evaluated_once : (key : K) → None ≡ value_of (eq key) m → evaluations_for eq key m ≡ 1
     evaluated_once key none = rw (absent_if key none) refl
 
-    -- a hit leaves each value
+    -- a hit changes no value
     pub hit_value : (is : K → Bool) (key : K) → value_of (eq key) (hit is m) ≡ value_of (eq key) m
     hit_value is key = ap (option_and_then (slice_get m.values)) (same_slots eq (hit is m) m whole (λ w. weight-hit w is m) key)
 
--- nothing is remembered where nothing is resident
+-- nothing is remembered if nothing is resident
 pub kept-empty : {K V : Type 0} (eq : K → K → Bool) (returns : K → V → Type 0) (shares : Shares) → Remembers {V = V} eq returns (empty shares)
 kept-empty eq returns shares value c key v found = cc
 
--- Small's usual share leaves Main a slot
+-- Small's default share leaves Main a slot
 usual_below : (capacity : ℕ) → 0 < capacity → usual_small capacity < capacity
 usual_below capacity positive = search arith
 

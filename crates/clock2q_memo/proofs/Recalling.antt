@@ -1,4 +1,4 @@
--- A list of lookups, one more and all of them.
+-- A list of lookups: one more, and all of them.
 use Rattle.std.proofs.Common.{◌≡◌, ℕ, ◌+◌, Bool, List, [], ◌∷◌, ◌++◌, ◌∙◌, sym, ap, arith}
 use Rattle.std.proofs.lemmas.List.{append_assoc, append-nil}
 use Rattle.clock2q_machine.specs.Machine.{Machine}
@@ -6,7 +6,7 @@ use Rattle.clock2q_machine.specs.Steps.{fetched}
 use Rattle.clock2q_memo.specs.Memo.{recalled, evaluations_of, evaluations_for}
 
 module _ {K V : Type 0} (eq : K → K → Bool) where
-  -- what the rest leaves after a first lookup is what all leave
+  -- looking up the rest after a first lookup leaves what looking up all leaves
   pub recalled-step : (keys rest all : List K) (key : K) (value : V) (m n start : Machine K V) (values pushed : List V) → keys ≡ key ∷ rest → n ≡ fetched (eq key) key value m → pushed ≡ values ++ value ∷ []
       → ((more : List V) → recalled eq keys more m ≡ recalled eq all (values ++ more) start)
       → (more : List V) → recalled eq rest more n ≡ recalled eq all (pushed ++ more) start
@@ -16,7 +16,7 @@ module _ {K V : Type 0} (eq : K → K → Bool) where
       ∙ so (value ∷ more)
       ∙ ap (λ v. recalled eq all v start) (sym (ap (λ v. v ++ more) push ∙ append_assoc values (value ∷ []) more))
 
-  -- the calls of a first lookup and of the rest are those of all
+  -- the calls of a first lookup and of the rest are those of all lookups
   pub evaluations-step : (keys rest all : List K) (key : K) (value : V) (m n start : Machine K V) (values pushed : List V) (before after first : ℕ) → keys ≡ key ∷ rest → n ≡ fetched (eq key) key value m → pushed ≡ values ++ value ∷ []
       → after ≡ before + evaluations_for eq key m
       → ((more : List V) → before + evaluations_of eq keys more m ≡ first + evaluations_of eq all (values ++ more) start)
@@ -31,7 +31,7 @@ module _ {K V : Type 0} (eq : K → K → Bool) where
       one_first : (after before one others : ℕ) → after ≡ before + one → after + others ≡ before + (one + others)
       one_first after before one others e = search (arith, e)
 
-  -- where no key is left, all were looked up
+  -- if no key is left, all were looked up
   pub recalled-ended : (keys all : List K) (m start : Machine K V) (values : List V) → keys ≡ []
       → ((more : List V) → recalled eq keys more m ≡ recalled eq all (values ++ more) start)
       → m ≡ recalled eq all values start

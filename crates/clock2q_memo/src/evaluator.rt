@@ -1,4 +1,4 @@
-//! The function of a memo, and how often it was called.
+//! The function of a memo, and the count of its calls.
 use clock2q_count::Count;
 
 /// A function that counts its calls. Only [`evaluate`](Evaluator::evaluate) calls it.
@@ -13,7 +13,7 @@ impl<F> Evaluator<F> {
     ghost use Rattle.std.specs.Fn.{FnReturnsAt};
     ghost use Rattle.clock2q_memo.specs.Memo.{IsCallableAt};
 
-    /// Returns a function that was not called yet.
+    /// Returns a function that has not been called yet.
     pub(crate) fn new(function: F) -> Self
         ensures function { result.function ≡ function }
         ensures none { result.evaluations.total ≡ 0 }
@@ -24,7 +24,7 @@ impl<F> Evaluator<F> {
         }
     }
 
-    /// Calls the function at a key, and counts the call.
+    /// Calls the function for a key, and counts the call.
     pub(crate) fn evaluate<K, V>(&mut self, key: &K) -> V
     where
         F: Fn(&K) -> V,

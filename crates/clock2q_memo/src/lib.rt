@@ -1,4 +1,4 @@
-//! A function with its values remembered in a bounded cache.
+//! A function whose values are remembered in a bounded cache.
 #![tactic(auto)]
 
 mod evaluator;

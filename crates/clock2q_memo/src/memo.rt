@@ -1,5 +1,7 @@
 //! The memo: construction, the two lookups, and a list of lookups.
 
+mod fallible;
+
 use crate::evaluator::Evaluator;
 use clock2q_cache::{Cache, CacheError, DefaultHashBuilder, MAX_CAPACITY};
 use std::alloc::{AllocError, Allocator, Global};
@@ -9,7 +11,7 @@ use std::num::NonZeroUsize;
 
 /// A function of keys with a bounded cache of its values.
 ///
-/// It stands in the place of its function: [`get`](Memo::get) returns what the function returns,
+/// It takes the place of its function: [`get`](Memo::get) returns what the function returns,
 /// and calls it only if the key isn't resident. The function has to give equal keys equal
 /// values, and the same at each call; for one that doesn't, the contracts leave open which values
 /// are returned.
@@ -56,7 +58,7 @@ where
 
     /// Makes a memo of `function` that remembers up to `capacity` values, as
     /// [`Cache::new`](clock2q_cache::Cache::new) makes a cache. Its hasher's seed is fixed too:
-    /// where strangers choose the keys, use [`with_hasher`](Memo::with_hasher).
+    /// if strangers choose the keys, use [`with_hasher`](Memo::with_hasher).
     ///
     /// # Errors
     ///
@@ -123,14 +125,14 @@ impl<K: Hash + Eq, V, F, S: BuildHasher, A: Allocator> Memo<K, V, F, S, A> {
     ghost use Rattle.std.specs.Prelude.{◌≡◌, IsTrue, ◌↔◌, IsSome};
     ghost use Rattle.clock2q_machine.specs.Machine.{resident_count, slot_of};
 
-    /// Returns how many values can be remembered: the number that the memo was made with.
+    /// Returns the number of values that the memo was made to remember.
     pub fn capacity(&self) -> usize
         ensures capacity { result ≡ self.now.machine.shares.capacity }
     {
         self.cache.capacity()
     }
 
-    /// Returns how many values are remembered.
+    /// Returns the number of values that are remembered.
     pub fn len(&self) -> usize
         ensures count { result ≡ resident_count self.now.machine }
     {
@@ -171,15 +173,15 @@ where
     ghost use Rattle.std.specs.Fn.{FnReturnsAt};
     ghost use Rattle.clock2q_memo.specs.Memo.{IsCallableAt, Remembers, IsValueAt, evaluations_for, looked_up};
 
-    /// Returns the function's value at the key. A remembered value is returned as
-    /// [`Cache::peek`](clock2q_cache::Cache::peek) does, and nothing changes; else the function is
-    /// called once, and the value is remembered.
+    /// Returns the function's value for the key. A remembered value is returned as
+    /// [`Cache::peek`](clock2q_cache::Cache::peek) does, and nothing changes; otherwise the
+    /// function is called once, and the value is remembered.
     ///
     /// # Cost
     ///
-    /// That of [`Cache::peek`](clock2q_cache::Cache::peek) if the value is remembered. Else also
-    /// that of the function, and that of [`Cache::put`](clock2q_cache::Cache::put), which hashes
-    /// the key again.
+    /// That of [`Cache::peek`](clock2q_cache::Cache::peek) if the value is remembered. Otherwise
+    /// also that of the function, and that of [`Cache::put`](clock2q_cache::Cache::put), which
+    /// hashes the key again.
     pub fn get(&mut self, key: K) -> V
         requires callable { slot_of (K.eq key) self.old.machine ≡ None → IsCallableAt F.Fn self.old.function key }
         ensures value { IsValueAt K.eq (FnReturnsAt F.Fn self.old.function) self.old.machine key result }
@@ -195,7 +197,7 @@ where
         }
     }
 
-    /// Returns the function's value at the key, as [`get`](Memo::get) does. A remembered value is
+    /// Returns the function's value for the key, as [`get`](Memo::get) does. A remembered value is
     /// hit, which may save it from a later eviction.
     ///
     /// # Cost
@@ -216,7 +218,7 @@ where
         }
     }
 
-    /// Calls the function at a key that is not resident, and remembers the value.
+    /// Calls the function for a key that is not resident, and remembers the value.
     fn remember(&mut self, key: K) -> V
         requires callable { IsCallableAt F.Fn self.old.function key }
         requires absent { slot_of (K.eq key) self.old.machine ≡ None }
@@ -232,7 +234,7 @@ where
         value
     }
 
-    /// Forgets every value. The memory stays.
+    /// Forgets every value, and keeps the memory.
     ///
     /// # Cost
     ///
@@ -272,11 +274,11 @@ ghost use Rattle.std.specs.Prelude.{◌≡◌, ◌+◌, IfOk, OnErr, map};
 ghost use Rattle.std.specs.Fn.{FnReturnsAt};
 ghost use Rattle.clock2q_memo.specs.Memo.{IsCallableAtEach, Computes, Remembers, recalled, evaluations_of};
 
-/// Returns the function's value at each of the keys, each got by [`Memo::get_recorded`] in turn.
+/// Returns the function's value for each of the keys, looked up by [`Memo::get_recorded`] in turn.
 ///
 /// # Errors
 ///
-/// `AllocError` if the list of values can't be reserved; no value was got then.
+/// `AllocError` if the list of values can't be reserved; no value was looked up then.
 ///
 /// # Cost
 ///

@@ -1,4 +1,4 @@
--- Which frame a page has after `put`: it is there alone, and no other page moves.
+-- Which frame a page has after `put`: it is alone there, and no other page moves.
 use Rattle.std.proofs.Common.{◌≡◌, ◌≢◌, ◌↔◌, ℕ, ◌<◌, ◌≤◌, Bool, true, false, [], ◌∷◌, eqb, inl, inr, length, length-append, Option, Some, None, refl, sym, ap, ◌∙◌, arith, ne_eqb}
 use Rattle.std.specs.Prelude.{if◌then◌else◌, is_some, IsTrue, option_copied, slice_get}
 use Rattle.std.specs.Borrow.{Bor}
@@ -20,7 +20,7 @@ use Rattle.clock2q_machine.proofs.Laws.{slot_at_most, put_there, others_keep, ge
 use Rattle.clock2q_pages.specs.Pages.{IsLoaded, last_in, resident_frame}
 
 module _ {V : Type 0} (m : Machine ℕ V) (slot : ℕ) (value : V) (at_most : slot ≤ length m.values) where
-  -- a value that is stored is at its slot alone
+  -- storing a value changes no other slot
   stored_others : (at : ℕ) → at ≢ slot → slice_get (stored slot value m).values at ≡ slice_get m.values at
   stored_others at differ = elim (cases_lt at (length m.values)) [
     | inl made ↦ stored_elsewhere m slot value at differ made
@@ -42,7 +42,7 @@ module _ (m : Machine ℕ (Option ℕ)) (h : IsWhole eqb m) (page : ℕ) (value 
   whole_now : IsWhole eqb now
   whole_now = lasting-after eqb nat_eq_equiv (Put page value) m h
 
-  -- the page is in the frame that it is told
+  -- the page is in the frame that is returned
   pub page_there : resident_frame now page ≡ Some frame
   page_there = by_slot (slot_of (eqb page) m) refl where
     by_slot : (o : Option ℕ) → slot_of (eqb page) m ≡ o → slot_of (eqb page) (if is_some o then replaced_at (eqb page) value o m else inserted (eqb page) page value m) ≡ Some (slotted_at o (eqb page) page m)
@@ -60,14 +60,14 @@ module _ (m : Machine ℕ (Option ℕ)) (h : IsWhole eqb m) (page : ℕ) (value 
     | inr same ↦ sym same.0 ∙ found
   ]
 
-  -- the shares stay as they are
+  -- the shares stay the same
   pub same_shares : now.shares ≡ m.shares
   same_shares = by_slot (slot_of (eqb page) m) refl where
     by_slot : (o : Option ℕ) → slot_of (eqb page) m ≡ o → (if is_some o then replaced_at (eqb page) value o m else inserted (eqb page) page value m).shares ≡ m.shares
     by_slot None absent = (placed-key eqb nat_eq_equiv page m h absent).shares
     by_slot (Some slot) found = refl
 
-  -- so there are as many frames as before
+  -- so the frame is below the old capacity
   pub frame_within : frame < m.shares.capacity
   frame_within = omega (arith, resident_made eqb nat_eq_equiv (eqb page) now whole_now frame page_there, whole_now.made_within, ap (λ (s : Shares). s.capacity) same_shares)
 
@@ -75,7 +75,7 @@ module _ (m : Machine ℕ (Option ℕ)) (h : IsWhole eqb m) (page : ℕ) (value 
   pub value_there : slice_get now.values frame ≡ Some value
   value_there = sym (ap (option_and_then (slice_get now.values)) page_there) ∙ put_there eqb nat_eq_equiv m h page value
 
-  -- and the others have those that they had
+  -- and the other frames have the values that they had
   pub values_elsewhere : (at : ℕ) → at ≢ frame → slice_get now.values at ≡ slice_get m.values at
   values_elsewhere = by_slot (slot_of (eqb page) m) refl where
     by_slot : (o : Option ℕ) → slot_of (eqb page) m ≡ o → (at : ℕ) → at ≢ slotted_at o (eqb page) page m
@@ -87,7 +87,7 @@ module _ (m : Machine ℕ (Option ℕ)) (h : IsWhole eqb m) (page : ℕ) (value 
         let made = resident_made eqb nat_eq_equiv (eqb page) m h slot found in
         stored_others (hit (eqb page) m) slot value (omega (arith, made)) at differ
 
--- the page that got a frame last tells whether a page is loaded there
+-- a page is loaded in a frame if and only if it got the frame last
 pub last_tells : (m : Machine ℕ (Option ℕ)) (page frame : ℕ) → (last_in m frame ≡ Some page) ↔ IsLoaded m page frame
 last_tells m page frame = by_value (slice_get m.values frame) where
   by_value : (o : Option (Option ℕ)) → (option_and_then (λ last. last) o ≡ Some page) ↔ (o ≡ Some (Some page))
@@ -95,7 +95,7 @@ last_tells m page frame = by_value (slice_get m.values frame) where
   by_value (Some None) = ((λ e. cc), λ e. cc)
   by_value (Some (Some last)) = ((λ e. ap Some e), λ e. cc)
 
--- whether a page is in a frame is asked without moving any
+-- asking whether a page is in a frame moves no page
 module _ (m : Machine ℕ (Option ℕ)) (h : IsWhole eqb m) (at page : ℕ) where
   pub asked_frames : (other : ℕ) → resident_frame (hit_at at (eqb page) m) other ≡ resident_frame m other
   asked_frames other = elim (is_at at (slot_of (eqb page) m)) as (λ b. resident_frame (if b then hit (eqb page) m else m) other ≡ resident_frame m other) [

@@ -1,4 +1,4 @@
--- Pages in frames of memory: a page is in the frame whose number is the slot of the page's.
+-- Pages in frames of memory: the frame of a page is the slot of its number.
 use Rattle.std.specs.Prelude.{◌≡◌, ℕ, eqb, Option, Some, slice_get}
 use Rattle.std.specs.Option.{option_and_then}
 use Rattle.clock2q_machine.specs.Machine.{Machine, slot_of}
@@ -7,7 +7,7 @@ use Rattle.clock2q_machine.specs.Machine.{Machine, slot_of}
 abbrev pub resident_frame : Machine ℕ (Option ℕ) → ℕ → Option ℕ
 resident_frame m page = slot_of (eqb page) m
 
--- the page that got the frame last, as the value there tells
+-- the page that got the frame last, which is the value there
 abbrev pub last_in : Machine ℕ (Option ℕ) → ℕ → Option ℕ
 last_in m frame = option_and_then (λ last. last) (slice_get m.values frame)
 

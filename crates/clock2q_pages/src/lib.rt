@@ -1,4 +1,4 @@
-//! Pages in frames: keys that share out the slots of their owner's own arrays.
+//! Pages in frames: keys, each with a slot in their owner's own arrays.
 //!
 //! A frame is a slot of a cache whose keys are page numbers. The value of a slot is the page that
 //! got it last, so a caller knows whether the frame still has the content of its page.

@@ -9,11 +9,11 @@ ghost use Rattle.std.specs.Prelude.{eqb, ◌≡◌, ◌≢◌, ◌<◌, ◌↔�
 use clock2q_cache::Cache;
 use std::hash::{BuildHasher, Hash};
 
-/// Returns the frame of a page, the slot of its number, and the page that got the frame last. A page
-/// that has none gets a free one, or that of a page that has to leave; one that has a frame keeps
-/// it, with a hit.
+/// Returns the frame of a page, which is the slot of its number, and the page that got the frame
+/// last. A page without a frame gets a free one, or that of a page that has to leave; a page with a
+/// frame keeps it, with a hit.
 ///
-/// Where another page got the frame last, or none did, the caller has to load it.
+/// If another page got the frame last, or none did, the caller has to load the page.
 pub fn frame_of<S: BuildHasher>(
     pages: &mut Cache<usize, Option<usize>, S>,
     page: usize,
@@ -38,8 +38,8 @@ pub fn frame_of<S: BuildHasher>(
     (frame, last)
 }
 
-/// Returns true if the page is in this frame, and records a hit then. Any number will do for the
-/// frame. Hashes nothing, so whoever kept the frame asks for it here first.
+/// If the page is in this frame, records a hit and returns true. The frame may be any number.
+/// Hashes nothing, so a caller that has kept the frame should ask here first.
 pub fn is_in<S: BuildHasher>(
     pages: &mut Cache<usize, Option<usize>, S>,
     frame: usize,

@@ -1,5 +1,10 @@
 pub mod Numbering
 pub mod Paging
+pub mod Reading
+pub mod Recording
 pub mod Replaying
 pub mod Splitting
 pub mod Squaring
+pub mod WritingBack
+pub mod Flushing
+pub mod WorkedWriteBack

@@ -1,4 +1,4 @@
--- Keys in a list, whose places a table holds: each under its key, once.
+-- Keys in a list, whose places are in a table: each under its key, once.
 use Rattle.std.proofs.Common.{◌≡◌, ◌≢◌, ◌⊎◌, ℕ, zero, suc, ◌<◌, inl, inr, refl, ap, sym, ◌∙◌, subst, arith, Bool, true, false, eqb, List, [], ◌∷◌, ◌++◌, length, length-append, Option, Some, None, Result, Ok, Err, slice_get}
 use Rattle.std.proofs.lemmas.Option.{slice_get_within, get_or_from_slice_get}
 use Rattle.std.proofs.lemmas.Bool.{cases_lt, eqb-true, eqb-false}
@@ -89,12 +89,12 @@ module _ (keys : List ℕ) (homes : List (List (ℕ × ℕ))) (key : ℕ) (some 
     apart,
   )
 
--- what a lookup that inserts a key where it finds none leaves
+-- what a lookup that inserts a missing key leaves
 module _ (keys : List ℕ) (homes : List (List (ℕ × ℕ))) (key : ℕ) (is : IsInterned keys homes) where
   abbrev grew : List (List (ℕ × ℕ))
   grew = grown (hash_at keys) homes
 
-  -- no key equals one that no candidate has
+  -- if no candidate has the key, no place has it
   none_equal : ((i at : ℕ) → slice_get (candidates grew (spread key)) i ≡ Some at → eqb (key_at keys at) key ≡ false) → (at : ℕ) → at < length keys → key_at keys at ≢ key
   none_equal none at l same =
       let now = interned_grown keys homes is in
@@ -102,7 +102,7 @@ module _ (keys : List ℕ) (homes : List (List (ℕ × ℕ))) (key : ℕ) (is : 
       let there : slice_get (candidates grew (spread key)) r.0 ≡ Some at = subst (λ x. slice_get (candidates grew (spread x)) r.0 ≡ Some at) same r.1 in
       eqb-false (key_at keys at) key (none r.0 at there) same
 
-  -- the places that are offered are those of keys
+  -- the candidates are places of keys
   pub candidate_within : (i at : ℕ) → slice_get (candidates grew (spread key)) i ≡ Some at → at < length keys
   candidate_within i at there = (is.1 at).0 (grown_from (hash_at keys) homes at (candidate_held grew (spread key) i at there))
 
@@ -148,33 +148,33 @@ module _ (keys : List ℕ) (homes : List (List (ℕ × ℕ))) (key : ℕ) (is : 
     done : (r : ℕ × Bool) → result ≡ Ok r → IsNumbered result new
     done r q = told (λ e. let both = sym q ∙ e in absurd (cc))
 
-    -- the key had a number
+    -- if the key had a number
     pub old_number : (number : ℕ) (b : Bool) → result ≡ Ok (number, b) → b ≡ false → IsInterned keys new × (number < length keys) × (key_at keys number ≡ key)
     old_number number b q is_old = (done (number, b) q).old number (q ∙ ap (λ x. Ok (number, x)) is_old)
 
-    -- or got the next one
+    -- if it got the next one
     pub next_number : (number : ℕ) (b : Bool) → result ≡ Ok (number, b) → b ≡ true → IsInterned (keys ++ key ∷ []) new × (number ≡ length keys) × ((at : ℕ) → at < length keys → key_at keys at ≢ key)
     next_number number b q is_new = (done (number, b) q).next number (q ∙ ap (λ x. Ok (number, x)) is_new)
 
-    -- or was refused one
+    -- if it was refused one
     pub no_number : (result ≡ Err Memory → new ≡ homes) → (e : TableError) → result ≡ Err e → IsInterned keys new
     no_number memory Memory q = subst (IsInterned keys) (sym (memory q)) is
     no_number memory Size q = (told (λ m. let both = sym q ∙ m in absurd (cc))).refused Size q
     no_number memory RunTooLong q = (told (λ m. let both = sym q ∙ m in absurd (cc))).refused RunTooLong q
 
--- what stands in a list that got one key more is an old key or that one
+-- what is in a list with one more key is an old key or that one
 pub last_or_old : (keys : List ℕ) (key number held : ℕ) → slice_get (keys ++ key ∷ []) number ≡ Some held → (slice_get keys number ≡ Some held) ⊎ (held ≡ key)
 last_or_old [] key zero held at = inr (cc)
 last_or_old [] key (suc number) held at = absurd (cc)
 last_or_old (k ∷ keys) key zero held at = inl at
 last_or_old (k ∷ keys) key (suc number) held at = last_or_old keys key number held at
 
--- the places that are left to look at are those of keys, and the key's own is among them
+-- the candidates that are left are places of keys, and the key's place is among them
 pub record IsSought (keys : List ℕ) (key : ℕ) (left : List ℕ) : Type 0 where
   pub within : (i at : ℕ) → slice_get left i ≡ Some at → at < length keys
   pub among : (at : ℕ) → at < length keys → key_at keys at ≡ key → (i : ℕ) × (slice_get left i ≡ Some at)
 
--- at first they are the candidates
+-- at first all candidates are left
 pub sought_first : (keys : List ℕ) (homes : List (List (ℕ × ℕ))) (key : ℕ) → IsInterned keys homes → IsSought keys key (candidates homes (spread key))
 sought_first keys homes key is = record {
   within = λ i at there. (is.1 at).0 (candidate_held homes (spread key) i at there);
@@ -183,7 +183,7 @@ sought_first keys homes key is = record {
       (r.0, subst (λ k. slice_get (candidates homes (spread k)) r.0 ≡ Some at) same r.1);
 }
 
--- and one that has another key is passed
+-- a candidate with another key is passed over
 pub sought_next : (keys : List ℕ) (key place : ℕ) (left : List ℕ) → IsSought keys key (place ∷ left) → key_at keys place ≢ key → IsSought keys key left
 sought_next keys key place left s other = record {
   within = λ i at there. s.within (suc i) at there;

@@ -1,4 +1,4 @@
--- Lists of keys, each of which has the keys of one group.
+-- Lists of keys, each with the keys of one group.
 use Rattle.std.proofs.Common.{◌≡◌, ℕ, zero, suc, ◌<◌, ◌⊎◌, inl, inr, refl, sym, ap, ◌∙◌, subst, List, [], Some, get_or, length, replicate, slice_get, slice_set}
 use Rattle.std.proofs.lemmas.Bool.{cases_eq}
 use Rattle.std.proofs.lemmas.List.{get_or-set_same, get_or-set_other}
@@ -27,7 +27,7 @@ split_none n count = record {
       absurd (cc);
 }
 
--- a key of its part came, or none
+-- at most a key of its part was added
 pub split_put : (parts new : List (List ℕ)) (key part : ℕ) → IsSplit parts → length new ≡ length parts → IsGroupOf (spread key) (length parts) part
     → ((i number held : ℕ) → slice_get (get_or new i []) number ≡ Some held → (slice_get (get_or parts i []) number ≡ Some held) ⊎ ((held ≡ key) × (i ≡ part))) → IsSplit new
 split_put parts new key part s same group from = record {
@@ -38,7 +38,7 @@ split_put parts new key part s same group from = record {
   ];
 }
 
--- in one list that is set, what stands is old or the key
+-- when one list is replaced, what is in a list is old or the key
 pub set_from : (parts : List (List ℕ)) (part key : ℕ) (own : List ℕ) → part < length parts → ((number held : ℕ) → slice_get own number ≡ Some held → (slice_get (get_or parts part []) number ≡ Some held) ⊎ (held ≡ key))
     → (i number held : ℕ) → slice_get (get_or (slice_set parts part own) i []) number ≡ Some held → (slice_get (get_or parts i []) number ≡ Some held) ⊎ ((held ≡ key) × (i ≡ part))
 set_from parts part key own l only i number held at = elim (cases_eq i part) [

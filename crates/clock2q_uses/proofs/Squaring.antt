@@ -1,4 +1,4 @@
--- A cache of squares keeps to squares: another number that has a value afterwards had it before.
+-- A cache of squares remains one: any other number that has a value afterwards had it before.
 use Rattle.std.proofs.Common.{ℕ, eqb, inl, inr, Some, sym, ap, ◌∙◌, ne_eqb}
 use Rattle.std.specs.Cmp.{nat_eq_equiv}
 use Rattle.std.proofs.lemmas.Bool.{cases_eq}
@@ -23,6 +23,6 @@ module _ (m : Machine ℕ ℕ) (whole : IsWhole eqb m) (had : HasSquares m) (num
     | inr differ ↦ had other v (others_had eqb nat_eq_equiv m whole (Put number (square number)) other (ne_eqb other number differ) v found)
   ]
 
--- a number that is put where it was not found
+-- a number that is put because it was not found
 pub squares_missed : (m : Machine ℕ ℕ) (whole : IsWhole eqb m) (had : HasSquares m) (number : ℕ) → HasSquares (put (eqb number) number (square number) (hit (eqb number) m))
 squares_missed m whole had number = squares_put (hit (eqb number) m) (lasting-after eqb nat_eq_equiv (Get number) m whole) (squares_got m whole had number) number

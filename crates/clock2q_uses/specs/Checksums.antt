@@ -3,7 +3,7 @@ use Rattle.std.specs.Prelude.{ℕ, ◌+◌, ◌*◌, ◌%◌, List, [], ◌∷�
 use Rattle.std.specs.Option.{option_map}
 use Rattle.std.specs.declared.alloc.Global.{Global}
 
--- the two sums of Adler-32: one more than the sum of the bytes, and the sum of what that is after each byte
+-- the two sums of Adler-32: one plus the sum of the bytes, and the sum of its values after each byte
 abbrev pub sums : List ℕ → ℕ → ℕ → ℕ × ℕ
 sums [] low high = (low, high)
 sums (byte ∷ bytes) low high = sums bytes ((low + byte) % 65521) ((high + (low + byte) % 65521) % 65521)

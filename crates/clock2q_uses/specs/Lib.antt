@@ -1,7 +1,10 @@
 pub mod Checksums
 pub mod Interning
 pub mod Pages
+pub mod Records
 pub mod Replay
 pub mod Routes
 pub mod Split
 pub mod Squares
+pub mod Scanning
+pub mod WriteBack

@@ -3,7 +3,7 @@ use Rattle.std.specs.Prelude.{◌≡◌, ◌<◌, ℕ, Bool, false, List, Some, 
 use Rattle.clock2q_machine.specs.Machine.{Machine, by_slot}
 use Rattle.clock2q_machine.specs.Steps.{retained}
 
--- each route is over one of so many links
+-- each route is over one of this many links
 abbrev pub AreOver : ℕ → Machine ℕ ℕ → Type 0
 AreOver links m = (slot link : ℕ) → slice_get m.values slot ≡ Some link → link < links
 

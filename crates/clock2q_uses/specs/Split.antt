@@ -1,4 +1,4 @@
--- Keys in several lists: each in the list of its hash's group.
+-- Keys in several lists, each key in the list of its hash's group.
 use Rattle.std.specs.Prelude.{◌≡◌, ℕ, List, [], Some, get_or, length, slice_get}
 use Rattle.clock2q_handles.specs.Partition.{IsPartitionCount, IsGroupOf}
 use Rattle.clock2q_uses.specs.Interning.{spread}

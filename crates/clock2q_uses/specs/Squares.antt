@@ -1,4 +1,4 @@
--- Squares, and the caches that have no other values.
+-- Squares, and caches whose values are all squares.
 use Rattle.std.specs.Prelude.{◌≡◌, ◌*◌, ◌%◌, ◌^◌, ℕ, eqb, Some}
 use Rattle.clock2q_machine.specs.Machine.{Machine, value_of}
 

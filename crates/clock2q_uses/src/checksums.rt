@@ -1,4 +1,4 @@
-//! A memo of a costly function: the checksums of documents, which need their every byte.
+//! A memo of a costly function: the checksums of documents, which depend on every byte.
 ghost use Rattle.clock2q_uses.specs.Checksums.{adler32, document_checksum};
 ghost use Rattle.clock2q_memo.specs.Memo.{Computes, IsCallableAt, Remembers};
 ghost use Rattle.clock2q_machine.specs.Machine.{slot_of};
@@ -12,9 +12,9 @@ use std::alloc::Global;
 use std::hash::BuildHasher;
 use std::num::NonZeroUsize;
 
-/// Returns the checksums of the documents that are asked for, each by its number, and `None` for a
-/// number without a document. Up to `capacity` checksums are remembered: a document that is asked
-/// for again is read again only if its checksum is no longer among them.
+/// Returns the checksums of the documents with these numbers, and `None` for a number without a
+/// document. Up to `capacity` checksums are remembered: a document that is requested again is read
+/// again only if its checksum is no longer among them.
 ///
 /// # Errors
 ///
@@ -38,8 +38,8 @@ pub fn checksums(
     Ok(recall(alloc, &mut memo, numbers)?)
 }
 
-/// Returns true if the document of a number still has this checksum, so that a client who has it
-/// needn't be sent it again.
+/// Returns true if the document with this number still has this checksum, so that it needn't be
+/// sent again to a client that has the checksum.
 pub fn is_unchanged<F, S>(
     memo: &mut Memo<usize, Option<u32>, F, S>,
     number: usize,
@@ -57,7 +57,7 @@ where
     memo.get_recorded(number) == Some(checksum)
 }
 
-/// Returns the checksum of the document of a number, if there is one.
+/// Returns the checksum of the document with this number, if there is one.
 pub fn checksum_of(documents: &[Vec<u8>], number: usize) -> Option<u32>
     ensures checksum { result ≡ document_checksum documents.now number }
 {

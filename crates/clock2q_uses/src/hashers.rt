@@ -8,13 +8,13 @@ use clock2q::{Cache, CacheError};
 use std::alloc::Allocator;
 use std::hash::{BuildHasher, Hash};
 
-/// Runs the same commands on two caches that are alike but for their hashers, and returns the
-/// replies of both, which are the same.
+/// Runs the same commands on two caches that differ only in their hashers, and returns the replies
+/// of both, which are the same.
 ///
 /// # Errors
 ///
-/// `Memory` if a list of replies can't be reserved. If it is that of `other`, all commands have
-/// run on `one` and none on `other`; else both caches are as they were.
+/// `Memory` if a list of replies can't be reserved. If it is the list for `other`, all commands
+/// have run on `one` and none on `other`; otherwise both caches are unchanged.
 pub fn run_on_both<K, V, S, T, A>(
     alloc: A,
     one: &mut Cache<K, V, S, A>,

@@ -6,7 +6,7 @@ use clock2q::handles::{Table, TableError};
 use std::alloc::Global;
 use std::marker::Model;
 
-/// Keys, each once, in the order in which they came.
+/// Keys, each once, in the order in which they arrived.
 ///
 /// # Example
 ///

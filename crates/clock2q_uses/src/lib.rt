@@ -1,11 +1,13 @@
-//! Short callers of `clock2q`, each the shape of a real thing, with what its user relies on proved.
+//! Short callers of `clock2q`, each modelled on real code, with what its users rely on proved.
 #![tactic(auto)]
 
 pub mod checksums;
 pub mod hashers;
 pub mod interning;
 pub mod pages;
+pub mod records;
 pub mod replay;
 pub mod routes;
+pub mod scans;
 pub mod split;
 pub mod squares;

@@ -34,7 +34,7 @@ pub fn load<T: Copy, S: BuildHasher>(
     frame
 }
 
-/// Returns the pages of these numbers in their order, each read through its frame, and `None` for a
+/// Returns the pages with these numbers in order, each read through its frame, and `None` for a
 /// number without a page.
 ///
 /// # Errors
@@ -58,7 +58,7 @@ pub fn read_pages<T: Copy>(
     Ok(read_each(alloc, &mut pages, frames, file, numbers)?)
 }
 
-/// The same through a cache whose pages stand in their frames.
+/// Does the same through a cache whose pages are in their frames.
 fn read_each<T: Copy>(
     alloc: Global,
     pages: &mut Cache<usize, Option<usize>>,
@@ -78,7 +78,7 @@ fn read_each<T: Copy>(
     Ok(read)
 }
 
-/// Returns the page of a number, if there is one, read through its frame.
+/// Returns the page with this number, if there is one, read through its frame.
 fn read_page<T: Copy, S: BuildHasher>(
     pages: &mut Cache<usize, Option<usize>, S>,
     frames: &mut [T],

@@ -1,4 +1,4 @@
-//! A trace replayed: how many keys of a list hit in a new cache.
+//! Replaying a trace: how many keys of a list hit in a new cache.
 ghost use Rattle.clock2q_uses.specs.Replay.{is_hit, put_of, trace_hits};
 ghost use Rattle.clock2q_machine.specs.Steps.{answers};
 ghost use Rattle.clock2q_text.specs.Commands.{call_of, answer_of};
@@ -11,7 +11,7 @@ use clock2q::{Cache, CacheError, MAX_CAPACITY};
 use std::alloc::Global;
 use std::num::NonZeroUsize;
 
-/// Puts each key of the trace in a new cache, and returns how many were resident.
+/// Puts each key of the trace in a new cache, and returns the number of keys that were resident.
 ///
 /// # Errors
 ///
@@ -25,7 +25,7 @@ pub fn replay(alloc: Global, capacity: NonZeroUsize, trace: &[u64]) -> Result<us
     hits_in(alloc, &mut Cache::new(alloc, capacity)?, trace)
 }
 
-/// Puts each key of the trace in a cache, and returns how many were resident.
+/// Puts each key of the trace in a cache, and returns the number of keys that were resident.
 fn hits_in(alloc: Global, cache: &mut Cache<u64, u64>, trace: &[u64]) -> Result<usize, CacheError>
     ensures hits { IfOk result (λ hits. hits ≡ count_by is_hit (answers eqb (map put_of trace.now) cache.old.machine)) }
     ensures memory { IfErr result (λ e. e ≡ CacheError.Memory) }
@@ -50,7 +50,7 @@ pub fn puts_of(alloc: Global, keys: &[u64]) -> Result<Vec<Command<u64, u64>>, Ca
     Ok(puts)
 }
 
-/// Returns how many of the replies have a value.
+/// Returns the number of replies that have a value.
 pub fn hit_count(replies: &[Reply<u64>]) -> usize
     ensures hits { result ≡ count_by is_hit (map answer_of replies.now) }
 {

@@ -1,4 +1,4 @@
-//! A split index: several tables, of which a key's hash picks one.
+//! A split index: several tables, one of which is picked by a key's hash.
 ghost use Rattle.clock2q_uses.specs.Interning.{spread};
 ghost use Rattle.clock2q_handles.specs.Partition.{IsPartitionCount, IsGroupOf};
 ghost use Rattle.std.specs.Prelude.{◌≡◌, ◌≢◌, ◌<◌, ◌⊎◌, ℕ, [], Some, IfOk, OnErr, IfSome, IfNone, get_or, length, replicate, slice_get};
@@ -36,7 +36,7 @@ impl Model for SplitIndex {
 }
 
 impl SplitIndex {
-    /// Returns an index of so many parts, without keys.
+    /// Returns an index with this many parts, without keys.
     ///
     /// # Errors
     ///
@@ -62,7 +62,7 @@ impl SplitIndex {
         partition(hash_of(key), self.parts.len())
     }
 
-    /// Returns the key's number in its part, and gives it the next one there if it has none.
+    /// Returns the key's number in its part, and gives it the part's next number if it has none.
     ///
     /// # Errors
     ///
@@ -78,7 +78,7 @@ impl SplitIndex {
         self.parts[part].intern(key)
     }
 
-    /// Returns the key's number in its part, if it has one. No other part is looked at.
+    /// Returns the key's number in its part, if it has one. No other part is searched.
     pub fn get(&self, key: u64) -> Option<usize>
         ensures found { IfSome result (λ number. (part : ℕ) → IsGroupOf (spread key) (length self.now) part → slice_get (get_or self.now part []) number ≡ Some key) }
         ensures none { IfNone result ((part number : ℕ) → slice_get (get_or self.now part []) number ≢ Some key) }

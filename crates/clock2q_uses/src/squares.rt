@@ -1,4 +1,4 @@
-//! Squares that a cache remembers: each resident number has its own.
+//! Squares that a cache remembers: each resident number has its own square.
 ghost use Rattle.clock2q_uses.specs.Squares.{HasSquares, square};
 ghost use Rattle.std.specs.Prelude.{◌≡◌};
 

@@ -1,4 +1,4 @@
-//! A cache emptied, with its history.
+//! Emptying a cache, and its history.
 use crate::cache::Cache;
 use std::alloc::Allocator;
 use std::hash::{BuildHasher, Hash};
@@ -9,7 +9,7 @@ impl<K: Hash + Eq + Drop, V: Drop, S: BuildHasher, A: Allocator> Cache<K, V, S, 
     ghost use Rattle.clock2q_cache.specs.Costs.{Costs};
     ghost use Rattle.clock2q_machine.specs.Machine.{cleared};
 
-    /// Removes every key with its value, and the history. The cache is as new, and keeps its
+    /// Removes every key with its value, and the history. The cache is then as new, but keeps its
     /// memory.
     ///
     /// # Cost
@@ -20,9 +20,8 @@ impl<K: Hash + Eq + Drop, V: Drop, S: BuildHasher, A: Allocator> Cache<K, V, S, 
         ensures hasher { self.new.hasher ≡ self.old.hasher }
         ensures costs { Costs K.Hash S.BuildHasher S.Hasher.Hasher Clear self.old self.new }
     {
-        self.keys.clear();
+        self.directory.clear();
         self.queues.clear();
-        self.history.clear();
         self.free.clear();
     }
 }

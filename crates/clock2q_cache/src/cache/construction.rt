@@ -1,9 +1,8 @@
-//! A cache made: with the usual shares, or with shares of the caller's.
+//! Making a cache: with the default shares, or with the caller's.
 use crate::cache::{Cache, DefaultHashBuilder, MAX_CAPACITY};
 use crate::error::CacheError;
 use crate::shares::Shares;
-use clock2q_queues::history::History;
-use clock2q_queues::keys::Keys;
+use clock2q_directory::directory::Directory;
 use clock2q_queues::queues::Queues;
 use std::alloc::Allocator;
 use std::hash::{BuildHasher, BuildHasherDefault, Hash};
@@ -20,7 +19,7 @@ impl<K: Hash + Eq + Drop, V: Drop, A: Allocator + Copy> Cache<K, V, DefaultHashB
     /// room for `capacity` keys with their values, and for half as many evicted keys.
     ///
     /// The hasher's seed is fixed ([`DefaultHashBuilder`]): keys can be chosen that collide, which
-    /// makes calls slow. Where strangers choose the keys, use [`with_hasher`](Cache::with_hasher).
+    /// makes calls slow. If strangers choose the keys, use [`with_hasher`](Cache::with_hasher).
     ///
     /// # Errors
     ///
@@ -48,8 +47,8 @@ impl<K: Hash + Eq + Drop, V: Drop, S: BuildHasher + Drop, A: Allocator + Copy> C
     ghost use Rattle.clock2q_cache.specs.CacheState.{uncounted};
     ghost use Rattle.clock2q_machine.specs.Machine.{empty};
 
-    /// Makes an empty cache as [`new`](Cache::new) does, with a hasher of the caller's: a
-    /// `RandomState` where strangers choose the keys.
+    /// Makes an empty cache as [`new`](Cache::new) does, with the caller's hasher: a `RandomState`
+    /// if strangers choose the keys.
     ///
     /// # Errors
     ///
@@ -76,9 +75,9 @@ impl<K: Hash + Eq + Drop, V: Drop, S: BuildHasher + Drop, A: Allocator + Copy> C
     ///
     /// # Errors
     ///
-    /// `Capacity` above [`MAX_CAPACITY`]; else `Policy` if Small leaves Main no slot, or one of
-    /// `small` and `window` is 0 and the other isn't, or the window is longer than Small. Both come
-    /// before any memory is taken. `Memory` if a request for memory is refused.
+    /// `Capacity` above [`MAX_CAPACITY`]; otherwise `Policy` if Small leaves Main no slot, or one
+    /// of `small` and `window` is 0 and the other isn't, or the window is longer than Small. Both
+    /// are returned before any memory is taken. `Memory` if a request for memory is refused.
     ///
     /// # Cost
     ///
@@ -115,14 +114,12 @@ impl<K: Hash + Eq + Drop, V: Drop, S: BuildHasher + Drop, A: Allocator + Copy> C
     {
         let slots = shares.capacity();
         let queues = Queues::new(alloc, slots as u32, shares.window() as u32)?;
-        let history = History::new(alloc, slots, shares.history())?;
-        let keys = Keys::new(alloc, slots)?;
+        let directory = Directory::new(alloc, slots, shares.history())?;
         let free = Vec::with_capacity(alloc, slots)?;
         Ok(Cache {
             shares,
             queues,
-            history,
-            keys,
+            directory,
             free,
             hasher,
         })

@@ -1,18 +1,18 @@
-//! Calls that look a key up and, where it is not resident, insert it with what a closure returns.
+//! Calls that look a key up and, if it is not resident, insert it with what a closure returns.
 use crate::cache::Cache;
 use clock2q_count::Told;
-use clock2q_queues::history::Found;
+use clock2q_directory::history::Found;
 use std::alloc::Allocator;
 use std::hash::{BuildHasher, Hash};
 
 impl<K: Hash + Eq + Drop, V: Drop, S: BuildHasher, A: Allocator> Cache<K, V, S, A> {
-    ghost use Rattle.std.specs.Prelude.{◌≡◌, ℕ, ◌+◌, ◌<◌, length, slice_get, None, Ok, Err, IfOk, IfErr, OnOk, OnErr};
+    ghost use Rattle.std.specs.Prelude.{◌≡◌, ℕ, ◌+◌, ◌<◌, length, slice_get, None, Ok, Err, IfOk, IfErr, OnOk, OnErr, IsOkAnd, MatchResult, Some};
     ghost use Rattle.std.specs.Option.{UnwrapsOrElse};
     ghost use Rattle.std.specs.Borrow.{sem};
     ghost use Rattle.clock2q_machine.specs.Bounds.{inspections_for};
     ghost use Rattle.clock2q_machine.specs.Calls.{Put, With};
     ghost use Rattle.clock2q_cache.specs.Charged.{with_slot};
-    ghost use Rattle.clock2q_cache.specs.CacheLends.{LeavesMachine, LendsPut, LendsTaken};
+    ghost use Rattle.clock2q_cache.specs.CacheLends.{LeavesMachine, LeavesTried, LendsPut, LendsTaken};
     ghost use Rattle.clock2q_cache.specs.Hashes.{hash_of};
     ghost use Rattle.clock2q_cache.specs.Closures.{Fetches, Takes};
     ghost use Rattle.clock2q_cache.specs.Costs.{Costs, Spends, accesses_for, alike};
@@ -37,12 +37,8 @@ impl<K: Hash + Eq + Drop, V: Drop, S: BuildHasher, A: Allocator> Cache<K, V, S, 
         self.value(slot)
     }
 
-    /// Returns the value of a key as [`get_or_insert_with`](Cache::get_or_insert_with) does, where
+    /// Returns the value of a key as [`get_or_insert_with`](Cache::get_or_insert_with) does, but
     /// `f` may fail.
-    ///
-    /// What the call leaves of the cache and which keys it compares and hashes is tested, but no
-    /// clause says it, nor how many links it accesses. A proof that needs either calls
-    /// [`try_get_or_insert_with_mut`](Cache::try_get_or_insert_with_mut).
     ///
     /// # Errors
     ///
@@ -58,15 +54,16 @@ impl<K: Hash + Eq + Drop, V: Drop, S: BuildHasher, A: Allocator> Cache<K, V, S, 
         f: F,
     ) -> Result<&V, E>
         requires { slot_of (K.eq key) self.old.machine ≡ None → F.pre f }
+        ensures* machine { sem 𝓛 (LeavesTried K.row V.row S.row A.row S.Hasher.row K.Hash S.BuildHasher S.Hasher.Hasher A.Allocator self.entry key result) }
         ensures value { IfOk result (λ value. UnwrapsOrElse (value_of (K.eq key) self.old.machine) (λ v. F.post f (Ok v)) value.now) }
         ensures err { IfErr result (λ e. F.post f (Err e)) }
         ensures absent { OnErr result (slot_of (K.eq key) self.old.machine ≡ None) }
     {
-        let slot = self.try_find_or_insert(key, f)?;
-        Ok(self.value(slot))
+        let found = self.try_find_or_insert(key, f);
+        self.value_found(found)
     }
 
-    /// Returns the value of a key to write to, as
+    /// Returns the value of a key, to write to, as
     /// [`try_get_or_insert_with`](Cache::try_get_or_insert_with) does.
     ///
     /// # Errors
@@ -92,10 +89,10 @@ impl<K: Hash + Eq + Drop, V: Drop, S: BuildHasher, A: Allocator> Cache<K, V, S, 
         Ok(self.value_mut(slot))
     }
 
-    /// Returns the slot of a key and the value there to write to, after inserting the key if it
-    /// isn't resident. A resident key is hit, as by [`get`](Cache::get).
+    /// Returns the slot of a key and its value, to write to, after inserting the key if it isn't
+    /// resident. A resident key is hit, as by [`get`](Cache::get).
     ///
-    /// A slot that another key had keeps its value, to be written over, so a cache of buffers needs
+    /// A slot that another key had keeps its value, to be overwritten, so a cache of buffers needs
     /// no new ones. `make` is called only if a slot is made. The key keeps its slot until it leaves
     /// the cache, and [`get_at`](Cache::get_at) finds it there without a hash.
     ///
@@ -118,7 +115,7 @@ impl<K: Hash + Eq + Drop, V: Drop, S: BuildHasher, A: Allocator> Cache<K, V, S, 
         (slot as usize, self.value_mut(slot))
     }
 
-    /// Returns two numbers for contracts alone. The proof of the call picks them, and they may
+    /// Returns two numbers only for contracts. The proof of the call picks them, and they may
     /// depend on the cache and the key.
     fn most(&self, key: &K) -> Told<(usize, usize)>
         ghost picked: { ℕ × ℕ }
@@ -128,18 +125,18 @@ impl<K: Hash + Eq + Drop, V: Drop, S: BuildHasher, A: Allocator> Cache<K, V, S, 
         Told::new(&())
     }
 
-    /// Raises the counts of link accesses and of questions by as many as the proof of the call
-    /// picks, which may depend on `most`.
+    /// Raises the counts of link accesses and of questions by the amounts that the proof of the
+    /// call picks, which may depend on `most`.
     fn charge(&mut self, most: &Told<(usize, usize)>)
         ghost more: { ℕ × ℕ }
         ensures charged { self.new ≡ record self.old { counts = record self.old.counts { accesses = self.old.counts.accesses + more.0; questions = self.old.counts.questions + more.1 } } }
     {
         let _ = most;
         self.queues.charge();
-        self.keys.charge();
+        self.directory.charge();
     }
 
-    /// Returns the slot of a key, which is hit or else inserted with what `f` returns.
+    /// Returns the slot of a key, which is hit or inserted with what `f` returns.
     fn find_or_insert<F: FnOnce() -> V>(&mut self, key: K, f: F) -> u32
         requires { slot_of (K.eq key) self.old.machine ≡ None → F.pre f }
         ensures fetched { Fetches (K.eq key) key (F.post f) self.old.machine result self.new.machine }
@@ -148,7 +145,7 @@ impl<K: Hash + Eq + Drop, V: Drop, S: BuildHasher, A: Allocator> Cache<K, V, S, 
         ensures counts { Spends (inspections_for (K.eq key) self.old.machine) (accesses_for (K.eq key) self.old.machine) (alike K.Hash S.BuildHasher S.Hasher.Hasher key self.old) self.old.counts self.new.counts }
     {
         let hash = self.hash(&key);
-        let found = self.look(hash, &key);
+        let found = self.lookup(hash, &key);
         if let Found::Resident(slot) = found {
             self.record_hit(slot, &key);
             return slot;
@@ -157,8 +154,8 @@ impl<K: Hash + Eq + Drop, V: Drop, S: BuildHasher, A: Allocator> Cache<K, V, S, 
         self.insert(hash, key, value, found.place())
     }
 
-    /// Returns the slot of a key, which is hit or else inserted. A slot that was made before keeps
-    /// its value; a new one gets what `make` returns.
+    /// Returns the slot of a key, which is hit or inserted. A slot that was made before keeps its
+    /// value; a new one gets what `make` returns.
     fn find_or_reuse<F: FnOnce() -> V>(&mut self, hash: u64, key: K, make: F) -> u32
         requires hash { hash ≡ hash_of S.BuildHasher S.Hasher.Hasher self.old.hasher (K.hash_input key) }
         requires make { slice_get self.old.machine.values (slotted_at (slot_of (K.eq key) self.old.machine) (K.eq key) key self.old.machine) ≡ None → F.pre make }
@@ -175,7 +172,18 @@ impl<K: Hash + Eq + Drop, V: Drop, S: BuildHasher, A: Allocator> Cache<K, V, S, 
         self.insert_reusing(hash, key, make)
     }
 
-    /// Does what `find_or_insert` does with an `f` that may fail. Nothing changes then.
+    /// Returns the value at the slot that was found, or the error that was returned instead.
+    fn value_found<E>(&self, found: Result<u32, E>) -> Result<&V, E>
+        requires made { IfOk found (λ slot. slot < length self.now.machine.values) }
+        ensures lent { MatchResult found (λ slot. IsOkAnd result (λ value. slice_get self.now.machine.values slot ≡ Some value.now)) (λ e. result ≡ Err e) }
+    {
+        match found {
+            Ok(slot) => Ok(self.value(slot)),
+            Err(error) => Err(error),
+        }
+    }
+
+    /// Does what `find_or_insert` does, with an `f` that may fail. If it does, nothing changes.
     fn try_find_or_insert<F: FnOnce() -> Result<V, E>, E>(&mut self, key: K, f: F) -> Result<u32, E>
         requires { slot_of (K.eq key) self.old.machine ≡ None → F.pre f }
         ensures fetched { IfOk result (λ slot. Fetches (K.eq key) key (λ v. F.post f (Ok v)) self.old.machine slot self.new.machine) }
@@ -188,7 +196,7 @@ impl<K: Hash + Eq + Drop, V: Drop, S: BuildHasher, A: Allocator> Cache<K, V, S, 
         ensures asked { OnErr result (Spends 0 0 (alike K.Hash S.BuildHasher S.Hasher.Hasher key self.old) self.old.counts self.new.counts) }
     {
         let hash = self.hash(&key);
-        let found = self.look(hash, &key);
+        let found = self.lookup(hash, &key);
         if let Found::Resident(slot) = found {
             self.record_hit(slot, &key);
             return Ok(slot);

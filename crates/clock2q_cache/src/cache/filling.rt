@@ -1,4 +1,4 @@
-//! Slots made before they are needed.
+//! Making slots before they are needed.
 use crate::cache::Cache;
 use crate::filling::{fill, free_down};
 use std::alloc::Allocator;
@@ -12,9 +12,9 @@ impl<K: Hash + Eq + Default, V, S: BuildHasher, A: Allocator> Cache<K, V, S, A> 
     ghost use Rattle.clock2q_cache.specs.Makers.{MayMake};
 
     /// Gives each slot that has no value yet one that `make` returns, in ascending order of slots.
-    /// No key becomes resident: these slots are free, and new keys take them from the lowest on.
+    /// No key becomes resident: these slots are free, and new keys take the lowest first.
     ///
-    /// It is of use with `get_or_insert_mut`, which lends the value that a slot already has.
+    /// It is useful with `get_or_insert_mut`, which lends the value that a slot already has.
     ///
     /// # Cost
     ///
@@ -25,9 +25,9 @@ impl<K: Hash + Eq + Default, V, S: BuildHasher, A: Allocator> Cache<K, V, S, A> 
         ensures hasher { self.new.hasher ≡ self.old.hasher }
         ensures costs { (values : List V) → Costs K.Hash S.BuildHasher S.Hasher.Hasher (Prefill values) self.old self.new }
     {
-        let made = self.keys.len();
+        let made = self.directory.made();
         let capacity = self.shares.capacity();
-        fill(&mut self.keys, &self.hasher, capacity, make);
+        fill(&mut self.directory, &self.hasher, capacity, make);
         free_down(&mut self.free, made, capacity);
     }
 }

@@ -1,6 +1,5 @@
 //! Insertion of a key that is not resident.
 use crate::cache::Cache;
-use crate::index::{enter, refill, renew};
 use crate::vacancies::take_vacancy;
 use std::alloc::Allocator;
 use std::hash::{BuildHasher, Hash};
@@ -13,7 +12,7 @@ impl<K: Hash + Eq + Drop, V: Drop, S: BuildHasher, A: Allocator> Cache<K, V, S, 
     ghost use Rattle.clock2q_machine.specs.Ages.{is_promoted};
     ghost use Rattle.clock2q_machine.specs.Whole.{IsWhole, known_count};
     ghost use Rattle.clock2q_handles.specs.Homes.{candidates};
-    ghost use Rattle.clock2q_queues.specs.History.{place_of};
+    ghost use Rattle.clock2q_directory.specs.History.{place_of};
     ghost use Rattle.clock2q_machine.specs.Bounds.{inspections_for};
     ghost use Rattle.clock2q_cache.specs.Costs.{Spends};
     ghost use Rattle.clock2q_cache.specs.CacheState.{remembered_in};
@@ -24,7 +23,7 @@ impl<K: Hash + Eq + Drop, V: Drop, S: BuildHasher, A: Allocator> Cache<K, V, S, 
     ghost use Rattle.clock2q_cache.specs.Insertions.{Fills, placed, placed_inspections, makes_slot, next_is_vacant, main_inspections, small_inspections};
     ghost use Rattle.clock2q_machine.specs.Machine.{slot_of, vacancy, goes_to_main, into_main, into_small, forgotten, placement, inserted};
 
-    /// Inserts a key that is not resident. If the history has it, it stands there at `place`.
+    /// Inserts a key that is not resident. If the history has it, it is there at `place`.
     pub(crate) fn insert(&mut self, hash: u64, key: K, value: V, place: Option<u32>) -> u32
         requires place { place ≡ place_of (K.eq key) self.old.machine.history self.old.known.taken }
         requires hash { hash ≡ hash_of S.BuildHasher S.Hasher.Hasher self.old.hasher (K.hash_input key) }
@@ -39,9 +38,9 @@ impl<K: Hash + Eq + Drop, V: Drop, S: BuildHasher, A: Allocator> Cache<K, V, S, 
         self.insert_unknown(hash, key, Some(value), main)
     }
 
-    /// Inserts a key that is not resident, wherever it stands in the history. A slot that was made
-    /// before keeps its value; a new one gets what `make` returns. Out of line, it leaves a caller
-    /// that finds its key few registers to save.
+    /// Inserts a key that is not resident, whether or not the history has it. A slot that was made
+    /// before keeps its value; a new one gets what `make` returns. Out of line, so that a caller
+    /// that finds its key has few registers to save.
     #[cold]
     #[inline(never)]
     pub(crate) fn insert_reusing<F: FnOnce() -> V>(&mut self, hash: u64, key: K, make: F) -> u32
@@ -61,7 +60,7 @@ impl<K: Hash + Eq + Drop, V: Drop, S: BuildHasher, A: Allocator> Cache<K, V, S, 
         self.insert_unknown(hash, key, value, main)
     }
 
-    /// Inserts a key that is not known into Main, or into Small.
+    /// Inserts a key that is not known into Main or into Small.
     fn insert_unknown(&mut self, hash: u64, key: K, value: Option<V>, main: bool) -> u32
         requires hash { hash ≡ hash_of S.BuildHasher S.Hasher.Hasher self.old.hasher (K.hash_input key) }
         requires absent { known_count (K.eq key) self.old.machine ≡ 0 }
@@ -80,7 +79,7 @@ impl<K: Hash + Eq + Drop, V: Drop, S: BuildHasher, A: Allocator> Cache<K, V, S, 
         }
     }
 
-    /// Returns true if a slot is made for a key that goes into Main, or into Small.
+    /// Returns true if a slot is made for a key that goes into Main or into Small.
     fn makes_slot(&self, main: bool) -> bool
         ensures makes { result ≡ makes_slot main self.now.machine }
         ensures whole { IsWhole K.eq self.now.machine }
@@ -93,10 +92,10 @@ impl<K: Hash + Eq + Drop, V: Drop, S: BuildHasher, A: Allocator> Cache<K, V, S, 
         ensures next { result ≡ next_is_vacant self.now.machine }
         ensures whole { IsWhole K.eq self.now.machine }
     {
-        self.free.is_empty() && self.keys.len() < self.shares.capacity()
+        self.free.is_empty() && self.directory.made() < self.shares.capacity()
     }
 
-    /// Returns true if Main has its share.
+    /// Returns true if Main has as many entries as its share.
     fn main_is_full(&self) -> bool
         ensures full { result ≡ (length self.now.machine.main == main_share self.now.machine.shares) }
     {
@@ -108,10 +107,10 @@ impl<K: Hash + Eq + Drop, V: Drop, S: BuildHasher, A: Allocator> Cache<K, V, S, 
         ensures vacant { result ≡ is_some (vacancy self.now.machine) }
         ensures whole { IsWhole K.eq self.now.machine }
     {
-        self.keys.len() < self.shares.capacity() || !self.free.is_empty()
+        self.directory.made() < self.shares.capacity() || !self.free.is_empty()
     }
 
-    /// Returns true if a key enters Main. `known` says whether it was in the history.
+    /// Returns true if a key enters Main. `known` is true if it was in the history.
     fn admits_to_main(&self, known: bool) -> bool
         ensures { result ≡ goes_to_main known self.now.machine }
     {
@@ -126,8 +125,8 @@ impl<K: Hash + Eq + Drop, V: Drop, S: BuildHasher, A: Allocator> Cache<K, V, S, 
         }
     }
 
-    /// Inserts a key into Main: in the slot of Main's victim where Main has its share, else in a
-    /// free slot.
+    /// Inserts a key into Main: in the slot of Main's victim if Main is full, otherwise in a free
+    /// slot.
     fn insert_into_main(&mut self, hash: u64, key: K, value: Option<V>) -> u32
         requires hash { hash ≡ hash_of S.BuildHasher S.Hasher.Hasher self.old.hasher (K.hash_input key) }
         requires absent { known_count (K.eq key) self.old.machine ≡ 0 }
@@ -157,7 +156,7 @@ impl<K: Hash + Eq + Drop, V: Drop, S: BuildHasher, A: Allocator> Cache<K, V, S, 
         ensures counts { Spends (inspections self.old.machine.main) (inspections self.old.machine.main + 28) 0 self.old.counts self.new.counts }
     {
         let victim = self.queues.reuse_victim();
-        renew(&mut self.history, &mut self.keys, victim, hash, key, value);
+        self.directory.renew(victim, hash, key, value);
         victim
     }
 
@@ -173,13 +172,13 @@ impl<K: Hash + Eq + Drop, V: Drop, S: BuildHasher, A: Allocator> Cache<K, V, S, 
         ensures hasher { self.new.hasher ≡ self.old.hasher }
         ensures counts { Spends 0 28 0 self.old.counts self.new.counts }
     {
-        let slot = take_vacancy(&mut self.free, self.keys.len());
-        enter(&mut self.history, &mut self.keys, slot, hash, key, value);
+        let slot = take_vacancy(&mut self.free, self.directory.made());
+        self.directory.enter(slot, hash, key, value);
         self.queues.append(slot);
         slot
     }
 
-    /// Inserts a key into Small: in a free slot while there is one, else in the slot of Small's
+    /// Inserts a key into Small: in a free slot if there is one, otherwise in the slot of Small's
     /// tail or of Main's victim.
     fn insert_into_small(&mut self, hash: u64, key: K, value: Option<V>) -> u32
         requires hash { hash ≡ hash_of S.BuildHasher S.Hasher.Hasher self.old.hasher (K.hash_input key) }
@@ -214,8 +213,8 @@ impl<K: Hash + Eq + Drop, V: Drop, S: BuildHasher, A: Allocator> Cache<K, V, S, 
         ensures hasher { self.new.hasher ≡ self.old.hasher }
         ensures counts { Spends 0 28 0 self.old.counts self.new.counts }
     {
-        let slot = take_vacancy(&mut self.free, self.keys.len());
-        enter(&mut self.history, &mut self.keys, slot, hash, key, value);
+        let slot = take_vacancy(&mut self.free, self.directory.made());
+        self.directory.enter(slot, hash, key, value);
         self.queues.admit(slot);
         slot
     }
@@ -245,13 +244,11 @@ impl<K: Hash + Eq + Drop, V: Drop, S: BuildHasher, A: Allocator> Cache<K, V, S, 
         ensures counts { Spends 0 28 0 self.old.counts self.new.counts }
     {
         let tail = self.queues.reuse_tail();
-        let (old_hash, old_key) = refill(&mut self.keys, tail, hash, key, value);
-        self.history.push(old_hash, tail, old_key);
-        self.history.add(hash, tail);
+        self.directory.remember(tail, hash, key, value);
         tail
     }
 
-    /// Inserts a key into Small in the slot of Main's victim, while Small's tail goes on to Main.
+    /// Inserts a key into Small in the slot of Main's victim, while Small's tail moves on to Main.
     fn promote_tail(&mut self, hash: u64, key: K, value: Option<V>) -> u32
         requires hash { hash ≡ hash_of S.BuildHasher S.Hasher.Hasher self.old.hasher (K.hash_input key) }
         requires absent { known_count (K.eq key) self.old.machine ≡ 0 }
@@ -265,12 +262,12 @@ impl<K: Hash + Eq + Drop, V: Drop, S: BuildHasher, A: Allocator> Cache<K, V, S, 
         ensures counts { Spends (inspections self.old.machine.main) (inspections self.old.machine.main + 28) 0 self.old.counts self.new.counts }
     {
         let slot = self.queues.take_victim();
-        // the caller saw that Small isn't empty
+        // the caller has seen that Small isn't empty
         let Some(tail) = self.queues.take_tail() else {
             unreachable!()
         };
         self.queues.append(tail);
-        renew(&mut self.history, &mut self.keys, slot, hash, key, value);
+        self.directory.renew(slot, hash, key, value);
         self.queues.admit(slot);
         slot
     }

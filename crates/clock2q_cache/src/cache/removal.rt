@@ -1,21 +1,21 @@
-//! Removal of residents: of one by its key, and of those that a closure rejects.
+//! Removal of residents: one by its key, or all that a closure rejects.
 use crate::cache::Cache;
 use crate::vacancies::free_slot;
-use clock2q_queues::history::Found;
+use clock2q_directory::history::Found;
 use std::alloc::Allocator;
 use std::hash::{BuildHasher, Hash};
 
 impl<K: Hash + Eq, V, S: BuildHasher, A: Allocator> Cache<K, V, S, A> {
-    ghost use Rattle.std.specs.Prelude.{◌≡◌, IsTrue, ◌↔◌, IsSome, ◌<◌, length, Some, is_some, List, Bool};
+    ghost use Rattle.std.specs.Prelude.{◌≡◌, ◌+◌, ◌*◌, ◌≤◌, IsTrue, ◌↔◌, IsSome, ◌<◌, length, Some, is_some, List, Bool};
     ghost use Rattle.clock2q_machine.specs.Calls.{Remove, Retain};
     ghost use Rattle.clock2q_cache.specs.Closures.{MayBeAsked, Retains};
     ghost use Rattle.clock2q_cache.specs.Costs.{Spends, Costs};
     ghost use Rattle.clock2q_cache.specs.Hashes.{hash_of};
-    ghost use Rattle.clock2q_machine.specs.Machine.{slot_of, resident_at, vacated, removed};
+    ghost use Rattle.clock2q_machine.specs.Machine.{slot_of, resident_at, resident_count, vacated, removed};
 
     /// Removes a key, and returns true if it was resident.
     ///
-    /// A resident's slot becomes the next free slot that is taken, and keeps its value until then.
+    /// A resident's slot becomes the next free slot to be taken, and keeps its value until then.
     /// The history stays as it is: a resident is never in it. A key that isn't resident is removed
     /// from the history, so that it counts as new when it comes back.
     ///
@@ -30,7 +30,7 @@ impl<K: Hash + Eq, V, S: BuildHasher, A: Allocator> Cache<K, V, S, A> {
         ensures costs { Costs K.Hash S.BuildHasher S.Hasher.Hasher (Remove key.now) self.old self.new }
     {
         let hash = self.hash(key);
-        let found = self.look(hash, key);
+        let found = self.lookup(hash, key);
         let Found::Resident(slot) = found else {
             self.forget(hash, key, found.place());
             return false;
@@ -52,6 +52,7 @@ impl<K: Hash + Eq, V, S: BuildHasher, A: Allocator> Cache<K, V, S, A> {
         ensures retained { Retains F.FnMut keep self.old.machine self.new.machine }
         ensures hasher { self.new.hasher ≡ self.old.hasher }
         ensures costs { (bits : List Bool) → Costs K.Hash S.BuildHasher S.Hasher.Hasher (Retain bits) self.old self.new }
+        ensures removals { self.new.counts.accesses + 8 * resident_count self.new.machine ≤ self.old.counts.accesses + 8 * resident_count self.old.machine }
     {
         for slot in 0..self.made() {
             if self.is_resident(slot) {
@@ -63,15 +64,15 @@ impl<K: Hash + Eq, V, S: BuildHasher, A: Allocator> Cache<K, V, S, A> {
         }
     }
 
-    /// Returns how many slots have a value, of a resident or from before.
-    fn made(&self) -> u32
+    /// Returns the number of slots that have a value, whether a resident's or an earlier one.
+    pub(super) fn made(&self) -> u32
         ensures { result ≡ length self.now.machine.values }
     {
-        self.keys.len() as u32
+        self.directory.made() as u32
     }
 
     /// Returns true if a slot has a resident.
-    fn is_resident(&self, slot: u32) -> bool
+    pub(super) fn is_resident(&self, slot: u32) -> bool
         requires { slot < length self.now.machine.values }
         ensures { result ≡ is_some (resident_at self.now.machine slot) }
     {
@@ -79,11 +80,11 @@ impl<K: Hash + Eq, V, S: BuildHasher, A: Allocator> Cache<K, V, S, A> {
     }
 
     /// Returns the key of the resident at a slot.
-    fn key(&self, slot: u32) -> &K
+    pub(super) fn key(&self, slot: u32) -> &K
         requires { IsSome (resident_at self.now.machine slot) }
         ensures { resident_at self.now.machine slot ≡ Some (result.now, slot) }
     {
-        self.keys.key(slot)
+        self.directory.key(slot)
     }
 
     /// Removes the resident at a slot, and frees the slot.
@@ -93,7 +94,7 @@ impl<K: Hash + Eq, V, S: BuildHasher, A: Allocator> Cache<K, V, S, A> {
         ensures hasher { self.new.hasher ≡ self.old.hasher }
         ensures counts { Spends 0 8 0 self.old.counts self.new.counts }
     {
-        self.history.remove(self.keys.hash(slot), slot);
+        self.directory.leave(slot);
         self.queues.leave(slot);
         free_slot(&mut self.free, slot);
     }

@@ -1,4 +1,4 @@
--- One entry more, with the next value.
+-- One more entry, with the next value.
 use Rattle.std.proofs.Common.{◌≡◌, ◌+◌, ◌-◌, arith, refl, sym, ap, ◌∙◌, subst}
 use Rattle.clock2q_cache.proofs.Names.{KeyPlaces, FillsUp, hash_of, TakesTimes}
 use Rattle.clock2q_cache.proofs.Filled.{FillsUp-none, FillsUp-more, FillsUp-length}
@@ -6,22 +6,23 @@ use Rattle.clock2q_cache.proofs.Makers.{next_call}
 use Rattle.clock2q_cache.proofs.filling.fill.Goals as goal
 
 pub loop-init : goal.loop-init
-loop-init g c = (subst (λ n. TakesTimes g.F.FnMut (c.args.many - n) c.args.make) (sym c.len-counter.ensures.len) c.requires.callable, FillsUp-none c.len-counter.ensures.len, refl, refl)
+loop-init g c = (subst (λ n. TakesTimes g.F.FnMut (c.args.many - n) c.args.make) (sym c.made-counter.ensures.made) c.requires.callable, FillsUp-none c.made-counter.ensures.made, refl, refl, refl)
 
-pub push-requires : goal.push-requires
-push-requires g c = record { room = omega (arith, c.loop-test.true, c.requires.room, FillsUp-length c.loop.invariant.1, c.loop.invariant.2) }
+pub prepare-requires : goal.prepare-requires
+prepare-requires g c = record { room = omega (arith, c.loop-test.true, c.requires.room, FillsUp-length c.loop.invariant.1, c.loop.invariant.2) }
 
 pub make-requires : goal.make-requires
 make-requires g c = (next_call g.F.FnMut c.args.many c.loop.counter c.loop.make c.loop-test.true c.loop.invariant.0).0
 
 pub loop-preserved : goal.loop-preserved
 loop-preserved g c =
-    let pushed = ap (λ (z : KeyPlaces _ _). z.entries) c.push.ensures.pushed in (
+    let pushed = ap (λ (z : KeyPlaces _ _). z.entries) c.prepare.ensures.prepared in (
       (next_call g.F.FnMut c.args.many c.loop.counter c.loop.make c.loop-test.true c.loop.invariant.0).1 c.make.result c.make.new.self c.make.ensures,
       subst (λ z. FillsUp g.F.FnMut c.args.make (λ k. hash_of g.S.BuildHasher g.S.Hasher.Hasher c.args.hasher.now (g.K.Hash.hash_input k))
-          (c.loop.counter + 1) c.args.keys.now.entries z c.make.new.self) (sym pushed) (FillsUp-more c.loop.invariant.1 c.hash_of-hash.ensures c.make.ensures),
-      ap (λ (z : KeyPlaces _ _). z.room) c.push.ensures.pushed ∙ c.loop.invariant.2,
-      ap (λ (z : KeyPlaces _ _). z.questions) c.push.ensures.pushed ∙ c.loop.invariant.3,
+          (c.loop.counter + 1) c.args.directory.now.residents.entries z c.make.new.self) (sym pushed) (FillsUp-more c.loop.invariant.1 c.hash_of-hash.ensures c.make.ensures),
+      ap (λ (z : KeyPlaces _ _). z.room) c.prepare.ensures.prepared ∙ c.loop.invariant.2,
+      ap (λ (z : KeyPlaces _ _). z.questions) c.prepare.ensures.prepared ∙ c.loop.invariant.3,
+      c.prepare.ensures.kept ∙ c.loop.invariant.4,
     )
 
 pub returns-clause-filled : goal.returns-clause-filled
@@ -29,5 +30,5 @@ returns-clause-filled g c =
     let same : c.loop.counter ≡ c.args.many = omega (arith, c.loop-test.false, c.loop.auto.counter-end) in (
       c.loop.make,
       subst (λ n. FillsUp g.F.FnMut c.args.make (λ k. hash_of g.S.BuildHasher g.S.Hasher.Hasher c.args.hasher.now (g.K.Hash.hash_input k))
-          n c.args.keys.now.entries c.loop.keys.entries c.loop.make) same c.loop.invariant.1,
+          n c.args.directory.now.residents.entries c.loop.directory.residents.entries c.loop.make) same c.loop.invariant.1,
     )

@@ -1,4 +1,4 @@
--- One slot more, below the others.
+-- One more slot, below the others.
 use Rattle.std.proofs.Common.{◌≡◌, ◌+◌, ◌-◌, ◌++◌, ◌∷◌, [], reverse, arith, ap, sym, ◌∙◌}
 use Rattle.clock2q_cache.proofs.Names.{range_with_len}
 use Rattle.clock2q_cache.proofs.Filled.{freed-more}

@@ -7,7 +7,7 @@ use Rattle.clock2q_memo.specs.Memo.{IsCallableAtEach, Computes}
 use Rattle.clock2q_memo.proofs.Recalling.{recalled-step, evaluations-step, recalled-ended, evaluations-ended}
 use Rattle.clock2q_memo.proofs.memo.recall.Goals as goal
 
--- one value more, where the keys that are left are one fewer
+-- one more value, and one fewer key left
 one_more : {V : Type 0} (values : List V) (v w : V) (rest all : List V) → v ≡ w → values ++ w ∷ rest ≡ all → (values ++ v ∷ []) ++ rest ≡ all
 one_more [] v w rest all same e = ap (λ x. x ∷ rest) same ∙ e
 one_more (x ∷ values) v w rest all same e = ap (λ xs. x ∷ xs) (one_more values v w rest (values ++ w ∷ rest) same refl) ∙ e
@@ -16,7 +16,7 @@ none_left : {X : Type 0} (xs : List X) → length xs ≡ 0 → xs ≡ []
 none_left [] e = refl
 none_left (x ∷ xs) e = absurd (omega (arith, e))
 
--- what may be called at each key may be called at each that is left
+-- what may be called for each key may be called for each key that is left
 rest_callable : {F K V : Type 0} (call : Shared F (Bor K × Unit {0}) V) (f : F) (all : List K) (key : K) (rest : List K) → all ≡ key ∷ rest → IsCallableAtEach call f all → IsCallableAtEach call f rest
 rest_callable call f all key rest is each = λ at other there. subst (IsCallableAtEach call f) is each (suc at) other there
 

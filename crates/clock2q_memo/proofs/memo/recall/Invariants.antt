@@ -1,4 +1,6 @@
--- The values so far and those of the keys that are left are those of all, and there is room for them. Whatever values the keys that are left get, fetching them now is fetching all from the beginning.
+-- The values so far, followed by those of the keys that are left, are the values of all keys, and there is room for
+-- them. Whatever values the keys that are left get, fetching them now is the same as fetching all keys from the
+-- beginning.
 use Rattle.std.proofs.Common.{◌≡◌, ◌+◌, ◌≤◌, ◌++◌, List, map, length, vec_len, vec_capacity}
 use Rattle.std.specs.Vec.Iter.{into_iter_items, into_iter_len}
 use Rattle.std.specs.Fn.{FnReturnsAt}

@@ -1,4 +1,4 @@
--- The sums so far, and those of the bytes that are left from them on, which are those of all.
+-- The sums so far, continued over the bytes that are left, are those of all bytes.
 use Rattle.std.proofs.Common.{◌≡◌, ◌<◌, drop}
 use Rattle.clock2q_uses.specs.Checksums.{sums}
 use Rattle.clock2q_uses.proofs.checksums.adler32.Given as goal

@@ -1,4 +1,4 @@
--- The pages so far are those of the file, there is room for the others, and what was loaded stands in its frame.
+-- The pages so far are those of the file, there is room for the others, and each loaded page is in its frame.
 use Rattle.std.proofs.Common.{◌≡◌, ◌+◌, ◌-◌, ◌≤◌, map, length, take, slice_get, vec_len, vec_capacity}
 use Rattle.clock2q_uses.specs.Pages.{AreLoaded}
 use Rattle.clock2q_uses.proofs.pages.read_each.Given as goal

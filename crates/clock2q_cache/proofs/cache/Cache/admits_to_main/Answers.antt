@@ -1,4 +1,4 @@
--- Where there is a vacancy, the length of Small tells, and else whether Small has a share.
+-- If there is a vacancy, the length of Small decides; otherwise whether Small has a share.
 use Rattle.std.proofs.Common.{length, sym, ap, ◌∙◌, rules}
 use Rattle.clock2q_cache.proofs.Names.{CacheState}
 use Rattle.clock2q_cache.proofs.CacheInvariant.{length_in_small}

@@ -1,4 +1,4 @@
--- The key stands at the slot where it was found, or at the one that it took.
+-- The key is at the slot where it was found, or at the one that it took.
 use Rattle.std.proofs.Common.{sym, ap, ◌∙◌, arith}
 use Rattle.clock2q_cache.proofs.Names.{slice_get_within, hit, CacheState}
 use Rattle.clock2q_cache.proofs.Making.{hit-takes, new-takes}

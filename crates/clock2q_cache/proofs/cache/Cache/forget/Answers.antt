@@ -4,8 +4,8 @@ use Rattle.clock2q_cache.proofs.Names.{list_any, is_shared, slots, Remembered, P
 use Rattle.clock2q_cache.proofs.Changed.{known-any, discard-hash, forgotten-machine, kept-forgotten}
 use Rattle.clock2q_cache.proofs.cache.Cache.forget.Goals as goal
 
-pub discard-requires : goal.discard-requires
-discard-requires g c =
+pub forget-requires : goal.forget-requires
+forget-requires g c =
     record {
       hash = discard-hash g.met.K.Eq.laws c.self.invariant c.args.key.now c.args.hash
           (λ x y e. ap (λ z. hash_of g.S.BuildHasher g.S.Hasher.Hasher c.self.inside.hasher z) (g.met.K.Hash.respects_eq x y e)) (rw (← c.self.view_is) at c.requires.hash);
@@ -14,21 +14,21 @@ discard-requires g c =
 
 pub invariant_of-self : goal.invariant_of-self
 invariant_of-self g c =
-    kept-forgotten g.met.K.Eq.laws c.self.invariant c.args.key.now c.discard.new.self
-    (ap (λ (z : Remembered _). z.entries) c.discard.ensures.forgotten) (ap (λ (z : Remembered _). z.limit) c.discard.ensures.forgotten)
-    (ap (λ (z : Remembered _). most_beside z) c.discard.ensures.forgotten
-    ∙ ap (λ b. if b then c.self.inside.history.limit else 0) (ap (λ (z : Places). is_shared z.index) c.discard.ensures.places ∙ shared-freed c.args.hash _ c.self.inside.history.places))
-    (ap (λ (z : Places). slots z.index) c.discard.ensures.places ∙ slots-freed c.args.hash _ c.self.inside.history.places)
+    rw c.forget.ensures.kept (kept-forgotten g.met.K.Eq.laws c.self.invariant c.args.key.now c.forget.new.self.history
+    (ap (λ (z : Remembered _). z.entries) c.forget.ensures.forgotten) (ap (λ (z : Remembered _). z.limit) c.forget.ensures.forgotten)
+    (ap (λ (z : Remembered _). most_beside z) c.forget.ensures.forgotten
+    ∙ ap (λ b. if b then c.self.inside.directory.history.limit else 0) (ap (λ (z : Places). is_shared z.index) c.forget.ensures.places ∙ shared-freed c.args.hash _ c.self.inside.directory.history.places))
+    (ap (λ (z : Places). slots z.index) c.forget.ensures.places ∙ slots-freed c.args.hash _ c.self.inside.directory.history.places))
 
 pub returns-clause-known : goal.returns-clause-known
 returns-clause-known g c =
-    c.discard.ensures.found ∙ known-any (g.K.PartialEq.eq c.args.key.now) c.self.inside.history.entries
+    c.forget.ensures.found ∙ known-any (g.K.PartialEq.eq c.args.key.now) c.self.inside.directory.history.entries
     ∙ ap (λ (z : CacheState _ _ _). list_any (g.K.PartialEq.eq c.args.key.now) z.machine.history) c.self.view_is
 
 pub returns-clause-machine : goal.returns-clause-machine
 returns-clause-machine g c =
-    forgotten-machine g.met.K.Eq.laws c.self.invariant c.args.key.now c.discard.new.self (ap (λ (z : Remembered _). z.entries) c.discard.ensures.forgotten)
-    ∙ ap (λ (z : CacheState _ _ _). forgotten (g.K.PartialEq.eq c.args.key.now) z.machine) c.self.view_is
+    rw c.forget.ensures.kept (forgotten-machine g.met.K.Eq.laws c.self.invariant c.args.key.now c.forget.new.self.history (ap (λ (z : Remembered _). z.entries) c.forget.ensures.forgotten)
+    ∙ ap (λ (z : CacheState _ _ _). forgotten (g.K.PartialEq.eq c.args.key.now) z.machine) c.self.view_is)
 
 pub returns-clause-places : goal.returns-clause-places
-returns-clause-places g c = c.discard.ensures.places ∙ ap (λ (z : CacheState _ _ _). discarded (g.K.PartialEq.eq c.args.key.now) c.args.hash z) c.self.view_is
+returns-clause-places g c = c.forget.ensures.places ∙ ap (λ (z : CacheState _ _ _). discarded (g.K.PartialEq.eq c.args.key.now) c.args.hash z) c.self.view_is

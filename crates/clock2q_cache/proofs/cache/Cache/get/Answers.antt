@@ -10,7 +10,7 @@ use Rattle.clock2q_cache.proofs.cache.Cache.get.Given.{Over}
 use Rattle.clock2q_cache.proofs.cache.Cache.get.Goals.{After-value-value}
 use Rattle.clock2q_cache.proofs.cache.Cache.get.Goals as goal
 
--- the key is resident at the slot, as the fields have it
+-- the key is resident at the slot, in terms of the fields
 there : (g : Over) (c : After-value-value g) → slot_of (g.K.PartialEq.eq c.args.key.now) (m g.met.K.Eq.laws c.self.invariant) ≡ Some c.in_ok-slot.slot
 there g c =
     let k = g.K.PartialEq.eq c.args.key.now in
@@ -37,6 +37,6 @@ returns g c =
     hit-machine g.met.K.Eq.laws c.self.invariant c.args.key.now c.in_ok-slot.slot at c.hit.new.self (ap (λ (z : QueueState). z.small) c.hit.ensures.queues) (ap (λ (z : QueueState). z.main) c.hit.ensures.queues)
     ∙ ap (λ (z : CacheState _ _ _). hit (g.K.PartialEq.eq c.args.key.now) z.machine) c.self.view_is in
     let value =
-    sym c.value-value.ensures.value ∙ sym (value-there c.self.inside.keys.entries c.in_ok-slot.slot) ∙ ap (λ (z : CacheState _ _ _). slice_get z.machine.values c.in_ok-slot.slot) c.self.view_is
+    sym c.value-value.ensures.value ∙ sym (value-there c.self.inside.directory.residents.entries c.in_ok-slot.slot) ∙ ap (λ (z : CacheState _ _ _). slice_get z.machine.values c.in_ok-slot.slot) c.self.view_is
     ∙ ap (λ (z : Machine _ _). slice_get z.values c.in_ok-slot.slot) c.find.ensures.machine ∙ ap (λ o. option_and_then (slice_get c.args.self.now.machine.values) o) c.in_ok-slot.ensures.slot in
     ((refl, λ _. tt, hit-becomes c.hash-hash.ensures c.find.ensures.kept c.find.ensures.counts (search rules) now), record { machine = tt; value = value })

@@ -1,4 +1,4 @@
--- The value that the key was fetched with stands at its slot.
+-- The value that the key was fetched with is at its slot.
 use Rattle.std.proofs.Common.{refl, sym, ◌∙◌}
 use Rattle.clock2q_cache.proofs.Names.{some_is}
 use Rattle.clock2q_cache.proofs.Spent.{costs-of}

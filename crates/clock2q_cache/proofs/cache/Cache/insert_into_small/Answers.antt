@@ -1,4 +1,4 @@
--- A full cache has an entry in Small, where that has a share.
+-- A full cache has an entry in Small, if Small has a share.
 use Rattle.std.proofs.Common.{true, false, None, sym}
 use Rattle.clock2q_cache.proofs.Names.{last_or}
 use Rattle.clock2q_cache.proofs.Places.{key-out}

@@ -1,4 +1,4 @@
--- A slot is made where none is free and no one's is taken.
+-- A slot is made if none is free and no other key's is taken.
 use Rattle.std.proofs.Common.{not, arith, sym, ap, ◌∙◌}
 use Rattle.clock2q_cache.proofs.Names.{slice_get_past, ltb-false, known_count, list_any, Placement, forgotten, CacheState, unknown_once_forgotten}
 use Rattle.clock2q_cache.proofs.Spent.{spends-both}

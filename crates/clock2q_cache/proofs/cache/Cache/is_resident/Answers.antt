@@ -1,4 +1,4 @@
--- The slot has a resident where it stands in a queue.
+-- The slot has a resident if it is in a queue.
 use Rattle.std.proofs.Common.{ap, sym, ◌∙◌}
 use Rattle.clock2q_cache.proofs.Names.{is_some, CacheState, resident_at}
 use Rattle.clock2q_cache.proofs.Vacated.{resident-some}

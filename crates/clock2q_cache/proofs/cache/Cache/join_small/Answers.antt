@@ -10,18 +10,20 @@ use Rattle.clock2q_cache.proofs.cache.Cache.join_small.Goals as goal
 
 -- the slot that was picked
 free : (g : Over) (c : After-take_vacancy-slot g) → IsFree g.met.K.Eq.laws c.self.invariant c.take_vacancy-slot.result
-free g c = free-small g.met.K.Eq.laws c.self.invariant c.len.ensures.len c.take_vacancy-slot.ensures.slot (rw (← c.self.view_is) at c.requires.room)
+free g c = free-small g.met.K.Eq.laws c.self.invariant c.made.ensures.made c.take_vacancy-slot.ensures.slot (rw (← c.self.view_is) at c.requires.room)
 
 pub enter-requires : goal.enter-requires
 enter-requires g c =
     let f = free g (goal.at.enter-requires g c).After-take_vacancy-slot in
     record {
-      next = f.next;
-      had = made-small g.met.K.Eq.laws c.self.invariant c.args.key c.args.value f.taken (rw (← c.self.view_is) at c.requires.had);
-      room = f.within;
-      few = f.made;
-      below = f.short;
-      index_room = record { room = f.index_room; few = f.few };
+      vacant = record {
+        next = f.next;
+        had = made-small g.met.K.Eq.laws c.self.invariant c.args.key c.args.value f.taken (rw (← c.self.view_is) at c.requires.had);
+        room = f.within;
+        few = f.made;
+        below = f.short;
+        index_room = record { room = f.index_room; few = f.few };
+      };
     }
 
 pub admit-requires : goal.admit-requires
@@ -34,11 +36,11 @@ admit-requires g c =
 -- the key has it
 done : (g : Over) (c : After-admit g) → IsFree g.met.K.Eq.laws c.self.invariant c.take_vacancy-slot.result
     → IsDone g.met.K.Eq.laws c.self.invariant c.take_vacancy-slot.result c.args.value (into_small c.args.key (m g.met.K.Eq.laws c.self.invariant))
-    c.admit.new.self c.enter.new.history (slots c.enter.new.history.places.index) c.enter.new.keys c.take_vacancy-slot.new.free.items (vec_capacity c.take_vacancy-slot.new.free)
+    c.admit.new.self c.enter.new.self.history (slots c.enter.new.self.history.places.index) c.enter.new.self.residents c.take_vacancy-slot.new.free.items (vec_capacity c.take_vacancy-slot.new.free)
 done g c f =
-    done-reindexed g.met.K.Eq.laws c.self.invariant (reindexed c.self.inside.history c.enter.ensures.index refl)
+    done-reindexed g.met.K.Eq.laws c.self.invariant (reindexed c.self.inside.directory.history c.enter.ensures.index refl)
     (small-done g.met.K.Eq.laws c.self.invariant f (rw (← c.self.view_is) at c.requires.hash) (rw (← c.self.view_is) at c.requires.absent)
-    (now-slots c.self.inside.history c.enter.ensures.index (slots-entered c.self.inside.history.places.index c.args.hash c.take_vacancy-slot.result (omega (arith, f.short))))
+    (now-slots c.self.inside.directory.history c.enter.ensures.index (slots-entered c.self.inside.directory.history.places.index c.args.hash c.take_vacancy-slot.result (omega (arith, f.short))))
     c.enter.ensures.entries c.enter.ensures.kept (rw (← c.self.view_is) at c.requires.room)
     c.admit.ensures.queues c.take_vacancy-slot.ensures.others c.take_vacancy-slot.ensures.capacity)
 
@@ -55,9 +57,9 @@ returns g c =
     rw (← c.self.view_is) (record {
       slot = d.at;
       machine = d.fills;
-      indexes = entered-vacant g.met.K.Eq.laws c.self.invariant c.self.inside.history.places c.args.key c.take_vacancy-slot.result
+      indexes = entered-vacant g.met.K.Eq.laws c.self.invariant c.self.inside.directory.history.places c.args.key c.take_vacancy-slot.result
           (rw (← c.self.view_is) at c.requires.hash) f.absent (ap (λ (z : Remembered _). z.places) c.enter.ensures.index);
       hasher = refl;
-      counts = joined-spends c.self.inside.queues c.self.inside.history c.self.inside.keys 3 10 c.admit.ensures.queues c.admit.ensures.accesses
+      counts = joined-spends c.self.inside.queues c.self.inside.directory.history c.self.inside.directory.residents 3 10 c.admit.ensures.queues c.admit.ensures.accesses
           (omega arith) c.enter.ensures.index c.enter.ensures.kept;
     })

@@ -4,7 +4,7 @@ use Rattle.clock2q_cache.proofs.Vacated.{slot-made, resident-key}
 use Rattle.clock2q_cache.proofs.cache.Cache.key.Goals as goal
 
 pub key-requires : goal.key-requires
-key-requires g c = record { used = slot-made g.met.K.Eq.laws c.self.invariant c.args.slot (rw (← c.self.view_is) at c.requires) }
+key-requires g c = record { made = slot-made g.met.K.Eq.laws c.self.invariant c.args.slot (rw (← c.self.view_is) at c.requires) }
 
 pub returns : goal.returns
 returns g c =

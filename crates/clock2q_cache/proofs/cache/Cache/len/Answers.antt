@@ -16,7 +16,7 @@ returns-clause-count g c =
 
 pub returns-clause-indexed : goal.returns-clause-indexed
 returns-clause-indexed g c =
-    let r = remembers g.met.K.Eq.laws c.self.invariant c.len.ensures.whole in
+    let r = remembers g.met.K.Eq.laws c.self.invariant c.remembered_len.ensures.whole in
     rw (← c.self.view_is) (record { residents = residents-have g.met.K.Eq.laws c.self.invariant; as_many = r.as_many; remembered = r.have })
 
 pub returns-clause-spacious : goal.returns-clause-spacious
@@ -24,5 +24,5 @@ returns-clause-spacious g c =
     let k = c.self.invariant in
     rw (← c.self.view_is) (record {
       residents = rw k.sized.remembers at k.sized.spacious;
-      remembered = λ own. omega (arith, c.len.ensures.whole.own_room own, k.sized.remembers);
+      remembered = λ own. omega (arith, c.remembered_len.ensures.whole.own_room own, k.sized.remembers);
     })

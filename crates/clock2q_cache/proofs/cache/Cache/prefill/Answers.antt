@@ -1,4 +1,4 @@
--- The slots that were never made are made and free.
+-- The slots that were never made are made, and are free.
 use Rattle.std.proofs.Common.{◌≡◌, ◌-◌, ◌++◌, length, map, reverse, ◌∙◌}
 use Rattle.clock2q_cache.proofs.Names.{length-values, range_with_len}
 use Rattle.clock2q_cache.proofs.Filled.{made-count, machine-prefilled, kept-prefilled}
@@ -8,34 +8,34 @@ use Rattle.clock2q_cache.proofs.cache.Cache.prefill.Goals.{After-free_down}
 use Rattle.clock2q_cache.proofs.cache.Cache.prefill.Goals as goal
 
 pub fill-requires-clause-callable : goal.fill-requires-clause-callable
-fill-requires-clause-callable g c = rw (c.capacity-capacity.ensures, ← length-values c.self.inside.keys.entries) (rw (← c.self.view_is) at c.requires.callable.in_turn)
+fill-requires-clause-callable g c = rw (c.capacity-capacity.ensures, ← length-values c.self.inside.directory.residents.entries) (rw (← c.self.view_is) at c.requires.callable.in_turn)
 
--- the free slots, and those that follow the ones that were made
+-- the free slots, and those after the ones that were made
 freed : (g : Over) (c : After-free_down g) → c.free_down.new.free.items
-    ≡ c.self.inside.free.items ++ reverse (range_with_len (length c.self.inside.keys.entries) (c.self.inside.shares.capacity - length c.self.inside.keys.entries))
-freed g c = rw (c.len-made.ensures.len, c.capacity-capacity.ensures) at c.free_down.ensures.items
+    ≡ c.self.inside.free.items ++ reverse (range_with_len (length c.self.inside.directory.residents.entries) (c.self.inside.shares.capacity - length c.self.inside.directory.residents.entries))
+freed g c = rw (c.made-made.ensures.made, c.capacity-capacity.ensures) at c.free_down.ensures.items
 
 pub invariant_of-self : goal.invariant_of-self
 invariant_of-self g c =
     let filled = c.fill.ensures.filled.1 in
-    kept-prefilled g.met.K.Eq.laws c.self.invariant filled.added c.fill.new.keys c.free_down.new.free.items _ filled.is (filled.as_many ∙ c.capacity-capacity.ensures)
-    (freed g (goal.at.invariant_of-self g c).After-free_down) filled.hashed c.fill.ensures.kept_room c.free_down.ensures.capacity
+    rw c.fill.ensures.history (kept-prefilled g.met.K.Eq.laws c.self.invariant filled.added c.fill.new.directory.residents c.free_down.new.free.items _ filled.is (filled.as_many ∙ c.capacity-capacity.ensures)
+    (freed g (goal.at.invariant_of-self g c).After-free_down) filled.hashed c.fill.ensures.kept_room c.free_down.ensures.capacity)
 
 pub returns-clause-made : goal.returns-clause-made
 returns-clause-made g c =
     let as_many = c.fill.ensures.filled.1.as_many ∙ c.capacity-capacity.ensures in
     let down = freed g (goal.at.returns-clause-made g c).After-free_down in
-    rw (← c.self.view_is) (record {
+    rw (← c.self.view_is, c.fill.ensures.history) (record {
       made = map (λ e. e.value) c.fill.ensures.filled.1.added;
       last = c.fill.ensures.filled.0;
-      as_many = made-count g.met.K.Eq.laws c.self.invariant c.fill.ensures.filled.1.added c.fill.new.keys c.free_down.new.free.items 0 c.fill.ensures.filled.1.is as_many down;
+      as_many = made-count g.met.K.Eq.laws c.self.invariant c.fill.ensures.filled.1.added c.fill.new.directory.residents c.free_down.new.free.items 0 c.fill.ensures.filled.1.is as_many down;
       called = c.fill.ensures.filled.1.called;
-      becomes = machine-prefilled g.met.K.Eq.laws c.self.invariant c.fill.ensures.filled.1.added c.fill.new.keys c.free_down.new.free.items 0 c.fill.ensures.filled.1.is as_many down;
+      becomes = machine-prefilled g.met.K.Eq.laws c.self.invariant c.fill.ensures.filled.1.added c.fill.new.directory.residents c.free_down.new.free.items 0 c.fill.ensures.filled.1.is as_many down;
     })
 
 pub returns-clause-costs : goal.returns-clause-costs
 returns-clause-costs g c values =
     let filled = c.fill.ensures.filled.1 in
-    let machine = machine-prefilled g.met.K.Eq.laws c.self.invariant filled.added c.fill.new.keys c.free_down.new.free.items 0 filled.is (filled.as_many ∙ c.capacity-capacity.ensures)
+    let machine = machine-prefilled g.met.K.Eq.laws c.self.invariant filled.added c.fill.new.directory.residents c.free_down.new.free.items 0 filled.is (filled.as_many ∙ c.capacity-capacity.ensures)
     (freed g (goal.at.returns-clause-costs g c).After-free_down) in
-    rw (← c.self.view_is) (prefill-costs _ machine (made-spends c.self.inside.queues c.self.inside.history c.self.inside.keys c.fill.new.keys c.fill.ensures.questions))
+    rw (← c.self.view_is, c.fill.ensures.history) (prefill-costs _ machine (made-spends c.self.inside.queues c.self.inside.directory.history c.self.inside.directory.residents c.fill.new.directory.residents c.fill.ensures.questions))

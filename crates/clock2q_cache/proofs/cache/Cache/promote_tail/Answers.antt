@@ -1,8 +1,8 @@
--- The tail goes on to Main, and the slot of Main's victim to the new key.
+-- The tail moves on to Main, and the new key takes the slot of Main's victim.
 use Rattle.std.proofs.Common.{◌≡◌, Some, None, refl, sym, arith, vec_capacity, ap}
 use Rattle.clock2q_cache.proofs.Names.{last_or, slots_of, slots, Remembered, into_small}
 use Rattle.clock2q_cache.proofs.CacheInvariant.{m, IsDone, done-reindexed, reindexed, slots-renewed, length_in_small}
-use Rattle.clock2q_cache.proofs.Renewed.{resident-there, room-there, slot-below, no-tail, victim-in, victim-not_in_front, victim-not_behind, tail-in, tail-not_in_front, tail-not_in_rest, promoted-done}
+use Rattle.clock2q_cache.proofs.Renewed.{is-resident, within-room, slot-below, no-tail, victim-in, victim-not_in_front, victim-not_behind, tail-in, tail-not_in_front, tail-not_in_rest, promoted-done}
 use Rattle.clock2q_cache.proofs.Insertions.{victim-spends}
 use Rattle.clock2q_cache.proofs.Places.{entered-renewed}
 use Rattle.clock2q_cache.proofs.cache.Cache.promote_tail.Given.{Over}
@@ -31,13 +31,7 @@ append-requires g c =
 pub renew-requires : goal.renew-requires
 renew-requires g c =
     let there = victim-in g.met.K.Eq.laws c.self.invariant c.take_victim-slot.result c.take_victim-slot.ensures.victim in
-    record {
-      resident = resident-there g.met.K.Eq.laws c.self.invariant c.take_victim-slot.result there;
-      made = (slot-below g.met.K.Eq.laws c.self.invariant c.take_victim-slot.result there).0;
-      below = (slot-below g.met.K.Eq.laws c.self.invariant c.take_victim-slot.result there).2;
-      room = (room-there g.met.K.Eq.laws c.self.invariant).0;
-      few = (room-there g.met.K.Eq.laws c.self.invariant).1;
-    }
+    record { resident = is-resident c.self.inside.directory g.met.K.Eq.laws c.self.invariant c.take_victim-slot.result there; room = within-room c.self.inside.directory g.met.K.Eq.laws c.self.invariant }
 
 pub admit-requires : goal.admit-requires
 admit-requires g c =
@@ -55,15 +49,15 @@ admit-requires g c =
 -- the key has the slot
 done : (g : Over) (c : After-admit g) → last_or None (slots_of c.self.inside.queues.small) ≡ Some c.in-Some.tail
     → IsDone g.met.K.Eq.laws c.self.invariant c.take_victim-slot.result c.args.value (into_small c.args.key (m g.met.K.Eq.laws c.self.invariant))
-    c.admit.new.self c.renew.new.history (slots c.renew.new.history.places.index) c.renew.new.keys c.self.inside.free.items (vec_capacity c.self.inside.free)
+    c.admit.new.self c.renew.new.self.history (slots c.renew.new.self.history.places.index) c.renew.new.self.residents c.self.inside.free.items (vec_capacity c.self.inside.free)
 done g c tail =
     let victim = c.take_victim-slot.ensures.victim in
     let r = c.renew.ensures in
     let below = (slot-below g.met.K.Eq.laws c.self.invariant c.take_victim-slot.result (victim-in g.met.K.Eq.laws c.self.invariant c.take_victim-slot.result victim)).2 in
-    done-reindexed g.met.K.Eq.laws c.self.invariant (reindexed c.self.inside.history r.index refl)
+    done-reindexed g.met.K.Eq.laws c.self.invariant (reindexed c.self.inside.directory.history r.index refl)
     (promoted-done g.met.K.Eq.laws c.self.invariant (rw (← c.self.view_is) at c.requires.hash) (rw (← c.self.view_is) at c.requires.absent)
     (victim-in g.met.K.Eq.laws c.self.invariant c.take_victim-slot.result victim) r.hash
-    (slots-renewed c.self.inside.history c.renew.result.0 c.args.hash r.index below) r.entries r.kept tail victim (rw (← c.self.view_is) at c.requires.full) (rw (← c.self.view_is) at c.requires.on)
+    (slots-renewed c.self.inside.directory.history c.renew.result.0 c.args.hash r.index below) r.entries r.kept tail victim (rw (← c.self.view_is) at c.requires.full) (rw (← c.self.view_is) at c.requires.on)
     (rw (c.append.ensures.queues, c.in-Some.ensures.queues, c.take_victim-slot.ensures.queues) at c.admit.ensures.queues))
 
 pub invariant_of-self : goal.invariant_of-self
@@ -80,7 +74,7 @@ returns g c =
     rw (← c.self.view_is) (record {
       slot = d.at;
       machine = d.fills;
-      indexes = entered-renewed g.met.K.Eq.laws c.self.invariant c.self.inside.history.places c.args.key c.take_victim-slot.result (rw (← c.self.view_is) at c.requires.hash)
+      indexes = entered-renewed g.met.K.Eq.laws c.self.invariant c.self.inside.directory.history.places c.args.key c.take_victim-slot.result (rw (← c.self.view_is) at c.requires.hash)
           (victim-in g.met.K.Eq.laws c.self.invariant c.take_victim-slot.result c.take_victim-slot.ensures.victim) r.hash (ap (λ (z : Remembered _). z.places) r.index);
       hasher = refl;
       counts = victim-spends g.met.K.Eq.laws c.self.invariant c.take_victim-slot.ensures.inspections

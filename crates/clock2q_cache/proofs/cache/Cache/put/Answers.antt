@@ -8,31 +8,31 @@ use Rattle.clock2q_cache.proofs.cache.Cache.put.Goals as goal
 
 pub returns-in_default-clause-resident : goal.returns-in_default-clause-resident
 returns-in_default-clause-resident g c =
-    rw (c.insert.ensures.machine, c.look-found.ensures.machine)
-    (inserted_there g.K.PartialEq.eq g.met.K.Eq.laws c.args.self.now.machine c.look-found.ensures.whole c.args.key
-    (sym (no-slot c.look-found.result c.in_default.not-Resident ∙ c.look-found.ensures.slot)) c.args.value)
+    rw (c.insert.ensures.machine, c.lookup-found.ensures.machine)
+    (inserted_there g.K.PartialEq.eq g.met.K.Eq.laws c.args.self.now.machine c.lookup-found.ensures.whole c.args.key
+    (sym (no-slot c.lookup-found.result c.in_default.not-Resident ∙ c.lookup-found.ensures.slot)) c.args.value)
 
 pub returns-clause-resident : goal.returns-clause-resident
 returns-clause-resident g c =
-    rw (c.replace.ensures.machine, c.record_hit.ensures.machine, c.look-found.ensures.machine)
-    (replaced_there g.K.PartialEq.eq g.met.K.Eq.laws c.args.self.now.machine c.look-found.ensures.whole c.args.key c.args.value
+    rw (c.replace.ensures.machine, c.record_hit.ensures.machine, c.lookup-found.ensures.machine)
+    (replaced_there g.K.PartialEq.eq g.met.K.Eq.laws c.args.self.now.machine c.lookup-found.ensures.whole c.args.key c.args.value
     c.in-Resident.slot (sym c.in-Resident.ensures.slot))
 
 pub returns-in_default-clause-costs : goal.returns-in_default-clause-costs
 returns-in_default-clause-costs g c =
     let is = g.K.PartialEq.eq c.args.key in
-    let absent = no-slot c.look-found.result c.in_default.not-Resident ∙ c.look-found.ensures.slot in
-    costs-of (c.insert.ensures.machine ∙ ap (inserted is c.args.key c.args.value) c.look-found.ensures.machine
+    let absent = no-slot c.lookup-found.result c.in_default.not-Resident ∙ c.lookup-found.ensures.slot in
+    costs-of (c.insert.ensures.machine ∙ ap (inserted is c.args.key c.args.value) c.lookup-found.ensures.machine
     ∙ ap (λ o. if is_some o then replaced is c.args.value c.args.self.now.machine else inserted is c.args.key c.args.value c.args.self.now.machine) absent)
-    (insert-spends is c.args.self.now.machine c.look-found.ensures.counts absent c.look-found.ensures.machine c.insert.ensures.counts (omega arith))
+    (insert-spends is c.args.self.now.machine c.lookup-found.ensures.counts absent c.lookup-found.ensures.machine c.insert.ensures.counts (omega arith))
 
 pub returns-clause-costs : goal.returns-clause-costs
 returns-clause-costs g c =
     let is = g.K.PartialEq.eq c.args.key in
     let counts = ap (λ (z : CacheState _ _ _). z.counts) c.replace.ensures.kept ∙ ap (λ (z : CacheState _ _ _). z.counts) c.record_hit.ensures.kept in
-    costs-of (c.replace.ensures.machine ∙ ap (stored c.in-Resident.slot c.args.value) (c.record_hit.ensures.machine ∙ ap (hit is) c.look-found.ensures.machine)
+    costs-of (c.replace.ensures.machine ∙ ap (stored c.in-Resident.slot c.args.value) (c.record_hit.ensures.machine ∙ ap (hit is) c.lookup-found.ensures.machine)
     ∙ ap (λ o. if is_some o then replaced_at is c.args.value o c.args.self.now.machine else inserted is c.args.key c.args.value c.args.self.now.machine) c.in-Resident.ensures.slot)
-    (hit-spends is c.args.self.now.machine c.look-found.ensures.counts c.in-Resident.ensures.slot counts (omega arith))
+    (hit-spends is c.args.self.now.machine c.lookup-found.ensures.counts c.in-Resident.ensures.slot counts (omega arith))
 
 pub returns-in_default-clause-machine : goal.returns-in_default-clause-machine
 returns-in_default-clause-machine g c = search rules

@@ -9,14 +9,14 @@ invariant_of-self g c =
     let k = c.self.invariant in
     let below = rw (← c.self.view_is) at c.requires in
     let r = c.replace_value.ensures.replaced in
-    kept-replaced g.met.K.Eq.laws k c.args.slot c.args.value below c.replace_value.new.self (ap (λ (z : KeyPlaces _ _). z.entries) r) (ap (λ (z : KeyPlaces _ _). z.room) r)
+    rw c.replace_value.ensures.kept (kept-replaced g.met.K.Eq.laws k c.args.slot c.args.value below c.replace_value.new.self.residents (ap (λ (z : KeyPlaces _ _). z.entries) r) (ap (λ (z : KeyPlaces _ _). z.room) r))
 
 pub returns-clause-value : goal.returns-clause-value
 returns-clause-value g c =
-    sym (ap (λ (z : CacheState _ _ _). slice_get z.machine.values c.args.slot) c.self.view_is) ∙ value-there c.self.inside.keys.entries c.args.slot ∙ c.replace_value.ensures.old
+    sym (ap (λ (z : CacheState _ _ _). slice_get z.machine.values c.args.slot) c.self.view_is) ∙ value-there c.self.inside.directory.residents.entries c.args.slot ∙ c.replace_value.ensures.old
 
 pub returns-clause-machine : goal.returns-clause-machine
 returns-clause-machine g c =
-    ap (λ (z : KeyPlaces _ _). machine_of c.self.inside.shares c.self.inside.queues z.entries c.self.inside.history.entries c.self.inside.free.items) c.replace_value.ensures.replaced
+    rw c.replace_value.ensures.kept (ap (λ (z : KeyPlaces _ _). machine_of c.self.inside.shares c.self.inside.queues z.entries c.self.inside.directory.history.entries c.self.inside.free.items) c.replace_value.ensures.replaced
     ∙ replaced-machine g.met.K.Eq.laws c.self.invariant c.args.slot c.args.value (rw (← c.self.view_is) at c.requires)
-    ∙ ap (λ (z : CacheState _ _ _). stored c.args.slot c.args.value z.machine) c.self.view_is
+    ∙ ap (λ (z : CacheState _ _ _). stored c.args.slot c.args.value z.machine) c.self.view_is)

@@ -2,7 +2,7 @@
 use Rattle.std.proofs.Common.{arith, refl, vec_capacity, ap}
 use Rattle.clock2q_cache.proofs.Names.{slots, Remembered, into_main}
 use Rattle.clock2q_cache.proofs.CacheInvariant.{m, IsDone, done-reindexed, reindexed, slots-renewed}
-use Rattle.clock2q_cache.proofs.Renewed.{resident-there, room-there, slot-below, victim-in, replaced-done}
+use Rattle.clock2q_cache.proofs.Renewed.{is-resident, within-room, slot-below, victim-in, replaced-done}
 use Rattle.clock2q_cache.proofs.Insertions.{victim-spends}
 use Rattle.clock2q_cache.proofs.Places.{entered-renewed}
 use Rattle.clock2q_cache.proofs.cache.Cache.replace_victim.Given.{Over}
@@ -12,24 +12,18 @@ use Rattle.clock2q_cache.proofs.cache.Cache.replace_victim.Goals as goal
 pub renew-requires : goal.renew-requires
 renew-requires g c =
     let there = victim-in g.met.K.Eq.laws c.self.invariant c.reuse_victim-victim.result c.reuse_victim-victim.ensures.victim in
-    record {
-      resident = resident-there g.met.K.Eq.laws c.self.invariant c.reuse_victim-victim.result there;
-      made = (slot-below g.met.K.Eq.laws c.self.invariant c.reuse_victim-victim.result there).0;
-      below = (slot-below g.met.K.Eq.laws c.self.invariant c.reuse_victim-victim.result there).2;
-      room = (room-there g.met.K.Eq.laws c.self.invariant).0;
-      few = (room-there g.met.K.Eq.laws c.self.invariant).1;
-    }
+    record { resident = is-resident c.self.inside.directory g.met.K.Eq.laws c.self.invariant c.reuse_victim-victim.result there; room = within-room c.self.inside.directory g.met.K.Eq.laws c.self.invariant }
 
 -- the key has the slot
 done : (g : Over) (c : After-renew g) → IsDone g.met.K.Eq.laws c.self.invariant c.reuse_victim-victim.result c.args.value (into_main c.args.key (m g.met.K.Eq.laws c.self.invariant))
-    c.reuse_victim-victim.new.self c.renew.new.history (slots c.renew.new.history.places.index) c.renew.new.keys c.self.inside.free.items (vec_capacity c.self.inside.free)
+    c.reuse_victim-victim.new.self c.renew.new.self.history (slots c.renew.new.self.history.places.index) c.renew.new.self.residents c.self.inside.free.items (vec_capacity c.self.inside.free)
 done g c =
     let victim = c.reuse_victim-victim.ensures.victim in
     let below = (slot-below g.met.K.Eq.laws c.self.invariant c.reuse_victim-victim.result (victim-in g.met.K.Eq.laws c.self.invariant c.reuse_victim-victim.result victim)).2 in
-    done-reindexed g.met.K.Eq.laws c.self.invariant (reindexed c.self.inside.history c.renew.ensures.index refl)
+    done-reindexed g.met.K.Eq.laws c.self.invariant (reindexed c.self.inside.directory.history c.renew.ensures.index refl)
     (replaced-done g.met.K.Eq.laws c.self.invariant (rw (← c.self.view_is) at c.requires.hash) (rw (← c.self.view_is) at c.requires.absent)
     (victim-in g.met.K.Eq.laws c.self.invariant c.reuse_victim-victim.result victim) c.renew.ensures.hash
-    (slots-renewed c.self.inside.history c.renew.result.0 c.args.hash c.renew.ensures.index below) c.renew.ensures.entries c.renew.ensures.kept victim (rw (← c.self.view_is) at c.requires.full) c.reuse_victim-victim.ensures.queues)
+    (slots-renewed c.self.inside.directory.history c.renew.result.0 c.args.hash c.renew.ensures.index below) c.renew.ensures.entries c.renew.ensures.kept victim (rw (← c.self.view_is) at c.requires.full) c.reuse_victim-victim.ensures.queues)
 
 pub invariant_of-self : goal.invariant_of-self
 invariant_of-self g c = (done g (goal.at.invariant_of-self g c).After-renew).holds
@@ -42,7 +36,7 @@ returns g c =
     rw (← c.self.view_is) (record {
       slot = d.at;
       machine = d.fills;
-      indexes = entered-renewed g.met.K.Eq.laws c.self.invariant c.self.inside.history.places c.args.key c.reuse_victim-victim.result
+      indexes = entered-renewed g.met.K.Eq.laws c.self.invariant c.self.inside.directory.history.places c.args.key c.reuse_victim-victim.result
           (rw (← c.self.view_is) at c.requires.hash) there c.renew.ensures.hash (ap (λ (z : Remembered _). z.places) c.renew.ensures.index);
       hasher = refl;
       counts = victim-spends g.met.K.Eq.laws c.self.invariant c.reuse_victim-victim.ensures.inspections (omega (arith, looked), omega (arith, looked))

@@ -1,7 +1,8 @@
--- Each resident is asked, and leaves where it is refused.
+-- The closure is called for each resident, which leaves if it is refused.
 use Rattle.std.proofs.Common.{◌≡◌, ◌*◌, ◌<◌, false, Option, None, Some, arith, List, length, refl, ap, sym, ◌∙◌, subst}
 use Rattle.clock2q_cache.proofs.Names.{is_some, Spends, resident_at}
 use Rattle.clock2q_cache.proofs.Retained.{retains-none, retains-past, retains-asks, retains-kept, retains-refused, retains-all}
+use Rattle.clock2q_cache.proofs.Vacated.{fewer-residents}
 use Rattle.clock2q_cache.proofs.Spent.{slot-stays, slot-leaves, retain-costs}
 use Rattle.clock2q_cache.proofs.cache.Cache.retain.Goals.{then-is_resident+then-not-stays, then-is_resident+else-not-stays, else-is_resident}
 use Rattle.clock2q_cache.proofs.cache.Cache.retain.Goals as goal
@@ -11,6 +12,7 @@ loop-slot-init g c = (
   retains-none g.F.FnMut c.args.keep c.args.self.now.machine c.requires.callable,
   refl,
   record { inspections = omega arith; accesses = (omega arith, omega arith); questions = (omega arith, omega arith) },
+  omega arith,
 )
 
 pub is_resident-requires : goal.is_resident-requires
@@ -35,18 +37,26 @@ loop-slot-preserved g c =
             w.key.result w.value.result w.key.ensures w.value.ensures w.keep-stays.new.self (rw w.if-not-stays.true at w.keep-stays.ensures)),
         w.vacate.ensures.hasher ∙ c.loop-slot.invariant.1,
         slot-leaves c.loop-slot.slot c.loop-slot.invariant.2 w.vacate.ensures.counts,
+        rw w.vacate.ensures.machine (omega (
+          arith,
+          c.loop-slot.invariant.3,
+          w.vacate.ensures.counts.accesses.1,
+          fewer-residents c.loop-slot.self.machine c.loop-slot.slot (sym c.is_resident.ensures ∙ w.if-is_resident.true),
+        )),
       )
       | then-is_resident+else-not-stays w ↦ rw (w.keep-is, w.self-is) (
         retains-kept g.F.FnMut c.args.keep c.args.self.now.machine c.loop-slot.slot c.loop-slot.keep c.loop-slot.self.machine h made
             w.key.result w.value.result w.key.ensures w.value.ensures w.keep-stays.new.self (rw w.if-not-stays.false at w.keep-stays.ensures),
         c.loop-slot.invariant.1,
         slot-stays c.loop-slot.slot c.loop-slot.invariant.2,
+        c.loop-slot.invariant.3,
       )
       | else-is_resident w ↦ rw (w.keep-is, w.self-is) (
         retains-past g.F.FnMut c.args.keep c.args.self.now.machine c.loop-slot.slot c.loop-slot.keep c.loop-slot.self.machine h made
             (none-there (resident_at c.loop-slot.self.machine c.loop-slot.slot) (sym c.is_resident.ensures ∙ w.if-is_resident.false)),
         c.loop-slot.invariant.1,
         slot-stays c.loop-slot.slot c.loop-slot.invariant.2,
+        c.loop-slot.invariant.3,
       )
     ]
   where
@@ -63,4 +73,5 @@ returns g c =
       retained = r;
       hasher = c.loop-slot.invariant.1;
       costs = λ bits. retain-costs r.bits r.becomes (subst (λ n. Spends 0 (8 * n) 0 c.args.self.now.counts c.loop-slot.self.counts) all c.loop-slot.invariant.2);
+      removals = c.loop-slot.invariant.3;
     }

@@ -1,4 +1,5 @@
-use Rattle.clock2q_cache.proofs.Names.{◌≡◌, ◌*◌, Spends}
+use Rattle.std.proofs.Common.{◌+◌, ◌≤◌}
+use Rattle.clock2q_cache.proofs.Names.{◌≡◌, ◌*◌, Spends, resident_count}
 use Rattle.clock2q_cache.proofs.Retained.{RetainsBelow}
 use Rattle.clock2q_cache.proofs.cache.Cache.retain.Given as goal
 
@@ -6,3 +7,4 @@ abbrev pub invariant-loop-slot : goal.invariant-loop-slot
 invariant-loop-slot g l = RetainsBelow g.F.FnMut l.initial.keep l.initial.self.machine l.slot l.keep l.self.machine
     × (l.self.hasher ≡ l.initial.self.hasher)
     × Spends 0 (8 * l.slot) 0 l.initial.self.counts l.self.counts
+    × (l.self.counts.accesses + 8 * resident_count l.self.machine ≤ l.initial.self.counts.accesses + 8 * resident_count l.initial.self.machine)

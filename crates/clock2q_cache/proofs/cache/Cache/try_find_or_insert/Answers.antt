@@ -1,4 +1,4 @@
--- The value stands at the slot where the key was found, or at the one that it took.
+-- The value is at the slot where the key was found, or at the one that it took.
 use Rattle.std.proofs.Common.{sym, ap, ◌∙◌, subst, Ok, arith, rules}
 use Rattle.clock2q_cache.proofs.Names.{slice_get_within, hit, inserted, CacheState}
 use Rattle.clock2q_cache.proofs.Finding.{no-slot}
@@ -9,28 +9,28 @@ use Rattle.clock2q_cache.proofs.cache.Cache.try_find_or_insert.Goals as goal
 pub returns-in-Resident-clause-fetched : goal.returns-in-Resident-clause-fetched
 returns-in-Resident-clause-fetched g c =
     let eq = g.K.PartialEq.eq in let m = c.args.self.now.machine in
-    let now = c.record_hit.ensures.machine ∙ ap (hit (eq c.args.key)) c.look-found.ensures.machine in
-    rw now (hit-fetches eq g.met.K.Eq.laws m c.look-found.ensures.whole c.args.key (λ v. goal.F-post g c.args.f (Ok v)) c.in-Resident.slot (sym c.in-Resident.ensures.slot))
+    let now = c.record_hit.ensures.machine ∙ ap (hit (eq c.args.key)) c.lookup-found.ensures.machine in
+    rw now (hit-fetches eq g.met.K.Eq.laws m c.lookup-found.ensures.whole c.args.key (λ v. goal.F-post g c.args.f (Ok v)) c.in-Resident.slot (sym c.in-Resident.ensures.slot))
 
 pub returns-clause-fetched : goal.returns-clause-fetched
 returns-clause-fetched g c =
     let eq = g.K.PartialEq.eq in let m = c.args.self.now.machine in
-    rw (c.insert.ensures.machine ∙ ap (inserted (eq c.args.key) c.args.key c.in_ok-value.value) c.look-found.ensures.machine, c.insert.ensures.slot, c.look-found.ensures.machine)
-    (new-fetches eq g.met.K.Eq.laws m c.look-found.ensures.whole c.args.key (λ v. goal.F-post g c.args.f (Ok v))
-    (sym (no-slot c.look-found.result c.in_default.not-Resident ∙ c.look-found.ensures.slot)) c.in_ok-value.value (subst (goal.F-post g c.args.f) c.in_ok-value.was c.f.ensures))
+    rw (c.insert.ensures.machine ∙ ap (inserted (eq c.args.key) c.args.key c.in_ok-value.value) c.lookup-found.ensures.machine, c.insert.ensures.slot, c.lookup-found.ensures.machine)
+    (new-fetches eq g.met.K.Eq.laws m c.lookup-found.ensures.whole c.args.key (λ v. goal.F-post g c.args.f (Ok v))
+    (sym (no-slot c.lookup-found.result c.in_default.not-Resident ∙ c.lookup-found.ensures.slot)) c.in_ok-value.value (subst (goal.F-post g c.args.f) c.in_ok-value.was c.f.ensures))
 
 pub returns-clause-made : goal.returns-clause-made
 returns-clause-made g c = let f = returns-clause-fetched g c in slice_get_within _ _ f.value f.there
 
 pub returns-in-Resident-clause-counts : goal.returns-in-Resident-clause-counts
 returns-in-Resident-clause-counts g c =
-    hit-spends (g.K.PartialEq.eq c.args.key) c.args.self.now.machine c.look-found.ensures.counts c.in-Resident.ensures.slot
+    hit-spends (g.K.PartialEq.eq c.args.key) c.args.self.now.machine c.lookup-found.ensures.counts c.in-Resident.ensures.slot
     (ap (λ (z : CacheState _ _ _). z.counts) c.record_hit.ensures.kept) (omega arith)
 
 pub returns-clause-counts : goal.returns-clause-counts
 returns-clause-counts g c =
-    insert-spends (g.K.PartialEq.eq c.args.key) c.args.self.now.machine c.look-found.ensures.counts
-    (no-slot c.look-found.result c.in_default.not-Resident ∙ c.look-found.ensures.slot) c.look-found.ensures.machine c.insert.ensures.counts (omega arith)
+    insert-spends (g.K.PartialEq.eq c.args.key) c.args.self.now.machine c.lookup-found.ensures.counts
+    (no-slot c.lookup-found.result c.in_default.not-Resident ∙ c.lookup-found.ensures.slot) c.lookup-found.ensures.machine c.insert.ensures.counts (omega arith)
 
 pub f-requires : goal.f-requires
 f-requires g c = search rules

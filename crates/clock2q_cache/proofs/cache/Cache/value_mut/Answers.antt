@@ -7,7 +7,7 @@ use Rattle.clock2q_cache.proofs.cache.Cache.value_mut.Goals as goal
 pub invariant_of-self-lent : goal.invariant_of-self-lent
 invariant_of-self-lent g c w =
     let i = c.self.inside in
-    kept-replaced g.met.K.Eq.laws c.self.invariant c.args.slot w (rw (← c.self.view_is) at c.requires) (record i.keys { entries = with_value c.args.slot w i.keys.entries }) refl refl
+    kept-replaced g.met.K.Eq.laws c.self.invariant c.args.slot w (rw (← c.self.view_is) at c.requires) (record i.directory.residents { entries = with_value c.args.slot w i.directory.residents.entries }) refl refl
 
 pub returns : goal.returns
 returns g c =
@@ -15,11 +15,11 @@ returns g c =
     let i = c.self.inside in (
       (
         refl,
-        λ w. ap (λ z. cache_state z i.history.places i.hasher (counts_of i.queues i.history i.keys)) (replaced-machine g.met.K.Eq.laws c.self.invariant c.args.slot w below)
+        λ w. ap (λ z. cache_state z i.directory.history.places i.hasher (counts_of i.queues i.directory.history i.directory.residents)) (replaced-machine g.met.K.Eq.laws c.self.invariant c.args.slot w below)
             ∙ ap (λ (z : CacheState _ _ _). record z { machine = stored c.args.slot w z.machine }) c.self.view_is,
       ),
       record {
         writes_back = tt;
-        value = sym (ap (λ (z : CacheState _ _ _). slice_get z.machine.values c.args.slot) c.self.view_is) ∙ value-there i.keys.entries c.args.slot ∙ c.value_mut.ensures.value;
+        value = sym (ap (λ (z : CacheState _ _ _). slice_get z.machine.values c.args.slot) c.self.view_is) ∙ value-there i.directory.residents.entries c.args.slot ∙ c.value_mut.ensures.value;
       },
     )

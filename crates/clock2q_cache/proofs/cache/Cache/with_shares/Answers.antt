@@ -1,6 +1,6 @@
 -- Nothing is resident, remembered or free, and the layers are as large as the shares say.
 use Rattle.std.proofs.Common.{[], ◌^◌, ◌<◌, ap, ◌∙◌, arith, inl, inr}
-use Rattle.clock2q_cache.proofs.Names.{cases_lt, KeyPlaces, Remembered, QueueState, for-new, new-none, emptied-slots, history_share, hash_of}
+use Rattle.clock2q_cache.proofs.Names.{cases_lt, KeyPlaces, Remembered, QueueState, for-new, new-none, emptied-slots, Known, history_share, hash_of}
 use Rattle.clock2q_cache.proofs.Changed.{kept-empty}
 use Rattle.clock2q_cache.proofs.cache.Cache.with_shares.Goals as goal
 
@@ -10,19 +10,21 @@ invariant_of-result g c =
     let least : 0 < c.args.shares.capacity = omega (arith, c.window.ensures.policy.below) in
     let few : c.args.shares.capacity < 2 ^ 24 = omega (arith, c.requires) in
     let short : p < 2 ^ 24 = omega (arith, few) in
-    let h = rw (c.capacity-slots.ensures, c.history.ensures) at c.in_ok-history.ensures.made in
+    let d = rw (c.capacity-slots.ensures, c.history.ensures) at c.in_ok-directory.ensures.made in
+    let h = ap (λ (z : Known _ _). z.history) d in
+    let keys = ap (λ (z : Known _ _). z.residents) d in
     let n = new-none c.args.shares.capacity p least few short in
     let room = for-new c.args.shares.capacity p least few short in
     (kept-empty {hash = λ x. hash_of g.S.BuildHasher g.S.Hasher.Hasher c.args.hasher (g.K.Hash.hash_input x)} g.met.K.Eq.laws c.window.ensures.policy.below
     (ap (λ (z : QueueState). z.small) c.in_ok-queues.ensures.made) (ap (λ (z : QueueState). z.main) c.in_ok-queues.ensures.made) (ap (λ (z : Remembered _). z.entries) h)
-    (rw (h, n.2) (emptied-slots n.0 n.1 [])) (ap (λ (z : KeyPlaces _ _). z.entries) c.in_ok-keys.ensures.made) c.in_ok-free.ensures.items
+    (rw (h, n.2) (emptied-slots n.0 n.1 [])) (ap (λ (z : KeyPlaces _ _). z.entries) keys) c.in_ok-free.ensures.items
     (record {
       as_many = ap (λ (z : QueueState). z.slots) c.in_ok-queues.ensures.made ∙ c.capacity-slots.ensures;
       window = ap (λ (z : QueueState). z.window) c.in_ok-queues.ensures.made ∙ c.window.ensures.window;
       windowed = λ some. elim (cases_lt 0 c.args.shares.window) [ inl above ↦ above | inr below ↦ absurd (omega (arith, some, c.window.ensures.policy.both.1 (omega (arith, below)))) ];
       remembers = ap (λ (z : Remembered _). z.limit) h;
       spacious = rw h room.slots;
-      room_for_keys = omega (arith, ap (λ (z : KeyPlaces _ _). z.room) c.in_ok-keys.ensures.made, c.capacity-slots.ensures);
+      room_for_keys = omega (arith, ap (λ (z : KeyPlaces _ _). z.room) keys);
       room_for_free = omega (arith, c.in_ok-free.ensures.capacity, c.capacity-slots.ensures);
       short = few;
       few = rw h room.few;

@@ -42,7 +42,7 @@ find_or_insert-requires-clause-callable c = λ key gives. offered_held_by _ _ _ 
     (keys ∙ same.0, key ∙ same.1))
     _ (c.reserve.ensures.items, refl) key gives
 
--- what the lookup comes to
+-- what the lookup returned
 told : (c : After-branch-number) → c.find_or_insert.result ≢ Err Memory → IsNumbered c.self.inside.keys.items c.self.inside.numbers.homes c.args.key c.self.invariant c.find_or_insert.result c.find_or_insert.new.self.homes
 told c ran =
     let keys : List ℕ = c.self.inside.keys.items in

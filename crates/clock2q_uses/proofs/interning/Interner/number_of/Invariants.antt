@@ -1,4 +1,4 @@
--- The key stands among the candidates that are left, if it stands at all.
+-- If the key has a place, it is among the candidates that are left.
 use Rattle.clock2q_uses.proofs.Numbering.{IsSought}
 use Rattle.clock2q_uses.proofs.interning.Interner.number_of.Given as goal
 

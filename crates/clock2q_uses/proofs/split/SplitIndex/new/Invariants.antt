@@ -1,4 +1,4 @@
--- So many parts have been made, and there is room for the others.
+-- As many parts as rounds have been made, and there is room for the others.
 use Rattle.std.proofs.Common.{◌≡◌, ◌+◌, ◌-◌, ◌≤◌, [], replicate, vec_len, vec_capacity}
 use Rattle.clock2q_uses.proofs.split.SplitIndex.new.Given as goal
 

@@ -1,0 +1,66 @@
+-- A list of calls takes linear time: at most 37 link accesses a call, and one for each bit that was set before.
+use Rattle.std.proofs.Common.{◌≡◌, ◌+◌, ◌*◌, ◌≤◌, Bool, true, false, List, [], ◌∷◌, length, Some, None, arith}
+use Rattle.std.specs.Prelude.{if◌then◌else◌, is_some}
+use Rattle.std.specs.Cmp.{IsEquivalence}
+use Rattle.std.specs.List.{AllByRecursion}
+use Rattle.clock2q_machine.specs.Calls.{Call, Put, Get, Peek, Contains, GetAt, Set, With, Try, SlotFor, Remove, Retain, Clear, Prefill, Len, IsEmpty, Capacity}
+use Rattle.clock2q_machine.specs.Machine.{Machine, slot_of}
+use Rattle.clock2q_machine.specs.Steps.{after, after_all}
+use Rattle.clock2q_machine.specs.Bounds.{set_bits, inspections_for, inspections_of, summed}
+use Rattle.clock2q_machine.specs.Whole.{IsWhole}
+use Rattle.clock2q_machine.proofs.Linear.{linear_inspections}
+use Rattle.clock2q_cache.specs.Costs.{accesses_for, most_accesses}
+
+-- whether a call visits all slots
+abbrev pub visits_all : {K V : Type 0} → Call K V → Bool
+visits_all (Retain bits) = true
+visits_all Clear = true
+visits_all (Put key value) = false
+visits_all (Get key) = false
+visits_all (Peek key) = false
+visits_all (Contains key) = false
+visits_all (GetAt slot key) = false
+visits_all (Set key value) = false
+visits_all (With key value) = false
+visits_all (Try key value) = false
+visits_all (SlotFor key value) = false
+visits_all (Remove key) = false
+visits_all (Prefill values) = false
+visits_all Len = false
+visits_all IsEmpty = false
+visits_all Capacity = false
+
+module _ {K V : Type 0} (eq : K → K → Bool) where
+  wanted_accesses : (is : K → Bool) (m : Machine K V) → accesses_for is m ≤ inspections_for is m + 36
+  wanted_accesses is m =
+      elim (is_some (slot_of is m)) as (λ b. (if b then 0 else inspections_for is m + 36) ≤ inspections_for is m + 36) [ true ↦ omega arith | false ↦ omega arith ]
+
+  -- any other call makes at most 36 link accesses beside the hand's inspections
+  call_accesses : (call : Call K V) (m : Machine K V) → visits_all call ≡ false → most_accesses eq call m ≤ inspections_of eq call m + 36
+  call_accesses (Put key value) m some = wanted_accesses (eq key) m
+  call_accesses (Get key) m some = omega arith
+  call_accesses (Peek key) m some = omega arith
+  call_accesses (Contains key) m some = omega arith
+  call_accesses (GetAt slot key) m some = omega arith
+  call_accesses (Set key value) m some = omega arith
+  call_accesses (With key value) m some = wanted_accesses (eq key) m
+  call_accesses (Try key (Some value)) m some = wanted_accesses (eq key) m
+  call_accesses (Try key None) m some = omega arith
+  call_accesses (SlotFor key value) m some = wanted_accesses (eq key) m
+  call_accesses (Remove key) m some = omega arith
+  call_accesses (Retain bits) m some = cc
+  call_accesses Clear m some = cc
+  call_accesses (Prefill values) m some = omega arith
+  call_accesses Len m some = omega arith
+  call_accesses IsEmpty m some = omega arith
+  call_accesses Capacity m some = omega arith
+
+  list_accesses : (calls : List (Call K V)) (m : Machine K V) → AllByRecursion (λ call. visits_all call ≡ false) calls
+      → summed eq (most_accesses eq) calls m ≤ summed eq (inspections_of eq) calls m + 36 * length calls
+  list_accesses [] m some = omega arith
+  list_accesses (call ∷ calls) m some = omega (arith, call_accesses call m some.0, list_accesses calls (after eq call m) some.1)
+
+  -- so a list of such calls takes linear time
+  pub linear_accesses : (laws : IsEquivalence eq) (calls : List (Call K V)) (m : Machine K V) → IsWhole eq m → AllByRecursion (λ call. visits_all call ≡ false) calls
+      → summed eq (most_accesses eq) calls m + set_bits (after_all eq calls m) ≤ 37 * length calls + set_bits m
+  linear_accesses laws calls m h some = omega (arith, list_accesses calls m some, linear_inspections eq laws calls m h)

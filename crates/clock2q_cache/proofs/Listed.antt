@@ -1,0 +1,111 @@
+-- What a caller may rely on about an iterator over the residents: each of its entries has its key's value, and each key
+-- that has a value is there.
+use Rattle.std.proofs.Common.{◌≡◌, ℕ, zero, suc, ◌+◌, ◌-◌, ◌<◌, ◌≤◌, ◌==◌, Bool, true, false, ◌&&◌, ◌||◌, cond, Option, Some, None, List, [], ◌∷◌, length, inl, inr, refl, sym, ap, ◌∙◌, arith, eqb-true, eq-eqb}
+use Rattle.std.specs.Prelude.{is_some, slice_get}
+use Rattle.std.specs.Cmp.{IsEquivalence}
+use Rattle.std.specs.List.{filter_map, range_with_len, cons_option, find, count_by, list_any, AllByRecursion}
+use Rattle.std.specs.Option.{option_map, option_and_then}
+use Rattle.std.proofs.lemmas.Bool.{cases_Bool, cases_lt}
+use Rattle.std.proofs.lemmas.List.Sums.{sum_by-cons}
+use Rattle.clock2q_machine.specs.Machine.{Machine, residents, resident_at, slot_of, value_of}
+use Rattle.clock2q_machine.specs.Whole.{IsWhole}
+use Rattle.clock2q_machine.proofs.Whole.{one_if, some_is, none_is}
+use Rattle.clock2q_machine.proofs.Standing.{get-within, found_at, resident_once}
+use Rattle.clock2q_machine.proofs.MachineInvariant.{resident_made}
+use Rattle.clock2q_machine.proofs.Entering.{slots_apart}
+use Rattle.clock2q_machine.proofs.Victims.{counted_residents}
+use Rattle.clock2q_cache.specs.Iteration.{entry_at, entries}
+use Rattle.clock2q_cache.proofs.Vacated.{found-resident}
+
+module _ {X : Type 0} (p q : X → Bool) where
+  -- what is found passes, and is counted
+  found_passes : (xs : List X) (x : X) → find p xs ≡ Some x → p x ≡ true
+  found_passes [] x is = absurd (none_is x is)
+  found_passes (y ∷ xs) x is = by_test (p y) refl (found_passes xs x)
+    where
+      by_test : (b : Bool) → p y ≡ b → (find p xs ≡ Some x → p x ≡ true) → p x ≡ true
+      by_test true at later = ap p (sym (some_is y x (sym (ap (λ b. cond b (Some y) (find p xs)) at) ∙ is))) ∙ at
+      by_test false at later = later (sym (ap (λ b. cond b (Some y) (find p xs)) at) ∙ is)
+
+  found_counted : (xs : List X) (x : X) → find p xs ≡ Some x → q x ≡ true → 0 < count_by q xs
+  found_counted [] x is passes = absurd (none_is x is)
+  found_counted (y ∷ xs) x is passes = by_test (p y) refl (λ later. found_counted xs x later passes)
+    where
+      by_test : (b : Bool) → p y ≡ b → (find p xs ≡ Some x → 0 < count_by q xs) → 0 < count_by q (y ∷ xs)
+      by_test true at later =
+          let same = some_is y x (sym (ap (λ b. cond b (Some y) (find p xs)) at) ∙ is) in
+          omega (arith, sum_by-cons (λ z. one_if (q z)) y xs, ap one_if (ap q same ∙ passes))
+      by_test false at later = omega (arith, sum_by-cons (λ z. one_if (q z)) y xs, later (sym (ap (λ b. cond b (Some y) (find p xs)) at) ∙ is))
+
+module _ {X : Type 0} (f : ℕ → Option X) where
+  -- what holds of each value of a function holds of all values that are kept
+  all_kept : (P : X → Type 0) → ((n : ℕ) (x : X) → f n ≡ Some x → P x) → (ns : List ℕ) → AllByRecursion P (filter_map f ns)
+  all_kept P each [] = tt
+  all_kept P each (n ∷ ns) = by_value (f n) refl (all_kept P each ns)
+    where
+      by_value : (o : Option X) → f n ≡ o → AllByRecursion P (filter_map f ns) → AllByRecursion P (cons_option o (filter_map f ns))
+      by_value None is rest = rest
+      by_value (Some x) is rest = (each n x is, rest)
+
+  -- a value in a range that passes is among those that are kept
+  any_kept : (test : X → Bool) (at : ℕ) (x : X) → f at ≡ Some x → test x ≡ true → (from n : ℕ) → from ≤ at → at < from + n → list_any test (filter_map f (range_with_len from n)) ≡ true
+  any_kept test at x is passes from zero low high = absurd (omega (arith, low, high))
+  any_kept test at x is passes from (suc n) low high = elim (cases_lt from at) [
+    | inl below ↦ later (f from) (any_kept test at x is passes (from + 1) n (omega (arith, below)) (omega (arith, high)))
+    | inr above ↦
+        let same : from ≡ at = omega (arith, low, above) in
+        ap (λ o. list_any test (cons_option o (filter_map f (range_with_len (from + 1) n)))) (ap f same ∙ is) ∙ ap (λ b. b || list_any test (filter_map f (range_with_len (from + 1) n))) passes
+  ]
+    where
+      or_later : (b c : Bool) → c ≡ true → (b || c) ≡ true
+      or_later true c e = refl
+      or_later false c e = e
+
+      later : (o : Option X) → list_any test (filter_map f (range_with_len (from + 1) n)) ≡ true → list_any test (cons_option o (filter_map f (range_with_len (from + 1) n))) ≡ true
+      later None rest = rest
+      later (Some y) rest = or_later (test y) (list_any test (filter_map f (range_with_len (from + 1) n))) rest
+
+module _ {K V : Type 0} (eq : K → K → Bool) (laws : IsEquivalence eq) (m : Machine K V) (whole : IsWhole eq m) where
+  -- a resident that is found at a slot is found there by its key
+  at_its_slot : (slot : ℕ) (r : K × ℕ) → resident_at m slot ≡ Some r → (r.1 ≡ slot) × (slot_of (eq r.0) m ≡ Some slot)
+  at_its_slot slot r there =
+      let at = eqb-true r.1 slot (found_passes (λ (x : K × ℕ). x.1 == slot) (λ x. true) (residents m) r there) in
+      let is : K → ℕ → Bool = λ k s. eq r.0 k && s == slot in
+      let passes : is r.0 r.1 ≡ true = ap (λ b. b && r.1 == slot) (laws.refl r.0) ∙ eq-eqb r.1 slot at in (
+        at,
+        found_at (eq r.0) m (resident_once eq m whole r.0) slot
+            (omega (arith, counted_residents is m, found_counted (λ (x : K × ℕ). x.1 == slot) (λ x. is x.0 x.1) (residents m) r there passes)),
+      )
+
+  entry_is : (slot : ℕ) (o : Option (K × ℕ)) → resident_at m slot ≡ o → (v : Option V) → slice_get m.values slot ≡ v → (e : K × ℕ × V)
+      → option_and_then {U = K × ℕ × V} (λ (r : K × ℕ). option_map (λ value. (r.0, r.1, value)) v) o ≡ Some e → value_of (eq e.0) m ≡ Some e.2
+  entry_is slot None there v has e is = absurd (none_is e is)
+  entry_is slot (Some r) there None has e is = absurd (none_is e is)
+  entry_is slot (Some r) there (Some value) has e is =
+      let same = some_is (r.0, r.1, value) e is in
+      ap (λ (x : K × ℕ × V). value_of (eq x.0) m) (sym same) ∙ ap (option_and_then (slice_get m.values)) (at_its_slot slot r there).1 ∙ has ∙ ap (λ (x : K × ℕ × V). Some x.2) same
+
+  -- each entry has its key's value
+  pub entries-values : AllByRecursion (λ (e : K × ℕ × V). value_of (eq e.0) m ≡ Some e.2) (entries m)
+  entries-values = all_kept (entry_at m) (λ (e : K × ℕ × V). value_of (eq e.0) m ≡ Some e.2) (λ slot e is. entry_is slot (resident_at m slot) refl (slice_get m.values slot) refl e is) (range_with_len 0 (length m.values - 0))
+
+  -- and each key that has a value has an entry
+  pub entries-listed : (key : K) (v : V) → value_of (eq key) m ≡ Some v → list_any (λ (e : K × ℕ × V). eq key e.0) (entries m) ≡ true
+  entries-listed key v had = by_slot (slot_of (eq key) m) refl
+    where
+      at_slot : (slot : ℕ) → slot_of (eq key) m ≡ Some slot → (o : Option (K × ℕ)) → resident_at m slot ≡ o → is_some o ≡ true → list_any (λ (e : K × ℕ × V). eq key e.0) (entries m) ≡ true
+      at_slot slot found None there some = cc
+      at_slot slot found (Some r) there some =
+          let made = resident_made eq laws (eq key) m whole slot found in
+          let value = get-within m.values slot made in
+          let is : entry_at m slot ≡ Some (r.0, r.1, value.0) =
+          ap (option_and_then {U = K × ℕ × V} (λ (r : K × ℕ). option_map (λ value. (r.0, r.1, value)) (slice_get m.values slot))) there ∙ ap (option_map {U = K × ℕ × V} (λ value. (r.0, r.1, value))) value.1 in
+          let same : eq key r.0 ≡ true = elim (cases_Bool (eq key r.0)) [
+            | inl passes ↦ passes
+            | inr other ↦ absurd (slots_apart eq laws m whole key r.0 other slot slot (at_its_slot slot r there).1 found refl)
+          ] in
+          any_kept (entry_at m) (λ (e : K × ℕ × V). eq key e.0) slot (r.0, r.1, value.0) is same 0 (length m.values - 0) (omega arith) (omega (arith, made))
+
+      by_slot : (o : Option ℕ) → slot_of (eq key) m ≡ o → list_any (λ (e : K × ℕ × V). eq key e.0) (entries m) ≡ true
+      by_slot None absent = absurd (none_is v (sym (ap (option_and_then (slice_get m.values)) absent) ∙ had))
+      by_slot (Some slot) found = at_slot slot found (resident_at m slot) refl (found-resident (eq key) m slot found)

@@ -1,0 +1,119 @@
+//! Iteration over the residents of a cache, read-only.
+use crate::cache::{Cache, DefaultHashBuilder};
+use std::alloc::{Allocator, Global};
+use std::hash::{BuildHasher, Hash};
+use std::iter::FusedIterator;
+use std::marker::Model;
+
+/// An iterator over the residents of a cache, by ascending slot: the key, its slot and its value.
+///
+/// # Example
+///
+/// ```
+/// for (key, slot, value) in cache.iter() {
+///     println!(rt; "{key} has {value} in slot {slot}")?;
+/// }
+/// ```
+#[derive(Drop)]
+pub struct Iter<'a, K: Hash + Eq, V, S: BuildHasher = DefaultHashBuilder, A: Allocator = Global> {
+    cache: &'a Cache<K, V, S, A>,
+    slot: u32,
+    left: usize,
+}
+
+impl<'a, K: Hash + Eq, V, S: BuildHasher, A: Allocator> Model for Iter<'a, K, V, S, A> {
+    ghost use Rattle.std.specs.Prelude.{◌≡◌, ℕ, List, length};
+    ghost use Rattle.clock2q_cache.specs.Iteration.{entries_from};
+
+    ghost Value = { List (K × ℕ × V) };
+
+    ghost view = { λ it. entries_from it.cache.now.machine it.slot };
+
+    ghost invariant = { λ it. it.left ≡ length (entries_from it.cache.now.machine it.slot) };
+}
+
+impl<K: Hash + Eq, V, S: BuildHasher, A: Allocator> Cache<K, V, S, A> {
+    ghost use Rattle.std.specs.Prelude.{◌≡◌, ◌+◌, ◌^◌, ◌<◌, [], length, map, IfSome, IfNone, IsSome};
+    ghost use Rattle.clock2q_machine.specs.Machine.{by_slot, resident_at, resident_count};
+    ghost use Rattle.clock2q_cache.specs.Iteration.{entries, entries_from, key_and_slot};
+
+    /// Returns an iterator over the residents, by ascending slot: the key, its slot and its value.
+    /// It records no hit, and so changes no later eviction.
+    ///
+    /// # Cost
+    ///
+    /// One step for each slot up to the last resident's. No key is hashed or compared, and no link
+    /// is accessed.
+    pub fn iter(&self) -> Iter<'_, K, V, S, A>
+        ensures by_slot { map key_and_slot result ≡ by_slot self.now.machine }
+        ensures values { result ≡ entries self.now.machine }
+        ensures len { length result ≡ resident_count self.now.machine }
+    {
+        Iter {
+            cache: self,
+            slot: 0,
+            left: self.len(),
+        }
+    }
+
+    /// Returns the lowest slot that has a resident, starting from a given one.
+    fn next_resident(&self, from: u32) -> Option<u32>
+        ensures resident { IfSome result (λ slot. IsSome (resident_at self.now.machine slot)) }
+        ensures made { IfSome result (λ slot. slot < length self.now.machine.values) }
+        ensures first { IfSome result (λ slot. entries_from self.now.machine from ≡ entries_from self.now.machine slot) }
+        ensures next { IfSome result (λ slot. slot + 1 < 2 ^ 32) }
+        ensures none { IfNone result (entries_from self.now.machine from ≡ []) }
+    {
+        for slot in from..self.made() {
+            if self.is_resident(slot) {
+                return Some(slot);
+            }
+        }
+        None
+    }
+}
+
+impl<'a, K: Hash + Eq, V, S: BuildHasher, A: Allocator> Iterator for Iter<'a, K, V, S, A> {
+    ghost use Rattle.std.specs.Iterator.{YieldsFirstBy, item_count};
+
+    type Item = (&'a K, usize, &'a V);
+
+    ghost next_gives = { YieldsFirstBy (λ item. (item.0.now, item.1, item.2.now)) (λ left. left) };
+
+    ghost remaining = { item_count (λ left. left) };
+
+    fn next(&mut self) -> Option<(&'a K, usize, &'a V)> {
+        let cache = self.cache;
+        let slot = cache.next_resident(self.slot)?;
+        self.slot = slot + 1;
+        self.left -= 1;
+        Some((cache.key(slot), slot as usize, cache.value(slot)))
+    }
+
+    fn size_hint(&self) -> (usize, Option<usize>) {
+        (self.left, Some(self.left))
+    }
+}
+
+impl<'a, K: Hash + Eq, V, S: BuildHasher, A: Allocator> ExactSizeIterator for Iter<'a, K, V, S, A> {
+    fn len(&self) -> usize {
+        self.left
+    }
+}
+
+impl<'a, K: Hash + Eq, V, S: BuildHasher, A: Allocator> FusedIterator for Iter<'a, K, V, S, A> {}
+
+impl<'a, K: Hash + Eq, V, S: BuildHasher, A: Allocator> IntoIterator for &'a Cache<K, V, S, A> {
+    ghost use Rattle.std.specs.Prelude.{◌≡◌};
+    ghost use Rattle.clock2q_cache.specs.Iteration.{entries};
+
+    type Item = (&'a K, usize, &'a V);
+
+    type IntoIter = Iter<'a, K, V, S, A>;
+
+    ghost into_iter_gives = { λ cache it. it ≡ entries cache.now.machine };
+
+    fn into_iter(self) -> Iter<'a, K, V, S, A> {
+        self.iter()
+    }
+}
