@@ -1,7 +1,7 @@
 /* clock2q: a proved cache of fixed capacity with Clock2Q+ replacement, for C and C++.
  *
  * A cache gives each key of 64 bits a slot, a number below its capacity, and chooses which key has
- * to leave when a new one comes. What a key stands for is yours: keep it in arrays of `capacity`
+ * to leave when a new one comes. What a key means is yours: keep it in arrays of `capacity`
  * elements, at the key's slot.
  *
  *     clock2q cache = CLOCK2Q_NONE;
@@ -18,13 +18,14 @@
  * makes calls slow. Where strangers do, pass keys that a secret has scrambled.
  *
  * What you owe, since no proof reaches across this border:
- * - A `clock2q` begins as CLOCK2Q_NONE. While there is a cache in it, it isn't copied, moved, read
- *   or written, but by the calls below.
+ * - A `clock2q` begins as CLOCK2Q_NONE. While there is a cache in it, it isn't copied, read or
+ *   written, but by the calls below; it may be moved, if CLOCK2Q_NONE is left in its place.
  * - A call that says "needs a cache" is made only where there is one. Without NDEBUG that is
  *   asserted here.
- * - No pointer that is passed is null, and no two pointers of one call lead to the same place.
- * - One thread at a time uses a cache. It may be handed to another thread, by a lock, a start or a
- *   join: nothing in a cache is bound to the thread that made it.
+ * - No pointer that is passed is null. What is written through one may have held anything before.
+ * - One thread at a time uses a cache: no two calls on it overlap, not even two that only ask. It may
+ *   be handed to another thread, by a lock, a start or a join: nothing in a cache is bound to the
+ *   thread that made it. Under -fsanitize=thread calls that may overlap are reported.
  * - No call is made from a signal handler, or in a child of fork() that other threads were left
  *   behind by. */
 #ifndef CLOCK2Q_H
@@ -38,6 +39,9 @@
 #ifdef __cplusplus
 extern "C" {
 #endif
+
+/* The version of this header: 10,000 times the major number, 100 times the minor one and the patch. */
+#define CLOCK2Q_VERSION 200
 
 /* The largest capacity. */
 #define CLOCK2Q_MAX_CAPACITY 16777215
@@ -64,6 +68,12 @@ typedef struct {
     bool has_last;
 } clock2q_place;
 
+/* The slot of a key, if it has one. */
+typedef struct {
+    size_t slot; /* 0 if it has none */
+    bool is_found;
+} clock2q_found;
+
 /* Where memory comes from. `take` returns null, or a block of `size` bytes that is aligned as a
  * pointer is, and `give_back` gets what `take` returned. Neither of them calls this library. */
 typedef struct {
@@ -76,6 +86,9 @@ typedef struct {
  * came from, whoever frees it. */
 clock2q_memory clock2q_use_memory(const clock2q_memory *memory);
 
+/* Returns the version of the library, as CLOCK2Q_VERSION is that of the header. */
+uint32_t clock2q_version(void);
+
 /* Makes a cache for `capacity` keys. Needs none there. Takes time and memory in proportion to the
  * capacity, 85 to 170 bytes a key from 100 keys on, in at most twelve requests. */
 uint32_t clock2q_new(clock2q *cache, size_t capacity);
@@ -86,13 +99,13 @@ uint32_t clock2q_new(clock2q *cache, size_t capacity);
 uint32_t clock2q_with_policy(clock2q *cache, size_t capacity, size_t small, size_t window);
 
 /* Finds the slot of a key and records a hit, or gives the key a slot, which another key may lose.
- * Needs a cache. Costs one hash; without a hit at most 36 accesses to the queues, and one for each
- * key that the hand passes over. */
-void clock2q_enter(clock2q *cache, uint64_t key, clock2q_place *place);
+ * Returns where it is; clock2q_enter below writes that instead. Needs a cache. Costs one hash;
+ * without a hit at most 36 accesses to the queues, and one for each key that the hand passes over. */
+clock2q_place clock2q_enter_key(clock2q *cache, uint64_t key);
 
-/* Finds the slot of a key and records a hit. Returns false, with `slot` as it was, if the key has
- * none. Needs a cache. Costs one hash. */
-bool clock2q_find(clock2q *cache, uint64_t key, size_t *slot);
+/* Finds the slot of a key and records a hit, if the key has one; clock2q_find below writes the slot
+ * instead. Needs a cache. Costs one hash. */
+clock2q_found clock2q_find_key(clock2q *cache, uint64_t key);
 
 /* Returns true, after a hit, if the key is at this slot; any number will do. Needs a cache. Costs
  * no hash. */
@@ -118,6 +131,60 @@ size_t clock2q_capacity(clock2q *cache);
 /* Frees a cache that nobody uses from then on. Needs a cache. clock2q_free is easier to call. */
 void clock2q_release(clock2q cache);
 
+/* With assertions each call asserts what it needs. A thread sanitizer sees no more of the library than
+ * the writes here, which leave the handle as it is. */
+#if defined __SANITIZE_THREAD__
+#define CLOCK2Q_THREADS_ARE_SEEN
+#elif defined __has_feature
+#if __has_feature(thread_sanitizer)
+#define CLOCK2Q_THREADS_ARE_SEEN
+#endif
+#endif
+
+#if !defined NDEBUG || defined CLOCK2Q_THREADS_ARE_SEEN
+static inline clock2q *clock2q_checked(clock2q *cache, bool needs_one) {
+    assert(cache != NULL && (cache->at != NULL) == needs_one);
+    (void)needs_one;
+#ifdef CLOCK2Q_THREADS_ARE_SEEN
+    *(void *volatile *)&cache->at = cache->at;
+#endif
+    return cache;
+}
+
+static inline clock2q clock2q_checked_value(clock2q cache) {
+    assert(cache.at != NULL);
+    return cache;
+}
+
+#define clock2q_new(cache, capacity) clock2q_new(clock2q_checked(cache, false), capacity)
+#define clock2q_with_policy(cache, capacity, small, window) \
+    clock2q_with_policy(clock2q_checked(cache, false), capacity, small, window)
+#define clock2q_enter_key(cache, key) clock2q_enter_key(clock2q_checked(cache, true), key)
+#define clock2q_find_key(cache, key) clock2q_find_key(clock2q_checked(cache, true), key)
+#define clock2q_at(cache, slot, key) clock2q_at(clock2q_checked(cache, true), slot, key)
+#define clock2q_contains(cache, key) clock2q_contains(clock2q_checked(cache, true), key)
+#define clock2q_remove(cache, key) clock2q_remove(clock2q_checked(cache, true), key)
+#define clock2q_clear(cache) clock2q_clear(clock2q_checked(cache, true))
+#define clock2q_len(cache) clock2q_len(clock2q_checked(cache, true))
+#define clock2q_capacity(cache) clock2q_capacity(clock2q_checked(cache, true))
+#define clock2q_release(cache) clock2q_release(clock2q_checked_value(cache))
+#endif
+
+/* clock2q_enter_key, which writes to `place`. */
+static inline void clock2q_enter(clock2q *cache, uint64_t key, clock2q_place *place) {
+    assert(place != NULL);
+    *place = clock2q_enter_key(cache, key);
+}
+
+/* clock2q_find_key, which writes to `slot` and returns true. Returns false, with `slot` as it was, if
+ * the key has no slot. */
+static inline bool clock2q_find(clock2q *cache, uint64_t key, size_t *slot) {
+    assert(slot != NULL);
+    clock2q_found found = clock2q_find_key(cache, key);
+    if (found.is_found) *slot = found.slot;
+    return found.is_found;
+}
+
 /* Frees the cache, if there is one, and leaves none. */
 static inline void clock2q_free(clock2q *cache) {
     if (cache->at != NULL) {
@@ -131,75 +198,6 @@ static inline void clock2q_free(clock2q *cache) {
 static inline bool clock2q_has(const clock2q_place *place, uint64_t key) {
     return place->has_last && place->last == key;
 }
-
-#ifndef NDEBUG
-static inline uint32_t clock2q_new_checked(clock2q *cache, size_t capacity) {
-    assert(cache != NULL && cache->at == NULL);
-    return clock2q_new(cache, capacity);
-}
-
-static inline uint32_t clock2q_with_policy_checked(clock2q *cache, size_t capacity, size_t small, size_t window) {
-    assert(cache != NULL && cache->at == NULL);
-    return clock2q_with_policy(cache, capacity, small, window);
-}
-
-static inline void clock2q_enter_checked(clock2q *cache, uint64_t key, clock2q_place *place) {
-    assert(cache != NULL && cache->at != NULL && place != NULL);
-    clock2q_enter(cache, key, place);
-}
-
-static inline bool clock2q_find_checked(clock2q *cache, uint64_t key, size_t *slot) {
-    assert(cache != NULL && cache->at != NULL && slot != NULL);
-    return clock2q_find(cache, key, slot);
-}
-
-static inline bool clock2q_at_checked(clock2q *cache, size_t slot, uint64_t key) {
-    assert(cache != NULL && cache->at != NULL);
-    return clock2q_at(cache, slot, key);
-}
-
-static inline bool clock2q_contains_checked(clock2q *cache, uint64_t key) {
-    assert(cache != NULL && cache->at != NULL);
-    return clock2q_contains(cache, key);
-}
-
-static inline bool clock2q_remove_checked(clock2q *cache, uint64_t key) {
-    assert(cache != NULL && cache->at != NULL);
-    return clock2q_remove(cache, key);
-}
-
-static inline void clock2q_clear_checked(clock2q *cache) {
-    assert(cache != NULL && cache->at != NULL);
-    clock2q_clear(cache);
-}
-
-static inline size_t clock2q_len_checked(clock2q *cache) {
-    assert(cache != NULL && cache->at != NULL);
-    return clock2q_len(cache);
-}
-
-static inline size_t clock2q_capacity_checked(clock2q *cache) {
-    assert(cache != NULL && cache->at != NULL);
-    return clock2q_capacity(cache);
-}
-
-static inline void clock2q_release_checked(clock2q cache) {
-    assert(cache.at != NULL);
-    clock2q_release(cache);
-}
-
-#define clock2q_new clock2q_new_checked
-#define clock2q_with_policy clock2q_with_policy_checked
-#define clock2q_enter clock2q_enter_checked
-#define clock2q_find clock2q_find_checked
-#define clock2q_at clock2q_at_checked
-#define clock2q_contains clock2q_contains_checked
-#define clock2q_remove clock2q_remove_checked
-#define clock2q_clear clock2q_clear_checked
-#define clock2q_len clock2q_len_checked
-#define clock2q_capacity clock2q_capacity_checked
-#define clock2q_release clock2q_release_checked
-#endif
 
 #ifdef __cplusplus
 }

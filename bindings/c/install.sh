@@ -1,64 +1,207 @@
 #!/bin/sh
 # install.sh [PREFIX]: proves and builds the library, and installs it below PREFIX (/usr/local):
-#   include/clock2q.h, include/pcache_clock2q.h
-#   lib/libclock2q.a, lib/libclock2q.so, lib/pkgconfig/clock2q.pc
-#   lib/libclock2q_sqlite.so, where sqlite3.h is there
-#   share/clock2q/pcache_clock2q.c, share/clock2q/clock2q.py
-# DESTDIR goes before PREFIX. CC is the C compiler. With CLOCK2Q_ARCHIVES, two archives in place of
-# what is built here, nothing is proved.
+#   include/clock2q.h, include/clock2q.hpp, include/pcache_clock2q.h
+#   lib/libclock2q.a, lib/libclock2q.so, lib/pkgconfig/clock2q.pc, lib/cmake/clock2q
+#   lib/libclock2q_sqlite.so, if SQLite's header and library are there; else an earlier one is removed
+#   share/clock2q/pcache_clock2q.c
+# DESTDIR goes before PREFIX. Either may begin at the folder where this is called. CC is the C compiler.
+# With CLOCK2Q_ARCHIVES, LIBRARY:KIT, two archives in place of what is built here, nothing is proved.
 set -eu
-here=$(cd "$(dirname "$0")" && pwd)
-bindings=$(dirname "$here")
-crate=$(dirname "$bindings")/crates/clock2q_c
-prefix=${1:-/usr/local}
-to=${DESTDIR:-}$prefix
+self=$(readlink -f "$0")
+here=${self%/*}
+bindings=${here%/*}
+crate=${bindings%/*}/crates/clock2q_c
+soname=libclock2q.so.1 # counted up when a name of the library goes or changes
+archives=${CLOCK2Q_ARCHIVES:-}
 CC=${CC:-cc}
-work=$(mktemp -d)
-trap 'rm -rf "$work"' EXIT
 
-if [ -z "${CLOCK2Q_ARCHIVES:-}" ]; then
-    (cd "$crate" && rt lib)
-    CLOCK2Q_ARCHIVES="$crate/out/libclock2q_c.a $(dirname "$(rt doc)")/c/liblibc_c.a"
-fi
+say() {
+    echo "install.sh: $1" >&2
+}
 
-# One archive: the proved code, and the kit's calls of malloc, realloc and free, led to memory.c.
-cd "$work"
-for archive in $CLOCK2Q_ARCHIVES; do ar x "$archive"; done
-for object in ./*.o; do
-    objcopy --redefine-sym malloc=clock2q_memory_taken --redefine-sym realloc=clock2q_memory_resized \
-        --redefine-sym free=clock2q_memory_given_back "$object"
-done
-$CC -std=c11 -O2 -Wall -Wextra -Werror -fPIC -I"$here" -c "$here/memory.c" -o clock2q_memory.o
-ar rcs libclock2q.a ./*.o
+give_up() {
+    say "$1"
+    exit 1
+}
 
-cat >exports <<'MAP'
-CLOCK2Q_0 { global: clock2q_*; local: *; };
-MAP
-$CC -shared -o libclock2q.so.0 -Wl,-soname,libclock2q.so.0 -Wl,--version-script=exports -Wl,-z,defs \
-    -Wl,--whole-archive libclock2q.a -Wl,--no-whole-archive
+show_help() {
+    sed -n '2,/^set/s/^# //p' "$self"
+}
 
-install -d "$to/include" "$to/lib/pkgconfig" "$to/share/clock2q"
-install -m 644 "$here/clock2q.h" "$bindings/sqlite/pcache_clock2q.h" "$to/include"
-install -m 644 libclock2q.a "$to/lib"
-install -m 755 libclock2q.so.0 "$to/lib"
-ln -sf libclock2q.so.0 "$to/lib/libclock2q.so"
-install -m 644 "$bindings/sqlite/pcache_clock2q.c" "$bindings/python/clock2q.py" "$to/share/clock2q"
-cat >"$to/lib/pkgconfig/clock2q.pc" <<PC
+absolute() {
+    case $1 in
+    /*) printf '%s\n' "$1" ;;
+    *) printf '%s\n' "$PWD/$1" ;;
+    esac
+}
+
+# Tells whether the compiler builds a program that includes a header; the words after it go to the compiler.
+builds() {
+    printf '#include <%s>\nint main(void) { return 0; }\n' "$1" >"$work/none.c"
+    shift
+    # shellcheck disable=SC2086 # CC may have options
+    $CC "$work/none.c" -o "$work/none" "$@" >/dev/null 2>&1
+}
+
+check_tools() {
+    missing=''
+    [ "$archives" ] || command -v rt >/dev/null || missing="$missing
+  rt, the command of the Rattle kit"
+    builds stdlib.h || missing="$missing
+  $CC that builds a C program: apt-get install gcc libc6-dev"
+    for tool in ar ld objcopy; do
+        command -v "$tool" >/dev/null || missing="$missing
+  $tool: apt-get install binutils"
+    done
+    [ -z "$missing" ] || give_up "what is missing:$missing"
+}
+
+# Tells whether a folder can be made and written to.
+can_write() {
+    folder=$1
+    until [ -e "$folder" ]; do folder=$(dirname "$folder"); done
+    [ -d "$folder" ] && [ -w "$folder" ]
+}
+
+check_prefix() {
+    case $prefix in
+    *[\"\$#]* | *'
+'*) give_up "no pkg-config file can name a prefix with a quote, a dollar, a hash or a line break: $prefix" ;;
+    esac
+    for part in include lib lib/pkgconfig lib/cmake/clock2q share/clock2q; do
+        can_write "$to/$part" || give_up "$folder can't be written to: name another PREFIX or DESTDIR, or be root"
+    done
+}
+
+# Shows the minutes so far and the crate that is proved, in one line, if a person is there to read it.
+show_progress() {
+    [ -t 2 ] || return 0
+    name=$(sed -n 's/^rt: chose .* for //p' "$work/log" | tail -n 1)
+    printf '\r%s min%s\033[K' "$((($(date +%s) - began) / 60))" "${name:+, proving $name}" >&2
+}
+
+# Proves and builds the library, and shows what rt said if that fails.
+prove() {
+    say "proving and building the library: up to 20 minutes on 4 cores, seconds if it was proved before"
+    began=$(date +%s) is_proving=yes
+    (cd "$crate" && exec rt lib) </dev/null >"$work/log" 2>&1 &
+    while kill -0 "$!" 2>/dev/null; do
+        sleep 1
+        show_progress
+    done
+    is_proving=''
+    [ ! -t 2 ] || echo >&2
+    wait "$!" || {
+        cat "$work/log" >&2
+        give_up "the library isn't proved: rt says why above"
+    }
+}
+
+# Ends what runs, leaves nothing behind, and ends as the signal does.
+stop() {
+    trap '' INT TERM HUP
+    if [ "$is_proving" ] && [ "${!-}" ]; then
+        kill "$!" || :
+        wait "$!" || :
+    fi 2>/dev/null
+    rm -rf "$work"
+    [ ! -t 2 ] || echo >&2
+    say "stopped; what was proved is kept"
+    trap - EXIT "$1"
+    kill -"$1" $$
+}
+
+# Makes one object of the two archives and of memory.c, which takes the kit's calls of malloc, realloc and
+# free. Its other names are local then, so that none meets one of the caller's or of another library.
+make_libraries() {
+    printf '%s\n' 'malloc memory_taken' 'realloc memory_resized' 'free memory_given_back' >renamed
+    objcopy --redefine-syms=renamed "$proved" proved.a
+    objcopy --redefine-syms=renamed "$kit" kit.a
+    # shellcheck disable=SC2086 # CC may have options
+    $CC -std=c11 -O2 -Wall -Wextra -Werror -fPIC -I"$here" -c "$here/memory.c" -o memory.o
+    ld -r -o clock2q.o --whole-archive proved.a --no-whole-archive memory.o kit.a
+    objcopy --wildcard --keep-global-symbol='clock2q_*' clock2q.o
+    ar rcs libclock2q.a clock2q.o
+    echo "CLOCK2Q_${soname##*.} { global: clock2q_*; local: *; };" >exports
+    # shellcheck disable=SC2086
+    $CC -shared -o "$soname" -Wl,-soname,"$soname" -Wl,--version-script=exports -Wl,-z,defs clock2q.o
+    [ "$has_sqlite" ] || return 0
+    echo 'CLOCK2Q_SQLITE_0 { global: clock2q_sqlite; clock2q_sqlite_memory; local: *; };' >exports_sqlite
+    # shellcheck disable=SC2086
+    $CC -std=c11 -O2 -DNDEBUG -fPIC -shared -I"$here" -o libclock2q_sqlite.so \
+        -Wl,-soname,libclock2q_sqlite.so -Wl,--version-script=exports_sqlite -Wl,-z,defs \
+        "$bindings/sqlite/preload.c" "$bindings/sqlite/pcache_clock2q.c" clock2q.o -lsqlite3
+}
+
+install_all() {
+    install -d "$to/include" "$to/lib/pkgconfig" "$to/lib/cmake/clock2q" "$to/share/clock2q"
+    install -m 644 "$here/clock2q.h" "$here/clock2q.hpp" "$bindings/sqlite/pcache_clock2q.h" "$to/include"
+    install -m 644 libclock2q.a "$to/lib"
+    install -m 755 "$soname" "$to/lib"
+    ln -sf "$soname" "$to/lib/libclock2q.so"
+    install -m 644 "$bindings/sqlite/pcache_clock2q.c" "$to/share/clock2q"
+    rm -f "$to/lib/libclock2q_sqlite.so"
+    [ -z "$has_sqlite" ] || install -m 755 libclock2q_sqlite.so "$to/lib"
+    install -m 644 "$here/clock2qConfig.cmake" "$to/lib/cmake/clock2q"
+    name_version
+}
+
+# Writes what pkg-config and CMake read of the version.
+name_version() {
+    cat >"$to/lib/pkgconfig/clock2q.pc" <<PC
 prefix=$prefix
 Name: clock2q
 Description: A proved cache with Clock2Q+ replacement
-Version: 0.1.0
-Cflags: -I\${prefix}/include
-Libs: -L\${prefix}/lib -lclock2q
+Version: $version
+Cflags: -I"\${prefix}/include"
+Libs: -L"\${prefix}/lib" -lclock2q
 PC
+    cat >"$to/lib/cmake/clock2q/clock2qConfigVersion.cmake" <<CMAKE
+set(PACKAGE_VERSION $version)
+if(PACKAGE_FIND_VERSION VERSION_EQUAL PACKAGE_VERSION)
+  set(PACKAGE_VERSION_EXACT TRUE)
+endif()
+if("\${PACKAGE_FIND_VERSION_MAJOR}.\${PACKAGE_FIND_VERSION_MINOR}" VERSION_EQUAL ${version%.*} AND
+    NOT PACKAGE_FIND_VERSION VERSION_GREATER PACKAGE_VERSION)
+  set(PACKAGE_VERSION_COMPATIBLE TRUE)
+endif()
+CMAKE
+}
 
-if echo '#include <sqlite3.h>' | $CC -E - >/dev/null 2>&1; then
-    cat >exports_sqlite <<'MAP'
-CLOCK2Q_SQLITE_0 { global: clock2q_sqlite; clock2q_sqlite_memory; local: *; };
-MAP
-    $CC -std=c11 -O2 -DNDEBUG -fPIC -shared -I"$here" -o libclock2q_sqlite.so \
-        -Wl,--version-script=exports_sqlite -Wl,-z,defs \
-        "$bindings/sqlite/preload.c" "$bindings/sqlite/pcache_clock2q.c" libclock2q.a -lsqlite3
-    install -m 755 libclock2q_sqlite.so "$to/lib"
+case ${1-} in
+-h | --help) show_help; exit ;;
+-*) show_help >&2; exit 2 ;;
+esac
+[ $# -le 1 ] || { show_help >&2; exit 2; }
+version=$(cat "${bindings%/*}/VERSION")
+prefix=$(absolute "${1:-/usr/local}")
+to=${DESTDIR:+$(absolute "$DESTDIR")}$prefix
+is_proving='' has_sqlite=''
+case $archives in
+*:* | '') ;;
+*' '*) archives=${archives%% *}:${archives##* } ;; # as two words, neither with a space
+*) give_up "CLOCK2Q_ARCHIVES has no colon between two archives: $archives" ;;
+esac
+work=$(mktemp -d)
+trap 'rm -rf "$work"' EXIT
+for signal in INT TERM HUP; do
+    # shellcheck disable=SC2064 # the signal of now
+    trap "stop $signal" "$signal"
+done
+check_tools
+check_prefix
+if builds sqlite3.h -lsqlite3; then
+    has_sqlite=yes
+else
+    say "lib/libclock2q_sqlite.so is left out: no sqlite3.h (apt-get install libsqlite3-dev)"
 fi
+if [ "$archives" ]; then
+    proved=$(absolute "${archives%%:*}") kit=$(absolute "${archives#*:}")
+else
+    proved=$crate/out/libclock2q_c.a kit=$(dirname "$(rt doc)")/c/liblibc_c.a
+    prove
+fi
+cd "$work"
+make_libraries
+install_all
 echo "clock2q is installed below $to"

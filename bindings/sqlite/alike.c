@@ -1,7 +1,7 @@
 /* alike: the module beside SQLite's own page cache. At each size both give as many pinned pages
  * before they ask SQLite to write one back, and both keep no more than the size once the pages are
  * let go of. A large size takes no memory before there are pages, and a page that is there stays
- * where it is through all changes of the size. */
+ * where it is through all changes of the size. A soft limit that comes later is seen within 64 pages. */
 #include "pcache_clock2q.h"
 
 #include <sqlite3.h>
@@ -65,6 +65,30 @@ static void large_size(void) {
     must(sqlite3_memory_used() == before, "memory is kept", 1000000);
 }
 
+/* Adds pages that are let go of at once, and returns how many are there then. */
+static int pages_after(const sqlite3_pcache_methods2 *methods, sqlite3_pcache *cache, unsigned from, unsigned to) {
+    for (unsigned key = from; key < to; key++) methods->xUnpin(cache, methods->xFetch(cache, key, 2), 0);
+    return methods->xPagecount(cache);
+}
+
+/* Returns how many pages a cache adds, of 500 new ones, once the heap is at a soft limit that came last. */
+static int pages_over_limit(const sqlite3_pcache_methods2 *methods) {
+    sqlite3_pcache *cache = made(methods, 1000);
+    int before = pages_after(methods, cache, 1, 101);
+    sqlite3_soft_heap_limit64(1);
+    int under = pages_after(methods, cache, 101, 601);
+    must(pages_after(methods, cache, 601, 701) == under, "pages are added though there is a limit", 1000);
+    sqlite3_soft_heap_limit64(0);
+    must(pages_after(methods, cache, 701, 751) == under + 50, "no pages are added though there is no limit", 1000);
+    methods->xDestroy(cache);
+    return under - before;
+}
+
+static void soft_limit(void) {
+    must(pages_over_limit(&sqlites) == 0, "SQLite's own adds pages over a limit", 1000);
+    must(pages_over_limit(&ours) < 64, "a limit is seen too late", 1000);
+}
+
 int main(void) {
     must(sqlite3_config(SQLITE_CONFIG_GETPCACHE2, &sqlites) == SQLITE_OK, "no methods of SQLite's", 0);
     must(clock2q_sqlite() == SQLITE_OK, "no page cache", 0);
@@ -74,6 +98,7 @@ int main(void) {
         must(pinned_pages(&ours, sizes[i]) == pinned_pages(&sqlites, sizes[i]), "another threshold", sizes[i]);
     }
     large_size();
+    soft_limit();
     sqlites.xShutdown(sqlites.pArg);
     return 0;
 }

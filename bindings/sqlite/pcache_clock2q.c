@@ -27,7 +27,8 @@
 enum {
     FIRST_CAPACITY = 64, /* of an index */
     FIRST_BUCKETS = 256,
-    ATTEMPTS = 16 /* to have the library choose a page that isn't pinned */
+    ATTEMPTS = 16,   /* to have the library choose a page that isn't pinned */
+    ASKED_EVERY = 64 /* new pages, for SQLite's soft limit while there is none */
 };
 
 #define NO_SLOT UINT_MAX
@@ -60,14 +61,17 @@ struct cache {
     struct page **at; /* the page of each slot, or null */
     size_t capacity;  /* of the index, or 0 if there is none */
     uint64_t entries; /* of keys into an index */
+    unsigned unasked; /* questions for the soft limit that are answered without SQLite */
 };
 
 /* SQLite's own, where the program that this is compiled into offers them, as SQLite's test program
- * does: the first two tell a test's allocator that what it refuses between them is no error, and the
- * third has no mutex in single-thread mode. Elsewhere they are missing, and nobody asks. */
+ * does: the first two tell a test's allocator that what it refuses between them is no error, the
+ * third has no mutex in single-thread mode, and the fourth says if the heap is at its soft limit.
+ * Elsewhere they are missing, and nobody asks. */
 __attribute__((weak)) void sqlite3BeginBenignMalloc(void);
 __attribute__((weak)) void sqlite3EndBenignMalloc(void);
 __attribute__((weak)) sqlite3_mutex *sqlite3MutexAlloc(int kind);
+__attribute__((weak)) int sqlite3HeapNearlyFull(void);
 
 static void begin_benign(void) {
     if (sqlite3BeginBenignMalloc != NULL) sqlite3BeginBenignMalloc();
@@ -368,14 +372,21 @@ static struct page *reused_page(struct cache *cache, unsigned key) {
     return page;
 }
 
-/* Whether SQLite's allocator is at its soft limit. */
-static bool is_pressed(void) {
+/* Whether SQLite's allocator is at its soft limit. SQLite answers under its allocator's mutex. So while
+ * there is no limit a cache asks for it once in ASKED_EVERY times, and sees a new one that much later. */
+static bool is_pressed(struct cache *cache) {
+    if (sqlite3HeapNearlyFull != NULL) return sqlite3HeapNearlyFull() != 0;
+    if (cache->unasked > 0) {
+        cache->unasked--;
+        return false;
+    }
     sqlite3_int64 limit = sqlite3_soft_heap_limit64(-1);
+    if (limit <= 0) cache->unasked = ASKED_EVERY - 1;
     return limit > 0 && sqlite3_memory_used() >= limit;
 }
 
 static struct page *added_page(struct cache *cache, unsigned key, bool is_benign) {
-    bool is_full = cache->is_purgeable && idle_count(cache) > 0 && (cache->total >= cache->wanted || is_pressed());
+    bool is_full = cache->is_purgeable && idle_count(cache) > 0 && (cache->total >= cache->wanted || is_pressed(cache));
     struct page *page;
     fit_table(cache);
     fit_index(cache);
@@ -446,7 +457,7 @@ static int x_pagecount(sqlite3_pcache *handle) {
 
 /* Whether SQLite should write a page back before another one is made. */
 static bool is_refused(struct cache *cache) {
-    return cache->pinned >= cache->wanted * 9 / 10 || (idle_count(cache) < cache->pinned && is_pressed());
+    return cache->pinned >= cache->wanted * 9 / 10 || (idle_count(cache) < cache->pinned && is_pressed(cache));
 }
 
 /* Pins an idle page, which is a hit. One that is pinned isn't hit again. */

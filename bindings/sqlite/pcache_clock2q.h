@@ -11,8 +11,8 @@ extern "C" {
 int clock2q_sqlite(void);
 
 /* Tells the bytes that the page caches of all connections hold, and the most that they held. Where
- * `resets` isn't 0, the most begins anew with what they hold now. It stands for what sqlite3_status64
- * tells of SQLite's own cache as SQLITE_STATUS_PAGECACHE_OVERFLOW, but counts tables and indexes too.
+ * `resets` isn't 0, the most begins anew with what they hold now. It is what sqlite3_status64
+ * reports of SQLite's own cache as SQLITE_STATUS_PAGECACHE_OVERFLOW, but counts tables and indexes too.
  * Any thread may call it while SQLite is in use. Neither pointer is null. */
 void clock2q_sqlite_memory(long long *now, long long *most, int resets);
 

@@ -1,7 +1,7 @@
 /* random_calls [SEEDS]: random calls of the page cache's methods against what SQLite relies on: a
  * pinned page stays where it is with its content, no two keys share a page, a page that is found has
  * the content that its key was given last, and there are no more pages than the size says or are
- * pinned. What the module tells of its memory is what SQLite's allocator has given out since. Each
+ * pinned. What the module reports of its memory is what SQLite's allocator has given out since. Each
  * run is made twice, the second time with requests for memory refused at random. */
 #include "pcache_clock2q.h"
 

@@ -1,5 +1,6 @@
 /* agree [CALLS]: random calls of the library and of a plain model, at capacities 1, 2, 3, 10, 100 and
- * 1000. Ends with status 1 at the first answer that differs. */
+ * 1000. Ends with status 1 at the first answer that differs, or if the library has another version
+ * than the header. */
 #include "clock2q.h"
 #include "model.h"
 
@@ -23,6 +24,7 @@ static uint64_t draw(void) {
 
 static bool enters(struct run *run, uint64_t key) {
     clock2q_place place;
+    memset(&place, 0xa5, sizeof place); /* no place, as memory that was never written may be none */
     clock2q_enter(&run->cache, key, &place);
     long slot = model_enter(&run->model, key);
     bool agrees = (long)place.slot == slot && place.has_last == run->has_last[slot] && place.last == run->last[slot];
@@ -88,7 +90,7 @@ static bool run_agrees(size_t capacity, size_t calls) {
 int main(int count, char **words) {
     static const size_t capacities[] = {1, 2, 3, 10, 100, 1000};
     size_t calls = count > 1 ? strtoull(words[1], NULL, 10) : 1000000;
-    bool agrees = true;
+    bool agrees = clock2q_version() == CLOCK2Q_VERSION;
     for (size_t i = 0; i < sizeof capacities / sizeof *capacities; i++) agrees = run_agrees(capacities[i], calls) && agrees;
     return agrees ? 0 : 1;
 }

@@ -25,6 +25,9 @@ static void len(void) { clock2q_len(&none); }
 static void capacity(void) { clock2q_capacity(&none); }
 static void release(void) { clock2q_release(none); }
 static void enter_nowhere(void) { clock2q_enter(&made, 7, NULL); }
+static void enter_key(void) { clock2q_enter_key(&none, 7); }
+static void find_key(void) { clock2q_find_key(&none, 7); }
+static void find_nowhere(void) { clock2q_find(&made, 7, NULL); }
 
 /* Whether the call ends its process by an assertion. */
 static bool is_stopped(void (*call)(void)) {
@@ -39,7 +42,7 @@ static bool is_stopped(void (*call)(void)) {
 }
 
 int main(void) {
-    static void (*const calls[])(void) = {make, make_with_policy, enter, find, at, contains, take_away, clear, len, capacity, release, enter_nowhere};
+    static void (*const calls[])(void) = {make, make_with_policy, enter, find, at, contains, take_away, clear, len, capacity, release, enter_nowhere, enter_key, find_key, find_nowhere};
     if (clock2q_new(&made, 2) != CLOCK2Q_DONE) return 1;
     int failed = 0;
     for (size_t i = 0; i < sizeof calls / sizeof *calls; i++) {

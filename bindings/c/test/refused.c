@@ -10,10 +10,12 @@ void *__wrap_malloc(size_t size);
 void __real_free(void *block);
 void __wrap_free(void *block);
 
-static long left;   /* requests until one is refused; none is, below 0 */
-static long blocks; /* that are taken */
+static long left;     /* requests until one is refused; none is, below 0 */
+static long blocks;   /* that are taken */
+static long requests; /* that were made */
 
 void *__wrap_malloc(size_t size) {
+    requests++;
     if (left == 0) return NULL;
     if (left > 0) left--;
     blocks++;
@@ -35,7 +37,8 @@ static void must(bool holds, const char *what) {
 
 static void bad_numbers(void) {
     clock2q cache = CLOCK2Q_NONE;
-    left = 0;
+    left = -1;
+    requests = 0;
     must(clock2q_new(&cache, 0) == CLOCK2Q_BAD_CAPACITY, "capacity 0");
     must(clock2q_new(&cache, CLOCK2Q_MAX_CAPACITY + 1) == CLOCK2Q_BAD_CAPACITY, "capacity too large");
     must(clock2q_with_policy(&cache, 0, 0, 0) == CLOCK2Q_BAD_CAPACITY, "capacity 0 with shares");
@@ -43,27 +46,32 @@ static void bad_numbers(void) {
     must(clock2q_with_policy(&cache, 10, 2, 3) == CLOCK2Q_BAD_POLICY, "a window longer than Small");
     must(clock2q_with_policy(&cache, 10, 2, 0) == CLOCK2Q_BAD_POLICY, "a share without a window");
     must(cache.at == NULL, "no cache");
+    must(requests == 0, "no memory is asked for");
 }
 
 static void no_memory(void) {
     clock2q cache = CLOCK2Q_NONE;
-    long requests = 0;
-    for (;; requests++) {
-        left = requests;
+    long granted = 0;
+    for (;; granted++) {
+        left = granted;
         blocks = 0;
         if (clock2q_new(&cache, 100) == CLOCK2Q_DONE) break;
         must(cache.at == NULL && blocks == 0, "memory is kept after a refusal");
-        left = requests;
+        left = granted;
         must(clock2q_with_policy(&cache, 100, 10, 5) == CLOCK2Q_NO_MEMORY, "shares without memory");
         must(cache.at == NULL && blocks == 0, "memory is kept after a refusal with shares");
     }
-    must(requests >= 1 && requests <= 12, "at most twelve requests");
+    must(granted >= 1 && granted <= 12, "at most twelve requests");
     left = 0;
     clock2q_place place;
     for (uint64_t key = 0; key < 1000; key++) clock2q_enter(&cache, key, &place);
     must(clock2q_len(&cache) == 100, "no call takes memory");
     clock2q_free(&cache);
     must(blocks == 0, "all memory is given back");
+    left = -1;
+    must(clock2q_with_policy(&cache, 100, 10, 5) == CLOCK2Q_DONE, "a cache with shares");
+    clock2q_free(&cache);
+    must(blocks == 0, "all memory of a cache with shares is given back");
 }
 
 static long own_taken, own_given_back;

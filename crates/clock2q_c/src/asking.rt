@@ -4,8 +4,7 @@ ghost use Rattle.clock2q_machine.specs.Machine.{resident_count};
 ghost use Rattle.clock2q_pages.specs.Pages.{resident_frame};
 ghost use Rattle.std.specs.Prelude.{◌≡◌, ◌↔◌, IsSome, IsTrue, IfSome};
 
-use crate::handle::{Handle, put_back, taken};
-use std::alloc::Global;
+use crate::handle::Handle;
 
 /// Returns true if the key has a slot. It records no hit.
 ///
@@ -13,39 +12,30 @@ use std::alloc::Global;
 ///
 /// That of `Cache::contains`.
 #[unsafe(no_mangle)]
-pub extern "C" fn clock2q_contains(alloc: Global, handle: &mut Handle, key: usize) -> bool
+pub extern "C" fn clock2q_contains(handle: &mut Handle, key: usize) -> bool
     requires { IsSome handle.old.cache }
     ensures resident { IfSome (machine_in handle.old.cache) (λ m. IsTrue result ↔ IsSome (resident_frame m key)) }
     ensures same { handle.new.cache ≡ handle.old.cache }
 {
-    let cache = taken(alloc, handle);
-    let is_resident = cache.cache.contains(&key);
-    put_back(handle, cache);
-    is_resident
+    handle.held().cache.contains(&key)
 }
 
-/// Returns how many keys have a slot.
+/// Returns the number of keys that have a slot.
 #[unsafe(no_mangle)]
-pub extern "C" fn clock2q_len(alloc: Global, handle: &mut Handle) -> usize
+pub extern "C" fn clock2q_len(handle: &mut Handle) -> usize
     requires { IsSome handle.old.cache }
     ensures count { IfSome (machine_in handle.old.cache) (λ m. result ≡ resident_count m) }
     ensures same { handle.new.cache ≡ handle.old.cache }
 {
-    let cache = taken(alloc, handle);
-    let len = cache.cache.len();
-    put_back(handle, cache);
-    len
+    handle.held().cache.len()
 }
 
-/// Returns how many keys can have a slot.
+/// Returns the number of keys that can have a slot.
 #[unsafe(no_mangle)]
-pub extern "C" fn clock2q_capacity(alloc: Global, handle: &mut Handle) -> usize
+pub extern "C" fn clock2q_capacity(handle: &mut Handle) -> usize
     requires { IsSome handle.old.cache }
     ensures capacity { IfSome (machine_in handle.old.cache) (λ m. result ≡ m.shares.capacity) }
     ensures same { handle.new.cache ≡ handle.old.cache }
 {
-    let cache = taken(alloc, handle);
-    let capacity = cache.cache.capacity();
-    put_back(handle, cache);
-    capacity
+    handle.held().cache.capacity()
 }

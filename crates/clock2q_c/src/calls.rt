@@ -1,4 +1,4 @@
-//! The calls that find a key's slot, give it one, and take it away.
+//! The calls that find, give and free a key's slot.
 ghost use Rattle.clock2q_c.specs.Handle.{machine_in};
 ghost use Rattle.clock2q_cache.specs.Costs.{Costs};
 ghost use Rattle.clock2q_machine.specs.Calls.{Clear, Get, GetAt, Put, Remove};
@@ -8,154 +8,144 @@ ghost use Rattle.clock2q_pages.specs.Pages.{last_in, resident_frame};
 ghost use Rattle.std.specs.Option.{option_map, unwrap_or};
 ghost use Rattle.std.specs.Prelude.{◌≡◌, ◌<◌, ◌↔◌, eqb, Some, IsSome, IsTrue, IfSome, is_some};
 
-use crate::handle::{Handle, put_back, taken};
-use crate::held::Held;
+use crate::handle::Handle;
 use clock2q_cache::DefaultHashBuilder;
 use clock2q_pages::{find, frame_of, is_in};
-use std::alloc::Global;
 use std::hash::{BuildHasher, FoldHasher, Hash, Hasher};
 
-/// Where a key is, and which key entered that slot last before.
+/// A key's slot, and the last key that entered the slot before.
 #[repr(C)]
 #[derive(Drop)]
 pub struct Place {
     /// Below the capacity.
     pub slot: usize,
-    /// The key that entered the slot last before, or 0.
+    /// The last key that entered the slot before, or 0.
     pub last: usize,
-    /// Whether there was any.
+    /// Whether there was one.
     pub has_last: bool,
 }
 
-/// Writes the slot of a key, after a hit, or after giving the key a slot that another one may lose.
+/// The slot of a key, if it has one.
+#[repr(C)]
+#[derive(Drop)]
+pub struct Found {
+    /// The slot, or 0.
+    pub slot: usize,
+    /// Whether the key has one.
+    pub is_found: bool,
+}
+
+/// Returns the slot of a key, after a hit, or after giving the key a slot, which another key may
+/// lose. By value, so that C needn't pass memory that already holds a place.
 ///
 /// # Cost
 ///
 /// That of `Cache::put`.
 #[unsafe(no_mangle)]
-pub extern "C" fn clock2q_enter(alloc: Global, handle: &mut Handle, key: usize, place: &mut Place)
+pub extern "C" fn clock2q_enter_key(handle: &mut Handle, key: usize) -> Place
     requires { IsSome handle.old.cache }
-    ensures resident { IfSome (machine_in handle.new.cache) (λ m. resident_frame m key ≡ Some place.new.slot) }
-    ensures last { IfSome (machine_in handle.old.cache) (λ m. place.new.has_last ≡ is_some (last_in m place.new.slot)) }
-    ensures which { IfSome (machine_in handle.old.cache) (λ m. place.new.last ≡ unwrap_or (last_in m place.new.slot) 0) }
-    ensures within { IfSome (machine_in handle.old.cache) (λ m. place.new.slot < m.shares.capacity) }
+    ensures resident { IfSome (machine_in handle.new.cache) (λ m. resident_frame m key ≡ Some result.slot) }
+    ensures last { IfSome (machine_in handle.old.cache) (λ m. result.has_last ≡ is_some (last_in m result.slot)) }
+    ensures which { IfSome (machine_in handle.old.cache) (λ m. result.last ≡ unwrap_or (last_in m result.slot) 0) }
+    ensures within { IfSome (machine_in handle.old.cache) (λ m. result.slot < m.shares.capacity) }
     ensures machine { machine_in handle.new.cache ≡ option_map (put (eqb key) key (Some key)) (machine_in handle.old.cache) }
     ensures costs { IfSome handle.old.cache (λ o. IfSome handle.new.cache (λ n. Costs ⟦<usize as Hash>⟧ ⟦<DefaultHashBuilder as BuildHasher>⟧ ⟦<FoldHasher as Hasher>⟧ (Put key (Some key)) o.cache n.cache)) }
     ensures holds { IsSome handle.new.cache }
 {
-    let mut cache = taken(alloc, handle);
-    enter(&mut cache, key, place);
-    put_back(handle, cache);
+    let (slot, last) = frame_of(&mut handle.held().cache, key);
+    place_of(slot, last)
 }
 
-/// Gives a key its slot, and writes which one. It writes field by field: a whole place would copy
-/// the bytes between its fields too.
-fn enter(held: &mut Held, key: usize, place: &mut Place)
-    ensures resident { resident_frame held.new.cache.machine key ≡ Some place.new.slot }
-    ensures last { place.new.has_last ≡ is_some (last_in held.old.cache.machine place.new.slot) }
-    ensures which { place.new.last ≡ unwrap_or (last_in held.old.cache.machine place.new.slot) 0 }
-    ensures within { place.new.slot < held.old.cache.machine.shares.capacity }
-    ensures machine { held.new.cache.machine ≡ put (eqb key) key (Some key) held.old.cache.machine }
-    ensures costs { Costs ⟦<usize as Hash>⟧ ⟦<DefaultHashBuilder as BuildHasher>⟧ ⟦<FoldHasher as Hasher>⟧ (Put key (Some key)) held.old.cache held.new.cache }
+/// Returns a slot and the last key that entered it before, in C's form.
+fn place_of(slot: usize, last: Option<usize>) -> Place
+    ensures slot { result.slot ≡ slot }
+    ensures last { result.has_last ≡ is_some last }
+    ensures which { result.last ≡ unwrap_or last 0 }
 {
-    let (slot, last) = frame_of(&mut held.cache, key);
-    place.slot = slot;
     match last {
-        Some(last) => {
-            place.last = last;
-            place.has_last = true;
-        }
-        None => {
-            place.last = 0;
-            place.has_last = false;
-        }
+        Some(last) => Place {
+            slot,
+            last,
+            has_last: true,
+        },
+        None => Place {
+            slot,
+            last: 0,
+            has_last: false,
+        },
     }
 }
 
-/// Returns true and writes the slot of a key that has one, with a hit. Else returns false and
-/// writes nothing.
+/// Returns the slot of a key and records a hit, if the key has a slot.
 ///
 /// # Cost
 ///
 /// That of `Cache::get`.
 #[unsafe(no_mangle)]
-pub extern "C" fn clock2q_find(
-    alloc: Global,
-    handle: &mut Handle,
-    key: usize,
-    slot: &mut usize,
-) -> bool
+pub extern "C" fn clock2q_find_key(handle: &mut Handle, key: usize) -> Found
     requires { IsSome handle.old.cache }
-    ensures resident { IfSome (machine_in handle.old.cache) (λ m. IsTrue result ↔ IsSome (resident_frame m key)) }
-    ensures slot { IfSome (machine_in handle.old.cache) (λ m. slot.new ≡ unwrap_or (resident_frame m key) slot.old) }
+    ensures resident { IfSome (machine_in handle.old.cache) (λ m. IsTrue result.is_found ↔ IsSome (resident_frame m key)) }
+    ensures slot { IfSome (machine_in handle.old.cache) (λ m. result.slot ≡ unwrap_or (resident_frame m key) 0) }
     ensures machine { machine_in handle.new.cache ≡ option_map (hit (eqb key)) (machine_in handle.old.cache) }
     ensures costs { IfSome handle.old.cache (λ o. IfSome handle.new.cache (λ n. Costs ⟦<usize as Hash>⟧ ⟦<DefaultHashBuilder as BuildHasher>⟧ ⟦<FoldHasher as Hasher>⟧ (Get key) o.cache n.cache)) }
     ensures holds { IsSome handle.new.cache }
 {
-    let mut cache = taken(alloc, handle);
-    let found = find(&mut cache.cache, key);
-    put_back(handle, cache);
-    match found {
-        Some(at) => {
-            *slot = at;
-            true
-        }
-        None => false,
+    match find(&mut handle.held().cache, key) {
+        Some(slot) => Found {
+            slot,
+            is_found: true,
+        },
+        None => Found {
+            slot: 0,
+            is_found: false,
+        },
     }
 }
 
-/// Returns true if the key is at this slot, and records a hit then. Any number will do.
+/// If the key is at this slot, records a hit and returns true. The slot may be any number.
 ///
 /// # Cost
 ///
 /// That of `Cache::get_at`: no hash.
 #[unsafe(no_mangle)]
-pub extern "C" fn clock2q_at(alloc: Global, handle: &mut Handle, slot: usize, key: usize) -> bool
+pub extern "C" fn clock2q_at(handle: &mut Handle, slot: usize, key: usize) -> bool
     requires { IsSome handle.old.cache }
     ensures resident { IfSome (machine_in handle.old.cache) (λ m. IsTrue result ↔ (resident_frame m key ≡ Some slot)) }
     ensures machine { machine_in handle.new.cache ≡ option_map (hit_at slot (eqb key)) (machine_in handle.old.cache) }
     ensures costs { IfSome handle.old.cache (λ o. IfSome handle.new.cache (λ n. Costs ⟦<usize as Hash>⟧ ⟦<DefaultHashBuilder as BuildHasher>⟧ ⟦<FoldHasher as Hasher>⟧ (GetAt slot key) o.cache n.cache)) }
     ensures holds { IsSome handle.new.cache }
 {
-    let mut cache = taken(alloc, handle);
-    let is_there = is_in(&mut cache.cache, slot, key);
-    put_back(handle, cache);
-    is_there
+    is_in(&mut handle.held().cache, slot, key)
 }
 
-/// Takes the slot of a key away and returns true. A key that has none is forgotten, if it is
-/// remembered.
+/// Frees the slot of a key, and returns true if the key had one. A key without a slot is forgotten
+/// if it is remembered.
 ///
 /// # Cost
 ///
 /// That of `Cache::remove`.
 #[unsafe(no_mangle)]
-pub extern "C" fn clock2q_remove(alloc: Global, handle: &mut Handle, key: usize) -> bool
+pub extern "C" fn clock2q_remove(handle: &mut Handle, key: usize) -> bool
     requires { IsSome handle.old.cache }
     ensures found { IfSome (machine_in handle.old.cache) (λ m. IsTrue result ↔ IsSome (resident_frame m key)) }
     ensures machine { machine_in handle.new.cache ≡ option_map (removed (eqb key)) (machine_in handle.old.cache) }
     ensures costs { IfSome handle.old.cache (λ o. IfSome handle.new.cache (λ n. Costs ⟦<usize as Hash>⟧ ⟦<DefaultHashBuilder as BuildHasher>⟧ ⟦<FoldHasher as Hasher>⟧ (Remove key) o.cache n.cache)) }
     ensures holds { IsSome handle.new.cache }
 {
-    let mut cache = taken(alloc, handle);
-    let was_resident = cache.cache.remove(&key);
-    put_back(handle, cache);
-    was_resident
+    handle.held().cache.remove(&key)
 }
 
-/// Takes all slots away, and forgets all keys.
+/// Frees all slots, and forgets all keys.
 ///
 /// # Cost
 ///
 /// That of `Cache::clear`: time in proportion to the capacity.
 #[unsafe(no_mangle)]
-pub extern "C" fn clock2q_clear(alloc: Global, handle: &mut Handle)
+pub extern "C" fn clock2q_clear(handle: &mut Handle)
     requires { IsSome handle.old.cache }
     ensures machine { machine_in handle.new.cache ≡ option_map cleared (machine_in handle.old.cache) }
     ensures costs { IfSome handle.old.cache (λ o. IfSome handle.new.cache (λ n. Costs ⟦<usize as Hash>⟧ ⟦<DefaultHashBuilder as BuildHasher>⟧ ⟦<FoldHasher as Hasher>⟧ Clear o.cache n.cache)) }
     ensures holds { IsSome handle.new.cache }
 {
-    let mut cache = taken(alloc, handle);
-    cache.cache.clear();
-    put_back(handle, cache);
+    handle.held().cache.clear();
 }

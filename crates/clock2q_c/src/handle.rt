@@ -1,6 +1,5 @@
 //! The handle that C holds.
-ghost use Rattle.clock2q_c.specs.Handle.{held_coded};
-ghost use Rattle.clock2q_c.specs.declared.held.Held.{Held};
+ghost use Rattle.clock2q_c.specs.Handle.{HeldInC, held_coded};
 ghost use Rattle.std.specs.Prelude.{◌≡◌, IsSome, None, Option, Some};
 
 use crate::held::Held;
@@ -9,13 +8,13 @@ use std::alloc::Global;
 use std::marker::Model;
 use std::mem;
 
-/// The pointer to a cache, or null where there is none. Nothing drops it, so a cache that is let go
-/// of without a release isn't proved.
+/// The pointer to a cache, or null if there is none. Nothing drops it, so code that lets go of a
+/// cache without a release isn't proved.
 #[repr(C)]
 pub struct Handle {
     pointer: *mut u8,
     alloc: Global,
-    pub(crate) ghost cache: { Option Held } by { held_coded },
+    pub(crate) ghost cache: { Option HeldInC } by { held_coded },
 }
 
 impl Model for Handle {
@@ -25,8 +24,11 @@ impl Model for Handle {
 }
 
 impl Handle {
-    /// Returns a handle without a cache.
-    pub(crate) fn none(alloc: Global) -> Handle
+    ghost use Rattle.clock2q_c.specs.Lends.{LendsHeld};
+    ghost use Rattle.std.specs.Borrow.{sem};
+
+    /// Returns a handle without a cache, like `CLOCK2Q_NONE`. For tests: C makes its own.
+    pub fn none(alloc: Global) -> Handle
         ensures { result.cache ≡ None }
     {
         Handle {
@@ -35,8 +37,8 @@ impl Handle {
         }
     }
 
-    /// Returns a handle that leads to what was in the box.
-    pub(crate) fn close(held: Unboxed<Held, Global>) -> Handle
+    /// Returns a handle to what was in the box.
+    pub(crate) fn close(held: Unboxed<Held<Global>, Global>) -> Handle
         ensures { result.cache ≡ Some held.value }
     {
         let Unboxed { pointer, alloc } = held;
@@ -46,19 +48,28 @@ impl Handle {
         }
     }
 
-    /// Returns what the handle leads to.
-    pub(crate) fn open(self) -> Unboxed<Held, Global>
+    /// Returns what the handle points to.
+    pub(crate) fn open(self) -> Unboxed<Held<Global>, Global>
         requires { IsSome self.cache }
         ensures { Some result.value ≡ self.cache }
     {
         let Handle { pointer, alloc } = self;
         Unboxed {
-            pointer: pointer as *mut Held,
+            pointer: pointer as *mut Held<Global>,
             alloc,
         }
     }
 
-    /// Lets go of a handle without a cache.
+    /// Returns a reference to what the handle points to. It writes nothing.
+    pub(crate) fn held(&mut self) -> &mut Held<Global>
+        requires { IsSome self.old.cache }
+        ensures* writes_back { sem 𝓛 (LendsHeld self.entry result) }
+        ensures value { Some result.now ≡ self.old.cache }
+    {
+        unsafe { &mut *(self.pointer as *mut Held<Global>) }
+    }
+
+    /// Discards a handle without a cache.
     pub(crate) fn discard(self)
         requires { self.cache ≡ None }
     {
@@ -69,25 +80,16 @@ impl Handle {
     }
 }
 
-/// Takes the cache out of a handle that C gives away.
-pub(crate) fn opened(handle: Handle) -> Box<Held>
+/// Takes the cache out of a handle that C gives up.
+pub(crate) fn opened(handle: Handle) -> Box<Held<Global>>
     requires { IsSome handle.cache }
     ensures { Some result.value ≡ handle.cache }
 {
     handle.open().into_box()
 }
 
-/// Takes the cache from a handle, and leaves none there.
-pub(crate) fn taken(alloc: Global, handle: &mut Handle) -> Box<Held>
-    requires { IsSome handle.old.cache }
-    ensures cache { Some result.value ≡ handle.old.cache }
-    ensures left { handle.new.cache ≡ None }
-{
-    opened(mem::replace(handle, Handle::none(alloc)))
-}
-
-/// Puts a cache into a handle that has none.
-pub(crate) fn put_back(handle: &mut Handle, cache: Box<Held>)
+/// Puts a cache into a handle without one.
+pub(crate) fn put(handle: &mut Handle, cache: Box<Held<Global>>)
     requires { handle.old.cache ≡ None }
     ensures { handle.new.cache ≡ Some cache.value }
 {

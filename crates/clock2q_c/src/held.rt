@@ -1,9 +1,10 @@
-//! What a handle leads to.
+//! What a handle points to.
 use clock2q_cache::{Cache, DefaultHashBuilder};
-use std::alloc::Global;
+use std::alloc::Allocator;
 
-/// A cache of keys, in which each slot has the key that entered it last.
+/// A cache of keys, in which each slot has the key that entered it last. For C, its memory comes
+/// from `malloc`; tests pass an allocator that counts.
 #[derive(Drop)]
-pub(crate) struct Held {
-    pub(crate) cache: Cache<usize, Option<usize>, DefaultHashBuilder, Global>,
+pub(crate) struct Held<A: Allocator> {
+    pub(crate) cache: Cache<usize, Option<usize>, DefaultHashBuilder, A>,
 }

@@ -3,21 +3,20 @@ ghost use Rattle.clock2q_c.specs.Handle.{machine_in};
 ghost use Rattle.clock2q_machine.specs.Machine.{empty};
 ghost use Rattle.clock2q_machine.specs.Policies.{IsPolicy, shares_of};
 ghost use Rattle.clock2q_machine.specs.Shares.{usual_shares};
-ghost use Rattle.std.specs.NonZero.{non_zero_usize_get};
-ghost use Rattle.std.specs.Prelude.{◌≡◌, ◌≢◌, ◌<◌, ◌≤◌, ◌↔◌, ◌⊎◌, Some, None, IsSome, IfOk, IsErrOf, Err};
+ghost use Rattle.std.specs.Prelude.{◌≡◌, ◌≢◌, ◌<◌, ◌≤◌, ◌↔◌, ◌⊎◌, Some, None, IsSome, IfOk, IsErrOf, IsOkUnless, Err};
 
-use crate::handle::{Handle, opened, put_back};
+use crate::handle::{Handle, opened, put};
 use crate::held::Held;
 use crate::status::{BAD_CAPACITY, BAD_POLICY, DONE, NO_MEMORY, status_of};
-use clock2q_cache::{Cache, CacheError, MAX_CAPACITY};
-use std::alloc::Global;
+use clock2q_cache::{Cache, CacheError, DefaultHashBuilder, MAX_CAPACITY};
+use std::alloc::{Allocator, Global};
 use std::hash::BuildHasherDefault;
 use std::num::NonZeroUsize;
 
 /// Makes a cache for `capacity` keys, with the usual shares.
 ///
-/// Returns [`DONE`], or why there is none: [`BAD_CAPACITY`] before any memory is taken, or
-/// [`NO_MEMORY`], where what was taken is given back.
+/// Returns [`DONE`], or why no cache was made: [`BAD_CAPACITY`], before any memory is taken, or
+/// [`NO_MEMORY`], after what was taken is given back.
 ///
 /// # Cost
 ///
@@ -31,12 +30,9 @@ pub extern "C" fn clock2q_new(alloc: Global, handle: &mut Handle, capacity: usiz
     ensures capacity { (result ≡ BAD_CAPACITY) ↔ ((capacity ≡ 0) ⊎ (MAX_CAPACITY < capacity)) }
     ensures memory { result ≢ DONE → result ≢ BAD_CAPACITY → result ≡ NO_MEMORY }
 {
-    let Some(capacity) = NonZeroUsize::new(capacity) else {
-        return BAD_CAPACITY;
-    };
     match boxed(alloc, capacity) {
         Ok(cache) => {
-            put_back(handle, cache);
+            put(handle, cache);
             DONE
         }
         Err(refusal) => status_of(refusal),
@@ -46,9 +42,9 @@ pub extern "C" fn clock2q_new(alloc: Global, handle: &mut Handle, capacity: usiz
 /// Makes a cache for `capacity` keys in which Small has `small` slots and a key is young for
 /// `window` admissions.
 ///
-/// Returns what [`clock2q_new`] does, or [`BAD_POLICY`] if the capacity is one but Small leaves Main
-/// no slot, or one of `small` and `window` is 0 and the other isn't, or the window is longer than
-/// Small.
+/// Returns what [`clock2q_new`] does, or [`BAD_POLICY`] if the capacity is valid but Small leaves
+/// Main no slot, or one of `small` and `window` is 0 and the other isn't, or the window is longer
+/// than Small.
 ///
 /// # Cost
 ///
@@ -69,19 +65,16 @@ pub extern "C" fn clock2q_with_policy(
     ensures policy { (result ≡ BAD_POLICY) ↔ ((0 < capacity) × (capacity ≤ MAX_CAPACITY) × ¬ IsPolicy (shares_of capacity small window)) }
     ensures memory { result ≢ DONE → result ≢ BAD_CAPACITY → result ≢ BAD_POLICY → result ≡ NO_MEMORY }
 {
-    let Some(capacity) = NonZeroUsize::new(capacity) else {
-        return BAD_CAPACITY;
-    };
     match boxed_with(alloc, capacity, small, window) {
         Ok(cache) => {
-            put_back(handle, cache);
+            put(handle, cache);
             DONE
         }
         Err(refusal) => status_of(refusal),
     }
 }
 
-/// Frees a cache with all its memory. The handle is given away with it.
+/// Frees a cache with all its memory, and consumes the handle.
 #[unsafe(no_mangle)]
 pub extern "C" fn clock2q_release(handle: Handle)
     requires { IsSome handle.cache }
@@ -90,30 +83,59 @@ pub extern "C" fn clock2q_release(handle: Handle)
 }
 
 /// Makes a cache with the usual shares on the heap.
-fn boxed(alloc: Global, capacity: NonZeroUsize) -> Result<Box<Held>, CacheError>
-    ensures made { IfOk result (λ made. made.value.cache.machine ≡ empty (usual_shares (non_zero_usize_get capacity))) }
-    ensures capacity { IsErrOf result CacheError.Capacity ↔ (MAX_CAPACITY < non_zero_usize_get capacity) }
+///
+/// # Errors
+///
+/// `Capacity` if it is 0 or above [`MAX_CAPACITY`], before any memory is taken. `Memory` if a
+/// request is refused; what was taken is given back.
+pub(crate) fn boxed<A: Allocator + Copy>(
+    alloc: A,
+    capacity: usize,
+) -> Result<Box<Held<A>, A>, CacheError>
+    ensures made { IfOk result (λ made. made.value.cache.machine ≡ empty (usual_shares capacity)) }
+    ensures capacity { IsErrOf result CacheError.Capacity ↔ ((capacity ≡ 0) ⊎ (MAX_CAPACITY < capacity)) }
     ensures policy { result ≢ Err CacheError.Policy }
 {
-    let cache = Cache::new(alloc, capacity)?;
-    match Box::new(alloc, Held { cache }) {
-        Ok(made) => Ok(made),
-        Err(_) => Err(CacheError::Memory),
-    }
+    let Some(capacity) = NonZeroUsize::new(capacity) else {
+        return Err(CacheError::Capacity);
+    };
+    in_box(alloc, Cache::new(alloc, capacity)?)
 }
 
 /// Makes a cache with these shares on the heap.
-fn boxed_with(
-    alloc: Global,
-    capacity: NonZeroUsize,
+///
+/// # Errors
+///
+/// Those of [`boxed`], and `Policy` if the capacity is valid but the shares don't fit, before any
+/// memory is taken.
+pub(crate) fn boxed_with<A: Allocator + Copy>(
+    alloc: A,
+    capacity: usize,
     small: usize,
     window: usize,
-) -> Result<Box<Held>, CacheError>
-    ensures made { IfOk result (λ made. made.value.cache.machine ≡ empty (shares_of (non_zero_usize_get capacity) small window)) }
-    ensures capacity { IsErrOf result CacheError.Capacity ↔ (MAX_CAPACITY < non_zero_usize_get capacity) }
-    ensures policy { IsErrOf result CacheError.Policy ↔ ((non_zero_usize_get capacity ≤ MAX_CAPACITY) × ¬ IsPolicy (shares_of (non_zero_usize_get capacity) small window)) }
+) -> Result<Box<Held<A>, A>, CacheError>
+    ensures made { IfOk result (λ made. made.value.cache.machine ≡ empty (shares_of capacity small window)) }
+    ensures capacity { IsErrOf result CacheError.Capacity ↔ ((capacity ≡ 0) ⊎ (MAX_CAPACITY < capacity)) }
+    ensures policy { IsErrOf result CacheError.Policy ↔ ((0 < capacity) × (capacity ≤ MAX_CAPACITY) × ¬ IsPolicy (shares_of capacity small window)) }
 {
-    let cache = Cache::with_policy(alloc, capacity, small, window, BuildHasherDefault::new())?;
+    let Some(capacity) = NonZeroUsize::new(capacity) else {
+        return Err(CacheError::Capacity);
+    };
+    let hasher = BuildHasherDefault::new();
+    in_box(
+        alloc,
+        Cache::with_policy(alloc, capacity, small, window, hasher)?,
+    )
+}
+
+/// Puts a cache on the heap. If there is no memory for that, it frees the cache.
+fn in_box<A: Allocator>(
+    alloc: A,
+    cache: Cache<usize, Option<usize>, DefaultHashBuilder, A>,
+) -> Result<Box<Held<A>, A>, CacheError>
+    ensures made { IfOk result (λ made. made.value.cache ≡ cache) }
+    ensures memory { IsOkUnless result CacheError.Memory }
+{
     match Box::new(alloc, Held { cache }) {
         Ok(made) => Ok(made),
         Err(_) => Err(CacheError::Memory),

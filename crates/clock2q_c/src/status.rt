@@ -1,18 +1,18 @@
-//! The numbers that a constructor answers with.
+//! The status numbers that a constructor returns.
 ghost use Rattle.std.specs.Prelude.{◌≡◌, ◌≢◌, ◌↔◌};
 
 use clock2q_cache::CacheError;
 
-/// There is a cache now.
+/// The cache was made.
 pub const DONE: u32 = 0;
-/// A request for memory was refused, and nothing is kept of what was taken.
+/// A request for memory was refused, and what was taken is given back.
 pub const NO_MEMORY: u32 = 1;
 /// The capacity is 0 or above 16,777,215.
 pub const BAD_CAPACITY: u32 = 2;
 /// The shares leave Main no slot, or don't fit together.
 pub const BAD_POLICY: u32 = 3;
 
-/// Returns the number of a refusal.
+/// Returns the status of a refusal.
 pub(crate) fn status_of(refusal: CacheError) -> u32
     ensures refused { result ≢ DONE }
     ensures memory { (result ≡ NO_MEMORY) ↔ (refusal ≡ CacheError.Memory) }

@@ -1,22 +1,22 @@
 //! The exports, called as C calls them.
 ghost use Rattle.std.specs.Prelude.{◌≡◌, ◌≢◌, ◌↔◌, IsSome, None};
 
-use crate::calls::Place;
+use crate::calls::{Found, Place};
 use crate::handle::Handle;
 use crate::{
     BAD_CAPACITY, BAD_POLICY, DONE, clock2q_at, clock2q_capacity, clock2q_clear, clock2q_contains,
-    clock2q_enter, clock2q_find, clock2q_len, clock2q_new, clock2q_release, clock2q_remove,
+    clock2q_enter_key, clock2q_find_key, clock2q_len, clock2q_new, clock2q_release, clock2q_remove,
     clock2q_with_policy,
 };
 use std::alloc::Global;
 use std::test::Fail;
 
-fn nowhere() -> Place {
-    Place {
-        slot: 0,
-        last: 0,
-        has_last: false,
-    }
+fn told(place: Place) -> (usize, usize, bool) {
+    (place.slot, place.last, place.has_last)
+}
+
+fn found(found: Found) -> (usize, bool) {
+    (found.slot, found.is_found)
 }
 
 #[test]
@@ -27,27 +27,20 @@ fn keys_in_two_slots(rt: HostRuntime) -> Result<(), Fail> {
         handle.discard();
         return Err("no memory".into());
     }
-    let mut place = nowhere();
-    let mut slot = 9;
-    clock2q_enter(alloc, &mut handle, 70, &mut place);
-    assert_eq!(rt; (place.slot, place.has_last), (0, false));
-    clock2q_enter(alloc, &mut handle, 80, &mut place);
-    assert_eq!(rt; (place.slot, place.has_last), (1, false));
-    clock2q_enter(alloc, &mut handle, 90, &mut place);
-    assert_eq!(rt; (place.slot, place.last, place.has_last), (0, 70, true));
-    assert!(rt; !clock2q_find(alloc, &mut handle, 70, &mut slot));
-    assert_eq!(rt; slot, 9);
-    assert!(rt; clock2q_find(alloc, &mut handle, 80, &mut slot));
-    assert_eq!(rt; slot, 1);
-    assert!(rt; clock2q_at(alloc, &mut handle, 0, 90));
-    assert!(rt; !clock2q_at(alloc, &mut handle, 1, 90));
-    assert!(rt; clock2q_contains(alloc, &mut handle, 90));
-    assert!(rt; clock2q_remove(alloc, &mut handle, 90));
-    assert!(rt; !clock2q_contains(alloc, &mut handle, 90));
-    assert_eq!(rt; clock2q_len(alloc, &mut handle), 1);
-    clock2q_clear(alloc, &mut handle);
-    assert_eq!(rt; clock2q_len(alloc, &mut handle), 0);
-    assert_eq!(rt; clock2q_capacity(alloc, &mut handle), 2);
+    assert_eq!(rt; told(clock2q_enter_key(&mut handle, 70)), (0, 0, false));
+    assert_eq!(rt; told(clock2q_enter_key(&mut handle, 80)), (1, 0, false));
+    assert_eq!(rt; told(clock2q_enter_key(&mut handle, 90)), (0, 70, true));
+    assert_eq!(rt; found(clock2q_find_key(&mut handle, 70)), (0, false));
+    assert_eq!(rt; found(clock2q_find_key(&mut handle, 80)), (1, true));
+    assert!(rt; clock2q_at(&mut handle, 0, 90));
+    assert!(rt; !clock2q_at(&mut handle, 1, 90));
+    assert!(rt; clock2q_contains(&mut handle, 90));
+    assert!(rt; clock2q_remove(&mut handle, 90));
+    assert!(rt; !clock2q_contains(&mut handle, 90));
+    assert_eq!(rt; clock2q_len(&mut handle), 1);
+    clock2q_clear(&mut handle);
+    assert_eq!(rt; clock2q_len(&mut handle), 0);
+    assert_eq!(rt; clock2q_capacity(&mut handle), 2);
     clock2q_release(handle);
     Ok(())
 }
@@ -70,7 +63,7 @@ fn refused_caches(rt: HostRuntime) -> Result<(), Fail> {
     Ok(())
 }
 
-/// Lets go of what a constructor made, and returns the constructor's answer.
+/// Frees what a constructor made, and returns the constructor's status.
 fn let_go(handle: Handle, status: u32) -> u32
     requires holds { IsSome handle.cache ↔ (status ≡ DONE) }
     requires refused { status ≢ DONE → handle.cache ≡ None }

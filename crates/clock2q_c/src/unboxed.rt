@@ -25,7 +25,7 @@ impl<T: Drop, A: Allocator> Unboxed<T, A> {
         Unboxed { pointer, alloc }
     }
 
-    /// Makes the box again.
+    /// Puts the box together again.
     pub(crate) fn into_box(self) -> Box<T, A>
         ensures { result.value ≡ self.value }
     {

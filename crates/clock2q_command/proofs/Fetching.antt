@@ -1,4 +1,4 @@
--- A key that is fetched with a value that stands in a command.
+-- A key that is fetched with a value from a command.
 use Rattle.std.proofs.Common.{arith, ◌≡◌, ◌+◌, ℕ, Bool, Option, Some, None, Result, Err, OnErr, length, inl, inr, refl, sym, ap, ◌∙◌, subst}
 use Rattle.std.specs.Prelude.{if◌then◌else◌, IfNone, is_some, slice_get}
 use Rattle.std.specs.Option.{UnwrapsOrElse, option_and_then}
@@ -16,7 +16,7 @@ use Rattle.clock2q_machine.specs.Machine.{Machine, slot_of, value_of, hit, inser
 use Rattle.clock2q_machine.specs.Steps.{fetched, fetched_value, tried, tried_value, slotted, slotted_at}
 use Rattle.clock2q_machine.proofs.Residents.{hit-absent}
 
--- what holds at an error or at `None` holds where there is one
+-- what holds for an error or for `None` holds if there is one
 pub at_err : {T E : Type 0} {P : Type 0} (r : Result T E) (e : E) → r ≡ Err e → OnErr r P → P
 at_err {P = P} r e is h = subst (λ r. OnErr r P) is h
 
@@ -36,7 +36,7 @@ module _ {K V : Type 0} (is : K → Bool) (key : K) (m : Machine K V) where
     becomes_fetched None e h = ap (λ w. fetched is key w m) (gives v h)
     becomes_fetched (Some slot) e h = fetched-resident slot v e ∙ sym (fetched-resident slot value e)
 
-    -- the value is the one given, where a new one was made
+    -- the value is the given one, if a new one was made
     pub fetched-given : UnwrapsOrElse (value_of is m) made v → (v ≡ fetched_value (value_of is m) value) × (fetched is key v m ≡ fetched is key value m)
     fetched-given h = (is_fetched (value_of is m) h, becomes_fetched (slot_of is m) refl h)
 
@@ -53,15 +53,15 @@ module _ {K V : Type 0} (is : K → Bool) (key : K) (m : Machine K V) where
     becomes_tried None e h = subst (λ o. fetched is key v m ≡ tried is key o m) (sym (gives v h)) refl
     becomes_tried (Some slot) e h = tried-resident slot offered e
 
-    -- the same where one may be offered
+    -- the same if one may be offered
     pub tried-given : UnwrapsOrElse (value_of is m) made v → (Some v ≡ tried_value (value_of is m) offered) × (fetched is key v m ≡ tried is key offered m)
     tried-given h = (is_tried (value_of is m) h, becomes_tried (slot_of is m) refl h)
 
-  -- and where none is offered for a key that isn't resident
+  -- and if none is offered for a key that isn't resident
   pub untried : slot_of is m ≡ None → (None ≡ tried_value (value_of is m) None) × (m ≡ tried is key None m)
   untried absent = (sym (ap (λ o. tried_value (option_and_then (slice_get m.values) o) None) absent), sym (hit-absent is m absent))
 
--- what a put of a key costs, a call costs that offers a value or finds the key
+-- a call that offers a value or finds the key costs what a put of the key costs
 module _ {K V S H : Type 0} (key : HashMembers K) (build : builder.Ghosts S H) (hash : hasher.Ghosts H) (k : K) (v : V) (old new : CacheState K V S) (spent : Costs key build hash (Put k v) old new) where
   resident_costs : (slot : ℕ) (o : Option V) → slot_of (key.eq k) old.machine ≡ Some slot → Costs key build hash (Try k o) old new
   resident_costs slot None e =
@@ -85,7 +85,7 @@ module _ {K V S H : Type 0} (key : HashMembers K) (build : builder.Ghosts S H) (
     pub tried-costs : UnwrapsOrElse (value_of (key.eq k) old.machine) made v → Costs key build hash (Try k offered) old new
     tried-costs h = costs_tried (slot_of (key.eq k) old.machine) refl h
 
--- a key's slot is asked for with a value that stands in a command
+-- a key's slot is asked for with a value from a command
 module _ {K V : Type 0} (is : K → Bool) (key : K) (m : Machine K V) (made : V → Type 0) (v : V) (value : V) (gives : (w : V) → made w → w ≡ value) where
   is_slotted : (had : Option V) → UnwrapsOrElse had made v → v ≡ fetched_value had value
   is_slotted None h = gives v h
@@ -103,6 +103,6 @@ module _ {K V : Type 0} (is : K → Bool) (key : K) (m : Machine K V) (made : V 
   becomes_slotted None e h = ap (λ o. if is_some o then hit is m else reused is key v m) e ∙ becomes_reused h ∙ sym (ap (λ o. if is_some o then hit is m else reused is key value m) e)
   becomes_slotted (Some slot) e h = ap (λ o. if is_some o then hit is m else reused is key v m) e ∙ sym (ap (λ o. if is_some o then hit is m else reused is key value m) e)
 
-  -- the value is the slot's own, or the one given where the slot was made
+  -- the value is the slot's own, or the given one if the slot was made
   pub slotted-given : (slot : ℕ) → slot ≡ slotted_at (slot_of is m) is key m → UnwrapsOrElse (slice_get m.values slot) made v → (v ≡ fetched_value (slice_get m.values slot) value) × (slotted is key v m ≡ slotted is key value m)
   slotted-given slot at h = (is_slotted (slice_get m.values slot) h, becomes_slotted (slot_of is m) refl (subst (λ s. UnwrapsOrElse (slice_get m.values s) made v) at h))

@@ -1,4 +1,4 @@
--- A closure that goes through a list gives a cache what the list itself stands for.
+-- A closure that goes through a list gives a cache the elements of the list in turn.
 use Rattle.std.proofs.Common.{◌≡◌, ℕ, suc, ◌-◌, ◌<◌, Bool, true, false, List, [], ◌∷◌, map, length, drop, get_or, Bor, refl, sym, ap, ◌∙◌, arith}
 use Rattle.std.specs.Fn.{Mut, Called}
 use Rattle.std.specs.List.{FoldsTo}
@@ -16,7 +16,7 @@ refused-first bits [] slot slots h = h
 refused-first bits (true ∷ given) slot slots h = h
 refused-first bits (false ∷ given) slot slots h = ap (λ z. slot ∷ z) h
 
--- bits: the next one of those left, and true when none is
+-- bits: the next one of those left, and true if none is left
 module _ {F K V : Type 0} (g : Mut F (Bor K × (Bor V × Unit {0})) Bool) (left : F → List Bool) where
   abbrev pub GivesBits : Type 0
   GivesBits = (f : F) (key : Bor K) (value : Bor V) (b : Bool) (f' : F) → Called g f (key, (value, tt)) b f' → (b ≡ get_or (left f) 0 true) × (left f' ≡ drop 1 (left f))
@@ -37,9 +37,9 @@ module _ {F K V : Type 0} (g : Mut F (Bor K × (Bor V × Unit {0})) Bool) (left 
   retained-given gives f old new h = h.becomes
       ∙ ap (λ z. vacated_all z old) (refused-given gives old.values h.bits (by_slot old) f h.last h.as_many h.asked)
 
--- values: the next one of those left, and the last one when none is
+-- values: the next one of those left, and the last one again if none is left
 module _ {V : Type 0} where
-  -- what is still to come, where the last one comes again
+  -- the values still to come; the last one repeats
   abbrev pending : List V → V → List V
   pending [] last = last ∷ []
   pending (v ∷ values) last = v ∷ values

@@ -1,4 +1,4 @@
--- A cache that is made with the shares of a script, or refused, and what it replies.
+-- A cache that is made with the shares of a script, or refused, and its replies.
 use Rattle.std.proofs.Common.{◌≡◌, ℕ, suc, ◌+◌, ◌/◌, ◌<◌, ◌≤◌, Bool, true, false, cond, ltb, max, List, Result, Ok, Err, refl, sym, subst, ap, ◌∙◌, arith, nat_eq, ⊎_elim, ◌⊎◌, inl, inr}
 use Rattle.std.specs.Prelude.{◌↔◌, ◌≢◌, IfOk, IfErr, IsErrOf}
 use Rattle.std.proofs.lemmas.Bool.{cases_lt, ltb-true}
@@ -18,11 +18,11 @@ use Rattle.clock2q_text.specs.Text.{output_of}
 abbrev most_keys : ℕ
 most_keys = 16777215
 
--- where more would be refused, and isn't, there's no more
+-- if more keys would be refused, but aren't, there are no more
 within : (n : ℕ) (Refused : Type 0) → (most_keys < n → Refused) → (Refused → ⊥) → n < suc most_keys
 within n Refused refuses h = ⊎_elim (λ less. less) (λ more. absurd (h (refuses (omega arith)))) (cases_lt n (suc most_keys))
 
--- the usual shares can be had together
+-- the usual shares fit together
 usual_policy : (n small : ℕ) → 0 < n → small ≡ usual_small n → IsPolicy (record { capacity = n; small = small; window = (small + 1) / 2 })
 usual_policy n small some is = record {
   below = below (ltb 1 n) refl (is);
@@ -36,7 +36,7 @@ usual_policy n small some is = record {
 pub IsPolicy-usual : (n : ℕ) → 0 < n → IsPolicy (usual_shares n)
 IsPolicy-usual n some = usual_policy n (usual_small n) some refl
 
--- shares can be had together, or they can't
+-- shares fit together, or they don't
 policy_cases : (shares : Shares) → IsPolicy shares ⊎ (IsPolicy shares → ⊥)
 policy_cases shares = ⊎_elim (λ below. ⊎_elim (λ longer. inr (λ p. omega (arith, longer, p.within))) (λ short. windowed below short (cases_lt 0 shares.window)) (cases_lt shares.small shares.window)) (λ above. inr (λ p. omega (arith, above, p.below))) (cases_lt shares.small shares.capacity) where
   small : shares.small < shares.capacity → shares.window ≤ shares.small → shares.window ≤ 0 → (0 < shares.small) ⊎ (shares.small ≤ 0) → IsPolicy shares ⊎ (IsPolicy shares → ⊥)
@@ -48,14 +48,14 @@ policy_cases shares = ⊎_elim (λ below. ⊎_elim (λ longer. inr (λ p. omega 
   windowed below short (inr none) = small below short none (cases_lt 0 shares.small)
 
 module _ {X K V : Type 0} (machine : X → Machine K V) where
-  -- a cache that `new` made, or refused
+  -- a cache that `new` made or refused
   pub Makes-usual : (n : ℕ) (r : Result X CacheError) → 0 < n → IfOk r (λ cache. machine cache ≡ empty (usual_shares n)) → IsErrOf r Capacity ↔ (most_keys < n) → r ≢ Err Policy → Makes (usual_shares n) machine r
   Makes-usual n (Ok cache) some made capacity policy = ((within n _ capacity.1 (λ e. cc), IsPolicy-usual n some), made)
   Makes-usual n (Err Memory) some made capacity policy = (within n _ capacity.1 (λ e. cc), IsPolicy-usual n some)
   Makes-usual n (Err Capacity) some made capacity policy = λ less. let more : most_keys < n = capacity.0 refl in omega (arith, less, more)
   Makes-usual n (Err Policy) some made capacity policy = absurd (policy refl)
 
-  -- one that `with_policy` did
+  -- one that `with_policy` made or refused
   pub Makes-chosen : (shares : Shares) (r : Result X CacheError) → IfOk r (λ cache. machine cache ≡ empty shares) → IsErrOf r Capacity ↔ (most_keys < shares.capacity) → IsErrOf r Policy ↔ ((shares.capacity ≤ most_keys) × (IsPolicy shares → ⊥)) → Makes shares machine r
   Makes-chosen shares (Ok cache) made capacity policy =
       let few : shares.capacity < suc most_keys = within shares.capacity _ capacity.1 (λ e. cc) in

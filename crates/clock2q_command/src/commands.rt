@@ -18,8 +18,8 @@ use std::hash::{BuildHasher, Hash};
 ///
 /// # Errors
 ///
-/// `Memory` if the list of replies can't be reserved. That is done first: no command has run,
-/// and the cache is as it was.
+/// `Memory` if the list of replies can't be reserved. It is reserved first, so no command has run,
+/// and the cache is unchanged.
 ///
 /// # Cost
 ///
@@ -52,7 +52,7 @@ where
     Ok(replies)
 }
 
-/// Makes the call that a command stands for.
+/// Makes the call that a command describes.
 fn execute<K, V, S, A>(cache: &mut Cache<K, V, S, A>, command: Command<K, V, A>) -> Reply<V>
 where
     K: Hash + Eq + Default + Drop,
@@ -67,7 +67,7 @@ where
     ensures indexed { IsIndexed K.Hash S.BuildHasher S.Hasher.Hasher cache.old }
     ensures spacious { IsSpacious cache.old }
 {
-    let _ = cache.len(); // whose contract says what the index has, and in how many slots
+    let _ = cache.len(); // its contract says what the index contains, and in how many slots
     match command {
         Command::Put(key, value) => Reply::Value(cache.put(key, value)),
         Command::Get(key) => Reply::Value(cache.get(&key).copied()),
@@ -100,7 +100,7 @@ where
     }
 }
 
-/// Replaces the value of a resident key, and returns the value before.
+/// Replaces the value of a resident key, and returns the previous value.
 fn set<K, V, S, A>(cache: &mut Cache<K, V, S, A>, key: &K, value: V) -> Option<V>
 where
     K: Hash + Eq,
@@ -151,8 +151,8 @@ where
     }
 }
 
-/// Returns the slot of a key and the value there, after the key was inserted if it wasn't resident.
-/// A new slot gets this value.
+/// Returns the slot of a key and the value there, after inserting the key if it isn't resident. A
+/// new slot gets this value.
 fn take_slot<K, V, S, A>(cache: &mut Cache<K, V, S, A>, key: K, value: V) -> (usize, V)
 where
     K: Hash + Eq + Drop,
@@ -196,7 +196,7 @@ where
     );
 }
 
-/// Gives the slots that have no value yet these values, the last one again and again.
+/// Gives the slots that have no value yet these values, repeating the last one.
 fn prefill<K, V, S, A>(cache: &mut Cache<K, V, S, A>, values: &[V])
 where
     K: Hash + Eq + Default,

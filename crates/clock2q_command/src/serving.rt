@@ -4,34 +4,32 @@ ghost use Rattle.clock2q_machine.specs.Steps.{answers};
 ghost use Rattle.clock2q_text.specs.Commands.{call_of, AreSupplied};
 ghost use Rattle.clock2q_text.specs.Parsing.{shares_value, script_value};
 ghost use Rattle.clock2q_text.specs.Text.{output_of};
-ghost use Rattle.clock2q_command.specs.Serve.{Answers, Sends, Makes, RepliesTo, IsServed, IsRefused, refusal_of};
+ghost use Rattle.clock2q_command.specs.Serve.{Answers, Makes, RepliesTo, IsServed, IsRefused, refusal_of};
 
 use crate::commands::run;
 use clock2q_cache::{Cache, CacheError, DefaultHashBuilder};
-use clock2q_text::{
-    ChosenShares, Command, Script, ServeError, Sink, Source, parse, read_all, reply_text, write_all,
-};
+use clock2q_ports::{Sink, Source, read_all, send};
+use clock2q_text::{ChosenShares, Command, Script, ServeError, parse, reply_text};
 use std::alloc::Allocator;
+use std::hash::BuildHasher;
 use std::num::NonZeroUsize;
 
 /// Makes the cache that a first line asks for.
-fn new_cache<A: Allocator>(
+fn new_cache<S: BuildHasher + Drop, A: Allocator>(
     alloc: &A,
     capacity: NonZeroUsize,
     chosen: Option<ChosenShares>,
-) -> Result<Cache<u64, u64, DefaultHashBuilder, &A>, CacheError>
+    hasher: S,
+) -> Result<Cache<u64, u64, S, &A>, CacheError>
     ensures { Makes (shares_value capacity chosen) (λ cache. cache.machine) result }
 {
     match chosen {
-        None => Cache::new(alloc, capacity),
-        Some(chosen) => {
-            let hasher = DefaultHashBuilder::new();
-            Cache::with_policy(alloc, capacity, chosen.small, chosen.window, hasher)
-        }
+        None => Cache::with_hasher(alloc, capacity, hasher),
+        Some(chosen) => { Cache::with_policy(alloc, capacity, chosen.small, chosen.window, hasher) }
     }
 }
 
-/// Returns a cache's refusal as that of the program.
+/// Returns the program's refusal for a cache's.
 fn refusal(error: CacheError) -> ServeError
     ensures { result ≡ refusal_of error }
 {
@@ -43,9 +41,10 @@ fn refusal(error: CacheError) -> ServeError
 }
 
 /// Returns the text of a new cache's replies to a script.
-fn reply_to<'a, A: Allocator>(
+fn reply_to<'a, S: BuildHasher + Drop, A: Allocator>(
     alloc: &'a A,
     script: Script<&'a A>,
+    hasher: S,
 ) -> Result<Vec<u8, &'a A>, ServeError>
     requires { AreSupplied (map call_of script.commands.items) }
     ensures { RepliesTo (script_value (shares_value script.entry.capacity script.entry.chosen) script.entry.commands.items)
@@ -56,16 +55,16 @@ fn reply_to<'a, A: Allocator>(
         chosen,
         commands,
     } = script;
-    match new_cache(alloc, capacity, chosen) {
+    match new_cache(alloc, capacity, chosen, hasher) {
         Ok(mut cache) => reply_with(alloc, &mut cache, commands),
         Err(error) => Err(refusal(error)),
     }
 }
 
 /// Returns the text of a cache's replies to commands.
-fn reply_with<'a, A: Allocator>(
+fn reply_with<'a, S: BuildHasher, A: Allocator>(
     alloc: &'a A,
-    cache: &mut Cache<u64, u64, DefaultHashBuilder, &'a A>,
+    cache: &mut Cache<u64, u64, S, &'a A>,
     commands: Vec<Command<u64, u64, &'a A>, &'a A>,
 ) -> Result<Vec<u8, &'a A>, ServeError>
     requires { AreSupplied (map call_of commands.items) }
@@ -79,34 +78,23 @@ fn reply_with<'a, A: Allocator>(
 }
 
 /// Returns the text of the replies to all that a source gives.
-fn answer<'a, R: Source, A: Allocator>(
+fn answer<'a, R: Source, S: BuildHasher + Drop, A: Allocator>(
     alloc: &'a A,
     reader: &mut R,
+    hasher: S,
 ) -> Result<Vec<u8, &'a A>, ServeError>
     ensures { Answers (R.given reader.old) (R.given reader.new)
         (R.remaining reader.old) (R.remaining reader.new) (λ text. text.items) result }
 {
     let input = read_all(alloc, reader)?;
     let script = parse(alloc, &input)?;
-    reply_to(alloc, script)
-}
-
-/// Writes a whole text and sends it on.
-fn send<W: Sink>(writer: &mut W, text: &[u8]) -> Result<(), ServeError>
-    ensures { Sends (W.taken writer.old) (W.taken writer.new)
-        (W.contents writer.old) (W.contents writer.new) text.now result }
-{
-    write_all(writer, text)?;
-    match writer.flush() {
-        Ok(()) => Ok(()),
-        Err(_) => Err(ServeError::Write),
-    }
+    reply_to(alloc, script, hasher)
 }
 
 /// Reads a command text to its end, runs its commands on a new cache, and writes the replies.
 ///
 /// All lines are read before the cache is made, and the text of all replies is made before any of
-/// it is written. No failed read, write or flush is tried again.
+/// it is written. A failed read, write or flush isn't retried.
 ///
 /// # Errors
 ///
@@ -118,31 +106,34 @@ fn send<W: Sink>(writer: &mut W, text: &[u8]) -> Result<(), ServeError>
 /// 4. `Policy` if its shares don't fit together;
 /// 5. `Write` if a write or the flush fails.
 ///
-/// `Memory` comes if a request for memory is refused: while the input is read, or later if its
-/// first two lines are good. After `Write` a beginning of the text may be written, and nothing
-/// after the others.
+/// `Memory` is returned if a request for memory is refused: while the input is read, or later if
+/// its first two lines are good. After `Write` a prefix of the text may have been written; after
+/// the others nothing.
 ///
 /// # Cost
 ///
 /// Memory in proportion to the input, the capacity and the replies. Reading, parsing and writing
-/// take time in proportion to the text.
+/// take time in proportion to the text. The hasher's seed is fixed ([`DefaultHashBuilder`]), so a
+/// text can have keys that collide, which makes its calls slow: if strangers write the text, use
+/// [`serve_with`].
 pub fn serve<R: Source, W: Sink, A: Allocator>(
     alloc: A,
     reader: &mut R,
     writer: &mut W,
 ) -> Result<(), ServeError>
     // The whole input was read, it is a script, and exactly the text of its replies was written
-    // and sent on.
+    // and flushed.
     ensures ok { OnOk result (IsServed
         (R.given reader.old) (R.given reader.new) (R.remaining reader.old) (R.remaining reader.new)
         (W.taken writer.old) (W.taken writer.new) (W.contents writer.old) (W.contents writer.new)) }
 
-    // What each refusal says: of the input before a text was made, and of what was written after.
+    // What each refusal means: for the input before a text was made, and for what was written
+    // after.
     ensures err { IfErr result (IsRefused
         (R.given reader.old) (R.given reader.new) (R.remaining reader.old) (R.remaining reader.new)
         (W.taken writer.old) (W.taken writer.new) (W.contents writer.old) (W.contents writer.new)) }
 
-    // A device that failed is always told, and no other is.
+    // A failed device is always reported, and no other is.
     ensures read { IsErrOf result ServeError.Read
         ↔ ((R.given reader.old).failures < (R.given reader.new).failures) }
     ensures write { IsErrOf result ServeError.Write
@@ -151,6 +142,40 @@ pub fn serve<R: Source, W: Sink, A: Allocator>(
     // Nothing is written before any other refusal.
     ensures unwritten { IfErr result (λ refusal. (refusal ≢ ServeError.Write) → writer.new ≡ writer.old) }
 {
-    let text = answer(&alloc, reader)?;
-    send(writer, &text)
+    serve_with(alloc, reader, writer, DefaultHashBuilder::new())
+}
+
+/// Does what [`serve`] does, with the caller's hasher: use a `RandomState` if strangers write the
+/// text. Replies and refusals don't depend on it.
+///
+/// # Errors
+///
+/// Those of [`serve`].
+///
+/// # Cost
+///
+/// That of [`serve`].
+pub fn serve_with<R: Source, W: Sink, S: BuildHasher + Drop, A: Allocator>(
+    alloc: A,
+    reader: &mut R,
+    writer: &mut W,
+    hasher: S,
+) -> Result<(), ServeError>
+    ensures ok { OnOk result (IsServed
+        (R.given reader.old) (R.given reader.new) (R.remaining reader.old) (R.remaining reader.new)
+        (W.taken writer.old) (W.taken writer.new) (W.contents writer.old) (W.contents writer.new)) }
+    ensures err { IfErr result (IsRefused
+        (R.given reader.old) (R.given reader.new) (R.remaining reader.old) (R.remaining reader.new)
+        (W.taken writer.old) (W.taken writer.new) (W.contents writer.old) (W.contents writer.new)) }
+    ensures read { IsErrOf result ServeError.Read
+        ↔ ((R.given reader.old).failures < (R.given reader.new).failures) }
+    ensures write { IsErrOf result ServeError.Write
+        ↔ ((W.taken writer.old).failures < (W.taken writer.new).failures) }
+    ensures unwritten { IfErr result (λ refusal. (refusal ≢ ServeError.Write) → writer.new ≡ writer.old) }
+{
+    let text = answer(&alloc, reader, hasher)?;
+    match send(writer, &text) {
+        Ok(()) => Ok(()),
+        Err(_) => Err(ServeError::Write),
+    }
 }

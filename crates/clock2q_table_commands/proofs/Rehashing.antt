@@ -1,4 +1,4 @@
--- Each handle stands under its hash again after any command.
+-- Each handle is under its hash again after any command.
 use Rattle.std.proofs.Common.{◌≡◌, ℕ, zero, suc, ◌+◌, ◌%◌, ◌<◌, ◌⊎◌, inl, inr, refl, sym, ap, ◌∙◌, subst, arith, Bool, true, false, cond, nat_le, List, [], ◌∷◌, ◌++◌, take, length, get_or, set, replicate, Option, Some, None, slice_get}
 use Rattle.std.specs.declared.vec.Vec.{Vec}
 use Rattle.std.proofs.lemmas.List.{length-replicate, take_more}
@@ -29,7 +29,7 @@ module _ {E : Type 0} where
   none_in (suc n) (suc m) x is = none_in n m x is
 
 module _ {E : Type 0} where
-  -- what stands in a slot stood there or was put in
+  -- an entry in a slot was there before or was put in
   put_from-from : (es : List E) (slots : List (Option (Placed E))) (n d m : ℕ) (s : Placed E) → get_or (put_from slots n d es) m None ≡ Some s → (get_or slots m None ≡ Some s) ⊎ ((i : ℕ) × (slice_get es i ≡ Some s.entry))
   put_from-from [] slots n d m s is = inl is
   put_from-from (e ∷ es) slots n d m s is = elim (put_from-from es (set slots (n % length slots) (Some (placed d e))) (suc n) (suc d) m s is) [
@@ -113,14 +113,14 @@ module _ {H : Type 0} (A : Type 0) (eq : H → H → Bool) (key : H → ℕ) whe
   hashes-replied (Get x) old (Refused Memory) new r hashes = kept _ new r hashes
   hashes-replied (Get x) old (Refused Size) new r hashes = absurd r
 
-  -- one command more at the end
+  -- one more command at the end
   pub AreReplied-more : (commands : List (TableCommand H (Vec H A))) (replies : List (TableReply H (Vec H A))) (command : TableCommand H (Vec H A)) (reply : TableReply H (Vec H A)) (old mid new : List (List (ℕ × H))) → AreReplied eq key commands old replies mid → IsReplied eq key command mid reply new → AreReplied eq key (commands ++ command ∷ []) old (replies ++ reply ∷ []) new
   AreReplied-more [] [] command reply old mid new all one = (new, subst (λ m. IsReplied eq key command m reply new) all one, refl)
   AreReplied-more [] (r ∷ replies) command reply old mid new all one = absurd all
   AreReplied-more (c ∷ commands) [] command reply old mid new all one = absurd all
   AreReplied-more (c ∷ commands) (r ∷ replies) command reply old mid new all one = (all.0, all.1, AreReplied-more commands replies command reply all.0 mid new all.2 one)
 
-  -- the same, where the commands are those at the front of a list
+  -- the same, if the commands are those at the front of a list
   pub AreReplied-taken : (commands : List (TableCommand H (Vec H A))) (i : ℕ) (command d : TableCommand H (Vec H A)) (replies : List (TableReply H (Vec H A))) (reply : TableReply H (Vec H A)) (old mid new : List (List (ℕ × H))) → i < length commands → command ≡ get_or commands i d
       → AreReplied eq key (take i commands) old replies mid → IsReplied eq key command mid reply new → AreReplied eq key (take (i + 1) commands) old (replies ++ reply ∷ []) new
   AreReplied-taken commands i command d replies reply old mid new within is all one =

@@ -1,4 +1,4 @@
--- What a table's calls answer, as replies to commands.
+-- The results of a table's calls, as replies to commands.
 use Rattle.std.proofs.Common.{◌≡◌, ◌≢◌, ℕ, Bool, true, false, cond, List, [], ◌∷◌, Option, Some, None, Result, Ok, Err, refl, sym, ap, ◌∙◌, subst}
 use Rattle.std.specs.Prelude.{MatchBool, OnOk, OnErr}
 use Rattle.std.specs.Fn.{Called, Mut}
@@ -47,7 +47,7 @@ module _ {H : Type 0} (A : Type 0) (eq : H → H → Bool) (key : H → ℕ) whe
   Finds-settled old new v accepted None (Err Memory) is s = let e = s.0 in absurd (cc)
   Finds-settled old new v accepted None (Err Size) is s = let e = s.0 in absurd (cc)
 
-  -- where memory is refused, too
+  -- if memory is refused, too
   pub Finds-replied : (old new : List (List (ℕ × H))) (x : ℕ) (v : H) (accepted : List H) (result : Result (H × Bool) TableError) → x ≡ key v
       → (result ≢ Err Memory → (found : Option H) × (found ≡ first_accepted eq accepted (candidates (grown key old) x)) × Settles (grown key old) x v found result new)
       → (result ≡ Err Memory → IsFull old × (new ≡ old)) → Finds {A = A} eq key v accepted old (reply_of_found result) new
@@ -72,7 +72,7 @@ module _ {H : Type 0} (A : Type 0) (eq : H → H → Bool) (key : H → ℕ) whe
   Reserves-reserved g f old new n (Err Memory) ok err past size memory only gives = (ap (λ t. t.homes) err, memory refl)
   Reserves-reserved g f old new n (Err RunTooLong) ok err past size memory only gives = absurd (only refl)
 
--- the handles that a lookup yields up to its end are those that it has left
+-- the handles that a lookup yields up to its end are those that it had left
 pub left-drained : {H : Type 0} (handles : List H) (lookup : CandidatesValue H) → DrainsIf YieldsCandidate (Unit {0}) lookup handles → handles ≡ lookup.left
 left-drained [] lookup d = sym (ap (λ (l : CandidatesValue _). l.left) d.1 ∙ (d.2 tt).1.0.0)
 left-drained (h ∷ hs) lookup d = ap (λ hs. h ∷ hs) (left-drained hs d.1.0 (d.0, d.1.2, d.2)) ∙ sym d.1.1.0

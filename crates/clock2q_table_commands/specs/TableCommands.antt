@@ -1,4 +1,4 @@
--- Commands to a handle table: what each is replied to, and the lists that it leaves.
+-- Commands to a handle table: the reply to each, and the lists that it results in.
 use Rattle.std.specs.Prelude.{◌≡◌, ℕ, Bool, true, false, List, [], ◌∷◌, Option, Some, None, Result, Ok, Err}
 use Rattle.std.specs.List.{find, list_any}
 use Rattle.std.specs.declared.vec.Vec.{Vec}
@@ -12,7 +12,7 @@ use Rattle.clock2q_table_commands.specs.declared.table_commands.TableCommand.The
 use Rattle.clock2q_table_commands.specs.declared.table_commands.TableReply.{TableReply}
 use Rattle.clock2q_table_commands.specs.declared.table_commands.TableReply.TheVariants.{Done, Removed, Found, Handles, Refused}
 
--- a call on a handle answers its key alone, and that is a hash of each entry that holds the handle
+-- a call on a handle returns nothing but its key, and that is a hash of each entry that holds the handle
 pub record IsHashing {H : Type 0} (returns : H → ℕ → Type 0) (key : H → ℕ) (homes : List (List (ℕ × H))) : Type 0 where
   pub one : (handle : H) (hash : ℕ) → returns handle hash → hash ≡ key handle
   pub hashes : IsHashOf key homes
@@ -22,7 +22,7 @@ abbrev pub reply_of : {H L : Type 0} → Result (Unit {0}) TableError → TableR
 reply_of (Ok done) = Done
 reply_of (Err refusal) = Refused refusal
 
--- what a lookup with insertion answers, as a reply
+-- the result of a lookup with insertion, as a reply
 abbrev pub reply_of_found : {H L : Type 0} → Result (H × Bool) TableError → TableReply H L
 reply_of_found (Ok found) = Found found.0 found.1
 reply_of_found (Err refusal) = Refused refusal
@@ -32,7 +32,7 @@ abbrev pub first_accepted : {H : Type 0} → (H → H → Bool) → List H → L
 first_accepted eq accepted handles = find (λ h. list_any (λ a. eq a h) accepted) handles
 
 module _ {H A : Type 0} (eq : H → H → Bool) (key : H → ℕ) where
-  -- a full table grows, and v comes last in the home of its hash, where that makes no run too long
+  -- a full table grows, and v is last in the home of its hash, if that makes no run too long
   abbrev pub Inserts : H → List (List (ℕ × H)) → TableReply H (Vec H A) → List (List (ℕ × H)) → Type 0
   Inserts v old Done new = (new ≡ with_handle (grown key old) (key v) v) × (IsTooLong new → ⊥)
   Inserts v old (Refused RunTooLong) new = (new ≡ grown key old) × IsTooLong (with_handle (grown key old) (key v) v)
@@ -47,12 +47,12 @@ module _ {H A : Type 0} (eq : H → H → Bool) (key : H → ℕ) where
   Finds v accepted old (Refused Memory) new = (new ≡ old) × IsFull old
   Finds v accepted old reply new = ⊥
 
-  -- the first candidate of x that equals v goes, if there is one, and the reply says whether there was
+  -- the first candidate of x that equals v is removed, if there is one, and the reply says whether there was
   abbrev pub Removes : ℕ → H → List (List (ℕ × H)) → TableReply H (Vec H A) → List (List (ℕ × H)) → Type 0
   Removes x v old (Removed was) new = (was ≡ list_any (is_entry_of eq x v) (listed old x)) × (new ≡ removed eq old x v)
   Removes x v old reply new = ⊥
 
-  -- there is room for n entries more, where they can be counted
+  -- there is room for n more entries, if they can be counted
   abbrev pub Reserves : ℕ → List (List (ℕ × H)) → TableReply H (Vec H A) → List (List (ℕ × H)) → Type 0
   Reserves n old Done new = (new ≡ reserved key old n) × (IsPastSize old n → ⊥)
   Reserves n old (Refused Size) new = (new ≡ old) × IsPastSize old n
@@ -65,7 +65,7 @@ module _ {H A : Type 0} (eq : H → H → Bool) (key : H → ℕ) where
   Gets x old (Refused Memory) new = new ≡ old
   Gets x old reply new = ⊥
 
-  -- the reply to a command, and what it leaves
+  -- the reply to a command, and the lists that it results in
   abbrev pub IsReplied : TableCommand H (Vec H A) → List (List (ℕ × H)) → TableReply H (Vec H A) → List (List (ℕ × H)) → Type 0
   IsReplied (Insert v) = Inserts v
   IsReplied (Remove x v) = Removes x v
@@ -73,7 +73,7 @@ module _ {H A : Type 0} (eq : H → H → Bool) (key : H → ℕ) where
   IsReplied (Reserve n) = Reserves n
   IsReplied (Get x) = Gets x
 
-  -- the replies to commands, of which each begins with what the one before leaves
+  -- the replies to commands, each of which starts from the lists that the one before results in
   abbrev pub AreReplied : List (TableCommand H (Vec H A)) → List (List (ℕ × H)) → List (TableReply H (Vec H A)) → List (List (ℕ × H)) → Type 0
   AreReplied [] old [] new = new ≡ old
   AreReplied (command ∷ commands) old (reply ∷ replies) new = (next : List (List (ℕ × H))) × IsReplied command old reply next × AreReplied commands next replies new

@@ -1,5 +1,5 @@
-//! The calls of a handle table as data: [`run_table`] makes those that a list of [`TableCommand`]s
-//! stands for.
+//! The calls of a handle table as data: [`run_table`] makes the calls of a list of
+//! [`TableCommand`]s.
 #![tactic(auto)]
 
 mod table_commands;

@@ -22,16 +22,16 @@ pub enum TableCommand<H, L = Vec<H>> {
     Insert(H),
     /// Removes the first handle under this hash that equals this one. The reply is `Removed`.
     Remove(u64, H),
-    /// Finds the first handle of the list that stands under the hash of this one, or else inserts
-    /// this one. The reply is `Found`.
+    /// Finds the first candidate of this handle's hash that is in the list, or else inserts this
+    /// handle. The reply is `Found`.
     Find(H, L),
-    /// Makes room for so many more entries. The reply is `Done`.
+    /// Makes room for this number of further entries. The reply is `Done`.
     Reserve(usize),
     /// Looks up a hash. The reply is `Handles`.
     Get(u64),
 }
 
-/// The reply to a [`TableCommand`], which tells which of these it is. `L` is a list of handles. The
+/// The reply to a [`TableCommand`]; each command names its variant. `L` is a list of handles. The
 /// example at [`TableCommand`] has two.
 #[derive(Debug, Drop, PartialEq)]
 pub enum TableReply<H, L = Vec<H>> {
@@ -49,14 +49,14 @@ pub enum TableReply<H, L = Vec<H>> {
 
 /// Runs the commands in order, and returns one reply to each, in the same order.
 ///
-/// `hash_of` returns the hash of a handle. A command that is refused has the reply `Refused`, and
-/// the run goes on with the table as the refusal leaves it.
+/// `hash_of` returns the hash of a handle. A refused command has the reply `Refused`, and the run
+/// goes on with the table as the refusal leaves it.
 ///
 /// # Errors
 ///
-/// `Memory` if the list of replies can't be reserved. That is done first: no command has run,
-/// and the table is unchanged. Where there is no memory for the list of a lookup, that command
-/// alone is refused.
+/// `Memory` if the list of replies can't be reserved. That is done first: no command has run, and
+/// the table is unchanged. If there is no memory for the list of a lookup, only that command is
+/// refused.
 ///
 /// # Cost
 ///
@@ -77,7 +77,7 @@ where
     ensures replies { IfOk result (λ replies. (key : H → ℕ) → IsHashing (F.post hash_of) key table.old.homes →
         AreReplied H.PartialEq.eq key commands.now table.old.homes replies.items table.new.homes) }
 
-    // Each handle stands under its hash again, and the slots are the layout of the entries.
+    // Each handle is under its hash again, and the slots are the layout of the entries.
     ensures hashes { (key : H → ℕ) → IsHashing (F.post hash_of) key table.old.homes → IsHashing (F.post hash_of) key table.new.homes }
     ensures laid { IsLaidOut table.new }
     ensures memory { IfErr result (λ e. e ≡ TableError.Memory) }
@@ -93,7 +93,7 @@ where
     Ok(replies)
 }
 
-/// Makes the call that a command stands for.
+/// Makes the call of a command.
 fn execute<H, A, F>(
     alloc: A,
     table: &mut Table<H, A>,
@@ -179,7 +179,7 @@ where
     ))
 }
 
-/// Makes room for so many more entries.
+/// Makes room for `additional` more entries.
 fn reserve<H, A, F>(
     table: &mut Table<H, A>,
     hash_of: &F,

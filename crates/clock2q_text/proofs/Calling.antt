@@ -11,20 +11,20 @@ use Rattle.std.proofs.lemmas.Slice.Eq.{bytes_eq-Decides}
 use Rattle.clock2q_machine.specs.Calls.{Call, Put, Get, Peek, Contains, GetAt, Set, With, Try, SlotFor, Remove, Retain, Clear, Prefill, Len, IsEmpty, Capacity}
 use Rattle.clock2q_text.specs.Cut.{parts_after, words_after, number_first}
 use Rattle.clock2q_text.specs.Text.{words_of, number_of, tried_of, bit_of, some_read, with_one, with_two, numbers_call, list_call, lone_call, call_in}
-use Rattle.clock2q_text.proofs.Cutting.{parts_are_some}
+use Rattle.clock2q_ports.proofs.Lines.{parts_are_some}
 
--- a line's first word, and those of what a cut leaves
+-- a line's first word, and those of the rest after a cut
 pub words_of-cut : (line word : List ℕ) (after : Option (Bor (List ℕ))) → slice_split (λ b. eqb b 32) line ≡ word ∷ parts_after 32 after → words_of line ≡ word ∷ words_after after
 unfolding words_of
 words_of-cut line word None e = e
 words_of-cut line word (Some rest) e = e
 
--- the words of a line are never none
+-- a line has at least one word
 pub words_are_some : (line : List ℕ) → words_of line ≡ [] → ⊥
 unfolding words_of
 words_are_some line e = parts_are_some (λ b. eqb b 32) line e
 
--- an argument read, and then made something of
+-- an argument that is read and then mapped
 pub with_one-mapped : {X Y : Type 0} (read : List ℕ → Option Y) (make : Y → X) (words : List (List ℕ)) → with_one read make words ≡ option_map make (with_one read (λ y. y) words)
 with_one-mapped read make [] = refl
 with_one-mapped {Y = Y} read make (word ∷ []) = mapped (read word) where
@@ -33,7 +33,7 @@ with_one-mapped {Y = Y} read make (word ∷ []) = mapped (read word) where
   mapped (Some y) = refl
 with_one-mapped read make (word ∷ other ∷ words) = refl
 
--- the one word after a number was read
+-- a number that was read, if no word follows it
 abbrev pub last_number : ℕ × List (List ℕ) → Option ℕ
 last_number (n, []) = Some n
 last_number (n, word ∷ words) = None
@@ -76,7 +76,7 @@ same_word name text e = (bytes_eq-Decides name text).0 e
 abbrev pub tried : ℕ → Option ℕ → ℕ × Option ℕ
 tried n value = (n, value)
 
--- what the words after the number are
+-- the words after the number
 tried-after : (words : List (List ℕ)) (n : ℕ) (rest : List ℕ) → Some (n, words_of rest) ≡ number_first words → with_two tried_of tried words ≡ with_one tried_of (tried n) (words_of rest)
 tried-after words n rest e = with_two-first tried_of tried words ∙ ap (option_and_then (λ p. with_one tried_of (tried p.0) p.1)) (sym e)
 
@@ -104,7 +104,7 @@ tried-number words n rest e other = tried-after words n rest e ∙ told (words_o
       rw unlike (as_number (number_of word))
   told (word ∷ more ∷ others) is = refl
 
--- two arguments, and then made something of
+-- two arguments that are read and then mapped
 pub with_two-mapped : {X Y : Type 0} (read : List ℕ → Option Y) (make : ℕ → Y → X) (words : List (List ℕ))
     → with_two read make words ≡ option_map (λ (p : ℕ × Y). make p.0 p.1) (with_two read (λ n y. (n, y)) words)
 with_two-mapped read make [] = refl
@@ -227,7 +227,7 @@ or_none : (o : Option (Call ℕ ℕ)) → option_or o None ≡ o
 or_none None = refl
 or_none (Some call) = refl
 
--- what a name spells with other words, which aren't none
+-- what a name spells with other words, of which there is at least one
 pub call_in-list : (name : List ℕ) (words : List (List ℕ)) → (words ≡ [] → ⊥) → numbers_call name words ≡ None → call_in (name ∷ words) ≡ list_call name words
 unfolding call_in
 call_in-list name [] some e = absurd (some refl)

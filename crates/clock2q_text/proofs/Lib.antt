@@ -8,5 +8,4 @@ pub mod Sharing
 pub mod Spaced
 pub mod Spelling
 pub mod Supplying
-pub mod Transferring
 pub mod WorkedTexts

@@ -1,4 +1,4 @@
--- A list read one after another, where memory may run out on the way.
+-- A list read element by element; memory may run out on the way.
 use Rattle.std.proofs.Common.{◌≡◌, ℕ, Bool, true, false, cond, eqb, List, [], ◌∷◌, ◌++◌, length, Option, Some, None, refl, sym, ap, ◌∙◌, subst, append_assoc, append-nil, arith, rules}
 use Rattle.std.specs.Prelude.{IsSome}
 use Rattle.std.specs.List.{slice_split, onto_first}
@@ -17,7 +17,7 @@ module _ {Y : Type 0} where
   nothing_before None = refl
   nothing_before (Some ys) = refl
 
-  -- one more before
+  -- one more read before
   one_before : (front : List Y) (y : Y) (o : Option (List Y)) → read_before front (option_map (λ ys. y ∷ ys) o) ≡ read_before (front ++ y ∷ []) o
   one_before front y None = refl
   one_before front y (Some ys) = ap Some (sym (append_assoc front (y ∷ []) ys))
@@ -36,7 +36,7 @@ module _ {X Y : Type 0} where
   pub IsReadUpTo-begun : (read : X → Option Y) (whole : List X) → IsReadUpTo read whole whole false []
   IsReadUpTo-begun read whole = record { kept = λ e. nothing_before (all_read read whole); good = λ h. h; bad = λ h. h }
 
-  -- what is read of a list whose first is
+  -- what is read of a list whose first element is read
   read-first : (read : X → Option Y) (x : X) (xs : List X) (y : Y) → read x ≡ Some y → all_read read (x ∷ xs) ≡ option_map (λ ys. y ∷ ys) (all_read read xs)
   read-first read x xs y e = ap (option_and_then (λ z. option_map (λ ys. z ∷ ys) (all_read read xs))) e
 
@@ -66,12 +66,12 @@ module _ {X Y : Type 0} where
   some_read-all read [] h = absurd (h refl)
   some_read-all read (x ∷ xs) h = refl
 
--- nothing is read where the others aren't
+-- nothing is read if the others aren't
 nothing_after : (o : Option Bool) → option_and_then (λ y. option_map (λ ys. y ∷ ys) None) o ≡ None
 nothing_after None = refl
 nothing_after (Some y) = refl
 
--- a space is no bit
+-- a space isn't a bit
 bits-spaced : (bytes part other : List ℕ) (others : List (List ℕ)) → slice_split (λ b. eqb b 32) bytes ≡ part ∷ other ∷ others → all_read bit_of bytes ≡ None
 bits-spaced [] part other others e = cc
 bits-spaced (b ∷ bytes) part other others e = byte (eqb b 32) refl (λ p q qs s. bits-spaced bytes p q qs s) where
@@ -90,7 +90,7 @@ words-spaced : (text word other : List ℕ) (others : List (List ℕ)) → words
 unfolding words_of
 words-spaced text word other others e = bits-spaced text word other others e
 
--- the bits of the one word are those of the whole text
+-- the bits of the only word are those of the whole text
 pub bits-one : (text : List ℕ) → with_one (some_read bit_of) (λ bits. bits) (words_of text) ≡ some_read bit_of text
 bits-one text = one (words_of text) refl where
   same : (o : Option (List Bool)) → option_map (λ bits. bits) o ≡ o
@@ -106,7 +106,7 @@ bits-one text = one (words_of text) refl where
   one (word ∷ []) e = same (some_read bit_of word) ∙ ap (some_read bit_of) (word_alone text word e)
   one (word ∷ other ∷ others) e = none text (words-spaced text word other others e)
 
--- what `bits` returns: none, nothing for want of memory, or all
+-- what `bits` returns: none, an error for lack of memory, or all
 pub bits-none : (text : List ℕ) → all_read bit_of text ≡ None → with_one (some_read bit_of) (λ bits. bits) (words_of text) ≡ None
 bits-none [] e = bits-one []
 bits-none (b ∷ bytes) e = bits-one (b ∷ bytes) ∙ e

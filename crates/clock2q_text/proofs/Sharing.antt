@@ -9,7 +9,7 @@ use Rattle.clock2q_machine.specs.Policies.{shares_of}
 use Rattle.clock2q_text.specs.Cut.{number_first}
 use Rattle.clock2q_text.specs.Text.{number_of, all_read, with_one, with_two, shares_from, shares_in}
 
--- the words after `new`: not those, or none
+-- without `new` there are no shares; with it, those of the words after it
 pub shares_in-other : (name : List ℕ) (arguments : List (List ℕ)) → bytes_eq name (codes "new") ≡ false → shares_in (name ∷ arguments) ≡ None
 unfolding shares_in
 shares_in-other name arguments e = rw e refl
@@ -22,7 +22,7 @@ shares_in-new name arguments e = rw e refl
 abbrev pub Chosen : List (List ℕ) → Option Shares
 Chosen words = option_and_then shares_from (all_read number_of words)
 
--- a first number that isn't one
+-- a first word that isn't a number
 not_read : (o : Option ℕ) (others : List (List ℕ)) → option_map {U = ℕ × List (List ℕ)} (λ n. (n, others)) o ≡ None
     → option_and_then shares_from (option_and_then (λ y. option_map (λ ys. y ∷ ys) (all_read number_of others)) o) ≡ None
 not_read None others e = refl
@@ -46,7 +46,7 @@ read_first (word ∷ words) n others e = read (number_of word) e where
       let rest : words ≡ others = ap (λ (p : ℕ × List (List ℕ)). p.1) pairs in
       ap (λ ws. option_map (λ ns. m ∷ ns) (all_read number_of ws)) rest ∙ ap (λ k. option_map (λ ns. k ∷ ns) (all_read number_of others)) same
 
--- none where it is 0
+-- none if it is 0
 none_of_zero : (o : Option (List ℕ)) → option_and_then shares_from (option_map (λ ns. 0 ∷ ns) o) ≡ None
 none_of_zero None = refl
 none_of_zero (Some []) = refl

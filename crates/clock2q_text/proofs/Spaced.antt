@@ -10,24 +10,25 @@ use Rattle.std.specs.Str.Parse.{digits_value}
 use Rattle.std.proofs.lemmas.Bool.{ne_eqb, lt-ltb}
 use Rattle.clock2q_text.specs.Cut.{words_after, number_first}
 use Rattle.clock2q_text.specs.Text.{words_of, number_of}
-use Rattle.clock2q_text.proofs.Cutting.{parts_are_some}
-use Rattle.clock2q_text.proofs.Numbers.{number_of-empty, number_of-digits, number_of-other, other-at, large-more}
+use Rattle.clock2q_ports.proofs.Lines.{parts_are_some}
+use Rattle.clock2q_ports.proofs.Digits.{other-at}
+use Rattle.clock2q_text.proofs.Numbers.{number_of-empty, number_of-digits, number_of-other, large-more}
 
 abbrev is_space : ℕ → Bool
 is_space b = eqb b 32
 
--- a digit is no space
+-- a digit isn't a space
 digit_is_no_space : (b : ℕ) → is_ascii_digit b ≡ true → b ≡ 32 → ⊥
 digit_is_no_space b e space = not_digit (subst (λ x. is_ascii_digit x ≡ true) space e) where
   not_digit : is_ascii_digit 32 ≡ true → ⊥
   not_digit h = cc
 
--- the parts of a test's two sides
+-- both sides of a conjunction
 both : (a b : Bool) → a && b ≡ true → (a ≡ true) × (b ≡ true)
 both true b e = (refl, e)
 both false b e = cc
 
--- the parts where the first byte is no space
+-- the parts if the first byte isn't a space
 parts_on : (b : ℕ) (bytes : List ℕ) (parts : List (List ℕ)) → is_space b ≡ false → slice_split is_space bytes ≡ parts → slice_split is_space (b ∷ bytes) ≡ onto_first b parts
 parts_on b bytes parts other e = ap (λ t. cond t ([] ∷ slice_split is_space bytes) (onto_first b (slice_split is_space bytes))) other ∙ ap (onto_first b) e
 
@@ -38,14 +39,14 @@ split-digits (b ∷ front) rest e =
     let h = both (is_ascii_digit b) (all_ascii_digits front) e in
     parts_on b (front ++ 32 ∷ rest) (front ∷ slice_split is_space rest) (ne_eqb b 32 (digit_is_no_space b h.0)) (split-digits front rest h.1)
 
--- digits alone are the one word
+-- digits alone are the only word
 split-whole : (bytes : List ℕ) → all_ascii_digits bytes ≡ true → slice_split is_space bytes ≡ bytes ∷ []
 split-whole [] e = refl
 split-whole (b ∷ bytes) e =
     let h = both (is_ascii_digit b) (all_ascii_digits bytes) e in
     parts_on b bytes (bytes ∷ []) (ne_eqb b 32 (digit_is_no_space b h.0)) (split-whole bytes h.1)
 
--- the first word goes on over the byte at i, after the same bytes
+-- the first word extends over the byte at i, after the same bytes
 record GoesOver (bytes : List ℕ) (i : ℕ) : Type 0 where
   word : List ℕ
   others : List (List ℕ)
@@ -72,7 +73,7 @@ goes_over (b ∷ bytes) (suc i) h all other =
       byte = rest.byte;
     }
 
--- no number where the first word has another byte
+-- no number if the first word has another byte
 pub first-other : (words : List ℕ) (i : ℕ) → i < length words → all_ascii_digits (take i words) ≡ true
     → (get_or words i 0 ≡ 32 → ⊥) → is_ascii_digit (get_or words i 0) ≡ false → number_first (words_of words) ≡ None
 unfolding words_of
@@ -80,7 +81,7 @@ first-other words i h all unspaced other =
     let over = goes_over words i h all unspaced in
     ap number_first over.split ∙ ap (option_map (λ n. (n, over.others))) (number_of-other over.word (other-at over.word i over.longer (ap is_ascii_digit over.byte ∙ other)))
 
--- nor where it has a digit too many
+-- nor if it has a digit too many
 pub first-large : (words : List ℕ) (i : ℕ) → i < length words → all_ascii_digits (take i words) ≡ true → is_ascii_digit (get_or words i 0) ≡ true
     → 2 ^ 64 ≤ digits_value 10 (take i words) * 10 + (get_or words i 0 - 48) → number_first (words_of words) ≡ None
 unfolding words_of
@@ -89,7 +90,7 @@ first-large words i h all digit large =
     ap number_first over.split ∙ ap (option_map (λ n. (n, over.others))) (large-more over.word i over.longer (ap is_ascii_digit over.byte ∙ digit)
     (subst (λ xs. 2 ^ 64 ≤ digits_value 10 xs * 10 + (get_or over.word i 0 - 48)) (sym over.front) (subst (λ b. 2 ^ 64 ≤ digits_value 10 (take i words) * 10 + (b - 48)) (sym over.byte) large)))
 
--- digits as a number, where there is one
+-- digits as a number, if there is one
 number-of-some : (word : List ℕ) (value : ℕ) → all_ascii_digits word ≡ true → value ≡ digits_value 10 word → value < 2 ^ 64 → number_of word ≡ then_some (ltb 0 (length word)) value
 number-of-some [] value all e small = number_of-empty [] refl
 number-of-some (b ∷ word) value all e small = rw (lt-ltb 0 (length (b ∷ word)) (omega arith)) (number_of-digits (b ∷ word) (omega arith) all (omega (arith, e, small)) ∙ ap Some (sym e))
@@ -99,13 +100,13 @@ mapped : {X Y : Type 0} (f : X → Y) (b : Bool) (x : X) → option_map f (then_
 mapped f true x = refl
 mapped f false x = refl
 
--- a list round one of its elements
+-- a list split around one of its elements
 around : (xs : List ℕ) (i : ℕ) → i < length xs → xs ≡ take i xs ++ get_or xs i 0 ∷ drop (suc i) xs
 around [] i h = absurd (omega (arith, h))
 around (x ∷ xs) zero h = refl
 around (x ∷ xs) (suc i) h = ap (λ ys. x ∷ ys) (around xs i (omega (arith, h)))
 
--- the length of a beginning
+-- whether a prefix is empty
 test_begun : (xs : List ℕ) (i : ℕ) → i < length xs → ltb 0 (length (take i xs)) ≡ ltb 0 i
 test_begun [] i h = absurd (omega (arith, h))
 test_begun (x ∷ xs) zero h = refl
@@ -130,7 +131,7 @@ first-spaced words i value rest h all e small space r =
     ∙ mapped (λ n. (n, slice_split is_space rest.now)) (ltb 0 (length (take i words))) value
     ∙ ap (λ b. then_some b (value, slice_split is_space rest.now)) (test_begun words i h))
 
--- the number that is the one word
+-- the number that is the only word
 pub first-whole : (words : List ℕ) (value : ℕ) → all_ascii_digits words ≡ true → value ≡ digits_value 10 words
     → value < 2 ^ 64 → option_map read_as (then_some (not (eqb (length words) 0)) (value, None)) ≡ number_first (words_of words)
 unfolding words_of

@@ -1,4 +1,4 @@
--- The calls that lines spell, as a loop over the lines gathers them.
+-- The calls that lines spell, as a loop over the lines collects them.
 use Rattle.std.proofs.Common.{◌≡◌, ℕ, ◌+◌, ◌<◌, ◌≤◌, List, [], ◌∷◌, ◌++◌, Option, Some, None, Result, Ok, Err, refl, sym, ap, ◌∙◌, subst, append_assoc, arith}
 use Rattle.std.specs.Prelude.{IsSome}
 use Rattle.std.specs.Borrow.{Bor}
@@ -7,11 +7,12 @@ use Rattle.clock2q_machine.specs.Calls.{Call}
 use Rattle.clock2q_machine.specs.Shares.{Shares}
 use Rattle.clock2q_text.specs.Cut.{first_and_others}
 use Rattle.clock2q_text.specs.Parsing.{Refuses}
-use Rattle.clock2q_text.specs.Text.{lines_of, words_of, shares_in, call_in, call_then, with_call, calls_from, script_in, script_of, script_then, script_with}
+use Rattle.clock2q_ports.specs.Lines.{lines_of}
+use Rattle.clock2q_text.specs.Text.{words_of, shares_in, call_in, call_then, with_call, calls_from, script_in, script_of, script_then, script_with}
 use Rattle.clock2q_text.specs.declared.serve_error.ServeError.{ServeError}
 use Rattle.clock2q_text.specs.declared.serve_error.ServeError.TheVariants.{BadLine, Memory, Capacity, Policy, Read, Write}
 
--- the calls gathered, before what is still to come
+-- the calls collected so far, before those still to come
 abbrev pub gathered : List (Call ℕ ℕ) → Result (List (Call ℕ ℕ)) ℕ → Result (List (Call ℕ ℕ)) ℕ
 gathered front (Ok calls) = Ok (front ++ calls)
 gathered front (Err line) = Err line
@@ -20,12 +21,12 @@ pub gathered-none : (rest : Result (List (Call ℕ ℕ)) ℕ) → gathered [] re
 gathered-none (Ok calls) = refl
 gathered-none (Err line) = refl
 
--- one more gathered
+-- one more call collected
 pub gathered-more : (front : List (Call ℕ ℕ)) (call : Call ℕ ℕ) (rest : Result (List (Call ℕ ℕ)) ℕ) → gathered front (with_call call rest) ≡ gathered (front ++ call ∷ []) rest
 gathered-more front call (Ok calls) = ap Ok (sym (append_assoc front (call ∷ []) calls))
 gathered-more front call (Err line) = refl
 
--- the lines of a text whose first was found
+-- the lines of a text whose first line was found
 pub lines_of-found : (text : List ℕ) (found : Option (Bor (List ℕ) × Bor (List ℕ))) (first others : Bor (List ℕ))
     → lines_of text ≡ first_and_others found → found ≡ Some (first, others) → lines_of text ≡ first.now ∷ lines_of others.now
 lines_of-found text found first others e some = e ∙ ap first_and_others some
@@ -44,13 +45,13 @@ pub script_of-bad : (text first : List ℕ) (lines : List (List ℕ)) → lines_
 unfolding script_of
 script_of-bad text first lines e none = ap script_in e ∙ ap (λ c. script_then c (calls_from 2 lines)) none
 
--- a first line that is one
+-- a first line that spells shares
 pub script_of-good : (text first : List ℕ) (lines : List (List ℕ)) (shares : Shares) → lines_of text ≡ first ∷ lines
     → shares_in (words_of first) ≡ Some shares → script_of text ≡ script_with shares (calls_from 2 lines)
 unfolding script_of
 script_of-good text first lines shares e some = ap script_in e ∙ ap (λ c. script_then c (calls_from 2 lines)) some
 
--- the first bad line isn't above the first line
+-- the first bad line isn't before the first line
 calls_from-below : (n : ℕ) (lines : List (List ℕ)) (bad : ℕ) → calls_from n lines ≡ Err bad → n ≤ bad
 calls_from-below n [] bad e = cc
 calls_from-below n (line ∷ lines) bad e = below (call_in (words_of line)) (calls_from (n + 1) lines) (λ h. calls_from-below (n + 1) lines bad h) e where
@@ -59,7 +60,7 @@ calls_from-below n (line ∷ lines) bad e = below (call_in (words_of line)) (cal
   below (Some call) (Ok calls) h e = cc
   below (Some call) (Err line) h e = omega (arith, h e)
 
--- nor is it the first line where that spells a call
+-- nor is it the first line if that spells a call
 pub gathered-later : (front : List (Call ℕ ℕ)) (n : ℕ) (lines : List (List ℕ)) (line : List ℕ) (others : List (List ℕ)) (call : Call ℕ ℕ) (bad : ℕ)
     → lines ≡ line ∷ others → call_in (words_of line) ≡ Some call → gathered front (calls_from n lines) ≡ Err bad → n < bad
 gathered-later front n lines line others call bad e some h =
@@ -69,7 +70,7 @@ gathered-later front n lines line others call bad e some h =
       later (Ok calls) b h = cc
       later (Err line) b h = omega (arith, b h)
 
--- the same, where it spells one at least
+-- the same, if it spells any call
 pub gathered-spelled : (front : List (Call ℕ ℕ)) (n : ℕ) (lines : List (List ℕ)) (line : List ℕ) (others : List (List ℕ)) (bad : ℕ)
     → lines ≡ line ∷ others → IsSome (call_in (words_of line)) → gathered front (calls_from n lines) ≡ Err bad → n < bad
 gathered-spelled front n lines line others bad e some h = spelled (call_in (words_of line)) refl some where
@@ -87,7 +88,7 @@ Refuses-script shares read Policy h = h
 Refuses-script shares read Read h = h
 Refuses-script shares read Write h = h
 
--- line 1 is refused where something isn't there
+-- line 1 is refused if something is missing
 pub Refuses-first : {X Y : Type 0} (o : Option X) (refusal : ServeError) (spelled : Result Y ℕ)
     → ◌≡◌ {A = Result X ServeError} (Err refusal) (ok_or o (BadLine 1)) → (o ≡ None → spelled ≡ Err 1) → Refuses refusal spelled
 Refuses-first (Some x) refusal spelled e h = cc

@@ -6,14 +6,15 @@ use Rattle.std.specs.Str.{bytes_eq}
 use Rattle.clock2q_machine.specs.Shares.{Shares}
 use Rattle.clock2q_machine.specs.Calls.{Call, Put, Get, Peek, Contains, GetAt, Set, With, Try, SlotFor, Remove, Retain, Clear, Prefill, Len, IsEmpty, Capacity}
 use Rattle.clock2q_text.specs.Commands.{IsSupplied, AreSupplied}
-use Rattle.clock2q_text.specs.Text.{Script, number_of, tried_of, bit_of, all_read, some_read, without, with_one, with_two, numbers_call, list_call, lone_call, call_in, words_of, lines_of, shares_in, calls_from, call_then, script_in, script_of, script_then}
+use Rattle.clock2q_ports.specs.Lines.{lines_of}
+use Rattle.clock2q_text.specs.Text.{Script, number_of, tried_of, bit_of, all_read, some_read, without, with_one, with_two, numbers_call, list_call, lone_call, call_in, words_of, shares_in, calls_from, call_then, script_in, script_of, script_then}
 
 -- a call, if there is one, is supplied
 abbrev Supplied : Option (Call ℕ ℕ) → Type 0
 Supplied None = ⊤
 Supplied (Some call) = IsSupplied call
 
--- either side of a test, and the first that there is
+-- either side of a test, and the first one that exists
 either : (b : Bool) (o p : Option (Call ℕ ℕ)) → Supplied o → Supplied p → Supplied (cond b o p)
 either true o p h k = h
 either false o p h k = k

@@ -5,7 +5,8 @@ use Rattle.std.specs.Fmt.{digits}
 use Rattle.clock2q_machine.specs.Shares.{usual_shares}
 use Rattle.clock2q_machine.specs.Policies.{shares_of}
 use Rattle.clock2q_machine.specs.Calls.{Put, Get, GetAt, Set, With, Try, SlotFor, Remove, Retain, Clear, Prefill, Len, Value, Slot, Stored, Tried, Flag, Number, Done}
-use Rattle.clock2q_text.specs.Text.{script_of, lines_of, words_of, number_of, call_in, shares_in, call_named, output_of, answer_lines}
+use Rattle.clock2q_ports.specs.Lines.{lines_of}
+use Rattle.clock2q_text.specs.Text.{script_of, words_of, number_of, call_in, shares_in, call_named, output_of, answer_lines}
 
 -- the lines of a text: the last may lack its end, and an empty one is a line
 two_lines : lines_of (codes "a\nb") ≡ codes "a" ∷ codes "b" ∷ []
@@ -20,7 +21,7 @@ no_lines : lines_of [] ≡ []
 unfolding lines_of
 no_lines = refl
 
--- words stand between single spaces
+-- words are separated by single spaces
 two_spaces : words_of (codes "a  b ") ≡ codes "a" ∷ [] ∷ codes "b" ∷ [] ∷ []
 unfolding words_of
 two_spaces = refl
@@ -111,13 +112,13 @@ bad_words : list_all is_bad (codes "get +1" ∷ codes "get -1" ∷ codes "get 1.
 unfolding words_of number_of call_in
 bad_words = refl
 
--- words too few or too many
+-- too few or too many words
 bad_counts : list_all is_bad (codes "put 1" ∷ codes "put 1 2 3" ∷ codes "get" ∷ codes "get 1 2" ∷ codes "get_at 0"
     ∷ codes "get_at 0 1 2" ∷ codes "try 1" ∷ codes "retain" ∷ codes "prefill" ∷ codes "len 1" ∷ codes "clear 1" ∷ []) ≡ true
 unfolding words_of number_of call_in
 bad_counts = refl
 
--- such lines in a script, where an empty line is one
+-- such lines in a script, in which an empty line is a bad one
 bad_second : map (λ line. script_of (codes "new 2\n" ++ line)) (codes "retain 012" ∷ codes "put 1 2 3\n" ∷ codes "\n" ∷ codes "\nlen" ∷ codes "len \nlen\n" ∷ codes "new 2" ∷ []) ≡ replicate 6 (Err 2)
 unfolding script_of lines_of words_of number_of call_in shares_in
 bad_second = refl
@@ -139,7 +140,7 @@ bad_shares : map script_of (codes "new 2 1" ∷ codes "new 0 0 0" ∷ codes "new
 unfolding script_of lines_of words_of number_of shares_in
 bad_shares = refl
 
--- a bad line after a capacity that is too large, and after shares that can't be had
+-- a bad line after a capacity that is too large, and after shares that don't fit together
 bad_after_refused : map script_of (codes "new 16777216\nbogus\n" ∷ codes "new 2 2 1\nbogus\n" ∷ []) ≡ replicate 2 (Err 2)
 unfolding script_of lines_of words_of number_of call_in shares_in
 bad_after_refused = refl

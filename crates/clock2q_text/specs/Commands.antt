@@ -1,4 +1,4 @@
--- A command of the library as the call that it makes, and a reply as the answer that it tells.
+-- A command of the library as the call that it makes, and a reply as the answer that it gives.
 use Rattle.std.specs.Prelude.{⊤, List, [], ◌∷◌}
 use Rattle.std.specs.List.{AllByRecursion}
 use Rattle.clock2q_machine.specs.Calls as call
@@ -38,7 +38,7 @@ module _ {V : Type 0} where
   answer_of reply.Done = call.Done
 
 module _ {K V : Type 0} where
-  -- a call that makes slots brings a value for them
+  -- a call that makes slots has a value for them
   abbrev pub IsSupplied : Call K V → Type 0
   IsSupplied (call.Prefill []) = ⊥
   IsSupplied (call.Prefill (value ∷ values)) = ⊤

@@ -1,4 +1,4 @@
--- What the parser answers against what the text spells.
+-- What the parser returns, compared with what the text spells.
 use Rattle.std.specs.Prelude.{List, map, ◌≡◌, ◌<◌, ℕ, Option, Some, None, IsSome, Result, Ok, Err}
 use Rattle.std.specs.NonZero.{non_zero_usize_get}
 use Rattle.std.specs.declared.num.NonZeroUsize.{NonZeroUsize}
@@ -20,7 +20,7 @@ Refuses Policy spelled = ⊥
 Refuses Read spelled = ⊥
 Refuses Write spelled = ⊥
 
--- what was parsed, seen by `view`, is what is spelled, and so is a bad line
+-- what was parsed, seen by `view`, is what the text spells, and so is a bad line
 abbrev pub Parses : {X Y : Type 0} → (X → Y) → Result X ServeError → Result Y ℕ → Type 0
 Parses view (Ok x) spelled = spelled ≡ Ok (view x)
 Parses view (Err refusal) spelled = Refuses refusal spelled
@@ -34,7 +34,7 @@ shares_value capacity (Some chosen) = shares_of (non_zero_usize_get capacity) ch
 abbrev pub script_value : {A : Type 0} → Shares → List (Command ℕ ℕ A) → Script
 script_value shares commands = record { shares = shares; calls = map call_of commands }
 
--- no line is spelled; or what was read, seen by `view`; or there was no memory for its list
+-- nothing is spelled; or what was read, seen by `view`, is; or there was no memory for its list
 abbrev pub Spells : {X Y E : Type 0} → (X → Y) → Option (Result X E) → Option Y → Type 0
 Spells view None spelled = spelled ≡ None
 Spells view (Some (Ok x)) spelled = spelled ≡ Some (view x)

@@ -1,32 +1,23 @@
--- The command text: what is a line, which line is which command, and the text of the replies.
+-- The command text: which line is which command, and the text of the replies.
 use Rattle.std.specs.Prelude.{ℕ, ◌+◌, ◌^◌, Bool, true, false, ◌&&◌, ◌==◌, nat_lt, if◌then◌else◌, List, [], ◌∷◌, ◌++◌, length, Option, Some, None, Result, Ok, Err, codes, decimal}
 use Rattle.std.specs.Option.{option_and_then, option_map, option_or}
 use Rattle.std.specs.List.{slice_split, flat_map}
 use Rattle.std.specs.Str.{bytes_eq, all_ascii_digits}
 use Rattle.std.specs.Str.Parse.{digits_value}
+use Rattle.clock2q_ports.specs.Lines.{lines_of}
 use Rattle.clock2q_machine.specs.Shares.{Shares, usual_shares}
 use Rattle.clock2q_machine.specs.Policies.{shares_of}
 use Rattle.clock2q_machine.specs.Calls.{Call, Answer, Put, Get, Peek, Contains, GetAt, Set, With, Try, SlotFor, Remove, Retain, Clear, Prefill, Len, IsEmpty, Capacity, Value, Stored, Tried, Slot, Flag, Number, Done}
 
--- the parts round the line ends, but nothing after the last line end is no line
-abbrev pub lines_of_parts : List (List ℕ) → List (List ℕ)
-lines_of_parts [] = []
-lines_of_parts ([] ∷ []) = []
-lines_of_parts (part ∷ parts) = part ∷ lines_of_parts parts
-
--- the lines of a text; each ends with the byte 10, and the last may lack it
-unfoldable pub lines_of : List ℕ → List (List ℕ)
-lines_of text = lines_of_parts (slice_split (λ b. b == 10) text)
-
--- the words of a line: the parts round its spaces, so that a word is empty where a space stands first, last or after another
+-- the words of a line: the parts between its spaces, so that a word is empty if a space is first, last or after another
 unfoldable pub words_of : List ℕ → List (List ℕ)
 words_of line = slice_split (λ b. b == 32) line
 
--- one digit or more, and the number that they write has 64 bits
+-- one digit or more, and the number that they spell has 64 bits
 abbrev pub is_number : List ℕ → Bool
 is_number word = nat_lt 0 (length word) && all_ascii_digits word && nat_lt (digits_value 10 word) (2 ^ 64)
 
--- the number that a word writes
+-- the number that a word spells
 unfoldable pub number_of : List ℕ → Option ℕ
 number_of word = if is_number word then Some (digits_value 10 word) else None
 
@@ -35,12 +26,12 @@ abbrev pub bit_of : ℕ → Option Bool
 bit_of byte = if byte == 48 then Some false else if byte == 49 then Some true else None
 
 module _ {X Y : Type 0} where
-  -- what each of these reads as, where each reads as something
+  -- what each of these reads as, if each reads as something
   abbrev pub all_read : (X → Option Y) → List X → Option (List Y)
   all_read read [] = Some []
   all_read read (x ∷ xs) = option_and_then (λ y. option_map (λ ys. y ∷ ys) (all_read read xs)) (read x)
 
-  -- the same, of one or more
+  -- the same, for one or more
   abbrev pub some_read : (X → Option Y) → List X → Option (List Y)
   some_read read [] = None
   some_read read (x ∷ xs) = all_read read (x ∷ xs)
@@ -62,7 +53,7 @@ module _ {X : Type 0} where
   with_two read make [] = None
   with_two read make (word ∷ words) = option_and_then (λ n. with_one read (make n) words) (number_of word)
 
--- the value that `try` brings: a number, or none at the word `fail`
+-- the value that `try` offers: a number, or none for the word `fail`
 abbrev pub tried_of : List ℕ → Option (Option ℕ)
 tried_of word = if bytes_eq word (codes "fail") then Some None else option_map Some (number_of word)
 
@@ -106,7 +97,8 @@ unfoldable pub call_in : List (List ℕ) → Option (Call ℕ ℕ)
 call_in [] = None
 call_in (name ∷ arguments) = call_named name arguments
 
--- the shares that the numbers after `new` choose: a capacity with its usual shares, or a capacity, Small's share and the window; a capacity is 1 at least
+-- the shares that the numbers after `new` choose: a capacity with its usual shares, or a capacity, Small's share and
+-- the window; a capacity is at least 1
 abbrev pub shares_from : List ℕ → Option Shares
 shares_from [] = None
 shares_from (capacity ∷ []) = if capacity == 0 then None else Some (usual_shares capacity)
@@ -124,17 +116,17 @@ pub record Script : Type 0 where
   pub shares : Shares
   pub calls : List (Call ℕ ℕ)
 
--- one call more in front
+-- one more call in front
 abbrev pub with_call : Call ℕ ℕ → Result (List (Call ℕ ℕ)) ℕ → Result (List (Call ℕ ℕ)) ℕ
 with_call call (Ok calls) = Ok (call ∷ calls)
 with_call call (Err line) = Err line
 
--- a line's call before the others, or the line's number where it spells none
+-- a line's call before the others, or the line's number if it spells none
 abbrev pub call_then : ℕ → Option (Call ℕ ℕ) → Result (List (Call ℕ ℕ)) ℕ → Result (List (Call ℕ ℕ)) ℕ
 call_then n None read = Err n
 call_then n (Some call) read = with_call call read
 
--- the calls that lines spell, of which the first has the number n, or the number of the first line that spells none
+-- the calls that lines spell, the first of which has the number n, or the number of the first line that spells none
 abbrev pub calls_from : ℕ → List (List ℕ) → Result (List (Call ℕ ℕ)) ℕ
 calls_from n [] = Ok []
 calls_from n (line ∷ lines) = call_then n (call_in (words_of line)) (calls_from (n + 1) lines)
@@ -144,12 +136,12 @@ abbrev pub script_with : Shares → Result (List (Call ℕ ℕ)) ℕ → Result 
 script_with shares (Ok calls) = Ok (record { shares = shares; calls = calls })
 script_with shares (Err line) = Err line
 
--- the first line's shares before the calls of the others; line 1 is bad where it spells none
+-- the first line's shares before the calls of the others; line 1 is bad if it spells none
 abbrev pub script_then : Option Shares → Result (List (Call ℕ ℕ)) ℕ → Result Script ℕ
 script_then None read = Err 1
 script_then (Some shares) read = script_with shares read
 
--- the script that lines spell, or the number of the first bad one, which is 1 where there is no line
+-- the script that lines spell, or the number of the first bad one, which is 1 if there is no line
 abbrev pub script_in : List (List ℕ) → Result Script ℕ
 script_in [] = Err 1
 script_in (line ∷ lines) = script_then (shares_in (words_of line)) (calls_from 2 lines)
@@ -179,6 +171,6 @@ answer_line a = answer_text a ++ 10 ∷ []
 unfoldable pub answer_lines : List (Answer ℕ) → List ℕ
 answer_lines answers = flat_map answer_line answers
 
--- what a script is answered: `ok` for the cache that was made, and a line for each call
+-- the answer to a script: `ok` for the cache that was made, and a line for each call
 abbrev pub output_of : List (Answer ℕ) → List ℕ
 output_of answers = answer_lines (Done ∷ answers)

@@ -2,8 +2,8 @@
 
 use std::alloc::{Allocator, Global};
 
-/// A call of a `Cache` as a value, which `run` of `clock2q_command` makes. Where the call
-/// takes a closure, the command has the values that the closure is to return.
+/// A call of a `Cache` as a value, which `run` of `clock2q_command` makes. If the call takes a
+/// closure, the command has the values that the closure returns.
 ///
 /// # Example
 ///
@@ -16,29 +16,29 @@ use std::alloc::{Allocator, Global};
 pub enum Command<K, V, A: Allocator = Global> {
     /// Stores a value for a key. The reply is a `Value`: the value that it replaces.
     Put(K, V),
-    /// Asks for a key's value, and records a hit. The reply is a `Value`.
+    /// Looks up the value of a key, and records a hit. The reply is a `Value`.
     Get(K),
-    /// Asks for a key's value, and changes nothing. The reply is a `Value`.
+    /// Looks up the value of a key, and changes nothing. The reply is a `Value`.
     Peek(K),
     /// Asks whether a key is resident. The reply is a `Flag`.
     Contains(K),
-    /// Asks for the value of a key if it is resident at this slot, and records a hit. The reply
+    /// Looks up the value of a key if it is resident at this slot, and records a hit. The reply
     /// is a `Value`.
     GetAt(usize, K),
     /// Replaces the value of a resident key, and records a hit. The reply is a `Value`: the value
-    /// that it replaces. Where the key isn't resident nothing changes.
+    /// that it replaces. If the key isn't resident, nothing changes.
     Set(K, V),
-    /// Asks for a key's value, after the key was inserted with this one if it wasn't resident. The
+    /// Looks up the value of a key, after inserting the key with this one if it isn't resident. The
     /// reply is `Stored`.
     With(K, V),
     /// Does the same with a value that may be missing, as after an error. Without a value no key is
     /// inserted. The reply is `Tried`.
     Try(K, Option<V>),
-    /// Asks for a key's slot and the value there, after the key was inserted if it wasn't resident.
-    /// A new slot gets this value; another keeps its own. The reply is a `Slot`.
+    /// Looks up the slot of a key and the value there, after inserting the key if it isn't
+    /// resident. A new slot gets this value; any other keeps its own. The reply is a `Slot`.
     Slot(K, V),
-    /// Removes a resident key, or else the key from the history. The reply is a `Flag`: whether it
-    /// was resident.
+    /// Removes a resident key, otherwise the key from the history. The reply is a `Flag`: whether
+    /// it was resident.
     Remove(K),
     /// Removes each resident whose bit is false. The first bit is that of the resident with the
     /// lowest slot, and so on; residents past the end of the list are kept. The reply is `Done`.
@@ -48,15 +48,15 @@ pub enum Command<K, V, A: Allocator = Global> {
     /// Gives each slot that has no value yet one of these, in order; the last one repeats. The
     /// reply is `Done`. `run` requires that the list isn't empty.
     Prefill(Vec<V, A>),
-    /// Asks how many keys are resident. The reply is a `Number`.
+    /// Asks for the number of resident keys. The reply is a `Number`.
     Len,
     /// Asks whether no key is resident. The reply is a `Flag`.
     IsEmpty,
-    /// Asks how many keys the cache can hold. The reply is a `Number`.
+    /// Asks for the number of keys that the cache can hold. The reply is a `Number`.
     Capacity,
 }
 
-/// The reply to a [`Command`]. The command tells which of these it is.
+/// The reply to a [`Command`]. The command determines which of these it is.
 ///
 /// # Example
 ///
@@ -74,7 +74,7 @@ pub enum Reply<V> {
     Tried(Option<V>),
     /// The slot that the key has now, and the value there.
     Slot(usize, V),
-    /// Whether what was asked is so.
+    /// The answer to a yes-or-no question.
     Flag(bool),
     /// A number of keys.
     Number(usize),

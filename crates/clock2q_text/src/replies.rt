@@ -6,7 +6,7 @@ ghost use Rattle.clock2q_text.specs.Text.{answer_line, output_of};
 use crate::commands::Reply;
 use std::alloc::{AllocError, Allocator};
 
-/// Adds a number in decimal, and the byte that stands after it.
+/// Adds a number in decimal, and the byte that follows it.
 fn push_number<A: Allocator>(text: &mut Vec<u8, A>, number: u64, end: u8) -> Result<(), AllocError>
     ensures { OnOk result (text.new.items ≡ text.old.items ++ decimal number ++ end ∷ []) }
 {

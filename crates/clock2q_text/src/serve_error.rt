@@ -1,10 +1,11 @@
 //! What the program can refuse.
 ghost use Rattle.std.specs.Prelude.{◌≡◌};
 
+use clock2q_ports::ReadError;
 use std::alloc::AllocError;
 use thiserror::Error;
 
-/// The reason why `serve` of `clock2q_command` wrote no reply, or not all of them.
+/// The reason why `serve` of `clock2q_command` wrote no replies, or not all of them.
 ///
 /// # Example
 ///
@@ -16,11 +17,11 @@ use thiserror::Error;
 /// ```
 #[derive(Debug, Clone, Copy, PartialEq, Eq, Error)]
 pub enum ServeError {
-    /// The first line that isn't a command in its place has this number, counted from 1. In an
+    /// The number of the first line that isn't a valid command in its place, counted from 1. In an
     /// empty input it is line 1.
     #[error("line {0}: bad command")]
     BadLine(usize),
-    /// A request for memory was refused, at some step.
+    /// A request for memory was refused, at any step.
     #[error("no memory")]
     Memory,
     /// All lines are good, and the capacity is above 16,777,215, the most that a cache can have.
@@ -33,7 +34,7 @@ pub enum ServeError {
     /// The source failed before its end.
     #[error("read failed")]
     Read,
-    /// The sink failed. A beginning of the replies, or all of them, may have been written.
+    /// The sink failed. A prefix of the replies, or all of them, may have been written.
     #[error("write failed")]
     Write,
 }
@@ -41,9 +42,8 @@ pub enum ServeError {
 impl ServeError {
     ghost use Rattle.clock2q_text.specs.ServeError.{status_of};
 
-    /// Returns the status with which the program ends: 2 at a bad line, 3 if there is no memory
-    /// or the capacity is too large, 4 if a device failed, 5 if the shares don't fit
-    /// together.
+    /// Returns the program's exit status: 2 for a bad line, 3 if there is no memory or the capacity
+    /// is too large, 4 if a device failed, 5 if the shares don't fit together.
     pub fn status(&self) -> u8
         ensures status { result ≡ status_of self.now }
     {
@@ -63,5 +63,18 @@ impl From<AllocError> for ServeError {
 
     fn from(_error: AllocError) -> ServeError {
         ServeError::Memory
+    }
+}
+
+impl From<ReadError> for ServeError {
+    ghost use Rattle.clock2q_text.specs.ServeError.{of_reading};
+
+    ghost from_gives = { λ error refusal. refusal ≡ of_reading error };
+
+    fn from(error: ReadError) -> ServeError {
+        match error {
+            ReadError::Failed => ServeError::Read,
+            ReadError::Memory => ServeError::Memory,
+        }
     }
 }

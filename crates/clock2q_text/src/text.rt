@@ -2,7 +2,8 @@
 ghost use Rattle.std.specs.Prelude.{◌≡◌, ◌+◌, ◌^◌, ◌<◌, length, map, IfSome};
 ghost use Rattle.std.specs.Option.{option_map};
 ghost use Rattle.clock2q_text.specs.Commands.{call_of};
-ghost use Rattle.clock2q_text.specs.Text.{lines_of, words_of, shares_in, calls_from, script_of};
+ghost use Rattle.clock2q_ports.specs.Lines.{lines_of};
+ghost use Rattle.clock2q_text.specs.Text.{words_of, shares_in, calls_from, script_of};
 ghost use Rattle.clock2q_text.specs.Parsing.{Parses, shares_value, script_value};
 ghost use Rattle.clock2q_text.specs.Cut.{first_and_others};
 
@@ -17,14 +18,14 @@ use std::alloc::Allocator;
 use std::num::NonZeroUsize;
 use words::{cut, number, two_numbers};
 
-/// The shares that a first line chooses, where it has more than the capacity.
+/// The shares that a first line chooses, if it has more than the capacity.
 #[derive(Clone, Copy)]
 pub struct ChosenShares {
     pub small: usize,
     pub window: usize,
 }
 
-/// A parsed text: the capacity of a cache, its shares, and the commands to it.
+/// A parsed text: the capacity of a cache, its shares, and its commands.
 #[derive(Drop)]
 pub struct Script<A: Allocator> {
     pub capacity: NonZeroUsize,

@@ -1,25 +1,35 @@
-//! A cache of fixed capacity with Clock2Q+ replacement, proved up to the C calls under it.
+//! Caches of fixed capacity with Clock2Q+ replacement, proved up to the C calls under them.
 //!
-//! A [`PageCache`] gives keys slots, for arrays of the caller's. A [`Cache`] keeps a value for each
-//! of its keys.
+//! A [`Cache`] is a map of any hashable keys, and [`sync::Cache`] one that threads share. A
+//! [`PageCache`] gives numbers slots, for arrays of the caller's. [`sys`] has the C calls.
 //!
 //! ```
 //! use clock2q::Cache;
 //!
 //! let mut cache = Cache::new(1000)?;
-//! cache.put(7, "seven");
-//! assert_eq!(cache.get(7), Some(&"seven"));
+//! cache.insert("seven", 7);
+//! assert_eq!(cache.get("seven"), Some(&7));
 //! # Ok::<(), clock2q::Refused>(())
 //! ```
 #![deny(missing_docs, unsafe_op_in_unsafe_fn)]
 
+mod cache;
+mod collect;
+mod entries;
+mod entry;
+mod iter;
 mod pages;
 mod refused;
-mod values;
+mod slots;
+mod store;
+pub mod sync;
+pub mod sys;
 
+pub use cache::Cache;
+pub use entry::{Entry, OccupiedEntry, VacantEntry};
+pub use iter::{Drain, IntoIter, Iter, IterMut, Keys, Values, ValuesMut};
 pub use pages::{PageCache, Place};
 pub use refused::Refused;
-pub use values::Cache;
 
 /// The largest capacity.
-pub const MAX_CAPACITY: usize = clock2q_sys::CLOCK2Q_MAX_CAPACITY;
+pub const MAX_CAPACITY: usize = sys::CLOCK2Q_MAX_CAPACITY;

@@ -1,7 +1,7 @@
 //! Keys and their slots.
 
+use crate::sys;
 use crate::Refused;
-use clock2q_sys as sys;
 use std::cell::UnsafeCell;
 use std::fmt;
 use std::marker::PhantomData;
@@ -26,10 +26,9 @@ impl Place {
 
 /// Gives keys slots, numbers below its capacity, and chooses which key loses its slot to a new one.
 ///
-/// It is neither `Send` nor `Sync`. The calls that only ask write to the handle too, so no two
-/// threads may use it at once. Handing it over is allowed, since nothing in a cache is bound to a
-/// thread, but the compiler can't see that through calls of C: who does so wraps it in a type that
-/// says `Send`.
+/// It is neither `Send` nor `Sync`: no two threads may use it at once, not even to ask. Handing it
+/// over is allowed, since nothing in a cache is bound to a thread, but the compiler can't see that
+/// through calls of C: who does so wraps it in a type that says `Send`.
 ///
 /// ```compile_fail
 /// fn send<T: Send>(_: T) {}
@@ -106,9 +105,8 @@ impl PageCache {
 
     /// Returns the slot of a key, after a hit or after giving it one that another key may lose.
     pub fn enter(&mut self, key: u64) -> Place {
-        let mut place = sys::clock2q_place::default();
-        // SAFETY: there is a cache, here and below, and the pointers differ.
-        unsafe { sys::clock2q_enter(self.handle(), key, &mut place) };
+        // SAFETY: there is a cache, here and below.
+        let place = unsafe { sys::clock2q_enter_key(self.handle(), key) };
         Place {
             slot: place.slot,
             last: place.has_last.then_some(place.last),
@@ -117,8 +115,8 @@ impl PageCache {
 
     /// Returns the slot of a key that has one, after a hit.
     pub fn find(&mut self, key: u64) -> Option<usize> {
-        let mut slot = 0;
-        unsafe { sys::clock2q_find(self.handle(), key, &mut slot) }.then_some(slot)
+        let found = unsafe { sys::clock2q_find_key(self.handle(), key) };
+        found.is_found.then_some(found.slot)
     }
 
     /// Returns true, after a hit, if the key is at this slot. Hashes nothing.

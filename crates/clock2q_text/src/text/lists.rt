@@ -1,5 +1,5 @@
-//! The lists in a line. Where there is no memory for a list, the line is still read to its end, so
-//! that a bad word in it is seen.
+//! The lists in a line. If there is no memory for a list, the line is still read to its end, so
+//! that a bad word in it is found.
 ghost use Rattle.std.specs.Prelude.{◌≡◌};
 ghost use Rattle.clock2q_text.specs.Text.{words_of, number_of, bit_of, some_read, with_one};
 ghost use Rattle.clock2q_text.specs.Parsing.{Spells};
@@ -7,7 +7,7 @@ ghost use Rattle.clock2q_text.specs.Parsing.{Spells};
 use crate::text::words::number;
 use std::alloc::{AllocError, Allocator};
 
-/// Returns the bit that a byte stands for.
+/// Returns the bit that a byte spells.
 fn bit_of(byte: u8) -> Option<bool>
     ensures { result ≡ bit_of byte }
 {
@@ -37,7 +37,7 @@ pub(super) fn bits<A: Allocator>(alloc: A, words: &[u8]) -> Option<Result<Vec<bo
     Some(Ok(bits))
 }
 
-/// Returns the numbers that the words stand for.
+/// Returns the numbers that the words spell.
 pub(super) fn numbers<A: Allocator>(
     alloc: A,
     words: &[u8],

@@ -10,7 +10,7 @@ use crate::text::lists::{bits, numbers};
 use crate::text::words::{cut, number_or_fail, one_number, two_numbers};
 use std::alloc::{AllocError, Allocator};
 
-/// Returns the command of a line, or an error where there is no memory for its list.
+/// Returns the command of a line, or an error if there is no memory for its list.
 pub(super) fn command_of<A: Allocator>(
     alloc: A,
     line: &[u8],
@@ -27,7 +27,7 @@ pub(super) fn command_of<A: Allocator>(
     }
 }
 
-/// Returns the command of a name that stands alone.
+/// Returns the command of a name without arguments.
 fn named_alone<A: Allocator>(name: &[u8]) -> Option<Command<u64, u64, A>>
     ensures { option_map call_of result ≡ lone_call name.now [] }
 {

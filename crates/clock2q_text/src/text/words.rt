@@ -1,4 +1,4 @@
-//! The words of a line, and the numbers that they stand for.
+//! The words of a line, and the numbers that they spell.
 ghost use Rattle.std.specs.Prelude.{◌≡◌, ◌∷◌, ◌==◌, ◌<◌, length, IfSome};
 ghost use Rattle.std.specs.List.{position, slice_split};
 ghost use Rattle.std.specs.Option.{option_map};
@@ -27,7 +27,7 @@ pub(super) fn cut(bytes: &[u8], separator: u8) -> (&[u8], Option<&[u8]>)
     }
 }
 
-/// Returns the number that the first word stands for, and the text after the space that ends it, if
+/// Returns the number that the first word spells, and the text after the space that ends it, if
 /// there is one. A number has no sign.
 pub(super) fn number(words: &[u8]) -> Option<(u64, Option<&[u8]>)>
     ensures first { option_map (λ read. (read.0, words_after read.1)) result ≡ number_first (words_of words.now) }
@@ -46,7 +46,7 @@ pub(super) fn number(words: &[u8]) -> Option<(u64, Option<&[u8]>)>
     (!words.is_empty()).then_some((value, None))
 }
 
-/// Returns the number that the only word stands for.
+/// Returns the number that the only word spells.
 pub(super) fn one_number(words: &[u8]) -> Option<u64>
     ensures { result ≡ with_one number_of (λ n. n) (words_of words.now) }
 {
@@ -56,7 +56,7 @@ pub(super) fn one_number(words: &[u8]) -> Option<u64>
     }
 }
 
-/// Returns the numbers that the two words stand for.
+/// Returns the numbers that the two words spell.
 pub(super) fn two_numbers(words: &[u8]) -> Option<(u64, u64)>
     ensures { result ≡ with_two number_of (λ n m. (n, m)) (words_of words.now) }
 {
@@ -65,8 +65,8 @@ pub(super) fn two_numbers(words: &[u8]) -> Option<(u64, u64)>
     Some((first, second))
 }
 
-/// Returns the number that the first of two words stands for, and that of the second, or `None` in
-/// its place if the second word is `fail`.
+/// Returns the number that the first of two words spells, and that of the second, or `None` in its
+/// place if the second word is `fail`.
 pub(super) fn number_or_fail(words: &[u8]) -> Option<(u64, Option<u64>)>
     ensures { result ≡ with_two tried_of (λ n v. (n, v)) (words_of words.now) }
 {

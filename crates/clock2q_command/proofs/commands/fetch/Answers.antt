@@ -1,4 +1,4 @@
--- The value is the one of the command, where the key is new.
+-- The value is that of the command, if the key is new.
 use Rattle.std.proofs.Common.{rules, ◌∙◌}
 use Rattle.clock2q_command.proofs.Fetching.{fetched-given}
 use Rattle.clock2q_command.proofs.commands.fetch.Goals as goal

@@ -1,4 +1,4 @@
--- What is left of the commands brings its values, and each look of the hand is paid for.
+-- The commands that are left have their values, and each inspection by the hand is paid for.
 use Rattle.std.proofs.Common.{rules, arith, ◌≡◌, refl, sym, ap, ◌∙◌, subst, map}
 use Rattle.std.proofs.lemmas.Grind.{common_steps}
 use Rattle.clock2q_machine.proofs.Clock.{run_bounded}

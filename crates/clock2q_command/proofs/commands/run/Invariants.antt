@@ -1,4 +1,5 @@
--- The replies so far and those to what is left are those to all, and there is room for them; so are the looks of the hand; and what is left brings its values.
+-- The replies so far and those to the commands left are those to all, and there is room for them; so are the
+-- inspections by the hand; and the commands left have their values.
 use Rattle.std.proofs.Common.{◌≡◌, ◌+◌, ◌≤◌, ◌++◌, map, length, vec_len, vec_capacity}
 use Rattle.std.specs.Vec.Iter.{into_iter_items}
 use Rattle.clock2q_text.specs.Commands.{call_of, answer_of, AreSupplied}

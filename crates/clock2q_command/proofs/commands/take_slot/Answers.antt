@@ -1,4 +1,4 @@
--- The value is the slot's own, or the one of the command where the slot was made.
+-- The value is the slot's own, or that of the command if the slot was made.
 use Rattle.std.proofs.Common.{rules, refl, ◌∙◌}
 use Rattle.clock2q_command.proofs.Fetching.{slotted-given}
 use Rattle.clock2q_command.proofs.commands.take_slot.Goals as goal

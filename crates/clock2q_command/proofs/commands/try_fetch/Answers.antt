@@ -1,4 +1,4 @@
--- The value is the one of the command, where the key is new and there is one.
+-- The value is that of the command, if the key is new and there is one.
 use Rattle.std.proofs.Common.{rules, ◌≡◌, None, refl, sym, subst, ◌∙◌}
 use Rattle.std.specs.Result.{IsOk}
 use Rattle.clock2q_cache.specs.Costs.{Costs}

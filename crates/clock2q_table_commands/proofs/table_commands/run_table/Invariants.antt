@@ -1,4 +1,4 @@
--- The commands so far are replied to, each handle stands under its hash, and there is room for the other replies.
+-- The commands so far have their replies, each handle is under its hash, and there is room for the other replies.
 use Rattle.std.proofs.Common.{◌-◌, ◌+◌, ◌≤◌, length, take, vec_len, vec_capacity}
 use Rattle.clock2q_handles.specs.Changes.{IsLaidOut}
 use Rattle.clock2q_table_commands.specs.TableCommands.{IsHashing, AreReplied}

@@ -2,7 +2,8 @@ use Rattle.std.proofs.Common.{◌≡◌, ◌+◌, map, arith, rules, Some, ◌�
 use Rattle.std.specs.Prelude.{IsSome}
 use Rattle.std.proofs.lemmas.Result.{err_from_is_err_and}
 use Rattle.clock2q_text.specs.Commands.{call_of}
-use Rattle.clock2q_text.specs.Text.{lines_of, words_of, call_in}
+use Rattle.clock2q_ports.specs.Lines.{lines_of}
+use Rattle.clock2q_text.specs.Text.{words_of, call_in}
 use Rattle.clock2q_text.specs.declared.serve_error.ServeError.TheVariants.{Memory}
 use Rattle.clock2q_text.proofs.Spelling.{gathered-later, gathered-spelled}
 use Rattle.clock2q_text.proofs.text.commands_of.Goals as goal

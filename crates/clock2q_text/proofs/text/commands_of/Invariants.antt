@@ -1,6 +1,7 @@
 use Rattle.std.proofs.Common.{◌≡◌, ◌+◌, ◌<◌, ◌≤◌, length, map}
 use Rattle.clock2q_text.specs.Commands.{call_of}
-use Rattle.clock2q_text.specs.Text.{lines_of, calls_from}
+use Rattle.clock2q_ports.specs.Lines.{lines_of}
+use Rattle.clock2q_text.specs.Text.{calls_from}
 use Rattle.clock2q_text.proofs.Spelling.{gathered}
 use Rattle.clock2q_text.proofs.text.commands_of.Given as goal
 

@@ -1,5 +1,6 @@
 use Rattle.std.proofs.Common.{◌∙◌, sym, refl}
-use Rattle.clock2q_text.proofs.Cutting.{lines_of-empty, lines_of-cut}
+use Rattle.clock2q_ports.proofs.Lines.{lines_of-empty}
+use Rattle.clock2q_text.proofs.Cutting.{lines_of-cut}
 use Rattle.clock2q_text.proofs.text.cut_line.Goals as goal
 
 pub returns-then-is_empty-clause-lines : goal.returns-then-is_empty-clause-lines

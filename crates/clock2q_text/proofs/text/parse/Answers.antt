@@ -3,7 +3,8 @@ use Rattle.std.specs.Option.{option_map}
 use Rattle.std.proofs.lemmas.Result.{err_from_is_err_and}
 use Rattle.clock2q_text.specs.Cut.{first_and_others}
 use Rattle.clock2q_text.specs.Parsing.{shares_value}
-use Rattle.clock2q_text.specs.Text.{lines_of, words_of, script_with}
+use Rattle.clock2q_ports.specs.Lines.{lines_of}
+use Rattle.clock2q_text.specs.Text.{words_of, script_with}
 use Rattle.clock2q_text.proofs.Spelling.{script_of-empty, script_of-bad, script_of-good, Refuses-script, Refuses-first, lines_of-found, shares_in-found}
 use Rattle.clock2q_text.proofs.text.parse.Goals as goal
 

@@ -1,4 +1,4 @@
--- `open` copies the two words back: where there is a cache, they own its box.
+-- `open` copies the two words back: if there is a cache, they own its box.
 use Rattle.std.proofs.Common.{◌≡◌, List, [], ◌∷◌, ◌++◌, refl, sym, subst}
 use mir.Val.{Val, vptr}
 use base.Logic.{SProp, ent, emp, id⊢}
@@ -23,7 +23,7 @@ use Rattle.std.specs.contracts.impls.GlobalAllocator.TheImpl as heap
 use Rattle.std.proofs.alloc.Global.TheLaws as heap_laws
 use Rattle.clock2q_c.specs.Handle.{held_row}
 use Rattle.std.specs.Prelude.{Option, Some, IsSome}
-use Rattle.clock2q_c.specs.declared.held.Held.{Held}
+use Rattle.clock2q_c.specs.Handle.{HeldInC}
 use Rattle.clock2q_c.proofs.Words.{both, some_of, words_good, words_out, words_in}
 use Rattle.clock2q_c.specs.contracts.handle.Handle as handle
 use Rattle.clock2q_c.specs.contracts.handle.Handle.«open».{ended, clauses}
@@ -48,7 +48,7 @@ open_spec 𝓤 𝓛 𝓜 𝓡 wired =
     let Post : Val → SProp 𝓤 = (walk_of 𝓛 ended stays c).post z in let Run : List Val → SProp 𝓤 = λ ws. WpFn 𝓤 H 𝓣.C 𝓣.Λ fn ws Post in
     qed 𝓛 ((‵ ftrue ⊛ ‵ (owns (types_at ended.signature.params z.0.0) z.0.3 z.0.4)) ∷ raw (fact 𝓤 (IsSome whole_handle.cache)) ∷ []) ∵
     move ! (1 ∷ []) $ heard ! (IsSome whole_handle.cache) (λ is. let there = some_of whole_handle.cache is in let x = there.0 in split ! $ move ! (1 ∷ []) $ fsplit ! $
-    rewrite ! 0 (λ (o : Option Held). ‵ (Handle.own_val (record { pointer = whole_handle.pointer; alloc = a; cache = o }) z.0.4.0)) there.1 refl $
+    rewrite ! 0 (λ (o : Option HeldInC). ‵ (Handle.own_val (record { pointer = whole_handle.pointer; alloc = a; cache = o }) z.0.4.0)) there.1 refl $
     words_out Z LZ g held_row ! whole_handle.pointer a x z.0.4.0 (λ b o h ws fits.
     let w : Val = both (vptr b o) h in let typed = words_good Z LZ g b o h fits in
     suffices ! (Run (w ∷ [])) (subst (λ (us : List Val). ent 𝓤 (Run (w ∷ [])) (Run us)) (sym (λ i. ws i ++ [])) (id⊢ 𝓤 (Run (w ∷ [])))) $

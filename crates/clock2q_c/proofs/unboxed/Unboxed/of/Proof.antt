@@ -51,7 +51,7 @@ of_spec 𝓤 𝓛 𝓜 𝓡 wired T A L LA g d dx dd allocator glue glued =
     let Post : Val → SProp 𝓤 = (walk_of 𝓛 end stays c).post z in let Run : List Val → SProp 𝓤 = λ ws. WpFn 𝓤 H 𝓣.C 𝓣.Λ fn ws Post in
     let tokens = ‵ (flft κs.0 qs.0) ⊛ ‵ (flft κs.1.0 qs.1.0) ⊛ ‵ ftrue in let asked = raw ((c κs z.0.3).requires z.1) in
     qed 𝓛 ((tokens ⊛ ‵ (owns (types_at end.signature.params κs) z.0.3 z.0.4)) ∷ asked ∷ []) ∵
-    -- the box is handed to the callee as it came
+    -- the box is passed to the callee unchanged
     split ! $ move ! (1 ∷ []) $ fsplit ! $ box_out E ! whole_box z.0.4.0 (λ b o h e ws fits. box_in E ! whole_box b o whole_box.value e refl $
     let w : Val = box.word E h b o in let typed = words_good Z LZ g b o h fits in
     let parts = triple_of 𝓛 (callee.signature T A g d dd dx) (callee.spec T A g d dd dx 𝓛 𝓜.mem 𝓡.returns) in

@@ -8,7 +8,7 @@ use Rattle.clock2q_text.proofs.text.lists.numbers.Given as goal
 abbrev pub invariant-loop-rest : goal.invariant-loop-rest
 invariant-loop-rest g l = IsReadUpTo number_of (words_of l.words) (words_after l.rest) l.refused l.values.items
 
--- the bytes left, and one more where there are any
+-- the number of bytes left plus one, if there is a rest
 abbrev left : Option (Bor (List ℕ)) → ℕ
 left None = 0
 left (Some rest) = length rest.now + 1

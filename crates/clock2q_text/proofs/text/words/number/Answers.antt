@@ -5,7 +5,7 @@ use Rattle.std.specs.Option.{option_map}
 use Rattle.std.specs.Str.{all_ascii_digits}
 use Rattle.std.specs.Str.Parse.{digits_value}
 use Rattle.std.proofs.lemmas.List.{take_all, length-drop}
-use Rattle.clock2q_text.proofs.Numbers.{digits-more, value-more}
+use Rattle.clock2q_ports.proofs.Digits.{digits-more, value-more}
 use Rattle.clock2q_text.proofs.Spaced.{first-other, first-large, first-spaced, first-whole, read_as}
 use Rattle.clock2q_text.proofs.text.words.number.Goals as goal
 

@@ -1,0 +1,327 @@
+/* The mapping: what collections.abc.MutableMapping doesn't add in clock2q/__init__.py. */
+#include "pairs.h"
+
+/* Returns what the type has as __missing__, or NULL with an exception. The name is interned, or else the
+ * interpreter's cache of attributes would keep a name for each cache. */
+static PyObject *missing_of_type(Cache *self) {
+    PyObject *name = PyUnicode_InternFromString("__missing__");
+    PyObject *method = name == NULL ? NULL : PyObject_GetAttr((PyObject *)Py_TYPE(self), name);
+    Py_XDECREF(name);
+    return method;
+}
+
+static int cache_init(Cache *self, PyObject *args, PyObject *keywords) {
+    static char *names[] = {"maxsize", NULL};
+    Py_ssize_t maxsize;
+    if (!PyArg_ParseTupleAndKeywords(args, keywords, "n:Cache", names, &maxsize)) return -1;
+    if (make_slots(&self->slots, maxsize, "maxsize") < 0) return -1;
+    self->maxsize = (size_t)maxsize;
+    PyObject *method = missing_of_type(self);
+    if (method == NULL && !PyErr_ExceptionMatches(PyExc_AttributeError)) return -1;
+    PyErr_Clear();
+    self->has_missing = method != NULL;
+    Py_XDECREF(method);
+    return 0;
+}
+
+static int cache_traverse(Cache *self, visitproc visit, void *arg) {
+    Py_VISIT(Py_TYPE(self));
+    for (size_t slot = 0; slot < self->reached; slot++) {
+        Py_VISIT(self->pairs[slot].key);
+        Py_VISIT(self->pairs[slot].value);
+    }
+    return 0;
+}
+
+static int cache_tp_clear(Cache *self) {
+    clear_pairs(self);
+    return 0;
+}
+
+static void cache_dealloc(Cache *self) {
+    PyObject_GC_UnTrack(self);
+    Py_TRASHCAN_BEGIN(self, cache_dealloc)
+    if (self->weak_references != NULL) PyObject_ClearWeakRefs((PyObject *)self);
+    clock2q_free(&self->slots);
+    clear_pairs(self);
+    PyTypeObject *type = Py_TYPE(self);
+    type->tp_free(self);
+    Py_DECREF(type);
+    Py_TRASHCAN_END
+}
+
+static Py_ssize_t cache_length(Cache *self) {
+    return self->pairs == NULL ? 0 : (Py_ssize_t)clock2q_len(&self->slots);
+}
+
+/* Finds a key, and writes its hash and slot. */
+static inline outcome find_key(Cache *self, PyObject *key, uint64_t *hash, size_t *slot) {
+    return hash_of(key, hash) < 0 ? FAILED : find_pair(self, key, *hash, slot);
+}
+
+/* Finds a key and counts that. */
+static inline outcome count_key(Cache *self, PyObject *key, uint64_t *hash, size_t *slot) {
+    outcome found = find_key(self, key, hash, slot);
+    if (found == PRESENT) self->hits++;
+    if (found == ABSENT) self->misses++;
+    return found;
+}
+
+/* What `cache[key]` is if the key isn't there: what a subclass's __missing__ returns, or a KeyError. */
+static PyObject *missing(Cache *self, PyObject *key) {
+    if (!self->has_missing) {
+        set_key_error(key);
+        return NULL;
+    }
+    PyObject *method = missing_of_type(self);
+    if (method == NULL) return NULL;
+    PyObject *value = PyObject_CallFunctionObjArgs(method, self, key, NULL);
+    Py_DECREF(method);
+    return value;
+}
+
+static PyObject *cache_subscript(Cache *self, PyObject *key) {
+    uint64_t hash;
+    size_t slot;
+    outcome found = count_key(self, key, &hash, &slot);
+    if (found == PRESENT) return Py_NewRef(self->pairs[slot].value);
+    return found == ABSENT ? missing(self, key) : NULL;
+}
+
+static int cache_ass_subscript(Cache *self, PyObject *key, PyObject *value) {
+    uint64_t hash;
+    size_t slot;
+    if (value != NULL) return hash_of(key, &hash) < 0 ? -1 : store_pair(self, key, hash, value);
+    outcome found = find_key(self, key, &hash, &slot);
+    if (found == ABSENT) set_key_error(key);
+    if (found != PRESENT) return -1;
+    pair left = take_pair(self, slot, hash);
+    Py_DECREF(left.key);
+    Py_DECREF(left.value);
+    return 0;
+}
+
+static int cache_contains(Cache *self, PyObject *key) {
+    uint64_t hash;
+    size_t slot;
+    return (int)find_key(self, key, &hash, &slot);
+}
+
+/* Reads the arguments `key` and `default` of a method, which may be named. Leaves the default as it was
+ * if it isn't there. Returns the key, or NULL with an exception. */
+static inline PyObject *key_and_default(const char *name, PyObject *const *args, Py_ssize_t count, PyObject *names,
+                                        PyObject **otherwise) {
+    Py_ssize_t named = names == NULL ? 0 : PyTuple_GET_SIZE(names);
+    PyObject *given[2] = {count > 0 ? args[0] : NULL, count > 1 ? args[1] : NULL};
+    int is_wrong = count + named > 2;
+    for (Py_ssize_t i = 0; i < named && !is_wrong; i++) {
+        PyObject *word = PyTuple_GET_ITEM(names, i);
+        int at = PyUnicode_CompareWithASCIIString(word, "key") == 0 ? 0 : 1;
+        is_wrong = given[at] != NULL || (at == 1 && PyUnicode_CompareWithASCIIString(word, "default") != 0);
+        given[at] = args[count + i];
+    }
+    if (is_wrong || given[0] == NULL) {
+        PyErr_Format(PyExc_TypeError, "%s() takes a key and at most a default", name);
+        return NULL;
+    }
+    if (given[1] != NULL) *otherwise = given[1];
+    return given[0];
+}
+
+static PyObject *cache_get(Cache *self, PyObject *const *args, Py_ssize_t count, PyObject *names) {
+    PyObject *otherwise = Py_None, *key = key_and_default("get", args, count, names, &otherwise);
+    uint64_t hash;
+    size_t slot;
+    if (key == NULL) return NULL;
+    outcome found = count_key(self, key, &hash, &slot);
+    if (found == PRESENT) return Py_NewRef(self->pairs[slot].value);
+    return found == ABSENT ? Py_NewRef(otherwise) : NULL;
+}
+
+static PyObject *cache_peek(Cache *self, PyObject *const *args, Py_ssize_t count, PyObject *names) {
+    PyObject *otherwise = Py_None, *key = key_and_default("peek", args, count, names, &otherwise);
+    uint64_t hash;
+    size_t slot;
+    if (key == NULL) return NULL;
+    outcome found = find_key(self, key, &hash, &slot);
+    if (found == PRESENT) return Py_NewRef(self->pairs[slot].value);
+    return found == ABSENT ? Py_NewRef(otherwise) : NULL;
+}
+
+static PyObject *cache_setdefault(Cache *self, PyObject *const *args, Py_ssize_t count, PyObject *names) {
+    PyObject *otherwise = Py_None, *key = key_and_default("setdefault", args, count, names, &otherwise);
+    uint64_t hash;
+    size_t slot;
+    if (key == NULL) return NULL;
+    outcome found = count_key(self, key, &hash, &slot);
+    if (found == PRESENT) return Py_NewRef(self->pairs[slot].value);
+    return found == ABSENT && store_pair(self, key, hash, otherwise) == 0 ? Py_NewRef(otherwise) : NULL;
+}
+
+static PyObject *cache_pop(Cache *self, PyObject *const *args, Py_ssize_t count, PyObject *names) {
+    PyObject *otherwise = NULL, *key = key_and_default("pop", args, count, names, &otherwise);
+    uint64_t hash;
+    size_t slot;
+    if (key == NULL) return NULL;
+    outcome found = find_key(self, key, &hash, &slot);
+    if (found == PRESENT) {
+        pair left = take_pair(self, slot, hash);
+        Py_DECREF(left.key);
+        return left.value;
+    }
+    if (found == ABSENT && otherwise == NULL) set_key_error(key);
+    return found == ABSENT ? Py_XNewRef(otherwise) : NULL;
+}
+
+/* Finds a slot that has a pair. Returns false if none has. Emptying a cache looks at each slot once. */
+static int next_pair(Cache *self, size_t *slot) {
+    for (size_t seen = 0; seen < self->reached; seen++) {
+        if (self->popped >= self->reached) self->popped = 0;
+        *slot = self->popped;
+        if (self->pairs[*slot].key != NULL) return 1;
+        self->popped++;
+    }
+    return 0;
+}
+
+/* Raises a KeyError, whose traceback doesn't show the exception that is being handled, as MutableMapping's. */
+static PyObject *nothing_to_pop(void) {
+    PyObject *error = PyObject_CallFunction(PyExc_KeyError, "s", "popitem(): the cache is empty");
+    if (error == NULL) return NULL;
+    PyException_SetCause(error, NULL);
+    PyErr_SetObject(PyExc_KeyError, error);
+    Py_DECREF(error);
+    return NULL;
+}
+
+static PyObject *cache_popitem(Cache *self, PyObject *unused) {
+    (void)unused;
+    size_t slot, found_slot;
+    for (int tries = 0; tries < MOST_TRIES; tries++) {
+        PyObject *item = PyTuple_New(2); /* first, since the collector may run other code here */
+        if (item == NULL) return NULL;
+        if (!next_pair(self, &slot)) {
+            Py_DECREF(item);
+            return nothing_to_pop();
+        }
+        PyObject *key = Py_NewRef(self->pairs[slot].key);
+        uint64_t hash, version = self->version;
+        int failed = hash_of(key, &hash);
+        if (failed == 0 && version == self->version) {
+            if (clock2q_find(&self->slots, hash, &found_slot) && found_slot == slot) {
+                pair left = take_pair(self, slot, hash);
+                PyTuple_SET_ITEM(item, 0, left.key);
+                PyTuple_SET_ITEM(item, 1, left.value);
+                Py_DECREF(key);
+                return item;
+            }
+            PyErr_SetString(PyExc_RuntimeError, "the hash of a key has changed");
+            failed = -1;
+        }
+        Py_DECREF(item);
+        Py_DECREF(key);
+        if (failed < 0) return NULL;
+    }
+    too_many_tries();
+    return NULL;
+}
+
+static PyObject *cache_clear(Cache *self, PyObject *unused) {
+    (void)unused;
+    clear_pairs(self);
+    Py_RETURN_NONE;
+}
+
+/* Lists all keys, or all keys and values in turn. The list is made before the pairs are read, since the
+ * collector may run other code then. */
+static PyObject *list_pairs(Cache *self, int has_values) {
+    Py_ssize_t length, at = 0;
+    PyObject *list;
+    do {
+        length = cache_length(self);
+        list = PyList_New(has_values ? 2 * length : length);
+        if (list == NULL) return NULL;
+        if (length != cache_length(self)) Py_CLEAR(list);
+    } while (list == NULL);
+    for (size_t slot = 0; slot < self->reached; slot++) {
+        if (self->pairs[slot].key == NULL) continue;
+        PyList_SET_ITEM(list, at++, Py_NewRef(self->pairs[slot].key));
+        if (has_values) PyList_SET_ITEM(list, at++, Py_NewRef(self->pairs[slot].value));
+    }
+    return list;
+}
+
+static PyObject *cache_iter(Cache *self) {
+    PyObject *list = list_pairs(self, 0);
+    PyObject *iterator = list == NULL ? NULL : PyObject_GetIter(list);
+    Py_XDECREF(list);
+    return iterator;
+}
+
+static PyObject *cache_pairs(Cache *self, PyObject *unused) {
+    (void)unused;
+    PyObject *flat = list_pairs(self, 1);
+    if (flat == NULL) return NULL;
+    Py_ssize_t length = PyList_GET_SIZE(flat) / 2;
+    PyObject *list = PyList_New(length);
+    for (Py_ssize_t i = 0; list != NULL && i < length; i++) {
+        PyObject *item = PyTuple_Pack(2, PyList_GET_ITEM(flat, 2 * i), PyList_GET_ITEM(flat, 2 * i + 1));
+        if (item == NULL) Py_CLEAR(list);
+        else PyList_SET_ITEM(list, i, item);
+    }
+    Py_DECREF(flat);
+    return list;
+}
+
+static PyObject *cache_currsize(Cache *self, void *unused) {
+    (void)unused;
+    return PyLong_FromSsize_t(cache_length(self));
+}
+
+#define WITH_DEFAULT(function) (PyCFunction)(void (*)(void))function, METH_FASTCALL | METH_KEYWORDS
+
+static PyMethodDef cache_methods[] = {
+    {"get", WITH_DEFAULT(cache_get),
+     "get($self, /, key, default=None)\n--\n\nReturn the value of a key, or the default if the key isn't there."},
+    {"peek", WITH_DEFAULT(cache_peek),
+     "peek($self, /, key, default=None)\n--\n\nReturn what get returns, without counting a hit or a miss."},
+    {"setdefault", WITH_DEFAULT(cache_setdefault),
+     "setdefault($self, /, key, default=None)\n--\n\nReturn the value of a key, which is stored if the key isn't there."},
+    {"pop", WITH_DEFAULT(cache_pop),
+     "pop($self, /, key, default=<raise KeyError>)\n--\n\nRemove a key and return its value, or the default if there is no key."},
+    {"popitem", (PyCFunction)cache_popitem, METH_NOARGS,
+     "popitem($self, /)\n--\n\nRemove and return some (key, value) pair; raise KeyError if there is none.\n\n"
+     "It need not be the pair that would leave next."},
+    {"clear", (PyCFunction)cache_clear, METH_NOARGS,
+     "clear($self, /)\n--\n\nRemove all pairs and forget their keys; hits and misses stay."},
+    {"_pairs", (PyCFunction)cache_pairs, METH_NOARGS, "_pairs($self, /)\n--\n\nReturn a list of all (key, value) pairs."},
+    {"__reduce__", refuse_copy, METH_NOARGS, NULL},
+    {NULL, NULL, 0, NULL}};
+
+static PyMemberDef cache_members[] = {
+    {"maxsize", T_PYSSIZET, offsetof(Cache, maxsize), READONLY, "How many keys it holds at most."},
+    {"hits", T_ULONGLONG, offsetof(Cache, hits), READONLY, "How often [], get or setdefault found a key."},
+    {"misses", T_ULONGLONG, offsetof(Cache, misses), READONLY, "How often [], get or setdefault found none."},
+    {"__weaklistoffset__", T_PYSSIZET, offsetof(Cache, weak_references), READONLY, NULL},
+    {NULL, 0, 0, 0, NULL}};
+
+static PyGetSetDef cache_properties[] = {
+    {"currsize", (getter)cache_currsize, NULL, "How many keys it holds.", NULL}, {NULL, NULL, NULL, NULL, NULL}};
+
+static PyType_Slot cache_type_slots[] = {{Py_tp_init, cache_init},
+                                         {Py_tp_dealloc, cache_dealloc},
+                                         {Py_tp_traverse, cache_traverse},
+                                         {Py_tp_clear, cache_tp_clear},
+                                         {Py_tp_methods, cache_methods},
+                                         {Py_tp_members, cache_members},
+                                         {Py_tp_getset, cache_properties},
+                                         {Py_tp_iter, cache_iter},
+                                         {Py_mp_subscript, cache_subscript},
+                                         {Py_mp_ass_subscript, cache_ass_subscript},
+                                         {Py_mp_length, cache_length},
+                                         {Py_sq_contains, cache_contains},
+                                         {0, NULL}};
+
+PyType_Spec cache_spec = {"clock2q._extension.Cache", sizeof(Cache), 0,
+                          Py_TPFLAGS_DEFAULT | Py_TPFLAGS_HAVE_GC | Py_TPFLAGS_BASETYPE | Py_TPFLAGS_IMMUTABLETYPE,
+                          cache_type_slots};

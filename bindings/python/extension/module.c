@@ -1,0 +1,57 @@
+/* The module clock2q._extension. */
+#include "pairs.h"
+
+/* Adds a type to the module, and returns a new reference to it. */
+static PyTypeObject *add_type(PyObject *module, PyType_Spec *spec) {
+    PyTypeObject *type = (PyTypeObject *)PyType_FromModuleAndSpec(module, spec, NULL);
+    if (type != NULL && PyModule_AddType(module, type) < 0) Py_CLEAR(type);
+    return type;
+}
+
+static int module_exec(PyObject *module) {
+    module_state *state = PyModule_GetState(module);
+    state->keyword_mark = PyObject_CallNoArgs((PyObject *)&PyBaseObject_Type);
+    state->cache_type = add_type(module, &cache_spec);
+    state->place_type = PyStructSequence_NewType(&place_description);
+    if (state->keyword_mark == NULL || state->cache_type == NULL || state->place_type == NULL) return -1;
+    if (PyModule_AddType(module, state->place_type) < 0) return -1;
+    PyTypeObject *cached = add_type(module, &cached_spec), *pages = add_type(module, &pages_spec);
+    int failed = cached == NULL || pages == NULL;
+    Py_XDECREF(cached);
+    Py_XDECREF(pages);
+    return failed ? -1 : PyModule_AddIntConstant(module, "MAX_CAPACITY", CLOCK2Q_MAX_CAPACITY);
+}
+
+static int module_traverse(PyObject *module, visitproc visit, void *arg) {
+    module_state *state = PyModule_GetState(module);
+    Py_VISIT(state->cache_type);
+    Py_VISIT(state->place_type);
+    Py_VISIT(state->keyword_mark);
+    return 0;
+}
+
+static int module_clear(PyObject *module) {
+    module_state *state = PyModule_GetState(module);
+    Py_CLEAR(state->cache_type);
+    Py_CLEAR(state->place_type);
+    Py_CLEAR(state->keyword_mark);
+    return 0;
+}
+
+static void module_free(void *module) {
+    module_clear(module);
+}
+
+static PyModuleDef_Slot module_slots[] = {{Py_mod_exec, module_exec}, {0, NULL}};
+
+static PyModuleDef definition = {.m_base = PyModuleDef_HEAD_INIT,
+                                 .m_name = "clock2q._extension",
+                                 .m_size = sizeof(module_state),
+                                 .m_slots = module_slots,
+                                 .m_traverse = module_traverse,
+                                 .m_clear = module_clear,
+                                 .m_free = module_free};
+
+PyMODINIT_FUNC PyInit__extension(void) {
+    return PyModuleDef_Init(&definition);
+}

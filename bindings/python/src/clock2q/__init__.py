@@ -1,0 +1,104 @@
+"""A cache of fixed size for any hashable keys, with Clock2Q+ replacement.
+
+    cache = Cache(1000)
+    cache["seven"] = 7
+    cache.get("seven")
+
+    @cached(1000)
+    def square(number):
+        return number * number
+
+The library that chooses which key leaves is proved; this module is plain code over it. Keys of one hash()
+share a slot, so of two such keys the one that was stored last is there, and the other is a miss.
+"""
+
+from collections import abc
+from functools import update_wrapper
+from operator import index
+from reprlib import recursive_repr
+from typing import NamedTuple
+
+from . import _extension
+from ._extension import MAX_CAPACITY, PageCache, Place
+
+__all__ = ["MAX_CAPACITY", "Cache", "CacheInfo", "PageCache", "Place", "cached"]
+
+_ABSENT = object()
+
+
+class CacheInfo(NamedTuple):
+    """What cache_info returns of a function that is cached."""
+
+    hits: int
+    misses: int
+    maxsize: "int | None"
+    currsize: int
+
+
+class ItemsView(abc.ItemsView):
+    __slots__ = ()
+
+    def __contains__(self, item):
+        key, value = item
+        found = self._mapping.peek(key, _ABSENT)
+        return found is value or (found is not _ABSENT and found == value)
+
+    def __iter__(self):
+        return iter(self._mapping._pairs())
+
+
+class ValuesView(abc.ValuesView):
+    __slots__ = ()
+
+    def __contains__(self, value):
+        return any(it is value or it == value for it in self)
+
+    def __iter__(self):
+        return iter([value for _, value in self._mapping._pairs()])
+
+
+class Cache(_extension.Cache, abc.MutableMapping):
+    """Cache(maxsize): a mapping of at most maxsize keys, from 1 to MAX_CAPACITY.
+
+    When a new key comes to a full cache, the replacement chooses one that leaves. All memory but that of
+    keys and values is taken when the cache is made and when the first pair is stored.
+
+    [], get and setdefault count hits and misses. `in` and peek count neither, but the replacement takes
+    them for a use of the key. Iteration is over what was there when it began, and uses no key. `cache[key]`
+    of a key that isn't there returns what __missing__ does, if a subclass has it.
+    """
+
+    __slots__ = ()
+
+    def items(self):
+        return ItemsView(self)
+
+    def values(self):
+        return ValuesView(self)
+
+    @recursive_repr()
+    def __repr__(self):
+        pairs = ", ".join(f"{key!r}: {value!r}" for key, value in self._pairs())
+        return f"{type(self).__name__}({{{pairs}}}, maxsize={self.maxsize}, currsize={self.currsize})"
+
+
+def cached(maxsize=128, typed=False):
+    """Keeps a function's last results, at most maxsize of them: @cached or @cached(1000).
+
+    If maxsize is None, all results are kept; if it is 0 or less, none is. Arguments are hashable. If typed,
+    3 and 3.0 are different. The function gets cache_info(), cache_clear(), cache_parameters() and
+    __wrapped__, as functools.lru_cache has them.
+    """
+    if callable(maxsize):
+        return cached(128, typed)(maxsize)
+    if maxsize is not None:
+        maxsize = max(index(maxsize), 0)
+        if maxsize > MAX_CAPACITY:
+            raise ValueError(f"maxsize is at most {MAX_CAPACITY}, or None")
+
+    def decorate(function):
+        if not callable(function):
+            raise TypeError("cached decorates a function")
+        return update_wrapper(_extension.Cached(function, maxsize, typed, CacheInfo), function)
+
+    return decorate

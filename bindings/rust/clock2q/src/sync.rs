@@ -1,0 +1,271 @@
+//! A cache that threads share.
+
+mod flight;
+mod shard;
+
+use crate::slots::Slots;
+use crate::store::{hash_of, Store};
+use crate::Refused;
+use shard::Shard;
+use std::borrow::Borrow;
+use std::collections::hash_map::RandomState;
+use std::convert::Infallible;
+use std::fmt;
+use std::hash::{BuildHasher, Hash};
+
+/// How many shards there are if there are keys enough.
+const SHARDS: usize = 16;
+/// How many keys a shard is for at least, unless the number of shards is asked for.
+const SHARD_CAPACITY: usize = 64;
+
+/// A map of fixed capacity that threads share: shards, each a [`Cache`](crate::Cache) under a lock of its
+/// own. The high bits of a key's hash choose its shard.
+///
+/// The capacity is divided among the shards, so a key may have to leave a full shard while another one has
+/// room. A call of one key locks one shard; [`len`](Cache::len), [`clear`](Cache::clear) and those like
+/// them lock all of them in turn, and what they return may have changed meanwhile.
+///
+/// `Hash` and the closure of [`get_or_insert_with`](Cache::get_or_insert_with) run without a lock, and what
+/// leaves is dropped without one, but by [`clear`](Cache::clear). `Eq`, `Clone` and the closure of
+/// [`get_with`](Cache::get_with) run under the lock of a shard: if one of them uses this cache, it may
+/// wait for ever or panic. After a panic the cache is whole, and no lock is poisoned.
+///
+/// ```
+/// fn send_and_share<T: Send + Sync>(_: T) {}
+/// send_and_share(clock2q::sync::Cache::<String, Vec<u8>>::new(2));
+/// ```
+///
+/// ```compile_fail,E0277
+/// fn share<T: Sync>(_: T) {}
+/// share(clock2q::sync::Cache::<String, std::rc::Rc<u8>>::new(2));
+/// ```
+///
+/// # Example
+///
+/// ```
+/// use clock2q::sync::Cache;
+/// use std::thread;
+///
+/// let cache = Cache::new(1000)?;
+/// thread::scope(|scope| {
+///     for _ in 0..4 {
+///         // One of the threads makes the value, and the others wait for it.
+///         scope.spawn(|| assert_eq!(cache.get_or_insert_with("seven", || 7), 7));
+///     }
+/// });
+/// assert_eq!(cache.get("seven"), Some(7));
+/// # Ok::<(), clock2q::Refused>(())
+/// ```
+pub struct Cache<K, V, S = RandomState> {
+    shards: Box<[Shard<K, V>]>,
+    hasher: S,
+    capacity: usize,
+}
+
+impl<K, V> Cache<K, V> {
+    /// Makes a cache for `capacity` keys, which are hashed with random numbers. It has 16 shards, or
+    /// fewer if those were for less than 64 keys each.
+    ///
+    /// # Errors
+    ///
+    /// [`Refused::Capacity`] and [`Refused::Memory`].
+    pub fn new(capacity: usize) -> Result<Cache<K, V>, Refused> {
+        Cache::with_hasher(capacity, RandomState::new())
+    }
+}
+
+impl<K, V, S> Cache<K, V, S> {
+    /// Makes a cache for `capacity` keys, which `hasher` hashes.
+    ///
+    /// # Errors
+    ///
+    /// Those of [`new`](Cache::new).
+    pub fn with_hasher(capacity: usize, hasher: S) -> Result<Cache<K, V, S>, Refused> {
+        let shards = (capacity / SHARD_CAPACITY).clamp(1, SHARDS);
+        Cache::with_shards_and_hasher(capacity, shards, hasher)
+    }
+
+    /// Makes a cache of that many shards, or of one for each key if there are fewer keys. The capacities
+    /// of the shards differ by at most 1.
+    ///
+    /// # Errors
+    ///
+    /// Those of [`new`](Cache::new), and [`Refused::Capacity`] if `shards` is 0.
+    pub fn with_shards_and_hasher(
+        capacity: usize,
+        shards: usize,
+        hasher: S,
+    ) -> Result<Cache<K, V, S>, Refused> {
+        let count = shards.min(capacity);
+        if count == 0 {
+            return Err(Refused::Capacity);
+        }
+        let (each, more) = (capacity / count, capacity % count);
+        let shards: Result<Vec<_>, Refused> = (0..count)
+            .map(|at| Slots::new(each + usize::from(at < more)))
+            .map(|slots| Ok(Shard::new(Store::new(slots?)?)))
+            .collect();
+        Ok(Cache {
+            shards: shards?.into_boxed_slice(),
+            hasher,
+            capacity,
+        })
+    }
+
+    /// Returns how many keys there are.
+    pub fn len(&self) -> usize {
+        self.shards
+            .iter()
+            .map(|shard| shard.lock().entries.len())
+            .sum()
+    }
+
+    /// Returns true if there is no key.
+    pub fn is_empty(&self) -> bool {
+        self.len() == 0
+    }
+
+    /// Returns how many keys there can be.
+    pub fn capacity(&self) -> usize {
+        self.capacity
+    }
+
+    /// Returns how many look-ups found their key, since the cache was made. Those of
+    /// [`get`](Cache::get), [`get_with`](Cache::get_with),
+    /// [`get_or_insert_with`](Cache::get_or_insert_with) and
+    /// [`try_get_or_insert_with`](Cache::try_get_or_insert_with) are counted.
+    pub fn hits(&self) -> u64 {
+        self.shards.iter().map(|shard| shard.lock().hits).sum()
+    }
+
+    /// Returns how many of these look-ups didn't.
+    pub fn misses(&self) -> u64 {
+        self.shards.iter().map(|shard| shard.lock().misses).sum()
+    }
+
+    /// Returns the hasher.
+    pub fn hasher(&self) -> &S {
+        &self.hasher
+    }
+
+    /// Removes all keys, and forgets those that left.
+    pub fn clear(&self) {
+        for shard in self.shards.iter() {
+            shard.clear();
+        }
+    }
+
+    fn shard(&self, hash: u64) -> &Shard<K, V> {
+        // As `entries::mark` does, so that a poor hasher does no harm.
+        let spread = u128::from(hash.wrapping_mul(crate::entries::SPREAD));
+        &self.shards[((spread * self.shards.len() as u128) >> 64) as usize]
+    }
+}
+
+impl<K: Hash + Eq, V, S: BuildHasher> Cache<K, V, S> {
+    /// Returns a clone of the value of a key, after a hit.
+    pub fn get<Q>(&self, key: &Q) -> Option<V>
+    where
+        K: Borrow<Q>,
+        Q: Hash + Eq + ?Sized,
+        V: Clone,
+    {
+        self.get_with(key, V::clone)
+    }
+
+    /// Returns what `read` makes of the value of a key, after a hit.
+    pub fn get_with<Q, R>(&self, key: &Q, read: impl FnOnce(&V) -> R) -> Option<R>
+    where
+        K: Borrow<Q>,
+        Q: Hash + Eq + ?Sized,
+    {
+        let hash = hash_of(&self.hasher, key);
+        let mut store = self.shard(hash).lock();
+        let slot = store.find(hash, key)?;
+        store.entries.pair(slot).map(|(_, value)| read(value))
+    }
+
+    /// Returns true if the key is here. It records no hit.
+    pub fn contains_key<Q>(&self, key: &Q) -> bool
+    where
+        K: Borrow<Q>,
+        Q: Hash + Eq + ?Sized,
+    {
+        let hash = hash_of(&self.hasher, key);
+        self.shard(hash).lock().entries.slot(hash, key).is_some()
+    }
+
+    /// Stores a value for a key, and returns the one before, if the key was here. A pair that has to leave
+    /// for a new key is dropped.
+    pub fn insert(&self, key: K, value: V) -> Option<V> {
+        let hash = hash_of(&self.hasher, &key);
+        self.shard(hash).push(hash, key, value).replaced()
+    }
+
+    /// Stores a value for a key, and returns what had its slot: `key` and its value before, or the pair
+    /// that had to leave for it.
+    pub fn push(&self, key: K, value: V) -> Option<(K, V)> {
+        let hash = hash_of(&self.hasher, &key);
+        self.shard(hash).push(hash, key, value).pair()
+    }
+
+    /// Returns a clone of the value of a key, after a hit or after storing what `make` returns. If
+    /// several threads ask for a key at once, one of them makes the value, which the others wait for.
+    ///
+    /// `make` may use this cache, but not ask for this key, or wait for a thread that does.
+    ///
+    /// # Panics
+    ///
+    /// If `make` asks for this key. If `make` panics, the next of those that wait makes the value.
+    pub fn get_or_insert_with(&self, key: K, make: impl FnOnce() -> V) -> V
+    where
+        V: Clone,
+    {
+        match self.try_get_or_insert_with(key, || Ok::<V, Infallible>(make())) {
+            Ok(value) => value,
+            Err(never) => match never {},
+        }
+    }
+
+    /// Does what [`get_or_insert_with`](Cache::get_or_insert_with) does, with a `make` that may fail.
+    ///
+    /// # Errors
+    ///
+    /// That of `make`. Nothing is stored, and the next of those that wait makes the value.
+    ///
+    /// # Panics
+    ///
+    /// If `make` asks for this key.
+    pub fn try_get_or_insert_with<E>(
+        &self,
+        key: K,
+        make: impl FnOnce() -> Result<V, E>,
+    ) -> Result<V, E>
+    where
+        V: Clone,
+    {
+        let hash = hash_of(&self.hasher, &key);
+        self.shard(hash).value_or_make(hash, key, make)
+    }
+
+    /// Removes a key, and returns its value. A key that isn't here is forgotten.
+    pub fn remove<Q>(&self, key: &Q) -> Option<V>
+    where
+        K: Borrow<Q>,
+        Q: Hash + Eq + ?Sized,
+    {
+        let hash = hash_of(&self.hasher, key);
+        let removed = self.shard(hash).lock().remove(hash, key);
+        removed.map(|(_, value)| value)
+    }
+}
+
+impl<K, V, S> fmt::Debug for Cache<K, V, S> {
+    fn fmt(&self, formatter: &mut fmt::Formatter<'_>) -> fmt::Result {
+        formatter
+            .debug_struct("Cache")
+            .field("len", &self.len())
+            .field("capacity", &self.capacity())
+            .finish()
+    }
+}

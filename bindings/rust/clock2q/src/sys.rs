@@ -1,0 +1,70 @@
+//! The functions of the library that `clock2q.h` declares, with what it asks of its callers.
+#![allow(missing_docs, non_camel_case_types)]
+
+use std::ffi::c_void;
+
+/// The version whose functions these are: 10,000 times the major number, 100 times the minor one and
+/// the patch.
+pub const CLOCK2Q_VERSION: u32 = 200;
+/// There is a cache now.
+pub const CLOCK2Q_DONE: u32 = 0;
+/// A request for memory was refused.
+pub const CLOCK2Q_NO_MEMORY: u32 = 1;
+/// The capacity is 0 or above [`CLOCK2Q_MAX_CAPACITY`].
+pub const CLOCK2Q_BAD_CAPACITY: u32 = 2;
+/// The shares don't fit together.
+pub const CLOCK2Q_BAD_POLICY: u32 = 3;
+/// The largest capacity.
+pub const CLOCK2Q_MAX_CAPACITY: usize = 16_777_215;
+
+/// A cache, or none where the pointer is null.
+#[repr(C)]
+pub struct clock2q {
+    pub at: *mut c_void,
+}
+
+/// Where a key is, and which key entered that slot last before.
+#[repr(C)]
+#[derive(Clone, Copy, Debug, Default, PartialEq, Eq)]
+pub struct clock2q_place {
+    pub slot: usize,
+    pub last: u64,
+    pub has_last: bool,
+}
+
+/// The slot of a key, if it has one.
+#[repr(C)]
+#[derive(Clone, Copy, Debug, Default, PartialEq, Eq)]
+pub struct clock2q_found {
+    pub slot: usize,
+    pub is_found: bool,
+}
+
+/// Where caches take their memory from, and where it goes back to. Neither of the two is `None`.
+#[repr(C)]
+#[derive(Clone, Copy, Debug)]
+pub struct clock2q_memory {
+    pub take: Option<unsafe extern "C" fn(size: usize) -> *mut c_void>,
+    pub give_back: Option<unsafe extern "C" fn(block: *mut c_void)>,
+}
+
+extern "C" {
+    pub fn clock2q_version() -> u32;
+    pub fn clock2q_use_memory(memory: *const clock2q_memory) -> clock2q_memory;
+    pub fn clock2q_new(cache: *mut clock2q, capacity: usize) -> u32;
+    pub fn clock2q_with_policy(
+        cache: *mut clock2q,
+        capacity: usize,
+        small: usize,
+        window: usize,
+    ) -> u32;
+    pub fn clock2q_enter_key(cache: *mut clock2q, key: u64) -> clock2q_place;
+    pub fn clock2q_find_key(cache: *mut clock2q, key: u64) -> clock2q_found;
+    pub fn clock2q_at(cache: *mut clock2q, slot: usize, key: u64) -> bool;
+    pub fn clock2q_contains(cache: *mut clock2q, key: u64) -> bool;
+    pub fn clock2q_remove(cache: *mut clock2q, key: u64) -> bool;
+    pub fn clock2q_clear(cache: *mut clock2q);
+    pub fn clock2q_len(cache: *mut clock2q) -> usize;
+    pub fn clock2q_capacity(cache: *mut clock2q) -> usize;
+    pub fn clock2q_release(cache: clock2q);
+}

@@ -1,0 +1,56 @@
+//! Slots against a plain model.
+
+mod common;
+
+use clock2q::{sys, PageCache, Place, Refused, MAX_CAPACITY};
+use common::Draws;
+
+#[test]
+fn the_library_has_the_version_of_the_crate() {
+    assert_eq!(unsafe { sys::clock2q_version() }, sys::CLOCK2Q_VERSION);
+}
+
+/// Each key at its slot, and the key that entered each slot last.
+#[test]
+fn slots_are_shared_out() {
+    for capacity in [1, 2, 3, 10, 100, 1000] {
+        let mut pages = PageCache::new(capacity).expect("a cache");
+        let mut entered = vec![None; capacity];
+        let mut draws = Draws(88_172_645_463_325_252);
+        for _ in 0..100_000 {
+            let key = draws.below(3 * capacity as u64);
+            let found = pages.find(key);
+            assert_eq!(pages.contains(key), found.is_some());
+            if draws.below(20) == 0 {
+                assert_eq!(pages.remove(key), found.is_some());
+                continue;
+            }
+            let Place { slot, last } = pages.enter(key);
+            assert!(found.is_none() || found == Some(slot));
+            assert_eq!(last, entered[slot]);
+            entered[slot] = Some(key);
+            assert!(pages.is_at(slot, key));
+            assert!(pages.len() <= capacity);
+        }
+    }
+}
+
+#[test]
+fn refusals() {
+    assert_eq!(PageCache::new(0).err(), Some(Refused::Capacity));
+    assert_eq!(
+        PageCache::new(MAX_CAPACITY + 1).err(),
+        Some(Refused::Capacity)
+    );
+    assert_eq!(
+        PageCache::with_policy(10, 10, 1).err(),
+        Some(Refused::Policy)
+    );
+    assert_eq!(
+        PageCache::with_policy(10, 0, 0)
+            .map(|pages| pages.capacity())
+            .ok(),
+        Some(10)
+    );
+    assert_eq!(Refused::Policy.to_string(), "policy refused");
+}

@@ -1,5 +1,0 @@
-use Rattle.std.proofs.Common.{rules}
-use Rattle.clock2q_text.proofs.transfer.read_all.Goals as goal
-
-pub returns-then-count-eq0-clause-given : goal.returns-then-count-eq0-clause-given
-returns-then-count-eq0-clause-given g c = search rules
