@@ -4,6 +4,7 @@
 set -eu
 work=$(mktemp -d)
 trap 'rm -rf "$work"' EXIT
+trap 'exit 1' HUP INT TERM
 cd "$work"
 set -- stdio stdlib string math errno time ctype signal unistd locale pthread sys/stat
 for first; do

@@ -1,4 +1,4 @@
--- A table whose handles are indices of a list of hashes goes on to be one.
+-- A table whose handles are indices of a list of hashes remains one.
 use Rattle.std.proofs.Common.{◌≡◌, ℕ, ◌<◌, inl, inr, ap, sym, ◌∙◌, subst, arith, List, [], length, get_or, Result, Ok, Err, ◌≢◌}
 use Rattle.clock2q_handles.specs.declared.error.TableError.{TableError}
 use Rattle.clock2q_handles.specs.declared.error.TableError.TheVariants.{Memory}
@@ -34,7 +34,7 @@ module _ (hashes : List ℕ) (homes : List (List (ℕ × ℕ))) (is : HoldsIndic
             | inr one ↦ omega (arith, l, e.2, ap (λ (f : ℕ × ℕ). f.1) one)
           ]
 
-  -- what an insertion of an index leaves where it is not refused
+  -- what an insertion of an index leaves if it is not refused
   pub indices_put : {F : Type 0} (g : Mut F (ℕ × Unit {0}) ℕ) (f : F) (new : List (List (ℕ × ℕ))) (x at : ℕ) (result : Result (Unit {0}) TableError) (done : Unit {0}) → result ≡ Ok done
       → (result ≢ Err Memory → AfterGrowth g f homes (λ hs. PutIn hs x at result new)) → x ≡ hash_at hashes at → at < length hashes → GivesHashes g (hash_at hashes) homes f → HoldsIndices hashes new
   indices_put g f new x at (Err e) done ok put is_hash l gives = absurd (cc)

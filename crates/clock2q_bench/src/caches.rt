@@ -1,4 +1,4 @@
-//! The work that the cache is measured by.
+//! The cache's measured work.
 ghost use Rattle.std.specs.Prelude.{◌<◌, ◌≤◌};
 
 use crate::hashing::Multiplying;
@@ -8,22 +8,22 @@ use std::alloc::{AllocError, Global};
 use std::hash::BuildHasherDefault;
 use std::num::NonZeroUsize;
 
-/// What makes the hashers of a measured cache.
+/// The builder of a measured cache's hashers.
 pub(crate) type Hashers = BuildHasherDefault<Multiplying>;
 
 /// A measured cache.
 pub(crate) type Measured = Cache<u64, u64, Hashers>;
 
-/// What a run over a trace comes to: how many keys were resident, and the sum of their values,
-/// modulo 2^64.
+/// The result of a run over a trace: the number of keys that were resident, and the sum of their
+/// values, modulo 2^64.
 #[derive(Clone, Copy)]
 pub(crate) struct Hits {
     pub(crate) count: u64,
     pub(crate) sum: u64,
 }
 
-/// Returns a skewed trace of keys: each of the first `spread` powers of two is as likely to be the
-/// size of the range that a key comes from.
+/// Returns a skewed trace of keys: each of the first `spread` powers of two is equally likely to be
+/// the size of the range that a key comes from.
 pub(crate) fn trace(alloc: Global, length: usize, spread: u64) -> Result<Vec<u64>, AllocError>
     requires some { 0 < spread }
     requires few { spread ≤ 32 }
@@ -55,8 +55,9 @@ pub(crate) fn access_all(cache: &mut Measured, keys: &[u64]) -> Hits {
     access(cache, keys)
 }
 
-/// Looks each key up, and puts those that aren't resident, each with its number in the trace. It is the
-/// one caller of `get` and `put` here, so that both are inlined as in a program that calls them once.
+/// Looks each key up, and puts those that aren't resident, each with its number in the trace. It is
+/// the only caller of `get` and `put` here, so that both are inlined as in a program that calls
+/// them once.
 #[inline(never)]
 fn access(cache: &mut Measured, keys: &[u64]) -> Hits {
     let mut hits = Hits { count: 0, sum: 0 };
@@ -72,7 +73,7 @@ fn access(cache: &mut Measured, keys: &[u64]) -> Hits {
     hits
 }
 
-/// Keys with the slots at which they are resident.
+/// Resident keys and their slots.
 #[derive(Drop)]
 pub(crate) struct Hints {
     pub(crate) slots: Vec<usize>,
@@ -116,7 +117,7 @@ pub(crate) fn hint_all(cache: &mut Measured, slots: &[usize], keys: &[u64]) -> u
     sum
 }
 
-/// Brings the first `count` keys of a trace into a cache.
+/// Looks up the first `count` keys of a trace, and puts those that aren't resident.
 pub(crate) fn bring_first(cache: &mut Measured, keys: &[u64], count: usize) {
     access(cache, &keys[..count.min(keys.len())]);
 }

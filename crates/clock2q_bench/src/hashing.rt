@@ -1,11 +1,11 @@
-//! A hasher of one multiplication, for keys that are numbers of 64 bits.
+//! A hasher of one multiplication, for 64-bit numbers as keys.
 ghost use Rattle.clock2q_bench.specs.Hashing.{folded};
 ghost use Rattle.std.specs.Prelude.{◌≡◌};
 
 use std::hash::Hasher;
 
-/// The hash of the number that was written last: both halves of its product with an odd number,
-/// joined. Other bytes change nothing.
+/// The hash of the number that was written last: the XOR of both halves of its product with an odd
+/// number. Other bytes change nothing.
 #[derive(Clone, Copy)]
 pub struct Multiplying {
     hash: u64,
@@ -38,7 +38,7 @@ impl Hasher for Multiplying {
     }
 }
 
-/// Joins both halves of a product.
+/// Returns the XOR of both halves of a number's product.
 fn fold(number: u64) -> u64
     ensures folded { result ≡ folded number }
 {

@@ -1,5 +1,5 @@
-//! Measures the handle table and the cache on seeded work. Standard output has what the work comes
-//! to, and standard error the times. `bench/README.md` says how instructions are counted.
+//! Measures the handle table and the cache on seeded work. Standard output has the results of the
+//! work, and standard error the times. `bench/README.md` explains how instructions are counted.
 #![tactic(auto)]
 
 ghost use Rattle.std.specs.Prelude.{◌≡◌, ◌<◌, ◌≤◌, [], All, length};
@@ -16,13 +16,13 @@ use error::BenchError;
 use std::num::NonZeroUsize;
 use std::time::{Duration, Instant};
 
-/// How many entries the table gets.
+/// The number of entries that are inserted into the table.
 const ENTRIES: usize = 1_000_000;
 
-/// How many keys a cache is asked for.
+/// The number of accesses to a cache; the largest cache gets five times as many.
 const ACCESSES: usize = 2_000_000;
 
-/// How many keys all the caches of a size have room for that are made or cleared in turn.
+/// The total capacity of the caches of each size that are made and cleared in turn.
 const ROOM: usize = 1_000_000;
 
 fn main(rt: HostRuntime) -> Result<(), BenchError> {
@@ -41,7 +41,7 @@ fn measure_table(rt: &HostRuntime, entries: usize) -> Result<(), BenchError> {
     work_table(rt, &mut table, &hashes, &order)
 }
 
-/// Inserts each index of the hashes, looks all up, removes them, and prints what it comes to.
+/// Inserts each index of the hashes, looks all up, removes them, and prints the results.
 fn work_table(
     rt: &HostRuntime,
     table: &mut Table<usize>,
@@ -69,7 +69,7 @@ fn work_table(
     Ok(())
 }
 
-/// Measures a cache of a capacity on a trace of keys.
+/// Measures a cache with a capacity on a trace of keys.
 fn measure_cache(
     rt: &HostRuntime,
     capacity: usize,
@@ -92,8 +92,8 @@ fn measure_trace(rt: &HostRuntime, size: NonZeroUsize, keys: &[u64]) -> Result<(
     work_cache(rt, &mut cache, size, keys)
 }
 
-/// Prints how many keys of a trace were resident, the sum of their values, that of a second pass by
-/// their slots, and the times; then those of making and clearing.
+/// Prints the number of keys of a trace that were resident, the sum of their values, the sum of a
+/// second pass by their slots, and the times; then those of making and clearing.
 fn work_cache(
     rt: &HostRuntime,
     cache: &mut Measured,
@@ -118,8 +118,8 @@ fn work_cache(
     measure_clearing(rt, cache, keys, size)
 }
 
-/// What a pass by slots comes to: how many keys it looks up, the sum of their values, modulo 2^64,
-/// and how long it takes.
+/// The result of a pass by slots: the number of keys looked up, the sum of their values, modulo
+/// 2^64, and the time taken.
 #[derive(Clone, Copy)]
 struct BySlot {
     count: usize,

@@ -1,5 +1,5 @@
-//! The work that the handle table is measured by: each loop is a function of its own, so that its
-//! instructions can be counted.
+//! The handle table's measured work: each loop is a function of its own, so that its instructions
+//! can be counted.
 ghost use Rattle.clock2q_bench.specs.Indices.{HoldsIndices};
 ghost use Rattle.std.specs.Prelude.{◌≡◌, ◌<◌, [], IfOk, length, All};
 
@@ -15,7 +15,7 @@ pub(crate) fn order(alloc: Global, count: usize) -> Result<Vec<usize>, AllocErro
     Ok(order)
 }
 
-/// Appends the handles below `count` to none.
+/// Appends the handles below `count` to an empty list.
 fn append_order(order: &mut Vec<usize>, count: usize) -> Result<(), AllocError>
     requires none { order.old.items ≡ [] }
     ensures below { IfOk result (λ _. All (λ at. at < count) order.new.items) }
@@ -26,7 +26,7 @@ fn append_order(order: &mut Vec<usize>, count: usize) -> Result<(), AllocError>
     Ok(())
 }
 
-/// Inserts each index of `hashes` under the hash there, upwards.
+/// Inserts each index of `hashes` under the hash there, in ascending order.
 #[inline(never)]
 pub(crate) fn insert_all(table: &mut Table<usize>, hashes: &[u64]) -> Result<(), TableError>
     requires empty { table.old.homes ≡ [] }
@@ -53,7 +53,7 @@ pub(crate) fn find_all(table: &Table<usize>, hashes: &[u64], order: &[usize]) ->
     sum
 }
 
-/// Returns the first candidate of `hash` that has this very hash.
+/// Returns the first candidate whose full hash is `hash`.
 #[inline(always)]
 fn find(table: &Table<usize>, hashes: &[u64], hash: u64) -> Option<usize>
     requires held { HoldsIndices hashes.now table.now.homes }
@@ -67,7 +67,7 @@ fn find(table: &Table<usize>, hashes: &[u64], hash: u64) -> Option<usize>
     None
 }
 
-/// Returns how many of the handles are removed.
+/// Removes the handles, and returns how many the table had.
 #[inline(never)]
 pub(crate) fn remove_all(table: &mut Table<usize>, hashes: &[u64], order: &[usize]) -> usize
     requires below { All (λ at. at < length hashes.now) order.now }

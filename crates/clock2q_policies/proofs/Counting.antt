@@ -1,4 +1,4 @@
--- The hits of a trace, one key further.
+-- The hits of a trace with one more key.
 use Rattle.std.proofs.Common.{◌≡◌, ℕ, ◌+◌, ◌<◌, ap, arith, add-one, Bool, cond, List, length, drop, drop-cons, get_or}
 use Rattle.clock2q_policies.specs.Policies.{hits}
 

@@ -1,4 +1,4 @@
--- A key of a trace comes to a plain cache: what its stamps tell then.
+-- The stamps of a plain cache when a key of a trace is accessed.
 use Rattle.std.proofs.Common.{◌≡◌, ℕ, ◌+◌, ◌-◌, ◌<◌, ◌≤◌, refl, sym, ap, ◌∙◌, subst, arith, add-one, true, false, ltb, List, ◌∷◌, length, length-set, length-take, take, get_or, set}
 use Rattle.std.proofs.lemmas.List.{get_or_default}
 use Rattle.clock2q_policies.specs.declared.plain.Residents.{Residents}
@@ -20,13 +20,13 @@ module _ {A : Type 0} (capacity : ℕ) (trace : List ℕ) (at : ℕ) (old : Resi
   abbrev stamps : List ℕ
   stamps = set old.stamps.items key (at + 1)
 
-  -- the key's stamp tells whether it is held
+  -- the key's stamp shows whether it is held
   pub tells : (stamp : ℕ) → stamp ≡ get_or old.stamps.items key stamp → is_in key held ≡ ltb old.left stamp
   tells stamp read =
       let same : get_or old.stamps.items key 0 ≡ stamp = sym (read ∙ get_or_default old.stamps.items key stamp 0 (holding.known at before)) in
       is_in-stamp trace old.stamps.items old.left key at holding.stamped ∙ ap (ltb old.left) same
 
-  -- a key that is hit without a stamp
+  -- a hit that changes no stamp
   pub stays : held_by trace (at + 1) old ≡ held
   stays = rw add-one (unstamped trace old.stamps.items old.left key at holding.stamped refl)
 
@@ -39,7 +39,7 @@ module _ {A : Type 0} (capacity : ℕ) (trace : List ℕ) (at : ℕ) (old : Resi
     room = holding.room;
   }
 
-  -- a key that is stamped comes in front of what is left
+  -- a key that is stamped is put in front of the rest
   front : (left : ℕ) → left ≤ at → held_at trace stamps left (at + 1) ≡ key ∷ without key (held_at trace old.stamps.items left at)
   front left begun = rw add-one (stamped-front trace old.stamps.items left key at holding.stamped refl (holding.known at before) begun)
 
@@ -51,11 +51,11 @@ module _ {A : Type 0} (capacity : ℕ) (trace : List ℕ) (at : ℕ) (old : Resi
     came : held_at trace stamps old.left (at + 1) ≡ key ∷ held
     came = moved ∙ ap (λ rest. key ∷ rest) (without-absent key held absent)
 
-    -- a key that comes where there is room
+    -- a new key, if there is room
     pub came-room : old.count < capacity → held_at trace stamps old.left (at + 1) ≡ brought capacity key held
     came-room room = came ∙ sym (brought-room capacity key held (omega (arith, room, holding.counted)))
 
-    -- and where the oldest leaves
+    -- and if the oldest is evicted
     module _ (left : ℕ) (begun : left ≤ at) (full : old.count ≡ capacity) (some : 0 < capacity) (oldest : held_at trace old.stamps.items left at ≡ take (length held - 1) held) where
       list-full : held_at trace stamps left (at + 1) ≡ key ∷ take (length held - 1) held
       list-full = front left begun ∙ ap (λ rest. key ∷ without key rest) oldest ∙ ap (λ rest. key ∷ rest) (without-absent key (take (length held - 1) held) (absent-taken key (length held - 1) held absent))

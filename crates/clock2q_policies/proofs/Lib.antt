@@ -1,3 +1,17 @@
 pub mod Stamping
 pub mod Holding
 pub mod Counting
+pub mod Flushing
+pub mod WithoutSmall
+pub mod Sharing
+pub mod Optimum
+pub mod DemandPolicies
+pub mod MachineOptimum
+pub mod WorkedClock
+pub mod WorkedOptimum
+pub mod WorkedDistances
+pub mod Sums
+pub mod Nodes
+pub mod StackDistances
+pub mod LastAccesses
+pub mod Curve

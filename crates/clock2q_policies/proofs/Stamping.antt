@@ -1,10 +1,10 @@
--- The list that stamps tell: who is in it, and what a new stamp or a later beginning makes of it.
+-- The list that stamps define: which keys are in it, and how a new stamp or a later beginning changes it.
 use Rattle.std.proofs.Common.{◌≡◌, ◌≢◌, ℕ, zero, suc, ◌-◌, ◌<◌, ◌≤◌, inl, inr, refl, sym, ap, ◌∙◌, subst, arith, true, false, cond, ◌&&◌, eqb, ltb, List, [], ◌∷◌, ◌++◌, length, length-append, take, get_or, set, get_or-set_same, get_or-set_other}
 use Rattle.std.proofs.lemmas.Bool.{cases_Bool, cases_eq, cases_lt, eqb-true, ltb-true, eq-eqb, ne_eqb, lt-ltb, le-ltb, and_parts, and_from, and_left, and_right, or_left, or_from, or_cases, or_parts, or_right, false_from_ne_true}
 use Rattle.clock2q_policies.specs.Policies.{is_in, without, brought}
 use Rattle.clock2q_policies.specs.Stamps.{is_newest, held_at, AreStamps}
 
--- a key that isn't in a list is not taken out of it
+-- removing a key that isn't in a list changes nothing
 pub without-absent : (key : ℕ) (held : List ℕ) → is_in key held ≡ false → without key held ≡ held
 without-absent key [] absent = refl
 without-absent key (first ∷ held) absent =
@@ -27,7 +27,7 @@ module _ (trace stamps : List ℕ) (left : ℕ) where
   stamp_newest index stamped later =
       and_from (eqb (stamp_of (key_at index)) (suc index)) (ltb left (suc index)) (eq-eqb (stamp_of (key_at index)) (suc index) stamped) (lt-ltb left (suc index) later)
 
-  -- who is in the list has a stamp that says so
+  -- a key in the list has a stamp in range
   pub in_stamped : (key at : ℕ) → is_in key (held_at trace stamps left at) ≡ true → (left < stamp_of key) × (stamp_of key ≤ at)
   in_stamped key zero is = absurd (cc)
   in_stamped key (suc index) is = elim (cases_Bool (is_newest trace stamps left index)) [
@@ -47,7 +47,7 @@ module _ (trace stamps : List ℕ) (left : ℕ) where
         (below.0, omega (arith, below.1))
   ]
 
-  -- and who has such a stamp is in it
+  -- and a key with such a stamp is in it
   pub stamped_in : (key index at : ℕ) → key_at index ≡ key → stamp_of key ≡ suc index → left < suc index → index < at → is_in key (held_at trace stamps left at) ≡ true
   stamped_in key index zero same stamp later before = absurd (omega arith)
   stamped_in key index (suc last) same stamp later before = elim (cases_eq index last) [
@@ -63,7 +63,7 @@ module _ (trace stamps : List ℕ) (left : ℕ) where
         ]
   ]
 
-  -- so the stamp tells
+  -- so the stamp decides
   pub is_in-stamp : (key at : ℕ) → AreStamps trace stamps at → is_in key (held_at trace stamps left at) ≡ ltb left (stamp_of key)
   is_in-stamp key at are = elim (cases_lt left (stamp_of key)) [
     | inl held ↦
@@ -73,7 +73,7 @@ module _ (trace stamps : List ℕ) (left : ℕ) where
         false_from_ne_true (is_in key (held_at trace stamps left at)) (λ is. omega (arith, gone, (in_stamped key at is).0)) ∙ sym (le-ltb left (stamp_of key) gone)
   ]
 
-  -- a new stamp takes a key out of its earlier index
+  -- a new stamp removes a key from its earlier index
   pub held-stamped : (key stamp at : ℕ) → key < length stamps → at < stamp → held_at trace (set stamps key stamp) left at ≡ without key (held_at trace stamps left at)
   held-stamped key stamp zero within above = refl
   held-stamped key stamp (suc index) within above =
@@ -95,7 +95,7 @@ module _ (trace stamps : List ℕ) (left : ℕ) where
             ]
       ]
 
-  -- a key stands in the list once
+  -- a key is in the list once
   pub once : (key at : ℕ) → AreStamps trace stamps at → is_in key (held_at trace stamps left at) ≡ true → suc (length (without key (held_at trace stamps left at))) ≡ length (held_at trace stamps left at)
   once key at are is =
       let stamp = in_stamped key at is in
@@ -118,7 +118,7 @@ module _ (trace stamps : List ℕ) (left : ℕ) where
               ]
         ]
 
-  -- nothing stands before the beginning
+  -- nothing is before the beginning
   pub held-none : (at : ℕ) → at ≤ left → held_at trace stamps left at ≡ []
   held-none zero before = refl
   held-none (suc index) before =
@@ -133,7 +133,7 @@ module _ (trace stamps : List ℕ) (left : ℕ) where
         le-ltb (suc left) (suc index) (omega (arith, past)) ∙ sym (le-ltb left (suc index) (omega (arith, past)))
   ])
 
-  -- an index whose key has a later stamp is passed over
+  -- an index whose key has a later stamp is skipped
   pub held-stale : (at : ℕ) → get_or stamps (get_or trace left 0) 0 ≢ suc left → held_at trace stamps (suc left) at ≡ held_at trace stamps left at
   held-stale zero stale = refl
   held-stale (suc index) stale = elim (cases_eq left index) [
@@ -147,7 +147,7 @@ module _ (trace stamps : List ℕ) (left : ℕ) where
     ]
   ]
 
-  -- and one whose key has no later stamp has the last of the list
+  -- and one whose key has no later stamp is that of the last key of the list
   pub held-oldest : (at : ℕ) → get_or stamps (get_or trace left 0) 0 ≡ suc left → left < at → held_at trace stamps left at ≡ held_at trace stamps (suc left) at ++ get_or trace left 0 ∷ []
   held-oldest zero stamp before = absurd (omega arith)
   held-oldest (suc index) stamp before = elim (cases_eq left index) [
@@ -165,7 +165,7 @@ module _ (trace stamps : List ℕ) (left : ℕ) where
         ]
   ]
 
--- a list without its last
+-- a list without its last key
 take-all : (n : ℕ) (front : List ℕ) (last : ℕ) → n ≡ length front → take n (front ++ last ∷ []) ≡ front
 take-all n [] last long = rw long refl
 take-all n (first ∷ front) last long = rw long (ap (λ rest. first ∷ rest) (take-all (length front) front last refl))
@@ -179,7 +179,7 @@ pub none-taken : (held : List ℕ) → held ≡ [] → [] ≡ take (length held 
 none-taken [] is = refl
 none-taken (first ∷ held) is = absurd (cc)
 
--- nor is it in a part of the list
+-- a key that isn't in a list isn't in a part of it
 pub absent-taken : (key n : ℕ) (held : List ℕ) → is_in key held ≡ false → is_in key (take n held) ≡ false
 absent-taken key zero held absent = refl
 absent-taken key (suc n) [] absent = refl
@@ -187,7 +187,7 @@ absent-taken key (suc n) (first ∷ held) absent =
     let parts = or_parts (eqb first key) (is_in key held) absent in
     or_from (eqb first key) (is_in key (take n held)) parts.0 (absent-taken key n held parts.1)
 
--- a key comes in front, with room for it or without
+-- a key is added at the front, with room for it or without
 pub brought-room : (capacity key : ℕ) (held : List ℕ) → length held < capacity → brought capacity key held ≡ key ∷ held
 brought-room zero key held room = absurd (omega arith)
 brought-room (suc capacity) key held room = ap (λ rest. key ∷ rest) (all capacity held (omega (arith, room))) where
@@ -204,7 +204,7 @@ brought-full (suc capacity) key held some full =
     ap (λ m. key ∷ take m held) n
 
 module _ (trace stamps : List ℕ) (left key at : ℕ) (are : AreStamps trace stamps at) (here : get_or trace at 0 ≡ key) where
-  -- a key that is stamped comes in front
+  -- a key that is stamped is put at the front
   pub stamped-front : key < length stamps → left ≤ at → held_at trace (set stamps key (suc at)) left (suc at) ≡ key ∷ without key (held_at trace stamps left at)
   stamped-front within begun =
       let stamp : get_or (set stamps key (suc at)) (get_or trace at 0) 0 ≡ suc at = ap (λ k. get_or (set stamps key (suc at)) k 0) here ∙ get_or-set_same stamps key (suc at) 0 within in

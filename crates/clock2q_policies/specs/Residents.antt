@@ -1,13 +1,13 @@
--- What the stamps of a plain cache tell.
+-- The residents of a plain cache, given by its stamps.
 use Rattle.std.specs.Prelude.{◌≡◌, ℕ, ◌≤◌, List, length}
 use Rattle.clock2q_policies.specs.declared.plain.Residents.{Residents}
 use Rattle.clock2q_policies.specs.Stamps.{held_at, AreStamps, AreKnown}
 
--- the keys held after so many of a trace, newest first
+-- the keys held after the first `at` keys of a trace, newest first
 abbrev pub held_by : {A : Type 0} → List ℕ → ℕ → Residents A → List ℕ
 held_by trace at residents = held_at trace residents.stamps.items residents.left at
 
--- they are told by stamps and counted, and there are no more than the capacity
+-- they are given by stamps and counted, and there are no more than the capacity
 pub record IsHolding {A : Type 0} (capacity : ℕ) (trace : List ℕ) (at : ℕ) (residents : Residents A) : Type 0 where
   pub known : AreKnown trace residents.stamps.items
   pub stamped : AreStamps trace residents.stamps.items at

@@ -1,12 +1,12 @@
--- The list of a plain policy, told by the index in the trace at which each key was last put in front.
+-- The list of a plain policy, given by the index in the trace at which each key was last put at the front.
 use Rattle.std.specs.Prelude.{◌≡◌, ℕ, zero, suc, ◌<◌, ◌≤◌, Bool, ◌&&◌, ◌==◌, nat_lt, if◌then◌else◌, List, [], ◌∷◌, get_or, length}
 
 module _ (trace stamps : List ℕ) (left : ℕ) where
-  -- whether the key at an index was put in front there last, and hasn't left
+  -- whether the key at an index was last put at the front there, and isn't evicted
   abbrev pub is_newest : ℕ → Bool
   is_newest index = (get_or stamps (get_or trace index 0) 0 == suc index) && nat_lt left (suc index)
 
-  -- the keys held after so many of the trace, newest first
+  -- the keys held after this many of the trace, newest first
   abbrev pub held_at : ℕ → List ℕ
   held_at zero = []
   held_at (suc index) = if is_newest index then get_or trace index 0 ∷ held_at index else held_at index

@@ -28,8 +28,8 @@ pub enum PlainPolicy {
     FirstInFirstOut,
 }
 
-/// The keys that a plain cache holds. A key's stamp is one more than the index in the trace at which
-/// it was last put in front; it is held while its stamp is above `left`.
+/// The keys that a plain cache holds. A key's stamp is one more than the index in the trace at
+/// which it was last put at the front; it is held while its stamp is above `left`.
 #[derive(Drop)]
 struct Residents<A: Allocator> {
     stamps: Vec<usize, A>,
@@ -38,7 +38,7 @@ struct Residents<A: Allocator> {
 }
 
 impl<A: Allocator> Residents<A> {
-    /// Returns true if the key at an index of the trace is held, and does what the policy does then.
+    /// Accesses the key at an index of the trace, and returns true if it was held.
     fn access(
         &mut self,
         policy: PlainPolicy,
@@ -63,7 +63,7 @@ impl<A: Allocator> Residents<A> {
         is_hit
     }
 
-    /// Moves a held key to the front, where the policy does so.
+    /// Moves a held key to the front, if the policy does so.
     fn hit(&mut self, policy: PlainPolicy, capacity: NonZeroUsize, trace: &[u32], at: usize)
         requires at { at < length trace.now }
         requires holding { IsHolding (non_zero_usize_get capacity) trace.now at self.old }
@@ -78,7 +78,7 @@ impl<A: Allocator> Residents<A> {
         }
     }
 
-    /// Puts a key that isn't held in front. Where there is no room the oldest key leaves.
+    /// Adds a key that isn't held at the front. If there is no room, evicts the oldest key.
     fn bring(&mut self, capacity: NonZeroUsize, trace: &[u32], at: usize)
         requires at { at < length trace.now }
         requires holding { IsHolding (non_zero_usize_get capacity) trace.now at self.old }
@@ -96,7 +96,7 @@ impl<A: Allocator> Residents<A> {
     }
 }
 
-/// Returns where the list begins once its oldest key has left.
+/// Returns where the list begins after its oldest key is evicted.
 fn after_oldest(trace: &[u32], stamps: &[usize], left: usize, at: usize) -> usize
     requires left { left ≤ at }
     requires at { at ≤ length trace.now }
@@ -114,8 +114,8 @@ fn after_oldest(trace: &[u32], stamps: &[usize], left: usize, at: usize) -> usiz
     at
 }
 
-/// Returns how many keys of a trace are hits in a new cache of a plain policy: how many are
-/// resident as they come. The keys are numbers below `keys`.
+/// Returns the number of accesses of a trace that hit in a new cache with a plain policy. The keys
+/// are numbers below `keys`.
 ///
 /// # Errors
 ///

@@ -1,4 +1,4 @@
--- Keys whose bytes stand one after another.
+-- Keys whose bytes are stored one after another.
 use Rattle.std.proofs.Common.{◌≡◌, ℕ, zero, suc, ◌+◌, ◌-◌, ◌<◌, ◌≤◌, List, [], ◌∷◌, ◌++◌, length, get_or, take, drop, refl, ap, ◌∙◌, arith, length-append, length-drop}
 use Rattle.std.proofs.lemmas.List.{take-append-le, drop-append-le, take_all, drop_all}
 use Rattle.clock2q_simulation.specs.KnownKeys.{keys_in, AreStarts}
@@ -21,7 +21,7 @@ starts-at [] end i are l = absurd (omega (arith, l))
 starts-at (s ∷ starts) end zero are l = (are.0, are.1)
 starts-at (s ∷ starts) end (suc i) are l = starts-at starts end i are.2 (omega (arith, l))
 
--- where the first of some keys starts, when one more comes after them
+-- where the first key starts, after one more is appended
 first-same : (starts : List ℕ) (end other : ℕ) → get_or (starts ++ end ∷ []) 0 other ≡ get_or starts 0 end
 first-same [] end other = refl
 first-same (s ∷ starts) end other = refl
@@ -36,7 +36,7 @@ module _ (bytes key : List ℕ) where
       let past : drop (length bytes) (bytes ++ key) ≡ key = drop-append-le (length bytes) bytes key (omega arith) ∙ ap (λ l. l ++ key) (drop_all (length bytes) bytes (omega arith)) in
       ap (take (length (bytes ++ key) - length bytes)) past ∙ take_all (length (bytes ++ key) - length bytes) key (omega (arith, length-append bytes key))
 
-  -- one key more
+  -- one more key
   pub keys-more : (starts : List ℕ) → AreStarts starts (length bytes) → keys_in (bytes ++ key) (starts ++ length bytes ∷ []) ≡ keys_in bytes starts ++ key ∷ []
   keys-more [] are = ap (λ k. k ∷ []) last-part
   keys-more (s ∷ starts) are =

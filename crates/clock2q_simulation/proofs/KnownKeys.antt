@@ -1,4 +1,4 @@
--- Different keys, and a table of their numbers that gets one more.
+-- Different keys, and a table of their numbers that one more is added to.
 use Rattle.std.proofs.Common.{◌≡◌, ◌≢◌, ◌⊎◌, ℕ, zero, suc, ◌<◌, ◌^◌, inl, inr, refl, ap, sym, ◌∙◌, subst, arith, Bool, true, false, nat_eq, List, [], ◌∷◌, ◌++◌, length, length-append, get_or, Option, Some, None, Result, Ok, Err, slice_get}
 use Rattle.std.specs.Cmp.Lexicographic.{pointwise}
 use Rattle.std.specs.Prelude.{IfOk, OnErr}
@@ -17,7 +17,7 @@ use Rattle.clock2q_handles.proofs.Hashes.{hashes-put_last}
 use Rattle.clock2q_handles.proofs.HashOfHandle.{keyed_grown}
 use Rattle.clock2q_handles.proofs.Held.{entry_held, held_entry, entry_kept, entry_new, entry_from, grown_kept, grown_from, candidate_held, held_candidate}
 use Rattle.clock2q_handles.proofs.Offering.{IsFound}
-use Rattle.clock2q_simulation.specs.KnownKeys.{hash_of, keys_in, AreStarts, AreApart, IsIndexed, IsNumbered}
+use Rattle.clock2q_simulation.specs.KnownKeys.{keys_in, AreStarts, AreApart, IsIndexed, IsNumbered}
 use Rattle.clock2q_simulation.proofs.KeyBytes.{keys-more, starts-more}
 
 -- the key of a number
@@ -25,14 +25,14 @@ abbrev pub key_of : List (List ℕ) → ℕ → List ℕ
 key_of known number = get_or known number []
 
 -- and its hash
-abbrev pub hash_at : List (List ℕ) → ℕ → ℕ
-hash_at known number = hash_of (key_of known number)
+abbrev pub hash_at : (List ℕ → ℕ) → List (List ℕ) → ℕ → ℕ
+hash_at hash known number = hash (key_of known number)
 
 -- whether that key is this one
 abbrev pub is_key : List (List ℕ) → List ℕ → ℕ → Bool
 is_key known key number = pointwise nat_eq (key_of known number) key
 
--- what stands in a list that got one element more is an old one or that one
+-- an element of a list with one more appended is an old one or that one
 pub last_or_old : {X : Type 0} (xs : List X) (x held : X) (number : ℕ) → slice_get (xs ++ x ∷ []) number ≡ Some held → (slice_get xs number ≡ Some held) ⊎ ((number ≡ length xs) × (held ≡ x))
 last_or_old [] x held zero at = inr (refl, cc)
 last_or_old [] x held (suc number) at = absurd (cc)
@@ -43,15 +43,15 @@ last_or_old (y ∷ xs) x held (suc number) at = elim (last_or_old xs x held numb
 ]
 
 -- a growth of the table
-grown_index : (known : List (List ℕ)) (homes : List (List (ℕ × ℕ))) → IsIndexed known homes → IsIndexed known (grown (hash_at known) homes)
-grown_index known homes is = record {
-  hashes = (keyed_grown (hash_at known) homes is.hashes).1;
-  held = λ at. ((λ held. (is.held at).0 (grown_from (hash_at known) homes at held)), (λ l. grown_kept (hash_at known) homes at ((is.held at).1 l)));
+grown_index : (hash : List ℕ → ℕ) (known : List (List ℕ)) (homes : List (List (ℕ × ℕ))) → IsIndexed hash known homes → IsIndexed hash known (grown (hash_at hash known) homes)
+grown_index hash known homes is = record {
+  hashes = (keyed_grown (hash_at hash known) homes is.hashes).1;
+  held = λ at. ((λ held. (is.held at).0 (grown_from (hash_at hash known) homes at held)), (λ l. grown_kept (hash_at hash known) homes at ((is.held at).1 l)));
   apart = is.apart;
 }
 
--- one key more, which is none of the others
-module _ (known : List (List ℕ)) (key : List ℕ) where
+-- one more key, which equals none of the others
+module _ (hash : List ℕ → ℕ) (known : List (List ℕ)) (key : List ℕ) where
   abbrev more : List (List ℕ)
   more = known ++ key ∷ []
 
@@ -85,19 +85,19 @@ module _ (known : List (List ℕ)) (key : List ℕ) where
     ];
   }
 
-  module _ (homes : List (List (ℕ × ℕ))) (some : 0 < length homes) (is : IsIndexed known homes) where
-    hashes_still : IsHashOf (hash_at more) homes
+  module _ (homes : List (List (ℕ × ℕ))) (some : 0 < length homes) (is : IsIndexed hash known homes) where
+    hashes_still : IsHashOf (hash_at hash more) homes
     hashes_still h i e l at =
         let same : key_of more e.1 ≡ key_of known e.1 = more_old e.1 ((is.held e.1).0 (h, i, e, at, refl)) in
-        subst (λ k. (home homes (hash_of k) ≡ h) × (top (hash_of k) ≡ e.0)) (sym same) (is.hashes h i e l at)
+        subst (λ k. (home homes (hash k) ≡ h) × (top (hash k) ≡ e.0)) (sym same) (is.hashes h i e l at)
 
     abbrev now : List (List (ℕ × ℕ))
-    now = with_handle homes (hash_of key) (length known)
+    now = with_handle homes (hash key) (length known)
 
     held_now : (at : ℕ) → IsHeld now at → at < length more
     held_now at held =
         let e = held_entry now at held in
-        elim (entry_from homes (hash_of key) (top (hash_of key), length known) e.0 some e.1) [
+        elim (entry_from homes (hash key) (top (hash key), length known) e.0 some e.1) [
           | inl old ↦ omega (arith, more_long, (is.held at).0 (entry_held homes e.0 at e.2 old))
           | inr one ↦ omega (arith, more_long, e.2, ap (λ (f : ℕ × ℕ). f.1) one)
         ]
@@ -106,66 +106,66 @@ module _ (known : List (List ℕ)) (key : List ℕ) where
     now_held at l = elim (cases_lt at (length known)) [
       | inl old ↦
           let e = held_entry homes at ((is.held at).1 old) in
-          entry_held now e.0 at e.2 (entry_kept homes (hash_of key) (top (hash_of key), length known) e.0 some e.1)
+          entry_held now e.0 at e.2 (entry_kept homes (hash key) (top (hash key), length known) e.0 some e.1)
       | inr from ↦
           let last : length known ≡ at = omega (arith, l, from, more_long) in
-          entry_held now (top (hash_of key), length known) at last (entry_new homes (hash_of key) (top (hash_of key), length known) (top (hash_of key), length known) some)
+          entry_held now (top (hash key), length known) at last (entry_new homes (hash key) (top (hash key), length known) (top (hash key), length known) some)
     ]
 
-    index_more : length known < 2 ^ 32 → IsNew → IsIndexed more now
+    index_more : length known < 2 ^ 32 → IsNew → IsIndexed hash more now
     index_more few new = record {
       hashes =
-          hashes-put_last (hash_at more) homes (hash_of key) (top (hash_of key), length known) some hashes_still
-          (ap (λ k. home homes (hash_of k)) more_new) (ap (λ k. top (hash_of k)) more_new);
+          hashes-put_last (hash_at hash more) homes (hash key) (top (hash key), length known) some hashes_still
+          (ap (λ k. home homes (hash k)) more_new) (ap (λ k. top (hash k)) more_new);
       held = λ at. (held_now at, now_held at);
       apart = apart_more is.apart few new;
     }
 
--- what a lookup leaves that inserts a key's number where it finds none
-module _ (known : List (List ℕ)) (homes : List (List (ℕ × ℕ))) (key : List ℕ) (is : IsIndexed known homes) where
+-- what a lookup leaves if it inserts a key's number when it finds none
+module _ (hash : List ℕ → ℕ) (known : List (List ℕ)) (homes : List (List (ℕ × ℕ))) (key : List ℕ) (is : IsIndexed hash known homes) where
   abbrev grew : List (List (ℕ × ℕ))
-  grew = grown (hash_at known) homes
+  grew = grown (hash_at hash known) homes
 
-  -- the numbers that are offered are those of keys
-  pub offered_within : (i at : ℕ) → slice_get (candidates grew (hash_of key)) i ≡ Some at → at < length known
-  offered_within i at there = (is.held at).0 (grown_from (hash_at known) homes at (candidate_held grew (hash_of key) i at there))
+  -- the numbers offered are those of keys
+  pub offered_within : (i at : ℕ) → slice_get (candidates grew (hash key)) i ≡ Some at → at < length known
+  offered_within i at there = (is.held at).0 (grown_from (hash_at hash known) homes at (candidate_held grew (hash key) i at there))
 
-  -- no key equals one that no candidate has
-  none_equal : ((i at : ℕ) → slice_get (candidates grew (hash_of key)) i ≡ Some at → is_key known key at ≡ false) → (at : ℕ) → at < length known → key_of known at ≢ key
+  -- if no candidate has the key, no known key equals it
+  none_equal : ((i at : ℕ) → slice_get (candidates grew (hash key)) i ≡ Some at → is_key known key at ≡ false) → (at : ℕ) → at < length known → key_of known at ≢ key
   none_equal none at l same =
-      let now = grown_index known homes is in
-      let r = held_candidate (hash_at known) grew at now.hashes ((now.held at).1 l) in
-      let there : slice_get (candidates grew (hash_of key)) r.0 ≡ Some at = subst (λ k. slice_get (candidates grew (hash_of k)) r.0 ≡ Some at) same r.1 in
+      let now = grown_index hash known homes is in
+      let r = held_candidate (hash_at hash known) grew at now.hashes ((now.held at).1 l) in
+      let there : slice_get (candidates grew (hash key)) r.0 ≡ Some at = subst (λ k. slice_get (candidates grew (hash k)) r.0 ≡ Some at) same r.1 in
       let no = none r.0 at there in
       let yes = (bytes_eq-Decides (key_of known at) key).1 same in
       absurd (cc)
 
   abbrev pub IsDone : Result (ℕ × Bool) TableError → List (List (ℕ × ℕ)) → Type 0
-  IsDone (Ok r) new = IsNumbered known key r.0 r.1 new
-  IsDone (Err e) new = IsIndexed known new
+  IsDone (Ok r) new = IsNumbered hash known key r.0 r.1 new
+  IsDone (Err e) new = IsIndexed hash known new
 
   pub numbered : (found : Option ℕ) (result : Result (ℕ × Bool) TableError) (new : List (List (ℕ × ℕ))) → length known < 2 ^ 32
-      → Settles grew (hash_of key) (length known) found result new → IsFound (is_key known key) (candidates grew (hash_of key)) found → IsDone result new
+      → Settles grew (hash key) (length known) found result new → IsFound (is_key known key) (candidates grew (hash key)) found → IsDone result new
   numbered (Some c) result new few s f =
-      let held = candidate_held grew (hash_of key) f.1 c f.2 in
-      let within : c < length known = (is.held c).0 (grown_from (hash_at known) homes c held) in
+      let held = candidate_held grew (hash key) f.1 c f.2 in
+      let within : c < length known = (is.held c).0 (grown_from (hash_at hash known) homes c held) in
       let same : key_of known c ≡ key = (bytes_eq-Decides (key_of known c) key).0 f.0 in
-      subst (λ r. IsDone r new) (sym s.0) (slice_get-get_or known c [] within ∙ ap Some same, subst (IsIndexed known) (sym s.1) (grown_index known homes is))
+      subst (λ r. IsDone r new) (sym s.0) (slice_get-get_or known c [] within ∙ ap Some same, subst (IsIndexed hash known) (sym s.1) (grown_index hash known homes is))
   numbered None (Ok r) new few s f =
       subst (λ r. IsDone (Ok r) new) (sym s.0)
-      (refl, subst (IsIndexed (known ++ key ∷ [])) (sym s.1) (index_more known key grew (keyed_grown (hash_at known) homes is.hashes).0 (grown_index known homes is) few (none_equal f)))
-  numbered None (Err e) new few s f = subst (IsIndexed known) (sym s.1) (grown_index known homes is)
+      (refl, subst (IsIndexed hash (known ++ key ∷ [])) (sym s.1) (index_more hash known key grew (keyed_grown (hash_at hash known) homes is.hashes).0 (grown_index hash known homes is) few (none_equal f)))
+  numbered None (Err e) new few s f = subst (IsIndexed hash known) (sym s.1) (grown_index hash known homes is)
 
   -- however the lookup ends
   pub settled : (result : Result (ℕ × Bool) TableError) (new : List (List (ℕ × ℕ))) → (result ≢ Err Memory → IsDone result new) → (result ≡ Err Memory → new ≡ homes)
-      → IfOk result (λ found. IsNumbered known key found.0 found.1 new) × OnErr result (IsIndexed known new)
+      → IfOk result (λ found. IsNumbered hash known key found.0 found.1 new) × OnErr result (IsIndexed hash known new)
   settled (Ok r) new told memory = (told (λ e. absurd (cc)), tt)
-  settled (Err Memory) new told memory = (tt, subst (IsIndexed known) (sym (memory refl)) is)
+  settled (Err Memory) new told memory = (tt, subst (IsIndexed hash known) (sym (memory refl)) is)
   settled (Err Size) new told memory = (tt, told (λ e. absurd (cc)))
   settled (Err RunTooLong) new told memory = (tt, told (λ e. absurd (cc)))
 
--- the vectors of the keys' bytes and starts, when a new key is added that the table has a number for
-module _ (bytes starts b s b' s' x y key : List ℕ) (end number : ℕ) (is_new : Bool) (homes : List (List (ℕ × ℕ))) where
+-- the vectors of the keys' bytes and starts, when a new key is added whose number is already in the table
+module _ (hash : List ℕ → ℕ) (bytes starts b s b' s' x y key : List ℕ) (end number : ℕ) (is_new : Bool) (homes : List (List (ℕ × ℕ))) where
   -- what was done to them, and by which name they were read
   pub record IsAdding : Type 0 where
     pub bytes_are : b ≡ bytes
@@ -178,21 +178,21 @@ module _ (bytes starts b s b' s' x y key : List ℕ) (end number : ℕ) (is_new 
 
   pub record IsAdded : Type 0 where
     pub ordered : AreStarts s' (length b')
-    pub index : IsIndexed (keys_in b' s') homes
+    pub index : IsIndexed hash (keys_in b' s') homes
     pub keys : keys_in b' s' ≡ keys_in bytes starts ++ key ∷ []
     pub next : number ≡ length (keys_in bytes starts)
 
-  pub added : IsAdding → AreStarts starts (length bytes) → IsNumbered (keys_in x y) key number is_new homes → is_new ≡ true → IsAdded
+  pub added : IsAdding → AreStarts starts (length bytes) → IsNumbered hash (keys_in x y) key number is_new homes → is_new ≡ true → IsAdded
   added a are numbered new =
       let last : end ≡ length bytes = a.at_end ∙ ap length a.bytes_are in
       let all : b' ≡ bytes ++ key = a.more_bytes ∙ ap (λ l. l ++ key) a.bytes_are in
       let begin : s' ≡ starts ++ length bytes ∷ [] = a.more_starts ∙ ap (λ l. l ++ end ∷ []) a.starts_are ∙ ap (λ n. starts ++ n ∷ []) last in
       let keys : keys_in b' s' ≡ keys_in bytes starts ++ key ∷ [] = ap (λ l. keys_in l s') all ∙ ap (keys_in (bytes ++ key)) begin ∙ keys-more bytes key starts are in
       let read : keys_in x y ≡ keys_in bytes starts = ap (λ l. keys_in l y) (a.read_bytes ∙ a.bytes_are) ∙ ap (keys_in bytes) (a.read_starts ∙ a.starts_are) in
-      let done = subst (λ is. IsNumbered (keys_in x y) key number is homes) new numbered in
+      let done = subst (λ is. IsNumbered hash (keys_in x y) key number is homes) new numbered in
       record {
         ordered = rw (all, begin) (starts-more bytes key starts are);
-        index = subst (λ ks. IsIndexed ks homes) (ap (λ ks. ks ++ key ∷ []) read ∙ sym keys) done.1;
+        index = subst (λ ks. IsIndexed hash ks homes) (ap (λ ks. ks ++ key ∷ []) read ∙ sym keys) done.1;
         keys = keys;
         next = done.0 ∙ ap length read;
       }

@@ -3,5 +3,5 @@ mod KeyBytes
 mod KnownKeys
 mod LineByLine
 mod Numbering
-mod Sent
+mod Skipping
 mod Zipped

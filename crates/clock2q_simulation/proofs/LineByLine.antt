@@ -1,12 +1,12 @@
--- Lines told apart byte by byte.
+-- Lines separated byte by byte.
 use Rattle.std.proofs.Common.{◌≡◌, ℕ, ◌+◌, ◌<◌, Bool, true, false, List, [], ◌∷◌, ◌++◌, length, drop, get_or, eqb, refl, sym, ap, ◌∙◌, arith, rules, append_assoc, append-nil, Option, None, Some}
 use Rattle.std.proofs.lemmas.List.{drop_more}
 use Rattle.std.proofs.lemmas.List.Elements.{All-append}
 use Rattle.std.proofs.lemmas.List.Splits.{slice_split_at, slice_split_none}
-use Rattle.clock2q_text.specs.Text.{lines_of}
-use Rattle.clock2q_text.proofs.Cutting.{lines_of-ended, lines_of-last, lines_of-empty}
+use Rattle.clock2q_ports.specs.Lines.{lines_of}
+use Rattle.clock2q_ports.proofs.Lines.{lines_of-ended, lines_of-last, lines_of-empty}
 use Rattle.std.specs.Io.KnownBytes.{Consumes, IsAtEnd}
-use Rattle.clock2q_text.specs.Ports.{Traffic, traffic_after, one_if}
+use Rattle.clock2q_ports.specs.Ports.{Traffic, traffic_after, one_if}
 use Rattle.clock2q_simulation.specs.Reading.{HasNoEnd, Takes, AreRead}
 
 module _ (keys : List (List ℕ)) (line bytes : List ℕ) (i : ℕ) (h : i < length bytes) where
@@ -28,7 +28,7 @@ module _ (keys : List (List ℕ)) (line bytes : List ℕ) (i : ℕ) (h : i < len
       let here : drop i bytes ++ next ≡ byte ∷ (drop (i + 1) bytes ++ next) = rest-at next ∙ ap (λ b. b ∷ (drop (i + 1) bytes ++ next)) e in
       ap (λ xs. keys ++ lines_of (line ++ xs)) here ∙ ap (λ xs. keys ++ lines_of xs) (sym (append_assoc line (byte ∷ []) (drop (i + 1) bytes ++ next)))
 
--- a line of which the end is still to come, with another byte
+-- a line that hasn't ended yet, with one more byte
 pub unended-more : (line : List ℕ) (byte : ℕ) → HasNoEnd line → eqb byte 10 ≡ false → HasNoEnd (line ++ byte ∷ [])
 unended-more line byte h e = All-append (λ b. eqb b 10 ≡ false) line (byte ∷ []) h (search (rules, e))
 
@@ -45,7 +45,7 @@ went-on old xs ys stopped failed =
     let failures : old.failures + 0 + one_if failed ≡ old.failures + one_if failed = omega arith in
     cc
 
--- what was read of a source so far, and the lines that it comes to
+-- what was read from a source so far, and the lines in it
 pub record IsReadUpTo (old new : Traffic) (left remain : Option (List ℕ)) (keys : List (List ℕ)) (line : List ℕ) : Type 0 where
   pub unended : HasNoEnd line
   pub input : List ℕ
@@ -66,7 +66,7 @@ Consumes-none (Some x) = refl
 zero_more : (n : ℕ) → n + 0 ≡ n
 zero_more n = omega arith
 
--- nothing was read at first
+-- nothing has been read at first
 pub read-none : (old : Traffic) (left : Option (List ℕ)) → IsReadUpTo old old left left [] []
 read-none old left = record {
   unended = search rules;
@@ -79,7 +79,7 @@ read-none old left = record {
   none = sym (rw (append-nil old.bytes, zero_more old.stops, zero_more old.failures) refl)
 
 module _ (old mid new : Traffic) (left some remain : Option (List ℕ)) (keys : List (List ℕ)) (line bytes : List ℕ) (is : IsReadUpTo old mid left some keys line) where
-  -- the bytes of one read more
+  -- the bytes of one more read
   pub read-more : (more : List (List ℕ)) (rest : List ℕ) → new ≡ traffic_after mid bytes false false → Consumes some remain bytes → Takes keys line bytes more rest → IsReadUpTo old new left remain more rest
   read-more more rest given known takes = record {
     unended = takes.unended;
@@ -93,7 +93,7 @@ module _ (old mid new : Traffic) (left some remain : Option (List ℕ)) (keys : 
   pub read-given : (stopped failed : Bool) → new ≡ traffic_after mid bytes stopped failed → new ≡ traffic_after old (is.input ++ bytes) stopped failed
   read-given stopped failed given = given ∙ ap (λ t. traffic_after t bytes stopped failed) is.given ∙ went-on old is.input bytes stopped failed
 
--- the end was read
+-- the end was reached
 pub read-whole : (old mid new : Traffic) (left some remain : Option (List ℕ)) (keys all : List (List ℕ)) (line : List ℕ) → IsReadUpTo old mid left some keys line
     → new ≡ traffic_after mid [] true false → Consumes some remain [] → IsAtEnd remain → all ≡ keys ++ lines_of line → AreRead old new left remain all
 read-whole old mid new left some remain keys all line is given known at_end e = record {

@@ -1,14 +1,15 @@
--- What words and arguments stand for: amounts of keys, and capacities in their order.
-use Rattle.std.specs.Prelude.{ℕ, ◌-◌, ◌*◌, ◌/◌, ◌^◌, ◌<◌, ◌≤◌, Bool, true, false, ◌&&◌, ◌||◌, ◌==◌, nat_lt, min, max, if◌then◌else◌, List, [], ◌∷◌, ◌++◌, length, take, drop, get_or, map, Option, Some, None, codes}
+-- What words and arguments mean: amounts of keys, and capacities in order.
+use Rattle.std.specs.Prelude.{ℕ, ◌-◌, ◌*◌, ◌/◌, ◌^◌, ◌<◌, ◌≤◌, Bool, true, false, ◌&&◌, ◌||◌, ◌==◌, nat_lt, nat_le, min, max, if◌then◌else◌, List, [], ◌∷◌, ◌++◌, length, take, drop, get_or, map, Option, Some, None, codes}
 use Rattle.std.specs.List.{before_first, after_first, position_or_len, filter}
-use Rattle.std.specs.Option.{option_map, unwrap_or}
+use Rattle.std.specs.Option.{option_map}
+use Rattle.std.specs.Char.{is_ascii_digit}
 use Rattle.std.specs.Str.{bytes_eq, all_ascii_digits}
 use Rattle.std.specs.Str.Parse.{digits_value}
 use Rattle.clock2q_simulation.specs.declared.amount.Amount.{Amount}
 use Rattle.clock2q_simulation.specs.declared.amount.Unit.{Unit as Counted}
 use Rattle.clock2q_simulation.specs.declared.amount.Unit.TheVariants.{Keys, Percent}
 
--- the number that digits write, as far as 64 bits go
+-- the number that digits spell, capped at the largest of 64 bits
 abbrev pub number_in : List ℕ → Option ℕ
 number_in word = if nat_lt 0 (length word) && all_ascii_digits word then Some (min (digits_value 10 word) (2 ^ 64 - 1)) else None
 
@@ -19,13 +20,13 @@ amount unit number = record { number = number; unit = unit }
 abbrev pub is_percentage : List ℕ → Bool
 is_percentage word = nat_lt 0 (length word) && (get_or word (length word - 1) 0 == 37)
 
--- the amount that a word writes
+-- the amount that a word spells
 abbrev pub amount_in : List ℕ → Option Amount
 amount_in word =
     if is_percentage word then option_map (amount Percent) (number_in (take (length word - 1) word))
     else option_map (amount Keys) (number_in word)
 
--- how many keys so many of a unit are, out of a number of keys
+-- the number of keys in an amount of some unit, out of a number of keys
 abbrev pub keys_by : Counted → ℕ → ℕ → ℕ
 keys_by Keys number keys = number
 keys_by Percent number keys = max (keys * min number 100 / 100) 1
@@ -37,6 +38,11 @@ keys_of amount keys = keys_by amount.unit amount.number keys
 abbrev pub most_keys : ℕ
 most_keys = 16777215
 
+-- a cache can hold this number of keys
+pub record IsFor (keys : ℕ) : Type 0 where
+  pub some : 0 < keys
+  pub within : keys ≤ most_keys
+
 -- the most that a capacity can be
 abbrev pub most_of : Counted → ℕ
 most_of Keys = most_keys
@@ -46,17 +52,13 @@ pub record IsCapacity (amount : Amount) : Type 0 where
   pub some : 0 < amount.number
   pub within : amount.number ≤ most_of amount.unit
 
--- the capacity that a word writes
-abbrev pub capacity_in : List ℕ → Amount
-capacity_in word = unwrap_or (amount_in word) (amount Keys 0)
-
--- the numbers 1, 2 and 5 times a power of ten, as far as a capacity can be
+-- the numbers 1, 2 and 5 times a power of ten, up to the largest capacity
 unfoldable pub round_numbers : List ℕ
 round_numbers =
     1 ∷ 2 ∷ 5 ∷ 10 ∷ 20 ∷ 50 ∷ 100 ∷ 200 ∷ 500 ∷ 1000 ∷ 2000 ∷ 5000 ∷ 10000 ∷ 20000 ∷ 50000 ∷ 100000
     ∷ 200000 ∷ 500000 ∷ 1000000 ∷ 2000000 ∷ 5000000 ∷ 10000000 ∷ []
 
--- the ends of a range and those of other numbers that lie between them, each once
+-- the ends of a range and those of the other numbers that are between them, each once
 abbrev pub numbers_between : List ℕ → ℕ → ℕ → List ℕ
 numbers_between others first last = first ∷ (filter (λ n. nat_lt first n && nat_lt n last) others ++ (if nat_lt first last then last ∷ [] else []))
 
@@ -66,23 +68,47 @@ range others first last = map (amount first.unit) (numbers_between others first.
 abbrev pub is_dot : ℕ → Bool
 is_dot byte = byte == 46
 
--- the capacities that an argument asks for: those of a range, where it has two dots between two words, or the one that it writes
-abbrev pub asked_by : List ℕ → List Amount
+-- whether two units are the same
+abbrev pub is_same : Counted → Counted → Bool
+is_same Keys Keys = true
+is_same Percent Percent = true
+is_same _ _ = false
+
+-- the capacities of a range, if both ends are amounts of one unit and the right way round
+abbrev pub range_between : Option Amount → Option Amount → Option (List Amount)
+range_between (Some first) (Some last) = if is_same last.unit first.unit && nat_le first.number last.number then Some (range round_numbers first last.number) else None
+range_between _ _ = None
+
+-- the capacities that an argument asks for: those of a range, which has two dots between its ends, or the one that it
+-- spells; any other word asks for none
+abbrev pub asked_by : List ℕ → Option (List Amount)
 asked_by word =
     if nat_lt (position_or_len is_dot word) (length word)
-    then range round_numbers (capacity_in (before_first is_dot word)) (capacity_in (drop 1 (after_first is_dot word))).number
-    else capacity_in word ∷ []
+    then (if get_or (after_first is_dot word) 0 0 == 46 then range_between (amount_in (before_first is_dot word)) (amount_in (drop 1 (after_first is_dot word))) else None)
+    else option_map (λ capacity. capacity ∷ []) (amount_in word)
 
 -- whether an option takes the word after it
 abbrev pub takes_value : List ℕ → Bool
-takes_value word = bytes_eq word (codes "--policies") || bytes_eq word (codes "--policy")
+takes_value word = bytes_eq word (codes "--policies") || bytes_eq word (codes "--shares") || bytes_eq word (codes "--policy") || bytes_eq word (codes "--skip")
 
--- whether a word is an option
+-- whether a word is an option: a dash followed by another byte
 abbrev pub is_option : List ℕ → Bool
-is_option word = get_or word 0 0 == 45
+is_option word = nat_lt 1 (length word) && (get_or word 0 0 == 45)
+
+-- whether a word is a capacity or a range: it begins with a digit; another word names a trace
+abbrev pub is_capacity : List ℕ → Bool
+is_capacity word = nat_lt 0 (length word) && is_ascii_digit (get_or word 0 0)
+
+-- some capacities and those after them, if both exist
+abbrev pub joined : Option (List Amount) → Option (List Amount) → Option (List Amount)
+joined (Some capacities) (Some more) = Some (capacities ++ more)
+joined _ _ = None
 
 -- the capacities that words ask for, in order; the first word may be the value of an option before it
-abbrev pub asked_from : Bool → List (List ℕ) → List Amount
-asked_from is_value [] = []
+abbrev pub asked_from : Bool → List (List ℕ) → Option (List Amount)
+asked_from is_value [] = Some []
 asked_from true (word ∷ words) = asked_from false words
-asked_from false (word ∷ words) = if is_option word then asked_from (takes_value word) words else asked_by word ++ asked_from false words
+asked_from false (word ∷ words) =
+    if is_option word then asked_from (takes_value word) words
+    else if is_capacity word then joined (asked_by word) (asked_from false words)
+    else asked_from false words

@@ -4,7 +4,6 @@ pub mod KnownKeys
 pub mod MachineHits
 pub mod Reading
 pub mod Rows
-pub mod Sending
 pub mod Simulated
 pub mod SimulationError
 pub mod Trace

@@ -1,4 +1,4 @@
--- What Clock2Q+ makes of a trace, as its machine has it.
+-- The hits of a trace in Clock2Q+, as its machine defines them.
 use Rattle.std.specs.Prelude.{ℕ, Bool, ◌==◌, List, is_some}
 use Rattle.clock2q_machine.specs.Machine.{Machine, value_of, empty}
 use Rattle.clock2q_machine.specs.Shares.{Shares}

@@ -2,16 +2,16 @@
 use Rattle.std.specs.Prelude.{◌≡◌, ℕ, Bool, true, false, ◌==◌, List, ◌++◌, Option, Result, Ok, Err}
 use Rattle.std.specs.List.{All}
 use Rattle.std.specs.Io.KnownBytes.{Consumes, IsAtEnd}
-use Rattle.clock2q_text.specs.Ports.{Traffic, traffic_after}
-use Rattle.clock2q_text.specs.Text.{lines_of}
+use Rattle.clock2q_ports.specs.Ports.{Traffic, traffic_after}
+use Rattle.clock2q_ports.specs.Lines.{lines_of}
 use Rattle.clock2q_simulation.specs.declared.error.SimulationError.{SimulationError}
-use Rattle.clock2q_simulation.specs.declared.error.SimulationError.TheVariants.{Argument, NotText, NoCapacity, UnusedShares, Shares, Capacity, Memory, Read, Write}
+use Rattle.clock2q_simulation.specs.declared.error.SimulationError.TheVariants.{Argument, NotText, NoCapacity, UnusedShares, Shares, Capacity, Memory, Open, Read, Write}
 
--- no byte of the line is a line's end
+-- no byte of the line is a line end
 abbrev pub HasNoEnd : List ℕ → Type 0
 HasNoEnd line = All (λ byte. (byte == 10) ≡ false) line
 
--- after some bytes the lines that have ended and the one that hasn't are those of before with the bytes, whatever comes next
+-- after some bytes, the lines that ended and the one that didn't are those from before with the bytes, whatever follows
 pub record Takes (keys : List (List ℕ)) (line bytes : List ℕ) (more : List (List ℕ)) (rest : List ℕ) : Type 0 where
   pub unended : HasNoEnd rest
   pub same : (next : List ℕ) → keys ++ lines_of (line ++ (bytes ++ next)) ≡ more ++ lines_of (rest ++ next)
@@ -29,8 +29,9 @@ module _ (old new : Traffic) (left remain : Option (List ℕ)) where
   abbrev pub IsGivenUp : SimulationError → Type 0
   IsGivenUp Memory = (bytes : List ℕ) × (stopped : Bool) × (new ≡ traffic_after old bytes stopped false)
   IsGivenUp Read = (bytes : List ℕ) × (new ≡ traffic_after old bytes false true)
+  IsGivenUp Open = ⊥
   IsGivenUp Write = ⊥
-  IsGivenUp Capacity = ⊥
+  IsGivenUp (Capacity _) = ⊥
   IsGivenUp (Argument _ _) = ⊥
   IsGivenUp NotText = ⊥
   IsGivenUp NoCapacity = ⊥

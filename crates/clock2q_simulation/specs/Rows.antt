@@ -1,11 +1,12 @@
--- What comes of a trace in a new cache of each policy.
-use Rattle.std.specs.Prelude.{◌≡◌, ℕ, List, Option, length, map}
+-- The result of a trace in a new cache of each policy.
+use Rattle.std.specs.Prelude.{◌≡◌, ℕ, ◌-◌, List, Option, length, map, take}
 use Rattle.std.specs.List.{All}
 use Rattle.std.specs.NonZero.{non_zero_usize_get}
 use Rattle.clock2q_policies.specs.declared.plain.PlainPolicy.TheVariants as plain
 use Rattle.clock2q_policies.specs.Policies.{plain_hits}
+use Rattle.clock2q_policies.specs.SecondChance.{clock_hits}
 use Rattle.clock2q_simulation.specs.declared.policy.Policy.{Policy}
-use Rattle.clock2q_simulation.specs.declared.policy.Policy.TheVariants.{Clock2Q, Sieve, S3Fifo, LeastRecentlyUsed, Optimal, FirstInFirstOut, Clock, Arc}
+use Rattle.clock2q_simulation.specs.declared.policy.Policy.TheVariants.{Clock2Q, Sieve, S3Fifo, LeastRecentlyUsed, Optimal, FirstInFirstOut, Clock, Arc, TwoQ, Lirs, Lru2, WTinyLfu}
 use Rattle.clock2q_simulation.specs.declared.row.Row.{Row}
 use Rattle.clock2q_simulation.specs.declared.shares.ChosenShares.{ChosenShares}
 use Rattle.clock2q_simulation.specs.declared.amount.Amount.{Amount}
@@ -23,17 +24,29 @@ module _ (shares : Option ChosenShares) (numbers : List ℕ) (room : ℕ) where
   AreHits Sieve hits = Unit {0}
   AreHits S3Fifo hits = Unit {0}
   AreHits Optimal hits = Unit {0}
-  AreHits Clock hits = Unit {0}
+  AreHits Clock hits = hits ≡ clock_hits room numbers
   AreHits Arc hits = Unit {0}
+  AreHits TwoQ hits = Unit {0}
+  AreHits Lirs hits = Unit {0}
+  AreHits Lru2 hits = Unit {0}
+  AreHits WTinyLfu hits = Unit {0}
+
+-- hits are those after the first accesses: all hits minus those of a cache that sees only the first accesses
+pub record AreHitsAfter (skipped : ℕ) (shares : Option ChosenShares) (numbers : List ℕ) (room : ℕ) (policy : Policy) (hits : ℕ) : Type 0 where
+  pub all : ℕ
+  pub before : ℕ
+  pub all_are : AreHits shares numbers room policy all
+  pub before_are : AreHits shares (take skipped numbers) room policy before
+  pub rest : hits ≡ all - before
 
 -- a row has a policy's hits for each policy, in order
-pub record IsRow {A : Type 0} (compared : List Policy) (shares : Option ChosenShares) (numbers : List ℕ) (room : ℕ) (row : Row A) : Type 0 where
+pub record IsRow {A : Type 0} (compared : List Policy) (shares : Option ChosenShares) (skipped : ℕ) (numbers : List ℕ) (room : ℕ) (row : Row A) : Type 0 where
   pub capacity : non_zero_usize_get row.capacity ≡ room
-  pub accesses : row.accesses ≡ length numbers
+  pub accesses : row.accesses ≡ length numbers - skipped
   pub policies : map (λ h. h.policy) row.hits.items ≡ compared
-  pub hits : All (λ h. AreHits shares numbers room h.policy h.hits) row.hits.items
+  pub hits : All (λ h. AreHitsAfter skipped shares numbers room h.policy h.hits) row.hits.items
 
--- there is a row for each capacity that was asked for, in order, of as many keys as it is for the trace
-pub record AreRows {A : Type 0} (compared : List Policy) (shares : Option ChosenShares) (trace : Numbered) (asked : List Amount) (rows : List (Row A)) : Type 0 where
+-- there is a row for each capacity that was asked for, in order, with the number of keys that it is for the trace
+pub record AreRows {A : Type 0} (compared : List Policy) (shares : Option ChosenShares) (skipped : ℕ) (trace : Numbered) (asked : List Amount) (rows : List (Row A)) : Type 0 where
   pub capacities : map (λ row. non_zero_usize_get row.capacity) rows ≡ map (λ amount. keys_of amount trace.different) asked
-  pub each : All (λ row. IsRow compared shares trace.numbers (non_zero_usize_get row.capacity) row) rows
+  pub each : All (λ row. IsRow compared shares skipped trace.numbers (non_zero_usize_get row.capacity) row) rows

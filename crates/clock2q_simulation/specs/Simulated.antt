@@ -1,12 +1,33 @@
--- A trace read, and the text that is written of it.
+-- A trace read, and the text written about it.
 use Rattle.std.specs.Prelude.{ℕ, List, Option}
-use Rattle.clock2q_text.specs.Ports.{Traffic}
+use Rattle.clock2q_ports.specs.Ports.{Traffic}
+use Rattle.clock2q_ports.specs.Transfer.{IsSent}
 use Rattle.clock2q_simulation.specs.Reading.{AreRead}
-use Rattle.clock2q_simulation.specs.Sending.{IsSent}
+use Rattle.clock2q_simulation.specs.declared.amount.Amount.{Amount}
+use Rattle.clock2q_simulation.specs.declared.policy.Policy.{Policy}
+use Rattle.clock2q_simulation.specs.declared.row.Row.{Row}
+use Rattle.clock2q_simulation.specs.declared.shares.ChosenShares.{ChosenShares}
+use Rattle.clock2q_simulation.specs.Rows.{AreRows}
+use Rattle.clock2q_simulation.specs.Trace.{Numbered}
 
--- the whole input was read, and a whole text was written and sent on
-pub record IsSimulated (given gives : Traffic) (left remain : Option (List ℕ)) (took takes : Traffic) (held holds : Option (List ℕ)) : Type 0 where
-  pub keys : List (List ℕ)
+module _ (given gives : Traffic) (left remain : Option (List ℕ)) where
+  -- the whole input was read, as these keys
+  pub record IsRead : Type 0 where
+    pub keys : List (List ℕ)
+    pub read : AreRead given gives left remain keys
+
+  -- the rows are those of a trace with the keys that were read
+  pub record IsReplayed {A : Type 0} (policies : List Policy) (shares : Option ChosenShares) (skipped : ℕ) (capacities : List Amount) (made : List (Row A)) : Type 0 where
+    pub trace : Numbered
+    pub read : AreRead given gives left remain trace.keys
+    pub rows : AreRows policies shares skipped trace capacities made
+
+-- a whole text was written and flushed
+pub record IsWritten (took takes : Traffic) (held holds : Option (List ℕ)) : Type 0 where
   pub text : List ℕ
-  pub read : AreRead given gives left remain keys
   pub sent : IsSent took takes held holds text
+
+-- the whole input was read, and a whole text was written and flushed
+pub record IsSimulated (given gives : Traffic) (left remain : Option (List ℕ)) (took takes : Traffic) (held holds : Option (List ℕ)) : Type 0 where
+  pub read : IsRead given gives left remain
+  pub written : IsWritten took takes held holds

@@ -1,23 +1,28 @@
--- The status with which the program ends for each refusal, and what a cache that can't be had comes to.
+-- The exit status for each refusal, and the refusal for a cache that can't be made.
 use Rattle.std.specs.Prelude.{ℕ, ◌≤◌}
 use Rattle.clock2q_cache.specs.declared.error.CacheError.{CacheError}
 use Rattle.clock2q_cache.specs.declared.error.CacheError.TheVariants as cache
+use Rattle.clock2q_simulation.specs.declared.amount.Unit.TheVariants.{Keys}
+use Rattle.clock2q_simulation.specs.declared.error.Fault.TheVariants.{LargeCapacity}
 use Rattle.clock2q_simulation.specs.declared.error.SimulationError.{SimulationError}
-use Rattle.clock2q_simulation.specs.declared.error.SimulationError.TheVariants.{Argument, NotText, NoCapacity, UnusedShares, Shares, Capacity, Memory, Read, Write}
+use Rattle.clock2q_simulation.specs.declared.error.SimulationError.TheVariants.{Argument, NotText, NoCapacity, UnusedShares, Shares, Capacity, Memory, Open, Read, Write}
+use Rattle.clock2q_simulation.specs.Amounts.{amount}
 
 abbrev pub status_of : SimulationError → ℕ
+status_of (Argument LargeCapacity _) = 3
 status_of (Argument _ _) = 2
 status_of NotText = 2
 status_of NoCapacity = 2
 status_of UnusedShares = 2
 status_of (Shares _) = 2
 status_of Memory = 3
-status_of Capacity = 3
+status_of (Capacity _) = 3
+status_of Open = 4
 status_of Read = 4
 status_of Write = 4
 
 abbrev pub of_cache : CacheError → ℕ → SimulationError
-of_cache cache.Capacity capacity = Capacity
+of_cache cache.Capacity capacity = Capacity (amount Keys capacity)
 of_cache cache.Memory capacity = Memory
 of_cache cache.Policy capacity = Shares capacity
 

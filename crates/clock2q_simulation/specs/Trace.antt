@@ -1,9 +1,10 @@
--- What contracts see of a trace.
+-- A trace as contracts see it.
 use Rattle.std.specs.Prelude.{◌≡◌, ℕ, ◌<◌, ◌≤◌, ◌^◌, ◌↔◌, List, [], length, get_or, slice_get, Some}
+use Rattle.std.specs.List.{Contains}
 use Rattle.clock2q_policies.specs.Policies.{AreBelow}
 use Rattle.clock2q_simulation.specs.KnownKeys.{AreApart}
 
--- the keys in order, each as its bytes, the number of each, and how many numbers there are
+-- the keys in order, each as its bytes, the number of each, and the number of different ones
 pub record Numbered : Type 0 where
   pub keys : List (List ℕ)
   pub numbers : List ℕ
@@ -14,14 +15,20 @@ pub record AreNumbers (keys : List (List ℕ)) (numbers : List ℕ) : Type 0 whe
   pub long : length numbers ≡ length keys
   pub alike : (place other : ℕ) → place < length keys → other < length keys → (get_or keys place [] ≡ get_or keys other []) ↔ (get_or numbers place 0 ≡ get_or numbers other 0)
 
--- the numbers of so many different keys
+-- each number below a bound is that of a key
+abbrev pub AreUsed : List ℕ → ℕ → Type 0
+AreUsed numbers different = (number : ℕ) → number < different → Contains numbers number
+
+-- the numbers of this many different keys, each of them used
 pub record AreTold (keys : List (List ℕ)) (numbers : List ℕ) (different : ℕ) : Type 0 where
   pub alike : AreNumbers keys numbers
   pub below : AreBelow different numbers
+  pub used : AreUsed numbers different
   pub few : different ≤ 2 ^ 32
 
--- the keys' numbers stand beside them, each that of its key among those that are known
+-- there is a number for each key: its index among the known keys; every known key is among the keys
 pub record IsNumbering (known : List (List ℕ)) (numbers : List ℕ) (keys : List (List ℕ)) : Type 0 where
   pub apart : AreApart known
   pub long : length numbers ≡ length keys
   pub told : (place : ℕ) → place < length keys → slice_get known (get_or numbers place 0) ≡ Some (get_or keys place [])
+  pub used : AreUsed numbers (length known)

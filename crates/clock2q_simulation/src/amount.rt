@@ -1,6 +1,8 @@
-//! A number of keys, or a percentage of some.
+//! A number of keys, or a percentage of a number of keys.
 ghost use Rattle.std.specs.Prelude.{◌≡◌, ◌≤◌, ◌^◌};
 ghost use Rattle.clock2q_simulation.specs.Amounts.{amount_in, number_in, keys_of};
+
+use std::fmt;
 
 /// What the number of an [`Amount`] counts.
 ///
@@ -13,11 +15,11 @@ ghost use Rattle.clock2q_simulation.specs.Amounts.{amount_in, number_in, keys_of
 pub enum Unit {
     /// Keys.
     Keys,
-    /// Hundredths of some number of keys.
+    /// Percent of some number of keys.
     Percent,
 }
 
-/// So many keys, or so many percent of a number of keys that is known later.
+/// A number of keys, or a percentage of a number of keys that is known later.
 ///
 /// # Example
 ///
@@ -27,15 +29,15 @@ pub enum Unit {
 /// ```
 #[derive(Clone, Copy, Debug, PartialEq, Eq)]
 pub struct Amount {
-    /// How many.
+    /// The number.
     pub number: usize,
-    /// Of what.
+    /// What it counts.
     pub unit: Unit,
 }
 
 impl Amount {
-    /// Returns the amount that a word writes: digits, which a percent sign may follow. A number of
-    /// more than 64 bits is taken for the largest that has them.
+    /// Returns the amount that a word spells: digits, optionally followed by a percent sign. A
+    /// number of more than 64 bits is taken as the largest of 64 bits.
     pub fn written(word: &str) -> Option<Amount>
         ensures amount { result ≡ amount_in word.now }
     {
@@ -51,8 +53,16 @@ impl Amount {
         }
     }
 
-    /// Returns how many keys the amount is, of so many. A percentage is rounded down, and is at
-    /// least one key; one above a hundred is a hundred.
+    /// Returns the number, unless it is a percentage.
+    pub(crate) fn count(self) -> Option<usize> {
+        match self.unit {
+            Unit::Keys => Some(self.number),
+            Unit::Percent => None,
+        }
+    }
+
+    /// Returns the number of keys in the amount, out of `keys`. A percentage is rounded down, but
+    /// is at least one key; one above a hundred counts as a hundred.
     pub fn of(self, keys: usize) -> usize
         requires few { keys ≤ 2 ^ 32 }
         ensures keys { result ≡ keys_of self keys }
@@ -64,7 +74,16 @@ impl Amount {
     }
 }
 
-/// Returns the number that digits write, or the largest where it has more than 64 bits.
+impl fmt::Display for Amount {
+    fn fmt<W: fmt::Write>(&self, f: &mut fmt::Formatter<W>) -> fmt::Result {
+        match self.unit {
+            Unit::Keys => write!(f, "{}", self.number),
+            Unit::Percent => write!(f, "{}%", self.number),
+        }
+    }
+}
+
+/// Returns the number that digits spell, or the largest of 64 bits if it has more.
 fn number_of(digits: &[u8]) -> Option<usize>
     ensures number { result ≡ number_in digits.now }
 {

@@ -1,4 +1,4 @@
-//! The horizontal axis of a picture: which capacity stands where, and which are named.
+//! The horizontal axis of a picture: where each capacity is, and which ones are labelled.
 ghost use Rattle.std.specs.Prelude.{◌<◌};
 
 use std::alloc::{AllocError, Allocator};
@@ -10,10 +10,10 @@ const ROUND: [usize; 23] = [
     200_000, 500_000, 1_000_000, 2_000_000, 5_000_000, 10_000_000, 20_000_000,
 ];
 
-/// How many capacities are named at most.
+/// The largest number of labelled capacities.
 const NAMED: usize = 10;
 
-/// The capacities from `low` to `high`, evenly spaced or by their logarithms.
+/// The capacities from `low` to `high`, on a linear or logarithmic scale.
 #[derive(Clone, Copy, Debug, PartialEq, Eq)]
 pub(crate) struct Axis {
     pub(crate) low: usize,
@@ -22,8 +22,8 @@ pub(crate) struct Axis {
 }
 
 impl Axis {
-    /// Returns an axis from one capacity to another: by logarithms where the higher is eight times
-    /// the lower or more.
+    /// Returns an axis from one capacity to another, logarithmic if the higher is at least eight
+    /// times the lower.
     pub(crate) fn new(low: usize, high: usize) -> Axis {
         Axis {
             low,
@@ -32,7 +32,7 @@ impl Axis {
         }
     }
 
-    /// Returns where a capacity stands: 0 at the low end, 1 at the high end. An axis of one
+    /// Returns the position of a capacity: 0 at the low end, 1 at the high end. An axis of one
     /// capacity has it in the middle.
     pub(crate) fn position(&self, capacity: usize) -> f64 {
         if self.low >= self.high {
@@ -42,7 +42,7 @@ impl Axis {
         (self.measure(capacity) - low) / (self.measure(self.high) - low)
     }
 
-    /// Returns how far from 0 a capacity stands.
+    /// Returns the distance of a capacity from 0.
     fn measure(&self, capacity: usize) -> f64 {
         if self.is_logarithmic {
             logarithm(capacity)
@@ -51,7 +51,7 @@ impl Axis {
         }
     }
 
-    /// Returns the capacities to be named: round ones, or the only one.
+    /// Returns the capacities to label: round ones, or the only one.
     pub(crate) fn ticks<A: Allocator + Copy>(&self, alloc: A) -> Result<Vec<usize, A>, AllocError> {
         if self.low >= self.high {
             return Ok(vec![in alloc; self.low]?);
@@ -117,7 +117,7 @@ impl Axis {
     }
 }
 
-/// Returns the logarithm of a number from 1 on to the base 2, to some four places.
+/// Returns the base-2 logarithm of a number of at least 1, to about four decimal places.
 fn logarithm(value: usize) -> f64 {
     let whole = value.max(1).ilog2();
     let mut rest = nearest_usize_to_f64(value.max(1)) / nearest_usize_to_f64(1 << whole);

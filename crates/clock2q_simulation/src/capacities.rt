@@ -1,7 +1,7 @@
-//! The capacities that an argument stands for.
+//! The capacities that an argument asks for.
 ghost use Rattle.std.specs.List.{All};
-ghost use Rattle.std.specs.Prelude.{◌≡◌, ◌≤◌, IfOk};
-ghost use Rattle.clock2q_simulation.specs.Amounts.{IsCapacity, amount, asked_by, capacity_in, range};
+ghost use Rattle.std.specs.Prelude.{◌≡◌, ◌≤◌, Some, IfOk};
+ghost use Rattle.clock2q_simulation.specs.Amounts.{IsCapacity, amount, amount_in, asked_by, range};
 
 use crate::amount::{Amount, Unit};
 use crate::error::{Fault, SimulationError};
@@ -14,19 +14,19 @@ const ROUND_NUMBERS: [usize; 22] = [
     200_000, 500_000, 1_000_000, 2_000_000, 5_000_000, 10_000_000,
 ];
 
-/// Returns the capacities that an argument stands for: an amount alone, or those of a range, as
-/// `10..1000` or `1%..50%`. `index` is the argument's among the others.
+/// Returns the capacities that an argument asks for: a single amount, or those of a range, such as
+/// `10..1000` or `1%..50%`. `index` is the index of the argument.
 ///
 /// # Errors
 ///
-/// `Argument` if it is neither; `Capacity` if a number of keys in it is above
-/// `MAX_CAPACITY`; `Memory` if a request for memory is refused.
+/// `Argument` if it is neither, or a number of keys in it is above `MAX_CAPACITY`; `Memory` if a
+/// request for memory is refused.
 pub(crate) fn capacities_of<A: Allocator>(
     alloc: A,
     argument: &str,
     index: usize,
 ) -> Result<Vec<Amount, A>, SimulationError>
-    ensures asked { IfOk result (λ capacities. capacities.items ≡ asked_by argument.now) }
+    ensures asked { IfOk result (λ capacities. asked_by argument.now ≡ Some capacities.items) }
     ensures within { IfOk result (λ capacities. All IsCapacity capacities.items) }
 {
     let Some((first, rest)) = argument.split_once('.') else {
@@ -34,9 +34,9 @@ pub(crate) fn capacities_of<A: Allocator>(
         return Ok(Vec::from_slice(alloc, &[capacity])?);
     };
     let Some(last) = rest.strip_prefix('.') else {
-        return Err(SimulationError::Argument(Fault::NotRange, index));
+        return Err(SimulationError::Argument(Fault::NotCapacity, index));
     };
-    let first = capacity_of(first, Fault::NotRange, index)?;
+    let first = capacity_of(first, Fault::NotCapacity, index)?;
     let last = capacity_of(last, Fault::NotRange, index)?;
     if last.unit != first.unit {
         return Err(SimulationError::Argument(Fault::NotRange, index));
@@ -73,16 +73,18 @@ fn range_of<A: Allocator>(
     Ok(capacities)
 }
 
-/// Returns the capacity that a word writes. `fault` is what is wrong where it writes none.
+/// Returns the capacity that a word spells. `fault` is what is wrong if it spells none.
 fn capacity_of(word: &str, fault: Fault, index: usize) -> Result<Amount, SimulationError>
-    ensures asked { IfOk result (λ capacity. capacity ≡ capacity_in word.now) }
+    ensures asked { IfOk result (λ capacity. amount_in word.now ≡ Some capacity) }
     ensures within { IfOk result IsCapacity }
 {
     let Some(capacity) = Amount::written(word) else {
         return Err(SimulationError::Argument(fault, index));
     };
     match capacity.unit {
-        Unit::Keys if capacity.number > MAX_CAPACITY => Err(SimulationError::Capacity),
+        Unit::Keys if capacity.number > MAX_CAPACITY => {
+            Err(SimulationError::Argument(Fault::LargeCapacity, index))
+        }
         Unit::Percent if capacity.number > 100 => Err(SimulationError::Argument(fault, index)),
         _ if capacity.number == 0 => Err(SimulationError::Argument(fault, index)),
         _ => Ok(capacity),

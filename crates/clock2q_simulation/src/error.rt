@@ -1,6 +1,7 @@
 //! What a simulation refuses.
 ghost use Rattle.std.specs.Prelude.{◌≡◌};
 
+use crate::amount::{Amount, Unit};
 use clock2q_cache::CacheError;
 use std::alloc::AllocError;
 use std::{fmt, io};
@@ -15,33 +16,45 @@ use thiserror::Error;
 /// ```
 #[derive(Debug, Clone, Copy, PartialEq, Eq, Error)]
 pub enum Fault {
-    /// It begins with a dash, and no option is named so.
+    /// It begins with a dash, and no option has this name.
     #[error("unknown option")]
     UnknownOption,
-    /// It is no amount from 1 on, and has no dots between two amounts either.
-    #[error("not a capacity (keys from 1 to 16777215, or 1% to 100%, or a range as 10..1000)")]
+    /// It isn't an amount of at least 1, and has no two dots either.
+    #[error("not a capacity (1 to 16777215, 1% to 100% or 10..1000)")]
     NotCapacity,
-    /// An end of the range is no amount from 1 on, or only one of them is a percentage.
+    /// It is more than [`MAX_CAPACITY`](clock2q_cache::MAX_CAPACITY) keys, or an end of it is.
+    #[error("a capacity above 16777215")]
+    LargeCapacity,
+    /// An end of the range isn't an amount of at least 1, or only one end is a percentage.
     #[error("not a range (of keys from 1 to 16777215, as 10..1000, or of percents, as 1%..50%)")]
     NotRange,
     /// The range ends below its beginning.
     #[error("range whose ends are the wrong way round")]
     ReversedRange,
-    /// A name in it is that of no policy.
+    /// A name in it isn't that of a policy.
     #[error("unknown policy (--help names them)")]
     UnknownPolicy,
-    /// A name stands in it twice.
+    /// It contains a name twice.
     #[error("policy named twice")]
     RepeatedPolicy,
-    /// It has no two shares.
+    /// It isn't two shares.
     #[error("not shares (small and window, as small=20%,window=50% or small=30,window=10)")]
     NotShares,
+    /// Small's share is all of it, the window is longer than Small, or one of them alone is 0.
+    #[error("shares that fit no capacity")]
+    UnfitShares,
     /// The option is given twice.
     #[error("option given twice")]
     RepeatedOption,
-    /// Another form is asked for before.
+    /// An earlier argument asks for another form.
     #[error("a second form beside another one")]
     SecondForm,
+    /// It isn't a number of accesses.
+    #[error("not a number of accesses (as 100000)")]
+    NotCount,
+    /// It names a second trace for a picture.
+    #[error("a second trace, and a picture shows one")]
+    SecondTrace,
     /// It needs an argument after it.
     #[error("nothing after it")]
     NoValue,
@@ -57,7 +70,7 @@ pub enum Fault {
 /// ```
 #[derive(Debug, Clone, Copy, PartialEq, Eq, Error)]
 pub enum SimulationError {
-    /// An argument is wrong: why, and its index among the others, from 0 on.
+    /// An argument is wrong: why, and its index, counted from 0.
     #[error("argument {1}: {0}")]
     Argument(Fault, usize),
     /// An argument is not in UTF-8.
@@ -66,22 +79,25 @@ pub enum SimulationError {
     /// No argument is a capacity.
     #[error("clock2q-simulate: no capacity (--help tells what to write)")]
     NoCapacity,
-    /// Shares are chosen for Clock2Q+, and it isn't among the policies.
-    #[error("clock2q-simulate: --policy: shares of clock2q, which --policies leaves out")]
+    /// Shares are chosen for Clock2Q+, but it isn't among the policies.
+    #[error("clock2q-simulate: --shares: shares of clock2q, which --policies leaves out")]
     UnusedShares,
     /// The chosen shares don't fit together in a cache of this capacity.
-    #[error("clock2q-simulate: --policy: shares that don't fit a capacity of {0}")]
+    #[error("clock2q-simulate: --shares: shares that don't fit a capacity of {0}")]
     Shares(usize),
-    /// A capacity is above [`MAX_CAPACITY`](clock2q_cache::MAX_CAPACITY).
-    #[error("clock2q-simulate: a capacity above 16777215")]
-    Capacity,
-    /// A request for memory was refused, at whatever step.
+    /// This capacity is no key, or more than [`MAX_CAPACITY`](clock2q_cache::MAX_CAPACITY).
+    #[error("clock2q-simulate: {0}: a capacity above 16777215")]
+    Capacity(Amount),
+    /// A request for memory was refused, at any step.
     #[error("clock2q-simulate: no memory")]
     Memory,
+    /// A trace could not be opened.
+    #[error("clock2q-simulate: a trace can't be opened")]
+    Open,
     /// The trace could not be read to its end.
     #[error("clock2q-simulate: read failed")]
     Read,
-    /// A beginning of the result, or all of it, may have been written.
+    /// The write failed. A prefix of the result, or all of it, may have been written.
     #[error("clock2q-simulate: write failed")]
     Write,
 }
@@ -89,23 +105,24 @@ pub enum SimulationError {
 impl SimulationError {
     ghost use Rattle.clock2q_simulation.specs.SimulationError.{status_of, of_cache};
 
-    /// Returns the status with which the program ends: 2 for its arguments, 3 if a capacity is
-    /// too large or memory is refused, 4 if reading or writing failed.
+    /// Returns the program's exit status: 2 for its arguments, 3 if a capacity is too large or
+    /// memory is refused, 4 if reading or writing failed.
     pub fn status(&self) -> u8
         ensures status { result ≡ status_of self.now }
     {
         match self {
+            SimulationError::Argument(Fault::LargeCapacity, _) => 3,
             SimulationError::Argument(..)
             | SimulationError::NotText
             | SimulationError::NoCapacity
             | SimulationError::UnusedShares
             | SimulationError::Shares(_) => 2,
-            SimulationError::Memory | SimulationError::Capacity => 3,
-            SimulationError::Read | SimulationError::Write => 4,
+            SimulationError::Memory | SimulationError::Capacity(_) => 3,
+            SimulationError::Open | SimulationError::Read | SimulationError::Write => 4,
         }
     }
 
-    /// Returns what it comes to that the arguments can't be had: `Memory`, or `NotText`.
+    /// Returns the refusal if the arguments can't be fetched: `Memory`, or `NotText`.
     pub fn of_arguments(error: &io::Error) -> SimulationError {
         match error.kind() {
             io::ErrorKind::OutOfMemory => SimulationError::Memory,
@@ -113,12 +130,15 @@ impl SimulationError {
         }
     }
 
-    /// Returns what a cache's refusal comes to, where the cache has this capacity.
+    /// Returns the refusal for the error of a cache of this capacity.
     pub(crate) fn of_cache(error: CacheError, capacity: usize) -> SimulationError
         ensures { result ≡ of_cache error capacity }
     {
         match error {
-            CacheError::Capacity => SimulationError::Capacity,
+            CacheError::Capacity => SimulationError::Capacity(Amount {
+                number: capacity,
+                unit: Unit::Keys,
+            }),
             CacheError::Memory => SimulationError::Memory,
             CacheError::Policy => SimulationError::Shares(capacity),
         }
@@ -135,31 +155,52 @@ impl From<AllocError> for SimulationError {
     }
 }
 
-/// A refusal with the arguments of the program: the line that is said of it.
+/// A refusal with the arguments of the program, displayed as the line that reports it.
 ///
 /// # Example
 ///
 /// ```
 /// if let Err(refusal) = parse_options(rt.alloc(), &arguments) {
-///     eprintln!(rt; "{}", Complaint { refusal, arguments: &arguments })?;
+///     eprintln!(rt; "{}", Complaint { refusal, trace: None, arguments: &arguments })?;
 /// }
 /// ```
 #[derive(Drop)]
 pub struct Complaint<'a> {
-    /// What is refused.
+    /// The refusal.
     pub refusal: SimulationError,
-    /// The arguments, of which it may tell one.
+    /// The index of the argument that names the trace it occurred at, if any.
+    pub trace: Option<usize>,
+    /// The arguments, one of which the line may contain.
     pub arguments: &'a [String],
+}
+
+/// Returns the argument at an index, or an empty string if there is none.
+fn argument_at(arguments: &[String], index: usize) -> &str {
+    match arguments.get(index) {
+        Some(word) => word.as_str(),
+        None => "",
+    }
 }
 
 impl fmt::Display for Complaint<'_> {
     fn fmt<W: fmt::Write>(&self, f: &mut fmt::Formatter<W>) -> fmt::Result {
-        match self.refusal {
-            SimulationError::Argument(fault, index) => {
-                let argument = self.arguments.get(index).map_or("", |word| word.as_str());
+        match (self.refusal, self.trace) {
+            (SimulationError::Argument(fault, index), _) => {
+                let argument = argument_at(self.arguments, index);
                 write!(f, "clock2q-simulate: {argument}: {fault}")
             }
-            refusal => write!(f, "{refusal}"),
+            (SimulationError::Open, Some(index)) => {
+                let name = argument_at(self.arguments, index);
+                write!(
+                    f,
+                    "clock2q-simulate: {name}: can't be opened as a trace (a capacity begins with a digit)"
+                )
+            }
+            (SimulationError::Read, Some(index)) => {
+                let name = argument_at(self.arguments, index);
+                write!(f, "clock2q-simulate: {name}: read failed")
+            }
+            (refusal, _) => write!(f, "{refusal}"),
         }
     }
 }

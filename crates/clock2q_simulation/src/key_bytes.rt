@@ -3,17 +3,16 @@ ghost use Rattle.std.specs.Cmp.Lexicographic.{pointwise};
 ghost use Rattle.std.specs.Prelude.{◌≡◌, ◌<◌, ◌+◌, [], get_or, length, nat_eq};
 ghost use Rattle.clock2q_simulation.specs.KnownKeys.{AreStarts, hash_of, keys_in};
 
-use clock2q_cache::DefaultHashBuilder;
 use std::hash::BuildHasher;
 
 /// Returns the hash of a key.
-pub(crate) fn hash_of(key: &[u8]) -> u64
-    ensures hash { result ≡ hash_of key.now }
+pub(crate) fn hash_of<S: BuildHasher>(key: &[u8], hasher: &S) -> u64
+    ensures hash { result ≡ hash_of S.BuildHasher S.Hasher.Hasher hasher.now key.now }
 {
-    DefaultHashBuilder::new().hash_one(key)
+    hasher.hash_one(key)
 }
 
-/// Returns where the key of a number ends: where the next one starts, or at the end of all bytes.
+/// Returns where the key with a number ends: where the next one starts, or at the end of all bytes.
 fn end_of(starts: &[usize], number: usize, end: usize) -> usize
     requires within { number < length starts.now }
     ensures end { result ≡ get_or starts.now (number + 1) end }
@@ -21,7 +20,7 @@ fn end_of(starts: &[usize], number: usize, end: usize) -> usize
     starts.get(number + 1).copied().unwrap_or(end)
 }
 
-/// Returns the key of a number.
+/// Returns the key with a number.
 fn key_at<'a>(bytes: &'a [u8], starts: &[usize], number: usize) -> &'a [u8]
     requires within { number < length starts.now }
     requires starts { AreStarts starts.now (length bytes.now) }
@@ -32,13 +31,18 @@ fn key_at<'a>(bytes: &'a [u8], starts: &[usize], number: usize) -> &'a [u8]
     &bytes[start..end]
 }
 
-/// Returns the hash of the key of a number.
-pub(crate) fn hash_at(bytes: &[u8], starts: &[usize], number: usize) -> u64
+/// Returns the hash of the key with a number.
+pub(crate) fn hash_at<S: BuildHasher>(
+    bytes: &[u8],
+    starts: &[usize],
+    number: usize,
+    hasher: &S,
+) -> u64
     requires within { number < length starts.now }
     requires starts { AreStarts starts.now (length bytes.now) }
-    ensures hash { result ≡ hash_of (get_or (keys_in bytes.now starts.now) number []) }
+    ensures hash { result ≡ hash_of S.BuildHasher S.Hasher.Hasher hasher.now (get_or (keys_in bytes.now starts.now) number []) }
 {
-    hash_of(key_at(bytes, starts, number))
+    hash_of(key_at(bytes, starts, number), hasher)
 }
 
 /// Returns true if a number is that of a key.

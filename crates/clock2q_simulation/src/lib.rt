@@ -1,35 +1,39 @@
-//! Traces of keys replayed in caches of several policies, and the hits as a table, as lines with
-//! commas or as a picture.
+//! Traces of keys replayed in caches of several policies, and the hits as a table, as CSV, as JSON
+//! or as a picture.
 #![tactic(auto)]
 
 mod amount;
 mod axis;
 mod capacities;
 mod clock;
+mod csv_text;
 mod error;
+mod json_text;
 mod key_bytes;
 mod known_keys;
 mod options;
+mod outcome;
 mod picture;
 mod policy;
 mod progress;
 mod reading;
 mod row;
-mod sending;
 mod shares;
 mod simulation;
-mod texts;
+mod summary;
+mod table_text;
 mod trace;
 
 pub use amount::{Amount, Unit};
-pub use clock::clock2q_hits;
+pub use clock::{clock_hits, clock2q_hits};
 pub use error::{Complaint, Fault, SimulationError};
 pub use options::{Format, HELP, Options, parse_options};
+pub use outcome::{Outcome, replay_source};
 pub use policy::{Policy, policy_hits};
 pub use progress::Progress;
 pub use reading::read_trace;
 pub use row::{Hits, Row, replay};
-pub use sending::send;
 pub use shares::ChosenShares;
-pub use simulation::{rows_of, simulate};
+pub use simulation::{STANDARD_INPUT, rows_of, simulate, write_outcomes};
+pub use summary::{Summary, summary_of};
 pub use trace::{GrowingTrace, Trace};

@@ -1,13 +1,15 @@
 //! The arguments of the program.
 ghost use Rattle.std.specs.List.{All};
-ghost use Rattle.std.specs.Prelude.{◌≡◌, ◌<◌, [], ◌∷◌, ◌++◌, ℕ, false, is_some, IfOk, OnOk, List, length, map, string_bytes};
-ghost use Rattle.clock2q_simulation.specs.Amounts.{IsCapacity, asked_from, asked_by, is_option, takes_value};
+ghost use Rattle.std.specs.Prelude.{◌≡◌, ◌<◌, [], ◌∷◌, ◌++◌, ℕ, false, is_some, Some, MatchOption, IfOk, OnOk, List, length, map, string_bytes};
+ghost use Rattle.clock2q_simulation.specs.ChosenShares.{Fits};
+ghost use Rattle.clock2q_simulation.specs.Amounts.{IsCapacity, asked_from, asked_by, is_capacity, is_option, joined, takes_value};
 
 use crate::amount::Amount;
 use crate::capacities::capacities_of;
 use crate::error::{Fault, SimulationError};
 use crate::policy::Policy;
 use crate::shares::ChosenShares;
+use clock2q_cache::MAX_CAPACITY;
 use std::alloc::{AllocError, Allocator};
 
 /// The form of the result.
@@ -20,12 +22,14 @@ use std::alloc::{AllocError, Allocator};
 /// ```
 #[derive(Clone, Copy, Debug, PartialEq, Eq)]
 pub enum Format {
-    /// Columns for a reader.
+    /// Columns, for people.
     Table,
-    /// A line for each capacity, with commas.
+    /// A line of comma-separated values for each capacity.
     Csv,
     /// A picture of the hit ratios over the capacities.
     Svg,
+    /// JSON, for programs.
+    Json,
 }
 
 /// What the arguments ask for.
@@ -41,52 +45,58 @@ pub enum Format {
 pub struct Options<A: Allocator> {
     /// The form of the result.
     pub format: Format,
-    /// The capacities to simulate, in their order. A percentage is one of the trace's different
-    /// keys.
+    /// The capacities to simulate, in order. A percentage is of the trace's different keys.
     pub capacities: Vec<Amount, A>,
-    /// The policies to compare, in their order.
+    /// The indices of the arguments that name traces, in order. A dash names standard input, which
+    /// is the trace if there is no name.
+    pub traces: Vec<usize, A>,
+    /// The policies to compare, in order.
     pub policies: Vec<Policy, A>,
-    /// The shares of Clock2Q+, where they aren't the usual ones.
+    /// The shares of Clock2Q+, if they aren't the usual ones.
     pub shares: Option<ChosenShares>,
+    /// The number of accesses at the beginning of a trace that only warm the caches.
+    pub skipped: usize,
 }
 
-/// What the program says of itself.
+/// The program's help text.
 pub const HELP: &str = "\
-usage: ./clock2q-simulate [OPTION].. CAPACITY.. < TRACE
+usage: ./clock2q-simulate [OPTION].. CAPACITY.. [TRACE]..
 Tells which part of a trace's accesses hit in a cache of each capacity.
 
 A trace is a list of accesses in their order, a key a line: the names of the
-files, blocks or pages that were asked for. A capacity is how many keys a cache
-holds, from 1 to 16777215, or a part of the trace's different keys, as 10%. A
-range such as 10..1000 or 1%..50% adds 20, 50, 100 and so on between its ends.
+files, blocks or pages that were asked for. It is a file, or - or nothing for
+standard input. A capacity is how many keys a cache holds, from 1 to 16777215,
+or a part of the trace's different keys, as 10%. A range such as 10..1000 or
+1%..50% adds 20, 50, 100 and so on between its ends.
 
     printf 'a\\nb\\na\\nc\\nb\\nd\\na\\nb\\n' | ./clock2q-simulate 2 75%
-    ./clock2q-simulate --svg --policies clock2q,lru,opt 9 50 <trace >hits.svg
+    ./clock2q-simulate --svg --policies=clock2q,lru,opt 9 50 trace >hits.svg
 
-  --csv, --svg      prints the rows with commas, or a picture of them
-  --policies NAMES  compares policies, with commas between them, of clock2q,
-                    sieve, s3fifo, lru, opt (without it these five), fifo, clock
-                    and arc; opt is the most that a policy can hit that keeps
-                    each key that it misses
-  --policy SHARES   gives Clock2Q+ other shares than small=10%,window=50%: the
+  --csv, --json, --svg  prints rows with commas, JSON, or a picture of a trace
+  --policies=NAMES  compares clock2q, sieve, s3fifo, lru, opt (the default),
+                    fifo, clock, arc, 2q, lirs, lru2, wtinylfu; opt is the most
+                    that one can hit that keeps each key that it misses
+  --shares=SHARES   gives Clock2Q+ other shares than small=10%,window=50%: the
                     small queue's of the capacity and the window's of the queue,
                     in percent or in keys
+  --skip=COUNT      counts no hits in this many accesses at a trace's beginning
   -h, --help        prints this text
 
 Status: 2 if an argument is wrong, 3 if a capacity is too large or memory ran
 out, 4 if reading or writing failed. The first start proves and builds it.
 ";
 
-/// Reads arguments: capacities and ranges of them, at most one option that asks for a form, and at
-/// most once each `--policies` with the names of policies after it and `--policy` with shares.
+/// Parses arguments: capacities and ranges of them, names of traces, at most one option that asks
+/// for a form, and the other options at most once each, with a value after them or after `=`.
 ///
 /// # Errors
 ///
-/// `Argument` if an argument is none of these, is repeated, or contradicts an earlier one: what
-/// is wrong, and its index. `Capacity` if a capacity or an end of a range is above
-/// `MAX_CAPACITY` keys; `NoCapacity` if there is none; `UnusedShares` if there are shares, and
-/// policies without Clock2Q+; `Memory` if a request for memory is refused. The arguments are
-/// read in order, and the first bad one ends the call with its error.
+/// `Argument` if an argument is none of these, is repeated, contradicts an earlier one, or asks for
+/// more than `MAX_CAPACITY` keys: what is wrong, and its index. `NoCapacity` if there is no
+/// capacity; `UnusedShares` if there are shares, but Clock2Q+ isn't among the policies; `Shares` if
+/// the shares don't fit together in a cache of a capacity that is a number of keys; `Memory` if a
+/// request for memory is refused. The arguments are read in order, and the first bad one ends the
+/// call with its error.
 ///
 /// # Cost
 ///
@@ -97,7 +107,8 @@ pub fn parse_options<A: Allocator + Copy>(
 ) -> Result<Options<A>, SimulationError>
     ensures some { IfOk result (λ options. 0 < length options.capacities.items) }
     ensures within { IfOk result (λ options. All IsCapacity options.capacities.items) }
-    ensures asked { IfOk result (λ options. options.capacities.items ≡ asked_from false (map string_bytes arguments.now)) }
+    ensures fit { IfOk result (λ options. MatchOption options.shares (Unit {0}) (λ shares. All (Fits (Some shares)) options.capacities.items)) }
+    ensures asked { IfOk result (λ options. asked_from false (map string_bytes arguments.now) ≡ Some options.capacities.items) }
 {
     let mut asked = Asked::new(alloc);
     for (index, argument) in arguments.iter().enumerate() {
@@ -110,22 +121,111 @@ pub fn parse_options<A: Allocator + Copy>(
     asked.finish(alloc)
 }
 
-/// An option that takes the argument after it.
+/// Returns true if an argument is an option: a dash followed by another byte.
+fn is_option(argument: &str) -> bool
+    ensures option { result ≡ is_option argument.now }
+{
+    let bytes = argument.as_bytes();
+    1 < bytes.len() && bytes[0] == b'-'
+}
+
+/// Returns true if an argument is a capacity or a range: it begins with a digit.
+fn is_capacity(argument: &str) -> bool
+    ensures capacity { result ≡ is_capacity argument.now }
+{
+    let bytes = argument.as_bytes();
+    0 < bytes.len() && bytes[0].is_ascii_digit()
+}
+
+/// An option that takes a value.
 #[derive(Clone, Copy, Debug, PartialEq, Eq)]
 enum Valued {
     Policies,
     Shares,
+    Skip,
+}
+
+impl Valued {
+    /// Returns the option with a name. The shares also have their former name.
+    fn named(name: &str) -> Option<Valued>
+        ensures named { is_some result ≡ takes_value name.now }
+    {
+        if name == "--policies" {
+            Some(Valued::Policies)
+        } else if name == "--shares" || name == "--policy" {
+            Some(Valued::Shares)
+        } else if name == "--skip" {
+            Some(Valued::Skip)
+        } else {
+            None
+        }
+    }
 }
 
 /// What the arguments so far ask for.
 #[derive(Drop)]
 struct Asked<A: Allocator> {
+    capacities: Vec<Amount, A>,
+    traces: Vec<usize, A>,
+    chosen: Chosen<A>,
+    // The option whose value comes next.
+    awaited: Option<Valued>,
+}
+
+/// What the options so far choose.
+#[derive(Drop)]
+struct Chosen<A: Allocator> {
     format: Option<Format>,
     policies: Option<Vec<Policy, A>>,
     shares: Option<ChosenShares>,
-    capacities: Vec<Amount, A>,
-    // The option whose value comes next.
-    awaited: Option<Valued>,
+    skipped: Option<usize>,
+}
+
+impl<A: Allocator> Chosen<A> {
+    /// Refuses an option that was given before.
+    fn refuse_second(&self, option: Valued, index: usize) -> Result<(), SimulationError> {
+        let is_repeated = match option {
+            Valued::Policies => self.policies.is_some(),
+            Valued::Shares => self.shares.is_some(),
+            Valued::Skip => self.skipped.is_some(),
+        };
+        if is_repeated {
+            return Err(SimulationError::Argument(Fault::RepeatedOption, index));
+        }
+        Ok(())
+    }
+}
+
+impl<A: Allocator + Copy> Chosen<A> {
+    /// Takes the value of an option.
+    fn take_value(
+        &mut self,
+        alloc: A,
+        option: Valued,
+        value: &str,
+        index: usize,
+    ) -> Result<(), SimulationError> {
+        match option {
+            Valued::Policies => self.policies = Some(policies_of(alloc, value, index)?),
+            Valued::Shares => self.shares = Some(shares_of(value, index)?),
+            Valued::Skip => self.skipped = Some(count_of(value, index)?),
+        }
+        Ok(())
+    }
+
+    /// Takes an option that has no value.
+    fn take_flag(&mut self, option: &str, index: usize) -> Result<(), SimulationError> {
+        let Some(format) = format_of(option) else {
+            return Err(SimulationError::Argument(Fault::UnknownOption, index));
+        };
+        match self.format.replace(format) {
+            None => Ok(()),
+            Some(earlier) if earlier == format => {
+                Err(SimulationError::Argument(Fault::RepeatedOption, index))
+            }
+            Some(_) => Err(SimulationError::Argument(Fault::SecondForm, index)),
+        }
+    }
 }
 
 impl<A: Allocator + Copy> Asked<A> {
@@ -134,29 +234,47 @@ impl<A: Allocator + Copy> Asked<A> {
         ensures awaited { is_some result.awaited ≡ false }
     {
         Asked {
-            format: None,
-            policies: None,
-            shares: None,
             capacities: Vec::new(alloc),
+            traces: Vec::new(alloc),
+            chosen: Chosen {
+                format: None,
+                policies: None,
+                shares: None,
+                skipped: None,
+            },
             awaited: None,
         }
     }
 
-    /// Takes the argument that comes next.
+    /// Takes the next argument.
     fn take(&mut self, alloc: A, argument: &str, index: usize) -> Result<(), SimulationError>
         requires within { All IsCapacity self.old.capacities.items }
         ensures within { OnOk result (All IsCapacity self.new.capacities.items) }
-        ensures asked { OnOk result ((rest : List (List ℕ)) → self.new.capacities.items ++ asked_from (is_some self.new.awaited) rest ≡ self.old.capacities.items ++ asked_from (is_some self.old.awaited) (argument.now ∷ rest)) }
+        ensures asked { OnOk result ((rest : List (List ℕ)) → joined (Some self.new.capacities.items) (asked_from (is_some self.new.awaited) rest) ≡ joined (Some self.old.capacities.items) (asked_from (is_some self.old.awaited) (argument.now ∷ rest))) }
     {
         if let Some(option) = self.awaited {
             return self.take_value(alloc, option, argument, index);
         }
-        if argument.starts_with('-') {
-            return self.take_option(argument, index);
+        if is_option(argument) {
+            return self.take_option(alloc, argument, index);
+        }
+        if !is_capacity(argument) {
+            return self.take_name(index);
         }
         let more = capacities_of(alloc, argument, index)?;
         self.capacities.extend_from_slice(&more)?;
         Ok(())
+    }
+
+    /// Takes the argument that names a trace.
+    fn take_name(&mut self, index: usize) -> Result<(), SimulationError>
+        ensures capacities { self.new.capacities ≡ self.old.capacities }
+        ensures awaited { self.new.awaited ≡ self.old.awaited }
+    {
+        match self.traces.push(index) {
+            Ok(()) => Ok(()),
+            Err(_) => Err(SimulationError::Memory),
+        }
     }
 
     /// Takes the value of an option.
@@ -168,80 +286,98 @@ impl<A: Allocator + Copy> Asked<A> {
         index: usize,
     ) -> Result<(), SimulationError>
         ensures capacities { self.new.capacities ≡ self.old.capacities }
-        ensures awaited { OnOk result (is_some self.new.awaited ≡ false) }
+        ensures awaited { is_some self.new.awaited ≡ false }
     {
-        match option {
-            Valued::Policies => self.policies = Some(policies_of(alloc, value, index)?),
-            Valued::Shares => {
-                let Some(shares) = ChosenShares::written(value) else {
-                    return Err(SimulationError::Argument(Fault::NotShares, index));
-                };
-                self.shares = Some(shares);
-            }
-        }
         self.awaited = None;
-        Ok(())
+        self.chosen.take_value(alloc, option, value, index)
     }
 
-    /// Takes an option, without the value that it may have.
-    fn take_option(&mut self, option: &str, index: usize) -> Result<(), SimulationError>
+    /// Takes an option, without the value that may be the next argument.
+    fn take_option(&mut self, alloc: A, option: &str, index: usize) -> Result<(), SimulationError>
         ensures capacities { self.new.capacities ≡ self.old.capacities }
         ensures awaited { OnOk result (is_some self.new.awaited ≡ takes_value option.now) }
     {
-        let is_repeated = if option == "--policies" {
-            self.awaited = Some(Valued::Policies);
-            self.policies.is_some()
-        } else if option == "--policy" {
-            self.awaited = Some(Valued::Shares);
-            self.shares.is_some()
-        } else {
-            let Some(format) = format_of(option) else {
-                return Err(SimulationError::Argument(Fault::UnknownOption, index));
-            };
-            if self.format.is_some_and(|earlier| earlier != format) {
-                return Err(SimulationError::Argument(Fault::SecondForm, index));
-            }
-            self.awaited = None;
-            self.format.replace(format).is_some()
-        };
-        if is_repeated {
-            return Err(SimulationError::Argument(Fault::RepeatedOption, index));
+        self.awaited = Valued::named(option);
+        if let Some(valued) = self.awaited {
+            return self.chosen.refuse_second(valued, index);
         }
-        Ok(())
+        let Some((name, value)) = option.split_once('=') else {
+            return self.chosen.take_flag(option, index);
+        };
+        let Some(valued) = Valued::named(name) else {
+            return Err(SimulationError::Argument(Fault::UnknownOption, index));
+        };
+        self.chosen.refuse_second(valued, index)?;
+        self.chosen.take_value(alloc, valued, value, index)
     }
 
     /// Returns what all arguments ask for.
     fn finish(self, alloc: A) -> Result<Options<A>, SimulationError>
+        requires within { All IsCapacity self.capacities.items }
         ensures some { IfOk result (λ options. 0 < length options.capacities.items) }
+        ensures within { IfOk result (λ options. All IsCapacity options.capacities.items) }
+        ensures fit { IfOk result (λ options. MatchOption options.shares (Unit {0}) (λ shares. All (Fits (Some shares)) options.capacities.items)) }
         ensures asked { IfOk result (λ options. options.capacities ≡ self.capacities) }
     {
         let Asked {
+            capacities,
+            traces,
+            chosen,
+            awaited: _,
+        } = self;
+        let Chosen {
             format,
             policies,
             shares,
-            capacities,
-            awaited: _,
-        } = self;
+            skipped,
+        } = chosen;
         if capacities.is_empty() {
             return Err(SimulationError::NoCapacity);
+        }
+        if let (Some(Format::Svg), [_, second, ..]) = (format, traces.as_slice()) {
+            return Err(SimulationError::Argument(Fault::SecondTrace, *second));
         }
         let policies = match policies {
             Some(policies) => policies,
             None => Vec::from_slice(alloc, &Policy::SHOWN)?,
         };
-        if shares.is_some() && !policies.contains(&Policy::Clock2Q) {
-            return Err(SimulationError::UnusedShares);
+        if let Some(shares) = shares {
+            if !policies.contains(&Policy::Clock2Q) {
+                return Err(SimulationError::UnusedShares);
+            }
+            shares.check(&capacities)?;
         }
         Ok(Options {
             format: format.unwrap_or(Format::Table),
             capacities,
+            traces,
             policies,
             shares,
+            skipped: skipped.unwrap_or(0),
         })
     }
 }
 
-/// Returns the policies that names with commas between them choose.
+/// Returns the number of accesses that a value spells.
+fn count_of(value: &str, index: usize) -> Result<usize, SimulationError> {
+    match Amount::written(value).and_then(Amount::count) {
+        Some(count) => Ok(count),
+        None => Err(SimulationError::Argument(Fault::NotCount, index)),
+    }
+}
+
+/// Returns the shares that a value spells.
+fn shares_of(value: &str, index: usize) -> Result<ChosenShares, SimulationError> {
+    let Some(shares) = ChosenShares::written(value) else {
+        return Err(SimulationError::Argument(Fault::NotShares, index));
+    };
+    if !shares.fit(MAX_CAPACITY) {
+        return Err(SimulationError::Argument(Fault::UnfitShares, index));
+    }
+    Ok(shares)
+}
+
+/// Returns the policies that a comma-separated list names.
 fn policies_of<A: Allocator>(
     alloc: A,
     names: &str,
@@ -265,6 +401,7 @@ fn format_of(option: &str) -> Option<Format> {
     match option {
         "--csv" => Some(Format::Csv),
         "--svg" => Some(Format::Svg),
+        "--json" => Some(Format::Json),
         _ => None,
     }
 }

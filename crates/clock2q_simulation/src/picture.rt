@@ -8,8 +8,8 @@ use std::alloc::{AllocError, Allocator};
 use std::fmt::Write;
 use std::num::nearest_usize_to_f64;
 
-/// The frame of the curves, in the units of the picture. On its right is room for half of a capacity's
-/// eight digits.
+/// The frame of the curves, in the units of the picture. On its right is room for half of a
+/// capacity's eight digits.
 const LEFT: f64 = 80.0;
 
 const RIGHT: f64 = 690.0;
@@ -23,7 +23,7 @@ const HEAD: &str =
 <rect width=\"740\" height=\"480\" fill=\"white\"/>
 ";
 
-/// How the curve of a policy is drawn. The colours are told apart by people with colour blindness.
+/// How the curve of a policy is drawn. People with colour blindness can distinguish the colours.
 #[derive(Drop)]
 struct Pen {
     colour: &'static str,
@@ -43,6 +43,10 @@ fn pen_of(policy: Policy) -> Pen {
         Policy::FirstInFirstOut => ("#e69f00", "4 2", 6),
         Policy::Clock => ("#56b4e9", "9 3 2 3", 4),
         Policy::Arc => ("#7a5c00", "14 4", 5),
+        Policy::TwoQ => ("#882255", "6 3", 3),
+        Policy::Lirs => ("#332288", "12 3 2 3", 6),
+        Policy::Lru2 => ("#999933", "3 3", 4),
+        Policy::WTinyLfu => ("#117733", "8 2 2 2 2 2", 5),
     };
     Pen {
         colour,
@@ -51,7 +55,7 @@ fn pen_of(policy: Policy) -> Pen {
     }
 }
 
-/// Where capacities and ratios stand. The vertical axis goes from `floor` to `top` percent.
+/// The positions of capacities and ratios. The vertical axis goes from `floor` to `top` percent.
 #[derive(Drop)]
 struct Frame {
     axis: Axis,
@@ -82,7 +86,7 @@ impl Frame {
     }
 }
 
-/// Returns how many percent there are from one line across the picture to the next.
+/// Returns the distance between two lines across the picture, in percent.
 fn step_between(floor: u8, top: u8) -> u8
     ensures positive { 0 < result }
 {
@@ -106,8 +110,8 @@ fn top_of<A: Allocator + Copy>(rows: &[Row<A>]) -> u8 {
         .unwrap_or(100)
 }
 
-/// Returns the lowest ratio of the rows in percent, rounded down to a multiple of the step from there to
-/// the top, where all lie above a half, and else 0.
+/// Returns the lowest ratio of the rows in percent, rounded down to a multiple of the step from
+/// there to the top, if all ratios are above a half, and otherwise 0.
 fn floor_of<A: Allocator + Copy>(rows: &[Row<A>], top: u8) -> u8 {
     let mut least = 100.0;
     for row in rows {
@@ -149,7 +153,7 @@ fn by_capacity<A: Allocator + Copy>(
     Ok(order)
 }
 
-/// Writes what stands around the curves.
+/// Writes everything around the curves.
 fn write_frame<A: Allocator + Copy>(
     alloc: A,
     text: &mut String<A>,
@@ -176,7 +180,7 @@ fn write_curves<A: Allocator + Copy>(
     Ok(())
 }
 
-/// Writes what the picture shows.
+/// Writes the picture's title.
 fn write_title<A: Allocator + Copy>(
     text: &mut String<A>,
     rows: &[Row<A>],
@@ -208,7 +212,7 @@ fn write_ratios<A: Allocator + Copy>(
     )
 }
 
-/// Writes a ratio of the axis, and its line.
+/// Writes a label of the vertical axis, and its line.
 fn write_ratio<A: Allocator + Copy>(
     text: &mut String<A>,
     y: f64,
@@ -225,7 +229,7 @@ fn write_ratio<A: Allocator + Copy>(
     )
 }
 
-/// Writes the horizontal axis, with a mark at each capacity that is named.
+/// Writes the horizontal axis, with a mark at each labelled capacity.
 fn write_capacities<A: Allocator + Copy>(
     alloc: A,
     text: &mut String<A>,
@@ -258,7 +262,7 @@ fn write_capacity<A: Allocator + Copy>(
     )
 }
 
-/// Writes what the horizontal axis shows.
+/// Writes the title of the horizontal axis.
 fn write_scale<A: Allocator + Copy>(text: &mut String<A>, frame: &Frame) -> Result<(), AllocError> {
     let scale = if frame.axis.is_logarithmic {
         " (logarithmic)"
@@ -271,7 +275,7 @@ fn write_scale<A: Allocator + Copy>(text: &mut String<A>, frame: &Frame) -> Resu
     )
 }
 
-/// Returns a capacity in thousands or millions, where it is so many, and their letter.
+/// Returns a capacity in thousands or millions, if it is a multiple of them, and their letter.
 fn short(capacity: usize) -> (usize, &'static str) {
     if capacity >= 1_000_000 && capacity % 1_000_000 == 0 {
         (capacity / 1_000_000, "M")
@@ -348,7 +352,7 @@ fn write_pen<A: Allocator + Copy>(text: &mut String<A>, policy: Policy) -> Resul
     )
 }
 
-/// Writes a curve's name beside a piece of its line with a ring: four in a line, and two lines.
+/// Writes a curve's name beside a piece of its line with a ring: two lines of four.
 fn write_legend<A: Allocator + Copy>(
     text: &mut String<A>,
     index: usize,

@@ -1,15 +1,18 @@
 //! The policies that can be compared.
-ghost use Rattle.std.specs.Prelude.{IfErr, IfOk};
+ghost use Rattle.std.specs.Prelude.{◌≤◌, ◌^◌, IfErr, IfOk};
 ghost use Rattle.std.specs.NonZero.{non_zero_usize_get};
+ghost use Rattle.clock2q_policies.specs.Policies.{AreBelow};
 ghost use Rattle.clock2q_simulation.specs.Rows.{AreHits};
 ghost use Rattle.clock2q_simulation.specs.SimulationError.{IsOfNoDevice};
 
-use crate::clock::clock2q_hits;
+use crate::clock::{clock_hits, clock2q_hits};
 use crate::error::SimulationError;
 use crate::shares::ChosenShares;
-use crate::trace::Trace;
 use clock2q_policies::{PlainPolicy, plain_hits};
-use clock2q_tested_policies::{arc_hits, clock_hits, optimal_hits, s3_fifo_hits, sieve_hits};
+use clock2q_tested_policies::{
+    arc_hits, lirs_hits, lru_2_hits, optimal_hits, s3_fifo_hits, sieve_hits, two_q_hits,
+    w_tiny_lfu_hits,
+};
 use std::alloc::Allocator;
 use std::num::NonZeroUsize;
 
@@ -29,21 +32,29 @@ pub enum Policy {
     Sieve,
     /// S3-FIFO (2023).
     S3Fifo,
-    /// The least recently used key leaves.
+    /// LRU: evicts the least recently used key.
     LeastRecentlyUsed,
-    /// The most that a policy can hit that takes in each key that it misses (1966).
+    /// The most hits of any policy that admits each key that it misses (1966).
     Optimal,
-    /// The key that came first leaves.
+    /// FIFO: evicts the key that was admitted first.
     FirstInFirstOut,
     /// CLOCK (1968).
     Clock,
     /// ARC (2003).
     Arc,
+    /// 2Q (1994), the full version.
+    TwoQ,
+    /// LIRS (2002).
+    Lirs,
+    /// LRU-2 (1993).
+    Lru2,
+    /// W-TinyLFU (2017).
+    WTinyLfu,
 }
 
 impl Policy {
     /// All policies.
-    pub const ALL: [Policy; 8] = [
+    pub const ALL: [Policy; 12] = [
         Policy::Clock2Q,
         Policy::Sieve,
         Policy::S3Fifo,
@@ -52,9 +63,13 @@ impl Policy {
         Policy::FirstInFirstOut,
         Policy::Clock,
         Policy::Arc,
+        Policy::TwoQ,
+        Policy::Lirs,
+        Policy::Lru2,
+        Policy::WTinyLfu,
     ];
 
-    /// The policies that are shown where none is chosen.
+    /// The policies that are shown if none is chosen.
     pub const SHOWN: [Policy; 5] = [
         Policy::Clock2Q,
         Policy::Sieve,
@@ -63,7 +78,7 @@ impl Policy {
         Policy::Optimal,
     ];
 
-    /// Returns the policy that an argument names, as `lru`.
+    /// Returns the policy that an argument names, such as `lru`.
     pub fn named(name: &str) -> Option<Policy> {
         Policy::ALL
             .iter()
@@ -82,6 +97,10 @@ impl Policy {
             Policy::FirstInFirstOut => "fifo",
             Policy::Clock => "clock",
             Policy::Arc => "arc",
+            Policy::TwoQ => "2q",
+            Policy::Lirs => "lirs",
+            Policy::Lru2 => "lru2",
+            Policy::WTinyLfu => "wtinylfu",
         }
     }
 
@@ -96,12 +115,16 @@ impl Policy {
             Policy::FirstInFirstOut => "FIFO",
             Policy::Clock => "CLOCK",
             Policy::Arc => "ARC",
+            Policy::TwoQ => "2Q",
+            Policy::Lirs => "LIRS",
+            Policy::Lru2 => "LRU-2",
+            Policy::WTinyLfu => "WTinyLFU",
         }
     }
 }
 
-/// Returns how many keys of a trace are hits in a new cache of a policy. Clock2Q+ has the chosen
-/// shares, or the usual ones.
+/// Returns the number of accesses of a trace that hit in a new cache with a policy. The keys are
+/// numbers below `key_count`. Clock2Q+ has the chosen shares, or the usual ones.
 ///
 /// # Errors
 ///
@@ -112,19 +135,20 @@ impl Policy {
 /// # Cost
 ///
 /// That of the policy's function in `clock2q_policies` or `clock2q_tested_policies`, or of
-/// [`clock2q_hits`]. The memory is given back before the call returns.
+/// [`clock2q_hits`]. The memory is freed before the call returns.
 pub fn policy_hits<A: Allocator + Copy>(
     alloc: A,
     policy: Policy,
     capacity: NonZeroUsize,
     shares: Option<ChosenShares>,
-    trace: &Trace<A>,
+    numbers: &[u32],
+    key_count: usize,
 ) -> Result<usize, SimulationError>
-    ensures hits { IfOk result (AreHits shares trace.now.numbers (non_zero_usize_get capacity) policy) }
+    requires below { AreBelow key_count numbers.now }
+    ensures hits { IfOk result (AreHits shares numbers.now (non_zero_usize_get capacity) policy) }
     ensures devices { IfErr result IsOfNoDevice }
 {
-    let numbers = trace.numbers();
-    let Ok(keys) = u32::try_from(trace.key_count()) else {
+    let Ok(keys) = u32::try_from(key_count) else {
         return Err(SimulationError::Memory);
     };
     let hits = match policy {
@@ -147,8 +171,15 @@ pub fn policy_hits<A: Allocator + Copy>(
         Policy::FirstInFirstOut => {
             plain_hits(alloc, PlainPolicy::FirstInFirstOut, capacity, numbers, keys)?
         }
-        Policy::Clock => clock_hits(alloc, capacity, numbers, keys)?,
+        Policy::Clock => match clock_hits(alloc, capacity, numbers) {
+            Ok(hits) => hits,
+            Err(error) => return Err(SimulationError::of_cache(error, capacity.get())),
+        },
         Policy::Arc => arc_hits(alloc, capacity, numbers, keys)?,
+        Policy::TwoQ => two_q_hits(alloc, capacity, numbers, keys)?,
+        Policy::Lirs => lirs_hits(alloc, capacity, numbers, keys)?,
+        Policy::Lru2 => lru_2_hits(alloc, capacity, numbers, keys)?,
+        Policy::WTinyLfu => w_tiny_lfu_hits(alloc, capacity, numbers, keys)?,
     };
     Ok(hits)
 }

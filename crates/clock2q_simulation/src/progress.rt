@@ -1,13 +1,14 @@
-//! How far a long simulation has come, told to a person.
+//! The progress of a long simulation, shown to a person.
 
+use crate::summary::Summary;
 use std::io::Write;
 
-/// How many keys are read between two lines, and from how many on the capacities are told.
+/// The number of keys read between two lines, and the smallest length of a long trace.
 const MILLION: usize = 1_000_000;
 
-/// The progress lines of a long simulation: one for each million keys that are read, and one for
-/// each capacity at which a trace of so many is replayed. A failed write is ignored, and the
-/// simulation goes on.
+/// The progress lines of a long simulation: one for each million keys read, and one for each
+/// capacity at which a trace of at least a million keys is replayed. A failed write is ignored, and
+/// the simulation goes on.
 ///
 /// # Example
 ///
@@ -19,12 +20,12 @@ const MILLION: usize = 1_000_000;
 pub struct Progress<W> {
     writer: W,
     is_shown: bool,
-    // How many millions of keys were told.
+    // The number of millions of keys reported so far.
     told: usize,
 }
 
 impl<W: Write> Progress<W> {
-    /// Makes progress lines that go to `writer`, or that are left out if `is_shown` is false.
+    /// Returns progress lines that go to `writer`, or that are left out if `is_shown` is false.
     pub fn new(writer: W, is_shown: bool) -> Progress<W> {
         Progress {
             writer,
@@ -33,7 +34,7 @@ impl<W: Write> Progress<W> {
         }
     }
 
-    /// Tells now and then how many keys were read.
+    /// Reports the number of keys read so far, once for each million.
     pub(crate) fn read(&mut self, keys: usize) {
         let millions = keys / MILLION;
         if self.is_shown && millions > self.told {
@@ -45,10 +46,20 @@ impl<W: Write> Progress<W> {
         }
     }
 
-    /// Tells which capacity of a long trace comes next.
+    /// Reports the capacity at which a long trace is replayed next.
     pub(crate) fn replay(&mut self, keys: usize, capacity: usize) {
         if self.is_shown && keys >= MILLION {
             let _ = writeln!(self.writer, "clock2q-simulate: capacity {capacity}");
+        }
+    }
+
+    /// Writes a warning if a trace is suspicious, whether progress is shown or not.
+    pub(crate) fn warn_of(&mut self, name: &str, summary: &Summary) {
+        if summary.is_nearly_all_once() {
+            let _ = writeln!(
+                self.writer,
+                "clock2q-simulate: {name}: warning: more than 99 of 100 keys are asked for once: is each line a key?"
+            );
         }
     }
 }

@@ -1,27 +1,28 @@
 //! A trace read from a source, a key a line.
 ghost use Rattle.std.specs.Prelude.{◌≡◌, ◌++◌, IfOk, OnOk};
-ghost use Rattle.clock2q_text.specs.Text.{lines_of};
+ghost use Rattle.clock2q_ports.specs.Lines.{lines_of};
 ghost use Rattle.clock2q_simulation.specs.Reading.{ReadsTrace, HasNoEnd, Takes};
 
 use crate::error::SimulationError;
 use crate::progress::Progress;
 use crate::trace::{GrowingTrace, Trace};
-use clock2q_text::Source;
+use clock2q_ports::Source;
 use std::alloc::{AllocError, Allocator};
+use std::hash::BuildHasher;
 use std::io::Write;
 
-/// The number of bytes that are asked for at a time.
+/// The number of bytes requested at a time.
 const BLOCK: usize = 65536;
 
 /// The keys so far, and the beginning of one whose line has not ended yet.
 #[derive(Drop)]
-struct Lines<A: Allocator> {
-    trace: GrowingTrace<A>,
+struct Lines<S: BuildHasher, A: Allocator> {
+    trace: GrowingTrace<S, A>,
     line: Vec<u8, A>,
 }
 
-impl<A: Allocator + Copy> Lines<A> {
-    /// Takes the bytes that come next.
+impl<S: BuildHasher + Drop, A: Allocator + Copy> Lines<S, A> {
+    /// Takes the next bytes.
     fn take(&mut self, bytes: &[u8]) -> Result<(), AllocError>
         requires unended { HasNoEnd self.old.line.items }
         ensures taken { OnOk result (Takes self.old.trace.keys self.old.line.items bytes.now self.new.trace.keys self.new.line.items) }
@@ -40,7 +41,7 @@ impl<A: Allocator + Copy> Lines<A> {
         Ok(())
     }
 
-    /// Ends the last line, which may lack its end.
+    /// Ends the last line, which may lack its line end.
     fn finish(self) -> Result<Trace<A>, AllocError>
         requires unended { HasNoEnd self.line.items }
         ensures keys { IfOk result (λ trace. trace.keys ≡ self.trace.keys ++ lines_of self.line.items) }
@@ -54,7 +55,8 @@ impl<A: Allocator + Copy> Lines<A> {
 }
 
 /// Reads a trace to its end: a key a line. A line ends with the byte 10, which the last one may
-/// lack. No failed read is tried again.
+/// lack. A failed read isn't retried. The trace doesn't depend on the hasher: use a `RandomState`
+/// if strangers choose the keys.
 ///
 /// # Errors
 ///
@@ -63,17 +65,18 @@ impl<A: Allocator + Copy> Lines<A> {
 ///
 /// # Cost
 ///
-/// That of [`GrowingTrace::push`] for each line. Memory in proportion to the number of lines and to the
-/// bytes of the different keys.
-pub fn read_trace<R: Source, W: Write, A: Allocator + Copy>(
+/// That of [`GrowingTrace::push`] for each line. Memory in proportion to the number of lines and to
+/// the bytes of the different keys.
+pub fn read_trace<R: Source, W: Write, S: BuildHasher + Drop, A: Allocator + Copy>(
     alloc: A,
+    hasher: S,
     reader: &mut R,
     progress: &mut Progress<W>,
 ) -> Result<Trace<A>, SimulationError>
     ensures { ReadsTrace (R.given reader.old) (R.given reader.new) (R.remaining reader.old) (R.remaining reader.new) (λ trace. trace.keys) result }
 {
     let mut lines = Lines {
-        trace: GrowingTrace::new(alloc),
+        trace: GrowingTrace::with_hasher(alloc, hasher),
         line: Vec::new(alloc),
     };
     let mut block = [0u8; BLOCK];
@@ -93,6 +96,6 @@ pub fn read_trace<R: Source, W: Write, A: Allocator + Copy>(
         }
         progress.read(lines.trace.len());
     }
-    // so many bytes leave no memory for their keys
+    // the keys of that many bytes can't fit in memory
     Err(SimulationError::Memory)
 }

@@ -1,7 +1,8 @@
-//! What comes of one capacity.
-ghost use Rattle.std.specs.Prelude.{◌≡◌, IfErr, IfOk};
+//! The result at one capacity.
+ghost use Rattle.std.specs.Prelude.{◌≡◌, IfErr, IfOk, take};
 ghost use Rattle.std.specs.NonZero.{non_zero_usize_get};
-ghost use Rattle.clock2q_simulation.specs.Rows.{AreHits, IsRow};
+ghost use Rattle.clock2q_policies.specs.Policies.{AreBelow};
+ghost use Rattle.clock2q_simulation.specs.Rows.{AreHitsAfter, IsRow};
 ghost use Rattle.clock2q_simulation.specs.SimulationError.{IsOfNoDevice};
 
 use crate::error::SimulationError;
@@ -11,19 +12,19 @@ use crate::trace::Trace;
 use std::alloc::{AllocError, Allocator};
 use std::num::{NonZeroUsize, nearest_usize_to_f64};
 
-/// How many accesses hit with a policy.
+/// The number of accesses that hit with a policy.
 ///
 /// # Example
 ///
 /// ```
-/// let row = replay(rt.alloc(), two, &[Policy::FirstInFirstOut], None, &trace)?;
+/// let row = replay(rt.alloc(), two, &[Policy::FirstInFirstOut], None, 0, &trace)?;
 /// assert_eq!(rt; row.hits[0].hits, 2);
 /// ```
 #[derive(Clone, Copy, Debug, PartialEq, Eq)]
 pub struct Hits {
     /// The policy.
     pub policy: Policy,
-    /// How many keys of the trace were resident as they came.
+    /// The number of counted accesses that hit.
     pub hits: usize,
 }
 
@@ -33,15 +34,15 @@ pub struct Hits {
 ///
 /// ```
 /// let input = b"a\nb\na\nc\nb\nd\na\nb\n".as_slice();
-/// let trace = read_trace(rt.alloc(), &mut Device::new(input), &mut progress)?;
-/// let row = replay(rt.alloc(), two, &[Policy::FirstInFirstOut], None, &trace)?; // in a cache for two keys
+/// let trace = read_trace(rt.alloc(), hasher, &mut Device::new(input), &mut progress)?;
+/// let row = replay(rt.alloc(), two, &[Policy::FirstInFirstOut], None, 0, &trace)?; // for two keys
 /// assert_eq!(rt; row.ratio(row.hits[0].hits), 0.25);
 /// ```
 #[derive(Drop)]
 pub struct Row<A: Allocator> {
-    /// How many keys each cache can hold.
+    /// The number of keys that each cache can hold.
     pub capacity: NonZeroUsize,
-    /// How many keys the trace has.
+    /// The number of counted accesses: those of the trace without the skipped ones.
     pub accesses: usize,
     /// The hits with each policy.
     pub hits: Vec<Hits, A>,
@@ -76,7 +77,8 @@ impl<A: Allocator> Row<A> {
 }
 
 /// Replays a trace in a new cache of each policy, in the order of the policies. Clock2Q+ has the
-/// chosen shares, or the usual ones.
+/// chosen shares, or the usual ones. The first `skipped` accesses warm the caches and aren't
+/// counted.
 ///
 /// # Errors
 ///
@@ -84,25 +86,26 @@ impl<A: Allocator> Row<A> {
 ///
 /// # Cost
 ///
-/// That of [`policy_hits`] for each policy.
+/// That of [`policy_hits`] for each policy, and again for the skipped accesses.
 pub fn replay<A: Allocator + Copy>(
     alloc: A,
     capacity: NonZeroUsize,
     policies: &[Policy],
     shares: Option<ChosenShares>,
+    skipped: usize,
     trace: &Trace<A>,
 ) -> Result<Row<A>, SimulationError>
-    ensures row { IfOk result (IsRow policies.now shares trace.now.numbers (non_zero_usize_get capacity)) }
+    ensures row { IfOk result (IsRow policies.now shares skipped trace.now.numbers (non_zero_usize_get capacity)) }
     ensures devices { IfErr result IsOfNoDevice }
 {
     let mut hits = Vec::new(alloc);
     for policy in policies {
-        hits.push(hits_with(alloc, *policy, capacity, shares, trace)?)
+        hits.push(hits_with(alloc, *policy, capacity, shares, skipped, trace)?)
             .map_err(AllocError::from)?;
     }
     Ok(Row {
         capacity,
-        accesses: trace.numbers().len(),
+        accesses: trace.numbers().len().saturating_sub(skipped),
         hits,
     })
 }
@@ -113,12 +116,28 @@ fn hits_with<A: Allocator + Copy>(
     policy: Policy,
     capacity: NonZeroUsize,
     shares: Option<ChosenShares>,
+    skipped: usize,
     trace: &Trace<A>,
 ) -> Result<Hits, SimulationError>
     ensures policy { IfOk result (λ h. h.policy ≡ policy) }
-    ensures hits { IfOk result (λ h. AreHits shares trace.now.numbers (non_zero_usize_get capacity) h.policy h.hits) }
+    ensures hits { IfOk result (λ h. AreHitsAfter skipped shares trace.now.numbers (non_zero_usize_get capacity) h.policy h.hits) }
     ensures devices { IfErr result IsOfNoDevice }
 {
-    let hits = policy_hits(alloc, policy, capacity, shares, trace)?;
-    Ok(Hits { policy, hits })
+    let (numbers, keys) = (trace.numbers(), trace.key_count());
+    let all = policy_hits(alloc, policy, capacity, shares, numbers, keys)?;
+    let first = first_of(trace, skipped);
+    let before = policy_hits(alloc, policy, capacity, shares, first, keys)?;
+    Ok(Hits {
+        policy,
+        hits: all.saturating_sub(before),
+    })
+}
+
+/// Returns the numbers of the first keys, at most `count` of them.
+fn first_of<A: Allocator + Copy>(trace: &Trace<A>, count: usize) -> &[u32]
+    ensures first { result.now ≡ take count trace.now.numbers }
+    ensures below { AreBelow trace.now.different result.now }
+{
+    let numbers = trace.numbers();
+    &numbers[..count.min(numbers.len())]
 }

@@ -1,11 +1,13 @@
-//! A trace: keys of any bytes, told by numbers.
+//! A trace: keys of any bytes, identified by numbers.
 ghost use Rattle.std.specs.Prelude.{◌≡◌, ◌≤◌, ◌^◌, [], ◌∷◌, ◌++◌, OnOk, OnErr, length};
 ghost use Rattle.clock2q_policies.specs.Policies.{AreBelow};
-ghost use Rattle.clock2q_simulation.specs.Trace.{AreNumbers};
+ghost use Rattle.clock2q_simulation.specs.Trace.{AreNumbers, AreUsed};
 
 use crate::known_keys::KnownKeys;
+use clock2q_cache::DefaultHashBuilder;
 use clock2q_count::Told;
-use std::alloc::{AllocError, Allocator};
+use std::alloc::{AllocError, Allocator, Global};
+use std::hash::BuildHasher;
 use std::marker::Model;
 
 /// The keys of a trace, as a type for contracts alone: no value of it is ever made.
@@ -20,7 +22,7 @@ impl Model for Keys {
     ghost view = { λ _. [] };
 }
 
-/// Keys in the order in which they come, each told by a number: equal keys by the same one, and
+/// The keys of a trace in order, each identified by a number: equal keys by the same one, and
 /// different keys by different ones.
 ///
 /// # Example
@@ -61,17 +63,18 @@ impl<A: Allocator> Trace<A> {
         &self.numbers
     }
 
-    /// Returns how many different keys there are.
+    /// Returns the number of different keys.
     pub fn key_count(&self) -> usize
         ensures keys { result ≡ self.now.different }
+        ensures used { AreUsed self.now.numbers result }
         ensures few { result ≤ 2 ^ 32 }
     {
         self.different
     }
 }
 
-/// A trace that gets more keys. It holds the bytes of the different ones, which the
-/// [`Trace`] that it becomes needs no more.
+/// A trace that keys are still added to. It holds the bytes of the different ones, which the
+/// [`Trace`] that it becomes no longer needs.
 ///
 /// # Example
 ///
@@ -83,13 +86,13 @@ impl<A: Allocator> Trace<A> {
 /// assert_eq!(rt; growing.finish().key_count(), 1);
 /// ```
 #[derive(Drop)]
-pub struct GrowingTrace<A: Allocator> {
+pub struct GrowingTrace<S: BuildHasher = DefaultHashBuilder, A: Allocator = Global> {
     numbers: Vec<u32, A>,
-    known: KnownKeys<A>,
+    known: KnownKeys<S, A>,
     keys: Told<Keys>,
 }
 
-impl<A: Allocator> Model for GrowingTrace<A> {
+impl<S: BuildHasher, A: Allocator> Model for GrowingTrace<S, A> {
     ghost use Rattle.std.specs.Prelude.{length};
     ghost use Rattle.clock2q_simulation.specs.Trace.{Numbered, IsNumbering};
 
@@ -100,14 +103,24 @@ impl<A: Allocator> Model for GrowingTrace<A> {
     ghost invariant = { λ t. IsNumbering t.known t.numbers.items t.keys.value };
 }
 
-impl<A: Allocator + Copy> GrowingTrace<A> {
-    /// Returns a trace without keys.
-    pub fn new(alloc: A) -> GrowingTrace<A>
+impl<A: Allocator + Copy> GrowingTrace<DefaultHashBuilder, A> {
+    /// Returns a trace without keys, whose hasher has a fixed seed ([`DefaultHashBuilder`]).
+    pub fn new(alloc: A) -> GrowingTrace<DefaultHashBuilder, A>
+        ensures empty { result.keys ≡ [] }
+    {
+        GrowingTrace::with_hasher(alloc, DefaultHashBuilder::new())
+    }
+}
+
+impl<S: BuildHasher, A: Allocator + Copy> GrowingTrace<S, A> {
+    /// Returns a trace without keys, with the caller's hasher: use a `RandomState` if strangers
+    /// choose the keys. The numbers don't depend on it.
+    pub fn with_hasher(alloc: A, hasher: S) -> GrowingTrace<S, A>
         ensures empty { result.keys ≡ [] }
     {
         GrowingTrace {
             numbers: Vec::new(alloc),
-            known: KnownKeys::new(alloc),
+            known: KnownKeys::new(alloc, hasher),
             keys: Told::new(&()),
         }
     }
@@ -117,8 +130,8 @@ impl<A: Allocator + Copy> GrowingTrace<A> {
     /// # Errors
     ///
     /// `AllocError` if a request for memory is refused, if there are 2^32 different keys, or if
-    /// their table refuses a new one, since its number would stand more than 2^24 - 2 slots
-    /// past its home. Nothing changes then.
+    /// their table refuses a new one, since its number would be more than 2^24 - 2 slots past its
+    /// home. Nothing changes then.
     ///
     /// # Cost
     ///
@@ -135,15 +148,15 @@ impl<A: Allocator + Copy> GrowingTrace<A> {
     }
 }
 
-impl<A: Allocator> GrowingTrace<A> {
-    /// Returns how many keys there are, equal ones counted each.
+impl<S: BuildHasher + Drop, A: Allocator> GrowingTrace<S, A> {
+    /// Returns the number of keys, counting equal ones separately.
     pub fn len(&self) -> usize
         ensures len { result ≡ length self.now.keys }
     {
         self.numbers.len()
     }
 
-    /// Returns the trace, and gives back the memory that holds the bytes of the keys.
+    /// Returns the trace, and frees the memory that holds the bytes of the keys.
     pub fn finish(self) -> Trace<A>
         ensures same { result ≡ self }
     {

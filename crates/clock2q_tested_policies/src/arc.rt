@@ -5,24 +5,24 @@ use crate::replayed::Replayed;
 use std::alloc::{AllocError, Allocator};
 use std::num::nearest_usize_to_f64;
 
-/// Residents that came once, and those that came again.
+/// Residents accessed once, and those accessed again.
 const ONCE: u8 = 0;
 
 const AGAIN: u8 = 1;
 
-/// Keys that left each of them.
+/// Keys evicted from each of them.
 const LEFT_ONCE: u8 = 2;
 
 const LEFT_AGAIN: u8 = 3;
 
-/// ARC, of 'ARC: A Self-Tuning, Low Overhead Replacement Cache' (2003): keys that came once and
-/// keys that came again have lists of their own, each with a list of those that left it. A key that
-/// comes again after it left makes room for its list at the other's cost.
+/// ARC, of 'ARC: A Self-Tuning, Low Overhead Replacement Cache' (2003): keys accessed once and keys
+/// accessed again have lists of their own, each with a list of the keys evicted from it. A key that
+/// is accessed again after its eviction makes room for its list at the other's cost.
 #[derive(Drop)]
 pub(crate) struct Arc<A: Allocator> {
     capacity: usize,
     lists: Lists<A>,
-    /// How many of the residents should have come once.
+    /// How many of the residents should have been accessed once.
     target: f64,
 }
 
@@ -41,7 +41,7 @@ impl<A: Allocator> Arc<A> {
         nearest_usize_to_f64(self.lists.len(list))
     }
 
-    /// Moves the oldest key of one of the lists of residents to those that left it.
+    /// Evicts the oldest key of one of the lists of residents to its list of evicted keys.
     fn replace(&mut self, key: u32) {
         let once = self.size(ONCE);
         let is_above = once > self.target
@@ -62,7 +62,7 @@ impl<A: Allocator> Arc<A> {
         }
     }
 
-    /// Moves the target for a key that comes again after it left.
+    /// Moves the target for a key that is accessed again after its eviction.
     fn adapt(&mut self, key: u32) {
         let (once, again) = (self.size(LEFT_ONCE), self.size(LEFT_AGAIN));
         if self.lists.has(LEFT_ONCE, key) {

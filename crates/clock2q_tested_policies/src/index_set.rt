@@ -2,14 +2,14 @@
 
 use std::alloc::{AllocError, Allocator};
 
-/// How many bits a word has.
+/// The number of bits of a word.
 const BITS: usize = 64;
 
-/// Levels of words: 64 to the eleventh power is more than any number.
+/// The number of levels of words: 64 to the eleventh power is more than any index.
 const LEVELS: usize = 11;
 
-/// Indices of a trace. Each bit of the lowest level is an index, and each bit of a level above tells
-/// whether a word of the level below has any.
+/// Indices of a trace. Each bit of the lowest level is an index, and each bit of a level above is
+/// set if a word of the level below has any.
 #[derive(Drop)]
 pub(crate) struct IndexSet<A: Allocator> {
     words: Vec<u64, A>,
@@ -18,7 +18,7 @@ pub(crate) struct IndexSet<A: Allocator> {
 }
 
 impl<A: Allocator> IndexSet<A> {
-    /// Returns no indices, of so many that there may be.
+    /// Returns an empty set for indices below `indices`.
     pub(crate) fn new(alloc: A, indices: usize) -> Result<IndexSet<A>, AllocError> {
         let mut starts = [0; LEVELS];
         let mut count = indices;
@@ -47,21 +47,39 @@ impl<A: Allocator> IndexSet<A> {
         }
     }
 
-    /// Takes the last index out that isn't after `index`. Returns true if there was one.
-    pub(crate) fn take_last(&mut self, index: usize) -> bool {
-        let Some(last) = self.last(index) else {
-            return false;
-        };
-        let mut bit = last;
+    /// Removes an index that is in the set.
+    pub(crate) fn remove(&mut self, index: usize) {
+        let mut bit = index;
         for level in 0..LEVELS {
             let word = self.word(level, bit / BITS) & !mask(bit);
             self.set(level, bit / BITS, word);
             if word != 0 {
-                break;
+                return;
             }
             bit /= BITS;
         }
+    }
+
+    /// Removes the last index that isn't after `index`. Returns true if there was one.
+    pub(crate) fn take_last(&mut self, index: usize) -> bool {
+        let Some(last) = self.last(index) else {
+            return false;
+        };
+        self.remove(last);
         true
+    }
+
+    /// Returns the first index.
+    pub(crate) fn first(&self) -> Option<usize> {
+        let mut index = 0usize;
+        for level in (0..LEVELS).rev() {
+            let word = self.word(level, index);
+            if word == 0 {
+                return None;
+            }
+            index = first_bit(index, word);
+        }
+        Some(index)
     }
 
     /// Returns the last index that isn't after `index`.
@@ -111,4 +129,10 @@ fn mask(bit: usize) -> u64 {
 fn last_bit(index: usize, word: u64) -> usize {
     let last = word.checked_ilog2().unwrap_or(0);
     index.saturating_mul(BITS).saturating_add(last as usize)
+}
+
+/// Returns the first bit that is set in a word, among the bits of its level.
+fn first_bit(index: usize, word: u64) -> usize {
+    let first = word.trailing_zeros();
+    index.saturating_mul(BITS).saturating_add(first as usize)
 }

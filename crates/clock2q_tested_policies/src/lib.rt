@@ -1,17 +1,23 @@
-//! Policies of caches, replayed over keys that are numbers: how many accesses of a trace hit.
+//! Policies of caches, replayed over keys that are numbers: the number of accesses of a trace that
+//! hit.
 //!
-//! It is proved that each call is safe and returns. The hits are tested, against lists.
+//! Each call is proved to be safe and to return. The hits are tested, against lists.
 #![tactic(auto)]
 
 mod arc;
-mod clock;
 mod index_set;
+mod lirs;
 mod lists;
+mod lru_2;
 mod marks;
 mod optimal;
 mod replayed;
 mod s3_fifo;
 mod sieve;
+mod sketch;
+mod two_q;
+mod w_tiny_lfu;
 
+pub use lru_2::lru_2_hits;
 pub use optimal::optimal_hits;
-pub use replayed::{arc_hits, clock_hits, s3_fifo_hits, sieve_hits};
+pub use replayed::{arc_hits, lirs_hits, s3_fifo_hits, sieve_hits, two_q_hits, w_tiny_lfu_hits};

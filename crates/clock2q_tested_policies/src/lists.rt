@@ -2,16 +2,16 @@
 
 use std::alloc::{AllocError, Allocator};
 
-/// The list of a key that stands in none.
+/// The list of a key that is in none.
 const NONE: u8 = u8::MAX;
 
-/// How many lists there are at most.
+/// The largest number of lists.
 const LISTS: usize = 4;
 
-/// Lists with a newest and an oldest key. Each key stands in at most one of them.
+/// Lists with a newest and an oldest key. Each key is in at most one of them.
 #[derive(Drop)]
 pub(crate) struct Lists<A: Allocator> {
-    /// Of each key, and then of each list as a whole, which closes it to a ring.
+    /// The next newer node of each key, and then of the node that closes each list to a ring.
     newer: Vec<u32, A>,
     older: Vec<u32, A>,
     lists: Vec<u8, A>,
@@ -39,12 +39,12 @@ impl<A: Allocator + Copy> Lists<A> {
 }
 
 impl<A: Allocator> Lists<A> {
-    /// Returns how many keys a list has.
+    /// Returns the number of keys of a list.
     pub(crate) fn len(&self, list: u8) -> usize {
         self.lengths.get(usize::from(list)).copied().unwrap_or(0)
     }
 
-    /// Returns true if a key stands in a list.
+    /// Returns true if a key is in a list.
     pub(crate) fn has(&self, list: u8, key: u32) -> bool {
         self.lists.get(key as usize) == Some(&list)
     }
@@ -55,13 +55,13 @@ impl<A: Allocator> Lists<A> {
         (key < self.keys).then_some(key)
     }
 
-    /// Returns the key that came after another one, if there is any.
+    /// Returns the next newer key of the same list, if there is any.
     pub(crate) fn newer(&self, key: u32) -> Option<u32> {
         let key = at(&self.newer, key);
         (key < self.keys).then_some(key)
     }
 
-    /// Makes a key the newest of a list. It leaves the list where it stood.
+    /// Makes a key the newest of a list, and removes it from the list it was in.
     pub(crate) fn put(&mut self, list: u8, key: u32) {
         self.take(key);
         let ring = self.ring(list);
@@ -74,7 +74,7 @@ impl<A: Allocator> Lists<A> {
         }
     }
 
-    /// Takes a key from its list, if it stands in one.
+    /// Removes a key from its list, if it is in one.
     pub(crate) fn take(&mut self, key: u32) {
         let list = self.lists.get(key as usize).copied().unwrap_or(NONE);
         if list == NONE {

@@ -2,7 +2,7 @@
 
 use std::alloc::{AllocError, Allocator};
 
-/// What is marked of each key: at first 0.
+/// A mark for each key, 0 at first.
 #[derive(Drop)]
 pub(crate) struct Marks<A: Allocator> {
     marks: Vec<u8, A>,

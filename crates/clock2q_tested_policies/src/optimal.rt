@@ -4,20 +4,20 @@ use crate::index_set::IndexSet;
 use std::alloc::{AllocError, Allocator};
 use std::num::NonZeroUsize;
 
-/// Room for keys that stay from one access to the next. One slot of the cache is always the key's
-/// that is asked for, so the others are as many as the capacity less one.
+/// Slots for keys that stay from one access to the next. The accessed key always has one slot of
+/// the cache, so the number of the others is the capacity minus one.
 #[derive(Drop)]
 struct Rooms<A: Allocator> {
-    /// Where each stay that is over ended; its room is free from there on.
+    /// Where each finished stay ended; its slot is free from there on.
     ended: IndexSet<A>,
-    /// How many rooms have had no stay yet.
+    /// The number of slots that had no stay yet.
     unused: usize,
 }
 
 impl<A: Allocator> Rooms<A> {
-    /// Gives a key that was asked for at `from` and is again at `to` a room for the accesses between
-    /// them, if one is free so long: the one that became free last, so that those that became free
-    /// earlier are left for stays that began earlier.
+    /// Gives a key that was accessed at `from` and is again at `to` a slot for the accesses between
+    /// them, if one is free for that long: the one that became free last, which leaves those that
+    /// became free earlier to stays that began earlier. Returns true if there was one.
     fn keep(&mut self, from: usize, to: usize) -> bool {
         let last_between = to.saturating_sub(1);
         if last_between == from {
@@ -34,12 +34,14 @@ impl<A: Allocator> Rooms<A> {
     }
 }
 
-/// Returns the most accesses of a trace that can hit in a new cache that takes in each key which it
-/// misses: as many as hit where the key leaves whose next access is farthest off, of 'A Study of
-/// Replacement Algorithms for a Virtual-Storage Computer' (1966). The keys are numbers below `keys`.
+/// Returns the most accesses of a trace that can hit in a new cache that admits each key it misses:
+/// as many as hit if the key whose next access is farthest away is evicted, of 'A Study of
+/// Replacement Algorithms for a Virtual-Storage Computer' (1966). The keys are numbers below
+/// `keys`.
 ///
-/// They are counted as stays: an access hits where its key stayed from its access before. Stays are
-/// taken in the order of their ends, each that still finds room, which takes as many as can be.
+/// The hits are counted as stays: an access hits if its key stayed since its previous access. Stays
+/// are taken in the order of their ends, each that still finds a slot, which maximizes their
+/// number.
 ///
 /// # Errors
 ///
@@ -54,7 +56,7 @@ pub fn optimal_hits<A: Allocator + Copy>(
     trace: &[u32],
     keys: u32,
 ) -> Result<usize, AllocError> {
-    // one more than the index of each key's last access, and 0 where there was none
+    // one more than the index of each key's last access, or 0 if there was none
     let mut last = vec![in alloc; 0usize; keys as usize]?;
     let mut rooms = Rooms {
         ended: IndexSet::new(alloc, trace.len())?,

@@ -1,15 +1,17 @@
 //! Policies that go through a trace key by key.
 
 use crate::arc::Arc;
-use crate::clock::Clock;
+use crate::lirs::Lirs;
 use crate::s3_fifo::S3Fifo;
 use crate::sieve::Sieve;
+use crate::two_q::TwoQ;
+use crate::w_tiny_lfu::WTinyLfu;
 use std::alloc::{AllocError, Allocator};
 use std::num::NonZeroUsize;
 
 /// A cache of keys that are numbers.
 pub(crate) trait Replayed {
-    /// Returns true if a key is resident, and makes it so.
+    /// Accesses a key, which becomes resident. Returns true on a hit.
     fn access(&mut self, key: u32) -> bool;
 }
 
@@ -24,25 +26,6 @@ where
         }
     }
     hits
-}
-
-/// Returns how many accesses of a trace hit in a new CLOCK cache, of 'A Paging Experiment with the
-/// Multics System' (1968). The keys are numbers below `keys`.
-///
-/// # Errors
-///
-/// `AllocError` if a request for memory is refused.
-///
-/// # Cost
-///
-/// Time in proportion to the trace and to `keys`, and 10 bytes a key, whatever the capacity.
-pub fn clock_hits<A: Allocator + Copy>(
-    alloc: A,
-    capacity: NonZeroUsize,
-    trace: &[u32],
-    keys: u32,
-) -> Result<usize, AllocError> {
-    Ok(hits_of(Clock::new(alloc, capacity.get(), keys)?, trace))
 }
 
 /// Returns how many accesses of a trace hit in a new SIEVE cache, of 'SIEVE is Simpler than LRU: an
@@ -65,7 +48,8 @@ pub fn sieve_hits<A: Allocator + Copy>(
 }
 
 /// Returns how many accesses of a trace hit in a new S3-FIFO cache, of 'FIFO Queues are All You
-/// Need for Cache Eviction' (2023). The keys are numbers below `keys`.
+/// Need for Cache Eviction' (2023). A full main queue evicts a key before the oldest key of the
+/// small queue moves into it. The keys are numbers below `keys`.
 ///
 /// # Errors
 ///
@@ -100,4 +84,70 @@ pub fn arc_hits<A: Allocator + Copy>(
     keys: u32,
 ) -> Result<usize, AllocError> {
     Ok(hits_of(Arc::new(alloc, capacity.get(), keys)?, trace))
+}
+
+/// Returns how many accesses of a trace hit in a new 2Q cache, of '2Q: A Low Overhead High
+/// Performance Buffer Management Replacement Algorithm' (1994), in the full version: a quarter of
+/// the room for the queue of new keys, and half as many keys remembered as there is room for. The
+/// keys are numbers below `keys`.
+///
+/// # Errors
+///
+/// `AllocError` if a request for memory is refused.
+///
+/// # Cost
+///
+/// Time in proportion to the trace and to `keys`, and 9 bytes a key, whatever the capacity.
+pub fn two_q_hits<A: Allocator + Copy>(
+    alloc: A,
+    capacity: NonZeroUsize,
+    trace: &[u32],
+    keys: u32,
+) -> Result<usize, AllocError> {
+    Ok(hits_of(TwoQ::new(alloc, capacity.get(), keys)?, trace))
+}
+
+/// Returns how many accesses of a trace hit in a new LIRS cache, of 'LIRS: An Efficient Low
+/// Inter-reference Recency Set Replacement Policy to Improve Buffer Cache Performance' (2002), with
+/// a hundredth of the room for its queue and no bound on its stack. The keys are numbers below
+/// `keys`.
+///
+/// # Errors
+///
+/// `AllocError` if a request for memory is refused.
+///
+/// # Cost
+///
+/// Time in proportion to the trace and to `keys`, and 19 bytes a key, whatever the capacity.
+pub fn lirs_hits<A: Allocator + Copy>(
+    alloc: A,
+    capacity: NonZeroUsize,
+    trace: &[u32],
+    keys: u32,
+) -> Result<usize, AllocError> {
+    Ok(hits_of(Lirs::new(alloc, capacity.get(), keys)?, trace))
+}
+
+/// Returns how many accesses of a trace hit in a new W-TinyLFU cache, of 'TinyLFU: A Highly
+/// Efficient Cache Admission Policy' (2017), with a window of a hundredth of the room and segmented
+/// LRU for the rest, four fifths of it protected. The keys are numbers below `keys`.
+///
+/// Keys that share all their counters with others are taken for each other, so other numbers for
+/// the same keys can change the hits a little.
+///
+/// # Errors
+///
+/// `AllocError` if a request for memory is refused.
+///
+/// # Cost
+///
+/// Time in proportion to the trace and to `keys`; 9 bytes a key, and 4 to 8 bytes a key of the
+/// capacity.
+pub fn w_tiny_lfu_hits<A: Allocator + Copy>(
+    alloc: A,
+    capacity: NonZeroUsize,
+    trace: &[u32],
+    keys: u32,
+) -> Result<usize, AllocError> {
+    Ok(hits_of(WTinyLfu::new(alloc, capacity.get(), keys)?, trace))
 }

@@ -9,15 +9,17 @@ const SMALL: u8 = 0;
 
 const MAIN: u8 = 1;
 
-/// Keys that left the small queue.
+/// Keys evicted from the small queue.
 const GHOST: u8 = 2;
 
-/// The most hits that are counted of a key.
+/// The most hits counted for a key.
 const MOST: u8 = 3;
 
 /// S3-FIFO, of 'FIFO Queues are All You Need for Cache Eviction' (2023): a tenth of the room is a
-/// queue for new keys. One that was hit more than once there goes on to the main queue; of another
-/// one only the key is remembered, and it comes into the main queue if it comes again.
+/// queue for new keys. A key that was hit more than once there moves on to the main queue; any
+/// other is evicted but remembered, and enters the main queue if it is accessed again. A full main
+/// queue evicts a key before the oldest key of the small queue moves into it, not after: the hits
+/// can differ by some points.
 #[derive(Drop)]
 pub(crate) struct S3Fifo<A: Allocator> {
     capacity: usize,
@@ -86,7 +88,7 @@ impl<A: Allocator> S3Fifo<A> {
         }
     }
 
-    /// Remembers as many keys as the main queue has room for.
+    /// Remembers a key, and at most as many as the main queue has room for.
     fn remember(&mut self, key: u32) {
         self.queues.put(GHOST, key);
         if self.queues.len(GHOST) > self.main {
@@ -104,7 +106,7 @@ impl<A: Allocator> Replayed for S3Fifo<A> {
             self.hits.set(key, hits.min(MOST));
             return true;
         }
-        // where all keys of the small queue go on, none may have left
+        // if all keys of the small queue move on, none may have been evicted
         for _ in 0..2 {
             if self.len() >= self.capacity {
                 self.evict();

@@ -1,4 +1,4 @@
--- The table holds indices of the hashes.
+-- The table's handles are indices of the hashes.
 use Rattle.clock2q_bench.specs.Indices.{HoldsIndices}
 use Rattle.clock2q_bench.proofs.tables.insert_all.Given as goal
 

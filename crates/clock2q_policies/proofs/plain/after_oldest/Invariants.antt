@@ -1,4 +1,4 @@
--- The indices so far had nothing of the list.
+-- None of the indices so far is in the list.
 use Rattle.std.proofs.Common.{◌≡◌}
 use Rattle.clock2q_policies.specs.Stamps.{held_at}
 use Rattle.clock2q_policies.proofs.plain.after_oldest.Given as goal

@@ -1,4 +1,4 @@
--- The hits so far and those to come are all hits.
+-- The hits so far plus those to come are all hits.
 use Rattle.std.proofs.Common.{◌≡◌, ◌+◌, ◌≤◌, drop}
 use Rattle.std.specs.NonZero.{non_zero_usize_get}
 use Rattle.clock2q_policies.specs.Policies.{hits, is_in, plain_after, plain_hits}

@@ -1,6 +1,6 @@
 use Rattle.std.proofs.Common.{◌≡◌, ◌∙◌, true, get_or, sym, arith}
 use Rattle.std.specs.Char.{is_ascii_digit}
-use Rattle.clock2q_text.proofs.Numbers.{other-at, digits-more, value-more}
+use Rattle.clock2q_ports.proofs.Digits.{other-at, digits-more, value-more}
 use Rattle.clock2q_simulation.proofs.Amounts.{number_in-other}
 use Rattle.clock2q_simulation.proofs.amount.number_of.Goals as goal
 

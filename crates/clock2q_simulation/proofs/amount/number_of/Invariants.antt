@@ -1,4 +1,4 @@
--- The bytes so far are digits, and the number is theirs, as far as 64 bits go.
+-- The bytes so far are digits, and the number is theirs, capped at the largest of 64 bits.
 use Rattle.std.proofs.Common.{◌≡◌, ◌-◌, ◌^◌, true, take, min}
 use Rattle.std.specs.Str.{all_ascii_digits}
 use Rattle.std.specs.Str.Parse.{digits_value}

@@ -1,4 +1,4 @@
--- The capacities so far are the first end and the numbers so far that lie between the ends.
+-- The capacities so far are the first end and the numbers so far that are between the ends.
 use Rattle.std.proofs.Common.{◌≡◌, ◌&&◌, ltb, ◌∷◌, map, take}
 use Rattle.std.specs.List.{All, filter}
 use Rattle.clock2q_simulation.specs.Amounts.{IsCapacity, amount}

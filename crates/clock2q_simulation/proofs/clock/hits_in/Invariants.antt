@@ -1,4 +1,4 @@
--- The hits so far and those to come are all hits.
+-- The hits so far plus those to come are all hits.
 use Rattle.std.proofs.Common.{◌≡◌, ◌+◌, ◌≤◌, drop}
 use Rattle.clock2q_policies.specs.Policies.{hits}
 use Rattle.clock2q_simulation.specs.MachineHits.{machine_holds, machine_after}

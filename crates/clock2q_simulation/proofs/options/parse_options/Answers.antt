@@ -1,8 +1,8 @@
-use Rattle.std.proofs.Common.{◌≡◌, ◌∙◌, ◌+◌, ◌<◌, ◌∷◌, ◌++◌, [], ℕ, List, length, map, drop, get_or, ap, sym, arith, rules}
+use Rattle.std.proofs.Common.{◌≡◌, ◌∙◌, ◌+◌, ◌<◌, ◌∷◌, [], Some, ℕ, List, length, map, drop, get_or, ap, sym, arith, rules}
 use Rattle.std.specs.Option.{is_some}
 use Rattle.std.specs.String.{string_bytes}
 use Rattle.std.proofs.lemmas.List.{drop_more, get_or-map, length-map}
-use Rattle.clock2q_simulation.specs.Amounts.{asked_from}
+use Rattle.clock2q_simulation.specs.Amounts.{asked_from, joined}
 use Rattle.clock2q_simulation.proofs.options.parse_options.Goals as goal
 
 pub loop-index-preserved : goal.loop-index-preserved
@@ -15,6 +15,6 @@ loop-index-preserved g c =
     record {
       within = c.in_ok-take.ensures.within;
       asked = c.in_ok-take.ensures.asked (drop (place + 1) words)
-          ∙ sym (ap (λ ws. asked.capacities.items ++ asked_from (is_some asked.awaited) ws) (drop_more words place [] within ∙ ap (λ w. w ∷ drop (place + 1) words) word))
+          ∙ sym (ap (λ ws. joined (Some asked.capacities.items) (asked_from (is_some asked.awaited) ws)) (drop_more words place [] within ∙ ap (λ w. w ∷ drop (place + 1) words) word))
           ∙ c.loop-index.invariant.asked;
     }

@@ -1,13 +1,13 @@
--- The capacities so far and those that the rest asks for are all that are asked for.
-use Rattle.std.proofs.Common.{◌≡◌, ◌++◌, false, map, drop}
+-- The capacities so far and those that the rest asks for are all the capacities asked for.
+use Rattle.std.proofs.Common.{◌≡◌, [], Some, false, map, drop}
 use Rattle.std.specs.List.{All}
 use Rattle.std.specs.Option.{is_some}
 use Rattle.std.specs.String.{string_bytes}
-use Rattle.clock2q_simulation.specs.Amounts.{IsCapacity, asked_from}
+use Rattle.clock2q_simulation.specs.Amounts.{IsCapacity, asked_from, joined}
 use Rattle.clock2q_simulation.proofs.options.parse_options.Given as goal
 
 abbrev pub invariant-loop-index : goal.invariant-loop-index
 invariant-loop-index g l = record {
   within : All IsCapacity l.asked.capacities.items;
-  asked : l.asked.capacities.items ++ asked_from (is_some l.asked.awaited) (drop l.index (map string_bytes l.arguments)) ≡ asked_from false (map string_bytes l.arguments);
+  asked : joined (Some l.asked.capacities.items) (asked_from (is_some l.asked.awaited) (drop l.index (map string_bytes l.arguments))) ≡ joined (Some []) (asked_from false (map string_bytes l.arguments));
 }

@@ -1,6 +1,6 @@
 use Rattle.std.proofs.Common.{◌∙◌, ◌++◌, false, take, ap, rules}
 use Rattle.std.proofs.lemmas.Bool.{ne_eqb}
-use Rattle.clock2q_text.specs.Ports.{traffic_after}
+use Rattle.clock2q_ports.specs.Ports.{traffic_after}
 use Rattle.clock2q_simulation.proofs.LineByLine.{read-given, read-more, read-whole}
 use Rattle.clock2q_simulation.proofs.reading.read_trace.Goals as goal
 

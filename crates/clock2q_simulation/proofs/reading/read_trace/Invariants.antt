@@ -1,4 +1,4 @@
--- What was read so far comes to the lines so far and the beginning of one.
+-- What was read so far is the lines so far and the beginning of the next one.
 use Rattle.clock2q_simulation.proofs.LineByLine.{IsReadUpTo}
 use Rattle.clock2q_simulation.proofs.reading.read_trace.Given as goal
 

@@ -13,8 +13,8 @@ loop-asked-preserved g c =
     record {
       capacities = zipped-more (λ row. non_zero_usize_get row.capacity) (λ amount. keys_of amount c.args.trace.now.different) c.loop-asked.rows.items row c.push.new.self.items c.args.capacities.now c.loop-asked.asked-index _
           c.loop-asked-test.true c.in-Ok.ensures.items c.loop-asked.invariant.capacities (is.capacity ∙ c.in_ok-capacity.ensures.keys);
-      each = All-more (λ row. IsRow c.args.policies.now c.args.shares c.args.trace.now.numbers (non_zero_usize_get row.capacity) row) c.loop-asked.rows.items row c.push.new.self.items
-          c.in-Ok.ensures.items c.loop-asked.invariant.each (subst (λ room. IsRow c.args.policies.now c.args.shares c.args.trace.now.numbers room row) (sym is.capacity) is);
+      each = All-more (λ row. IsRow c.args.policies.now c.args.shares c.args.skipped c.args.trace.now.numbers (non_zero_usize_get row.capacity) row) c.loop-asked.rows.items row c.push.new.self.items
+          c.in-Ok.ensures.items c.loop-asked.invariant.each (subst (λ room. IsRow c.args.policies.now c.args.shares c.args.skipped c.args.trace.now.numbers room row) (sym is.capacity) is);
     }
 
 pub returns : goal.returns

@@ -9,5 +9,5 @@ use Rattle.clock2q_simulation.proofs.simulation.rows_of.Given as goal
 abbrev pub invariant-loop-asked : goal.invariant-loop-asked
 invariant-loop-asked g l = record {
   capacities : map (λ row. non_zero_usize_get row.capacity) l.rows.items ≡ map (λ amount. keys_of amount l.fn.trace.different) (take l.asked-index l.capacities);
-  each : All (λ row. IsRow l.fn.policies l.fn.shares l.fn.trace.numbers (non_zero_usize_get row.capacity) row) l.rows.items;
+  each : All (λ row. IsRow l.fn.policies l.fn.shares l.fn.skipped l.fn.trace.numbers (non_zero_usize_get row.capacity) row) l.rows.items;
 }

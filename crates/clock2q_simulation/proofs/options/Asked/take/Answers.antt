@@ -1,10 +1,21 @@
-use Rattle.std.proofs.Common.{sym, subst, ◌∙◌, ap, ◌++◌}
+use Rattle.std.proofs.Common.{◌≡◌, ◌∙◌, ◌++◌, true, false, sym, subst, ap, rules}
 use Rattle.std.specs.List.{All}
 use Rattle.std.proofs.lemmas.List.Elements.{All-append}
-use Rattle.clock2q_simulation.specs.Amounts.{IsCapacity}
+use Rattle.std.specs.Option.{is_some}
+use Rattle.clock2q_simulation.specs.Amounts.{IsCapacity, asked_from, is_capacity, is_option}
+use Rattle.clock2q_simulation.proofs.Amounts.{joined_more}
 use Rattle.clock2q_simulation.proofs.options.Asked.take.Goals as goal
 
 pub returns-clause-within : goal.returns-clause-within
 returns-clause-within g c =
     subst (All IsCapacity) (sym (c.in_ok-extend_from_slice.ensures.items ∙ ap (λ xs. c.args.self.now.capacities.items ++ xs) c.deref.ensures.value))
     (All-append IsCapacity c.args.self.now.capacities.items c.in_ok-more.more.items c.requires.within c.in_ok-more.ensures.within)
+
+pub returns-clause-asked : goal.returns-clause-asked
+returns-clause-asked g c rest =
+    let some = c.args.self.now.capacities.items in
+    let items : c.extend_from_slice.new.self.items ≡ some ++ c.in_ok-more.more.items = c.in_ok-extend_from_slice.ensures.items ∙ ap (λ xs. some ++ xs) c.deref.ensures.value in
+    let none : is_some c.args.self.now.awaited ≡ false = search rules in
+    let plain : is_option c.args.argument.now ≡ false = search rules in
+    let capacity : is_capacity c.args.argument.now ≡ true = search rules in
+    rw (none, plain, capacity, c.in_ok-more.ensures.asked, items) (joined_more some c.in_ok-more.more.items (asked_from false rest))

@@ -1,6 +1,6 @@
 use Rattle.std.proofs.Common.{◌≡◌, ◌<◌, ◌∙◌, ◌∷◌, ◌++◌, [], true, length, eqb, ap, sym, append-nil, arith}
 use Rattle.std.proofs.lemmas.Bool.{eqb-true, eqb-false, eq-eqb}
-use Rattle.clock2q_text.proofs.Cutting.{lines_of-empty}
+use Rattle.clock2q_ports.proofs.Lines.{lines_of-empty}
 use Rattle.clock2q_simulation.proofs.LineByLine.{last-line}
 use Rattle.clock2q_simulation.proofs.reading.Lines.finish.Goals.{then-not-is_empty+in_ok-push, else-not-is_empty}
 use Rattle.clock2q_simulation.proofs.reading.Lines.finish.Goals as goal

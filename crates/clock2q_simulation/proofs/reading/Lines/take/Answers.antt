@@ -1,7 +1,7 @@
 use Rattle.std.proofs.Common.{◌≡◌, ◌∙◌, ◌+◌, ◌∷◌, ◌++◌, [], drop, get_or, refl, ap, sym, subst, arith}
 use Rattle.std.proofs.lemmas.Bool.{ne_eqb}
 use Rattle.std.proofs.lemmas.List.{drop_all}
-use Rattle.clock2q_text.specs.Text.{lines_of}
+use Rattle.clock2q_ports.specs.Lines.{lines_of}
 use Rattle.clock2q_simulation.specs.Reading.{HasNoEnd}
 use Rattle.clock2q_simulation.proofs.LineByLine.{line-ended, line-longer, unended-more}
 use Rattle.clock2q_simulation.proofs.reading.Lines.take.Goals.{then-byte-eq10+in_ok-push, else-byte-eq10+in-Ok}

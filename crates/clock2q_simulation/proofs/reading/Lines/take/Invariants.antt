@@ -1,6 +1,6 @@
--- The lines so far, with the bytes still to come, are those of before with all bytes.
+-- The lines so far, with the bytes still to come, are the lines at the start with all bytes.
 use Rattle.std.proofs.Common.{◌≡◌, ◌++◌, ℕ, List, drop}
-use Rattle.clock2q_text.specs.Text.{lines_of}
+use Rattle.clock2q_ports.specs.Lines.{lines_of}
 use Rattle.clock2q_simulation.specs.Reading.{HasNoEnd}
 use Rattle.clock2q_simulation.proofs.reading.Lines.take.Given as goal
 

@@ -1,0 +1,90 @@
+//! The results of traces as JSON.
+
+use crate::options::Options;
+use crate::outcome::Outcome;
+use crate::row::{Hits, Row};
+use std::alloc::{AllocError, Allocator};
+use std::fmt::Write;
+
+/// Returns an object with the traces in order, each with its name, its figures and its rows. A row
+/// has the hits and the hit ratio of each policy.
+pub(crate) fn json_text<A: Allocator + Copy>(
+    alloc: A,
+    options: &Options<A>,
+    outcomes: &[Outcome<'_, A>],
+) -> Result<String<A>, AllocError> {
+    let mut text = String::new(alloc);
+    text.push_str("{\"traces\": [")?;
+    for (index, outcome) in outcomes.iter().enumerate() {
+        text.push_str(if index > 0 { ",\n" } else { "\n" })?;
+        write_outcome(&mut text, outcome, options.skipped)?;
+    }
+    text.push_str("\n]}\n")?;
+    Ok(text)
+}
+
+fn write_outcome<A: Allocator>(
+    text: &mut String<A>,
+    outcome: &Outcome<'_, A>,
+    skipped: usize,
+) -> Result<(), AllocError> {
+    text.push_str("  {\"trace\": ")?;
+    write_string(text, outcome.name)?;
+    let summary = outcome.summary;
+    write!(
+        text,
+        ", \"accesses\": {}, \"keys\": {}, \"keys_once\": {}, \"skipped\": {}, \"rows\": [",
+        summary.accesses,
+        summary.keys,
+        summary.keys_once,
+        skipped.min(summary.accesses)
+    )?;
+    for (index, row) in outcome.rows.iter().enumerate() {
+        text.push_str(if index > 0 { ",\n" } else { "\n" })?;
+        write_row(text, row)?;
+    }
+    text.push_str("\n  ]}")
+}
+
+fn write_row<A: Allocator>(text: &mut String<A>, row: &Row<A>) -> Result<(), AllocError> {
+    let capacity = row.capacity.get();
+    write!(text, "    {{\"capacity\": {capacity}, \"policies\": {{")?;
+    for (index, hits) in row.hits.iter().enumerate() {
+        text.push_str(if index > 0 { ", " } else { "" })?;
+        write_hits(text, *hits, row.ratio(hits.hits))?;
+    }
+    text.push_str("}}")
+}
+
+fn write_hits<A: Allocator>(
+    text: &mut String<A>,
+    hits: Hits,
+    ratio: f64,
+) -> Result<(), AllocError> {
+    let name = hits.policy.name();
+    write!(
+        text,
+        "\"{name}\": {{\"hits\": {}, \"ratio\": {ratio:.4}}}",
+        hits.hits
+    )
+}
+
+/// Writes a string between quotes.
+fn write_string<A: Allocator>(text: &mut String<A>, string: &str) -> Result<(), AllocError> {
+    text.push('"')?;
+    for letter in string.chars() {
+        write_letter(text, letter)?;
+    }
+    text.push('"')
+}
+
+/// Writes a character of a string, as an escape if it needs one.
+fn write_letter<A: Allocator>(text: &mut String<A>, letter: char) -> Result<(), AllocError> {
+    if letter == '"' || letter == '\\' {
+        text.push('\\')?;
+    }
+    if letter < ' ' {
+        return write!(text, "\\u{:04x}", u32::from(letter));
+    }
+    text.push(letter)
+}

@@ -1,0 +1,77 @@
+//! The result of one trace.
+ghost use Rattle.std.specs.Prelude.{◌<◌, ◌↔◌, ◌≢◌, IfErr, IfOk, IsErrOf};
+ghost use Rattle.clock2q_simulation.specs.Simulated.{IsReplayed};
+
+use crate::error::SimulationError;
+use crate::options::Options;
+use crate::progress::Progress;
+use crate::reading::read_trace;
+use crate::row::Row;
+use crate::simulation::rows_of;
+use crate::summary::{Summary, summary_of};
+use clock2q_ports::Source;
+use std::alloc::Allocator;
+use std::hash::BuildHasher;
+use std::io::Write;
+
+/// The figures of one trace, and its hits at each capacity.
+///
+/// # Example
+///
+/// ```
+/// let outcome = replay_source(rt.alloc(), &options, "a.trace", hasher, &mut file, &mut progress)?;
+/// assert_eq!(rt; outcome.rows.len(), options.capacities.len());
+/// ```
+#[derive(Drop)]
+pub struct Outcome<'a, A: Allocator> {
+    /// The name of the trace: of its file, or a dash for standard input.
+    pub name: &'a str,
+    /// The numbers of its accesses and keys.
+    pub summary: Summary,
+    /// The hits at each capacity, in the order of the capacities.
+    pub rows: Vec<Row<A>, A>,
+}
+
+/// Reads a trace and replays it in caches of each capacity. The result doesn't depend on the
+/// hasher.
+///
+/// # Errors
+///
+/// Those of [`read_trace`], then those of [`rows_of`].
+///
+/// # Cost
+///
+/// That of [`read_trace`] and of [`rows_of`]. The trace stays in memory until the call returns.
+pub fn replay_source<'a, R: Source, P: Write, S: BuildHasher + Drop, A: Allocator + Copy>(
+    alloc: A,
+    options: &Options<A>,
+    name: &'a str,
+    hasher: S,
+    reader: &mut R,
+    progress: &mut Progress<P>,
+) -> Result<Outcome<'a, A>, SimulationError>
+    ensures ok { IfOk result (λ outcome. IsReplayed (R.given reader.old) (R.given reader.new) (R.remaining reader.old) (R.remaining reader.new)
+        options.now.policies.items options.now.shares options.now.skipped options.now.capacities.items outcome.rows.items) }
+
+    // A failed source is always reported as `Read`, and nothing else is.
+    ensures read { ((R.given reader.old).failures < (R.given reader.new).failures) ↔ IsErrOf result SimulationError.Read }
+    ensures written { IfErr result (λ refusal. refusal ≢ SimulationError.Write) }
+{
+    let trace = read_trace(alloc, hasher, reader, progress)?;
+    let summary = summary_of(alloc, &trace)?;
+    progress.warn_of(name, &summary);
+    let rows = rows_of(
+        alloc,
+        &trace,
+        &options.capacities,
+        &options.policies,
+        options.shares,
+        options.skipped,
+        progress,
+    )?;
+    Ok(Outcome {
+        name,
+        summary,
+        rows,
+    })
+}

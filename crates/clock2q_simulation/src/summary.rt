@@ -1,0 +1,52 @@
+//! The numbers of accesses and keys of a trace.
+ghost use Rattle.std.specs.Prelude.{◌≡◌, IfOk, length};
+
+use crate::trace::Trace;
+use std::alloc::{AllocError, Allocator};
+
+/// The figures of a trace.
+///
+/// # Example
+///
+/// ```
+/// let summary = summary_of(rt.alloc(), &trace)?; // of the keys a, b, a
+/// assert_eq!(rt; (summary.accesses, summary.keys, summary.keys_once), (3, 2, 1));
+/// ```
+#[derive(Clone, Copy, Debug, PartialEq, Eq)]
+pub struct Summary {
+    /// The number of accesses.
+    pub accesses: usize,
+    /// The number of different keys accessed.
+    pub keys: usize,
+    /// The number of these keys that are accessed once.
+    pub keys_once: usize,
+}
+
+impl Summary {
+    /// Returns true if more than 99 of 100 keys are accessed once.
+    pub fn is_nearly_all_once(&self) -> bool {
+        self.keys >= 100 && self.keys_once / 99 > self.keys / 100
+    }
+}
+
+/// Returns the figures of a trace. Uses a byte for each key while it runs.
+///
+/// # Errors
+///
+/// `AllocError` if a request for memory is refused.
+pub fn summary_of<A: Allocator + Copy>(alloc: A, trace: &Trace<A>) -> Result<Summary, AllocError>
+    ensures accesses { IfOk result (λ summary. summary.accesses ≡ length trace.now.numbers) }
+    ensures keys { IfOk result (λ summary. summary.keys ≡ trace.now.different) }
+{
+    let mut uses = vec![in alloc; 0u8; trace.key_count()]?;
+    for number in trace.numbers() {
+        if let Some(uses) = uses.get_mut(*number as usize) {
+            *uses = uses.saturating_add(1);
+        }
+    }
+    Ok(Summary {
+        accesses: trace.numbers().len(),
+        keys: trace.key_count(),
+        keys_once: uses.iter().filter(|uses| **uses == 1).count(),
+    })
+}

@@ -1,0 +1,128 @@
+//! The results of traces as a table.
+
+use crate::outcome::Outcome;
+use crate::policy::Policy;
+use crate::row::{Hits, Row};
+use crate::summary::Summary;
+use std::alloc::{AllocError, Allocator};
+use std::fmt::Write;
+
+/// Returns the hit ratios in columns, in percent, below a line of headings and the figures of each
+/// trace. If there are several traces, each row ends with the name of its trace.
+pub(crate) fn table_text<A: Allocator>(
+    alloc: A,
+    policies: &[Policy],
+    outcomes: &[Outcome<'_, A>],
+) -> Result<String<A>, AllocError> {
+    let mut text = String::new(alloc);
+    match outcomes {
+        [outcome] => {
+            write_figures(&mut text, outcome.summary)?;
+            text.push_str(", ")?;
+        }
+        _ => write_all_figures(&mut text, outcomes)?,
+    }
+    writeln!(text, "hits in percent, the best of a row with *")?;
+    write_headings(&mut text, policies, outcomes.len() > 1)?;
+    for outcome in outcomes {
+        write_rows(&mut text, outcome, outcomes.len() > 1)?;
+    }
+    Ok(text)
+}
+
+/// Writes the figures of each trace after its name.
+fn write_all_figures<A: Allocator>(
+    text: &mut String<A>,
+    outcomes: &[Outcome<'_, A>],
+) -> Result<(), AllocError> {
+    for outcome in outcomes {
+        write!(text, "{}: ", outcome.name)?;
+        write_figures(text, outcome.summary)?;
+        text.push('\n')?;
+    }
+    Ok(())
+}
+
+fn write_figures<A: Allocator>(text: &mut String<A>, summary: Summary) -> Result<(), AllocError> {
+    let Summary {
+        accesses,
+        keys,
+        keys_once,
+    } = summary;
+    let plural = if keys == 1 { "" } else { "s" };
+    write!(
+        text,
+        "{accesses} accesses, {keys} key{plural}, {keys_once} asked for once"
+    )
+}
+
+fn write_headings<A: Allocator>(
+    text: &mut String<A>,
+    policies: &[Policy],
+    has_names: bool,
+) -> Result<(), AllocError> {
+    write!(text, "capacity")?;
+    for policy in policies {
+        write!(text, "{:>9}", policy.heading())?;
+    }
+    if has_names {
+        text.push_str("  trace")?;
+    }
+    text.push('\n')
+}
+
+/// Writes the rows of a trace, with or without its name at the end of each.
+fn write_rows<A: Allocator>(
+    text: &mut String<A>,
+    outcome: &Outcome<'_, A>,
+    has_names: bool,
+) -> Result<(), AllocError> {
+    for row in outcome.rows.iter() {
+        write_percents(text, row)?;
+        if has_names {
+            write!(text, "  {}", outcome.name)?;
+        }
+        text.push('\n')?;
+    }
+    Ok(())
+}
+
+fn write_percents<A: Allocator>(text: &mut String<A>, row: &Row<A>) -> Result<(), AllocError> {
+    let capacity = row.capacity.get();
+    write!(text, "{capacity:>8}")?;
+    let best = best_of(row);
+    for hits in row.hits.iter() {
+        let percent = row.ratio(hits.hits) * 100.0;
+        if best == Some(hits.hits) && hits.policy != Policy::Optimal {
+            write_best(text, percent)?;
+        } else {
+            write!(text, "{percent:>9.2}")?;
+        }
+    }
+    Ok(())
+}
+
+/// Writes a percentage with a mark before it, in a column of nine.
+fn write_best<A: Allocator>(text: &mut String<A>, percent: f64) -> Result<(), AllocError> {
+    let spaces = if percent >= 99.995 {
+        "  "
+    } else if percent >= 9.995 {
+        "   "
+    } else {
+        "    "
+    };
+    write!(text, "{spaces}*{percent:.2}")
+}
+
+/// Returns the most hits of the policies other than the optimum, if there are several of them and
+/// not all hit equally often.
+fn best_of<A: Allocator>(row: &Row<A>) -> Option<usize> {
+    let others = row.hits.iter().filter(|hits| is_real(hits));
+    let most = others.map(|hits| hits.hits).max()?;
+    let least = row.hits.iter().filter(|hits| is_real(hits));
+    (least.map(|hits| hits.hits).min()? < most).then_some(most)
+}
+
+fn is_real(hits: &Hits) -> bool {
+    hits.policy != Policy::Optimal
+}
