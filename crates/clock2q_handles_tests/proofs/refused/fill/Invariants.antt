@@ -1,5 +1,0 @@
-use Rattle.clock2q_handles.specs.TableStep.{IsHashOf}
-use Rattle.clock2q_handles_tests.proofs.refused.fill.Given as goal
-
-abbrev pub invariant-loop-handle : goal.invariant-loop-handle
-invariant-loop-handle g l = IsHashOf (λ handle. handle) l.table.homes

@@ -1,0 +1,71 @@
+-- `Requests::refuses` and `Requests::give_back` at a call: what they take, and what they give their caller. Assumes
+-- `Logic`.
+use Rattle.std.proofs.Common.{◌≡◌, ℕ, ◌^◌, ◌<◌, Bool, List, [], ◌∷◌, refl, ap, w64}
+use seplogic.Ra.Ura.{Ura}
+use mir.Val.{Val, vbool, vint, vptr, vunit}
+use base.Logic.{SProp, ent, sep, ex, guard, id⊢}
+use base.Fml.{Lft, Share, ftrue, fsep, flft}
+use prog.Memory.{Memory}
+use prog.Routine.{Routine}
+use types.Logic.{Logic, sem}
+use contract.Monad.{Fun}
+use types.Kit.{‵, ◌⊛◌, raw, some, later, ◌$◌, ◌∵◌, !, qed, move, keep, use1, split, join, pick, fjoin, feq_i, flt_i, feq_l, check, show, await, updating, now as at_once, done}
+use denote.RattleType.{RattleType}
+use denote.Memory.{hidden_shr}
+use denote.Builtin.{bool, unit}
+use denote.Steps.{nothing, only}
+use denote.Triple.Statement.{Contract}
+use denote.Triple.Spec.{triple_of}
+use Rattle.testing.specs.declared.refusing.Requests.{Requests}
+use Rattle.testing.specs.contracts.refusing.Requests as RQ
+use Rattle.testing.specs.contracts.refusing.Requests.refuses as RF
+use Rattle.testing.specs.contracts.refusing.Requests.give_back as GB
+
+abbrev pub Counter : RattleType
+Counter = RQ.the_row
+
+-- what a clause sees of the counts: nothing
+abbrev pub counts : Requests
+counts = record { made = record { value = tt }; refused = record { value = tt }; taken = record { value = tt }; given_back = record { value = tt } }
+
+module _ {M : Type 1} {𝓤 : Ura M} (𝓛 : Logic 𝓤) (at_mem : Memory → SProp 𝓤) (run : Routine → Fun 𝓤) where
+  abbrev pub Refuses : Contract 𝓤
+  Refuses = triple_of 𝓛 RF.signature (RF.spec 𝓛 at_mem run)
+
+  abbrev pub GivesBack : Contract 𝓤
+  GivesBack = triple_of 𝓛 GB.signature (GB.spec 𝓛 at_mem run)
+
+  abbrev pub at_refuses : Lft → Share → ℕ × ℕ → ℕ → Refuses.Ghost
+  at_refuses κ q c n = (((κ, tt), (q, tt), tt, (record { ref_ptr = c; now = counts }, (n, tt)), (vptr c.0 c.1 ∷ [], (vint w64 n ∷ [], tt))), tt)
+
+  abbrev pub at_gives_back : Lft → Share → ℕ × ℕ → ℕ → GivesBack.Ghost
+  at_gives_back κ q c n = (((κ, tt), (q, tt), tt, (record { ref_ptr = c; now = counts }, (n, tt)), (vptr c.0 c.1 ∷ [], (vint w64 n ∷ [], tt))), tt)
+
+  -- an answer, and the token of the lifetime
+  abbrev pub Told : Lft → Share → Val → SProp 𝓤
+  Told κ q v = ex 𝓤 (λ (refused : Bool). guard 𝓤 (v ≡ vbool refused) (𝓛.A.lft κ q))
+
+module _ {M : Type 1} {𝓤 : Ura M} (𝓛 : Logic 𝓤) (at_mem : Memory → SProp 𝓤) (run : Routine → Fun 𝓤) (κ : Lft) (q : Share) (c : ℕ × ℕ) (n : ℕ) where
+  open 𝓛 use {H, A}
+
+  pub Refuses-goes : n < 2 ^ 64 → ent 𝓤 (sep 𝓤 (sem 𝓛 (hidden_shr Counter κ counts c.0 c.1)) (A.lft κ q)) ((Refuses 𝓛 at_mem run).pre (at_refuses 𝓛 at_mem run κ q c n))
+  Refuses-goes fits =
+      qed 𝓛 (‵ (hidden_shr Counter κ counts c.0 c.1) ∷ ‵ (flft κ q) ∷ []) ∵ nothing ! $ flt_i ! n (2 ^ 64) fits $ feq_i ! (List Val) (vint w64 n ∷ []) (vint w64 n ∷ []) refl $ fjoin ! $ fjoin ! $
+      move ! (1 ∷ []) $ feq_i ! (List Val) (vptr c.0 c.1 ∷ []) (vptr c.0 c.1 ∷ []) refl $ fjoin ! $ fjoin ! $
+      nothing ! $ move ! (2 ∷ []) $ join ! $ join ! $ nothing ! $ move ! (1 ∷ []) $ done !
+
+  pub Refuses-gives : (v : Val) → ent 𝓤 ((Refuses 𝓛 at_mem run).post (at_refuses 𝓛 at_mem run κ q c n) v) (H.⇛ (Told 𝓛 at_mem run κ q v))
+  Refuses-gives v =
+      qed 𝓛 (raw ((Refuses 𝓛 at_mem run).post (at_refuses 𝓛 at_mem run κ q c n) v) ∷ []) ∵ updating ! $
+      use1 𝓛 (later (some (λ (refused : Bool). ((‵ (flft κ q) ⊛ ‵ ftrue) ⊛ ‵ (bool.own_val refused (v ∷ []))) ⊛ some (λ (ws : Unit {0} × (Unit {0} × Unit {0})). ‵ (fsep ftrue (fsep ftrue ftrue)) ⊛ ‵ ftrue)))) (id⊢ 𝓤 _) $ await ! tt $ pick ! (λ refused.
+      split ! $ split ! $ move ! (1 ∷ []) $ feq_l ! (λ e. split ! $ at_once ! $
+      show ! (λ (b : Bool). guard 𝓤 (v ≡ vbool b) (A.lft κ q)) refused $ check ! (ap only e) $ keep ! (0 ∷ []) $ done !))
+
+  pub GivesBack-goes : n < 2 ^ 64 → ent 𝓤 (sep 𝓤 (sem 𝓛 (hidden_shr Counter κ counts c.0 c.1)) (A.lft κ q)) ((GivesBack 𝓛 at_mem run).pre (at_gives_back 𝓛 at_mem run κ q c n))
+  GivesBack-goes fits = Refuses-goes fits
+
+  pub GivesBack-gives : (v : Val) → ent 𝓤 ((GivesBack 𝓛 at_mem run).post (at_gives_back 𝓛 at_mem run κ q c n) v) (H.⇛ (guard 𝓤 (v ≡ vunit) (A.lft κ q)))
+  GivesBack-gives v =
+      qed 𝓛 (raw ((GivesBack 𝓛 at_mem run).post (at_gives_back 𝓛 at_mem run κ q c n) v) ∷ []) ∵ updating ! $
+      use1 𝓛 (later (some (λ (r : Unit {0}). ((‵ (flft κ q) ⊛ ‵ ftrue) ⊛ ‵ (unit.own_val r (v ∷ []))) ⊛ some (λ (ws : Unit {0} × (Unit {0} × Unit {0})). ‵ (fsep ftrue (fsep ftrue ftrue)) ⊛ ‵ ftrue)))) (id⊢ 𝓤 _) $ await ! tt $ pick ! (λ r.
+      split ! $ split ! $ move ! (1 ∷ []) $ feq_l ! (λ e. split ! $ at_once ! $ check ! (ap only e) $ keep ! (0 ∷ []) $ done !))

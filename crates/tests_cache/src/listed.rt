@@ -1,0 +1,49 @@
+//! The residents of a cache as its iterator yields them.
+
+use clock2q_cache::Cache;
+use std::alloc::{AllocError, Global};
+use std::num::NonZeroUsize;
+use std::test::Fail;
+
+type Numbers = Cache<u64, u64>;
+
+/// Returns the residents in order, each with its slot and its value.
+fn listed(alloc: Global, cache: &Numbers) -> Result<Vec<(u64, usize, u64)>, AllocError> {
+    let mut residents = Vec::with_capacity(alloc, cache.iter().len())?;
+    for (key, slot, value) in cache {
+        residents.push((*key, slot, *value))?;
+    }
+    Ok(residents)
+}
+
+/// Puts the keys 1 to 4, removes two, and puts one more.
+fn put_and_removed(cache: &mut Numbers) {
+    for key in 1..5u64 {
+        cache.put(key, key.wrapping_mul(10));
+    }
+    cache.remove(&2);
+    cache.remove(&4);
+    cache.put(5, 50);
+}
+
+/// A key takes the slot that was freed last, and a free slot yields nothing.
+#[test]
+fn by_slot(rt: HostRuntime) -> Result<(), Fail> {
+    let capacity = NonZeroUsize::new(5).ok_or("not zero")?;
+    let mut cache = Numbers::new(rt.alloc(), capacity)?;
+    put_and_removed(&mut cache);
+    let residents = listed(rt.alloc(), &cache)?;
+    assert_eq!(rt;
+        residents.as_slice(),
+        [(1, 0, 10), (3, 2, 30), (5, 3, 50)].as_slice()
+    );
+    Ok(())
+}
+
+#[test]
+fn none(rt: HostRuntime) -> Result<(), Fail> {
+    let capacity = NonZeroUsize::new(5).ok_or("not zero")?;
+    let cache = Numbers::new(rt.alloc(), capacity)?;
+    assert!(rt; cache.iter().next().is_none());
+    Ok(())
+}

@@ -1,0 +1,52 @@
+//! Caches of a thousand and of a million keys over seeded streams, and lists of a thousand.
+//! docs/TESTING.md explains where the figures come from.
+
+use crate::accesses::{Hits, on_cache, on_lists};
+use crate::model::{Model, Shares};
+use clock2q_cache::{Cache, CacheError, DefaultHashBuilder};
+use std::alloc::Global;
+use std::num::NonZeroUsize;
+use std::test::Fail;
+
+/// The result of a million accesses with a thousand keys.
+const THOUSAND: Hits = Hits {
+    count: 730_920,
+    sum: 71_444_070_323,
+};
+
+/// The result of ten million accesses with a million keys.
+const MILLION: Hits = Hits {
+    count: 7_902_826,
+    sum: 2_927_035_905_532,
+};
+
+fn cache_of(
+    alloc: Global,
+    capacity: usize,
+) -> Result<Cache<u64, u64, DefaultHashBuilder>, CacheError> {
+    Cache::new(
+        alloc,
+        NonZeroUsize::new(capacity).unwrap_or(NonZeroUsize::MIN),
+    )
+}
+
+#[test]
+fn lists_of_a_thousand_keys(rt: HostRuntime) -> Result<(), Fail> {
+    let mut lists = Model::new(rt.alloc(), Shares::usual(1_000));
+    assert_eq!(rt; on_lists(&mut lists, 1_000_000, 13)?, THOUSAND);
+    Ok(())
+}
+
+#[test]
+fn cache_of_a_thousand_keys(rt: HostRuntime) -> Result<(), Fail> {
+    let mut cache = cache_of(rt.alloc(), 1_000)?;
+    assert_eq!(rt; on_cache(&mut cache, 1_000_000, 13), THOUSAND);
+    Ok(())
+}
+
+#[test]
+fn cache_of_a_million_keys(rt: HostRuntime) -> Result<(), Fail> {
+    let mut cache = cache_of(rt.alloc(), 1_000_000)?;
+    assert_eq!(rt; on_cache(&mut cache, 10_000_000, 23), MILLION);
+    Ok(())
+}

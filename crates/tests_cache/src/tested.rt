@@ -1,0 +1,132 @@
+//! A cache and its plain lists, driven by the same calls.
+
+use crate::called::Called;
+use crate::calls::{Answer, Call};
+use crate::model::{Model, Shares};
+use clock2q_cache::Cache;
+use std::alloc::Global;
+use std::hash::BuildHasher;
+use std::num::NonZeroUsize;
+use std::process::Abort;
+use std::test::Fail;
+
+/// The list, and the call in it, that a test is at.
+#[derive(Clone, Copy, Debug)]
+pub(crate) struct Position {
+    pub(crate) list: u64,
+    pub(crate) number: u64,
+}
+
+/// A cache and its lists.
+#[derive(Drop)]
+pub(crate) struct Tested<S: BuildHasher> {
+    alloc: Global,
+    called: Called<S>,
+    pub(crate) model: Model,
+}
+
+impl<S: BuildHasher + Drop> Tested<S> {
+    pub(crate) fn new(alloc: Global, shares: Shares, hasher: S) -> Result<Tested<S>, Fail> {
+        let capacity = NonZeroUsize::new(shares.capacity).ok_or("not zero")?;
+        let (small, window) = (shares.small, shares.window);
+        let cache = Cache::with_policy(alloc, capacity, small, window, hasher)?;
+        let model = Model::new(alloc, shares);
+        Ok(Tested {
+            alloc,
+            called: Called::new(cache),
+            model,
+        })
+    }
+
+    /// With the shares of a cache that is made with only a capacity.
+    pub(crate) fn usual(alloc: Global, capacity: usize, hasher: S) -> Result<Tested<S>, Fail> {
+        let model = Model::new(alloc, Shares::usual(capacity));
+        let capacity = NonZeroUsize::new(capacity).ok_or("not zero")?;
+        let cache = Cache::with_hasher(alloc, capacity, hasher)?;
+        Ok(Tested {
+            alloc,
+            called: Called::new(cache),
+            model,
+        })
+    }
+
+    /// Makes the call on both. The answers are the same.
+    pub(crate) fn call(
+        &mut self,
+        rt: &impl Abort,
+        call: Call,
+        position: Position,
+    ) -> Result<Answer, Fail> {
+        let answer = self.called.answer(call);
+        let wanted = self.model.answer(call)?;
+        assert_eq!(rt; answer, wanted, "{position:?}: {call:?}");
+        Ok(answer)
+    }
+
+    /// Makes the call on both. The answer is the one worked out.
+    pub(crate) fn answers(
+        &mut self,
+        rt: &impl Abort,
+        call: Call,
+        wanted: Answer,
+        position: Position,
+    ) -> Result<(), Fail> {
+        let answer = self.call(rt, call, position)?;
+        assert_eq!(rt; answer, wanted, "{position:?}: {call:?}");
+        Ok(())
+    }
+
+    /// The cache's `Debug` text is this one.
+    pub(crate) fn shows(
+        &self,
+        rt: &impl Abort,
+        wanted: &str,
+        position: Position,
+    ) -> Result<(), Fail> {
+        let shown = self.called.text(self.alloc)?;
+        assert_eq!(rt; shown.as_str(), wanted, "{position:?}");
+        Ok(())
+    }
+
+    /// The cache's `Debug` text has the same numbers of keys.
+    pub(crate) fn sizes_are_same(&self, rt: &impl Abort, position: Position) -> Result<(), Fail> {
+        let wanted = self.model.text()?;
+        self.shows(rt, wanted.as_str(), position)
+    }
+
+    /// The cache holds the same keys with the same values, slot by slot.
+    pub(crate) fn residents_are_same(
+        &mut self,
+        rt: &impl Abort,
+        position: Position,
+    ) -> Result<(), Fail> {
+        let wanted = self.model.residents()?;
+        assert!(rt; self.called.lists(&wanted), "{position:?}");
+        assert!(rt; self.called.holds(&wanted), "{position:?}");
+        Ok(())
+    }
+
+    /// Looks each resident up at its slot and at the next one.
+    pub(crate) fn slots_are_same(
+        &mut self,
+        rt: &impl Abort,
+        position: Position,
+    ) -> Result<(), Fail> {
+        for slot in 0..self.model.made() {
+            let key = self.model.key_at(slot).unwrap_or(0);
+            self.call(rt, Call::GetAt(slot, key), position)?;
+            self.call(rt, Call::GetAt(slot + 1, key), position)?;
+        }
+        Ok(())
+    }
+
+    /// Removes each key, resident or remembered. The `Debug` text shows after each which of the two
+    /// it was.
+    pub(crate) fn take_apart(&mut self, rt: &impl Abort, position: Position) -> Result<(), Fail> {
+        for key in 0..self.model.keys() {
+            self.call(rt, Call::Remove(key), position)?;
+            self.sizes_are_same(rt, position)?;
+        }
+        Ok(())
+    }
+}

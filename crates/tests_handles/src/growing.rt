@@ -1,0 +1,214 @@
+//! Tables that grow, and tables with few hashes.
+use crate::assertions::{same, same_at};
+use crate::crowded::{Crowded, has_read};
+use crate::hashed::{Handle, Hashed, Seen};
+use crate::walks::{A, B};
+use clock2q_handles::TableError;
+use std::alloc::Global;
+use std::test::Fail;
+
+#[test]
+fn growths(rt: HostRuntime) -> Result<(), Fail> {
+    let mut tested = Hashed::new(rt.alloc());
+    let asked = Seen::new();
+    let mut capacity = 0;
+    let mut growths = 0u32;
+    for handle in 0..5000 {
+        tested.insert(handle, handle, &asked)?;
+        if tested.table.capacity() != capacity {
+            capacity = tested.table.capacity();
+            growths = growths.saturating_add(1);
+        }
+    }
+    same(&rt, growths, 10);
+    same(&rt, capacity, 6144);
+    same(&rt, asked.count.get(), 6132);
+    same(&rt, tested.table.len(), 5000);
+    Ok(())
+}
+
+/// A lookup of one hash, under which all handles were inserted, reads one slot more than there are
+/// handles.
+#[test]
+fn one_hash(rt: HostRuntime) -> Result<(), Fail> {
+    let mut crowded = Crowded::new(rt.alloc(), A);
+    for handle in 0..2000 {
+        crowded.insert(handle)?;
+    }
+    let (candidates, walk) = crowded.drained();
+    assert!(rt; candidates == 2000);
+    has_read(&walk, 2001);
+    for half in 0..1000 {
+        assert!(rt; crowded.remove(half * 2), "{half}");
+    }
+    let (candidates, walk) = crowded.drained();
+    assert!(rt; candidates == 1000);
+    has_read(&walk, 1001);
+    same(&rt, crowded.capacity(), 3072);
+    Ok(())
+}
+
+/// The hash of a handle: `A` if it is even, `B` if it is odd.
+fn hash_of(number: u64) -> u64 {
+    if number % 2 == 0 { A } else { B }
+}
+
+/// Twelve handles of two hashes in sixteen slots, which grow before another is inserted.
+fn alternating(alloc: Global, asked: &Seen) -> Result<Hashed, TableError> {
+    let mut tested = Hashed::with_capacity(alloc, 12)?;
+    for number in 0..12 {
+        tested.insert(hash_of(number), number, asked)?;
+    }
+    Ok(tested)
+}
+
+/// Where these twelve are: each with its slot and its displacement.
+const TWELVE: [(usize, u64, usize); 12] = [
+    (15, 0, 0),
+    (0, 1, 1),
+    (1, 2, 2),
+    (2, 3, 3),
+    (3, 4, 4),
+    (4, 5, 5),
+    (5, 6, 6),
+    (6, 7, 7),
+    (7, 8, 8),
+    (8, 9, 9),
+    (9, 10, 10),
+    (10, 11, 11),
+];
+
+/// And where they are after a growth to 32 slots.
+const TWELVE_APART: [(usize, u64, usize); 12] = [
+    (15, 2, 0),
+    (16, 4, 1),
+    (17, 6, 2),
+    (18, 8, 3),
+    (19, 10, 4),
+    (20, 0, 5),
+    (31, 1, 0),
+    (0, 3, 1),
+    (1, 5, 2),
+    (2, 7, 3),
+    (3, 9, 4),
+    (4, 11, 5),
+];
+
+#[test]
+fn two_hashes(rt: HostRuntime) -> Result<(), Fail> {
+    let asked = Seen::new();
+    let mut tested = alternating(rt.alloc(), &asked)?;
+    same(&rt, tested.table.capacity(), 12);
+    tested.yields(&rt, A, &[0, 1, 2, 3, 4, 5, 6, 7, 8, 9, 10, 11]);
+    tested.stands(&rt, rt.alloc(), &TWELVE)?;
+    tested.reserve(&rt, 1, &asked)?;
+    same(&rt, tested.table.capacity(), 24);
+    tested.yields(&rt, A, &[2, 4, 6, 8, 10, 0]);
+    tested.yields(&rt, B, &[1, 3, 5, 7, 9, 11]);
+    tested.stands(&rt, rt.alloc(), &TWELVE_APART)?;
+    Ok(())
+}
+
+/// In 32 slots the even handles follow home 15, and the odd ones home 31, from which they wrap. The
+/// part of the old run that had wrapped comes first at each home. A second growth asks in the order
+/// of these slots.
+#[test]
+fn two_hashes_apart(rt: HostRuntime) -> Result<(), Fail> {
+    let asked = Seen::new();
+    let mut tested = alternating(rt.alloc(), &asked)?;
+    tested.reserve(&rt, 1, &asked)?;
+    same(&rt, asked.first.get(), [1, 2, 3, 4, 5, 6, 7, 8]);
+    let again = Seen::new();
+    tested.reserve(&rt, 20, &again)?;
+    same(&rt, tested.table.capacity(), 48);
+    same(&rt, again.count.get(), 12);
+    same(&rt, again.first.get(), [3, 5, 7, 9, 11, 2, 4, 6]);
+    tested.yields(&rt, A, &[2, 4, 6, 8, 10, 0]);
+    tested.yields(&rt, B, &[3, 5, 7, 9, 11, 1]);
+    Ok(())
+}
+
+#[test]
+fn slot_order(rt: HostRuntime) -> Result<(), Fail> {
+    let asked = Seen::new();
+    let mut tested = Hashed::with_capacity(rt.alloc(), 12)?;
+    for (number, hash) in [(0, 14), (1, 14), (2, 15), (3, 0), (4, 0)] {
+        tested.insert(hash, number, &asked)?;
+    }
+    same(&rt, asked.count.get(), 0);
+    tested.reserve(&rt, 20, &asked)?;
+    same(&rt, asked.count.get(), 5);
+    same(&rt, asked.first.get(), [2, 3, 4, 0, 1, 0, 0, 0]);
+    same(&rt, tested.table.capacity(), 48);
+    tested.yields(&rt, 14, &[0, 1]);
+    tested.yields(&rt, 15, &[2]);
+    tested.yields(&rt, 0, &[3, 4]);
+    Ok(())
+}
+
+/// The table grows before it looks. Then only the even handles are offered, in the order of their
+/// slots.
+#[test]
+fn found_after_growth(rt: HostRuntime) -> Result<(), Fail> {
+    for (accepted, reply, offers) in [
+        (1, (12, true), (6, [2, 4, 6, 8, 10, 0, 0, 0])),
+        (2, (2, false), (1, [2, 0, 0, 0, 0, 0, 0, 0])),
+    ] {
+        let asked = Seen::new();
+        let offered = Seen::new();
+        let mut tested = alternating(rt.alloc(), &asked)?;
+        let outcome = tested.find_or_insert(
+            Handle {
+                hash: A,
+                number: 12,
+            },
+            accepted,
+            &offered,
+            &asked,
+        )?;
+        same_at(&rt, (outcome.0.number, outcome.1), reply, accepted);
+        let asked_about = (offered.count.get(), offered.first.get());
+        same_at(&rt, asked_about, offers, accepted);
+        same_at(&rt, asked.count.get(), 12, accepted);
+        same_at(&rt, tested.table.capacity(), 24, accepted);
+    }
+    Ok(())
+}
+
+#[test]
+fn found_or_new(rt: HostRuntime) -> Result<(), Fail> {
+    let asked = Seen::new();
+    let offered = Seen::new();
+    let mut tested = Hashed::new(rt.alloc());
+    for (hash, number, accepted, reply) in [
+        (5, 0, 99, (0, true)),
+        (5, 7, 0, (0, false)),
+        (5, 1, 1, (1, true)),
+        (9, 2, 2, (2, true)),
+    ] {
+        let outcome = tested.find_or_insert(Handle { hash, number }, accepted, &offered, &asked)?;
+        same_at(&rt, (outcome.0.number, outcome.1), reply, number);
+    }
+    tested.yields(&rt, 5, &[0, 1]);
+    tested.yields(&rt, 9, &[2]);
+    same(&rt, tested.table.len(), 3);
+    same(&rt, (offered.count.get(), asked.count.get()), (2, 0));
+    Ok(())
+}
+
+/// More room than can be counted, or whose slots can't be: nothing changes, and no hash is asked
+/// for.
+#[test]
+fn too_much_room(rt: HostRuntime) -> Result<(), Fail> {
+    let asked = Seen::new();
+    let mut tested = Hashed::with_capacity(rt.alloc(), 12)?;
+    tested.insert(A, 1, &asked)?;
+    for additional in [usize::MAX, usize::MAX - 1] {
+        let outcome = tested.reserve(&rt, additional, &asked);
+        same_at(&rt, outcome, Err(TableError::Size), additional);
+        same_at(&rt, tested.table.capacity(), 12, additional);
+        tested.stands(&rt, rt.alloc(), &[(15, 1, 0)])?;
+    }
+    same(&rt, asked.count.get(), 0);
+    Ok(())
+}

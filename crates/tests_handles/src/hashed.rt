@@ -1,0 +1,177 @@
+//! A table in which each handle was inserted under the hash that it contains.
+ghost use Rattle.std.specs.Prelude.{◌≡◌};
+
+use crate::assertions::{same, same_at};
+use crate::standing::{hold, slots_of};
+use clock2q_handles::{Table, TableError};
+use std::alloc::{AllocError, Global};
+use std::cell::Cell;
+use std::marker::Model;
+use std::process::Abort;
+
+/// A handle that contains the hash that it is inserted under.
+#[derive(Debug, Clone, Copy, PartialEq, Eq, Default)]
+pub(crate) struct Handle {
+    pub(crate) hash: u64,
+    pub(crate) number: u64,
+}
+
+/// The handles that a closure was called on: their number, the first eight, and a number that
+/// depends on all of them and their order.
+#[derive(Drop)]
+pub(crate) struct Seen {
+    pub(crate) count: Cell<usize>,
+    pub(crate) first: Cell<[u64; 8]>,
+    mixed: Cell<u64>,
+}
+
+impl Seen {
+    pub(crate) fn new() -> Seen {
+        Seen {
+            count: Cell::new(0),
+            first: Cell::new([0; 8]),
+            mixed: Cell::new(0),
+        }
+    }
+
+    pub(crate) fn note(&self, handle: u64) {
+        let count = self.count.get();
+        let mut first = self.first.get();
+        if count < 8 {
+            first[count] = handle;
+        }
+        self.first.set(first);
+        let mixed = self.mixed.get().wrapping_add(handle.wrapping_add(1));
+        self.mixed.set(mixed.wrapping_mul(0x9E37_79B9_7F4A_7C15));
+        self.count.set(count.saturating_add(1));
+    }
+
+    /// Stops the test unless both saw the same handles, as far as they recorded them.
+    pub(crate) fn is_same(&self, rt: &impl Abort, other: &Seen, shown: &str) {
+        same_at(rt, self.count.get(), other.count.get(), shown);
+        same_at(rt, self.first.get(), other.first.get(), shown);
+        same_at(rt, self.mixed.get(), other.mixed.get(), shown);
+    }
+}
+
+/// A table in which each handle was inserted under its hash.
+#[derive(Drop)]
+pub(crate) struct Hashed {
+    pub(crate) table: Table<Handle>,
+}
+
+impl Model for Hashed {
+    ghost use Rattle.clock2q_handles.specs.Homes.{total};
+    ghost use Rattle.clock2q_handles.specs.TableStep.{IsHashOf};
+    ghost use Rattle.std.specs.Prelude.{ℕ};
+
+    ghost Value = { ℕ };
+
+    ghost view = { λ t. total t.table.homes };
+
+    ghost invariant = { λ t. IsHashOf (λ handle. handle.hash) t.table.homes };
+}
+
+impl Hashed {
+    pub(crate) fn new(alloc: Global) -> Hashed {
+        Hashed {
+            table: Table::new(alloc),
+        }
+    }
+
+    pub(crate) fn with_capacity(alloc: Global, entries: usize) -> Result<Hashed, TableError> {
+        let table = Table::with_capacity(alloc, entries)?;
+        Ok(Hashed { table })
+    }
+
+    pub(crate) fn insert(
+        &mut self,
+        hash: u64,
+        number: u64,
+        asked: &Seen,
+    ) -> Result<(), TableError> {
+        self.table.insert(
+            hash,
+            Handle { hash, number },
+            |held: Handle| -> u64
+                ensures { result ≡ held.hash }
+            {
+                asked.note(held.number);
+                held.hash
+            },
+        )
+    }
+
+    pub(crate) fn reserve(
+        &mut self,
+        rt: &impl Abort,
+        additional: usize,
+        asked: &Seen,
+    ) -> Result<(), TableError> {
+        let before = self.table.len();
+        let outcome = self.table.reserve(
+            additional,
+            |held: Handle| -> u64
+                ensures { result ≡ held.hash }
+            {
+                asked.note(held.number);
+                held.hash
+            },
+        );
+        same(rt, self.table.len(), before);
+        outcome
+    }
+
+    pub(crate) fn find_or_insert(
+        &mut self,
+        handle: Handle,
+        accepted: u64,
+        offered: &Seen,
+        asked: &Seen,
+    ) -> Result<(Handle, bool), TableError> {
+        self.table.find_or_insert(
+            handle.hash,
+            |held: Handle| {
+                offered.note(held.number);
+                held.number == accepted
+            },
+            handle,
+            |held: Handle| -> u64
+                ensures { result ≡ held.hash }
+            {
+                asked.note(held.number);
+                held.hash
+            },
+        )
+    }
+
+    pub(crate) fn remove(&mut self, hash: u64, handle: Handle) -> bool {
+        self.table.remove(hash, handle)
+    }
+
+    pub(crate) fn yields(&self, rt: &impl Abort, hash: u64, wanted: &[u64]) {
+        let mut walk = self.table.get(hash);
+        for number in wanted {
+            let found = walk.next().map(|handle| handle.number);
+            same(rt, found, Some(*number));
+        }
+        same(rt, walk.next(), None);
+    }
+
+    /// Stops the test unless the table has exactly the wanted handles, each with its slot and
+    /// displacement.
+    pub(crate) fn stands(
+        &self,
+        rt: &impl Abort,
+        alloc: Global,
+        wanted: &[(usize, u64, usize)],
+    ) -> Result<(), AllocError> {
+        same(rt, self.table.len(), wanted.len());
+        let mut numbers = Vec::new(alloc);
+        for slot in &slots_of(alloc, &self.table)? {
+            numbers.push(slot.map(|held| (held.0.number, held.1)))?;
+        }
+        hold(rt, &numbers, wanted, "numbers");
+        Ok(())
+    }
+}

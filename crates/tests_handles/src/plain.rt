@@ -1,0 +1,205 @@
+//! A table as the list of the entries of each home, and where those lists put each entry.
+ghost use Rattle.std.specs.Prelude.{◌<◌, vec_len};
+
+use crate::hashed::{Handle, Seen};
+use crate::standing::Slot;
+use clock2q_handles::TableError;
+use std::alloc::{AllocError, Global};
+
+/// The entries of each home, in the order in which they were inserted.
+#[derive(Drop)]
+pub(crate) struct Plain {
+    alloc: Global,
+    homes: Vec<Vec<Handle>>,
+}
+
+impl Plain {
+    pub(crate) fn with_capacity(alloc: Global, entries: usize) -> Result<Plain, AllocError> {
+        let count = if entries == 0 {
+            0
+        } else {
+            slots_for(entries).unwrap_or(0)
+        };
+        Plain::with_slots(alloc, count)
+    }
+
+    fn with_slots(alloc: Global, count: usize) -> Result<Plain, AllocError> {
+        let mut homes = Vec::with_capacity(alloc, count)?;
+        for _ in 0..count {
+            homes.push(Vec::new(alloc))?;
+        }
+        Ok(Plain { alloc, homes })
+    }
+
+    pub(crate) fn len(&self) -> usize {
+        self.homes
+            .iter()
+            .fold(0usize, |sum, list| sum.saturating_add(list.len()))
+    }
+
+    pub(crate) fn capacity(&self) -> usize {
+        self.homes.len() / 4 * 3
+    }
+
+    /// Returns the entry with this number, home by home.
+    pub(crate) fn entry(&self, number: usize) -> Option<Handle> {
+        self.homes.iter().flatten().copied().nth(number)
+    }
+
+    fn home(&self, hash: u64) -> usize {
+        (hash as usize).checked_rem(self.homes.len()).unwrap_or(0)
+    }
+
+    /// Returns the entries that a lookup of the hash should yield.
+    pub(crate) fn candidates(&self, hash: u64) -> Result<Vec<Handle>, AllocError> {
+        let mut candidates = Vec::new(self.alloc);
+        let Some(list) = self.homes.get(self.home(hash)) else {
+            return Ok(candidates);
+        };
+        for held in list {
+            if is_candidate(held, hash) {
+                candidates.push(*held)?;
+            }
+        }
+        Ok(candidates)
+    }
+
+    pub(crate) fn insert(&mut self, handle: Handle, asked: &Seen) -> Result<(), AllocError> {
+        self.make_room(asked)?;
+        self.put(handle)
+    }
+
+    pub(crate) fn find_or_insert(
+        &mut self,
+        handle: Handle,
+        accepted: u64,
+        offered: &Seen,
+        asked: &Seen,
+    ) -> Result<(Handle, bool), AllocError> {
+        self.make_room(asked)?;
+        for held in &self.candidates(handle.hash)? {
+            offered.note(held.number);
+            if held.number == accepted {
+                return Ok((*held, false));
+            }
+        }
+        self.put(handle)?;
+        Ok((handle, true))
+    }
+
+    pub(crate) fn remove(&mut self, hash: u64, handle: Handle) -> bool {
+        let home = self.home(hash);
+        let Some(list) = self.homes.get_mut(home) else {
+            return false;
+        };
+        let position = list
+            .iter()
+            .position(|held| is_candidate(held, hash) && *held == handle);
+        let Some(position) = position else {
+            return false;
+        };
+        list.remove(position);
+        true
+    }
+
+    pub(crate) fn reserve(&mut self, additional: usize, asked: &Seen) -> Result<(), TableError> {
+        let Some(entries) = self.len().checked_add(additional) else {
+            return Err(TableError::Size);
+        };
+        if entries <= self.capacity() {
+            return Ok(());
+        }
+        let Some(count) = slots_for(entries) else {
+            return Err(TableError::Size);
+        };
+        self.rebuild(count, asked).map_err(|_| TableError::Memory)
+    }
+
+    /// Returns the homes that have entries.
+    pub(crate) fn taken_homes(&self) -> Result<Vec<usize>, AllocError> {
+        let mut taken = Vec::new(self.alloc);
+        for (home, list) in self.homes.iter().enumerate() {
+            if !list.is_empty() {
+                taken.push(home)?;
+            }
+        }
+        Ok(taken)
+    }
+
+    /// Returns where each home's list puts its entries, slot by slot, and how far past their home.
+    pub(crate) fn layout(&self) -> Result<Vec<Slot<Handle>>, AllocError> {
+        let mut slots = vec![in self.alloc; None; self.homes.len()]?;
+        for (home, list) in self.homes.iter().enumerate() {
+            if !list.is_empty() {
+                stand(list, home, self.spill(home), &mut slots);
+            }
+        }
+        Ok(slots)
+    }
+
+    /// Returns how far earlier homes push the entries of a home: the most by which, in a window of
+    /// slots that ends just before it, the entries that are at home there outnumber the slots.
+    fn spill(&self, home: usize) -> usize
+        requires { home < vec_len self.now.homes }
+    {
+        let count = self.homes.len();
+        let mut at_home = 0usize;
+        let mut most = 0;
+        for slots in 1..count {
+            let first = (home + count - slots) % count;
+            at_home = at_home.saturating_add(self.homes[first].len());
+            most = most.max(at_home.saturating_sub(slots));
+        }
+        most
+    }
+
+    fn make_room(&mut self, asked: &Seen) -> Result<(), AllocError> {
+        if self.len() == self.capacity() {
+            let count = self.homes.len().saturating_mul(2).max(16);
+            return self.rebuild(count, asked);
+        }
+        Ok(())
+    }
+
+    /// Inserts the entries again, from the first slot on.
+    fn rebuild(&mut self, count: usize, asked: &Seen) -> Result<(), AllocError> {
+        let mut rebuilt = Plain::with_slots(self.alloc, count)?;
+        for (handle, _) in self.layout()?.iter().flatten() {
+            asked.note(handle.number);
+            rebuilt.put(*handle)?;
+        }
+        *self = rebuilt;
+        Ok(())
+    }
+
+    fn put(&mut self, handle: Handle) -> Result<(), AllocError> {
+        let home = self.home(handle.hash);
+        if let Some(list) = self.homes.get_mut(home) {
+            list.push(handle)?;
+        }
+        Ok(())
+    }
+}
+
+/// Returns the smallest slot count in which `entries` entries fit, if it can be counted.
+fn slots_for(entries: usize) -> Option<usize> {
+    (4..64u32)
+        .map(|bits| 1usize << bits)
+        .find(|count| count / 4 * 3 >= entries)
+}
+
+/// Returns true if a lookup of the hash should yield an entry of its home.
+fn is_candidate(held: &Handle, hash: u64) -> bool {
+    held.hash >> 56 == hash >> 56
+}
+
+/// Puts a home's entries into the slots, one after another from `spill` slots past it on.
+fn stand(list: &[Handle], home: usize, spill: usize, slots: &mut [Slot<Handle>]) {
+    for (i, handle) in list.iter().enumerate() {
+        let past = spill.saturating_add(i);
+        let slot = home.saturating_add(past).checked_rem(slots.len());
+        if let Some(stored) = slots.get_mut(slot.unwrap_or(0)) {
+            *stored = Some((*handle, past));
+        }
+    }
+}

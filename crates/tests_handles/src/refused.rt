@@ -1,0 +1,326 @@
+//! Tables whose requests for memory are refused.
+ghost use Rattle.std.specs.Prelude.{◌≡◌, Err, IfOk};
+ghost use Rattle.clock2q_handles.specs.TableStep.{IsHashOf};
+
+use crate::assertions::{same, same_at};
+use clock2q_handles::{Table, TableError};
+use std::alloc::Global;
+use std::cell::Cell;
+use std::process::Abort;
+use std::test::Fail;
+use testing::Refusing;
+
+type RefusedTable<'a> = Table<u64, &'a Refusing<Global>>;
+
+/// More turns than any of the calls needs.
+const MANY: u64 = 100;
+
+/// Slots take two requests, one for their metadata and one for their handles. Each is refused in
+/// two turns, and the call of the next turn succeeds.
+const REFUSED_TURNS: u64 = 4;
+
+/// Refuses a request of the next call: in turns 0 and 1 its first, in 2 and 3 its second, and so
+/// on. In an even turn only that one is refused, in an odd one all later ones are too.
+fn refuse_in(turn: u64, alloc: &Refusing<Global>) {
+    if turn % 2 == 0 {
+        alloc.refuse_one_after(turn / 2);
+    } else {
+        alloc.refuse_after(turn / 2);
+    }
+}
+
+/// Makes a table, and returns its capacity and whether it is empty.
+fn construct(alloc: &Refusing<Global>) -> Result<(usize, bool), TableError> {
+    let table: RefusedTable = Table::with_capacity(alloc, 13)?;
+    Ok((table.capacity(), table.is_empty()))
+}
+
+/// Makes tables with requests refused, and returns the turn in which none is.
+fn construct_in_turn(rt: &impl Abort, alloc: &Refusing<Global>) -> u64 {
+    for turn in 0..MANY {
+        refuse_in(turn, alloc);
+        let Err(error) = construct(alloc) else {
+            return turn;
+        };
+        same_at(rt, (error, alloc.held()), (TableError::Memory, 0), turn);
+    }
+    MANY
+}
+
+#[test]
+fn constructions(rt: HostRuntime) -> Result<(), Fail> {
+    let alloc = Refusing::new(rt.alloc());
+    same(&rt, construct_in_turn(&rt, &alloc), REFUSED_TURNS);
+    alloc.grant();
+    same(&rt, construct(&alloc), Ok((24, true)));
+    Ok(())
+}
+
+/// Looks up and removes in tables without slots.
+fn read_no_slots(rt: &impl Abort, none: &mut RefusedTable<'_>, empty: &RefusedTable<'_>) {
+    same(rt, (none.capacity(), empty.capacity()), (0, 0));
+    same(rt, none.get(5).next(), None);
+    assert!(rt; !none.remove(5, 5));
+}
+
+/// A table without slots requests nothing, and neither do lookups and removals in it.
+#[test]
+fn no_slots(rt: HostRuntime) -> Result<(), Fail> {
+    let alloc = Refusing::new(rt.alloc());
+    let mut none: RefusedTable = Table::new(&alloc);
+    let empty: RefusedTable = Table::with_capacity(&alloc, 0)?;
+    read_no_slots(&rt, &mut none, &empty);
+    same(&rt, alloc.requests(), 0);
+    Ok(())
+}
+
+/// Makes insertions that the table has room for.
+fn insert_two(rt: &impl Abort, table: &mut RefusedTable<'_>) -> Result<(), TableError> {
+    assert!(rt; table.len() < table.capacity());
+    table.insert(5, 5, |_| 0)?;
+    assert!(rt; table.len() < table.capacity());
+    table.insert_within_capacity(6, 6)
+}
+
+/// Finds any handle under the hash, or inserts one.
+fn find_any(rt: &impl Abort, table: &mut RefusedTable<'_>) -> Result<(u64, bool), TableError> {
+    assert!(rt; table.len() < table.capacity());
+    table.find_or_insert(7, |_| true, 7, |_| 0)
+}
+
+/// Reserves room that is there, advances a lookup to its end, and removes a handle.
+fn read_and_remove(rt: &impl Abort, table: &mut RefusedTable<'_>) -> Result<(), TableError> {
+    assert!(rt; table.len() == 3 && table.capacity() == 12);
+    table.reserve(9, |_| 0)?;
+    let mut walk = table.get(7);
+    while walk.next().is_some() {}
+    assert!(rt; table.remove(6, 6));
+    Ok(())
+}
+
+/// Makes calls that a table has room for.
+fn call_within_capacity(rt: &impl Abort, table: &mut RefusedTable<'_>) -> Result<(), TableError> {
+    insert_two(rt, table)?;
+    for wanted in [(7, true), (7, false)] {
+        same(rt, find_any(rt, table)?, wanted);
+    }
+    read_and_remove(rt, table)
+}
+
+#[test]
+fn no_requests(rt: HostRuntime) -> Result<(), Fail> {
+    let alloc = Refusing::new(rt.alloc());
+    let mut table: RefusedTable = Table::with_capacity(&alloc, 12)?;
+    let made = alloc.requests();
+    alloc.refuse_after(0);
+    call_within_capacity(&rt, &mut table)?;
+    same(&rt, alloc.requests(), made);
+    Ok(())
+}
+
+/// Inserts as many handles as a table of 16 slots holds before it grows, each as its own hash.
+fn fill(rt: &impl Abort, table: &mut RefusedTable<'_>) -> Result<(), TableError>
+    requires keyed { IsHashOf (λ handle. handle) table.old.homes }
+    ensures keyed { IfOk result (λ _. IsHashOf (λ handle. handle) table.new.homes) }
+{
+    for handle in 0..12 {
+        assert!(rt; table.len() < table.capacity());
+        table.insert_within_capacity(handle, handle)?;
+    }
+    Ok(())
+}
+
+/// Returns a table with as many handles as it holds before it grows.
+fn full<'a>(rt: &impl Abort, alloc: &'a Refusing<Global>) -> Result<RefusedTable<'a>, TableError>
+    ensures keyed { IfOk result (λ table. IsHashOf (λ handle. handle) table.homes) }
+{
+    let mut table = Table::with_capacity(alloc, 12)?;
+    fill(rt, &mut table)?;
+    Ok(table)
+}
+
+/// Stops the test unless a full table has kept its memory and its number of handles.
+fn assert_kept(
+    rt: &impl Abort,
+    alloc: &Refusing<Global>,
+    held: u64,
+    table: &RefusedTable<'_>,
+    turn: u64,
+) {
+    same_at(rt, (alloc.held(), table.len()), (held, 12), turn);
+}
+
+/// Inserts a handle, and returns the number of handles whose hash was asked for.
+fn insert_counted(table: &mut RefusedTable<'_>) -> (Result<(), TableError>, u64)
+    requires keyed { IsHashOf (λ handle. handle) table.old.homes }
+    ensures kept { result.0 ≡ Err TableError.Memory → table.new ≡ table.old }
+{
+    let asked = Cell::new(0u64);
+    let outcome = table.insert(
+        12,
+        12,
+        |handle| -> u64
+            ensures { result ≡ handle }
+        {
+            asked.set(asked.get().saturating_add(1));
+            handle
+        },
+    );
+    (outcome, asked.get())
+}
+
+/// Inserts into a full table with requests refused, and returns the turn in which none is.
+fn insert_in_turn(rt: &impl Abort, alloc: &Refusing<Global>, table: &mut RefusedTable<'_>) -> u64
+    requires keyed { IsHashOf (λ handle. handle) table.old.homes }
+{
+    let held = alloc.held();
+    for turn in 0..MANY {
+        refuse_in(turn, alloc);
+        let (outcome, asked) = insert_counted(table);
+        if outcome.is_ok() {
+            same(rt, asked, 12);
+            return turn;
+        }
+        assert_eq!(rt;
+            (outcome, asked),
+            (Err(TableError::Memory), 0),
+            "turn {turn}"
+        );
+        assert_kept(rt, alloc, held, table, turn);
+    }
+    MANY
+}
+
+/// Looks at a table that grew for its thirteenth handle.
+fn look_at_thirteen(rt: &impl Abort, table: &RefusedTable<'_>) {
+    same(rt, (table.len(), table.capacity()), (13, 24));
+    same(rt, table.get(12).next(), Some(12));
+}
+
+#[test]
+fn insertions(rt: HostRuntime) -> Result<(), Fail> {
+    let alloc = Refusing::new(rt.alloc());
+    let mut table = full(&rt, &alloc)?;
+    let turn = insert_in_turn(&rt, &alloc, &mut table);
+    look_at_thirteen(&rt, &table);
+    drop(table);
+    same(&rt, turn, REFUSED_TURNS);
+    Ok(())
+}
+
+/// Reserves room for a handle, and returns the number of handles whose hash was asked for.
+fn reserve_counted(table: &mut RefusedTable<'_>) -> (Result<(), TableError>, u64)
+    requires keyed { IsHashOf (λ handle. handle) table.old.homes }
+    ensures kept { result.0 ≡ Err TableError.Memory → table.new ≡ table.old }
+{
+    let asked = Cell::new(0u64);
+    let outcome = table.reserve(
+        1,
+        |handle| -> u64
+            ensures { result ≡ handle }
+        {
+            asked.set(asked.get().saturating_add(1));
+            handle
+        },
+    );
+    (outcome, asked.get())
+}
+
+/// Reserves room in a full table with requests refused, and returns the turn in which none is.
+fn reserve_in_turn(rt: &impl Abort, alloc: &Refusing<Global>, table: &mut RefusedTable<'_>) -> u64
+    requires keyed { IsHashOf (λ handle. handle) table.old.homes }
+{
+    let held = alloc.held();
+    for turn in 0..MANY {
+        refuse_in(turn, alloc);
+        let (outcome, asked) = reserve_counted(table);
+        if outcome.is_ok() {
+            same(rt, asked, 12);
+            return turn;
+        }
+        assert_eq!(rt;
+            (outcome, asked),
+            (Err(TableError::Memory), 0),
+            "turn {turn}"
+        );
+        assert_kept(rt, alloc, held, table, turn);
+    }
+    MANY
+}
+
+/// Looks at a table that grew without another handle.
+fn look_at_twelve(rt: &impl Abort, table: &RefusedTable<'_>) {
+    same(rt, (table.len(), table.capacity()), (12, 24));
+}
+
+#[test]
+fn reservations(rt: HostRuntime) -> Result<(), Fail> {
+    let alloc = Refusing::new(rt.alloc());
+    let mut table = full(&rt, &alloc)?;
+    let turn = reserve_in_turn(&rt, &alloc, &mut table);
+    look_at_twelve(&rt, &table);
+    drop(table);
+    same(&rt, turn, REFUSED_TURNS);
+    Ok(())
+}
+
+/// The outcome of a lookup that inserts, the number of handles that it offered, and the number
+/// whose hash it asked for.
+type Found = (Result<(u64, bool), TableError>, (u64, u64));
+
+/// Finds a handle that is there.
+fn find_counted(table: &mut RefusedTable<'_>) -> Found
+    requires keyed { IsHashOf (λ handle. handle) table.old.homes }
+    ensures kept { result.0 ≡ Err TableError.Memory → table.new ≡ table.old }
+{
+    let offered = Cell::new(0u64);
+    let asked = Cell::new(0u64);
+    let outcome = table.find_or_insert(
+        5,
+        |found: u64| {
+            offered.set(offered.get().saturating_add(1));
+            found == 5
+        },
+        20,
+        |handle| -> u64
+            ensures { result ≡ handle }
+        {
+            asked.set(asked.get().saturating_add(1));
+            handle
+        },
+    );
+    (outcome, (offered.get(), asked.get()))
+}
+
+/// Finds in a full table with requests refused, and returns the turn in which none is.
+fn find_in_turn(rt: &impl Abort, alloc: &Refusing<Global>, table: &mut RefusedTable<'_>) -> u64
+    requires keyed { IsHashOf (λ handle. handle) table.old.homes }
+{
+    let held = alloc.held();
+    for turn in 0..MANY {
+        refuse_in(turn, alloc);
+        let (outcome, calls) = find_counted(table);
+        if outcome.is_ok() {
+            same(rt, (outcome, calls), (Ok((5, false)), (1, 12)));
+            return turn;
+        }
+        assert_eq!(rt;
+            (outcome, calls),
+            (Err(TableError::Memory), (0, 0)),
+            "turn {turn}"
+        );
+        assert_kept(rt, alloc, held, table, turn);
+    }
+    MANY
+}
+
+#[test]
+fn finds(rt: HostRuntime) -> Result<(), Fail> {
+    let alloc = Refusing::new(rt.alloc());
+    let mut table = full(&rt, &alloc)?;
+    let turn = find_in_turn(&rt, &alloc, &mut table);
+    look_at_twelve(&rt, &table);
+    drop(table);
+    same(&rt, turn, REFUSED_TURNS);
+    Ok(())
+}

@@ -1,0 +1,93 @@
+//! The contents of each slot of a table, as searches report them.
+use crate::assertions::same_at;
+use clock2q_handles::Table;
+use std::alloc::{AllocError, Global};
+use std::fmt::Debug;
+use std::process::Abort;
+
+/// A slot: a handle and how far past its home it is, or nothing.
+pub(crate) type Slot<H> = Option<(H, usize)>;
+
+/// The fingerprints of the hashes in runs that are worked out by hand.
+const FINGERPRINTS: [u64; 3] = [0, 0xAB, 0xCD];
+
+/// Returns the candidate of the hash with this number, and its position.
+fn candidate<H: Copy + Eq + Default>(
+    table: &Table<H>,
+    hash: u64,
+    number: usize,
+) -> Option<(H, usize)> {
+    if table.capacity() == 0 {
+        return None;
+    }
+    let mut passed = 0usize;
+    let found = table.search(hash, |_| {
+        let is_wanted = passed == number;
+        passed = passed.saturating_add(1);
+        is_wanted
+    });
+    found.ok()
+}
+
+/// Writes each candidate of the hash into its slot.
+pub(crate) fn write_down<H: Copy + Eq + Default>(
+    table: &Table<H>,
+    hash: u64,
+    slots: &mut [Slot<H>],
+) {
+    for number in 0..table.len() {
+        let Some((handle, position)) = candidate(table, hash, number) else {
+            return;
+        };
+        let home = (hash as usize).checked_rem(slots.len()).unwrap_or(0);
+        let past = position.wrapping_sub(home).checked_rem(slots.len());
+        if let Some(slot) = slots.get_mut(position) {
+            *slot = Some((handle, past.unwrap_or(0)));
+        }
+    }
+}
+
+/// Returns the contents of each slot, of entries with one of those fingerprints.
+pub(crate) fn slots_of<H: Copy + Eq + Default>(
+    alloc: Global,
+    table: &Table<H>,
+) -> Result<Vec<Slot<H>>, AllocError> {
+    let count = (table.capacity() / 3).saturating_mul(4);
+    let mut slots = vec![in alloc; None; count]?;
+    for home in 0..count {
+        for fingerprint in FINGERPRINTS {
+            write_down(table, fingerprint << 56 | home as u64, &mut slots);
+        }
+    }
+    Ok(slots)
+}
+
+/// Stops the test unless the slots hold exactly the wanted handles, each with its slot and
+/// displacement.
+pub(crate) fn hold<H: Copy + Eq + Debug>(
+    rt: &impl Abort,
+    slots: &[Slot<H>],
+    wanted: &[(usize, H, usize)],
+    shown: &str,
+) {
+    same_at(rt, slots.iter().flatten().count(), wanted.len(), shown);
+    for (position, slot) in slots.iter().enumerate() {
+        let cell = wanted.iter().find(|cell| cell.0 == position);
+        let held = cell.map(|cell| (cell.1, cell.2));
+        same_at(rt, *slot, held, (shown, position));
+    }
+}
+
+/// Stops the test unless a table has exactly the wanted handles, each with its slot and
+/// displacement.
+pub(crate) fn stands(
+    rt: &impl Abort,
+    alloc: Global,
+    table: &Table<usize>,
+    wanted: &[(usize, usize, usize)],
+    shown: &str,
+) -> Result<(), AllocError> {
+    same_at(rt, table.len(), wanted.len(), shown);
+    hold(rt, &slots_of(alloc, table)?, wanted, shown);
+    Ok(())
+}

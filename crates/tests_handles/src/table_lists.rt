@@ -1,0 +1,178 @@
+//! Seeded lists of commands to a handle table, whose replies are compared with those of plain
+//! lists.
+//!
+//! Lookups are compared in their whole order. A growth takes the handles slot by slot, and begins
+//! with those that found no room before the end; the plain lists only count these.
+ghost use Rattle.std.specs.Prelude.{◌≡◌};
+
+use crate::plain_table::PlainTable;
+use clock2q_handles::{Table, TableError};
+use clock2q_table_commands::{TableCommand, TableReply, run_table};
+use std::alloc::{AllocError, Allocator, Global};
+use std::process::Abort;
+use std::test::Fail;
+use testing::Draws;
+
+const LISTS: u64 = 200;
+
+const COMMANDS: u64 = 500;
+
+/// The bit from which on a handle contains its number in the list. No table here is large enough to
+/// read that bit of a hash, or one between it and the highest byte.
+const NUMBER: u32 = 20;
+
+/// Commands, and the reply that each should have.
+#[derive(Drop)]
+struct List {
+    commands: Vec<TableCommand<u64>>,
+    wanted: Vec<TableReply<u64>>,
+}
+
+/// What the commands of a list are drawn from.
+#[derive(Drop)]
+struct Source {
+    draws: Draws,
+    /// The number of homes near the end of the slots that the handles have.
+    homes: u64,
+    alloc: Global,
+    plain: PlainTable,
+}
+
+impl Source {
+    /// Returns a handle with one of three highest bytes. Half of the handles have one of the homes
+    /// just before and after the end of the slots, whatever their number; the others have one up to
+    /// some slot count, and another home in larger tables.
+    fn fresh(&mut self, number: u64) -> u64 {
+        let top = self.draws.below(3) * 0x7F << 56;
+        let home = self.draws.below(self.homes).wrapping_sub(self.homes / 2) & 0xFFFF;
+        let leaving = match self.draws.below(2) {
+            0 => 0,
+            _ => 16 << self.draws.below(6),
+        };
+        top | number << NUMBER | (home ^ leaving)
+    }
+
+    /// Returns a handle that is held, or now and then one that isn't.
+    fn held(&mut self, number: u64) -> u64 {
+        let place = self
+            .draws
+            .below((self.plain.len() as u64).saturating_add(2));
+        match self.plain.handle(place as usize) {
+            Some(handle) => handle,
+            None => self.fresh(number),
+        }
+    }
+
+    /// Returns a handle to insert: mostly a new one.
+    fn handle(&mut self, number: u64) -> u64 {
+        match self.draws.below(8) {
+            0 => self.held(number),
+            _ => self.fresh(number),
+        }
+    }
+
+    /// Returns up to three candidates of a hash, or any handles in their place.
+    fn accepted(&mut self, hash: u64, number: u64) -> Result<Vec<u64>, AllocError> {
+        let candidates = self.plain.candidates(hash)?;
+        let mut accepted = Vec::new(self.alloc);
+        for _ in 0..self.draws.below(4) {
+            let place = self
+                .draws
+                .below((candidates.len() as u64).saturating_add(1));
+            let handle = match candidates.get(place as usize) {
+                Some(candidate) => *candidate,
+                None => self.held(number),
+            };
+            accepted.push(handle)?;
+        }
+        Ok(accepted)
+    }
+
+    /// Returns the command with this number in a list, which has more insertions in the first half
+    /// and more removals in the second. The last tenth are lookups.
+    fn command(&mut self, number: u64) -> Result<TableCommand<u64>, AllocError> {
+        let additions = if number < COMMANDS / 2 { 10 } else { 4 };
+        let kind = if number < COMMANDS * 9 / 10 {
+            self.draws.below(20)
+        } else {
+            19
+        };
+        Ok(match kind {
+            kind if kind < additions && kind % 2 == 0 => TableCommand::Insert(self.handle(number)),
+            kind if kind < additions => {
+                let handle = self.handle(number);
+                TableCommand::Find(handle, self.accepted(handle, number)?)
+            }
+            0..=12 => {
+                let handle = self.held(number);
+                TableCommand::Remove(handle ^ (self.draws.below(2) << NUMBER), handle)
+            }
+            13 | 14 => self.reserve(),
+            _ => TableCommand::Get(self.fresh(number)),
+        })
+    }
+
+    /// Returns a command to make room for a few more handles, or for more than can be counted.
+    fn reserve(&mut self) -> TableCommand<u64> {
+        let few = self.draws.below(8) as usize;
+        match self.draws.below(4) {
+            0 => TableCommand::Reserve(usize::MAX.wrapping_sub(few)),
+            _ => TableCommand::Reserve(few),
+        }
+    }
+
+    /// Returns the commands of a list, each with the reply of the plain lists.
+    fn list(&mut self) -> Result<List, AllocError> {
+        let mut commands = Vec::new(self.alloc);
+        let mut wanted = Vec::new(self.alloc);
+        for number in 0..COMMANDS {
+            let command = self.command(number)?;
+            wanted.push(self.plain.reply(&command)?)?;
+            commands.push(command)?;
+        }
+        Ok(List { commands, wanted })
+    }
+}
+
+fn hash_of(handle: u64) -> u64
+    ensures { result ≡ handle }
+{
+    handle
+}
+
+/// Returns what a new table replies to commands.
+fn replies_of<A: Allocator + Copy>(
+    alloc: A,
+    handles: usize,
+    commands: &[TableCommand<u64, Vec<u64, A>>],
+) -> Result<Vec<TableReply<u64, Vec<u64, A>>, A>, TableError> {
+    let mut table = Table::with_capacity(alloc, handles)?;
+    run_table(alloc, &mut table, hash_of, commands)
+}
+
+/// Compares each reply with the wanted one.
+fn replies_are(rt: &impl Abort, replies: &[TableReply<u64>], list: &List, seed: u64) {
+    assert_eq!(rt; replies.len(), list.wanted.len(), "list {seed}");
+    let told = list.commands.iter().zip(list.wanted.iter());
+    for (number, (reply, (command, wanted))) in replies.iter().zip(told).enumerate() {
+        assert_eq!(rt; reply, wanted, "list {seed}, command {number}: {command:?}");
+    }
+}
+
+#[test]
+fn plain_lists(rt: HostRuntime) -> Result<(), Fail> {
+    let alloc = rt.alloc();
+    for seed in 0..LISTS {
+        let handles = (seed % 3 * 10) as usize;
+        let mut source = Source {
+            draws: Draws::new(seed),
+            homes: 1 << (seed % 4),
+            alloc,
+            plain: PlainTable::with_capacity(alloc, handles)?,
+        };
+        let list = source.list()?;
+        let replies = replies_of(alloc, handles, &list.commands)?;
+        replies_are(&rt, &replies, &list, seed);
+    }
+    Ok(())
+}

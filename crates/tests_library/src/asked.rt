@@ -1,0 +1,171 @@
+//! How many keys each call compares, and how often it hashes a key.
+
+use crate::calls::{ALIKE, APART, CHANGES, Call, Counting, LOOKUPS, make, remove, two_of_three};
+use crate::counted::Counts;
+use clock2q_cache::Cache;
+use std::alloc::Global;
+use std::num::NonZeroUsize;
+use std::test::Fail;
+use testing::{Spread, same, same_at};
+
+/// Puts the keys from the first up to the end.
+fn fill<'a>(cache: &mut Counting<'a>, counts: &'a Counts, first: u64, end: u64) {
+    for id in first..end {
+        let _ = cache.put(counts.key(id), id);
+    }
+    let _ = counts.asked_and_hashed();
+}
+
+/// Looking a key up asks this many keys, and finds the key if it asks one.
+fn looks_up<'a>(
+    cache: &Counting<'a>,
+    counts: &'a Counts,
+    id: u64,
+    questions: u64,
+) -> Result<(), Fail> {
+    let found = cache.peek(&counts.key(id)).is_some();
+    same_at(found, questions > 0, id)?;
+    same_at(counts.asked_and_hashed(), (questions, 1), id)
+}
+
+/// Removing a key that isn't resident asks this many keys.
+fn removes_none<'a>(
+    cache: &mut Counting<'a>,
+    counts: &'a Counts,
+    id: u64,
+    questions: u64,
+) -> Result<(), Fail> {
+    same_at(remove(cache, counts, id), false, id)?;
+    same_at(counts.asked_and_hashed(), (questions, 1), id)
+}
+
+/// A cache of twenty keys, no two of which hash alike.
+fn of_twenty<'a>(alloc: Global) -> Result<Counting<'a>, Fail> {
+    let capacity = NonZeroUsize::new(20).ok_or("not zero")?;
+    Ok(Cache::with_hasher(alloc, capacity, APART)?)
+}
+
+/// Looks up and removes keys while such a cache is filled.
+fn at_most_one_is_asked<'a>(cache: &mut Counting<'a>, counts: &'a Counts) -> Result<(), Fail> {
+    fill(cache, counts, 1, 21);
+    for (id, questions) in [(20, 1), (21, 0)] {
+        looks_up(cache, counts, id, questions)?;
+    }
+    fill(cache, counts, 21, 25);
+    for (id, questions) in [(25, 0), (22, 1)] {
+        removes_none(cache, counts, id, questions)?;
+    }
+    Ok(())
+}
+
+#[test]
+fn only_keys_that_hash_alike_are_asked(rt: HostRuntime) -> Result<(), Fail> {
+    let counts = Counts::new();
+    let mut cache = of_twenty(rt.alloc())?;
+    at_most_one_is_asked(&mut cache, &counts)
+}
+
+/// Returns how often a call on a cache that [`two_of_three`] makes asks keys, and hashes one.
+fn asked_by(alloc: Global, spread: Spread, call: Call, id: u64) -> Result<(u64, u64), Fail> {
+    let counts = Counts::new();
+    let mut cache = two_of_three(alloc, spread, &counts)?;
+    let _ = counts.asked_and_hashed();
+    make(&mut cache, call, counts.key(id));
+    Ok(counts.asked_and_hashed())
+}
+
+/// Each call on a cache that [`two_of_three`] makes asks this many keys, and hashes its own key
+/// once: the ids are those of a resident, of a remembered key and of an unknown one.
+fn each_asks(
+    alloc: Global,
+    spread: Spread,
+    calls: &[Call],
+    wanted: [(u64, u64); 3],
+) -> Result<(), Fail> {
+    for call in calls {
+        for (id, questions) in wanted {
+            let asked = asked_by(alloc, spread, *call, id)?;
+            same_at(asked, (questions, 1), (call, id))?;
+        }
+    }
+    Ok(())
+}
+
+#[test]
+fn keys_apart_are_not_asked(rt: HostRuntime) -> Result<(), Fail> {
+    each_asks(rt.alloc(), APART, &LOOKUPS, [(3, 1), (1, 0), (4, 0)])?;
+    each_asks(rt.alloc(), APART, &CHANGES, [(3, 1), (1, 1), (4, 0)])?;
+    each_asks(
+        rt.alloc(),
+        APART,
+        &[Call::SlotFor],
+        [(3, 1), (1, 1), (4, 0)],
+    )
+}
+
+/// All residents before a key are asked, and the remembered keys before it if the call looks into
+/// the history too. `get_or_insert_mut` looks into the history after all residents were asked.
+#[test]
+fn keys_alike_are_asked_once(rt: HostRuntime) -> Result<(), Fail> {
+    each_asks(rt.alloc(), ALIKE, &LOOKUPS, [(3, 2), (1, 2), (4, 2)])?;
+    each_asks(rt.alloc(), ALIKE, &CHANGES, [(3, 3), (1, 1), (4, 3)])?;
+    each_asks(
+        rt.alloc(),
+        ALIKE,
+        &[Call::SlotFor],
+        [(3, 2), (1, 3), (4, 3)],
+    )
+}
+
+/// Returns true if a key is found at the slot.
+fn is_found_at<'a>(cache: &mut Counting<'a>, counts: &'a Counts, slot: usize, id: u64) -> bool {
+    cache.get_at(slot, &counts.key(id)).is_some()
+}
+
+/// Looks keys up at slots of a cache that [`two_of_three`] makes, after 2 was removed.
+fn hints_ask<'a>(cache: &mut Counting<'a>, counts: &'a Counts) -> Result<(), Fail> {
+    same(remove(cache, counts, 2), true)?;
+    let _ = counts.asked_and_hashed();
+    for (slot, id, questions) in [
+        (0, 3, 1),
+        (0, 1, 1),
+        (1, 2, 0),
+        (2, 3, 0),
+        (usize::MAX, 3, 0),
+    ] {
+        let found = is_found_at(cache, counts, slot, id);
+        same_at(found, slot == 0 && id == 3, (slot, id))?;
+        same_at(counts.asked_and_hashed(), (questions, 0), (slot, id))?;
+    }
+    Ok(())
+}
+
+/// The key at the slot is asked, if it is resident, and none is hashed.
+#[test]
+fn a_hint_asks_one_key_and_hashes_none(rt: HostRuntime) -> Result<(), Fail> {
+    let counts = Counts::new();
+    let mut cache = two_of_three(rt.alloc(), ALIKE, &counts)?;
+    hints_ask(&mut cache, &counts)
+}
+
+/// Keeps only the key 3.
+fn retain_three(cache: &mut Counting<'_>) {
+    cache.retain(|_, value| *value == 3);
+}
+
+/// Removes keys without naming them.
+fn retain_and_clear(cache: &mut Counting<'_>) -> Result<(), Fail> {
+    retain_three(cache);
+    same(cache.len(), 1)?;
+    cache.clear();
+    same(cache.len(), 0)
+}
+
+#[test]
+fn calls_without_a_key_ask_and_hash_none(rt: HostRuntime) -> Result<(), Fail> {
+    let counts = Counts::new();
+    let mut cache = two_of_three(rt.alloc(), ALIKE, &counts)?;
+    let _ = counts.asked_and_hashed();
+    retain_and_clear(&mut cache)?;
+    same(counts.asked_and_hashed(), (0, 0))
+}

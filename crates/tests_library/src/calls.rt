@@ -1,0 +1,93 @@
+//! The calls of a cache that take a key, with counted keys.
+
+use crate::counted::{Counted, Counts};
+use clock2q_cache::Cache;
+use std::alloc::Global;
+use std::num::NonZeroUsize;
+use std::test::Fail;
+use testing::Spread;
+
+/// A hash of its own for each key, and one hash for all keys.
+pub(crate) const APART: Spread = Spread { times: 1, more: 0 };
+
+pub(crate) const ALIKE: Spread = Spread { times: 0, more: 0 };
+
+pub(crate) type Counting<'a> = Cache<Counted<'a>, u64, Spread>;
+
+/// Makes a cache of two keys. Three were put, so 2 and 3 are resident, 3 in the slot that 1 had. 1
+/// is remembered, and comes before 2 and 3, in this order, under one hash.
+pub(crate) fn two_of_three<'a>(
+    alloc: Global,
+    spread: Spread,
+    counts: &'a Counts,
+) -> Result<Counting<'a>, Fail> {
+    let capacity = NonZeroUsize::new(2).ok_or("not zero")?;
+    let mut cache = Cache::with_hasher(alloc, capacity, spread)?;
+    for id in 1..4 {
+        let _ = cache.put(counts.key(id), id);
+    }
+    Ok(cache)
+}
+
+/// Removes a key, and returns true if it was resident.
+pub(crate) fn remove<'a>(cache: &mut Counting<'a>, counts: &'a Counts, id: u64) -> bool {
+    cache.remove(&counts.key(id))
+}
+
+/// A call that takes a key. The closure of a fetch returns 0, or fails.
+#[derive(Clone, Copy, Debug)]
+pub(crate) enum Call {
+    Get,
+    GetMut,
+    Slot,
+    Peek,
+    Contains,
+    TryFailing,
+    TryMutFailing,
+    Put,
+    With,
+    Try,
+    TryMut,
+    SlotFor,
+    Remove,
+}
+
+/// The calls that look only among the residents.
+pub(crate) const LOOKUPS: [Call; 5] = [
+    Call::Get,
+    Call::GetMut,
+    Call::Slot,
+    Call::Peek,
+    Call::Contains,
+];
+
+/// The calls that look among the residents and into the history in one walk. Two of them neither
+/// insert nor forget a key.
+pub(crate) const CHANGES: [Call; 7] = [
+    Call::TryFailing,
+    Call::TryMutFailing,
+    Call::Put,
+    Call::With,
+    Call::Try,
+    Call::TryMut,
+    Call::Remove,
+];
+
+/// Makes a call with a key.
+pub(crate) fn make<'a>(cache: &mut Counting<'a>, call: Call, key: Counted<'a>) {
+    match call {
+        Call::Get => drop(cache.get(&key)),
+        Call::GetMut => drop(cache.get_mut(&key)),
+        Call::Slot => drop(cache.slot(&key)),
+        Call::Peek => drop(cache.peek(&key)),
+        Call::Contains => drop(cache.contains(&key)),
+        Call::TryFailing => drop(cache.try_get_or_insert_with(key, || Err(()))),
+        Call::TryMutFailing => drop(cache.try_get_or_insert_with_mut(key, || Err(()))),
+        Call::Put => drop(cache.put(key, 0)),
+        Call::With => drop(cache.get_or_insert_with(key, || 0)),
+        Call::Try => drop(cache.try_get_or_insert_with(key, || Ok::<u64, ()>(0))),
+        Call::TryMut => drop(cache.try_get_or_insert_with_mut(key, || Ok::<u64, ()>(0))),
+        Call::SlotFor => drop(cache.get_or_insert_mut(key, || 0)),
+        Call::Remove => drop(cache.remove(&key)),
+    }
+}

@@ -1,0 +1,73 @@
+//! How often a cache hashes a key that its caller doesn't pass.
+
+use crate::calls::APART;
+use clock2q_cache::Cache;
+use std::alloc::Global;
+use std::cell::Cell;
+use std::hash::BuildHasher;
+use std::num::NonZeroUsize;
+use std::test::Fail;
+use testing::{Spread, Spreading, same_at};
+
+/// Hashes as its spread does, and counts the hashes in a place that all hashers of a test share.
+#[derive(Clone, Copy)]
+struct CountedHashes<'a> {
+    spread: Spread,
+    made: &'a Cell<u64>,
+}
+
+impl BuildHasher for CountedHashes<'_> {
+    type Hasher = Spreading;
+
+    ghost build_hasher = { λ counted. ⟦<Spread as BuildHasher>⟧.build_hasher counted.spread };
+
+    fn build_hasher(&self) -> Spreading {
+        self.made.set(self.made.get().saturating_add(1));
+        self.spread.build_hasher()
+    }
+}
+
+type Hashing<'a> = Cache<u64, u64, CountedHashes<'a>>;
+
+/// A cache of twenty keys whose hashes are counted.
+fn of_twenty<'a>(alloc: Global, made: &'a Cell<u64>) -> Result<Hashing<'a>, Fail> {
+    let capacity = NonZeroUsize::new(20).ok_or("not zero")?;
+    let spread = APART;
+    Ok(Cache::with_hasher(alloc, capacity, CountedHashes { spread, made })?)
+}
+
+/// Puts this many keys.
+fn put_keys(cache: &mut Hashing<'_>, many: u64) {
+    for key in 0..many {
+        cache.put(key, key);
+    }
+}
+
+/// Gives each slot without a value one.
+fn fill(cache: &mut Hashing<'_>) {
+    cache.prefill(|| 7);
+}
+
+/// Puts this many keys into an empty cache, each of which is hashed once, and fills it twice. The
+/// default key is hashed once for each slot that had no value.
+fn is_hashed_once_a_slot(
+    cache: &mut Hashing<'_>,
+    made: &Cell<u64>,
+    (many, left): (u64, u64),
+) -> Result<(), Fail> {
+    put_keys(cache, many);
+    same_at(made.replace(0), many, many)?;
+    fill(cache);
+    same_at(made.replace(0), left, many)?;
+    fill(cache);
+    same_at(made.replace(0), 0, many)
+}
+
+#[test]
+fn a_slot_made_beforehand_hashes_a_key_once(rt: HostRuntime) -> Result<(), Fail> {
+    let made = Cell::new(0);
+    for slots in [(0, 20), (3, 17), (20, 0)] {
+        is_hashed_once_a_slot(&mut of_twenty(rt.alloc(), &made)?, &made, slots)?;
+    }
+    Ok(())
+}

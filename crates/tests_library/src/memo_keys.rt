@@ -1,0 +1,34 @@
+//! What a memo does with its keys.
+
+use crate::counted::{Counted, Counts};
+use clock2q_memo::Memo;
+use std::num::NonZeroUsize;
+use std::test::Fail;
+use testing::{same, same_at};
+
+#[test]
+fn a_miss_hashes_its_key_twice(rt: HostRuntime) -> Result<(), Fail> {
+    let counts = Counts::new();
+    let capacity = NonZeroUsize::new(2).ok_or("not zero")?;
+    let mut memo = Memo::new(rt.alloc(), capacity, |_: &Counted<'_>| 7u64)?;
+    for (id, hashes) in [(1, 2), (1, 1), (2, 2), (3, 2), (2, 1)] {
+        same(memo.get(counts.key(id)), 7)?;
+        same_at(counts.asked_and_hashed().1, hashes, id)?;
+        same(memo.get_recorded(counts.key(id)), 7)?;
+        same_at(counts.asked_and_hashed().1, 1, id)?;
+    }
+    Ok(())
+}
+
+#[test]
+fn no_key_outlives_its_memo(rt: HostRuntime) -> Result<(), Fail> {
+    let counts = Counts::new();
+    let capacity = NonZeroUsize::new(2).ok_or("not zero")?;
+    let mut memo = Memo::new(rt.alloc(), capacity, |_: &Counted<'_>| 7u64)?;
+    for id in [1, 2, 3, 1, 4, 4] {
+        same(memo.get(counts.key(id)), 7)?;
+    }
+    let function = memo.into_function();
+    same(counts.dropped_and_left(), (6, 0))?;
+    same(function(&counts.key(5)), 7)
+}

@@ -1,0 +1,187 @@
+//! Memos of squares, with values and residents worked out by hand.
+ghost use Rattle.std.specs.Prelude.{ℕ};
+ghost use Rattle.clock2q_memo.specs.Memo.{IsCallableAt};
+
+use clock2q::memo::recall;
+use clock2q::{CacheError, Memo};
+use std::alloc::Global;
+use std::cell::Cell;
+use std::num::NonZeroUsize;
+use std::test::Fail;
+use testing::{same, same_at};
+
+fn square(key: &u64) -> u64 {
+    key.wrapping_mul(*key)
+}
+
+/// A memo of this many values.
+fn memo_of<F: Fn(&u64) -> u64 + Drop>(
+    alloc: Global,
+    capacity: usize,
+    function: F,
+) -> Result<Memo<u64, u64, F>, Fail> {
+    let capacity = NonZeroUsize::new(capacity).ok_or("not zero")?;
+    Ok(Memo::new(alloc, capacity, function)?)
+}
+
+/// Looks a hundred keys up in turn, ten times each.
+fn squares_are_returned<F: Fn(&u64) -> u64>(memo: &mut Memo<u64, u64, F>) -> Result<(), Fail>
+    requires { (function : F) (key : ℕ) → IsCallableAt F.Fn function key }
+{
+    for round in 0..1000u64 {
+        let key = round % 100;
+        same(memo.get(key), square(&key))?;
+        same(memo.get_recorded(key), square(&key))?;
+    }
+    Ok(())
+}
+
+#[test]
+fn every_value_is_the_square(rt: HostRuntime) -> Result<(), Fail> {
+    squares_are_returned(&mut memo_of(rt.alloc(), 8, square)?)
+}
+
+/// Looks two keys up in turn.
+fn squares_of_two<F: Fn(&u64) -> u64>(memo: &mut Memo<u64, u64, F>) -> Result<(), Fail>
+    requires { (function : F) (key : ℕ) → IsCallableAt F.Fn function key }
+{
+    for _ in 0..5 {
+        same(memo.get(3), 9)?;
+        same(memo.get_recorded(4), 16)?;
+    }
+    Ok(())
+}
+
+#[test]
+fn one_value_at_a_time(rt: HostRuntime) -> Result<(), Fail> {
+    squares_of_two(&mut memo_of(rt.alloc(), 1, square)?)
+}
+
+/// Looks the keys 1 to 20 up, which fit.
+fn look_up_twenty<F: Fn(&u64) -> u64>(memo: &mut Memo<u64, u64, F>)
+    requires { (function : F) (key : ℕ) → IsCallableAt F.Fn function key }
+{
+    for key in 1..21u64 {
+        memo.get(key);
+    }
+}
+
+/// The same, with hits recorded.
+fn record_twenty<F: Fn(&u64) -> u64>(memo: &mut Memo<u64, u64, F>)
+    requires { (function : F) (key : ℕ) → IsCallableAt F.Fn function key }
+{
+    for key in 1..21u64 {
+        memo.get_recorded(key);
+    }
+}
+
+#[test]
+fn one_call_for_each_key(rt: HostRuntime) -> Result<(), Fail> {
+    let calls = Cell::new(0u32);
+    let counted = |key: &u64| {
+        calls.set(calls.get().wrapping_add(1));
+        square(key)
+    };
+    let mut memo = memo_of(rt.alloc(), 20, counted)?;
+    look_up_twenty(&mut memo);
+    record_twenty(&mut memo);
+    same(calls.get(), 20)
+}
+
+/// Returns whether the keys 1 and 3 are remembered.
+fn are_remembered<F: Fn(&u64) -> u64>(memo: &Memo<u64, u64, F>) -> (bool, bool) {
+    (memo.contains(&1), memo.contains(&3))
+}
+
+/// A hit that is recorded, and one more key.
+fn record_one<F: Fn(&u64) -> u64>(memo: &mut Memo<u64, u64, F>) -> Result<(), Fail>
+    requires { (function : F) (key : ℕ) → IsCallableAt F.Fn function key }
+{
+    look_up_twenty(memo);
+    memo.get_recorded(1);
+    memo.get(21);
+    same(are_remembered(memo), (true, false))
+}
+
+#[test]
+fn a_recorded_hit_saves_the_key(rt: HostRuntime) -> Result<(), Fail> {
+    record_one(&mut memo_of(rt.alloc(), 20, square)?)
+}
+
+/// A hit that isn't recorded, and one more key.
+fn record_none<F: Fn(&u64) -> u64>(memo: &mut Memo<u64, u64, F>) -> Result<(), Fail>
+    requires { (function : F) (key : ℕ) → IsCallableAt F.Fn function key }
+{
+    look_up_twenty(memo);
+    memo.get(1);
+    memo.get(21);
+    same(are_remembered(memo), (false, true))
+}
+
+#[test]
+fn an_unrecorded_hit_saves_nothing(rt: HostRuntime) -> Result<(), Fail> {
+    record_none(&mut memo_of(rt.alloc(), 20, square)?)
+}
+
+/// Looks five keys up, one of them twice.
+fn recalled<F: Fn(&u64) -> u64>(alloc: Global, memo: &mut Memo<u64, u64, F>) -> Result<(), Fail>
+    requires { (function : F) (key : ℕ) → IsCallableAt F.Fn function key }
+{
+    let values = recall(alloc, memo, vec![in alloc; 3, 1, 3, 2, 9]?)?;
+    same(values.as_slice(), [9, 1, 9, 4, 81].as_slice())
+}
+
+#[test]
+fn a_list_of_keys(rt: HostRuntime) -> Result<(), Fail> {
+    let mut memo = memo_of(rt.alloc(), 2, square)?;
+    recalled(rt.alloc(), &mut memo)
+}
+
+#[test]
+fn cleared_and_taken_apart(rt: HostRuntime) -> Result<(), Fail> {
+    let mut memo = memo_of(rt.alloc(), 2, square)?;
+    memo.get(7);
+    memo.clear();
+    same(memo.is_empty(), true)?;
+    same((memo.into_function())(&5), 25)
+}
+
+#[test]
+fn a_capacity_past_the_limit(rt: HostRuntime) -> Result<(), Fail> {
+    let capacity = NonZeroUsize::new(16_777_216).ok_or("not zero")?;
+    let refused = Memo::<u64, u64, _>::new(rt.alloc(), capacity, square);
+    same(refused.err(), Some(CacheError::Capacity))
+}
+
+/// There is no quotient.
+#[derive(Clone, Copy, Debug, PartialEq)]
+struct ByZero;
+
+fn quotient(key: &u64) -> Result<u64, ByZero> {
+    60u64.checked_div(*key).ok_or(ByZero)
+}
+
+/// Quotients are returned and remembered, and refusals are not remembered.
+fn quotients_are_returned<F: Fn(&u64) -> Result<u64, ByZero>>(
+    memo: &mut Memo<u64, u64, F>,
+) -> Result<(), Fail>
+    requires { (function : F) (key : ℕ) → IsCallableAt F.Fn function key }
+{
+    for (key, wanted) in [
+        (4, Ok(15)),
+        (0, Err(ByZero)),
+        (4, Ok(15)),
+        (0, Err(ByZero)),
+        (7, Ok(8)),
+    ] {
+        same_at(memo.get_or_try(key), wanted, key)?;
+    }
+    same((memo.len(), memo.contains(&0)), (2, false))
+}
+
+#[test]
+fn a_function_that_may_fail(rt: HostRuntime) -> Result<(), Fail> {
+    let capacity = NonZeroUsize::new(2).ok_or("not zero")?;
+    let mut memo = Memo::fallible(rt.alloc(), capacity, quotient)?;
+    quotients_are_returned(&mut memo)
+}

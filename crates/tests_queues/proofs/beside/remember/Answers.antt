@@ -1,0 +1,33 @@
+use Rattle.std.proofs.Common.{◌≡◌, ℕ, ◌%◌, ap, ◌∙◌}
+use Rattle.clock2q_directory.specs.Index.{slots}
+use Rattle.clock2q_directory.specs.Keys.{KeyPlaces}
+use Rattle.clock2q_directory.specs.History.{Remembered, is_remembered}
+use Rattle.clock2q_directory.proofs.Hashed.{has_hash}
+use Rattle.clock2q_directory.proofs.Indexes.{candidates_there}
+use Rattle.tests_queues.proofs.Residents.{kept_resident, is-resident, within-room, same_key, remembered-resident}
+use Rattle.tests_queues.proofs.beside.remember.Goals as goal
+
+pub lookup-found-requires : goal.lookup-found-requires
+lookup-found-requires g c =
+    let k = c.requires.resident.taken in
+    let d = c.args.directory.now in
+    record {
+      hash = has_hash c.args.key c.args.hashes d.history.entries k.hashed;
+      made = candidates_there (slots d.history.places.index) d.residents.entries _ (c.args.key % c.args.hashes) k.indexed;
+    }
+
+pub remember-requires : goal.remember-requires
+remember-requires g c =
+    let e = c.lookup-found.ensures in
+    let k = kept_resident c.requires.resident e.kept e.residents in
+    record {
+      resident = is-resident k;
+      room = within-room k;
+      absent = λ old at. rw (same_key k at, ap (λ (z : Remembered ℕ). z.entries) e.kept) c.requires.absent;
+    }
+
+pub returns : goal.returns
+returns g c =
+    let e = c.lookup-found.ensures in
+    let r = c.remember.ensures in
+    record { resident = remembered-resident (kept_resident c.requires.resident e.kept e.residents) r.index r.entries (ap (λ (z : KeyPlaces ℕ (Unit {0})). z.room) r.kept) }

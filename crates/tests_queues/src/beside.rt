@@ -1,0 +1,157 @@
+//! A directory with one slot, which each key has for a while before it is remembered.
+ghost use Rattle.std.specs.Prelude.{◌≡◌, ◌<◌, ◌^◌, false, nat_eq};
+ghost use Rattle.clock2q_directory.specs.History.{is_remembered};
+ghost use Rattle.tests_queues.specs.Beside.{IsAlone, HasResident};
+
+use clock2q_directory::directory::Directory;
+use clock2q_directory::history::Found;
+use std::alloc::{AllocError, Allocator, Global};
+use std::marker::Model;
+
+/// The key that takes the slot of one that is remembered, and leaves at once.
+const NOBODY: u64 = u64::MAX;
+
+/// A directory in which no key is resident between two calls.
+#[derive(Drop)]
+pub struct Beside<A: Allocator = Global> {
+    directory: Directory<u64, (), A>,
+    hashes: u64,
+}
+
+impl<A: Allocator> Model for Beside<A> {
+    ghost use Rattle.std.specs.Prelude.{ℕ};
+    ghost use Rattle.std.specs.Coded.{coded_ℕ};
+    ghost use Rattle.tests_queues.specs.Beside.{IsAlone};
+
+    ghost Value = { ℕ };
+
+    ghost coded = { coded_ℕ };
+
+    ghost view = { λ b. b.hashes };
+
+    ghost invariant = { λ b. IsAlone b.hashes b.directory.history b.directory.residents };
+}
+
+impl<A: Allocator + Copy> Beside<A> {
+    /// Returns a directory for up to `limit` remembered keys. Keys with the same remainder modulo
+    /// `hashes` have the same hash.
+    pub fn new(alloc: A, limit: usize, hashes: u64) -> Result<Self, AllocError>
+        requires some { 0 < hashes }
+        requires short { limit < 2 ^ 24 }
+    {
+        Ok(Beside {
+            directory: Directory::new(alloc, 1, limit)?,
+            hashes,
+        })
+    }
+}
+
+impl<A: Allocator> Beside<A> {
+    /// Returns the number of remembered keys.
+    pub fn len(&self) -> usize {
+        self.directory.remembered_len()
+    }
+
+    /// Forgets a key, and returns true if it was remembered.
+    pub fn forget(&mut self, key: u64) -> bool {
+        forget(&mut self.directory, key, self.hashes)
+    }
+
+    /// Forgets a key, gives it the slot, and remembers it. Returns whether it was remembered
+    /// before, and whether it was found at the slot.
+    pub fn renew(&mut self, key: u64) -> (bool, bool) {
+        let known = forget(&mut self.directory, key, self.hashes);
+        enter(&mut self.directory, key, self.hashes);
+        let found = remember(&mut self.directory, key, self.hashes);
+        leave(&mut self.directory, NOBODY, self.hashes);
+        (known, matches!(found, Found::Resident(0)))
+    }
+
+    /// Forgets a key, gives it the slot, and takes it away again without remembering the key.
+    /// Returns true if it was remembered.
+    pub fn pass(&mut self, key: u64) -> bool {
+        let known = forget(&mut self.directory, key, self.hashes);
+        enter(&mut self.directory, key, self.hashes);
+        leave(&mut self.directory, key, self.hashes);
+        known
+    }
+
+    /// Forgets a key, gives it the slot, looks it up there, and replaces it with [`NOBODY`].
+    /// Returns where it was found, and the hash and the key that left.
+    pub fn replace(&mut self, key: u64) -> (Looked, (u64, u64)) {
+        let _ = forget(&mut self.directory, key, self.hashes);
+        enter(&mut self.directory, key, self.hashes);
+        let looked = look(&mut self.directory, key, self.hashes);
+        let old = replace(&mut self.directory, key, self.hashes);
+        leave(&mut self.directory, NOBODY, self.hashes);
+        (looked, old)
+    }
+
+    /// Forgets every key.
+    pub fn clear(&mut self) {
+        self.directory.clear();
+    }
+}
+
+/// Where a resident key was found, twice, and whether it equals the one at the slot.
+pub type Looked = (Option<u32>, Option<u32>, bool);
+
+/// Forgets a key.
+fn forget<A: Allocator>(directory: &mut Directory<u64, (), A>, key: u64, hashes: u64) -> bool
+    requires alone { IsAlone hashes directory.old.history directory.old.residents }
+    ensures alone { IsAlone hashes directory.new.history directory.new.residents }
+    ensures absent { is_remembered nat_eq key directory.new.history.entries ≡ false }
+{
+    let hash = key % hashes;
+    let found = directory.lookup(hash, &key);
+    directory.forget(hash, &key, found.place())
+}
+
+/// Makes a key the resident.
+fn enter<A: Allocator>(directory: &mut Directory<u64, (), A>, key: u64, hashes: u64)
+    requires alone { IsAlone hashes directory.old.history directory.old.residents }
+    ensures resident { HasResident key hashes directory.new.history directory.new.residents }
+    ensures remembered { directory.new.history.entries ≡ directory.old.history.entries }
+{
+    directory.enter(0, key % hashes, key, Some(()));
+}
+
+/// Looks the resident up, and remembers it. Returns what was found.
+fn remember<A: Allocator>(directory: &mut Directory<u64, (), A>, key: u64, hashes: u64) -> Found
+    requires resident { HasResident key hashes directory.old.history directory.old.residents }
+    requires absent { is_remembered nat_eq key directory.old.history.entries ≡ false }
+    ensures resident { HasResident NOBODY hashes directory.new.history directory.new.residents }
+{
+    let found = directory.lookup(key % hashes, &key);
+    directory.remember(0, NOBODY % hashes, NOBODY, Some(()));
+    found
+}
+
+/// Looks the resident up in each way.
+fn look<A: Allocator>(directory: &mut Directory<u64, (), A>, key: u64, hashes: u64) -> Looked
+    requires resident { HasResident key hashes directory.old.history directory.old.residents }
+    ensures resident { HasResident key hashes directory.new.history directory.new.residents }
+{
+    let hash = key % hashes;
+    let slot = directory.slot_of(hash, &key);
+    let again = directory.find_resident(hash, &key);
+    (slot, again, directory.key_equals(0, &key))
+}
+
+/// Replaces the resident with [`NOBODY`]. Returns the resident's hash and key.
+fn replace<A: Allocator>(directory: &mut Directory<u64, (), A>, key: u64, hashes: u64) -> (u64, u64)
+    requires resident { HasResident key hashes directory.old.history directory.old.residents }
+    ensures resident { HasResident NOBODY hashes directory.new.history directory.new.residents }
+{
+    let _ = key;
+    directory.renew(0, NOBODY % hashes, NOBODY, None)
+}
+
+/// Takes the slot away from the resident.
+fn leave<A: Allocator>(directory: &mut Directory<u64, (), A>, key: u64, hashes: u64)
+    requires resident { HasResident key hashes directory.old.history directory.old.residents }
+    ensures alone { IsAlone hashes directory.new.history directory.new.residents }
+{
+    let _ = (key, hashes);
+    directory.leave(0);
+}

@@ -1,0 +1,128 @@
+//! The history beside a plain list of keys.
+ghost use Rattle.std.specs.Prelude.{◌<◌};
+
+use crate::assertions::{same, same_at};
+use crate::beside::Beside;
+use std::alloc::Global;
+use std::process::Abort;
+use std::test::Fail;
+
+/// Mixes the bits of a number.
+fn mixed(x: u64) -> u64 {
+    let y = (x ^ (x >> 31)).wrapping_mul(0x9E37_79B9_7F4A_7C15);
+    (y ^ (y >> 29)).wrapping_mul(0xBF58_476D_1CE4_E5B9)
+}
+
+/// One call in 97 clears the history, one in three of the others discards the key, half of which
+/// also make it resident for a while, and the rest renew it. Returns whether the key was there, and
+/// whether it was found where it had just become resident, or `None` if the history was cleared.
+fn call(beside: &mut Beside, key: u64, drawn: u64) -> Option<(bool, bool)> {
+    if drawn % 97 == 0 {
+        beside.clear();
+        return None;
+    }
+    if drawn % 6 == 0 {
+        return Some((beside.pass(key), true));
+    }
+    if drawn % 3 == 0 {
+        return Some((beside.forget(key), true));
+    }
+    Some(beside.renew(key))
+}
+
+/// Two keys fit: a third one takes the place of the oldest.
+fn a_third_key_takes_a_place(rt: &impl Abort, beside: &mut Beside) {
+    same(rt, beside.renew(1), (false, true));
+    same(rt, beside.renew(5), (false, true));
+    same(rt, beside.forget(1), true);
+    same(rt, beside.renew(6), (false, true));
+    same(rt, beside.renew(7), (false, true));
+    same(rt, beside.len(), 2);
+    same(rt, beside.pass(6), true);
+    same(rt, beside.forget(6), false);
+    same(rt, beside.forget(5), false);
+    same(rt, beside.renew(8), (false, true));
+    same(rt, beside.renew(8), (true, true));
+    same(rt, beside.len(), 2);
+}
+
+/// A cleared history takes keys again.
+fn cleared(rt: &impl Abort, beside: &mut Beside) {
+    beside.clear();
+    same(rt, beside.len(), 0);
+    same(rt, beside.renew(8), (false, true));
+    same(rt, beside.len(), 1);
+}
+
+#[test]
+fn two_keys(rt: HostRuntime) -> Result<(), Fail> {
+    let mut beside = Beside::new(rt.alloc(), 2, 100)?;
+    a_third_key_takes_a_place(&rt, &mut beside);
+    cleared(&rt, &mut beside);
+    Ok(())
+}
+
+/// Takes a key out of the list, and returns true if it was there.
+fn take(list: &mut Vec<u64>, key: u64) -> bool {
+    let index = list.iter().position(|other| *other == key);
+    if let Some(index) = index {
+        list.remove(index);
+    }
+    index.is_some()
+}
+
+/// Does to the list, from which the key was taken, what [`call`] does to the history.
+fn follow(list: &mut Vec<u64>, key: u64, drawn: u64, limit: usize) -> Result<(), Fail> {
+    if drawn % 97 == 0 {
+        list.clear();
+    } else if drawn % 3 != 0 {
+        list.insert(0, key)?;
+        list.truncate(limit);
+    }
+    Ok(())
+}
+
+/// One call on both.
+fn step(
+    rt: &impl Abort,
+    beside: &mut Beside,
+    list: &mut Vec<u64>,
+    limit: usize,
+    turn: u64,
+    drawn: u64,
+) -> Result<(), Fail> {
+    let key = (drawn >> 8) % 12;
+    let known = take(list, key);
+    if let Some(asked) = call(beside, key, drawn) {
+        same_at(rt, asked, (known, true), turn);
+    }
+    follow(list, key, drawn, limit)?;
+    same_at(rt, beside.len(), list.len(), turn);
+    Ok(())
+}
+
+/// 2,000 calls beside a plain list of keys, newest first. The keys are few, and those with the same
+/// remainder modulo `hashes` have the same hash.
+fn beside_a_list(rt: &impl Abort, alloc: Global, limit: usize, hashes: u64) -> Result<(), Fail>
+    requires few { limit < 10 }
+    requires some { 0 < hashes }
+{
+    let mut beside = Beside::new(alloc, limit, hashes)?;
+    let mut list: Vec<u64> = Vec::new(alloc);
+    for turn in 0..2000u64 {
+        let drawn = mixed(turn.wrapping_add(hashes));
+        step(rt, &mut beside, &mut list, limit, turn, drawn)?;
+    }
+    Ok(())
+}
+
+#[test]
+fn two_thousand_calls(rt: HostRuntime) -> Result<(), Fail> {
+    for hashes in [1, 3, 100] {
+        beside_a_list(&rt, rt.alloc(), 0, hashes)?;
+        beside_a_list(&rt, rt.alloc(), 1, hashes)?;
+        beside_a_list(&rt, rt.alloc(), 2, hashes)?;
+        beside_a_list(&rt, rt.alloc(), 7, hashes)?;
+    }
+    Ok(())
+}

@@ -1,0 +1,105 @@
+//! Keys by place: what each call writes, moves out and counts.
+ghost use Rattle.std.specs.Prelude.{◌≡◌, ℕ, ◌+◌, ◌^◌, ◌<◌, ◌≤◌, List, length, IfSome, nat_eq, true};
+ghost use Rattle.clock2q_handles.specs.Homes.{capacity};
+ghost use Rattle.clock2q_directory.specs.Keys.{is_key_at, with_value};
+ghost use Rattle.clock2q_queues.specs.Rings.{AllBelow};
+ghost use Rattle.clock2q_directory.specs.Indexes.{IsIndex};
+
+use crate::assertions::same;
+use clock2q_count::Count;
+use clock2q_directory::index::index_room;
+use clock2q_directory::keys::Keys;
+use clock2q_handles::Table;
+use std::test::Fail;
+
+/// Writes a value through the reference that is lent.
+fn set_value(keys: &mut Keys<u64, u64>, place: u32, value: u64)
+    requires used { place < length keys.old.entries }
+    ensures set { keys.new ≡ record keys.old { entries = with_value place value keys.old.entries } }
+{
+    *keys.value_mut(place) = value;
+}
+
+/// Two keys, of which one is replaced and one is overwritten.
+#[test]
+fn two_keys(rt: HostRuntime) -> Result<(), Fail> {
+    let mut keys: Keys<u64, u64> = Keys::new(rt.alloc(), 2)?;
+    keys.push(7, 70, 700);
+    keys.write(1, 8, 80, 800);
+    same(&rt, keys.len(), 2);
+    same(&rt, keys.key_equals(0, &70), true);
+    same(&rt, keys.key_equals(1, &70), false);
+    same(&rt, keys.replace(0, 9, 90), (7, 70));
+    same(&rt, keys.hash(0), 9);
+    same(&rt, *keys.key(0), 90);
+    same(&rt, *keys.value(0), 700);
+    set_value(&mut keys, 0, 900);
+    same(&rt, keys.replace_value(0, 901), 900);
+    keys.write(1, 6, 60, 600);
+    same(&rt, keys.key_equals(1, &60), true);
+    same(&rt, *keys.value(1), 600);
+    same(&rt, *keys.value(0), 901);
+    keys.clear();
+    same(&rt, keys.len(), 0);
+    Ok(())
+}
+
+/// Pushes a key, and inserts its place into an index of all keys.
+fn put(keys: &mut Keys<u64, ()>, index: &mut Table<u32>, hash: u64, key: u64)
+    requires room { length keys.old.entries < keys.old.room }
+    requires short { keys.old.room < 2 ^ 24 }
+    requires spacious { keys.old.room ≤ capacity (length index.old.homes) }
+    requires indexed { (places : List ℕ) × IsIndex index.old.homes keys.old.entries places × AllBelow (length keys.old.entries) places × (length places ≡ length keys.old.entries) }
+    ensures room { keys.new.room ≡ keys.old.room }
+    ensures len { length keys.new.entries ≡ length keys.old.entries + 1 }
+    ensures spacious { keys.new.room ≤ capacity (length index.new.homes) }
+    ensures indexed { (places : List ℕ) × IsIndex index.new.homes keys.new.entries places × AllBelow (length keys.new.entries) places × (length places ≡ length keys.new.entries) }
+{
+    let place = keys.len() as u32;
+    keys.push(hash, key, ());
+    let _ = index.insert_within_capacity(hash, place);
+}
+
+/// Looks a key up twice through an index of all keys: a count of its own counts one lookup, and the
+/// keys count the other.
+fn place_of(keys: &mut Keys<u64, ()>, index: &Table<u32>, hash: u64, key: u64) -> Option<u32>
+    requires indexed { (places : List ℕ) × IsIndex index.now.homes keys.old.entries places }
+    ensures has { IfSome result (λ place. is_key_at nat_eq key keys.old.entries place ≡ true) }
+    ensures same { keys.new ≡ record keys.old { questions = keys.new.questions } }
+{
+    let mut asked = Count::new();
+    let found = keys.find_counting_in(index.get(hash), &key, &mut asked);
+    let again = keys.find(index.get(hash), &key);
+    prove!(found == again);
+    found
+}
+
+/// Two of three keys have the same hash, and an index can't distinguish the third's from it.
+#[test]
+fn keys_of_one_hash(rt: HostRuntime) -> Result<(), Fail> {
+    let mut keys: Keys<u64, ()> = Keys::new(rt.alloc(), 3)?;
+    let mut index: Table<u32> = Table::with_capacity(rt.alloc(), index_room(3))?;
+    put(&mut keys, &mut index, 7, 70);
+    put(&mut keys, &mut index, 7, 71);
+    put(&mut keys, &mut index, 7 + 16, 72);
+    same(&rt, place_of(&mut keys, &index, 7, 70), Some(0));
+    same(&rt, place_of(&mut keys, &index, 7, 71), Some(1));
+    same(&rt, place_of(&mut keys, &index, 7, 73), None);
+    same(&rt, place_of(&mut keys, &index, 7 + 16, 72), Some(2));
+    same(&rt, place_of(&mut keys, &index, 8, 71), None);
+    Ok(())
+}
+
+/// A small index is made for three times as many entries, one of medium size for twice as many, and
+/// a large one for no more.
+#[test]
+fn room_of_an_index(rt: HostRuntime) -> Result<(), Fail> {
+    same(&rt, index_room(0), 0);
+    same(&rt, index_room(1), 3);
+    same(&rt, index_room(16_384), 49_152);
+    same(&rt, index_room(16_385), 32_770);
+    same(&rt, index_room(262_144), 524_288);
+    same(&rt, index_room(262_145), 262_145);
+    same(&rt, index_room(16_777_215), 16_777_215);
+    Ok(())
+}

@@ -1,0 +1,353 @@
+//! The program's arguments.
+
+use crate::assertions::{same, same_at};
+use clock2q_cache::MAX_CAPACITY;
+use clock2q_simulation::{
+    Amount, Complaint, Format, Options, Policy, SimulationError, Unit, parse_options,
+};
+use std::alloc::Global;
+use std::process::Abort;
+use std::test::Fail;
+
+/// Returns the words of a line.
+pub(crate) fn words_of(alloc: Global, line: &str) -> Result<Vec<String>, Fail> {
+    let mut words = Vec::new(alloc);
+    for word in line.split_whitespace() {
+        words.push(String::from_str(alloc, word)?)?;
+    }
+    Ok(words)
+}
+
+/// Parses the words of a line.
+pub(crate) fn options_of(alloc: Global, line: &str) -> Result<Options<Global>, Fail> {
+    let words = words_of(alloc, line)?;
+    match parse_options(alloc, &words) {
+        Ok(options) => Ok(options),
+        Err(refusal) => Err(Fail::from(refusal)),
+    }
+}
+
+/// Returns the message for a line of refused arguments, and the status.
+fn complaint_of(alloc: Global, line: &str) -> Result<(String, u8), Fail> {
+    let words = words_of(alloc, line)?;
+    let Err(refusal) = parse_options(alloc, &words) else {
+        return Err(Fail::from("not refused"));
+    };
+    let complaint = Complaint {
+        refusal,
+        trace: None,
+        arguments: &words,
+    };
+    Ok((format!(in alloc; "{complaint}")?, refusal.status()))
+}
+
+/// Checks the message for a line of refused arguments, and the status.
+fn is_refused(
+    rt: &impl Abort,
+    alloc: Global,
+    line: &str,
+    wanted: &str,
+    status: u8,
+) -> Result<(), Fail> {
+    let (text, told) = complaint_of(alloc, line)?;
+    same_at(rt, (text.as_str(), told), (wanted, status), line);
+    Ok(())
+}
+
+const NOT_CAPACITY: &str = "not a capacity (1 to 16777215, 1% to 100% or 10..1000)";
+
+const NOT_RANGE: &str =
+    "not a range (of keys from 1 to 16777215, as 10..1000, or of percents, as 1%..50%)";
+
+/// Words that aren't capacities, and their messages.
+const REFUSED_CAPACITIES: [(&str, &str); 17] = [
+    ("0", NOT_CAPACITY),
+    ("0%", NOT_CAPACITY),
+    ("101%", NOT_CAPACITY),
+    ("5%%", NOT_CAPACITY),
+    ("1.5", NOT_CAPACITY),
+    ("1.5%", NOT_CAPACITY),
+    ("10.x100", NOT_CAPACITY),
+    ("10x.100", NOT_CAPACITY),
+    ("0..9", NOT_CAPACITY),
+    ("1..", NOT_RANGE),
+    ("10..x100", NOT_RANGE),
+    ("1..2..3", NOT_RANGE),
+    ("1...3", NOT_RANGE),
+    ("1..50%", NOT_RANGE),
+    ("1%..101%", NOT_RANGE),
+    ("9..8", "range whose ends are the wrong way round"),
+    ("9%..8%", "range whose ends are the wrong way round"),
+];
+
+#[test]
+fn refused_capacities(rt: HostRuntime) -> Result<(), Fail> {
+    for (word, wanted) in REFUSED_CAPACITIES {
+        let wanted = format!(in rt.alloc(); "clock2q-simulate: {word}: {wanted}")?;
+        is_refused(&rt, rt.alloc(), word, &wanted, 2)?;
+    }
+    for word in ["16777216", "1..16777216", "99999999999999999999999"] {
+        let line = format!(in rt.alloc(); "5 {word}")?;
+        let wanted = format!(in rt.alloc(); "clock2q-simulate: {word}: a capacity above 16777215")?;
+        is_refused(&rt, rt.alloc(), &line, &wanted, 3)?;
+    }
+    Ok(())
+}
+
+/// Arguments with an option that is refused, and the message.
+const REFUSED_OPTIONS: [(&str, &str); 18] = [
+    ("", "no capacity (--help tells what to write)"),
+    ("--csv", "no capacity (--help tells what to write)"),
+    ("--csv --svg 5", "--svg: a second form beside another one"),
+    ("--csv 5 --csv", "--csv: option given twice"),
+    ("--helpless 5", "--helpless: unknown option"),
+    ("-5", "-5: unknown option"),
+    ("5 --policies", "--policies: nothing after it"),
+    ("5 --policy", "--policy: nothing after it"),
+    ("5 --skip", "--skip: nothing after it"),
+    ("5 --skip 1%", "1%: not a number of accesses (as 100000)"),
+    ("5 --skip=1 --skip 2", "--skip: option given twice"),
+    (
+        "5 --policies=new",
+        "--policies=new: unknown policy (--help names them)",
+    ),
+    (
+        "5 --policies lru,new",
+        "lru,new: unknown policy (--help names them)",
+    ),
+    (
+        "5 --policies lru,",
+        "lru,: unknown policy (--help names them)",
+    ),
+    (
+        "5 --policies lru,opt,lru",
+        "lru,opt,lru: policy named twice",
+    ),
+    (
+        "--policies lru --policies opt",
+        "--policies: option given twice",
+    ),
+    (
+        "--policy small=1,window=1 --policy small=1,window=1 5",
+        "--policy: option given twice",
+    ),
+    (
+        "--policy small=1,window=1 --policies lru 5",
+        "--shares: shares of clock2q, which --policies leaves out",
+    ),
+];
+
+#[test]
+fn refused_options(rt: HostRuntime) -> Result<(), Fail> {
+    for (line, wanted) in REFUSED_OPTIONS {
+        let wanted = format!(in rt.alloc(); "clock2q-simulate: {wanted}")?;
+        is_refused(&rt, rt.alloc(), line, &wanted, 2)?;
+    }
+    Ok(())
+}
+
+/// Checks that a word is refused as shares.
+fn are_refused(rt: &impl Abort, alloc: Global, word: &str) -> Result<(), Fail> {
+    let shares = "not shares (small and window, as small=20%,window=50% or small=30,window=10)";
+    let line = format!(in alloc; "5 --policy {word}")?;
+    let wanted = format!(in alloc; "clock2q-simulate: {word}: {shares}")?;
+    is_refused(rt, alloc, &line, &wanted, 2)
+}
+
+#[test]
+fn refused_shares(rt: HostRuntime) -> Result<(), Fail> {
+    for word in [
+        "5",
+        "small=1",
+        "small=1,small=1",
+        "small=1,window=1,",
+        "small=,window=1",
+        "small=1,window=0%",
+        "small=101%,window=1",
+        "window=x,small=1",
+        "--csv",
+    ] {
+        are_refused(&rt, rt.alloc(), word)?;
+    }
+    Ok(())
+}
+
+/// Shares that fit no capacity, and some that don't fit one of those asked for. They are refused
+/// before the trace is read.
+#[test]
+fn shares_that_do_not_fit(rt: HostRuntime) -> Result<(), Fail> {
+    for word in [
+        "small=100%,window=1%",
+        "small=2,window=3",
+        "small=0,window=1",
+        "window=0,small=1",
+        "small=16777215,window=1",
+    ] {
+        let line = format!(in rt.alloc(); "50% --policy {word}")?;
+        let wanted = format!(in rt.alloc();
+            "clock2q-simulate: {word}: shares that fit no capacity"
+        )?;
+        is_refused(&rt, rt.alloc(), &line, &wanted, 2)?;
+    }
+    for (line, capacity) in [
+        ("--policy small=5,window=1 9 4..20", 4),
+        ("1 --policy small=10%,window=50%", 1),
+        ("100 30 --policy small=30,window=100% --csv", 30),
+    ] {
+        let wanted = format!(in rt.alloc();
+            "clock2q-simulate: --shares: shares that don't fit a capacity of {capacity}"
+        )?;
+        is_refused(&rt, rt.alloc(), line, &wanted, 2)?;
+    }
+    let options = options_of(rt.alloc(), "6 10% --policy small=5,window=5")?;
+    same(&rt, options.capacities.len(), 2);
+    Ok(())
+}
+
+/// Names of traces, among them a dash, and one picture of two of them.
+#[test]
+fn traces(rt: HostRuntime) -> Result<(), Fail> {
+    let line = "a.trace 5 --skip=3 - ../10 --shares=small=1,window=1 10 ten";
+    let options = options_of(rt.alloc(), line)?;
+    same(&rt, options.traces.as_slice(), [0, 3, 4, 7].as_slice());
+    same(&rt, options.capacities.len(), 2);
+    same(&rt, (options.skipped, options.shares.is_some()), (3, true));
+    let wanted = "clock2q-simulate: b: a second trace, and a picture shows one";
+    is_refused(&rt, rt.alloc(), "a 5 b --svg", wanted, 2)?;
+    let words = words_of(rt.alloc(), "5 a")?;
+    for (refusal, wanted) in [
+        (SimulationError::Read, "clock2q-simulate: a: read failed"),
+        (
+            SimulationError::Open,
+            "clock2q-simulate: a: can't be opened as a trace (a capacity begins with a digit)",
+        ),
+        (SimulationError::Memory, "clock2q-simulate: no memory"),
+    ] {
+        let complaint = Complaint {
+            refusal,
+            trace: Some(1),
+            arguments: &words,
+        };
+        let text = format!(in rt.alloc(); "{complaint}")?;
+        same(&rt, text.as_str(), wanted);
+    }
+    Ok(())
+}
+
+#[test]
+fn accepted(rt: HostRuntime) -> Result<(), Fail> {
+    let line = "10 --svg 007 --policy window=1,small=20% 10 16777215 --policies opt,clock2q";
+    let options = options_of(rt.alloc(), line)?;
+    same(&rt, options.format, Format::Svg);
+    same(
+        &rt,
+        options.policies.as_slice(),
+        [Policy::Optimal, Policy::Clock2Q].as_slice(),
+    );
+    let shares = options.shares.ok_or("no shares")?;
+    same(&rt, (shares.small(40), shares.window(40)), (8, 1));
+    same(
+        &rt,
+        numbers_of(&options, Unit::Keys)?.as_slice(),
+        [10, 7, 10, MAX_CAPACITY].as_slice(),
+    );
+    Ok(())
+}
+
+/// Returns the numbers of the capacities, which all have this unit.
+fn numbers_of(options: &Options<Global>, unit: Unit) -> Result<Vec<usize>, Fail> {
+    let capacities = options.capacities.as_slice();
+    let mut numbers = Vec::new(*options.capacities.allocator());
+    for Amount { number, unit: of } in capacities.iter().copied() {
+        if of != unit {
+            return Err(Fail::from("another unit"));
+        }
+        numbers.push(number)?;
+    }
+    Ok(numbers)
+}
+
+/// Checks that a line asks for capacities of these numbers.
+fn asks_for(
+    rt: &impl Abort,
+    alloc: Global,
+    line: &str,
+    unit: Unit,
+    wanted: &[usize],
+) -> Result<(), Fail> {
+    let numbers = numbers_of(&options_of(alloc, line)?, unit)?;
+    same_at(rt, numbers.as_slice(), wanted, line);
+    Ok(())
+}
+
+#[test]
+fn ranges(rt: HostRuntime) -> Result<(), Fail> {
+    let cases: [(&str, &[usize]); 7] = [
+        ("1..1", &[1]),
+        ("1..2", &[1, 2]),
+        ("2..5", &[2, 5]),
+        ("3..40", &[3, 5, 10, 20, 40]),
+        (
+            "10..1000000",
+            &[
+                10, 20, 50, 100, 200, 500, 1_000, 2_000, 5_000, 10_000, 20_000, 50_000, 100_000,
+                200_000, 500_000, 1_000_000,
+            ],
+        ),
+        (
+            "4999999..16777215",
+            &[4_999_999, 5_000_000, 10_000_000, MAX_CAPACITY],
+        ),
+        ("7 1..3 2", &[7, 1, 2, 3, 2]),
+    ];
+    for (line, wanted) in cases {
+        asks_for(&rt, rt.alloc(), line, Unit::Keys, wanted)?;
+    }
+    let percents = [3, 5, 10, 20, 30, 1, 100];
+    asks_for(&rt, rt.alloc(), "3%..30% 1% 100%", Unit::Percent, &percents)
+}
+
+/// All keys of a trace.
+const ALL: Amount = Amount {
+    number: 100,
+    unit: Unit::Percent,
+};
+
+#[test]
+fn refused_percentage(rt: HostRuntime) -> Result<(), Fail> {
+    let complaint = Complaint {
+        refusal: SimulationError::Capacity(ALL),
+        trace: None,
+        arguments: &[],
+    };
+    let text = format!(in rt.alloc(); "{complaint}")?;
+    same(
+        &rt,
+        text.as_str(),
+        "clock2q-simulate: 100%: a capacity above 16777215",
+    );
+    Ok(())
+}
+
+/// A percentage is rounded down, but to at least one key.
+#[test]
+fn amounts(rt: HostRuntime) {
+    for (word, keys, wanted) in [
+        ("10%", 250, 25),
+        ("1%", 199, 1),
+        ("1%", 0, 1),
+        ("100%", 65_537, 65_537),
+        ("50%", 5, 2),
+        ("7", 5, 7),
+    ] {
+        let amount = Amount::written(word);
+        same_at(
+            &rt,
+            amount.map(|amount| amount.of(keys)),
+            Some(wanted),
+            word,
+        );
+    }
+    same(&rt, SimulationError::Shares(1).status(), 2);
+    same(&rt, SimulationError::Capacity(ALL).status(), 3);
+}

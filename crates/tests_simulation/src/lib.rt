@@ -1,0 +1,34 @@
+//! Tests of the simulation over its public calls: arguments, numbers of keys, hits and texts worked
+//! out by hand, devices that fail, and memory that is refused.
+#![tactic(auto)]
+
+#[cfg(test)]
+mod arc;
+#[cfg(test)]
+mod arguments;
+#[cfg(test)]
+mod assertions;
+#[cfg(test)]
+mod devices;
+#[cfg(test)]
+mod hits;
+#[cfg(test)]
+mod lirs;
+#[cfg(test)]
+mod lru_2;
+#[cfg(test)]
+mod numbers;
+#[cfg(test)]
+mod policies;
+#[cfg(test)]
+mod queues;
+#[cfg(test)]
+mod refused;
+#[cfg(test)]
+mod s3_fifo;
+#[cfg(test)]
+mod texts;
+#[cfg(test)]
+mod two_q;
+#[cfg(test)]
+mod w_tiny_lfu;

@@ -1,0 +1,265 @@
+//! Tests against lists that are searched and shifted, over traces of several kinds.
+
+use crate::arc::arc_model;
+use crate::assertions::{same, same_at};
+use crate::lirs::lirs_model;
+use crate::lru_2::lru_2_model;
+use crate::queues::{Queue, evict_unmarked, marked, push, trace_of};
+use crate::s3_fifo::s3_fifo_model;
+use crate::two_q::two_q_model;
+use crate::w_tiny_lfu::w_tiny_lfu_model;
+use clock2q_simulation::clock_hits;
+use clock2q_tested_policies::{
+    arc_hits, lirs_hits, lru_2_hits, optimal_hits, s3_fifo_hits, sieve_hits, two_q_hits,
+    w_tiny_lfu_hits,
+};
+use std::alloc::{AllocError, Global};
+use std::collections::VecDeque;
+use std::num::NonZeroUsize;
+use std::process::Abort;
+use std::test::Fail;
+
+const KEYS: u32 = 40;
+
+/// Enough keys for a hundredth of the room to be several keys.
+const MANY_KEYS: u32 = 400;
+
+fn clock_model(alloc: Global, room: usize, trace: &[u32]) -> Result<usize, AllocError> {
+    let mut queue: Queue = VecDeque::new(alloc);
+    let mut hits = 0usize;
+    for key in trace {
+        if marked(&mut queue, *key, 1) {
+            hits = hits.saturating_add(1);
+            continue;
+        }
+        if queue.len() >= room {
+            evict_unmarked(&mut queue)?;
+        }
+        push(&mut queue, *key, 0)?;
+    }
+    Ok(hits)
+}
+
+/// Evicts the key that the hand stops at, and returns the next position of the hand.
+fn sieve_evict(queue: &mut Queue, hand: usize) -> usize {
+    let mut hand = hand;
+    for _ in 0..1000 {
+        match queue.get_mut(hand) {
+            None => hand = 0,
+            Some((_, 0)) => break,
+            Some((_, mark)) => {
+                *mark = 0;
+                hand = hand.saturating_add(1);
+            }
+        }
+    }
+    let _ = queue.remove(hand);
+    if hand < queue.len() { hand } else { 0 }
+}
+
+fn sieve_model(alloc: Global, room: usize, trace: &[u32]) -> Result<usize, AllocError> {
+    let mut queue: Queue = VecDeque::new(alloc);
+    let mut hand = 0;
+    let mut hits = 0usize;
+    for key in trace {
+        if marked(&mut queue, *key, 1) {
+            hits = hits.saturating_add(1);
+            continue;
+        }
+        if queue.len() >= room {
+            hand = sieve_evict(&mut queue, hand);
+        }
+        push(&mut queue, *key, 0)?;
+    }
+    Ok(hits)
+}
+
+/// Returns the index of the resident that the rest of a trace needs last.
+fn farthest(held: &Queue, rest: &[u32]) -> usize {
+    let mut farthest = (0, 0);
+    for (i, (other, _)) in held.iter().enumerate() {
+        let next = rest
+            .iter()
+            .position(|key| *key == *other)
+            .unwrap_or(usize::MAX);
+        if next >= farthest.0 {
+            farthest = (next, i);
+        }
+    }
+    farthest.1
+}
+
+fn optimal_model(alloc: Global, room: usize, trace: &[u32]) -> Result<usize, AllocError> {
+    let mut held: Queue = VecDeque::new(alloc);
+    let mut hits = 0usize;
+    let mut rest = trace;
+    for key in trace {
+        rest = rest.split_first().map_or(rest, |(_, after)| after);
+        if marked(&mut held, *key, 1) {
+            hits = hits.saturating_add(1);
+            continue;
+        }
+        if held.len() >= room {
+            let _ = held.remove(farthest(&held, rest));
+        }
+        push(&mut held, *key, 0)?;
+    }
+    Ok(hits)
+}
+
+/// Checks that each policy's hits are those of its lists, in a cache of some capacity.
+fn hits_are_same(
+    rt: &impl Abort,
+    alloc: Global,
+    capacity: NonZeroUsize,
+    trace: &[u32],
+) -> Result<(), Fail> {
+    let room = capacity.get();
+    let clock = clock_hits(alloc, capacity, trace)?;
+    same_at(rt, clock, clock_model(alloc, room, trace)?, ("CLOCK", room));
+    let sieve = sieve_hits(alloc, capacity, trace, KEYS)?;
+    same_at(rt, sieve, sieve_model(alloc, room, trace)?, ("SIEVE", room));
+    let s3_fifo = s3_fifo_hits(alloc, capacity, trace, KEYS)?;
+    let model = s3_fifo_model(alloc, room, trace)?;
+    same_at(rt, s3_fifo, model, ("S3-FIFO", room));
+    let arc = arc_hits(alloc, capacity, trace, KEYS)?;
+    same_at(rt, arc, arc_model(alloc, room, trace)?, ("ARC", room));
+    let optimal = optimal_is_same(rt, alloc, capacity, trace)?;
+    let most = hits_of_more_are_same(rt, alloc, capacity, trace, KEYS)?;
+    let most = most.max(clock).max(sieve).max(s3_fifo).max(arc);
+    assert!(rt; most <= optimal, "{room}");
+    Ok(())
+}
+
+/// Does the same for the policies that remember more about a key. Returns their most hits.
+fn hits_of_more_are_same(
+    rt: &impl Abort,
+    alloc: Global,
+    capacity: NonZeroUsize,
+    trace: &[u32],
+    keys: u32,
+) -> Result<usize, Fail> {
+    let room = capacity.get();
+    let two_q = two_q_hits(alloc, capacity, trace, keys)?;
+    same_at(rt, two_q, two_q_model(alloc, room, trace)?, ("2Q", room));
+    let lirs = lirs_hits(alloc, capacity, trace, keys)?;
+    same_at(rt, lirs, lirs_model(alloc, room, trace)?, ("LIRS", room));
+    let lru_2 = lru_2_hits(alloc, capacity, trace, keys)?;
+    let model = lru_2_model(alloc, room, trace, keys)?;
+    same_at(rt, lru_2, model, ("LRU-2", room));
+    let w_tiny_lfu = w_tiny_lfu_hits(alloc, capacity, trace, keys)?;
+    let model = w_tiny_lfu_model(alloc, room, trace)?;
+    same_at(rt, w_tiny_lfu, model, ("W-TinyLFU", room));
+    Ok(two_q.max(lirs).max(lru_2).max(w_tiny_lfu))
+}
+
+/// Checks the most hits by a list that is searched for the key that the trace needs last. Returns
+/// them.
+fn optimal_is_same(
+    rt: &impl Abort,
+    alloc: Global,
+    capacity: NonZeroUsize,
+    trace: &[u32],
+) -> Result<usize, Fail> {
+    let room = capacity.get();
+    let optimal = optimal_hits(alloc, capacity, trace, KEYS)?;
+    same_at(
+        rt,
+        optimal,
+        optimal_model(alloc, room, trace)?,
+        ("OPT", room),
+    );
+    Ok(optimal)
+}
+
+/// Does the same in caches of several capacities.
+fn all_hits_are_same(rt: &impl Abort, alloc: Global, trace: &[u32]) -> Result<(), Fail> {
+    for room in [1usize, 2, 3, 7, 10, 20, 22, 30, 41] {
+        let capacity = NonZeroUsize::new(room).ok_or("not zero")?;
+        hits_are_same(rt, alloc, capacity, trace)?;
+    }
+    Ok(())
+}
+
+#[test]
+fn hits_are_those_of_lists(rt: HostRuntime) -> Result<(), Fail> {
+    for seed in 1..4 {
+        all_hits_are_same(&rt, rt.alloc(), &trace_of(rt.alloc(), seed, 600, KEYS)?)?;
+    }
+    Ok(())
+}
+
+/// Checks the most hits in caches of several capacities.
+fn all_optimal_hits_are_same(rt: &impl Abort, alloc: Global, trace: &[u32]) -> Result<(), Fail> {
+    for room in [1usize, 2, 5, 20] {
+        let capacity = NonZeroUsize::new(room).ok_or("not zero")?;
+        optimal_is_same(rt, alloc, capacity, trace)?;
+    }
+    Ok(())
+}
+
+/// A trace of this length has indices whose words are on three levels.
+#[test]
+fn optimal_hits_of_a_long_trace(rt: HostRuntime) -> Result<(), Fail> {
+    all_optimal_hits_are_same(&rt, rt.alloc(), &trace_of(rt.alloc(), 4, 9000, KEYS)?)
+}
+
+/// Worked out by hand: 0 and 1 are accessed again, so a scan of 2, 3, 4 takes the room of keys
+/// accessed once; 2 is accessed again after its eviction.
+#[test]
+fn arc_keeps_what_came_again(rt: HostRuntime) -> Result<(), Fail> {
+    let capacity = NonZeroUsize::new(3).ok_or("not zero")?;
+    let trace = [0, 1, 0, 1, 2, 3, 4, 0, 1, 2, 2];
+    same(&rt, arc_hits(rt.alloc(), capacity, &trace, 5)?, 5);
+    Ok(())
+}
+
+/// A hundredth of the room is up to three keys.
+#[test]
+fn hits_in_large_caches_are_those_of_lists(rt: HostRuntime) -> Result<(), Fail> {
+    let trace = trace_of(rt.alloc(), 5, 4000, MANY_KEYS)?;
+    for room in [99usize, 201, 333] {
+        let capacity = NonZeroUsize::new(room).ok_or("not zero")?;
+        hits_of_more_are_same(&rt, rt.alloc(), capacity, &trace, MANY_KEYS)?;
+    }
+    Ok(())
+}
+
+/// Worked out by hand: 0 and 2 are accessed again after they left the queue, and are hit then;
+/// another hit of 2 in the queue doesn't keep it there.
+#[test]
+fn two_q_keeps_what_came_after_it_left(rt: HostRuntime) -> Result<(), Fail> {
+    let capacity = NonZeroUsize::new(4).ok_or("not zero")?;
+    let trace = [0, 1, 2, 3, 4, 0, 0, 2, 5, 2, 2];
+    same(&rt, two_q_hits(rt.alloc(), capacity, &trace, 6)?, 3);
+    Ok(())
+}
+
+/// Worked out by hand: 2 and 0 are accessed again while they are in the stack, and 3 has left the
+/// queue for them; 1 and 2 stay low.
+#[test]
+fn lirs_keeps_what_came_again_soon(rt: HostRuntime) -> Result<(), Fail> {
+    let capacity = NonZeroUsize::new(3).ok_or("not zero")?;
+    let trace = [0, 1, 2, 3, 2, 0, 1, 3, 0, 2];
+    same(&rt, lirs_hits(rt.alloc(), capacity, &trace, 4)?, 3);
+    Ok(())
+}
+
+/// Worked out by hand: 0 stays while 1 and 2 were accessed once; then the one whose last access but
+/// one is older is evicted.
+#[test]
+fn lru_2_keeps_what_came_twice(rt: HostRuntime) -> Result<(), Fail> {
+    let capacity = NonZeroUsize::new(2).ok_or("not zero")?;
+    let trace = [0, 0, 1, 2, 0, 1, 2, 1, 0];
+    same(&rt, lru_2_hits(rt.alloc(), capacity, &trace, 3)?, 3);
+    Ok(())
+}
+
+/// Worked out by hand: 2 was accessed once and doesn't replace 0, which was accessed twice.
+#[test]
+fn w_tiny_lfu_keeps_what_came_more_often(rt: HostRuntime) -> Result<(), Fail> {
+    let capacity = NonZeroUsize::new(3).ok_or("not zero")?;
+    let trace = [0, 0, 1, 2, 3, 0, 1];
+    same(&rt, w_tiny_lfu_hits(rt.alloc(), capacity, &trace, 4)?, 3);
+    Ok(())
+}

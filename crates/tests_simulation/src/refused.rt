@@ -1,0 +1,74 @@
+//! Requests for memory refused in turn, while the arguments are fetched and from them to the text.
+
+use crate::arguments::words_of;
+use crate::assertions::same;
+use clock2q_cache::DefaultHashBuilder;
+use clock2q_ports::Device;
+use clock2q_simulation::{Progress, SimulationError, parse_options, simulate};
+use std::alloc::{Allocator, Global};
+use std::env;
+use std::test::Fail;
+use testing::{Refusing, Tried, try_in_turn};
+
+const TRACE: &[u8] = b"a\nb\na\nc\nb\nd\na\nb\n";
+
+/// Returns the number of bytes written, or the refusal if it came before any byte.
+fn written<A: Allocator + Copy>(
+    alloc: A,
+    out: Global,
+    words: &[String],
+) -> Result<usize, SimulationError> {
+    let options = parse_options(alloc, words)?;
+    let mut writer = Device::new(Vec::new(out));
+    let mut progress = Progress::new(Vec::new(out), false);
+    let outcome = simulate(
+        alloc,
+        &options,
+        DefaultHashBuilder::new(),
+        &mut Device::new(TRACE),
+        &mut writer,
+        &mut progress,
+    );
+    let bytes = writer.into_inner().len();
+    match outcome {
+        Err(refusal) if bytes == 0 => Err(refusal),
+        _ => Ok(bytes),
+    }
+}
+
+/// Returns true if this program has arguments, including its name.
+fn has_arguments<A: Allocator>(rt: &HostRuntime, alloc: &A) -> Result<bool, SimulationError> {
+    match env::args(&(rt, alloc)) {
+        Ok(arguments) => Ok(arguments.len() > 0),
+        Err(error) => Err(SimulationError::of_arguments(&error)),
+    }
+}
+
+/// Each request made to fetch the arguments, as `main` fetches them.
+#[test]
+fn arguments_fetched(rt: HostRuntime) -> Result<(), Fail> {
+    let alloc = Refusing::new(rt.alloc());
+    let tried = try_in_turn(&alloc, true, SimulationError::Memory, || {
+        has_arguments(&rt, &alloc)
+    });
+    assert!(rt; matches!(tried, Tried::Done(_)), "{tried:?}");
+    Ok(())
+}
+
+/// Each form with all policies, over capacities of each kind.
+#[test]
+fn each_request(rt: HostRuntime) -> Result<(), Fail> {
+    let asked = "2 2..3 50%..100% --policies clock2q,sieve,s3fifo,lru,opt,fifo,clock,arc \
+         --policy small=1,window=100%";
+    for form in ["", "--csv", "--svg", "--json"] {
+        let line = format!(in rt.alloc(); "{form} {asked}")?;
+        let words = words_of(rt.alloc(), &line)?;
+        let alloc = Refusing::new(rt.alloc());
+        let tried = try_in_turn(&alloc, true, SimulationError::Memory, || {
+            Ok(written(&alloc, rt.alloc(), &words)? > 0)
+        });
+        assert!(rt; matches!(tried, Tried::Done(_)), "{line}: {tried:?}");
+    }
+    same(&rt, SimulationError::Memory.status(), 3);
+    Ok(())
+}

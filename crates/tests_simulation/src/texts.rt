@@ -1,0 +1,237 @@
+//! The tables and the CSV texts, from arguments and a trace.
+
+use crate::arguments::options_of;
+use crate::assertions::{same, same_at};
+use clock2q_cache::DefaultHashBuilder;
+use clock2q_ports::Device;
+use clock2q_simulation::{Progress, replay_source, simulate, write_outcomes};
+use std::alloc::Global;
+use std::hash::{BuildHasher, RandomState};
+use std::test::Fail;
+use testing::Spread;
+
+/// Returns what a simulation writes.
+fn written(alloc: Global, line: &str, input: &[u8]) -> Result<Vec<u8>, Fail> {
+    written_with(alloc, line, input, DefaultHashBuilder::new())
+}
+
+/// Returns what a simulation with a hasher writes.
+fn written_with<S: BuildHasher + Drop>(
+    alloc: Global,
+    line: &str,
+    input: &[u8],
+    hasher: S,
+) -> Result<Vec<u8>, Fail> {
+    let options = options_of(alloc, line)?;
+    let mut output = Device::new(Vec::new(alloc));
+    let mut progress = Progress::new(Vec::new(alloc), true);
+    simulate(
+        alloc,
+        &options,
+        hasher,
+        &mut Device::new(input),
+        &mut output,
+        &mut progress,
+    )?;
+    Ok(output.into_inner())
+}
+
+#[test]
+fn texts(rt: HostRuntime) -> Result<(), Fail> {
+    let table = "0 accesses, 0 keys, 0 asked for once, hits in percent, the best of a row with *
+capacity Clock2Q+    SIEVE  S3-FIFO      LRU      OPT
+       1     0.00     0.00     0.00     0.00     0.00
+";
+    same(
+        &rt,
+        written(rt.alloc(), "1", b"")?.as_slice(),
+        table.as_bytes(),
+    );
+    let lines = "\
+capacity,accesses,clock2q_hits,clock2q_ratio,lru_hits,lru_ratio,fifo_hits,fifo_ratio
+3,8,3,0.3750,3,0.3750,2,0.2500
+1,8,0,0.0000,0,0.0000,0,0.0000
+";
+    same(
+        &rt,
+        written(
+            rt.alloc(),
+            "3 1 --csv --policies clock2q,lru,fifo",
+            b"a\nb\na\nc\nb\nd\na\nb\n",
+        )?
+        .as_slice(),
+        lines.as_bytes(),
+    );
+    Ok(())
+}
+
+/// Two thirds and one third, whose decimals don't end.
+#[test]
+fn rounded_ratios(rt: HostRuntime) -> Result<(), Fail> {
+    let table = "3 accesses, 1 key, 0 asked for once, hits in percent, the best of a row with *
+capacity      LRU
+       1    66.67
+";
+    let written_table = written(rt.alloc(), "1 --policies lru", b"a\na\na\n")?;
+    same(&rt, written_table.as_slice(), table.as_bytes());
+    let lines = "capacity,accesses,lru_hits,lru_ratio\n1,3,1,0.3333\n";
+    let written_lines = written(rt.alloc(), "1 --csv --policies lru", b"a\na\nb\n")?;
+    same(&rt, written_lines.as_slice(), lines.as_bytes());
+    let lines = "capacity,accesses,lru_hits,lru_ratio\n1,3,2,0.6667\n";
+    let written_lines = written(rt.alloc(), "1 --csv --policies lru", b"a\na\na\n")?;
+    same(&rt, written_lines.as_slice(), lines.as_bytes());
+    Ok(())
+}
+
+/// More than ten capacities, one of them three times, in the order of the arguments.
+#[test]
+fn many_capacities(rt: HostRuntime) -> Result<(), Fail> {
+    let lines = "\
+capacity,accesses,lru_hits,lru_ratio
+2,4,1,0.2500
+1,4,0,0.0000
+2,4,1,0.2500
+5,4,1,0.2500
+10,4,1,0.2500
+20,4,1,0.2500
+50,4,1,0.2500
+100,4,1,0.2500
+200,4,1,0.2500
+500,4,1,0.2500
+700,4,1,0.2500
+2,4,1,0.2500
+1,4,0,0.0000
+3,4,1,0.2500
+";
+    let line = "2 1..700 67% --csv 33% 100% --policies lru";
+    same(
+        &rt,
+        written(rt.alloc(), line, b"a\nb\na\nc\n")?.as_slice(),
+        lines.as_bytes(),
+    );
+    Ok(())
+}
+
+/// The capacities of a range, and then those from 1 to 60, some of them twice.
+#[test]
+fn more_than_fifty_capacities(rt: HostRuntime) -> Result<(), Fail> {
+    let mut line = String::from_str(rt.alloc(), "--csv --policies fifo 1..16777215")?;
+    let mut lines = String::from_str(rt.alloc(), "capacity,accesses,fifo_hits,fifo_ratio\n")?;
+    for capacity in ROUND {
+        lines.push_str(&row_of_two(rt.alloc(), capacity)?)?;
+    }
+    for capacity in 1..=60 {
+        line.push_str(&format!(in rt.alloc(); " {capacity}")?)?;
+        lines.push_str(&row_of_two(rt.alloc(), capacity)?)?;
+    }
+    let text = written(rt.alloc(), &line, b"a\nb\na\n")?;
+    same(&rt, text.as_slice(), lines.as_bytes());
+    Ok(())
+}
+
+/// The numbers from 1 to the largest capacity that a range has.
+const ROUND: [usize; 23] = [
+    1, 2, 5, 10, 20, 50, 100, 200, 500, 1_000, 2_000, 5_000, 10_000, 20_000, 50_000, 100_000,
+    200_000, 500_000, 1_000_000, 2_000_000, 5_000_000, 10_000_000, 16_777_215,
+];
+
+/// Returns the row of a trace of two keys, one of them twice.
+fn row_of_two(alloc: Global, capacity: usize) -> Result<String, Fail> {
+    let hits = if capacity > 1 { "1,0.3333" } else { "0,0.0000" };
+    Ok(format!(in alloc; "{capacity},3,{hits}\n")?)
+}
+
+/// All policies at the largest capacity.
+#[test]
+fn largest_capacity(rt: HostRuntime) -> Result<(), Fail> {
+    let line = "16777215 --policies clock2q,sieve,s3fifo,lru,opt,fifo,clock,arc";
+    let table = "4 accesses, 2 keys, 0 asked for once, hits in percent, the best of a row with *
+capacity Clock2Q+    SIEVE  S3-FIFO      LRU      OPT     FIFO    CLOCK      ARC
+16777215    50.00    50.00    50.00    50.00    50.00    50.00    50.00    50.00
+";
+    let text = written(rt.alloc(), line, b"a\nb\na\nb\n")?;
+    same(&rt, text.as_slice(), table.as_bytes());
+    Ok(())
+}
+
+/// With random numbers, and with hashers that spread the keys badly.
+#[test]
+fn other_hashers(rt: HostRuntime) -> Result<(), Fail> {
+    let line = "2 100%";
+    let trace = b"a\nb\na\nc\n\nb\nd\na\nb\n";
+    let wanted = written(rt.alloc(), line, trace)?;
+    let text = written_with(rt.alloc(), line, trace, RandomState::new(&rt)?)?;
+    same(&rt, text.as_slice(), wanted.as_slice());
+    for (times, more) in [(0, 0), (0, 0xAB00_0000_0000_000F), (0, u64::MAX), (1, 0)] {
+        let spread = Spread { times, more };
+        let text = written_with(rt.alloc(), line, trace, spread)?;
+        same_at(&rt, text.as_slice(), wanted.as_slice(), spread);
+    }
+    Ok(())
+}
+
+const TRACE: &[u8] = b"a\nb\na\nc\nb\nd\na\nb\n";
+
+/// The best of a row is marked, except for the optimum, but not if all are equal.
+#[test]
+fn best_of_a_row(rt: HostRuntime) -> Result<(), Fail> {
+    let table = "8 accesses, 4 keys, 2 asked for once, hits in percent, the best of a row with *
+capacity Clock2Q+    SIEVE  S3-FIFO      LRU      OPT
+       1     0.00     0.00     0.00     0.00     0.00
+       2   *37.50    12.50    25.00    12.50    37.50
+       3    37.50   *50.00    25.00    37.50    50.00
+";
+    let text = written(rt.alloc(), "1..3", TRACE)?;
+    same(&rt, text.as_slice(), table.as_bytes());
+    Ok(())
+}
+
+#[test]
+fn json(rt: HostRuntime) -> Result<(), Fail> {
+    let wanted = r#"{"traces": [
+  {"trace": "-", "accesses": 8, "keys": 4, "keys_once": 2, "skipped": 3, "rows": [
+    {"capacity": 2, "policies": {"lru": {"hits": 0, "ratio": 0.0000}, "opt": {"hits": 2, "ratio": 0.4000}}},
+    {"capacity": 3, "policies": {"lru": {"hits": 2, "ratio": 0.4000}, "opt": {"hits": 3, "ratio": 0.6000}}}
+  ]}
+]}
+"#;
+    let text = written(rt.alloc(), "2 3 --json --policies=lru,opt --skip 3", TRACE)?;
+    same(&rt, text.as_slice(), wanted.as_bytes());
+    Ok(())
+}
+
+/// Returns what is written for two traces.
+fn of_two(alloc: Global, line: &str) -> Result<Vec<u8>, Fail> {
+    let options = options_of(alloc, line)?;
+    let mut progress = Progress::new(Vec::new(alloc), false);
+    let mut outcomes = Vec::new(alloc);
+    for (name, trace) in [("a \"b\"", TRACE), ("c", b"x".as_slice())] {
+        let hasher = DefaultHashBuilder::new();
+        let mut reader = Device::new(trace);
+        let outcome = replay_source(alloc, &options, name, hasher, &mut reader, &mut progress)?;
+        outcomes.push(outcome)?;
+    }
+    let mut output = Device::new(Vec::new(alloc));
+    write_outcomes(alloc, &options, &outcomes, &mut output)?;
+    Ok(output.into_inner())
+}
+
+#[test]
+fn two_traces(rt: HostRuntime) -> Result<(), Fail> {
+    let table = "a \"b\": 8 accesses, 4 keys, 2 asked for once
+c: 1 accesses, 1 key, 1 asked for once
+hits in percent, the best of a row with *
+capacity     FIFO      LRU  trace
+       3    25.00   *37.50  a \"b\"
+       3     0.00     0.00  c
+";
+    let text = of_two(rt.alloc(), "3 --policies fifo,lru")?;
+    same(&rt, text.as_slice(), table.as_bytes());
+    let lines = "capacity,accesses,lru_hits,lru_ratio,trace
+3,8,3,0.3750,\"a \"\"b\"\"\"
+3,1,0,0.0000,\"c\"
+";
+    let text = of_two(rt.alloc(), "3 --policies=lru --csv")?;
+    same(&rt, text.as_slice(), lines.as_bytes());
+    Ok(())
+}
