@@ -45,7 +45,7 @@ class Edit:
                 old = line[len("old: ") :]
             elif line.startswith("new:"):
                 if not file or old is None:
-                    raise BadEdit(f"{self}: a 'new:' stands before its 'file:' or 'old:'")
+                    raise BadEdit(f"{self}: a 'new:' is before its 'file:' or 'old:'")
                 self.pairs.append((file, old, re.sub(r"\A ", "", line[len("new:") :])))
                 old = None
         if not self.pairs:
@@ -62,7 +62,7 @@ class Edit:
                 raise BadEdit(f"{self}: there is no file {file}")
             text = texts.get(file) or (crate / file).read_text(encoding="utf-8")
             if text.count(old) != 1:
-                raise BadEdit(f"{self}: {old!r} stands {text.count(old)} times in {file}, and not once")
+                raise BadEdit(f"{self}: {old!r} is {text.count(old)} times in {file}, and not once")
             texts[file] = text.replace(old, new)
         return texts
 
@@ -157,7 +157,7 @@ def field_at_end(text):
 
 
 def clause_of(goal, before):
-    """Returns the clause that a goal belongs to. An answer may be a record of several: then the field in which the error stands tells it."""
+    """Returns the clause that a goal belongs to. An answer may be a record of several: then the field in which the error is names it."""
     if found := re.search(r"clause-(\w+?)(?:-\d+)?$", goal):
         return found[1]
     if goal.startswith("invariant_of"):
@@ -169,7 +169,7 @@ def clause_of(goal, before):
 
 def refusing(log, crate):
     """Returns the functions and clauses at which the check refused the crate, and those at which a name is gone, as two lists."""
-    told, gone, records = [], [], {}
+    refused_at, gone, records = [], [], {}
     for line in log:
         if found := re.match(r"note: `([\w-]+)` of proofs/(\S+)/\w+\.antt must prove: record (.*)", line):
             records[found[2], found[1]] = re.findall(r"[{;,]\s*(\w+) :", found[3])
@@ -180,13 +180,13 @@ def refusing(log, crate):
             number = int(found[2])
             before = "\n".join(["", *lines[: number - 1], lines[number - 1][: int(found[3])]])
             at = found[1].replace("/", "::"), clause_of(found[4], before)
-            (gone if GONE.search(line) else told).append(at)
+            (gone if GONE.search(line) else refused_at).append(at)
         elif found := re.search(r"expected answers in \./proofs/(\S+)/\w+\.antt; .*did not prove (.*)", line):
             for goal in re.findall(r"`([\w-]+)`", found[2]):
-                # one goal may have several clauses, which a note tells
+                # one goal may have several clauses, which a note lists
                 clauses = records.get((found[1], goal)) or [clause_of(goal, "")]
-                told += [(found[1].replace("/", "::"), it) for it in clauses]
-    return list(dict.fromkeys(told)), list(dict.fromkeys(gone))
+                refused_at += [(found[1].replace("/", "::"), it) for it in clauses]
+    return list(dict.fromkeys(refused_at)), list(dict.fromkeys(gone))
 
 
 def is_of(named, path):
@@ -216,11 +216,11 @@ def judge(edit, log, crate):
     changed = {file for file, _, _ in edit.pairs}
     if unread := [it for it in log if it.startswith("src/") and "error[" in it or is_unread(it, changed)]:
         return False, f"its text can't be read, so no contract was tried: {unread[0][:300]}"
-    told, gone = refusing(log, crate)
-    where = "; ".join(f"{function}, {clause}" for function, clause in told)
-    if not told and gone:
+    refused_at, gone = refusing(log, crate)
+    where = "; ".join(f"{function}, {clause}" for function, clause in refused_at)
+    if not refused_at and gone:
         return False, "it is refused only where a proof names what the edit took away"
-    if any(is_of(edit.function, function) and clause in (edit.clause, ALL) for function, clause in told):
+    if any(is_of(edit.function, function) and clause in (edit.clause, ALL) for function, clause in refused_at):
         return True, f"refused at {where}"
     return False, f"{edit.function}, {edit.clause} isn't where it is refused: {where or 'nowhere that could be read'}"
 
@@ -233,9 +233,9 @@ def try_on(copy, edit, checks, *flags):
 
 
 def explain(log):
-    """Returns the lines of a check that tell what wasn't proved."""
-    told = [it for it in log if re.match(r"(fn|impl|struct|enum) .*: |.*error[\[:]", it)]
-    return [it[:300] for it in told if not it.endswith(": proved")]
+    """Returns the lines of a check that say what wasn't proved."""
+    refused_at = [it for it in log if re.match(r"(fn|impl|struct|enum) .*: |.*error[\[:]", it)]
+    return [it[:300] for it in refused_at if not it.endswith(": proved")]
 
 
 def stop(why):
