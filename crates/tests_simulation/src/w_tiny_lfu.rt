@@ -62,6 +62,12 @@ struct Segments {
 }
 
 impl Segments {
+    /// Returns the key that leaves next: the oldest on probation, or the oldest of the protected ones.
+    fn victim(&self) -> Option<u32> {
+        let (key, _) = self.probation.front().or(self.protected.front())?;
+        Some(*key)
+    }
+
     /// Moves a key out of the window: it is admitted if there is room, or if it was accessed more
     /// often than the key that would be evicted for it.
     fn slide(&mut self, main: usize) -> Result<(), AllocError> {
@@ -71,16 +77,11 @@ impl Segments {
         if self.probation.len().saturating_add(self.protected.len()) < main {
             return push(&mut self.probation, candidate, 0);
         }
-        let segment = if self.probation.is_empty() {
-            &mut self.protected
-        } else {
-            &mut self.probation
-        };
-        let Some((victim, _)) = segment.front().copied() else {
+        let Some(victim) = self.victim() else {
             return Ok(());
         };
         if self.counters.count(candidate) > self.counters.count(victim) {
-            let _ = segment.pop_front();
+            let _ = taken(&mut self.probation, victim) || taken(&mut self.protected, victim);
             push(&mut self.probation, candidate, 0)?;
         }
         Ok(())
