@@ -15,19 +15,18 @@
  * All memory is taken when a cache is made: no later call takes any, and none fails.
  *
  * Keys are hashed with a fixed seed, so whoever chooses them can choose ones that collide, which
- * makes calls slow. Where strangers do, pass keys that a secret has scrambled.
+ * makes calls slow. If strangers do, scramble the keys with a secret.
  *
  * What you owe, since no proof reaches across this border:
  * - A `clock2q` begins as CLOCK2Q_NONE. While there is a cache in it, it isn't copied, read or
  *   written, but by the calls below; it may be moved, if CLOCK2Q_NONE is left in its place.
- * - A call that says "needs a cache" is made only where there is one. Without NDEBUG that is
- *   asserted here.
+ * - A call that says "needs a cache" is made only if there is one. Without NDEBUG that is asserted
+ *   here.
  * - No pointer that is passed is null. What is written through one may have held anything before.
- * - One thread at a time uses a cache: no two calls on it overlap, not even two that only ask. It may
- *   be handed to another thread, by a lock, a start or a join: nothing in a cache is bound to the
- *   thread that made it. Under -fsanitize=thread calls that may overlap are reported.
- * - No call is made from a signal handler, or in a child of fork() that other threads were left
- *   behind by. */
+ * - One thread at a time uses a cache: no two calls on it overlap, not even two that only read. It
+ *   may go to another thread by a lock, a start or a join: nothing in a cache is bound to the thread
+ *   that made it. Under -fsanitize=thread calls that may overlap are reported.
+ * - No call is made from a signal handler, or in a child of fork() whose parent had other threads. */
 #ifndef CLOCK2Q_H
 #define CLOCK2Q_H
 
@@ -81,9 +80,9 @@ typedef struct {
     void (*give_back)(void *block);
 } clock2q_memory;
 
-/* Has the caches that this thread makes from now on take their memory there, or from malloc again
- * where `memory` is null. Returns where they took it before. What a cache took goes back where it
- * came from, whoever frees it. */
+/* Has the caches that this thread makes from now on take their memory there, or from malloc again if
+ * `memory` is null. Returns where they took it before. What a cache took goes back where it came
+ * from, whoever frees it. */
 clock2q_memory clock2q_use_memory(const clock2q_memory *memory);
 
 /* Returns the version of the library, as CLOCK2Q_VERSION is that of the header. */

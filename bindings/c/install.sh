@@ -35,7 +35,7 @@ absolute() {
     esac
 }
 
-# Tells whether the compiler builds a program that includes a header; the words after it go to the compiler.
+# Says whether the compiler builds a program that includes a header; the words after it go to the compiler.
 builds() {
     printf '#include <%s>\nint main(void) { return 0; }\n' "$1" >"$work/none.c"
     shift
@@ -56,7 +56,7 @@ check_tools() {
     [ -z "$missing" ] || give_up "what is missing:$missing"
 }
 
-# Tells whether a folder can be made and written to.
+# Says whether a folder can be made and written to.
 can_write() {
     folder=$1
     until [ -e "$folder" ]; do folder=$(dirname "$folder"); done

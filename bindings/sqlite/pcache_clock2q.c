@@ -4,12 +4,12 @@
  * its key, and a list of the idle pages, those that SQLite has not pinned, the longest idle last.
  *
  * The library knows no pins. A pinned page that loses its slot takes another one, so that the next
- * page is chosen in its place; where that chooses pinned pages alone, the page that was idle for
+ * page is chosen in its place; if the library chooses pinned pages alone, the page that was idle for
  * the longest time leaves. A page without a slot takes one when it's unpinned. So a cache has more
  * pages than cache_size only while all of them are pinned.
  *
  * A hit sets a bit in the library, or none, and until the next key enters no bit is cleared and no
- * page grows older. So of the hits of a page between two entries the library is told the first.
+ * page grows older. So the library gets only the first of a page's hits between two entries.
  *
  * The index begins small, and is made anew at twice the size as the cache fills. All memory is of
  * SQLite's allocator. What a cache can do without is asked for as benign: the page of a fetch that
@@ -64,10 +64,10 @@ struct cache {
     unsigned unasked; /* questions for the soft limit that are answered without SQLite */
 };
 
-/* SQLite's own, where the program that this is compiled into offers them, as SQLite's test program
- * does: the first two tell a test's allocator that what it refuses between them is no error, the
- * third has no mutex in single-thread mode, and the fourth says if the heap is at its soft limit.
- * Elsewhere they are missing, and nobody asks. */
+/* SQLite's own, if the program that this is compiled into offers them, as SQLite's test program does.
+ * Between calls of the first two a test's allocator may refuse without an error, the third has no
+ * mutex in single-thread mode, and the fourth says if the heap is at its soft limit. Elsewhere they
+ * are missing, and not called. */
 __attribute__((weak)) void sqlite3BeginBenignMalloc(void);
 __attribute__((weak)) void sqlite3EndBenignMalloc(void);
 __attribute__((weak)) sqlite3_mutex *sqlite3MutexAlloc(int kind);
@@ -81,14 +81,14 @@ static void end_benign(void) {
     if (sqlite3EndBenignMalloc != NULL) sqlite3EndBenignMalloc();
 }
 
-/* These are missing where SQLite was built for one thread alone. */
+/* These are missing if SQLite was built for one thread alone. */
 __attribute__((weak)) sqlite3_mutex *sqlite3_mutex_alloc(int kind);
 __attribute__((weak)) void sqlite3_mutex_enter(sqlite3_mutex *which);
 __attribute__((weak)) void sqlite3_mutex_leave(sqlite3_mutex *which);
 
 /* The bytes that all caches hold of SQLite's allocator, and the most that they held. The mutex is the
  * one under which SQLite counts those of its own cache. It isn't held while the allocator is called. */
-static sqlite3_mutex *mutex; /* null where there is none */
+static sqlite3_mutex *mutex; /* null if there is none */
 static long long held, most_held;
 
 static void lock(void) {
@@ -200,7 +200,7 @@ static void unlink_page(struct cache *cache, struct page *page) {
     *link = page->next;
 }
 
-/* Makes the table twice as long where there are more pages than buckets. Without memory the chains
+/* Makes the table twice as long if there are more pages than buckets. Without memory the chains
  * grow instead. */
 static void fit_table(struct cache *cache) {
     size_t old_count = cache->bucket_mask + 1;
@@ -235,7 +235,7 @@ static struct page *give_slot(struct cache *cache, struct page *page) {
     return loser;
 }
 
-/* Tells the library of a hit of a page that has a slot. */
+/* Records a hit of a page that has a slot. */
 APART static void tell_hit(struct cache *cache, struct page *page) {
     clock2q_at(&cache->index, page->slot, page->key);
     page->hit_at = cache->entries;

@@ -10,7 +10,7 @@ extern "C" {
  * SQLite. Returns SQLITE_OK, or SQLITE_MISUSE if SQLite is in use already. */
 int clock2q_sqlite(void);
 
-/* Tells the bytes that the page caches of all connections hold, and the most that they held. Where
+/* Reports the bytes that the page caches of all connections hold, and the most that they held. If
  * `resets` isn't 0, the most begins anew with what they hold now. It is what sqlite3_status64
  * reports of SQLite's own cache as SQLITE_STATUS_PAGECACHE_OVERFLOW, but counts tables and indexes too.
  * Any thread may call it while SQLite is in use. Neither pointer is null. */

@@ -1,6 +1,5 @@
 /* refused FILE: a session of SQLite's with each request for memory refused in turn, once alone and
- * once with all that follow. Where a request that is benign is refused, the session's answers are the
- * usual ones. Else the session may fail for want of memory, and the file is whole. All memory is given
+ * once with all that follow. If a benign request is refused, the session's answers are the usual ones. Else the session may fail for want of memory, and the file is whole. All memory is given
  * back each time. */
 #include "pcache_clock2q.h"
 

@@ -1,5 +1,5 @@
-/* victims: which pages leave. A model has the library give out slots as the module does, but tells it
- * of every hit, also of those that the module doesn't tell. Pages are pinned one at a time, hit,
+/* victims: which pages leave. A model has the library give out slots as the module does, but reports
+ * every hit to it, also those that the module leaves out. Pages are pinned one at a time, hit,
  * dropped, given other keys and all freed at random, and each time the module has a page if and only
  * if the model has its key, also while the index grows. */
 #include "pcache_clock2q.h"

@@ -1,4 +1,4 @@
-/* Calls that need a cache where there is none, and one that makes a cache where there is one: the
+/* Calls that need a cache when there is none, and one that makes a cache when there is one: the
  * header's assertions stop each, in a process of its own. */
 #define _POSIX_C_SOURCE 200809L
 #include "clock2q.h"

@@ -17,7 +17,7 @@ pub const CLOCK2Q_BAD_POLICY: u32 = 3;
 /// The largest capacity.
 pub const CLOCK2Q_MAX_CAPACITY: usize = 16_777_215;
 
-/// A cache, or none where the pointer is null.
+/// A cache, or none if the pointer is null.
 #[repr(C)]
 pub struct clock2q {
     pub at: *mut c_void,
