@@ -8,11 +8,11 @@ ghost use Rattle.clock2q_simulation.specs.SimulationError.{IsOfNoDevice};
 use crate::clock::{clock_hits, clock2q_hits};
 use crate::error::SimulationError;
 use crate::shares::ChosenShares;
-use clock2q_policies::{PlainPolicy, plain_hits};
-use clock2q_tested_policies::{
+use clock2q_policies::tested::{
     arc_hits, lirs_hits, lru_2_hits, optimal_hits, s3_fifo_hits, sieve_hits, two_q_hits,
     w_tiny_lfu_hits,
 };
+use clock2q_policies::{PlainPolicy, plain_hits};
 use std::alloc::Allocator;
 use std::num::NonZeroUsize;
 
@@ -134,8 +134,8 @@ impl Policy {
 ///
 /// # Cost
 ///
-/// That of the policy's function in `clock2q_policies` or `clock2q_tested_policies`, or of
-/// [`clock2q_hits`]. The memory is freed before the call returns.
+/// That of the policy's function in `clock2q_policies`, or of [`clock2q_hits`]. The memory is freed
+/// before the call returns.
 pub fn policy_hits<A: Allocator + Copy>(
     alloc: A,
     policy: Policy,

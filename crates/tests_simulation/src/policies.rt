@@ -8,11 +8,11 @@ use crate::queues::{Queue, evict_unmarked, marked, push, trace_of};
 use crate::s3_fifo::s3_fifo_model;
 use crate::two_q::two_q_model;
 use crate::w_tiny_lfu::w_tiny_lfu_model;
-use clock2q_simulation::clock_hits;
-use clock2q_tested_policies::{
+use clock2q_policies::tested::{
     arc_hits, lirs_hits, lru_2_hits, optimal_hits, s3_fifo_hits, sieve_hits, two_q_hits,
     w_tiny_lfu_hits,
 };
+use clock2q_simulation::clock_hits;
 use std::alloc::{AllocError, Global};
 use std::collections::VecDeque;
 use std::num::NonZeroUsize;

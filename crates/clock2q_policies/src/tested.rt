@@ -1,8 +1,5 @@
-//! Policies of caches, replayed over keys that are numbers: the number of accesses of a trace that
-//! hit.
-//!
-//! Each call is proved to be safe and to return. The hits are tested, against lists.
-#![tactic(auto)]
+//! Policies whose hits are tested, against lists, and not proved. Each call is proved to be safe and
+//! to return.
 
 mod arc;
 mod index_set;

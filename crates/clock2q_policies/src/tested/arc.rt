@@ -1,7 +1,7 @@
 //! ARC.
 
-use crate::lists::Lists;
-use crate::replayed::Replayed;
+use crate::tested::lists::Lists;
+use crate::tested::replayed::Replayed;
 use std::alloc::{AllocError, Allocator};
 use std::num::nearest_usize_to_f64;
 

@@ -1,8 +1,8 @@
 //! SIEVE.
 
-use crate::lists::Lists;
-use crate::marks::Marks;
-use crate::replayed::Replayed;
+use crate::tested::lists::Lists;
+use crate::tested::marks::Marks;
+use crate::tested::replayed::Replayed;
 use std::alloc::{AllocError, Allocator};
 
 const RESIDENT: u8 = 0;

@@ -1,11 +1,11 @@
 //! Policies that go through a trace key by key.
 
-use crate::arc::Arc;
-use crate::lirs::Lirs;
-use crate::s3_fifo::S3Fifo;
-use crate::sieve::Sieve;
-use crate::two_q::TwoQ;
-use crate::w_tiny_lfu::WTinyLfu;
+use crate::tested::arc::Arc;
+use crate::tested::lirs::Lirs;
+use crate::tested::s3_fifo::S3Fifo;
+use crate::tested::sieve::Sieve;
+use crate::tested::two_q::TwoQ;
+use crate::tested::w_tiny_lfu::WTinyLfu;
 use std::alloc::{AllocError, Allocator};
 use std::num::NonZeroUsize;
 

@@ -1,8 +1,8 @@
 //! LRU-2.
 
-use crate::index_set::IndexSet;
-use crate::lists::Lists;
-use crate::marks::Marks;
+use crate::tested::index_set::IndexSet;
+use crate::tested::lists::Lists;
+use crate::tested::marks::Marks;
 use std::alloc::{AllocError, Allocator};
 use std::num::NonZeroUsize;
 

@@ -1,6 +1,6 @@
 //! The most that any policy could hit.
 
-use crate::index_set::IndexSet;
+use crate::tested::index_set::IndexSet;
 use std::alloc::{AllocError, Allocator};
 use std::num::NonZeroUsize;
 

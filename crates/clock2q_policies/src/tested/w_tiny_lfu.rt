@@ -1,8 +1,8 @@
 //! W-TinyLFU.
 
-use crate::lists::Lists;
-use crate::replayed::Replayed;
-use crate::sketch::Sketch;
+use crate::tested::lists::Lists;
+use crate::tested::replayed::Replayed;
+use crate::tested::sketch::Sketch;
 use std::alloc::{AllocError, Allocator};
 
 /// Keys admitted last.

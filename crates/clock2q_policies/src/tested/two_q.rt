@@ -1,7 +1,7 @@
 //! 2Q.
 
-use crate::lists::Lists;
-use crate::replayed::Replayed;
+use crate::tested::lists::Lists;
+use crate::tested::replayed::Replayed;
 use std::alloc::{AllocError, Allocator};
 
 /// Residents in the queue of new keys.
