@@ -9,6 +9,10 @@ use std::alloc::Global;
 use std::process::Abort;
 use std::test::Fail;
 
+/// The names of all policies, as an argument lists them.
+pub(crate) const ALL_POLICIES: &str =
+    "clock2q,sieve,s3fifo,lru,opt,fifo,clock,arc,2q,lirs,lru2,wtinylfu";
+
 /// Returns the words of a line.
 pub(crate) fn words_of(alloc: Global, line: &str) -> Result<Vec<String>, Fail> {
     let mut words = Vec::new(alloc);

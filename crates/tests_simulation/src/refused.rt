@@ -1,6 +1,6 @@
 //! Requests for memory refused in turn, while the arguments are fetched and from them to the text.
 
-use crate::arguments::words_of;
+use crate::arguments::{ALL_POLICIES, words_of};
 use crate::assertions::same;
 use clock2q_cache::DefaultHashBuilder;
 use clock2q_ports::Device;
@@ -58,10 +58,9 @@ fn arguments_fetched(rt: HostRuntime) -> Result<(), Fail> {
 /// Each form with all policies, over capacities of each kind.
 #[test]
 fn each_request(rt: HostRuntime) -> Result<(), Fail> {
-    let asked = "2 2..3 50%..100% --policies clock2q,sieve,s3fifo,lru,opt,fifo,clock,arc \
-         --policy small=1,window=100%";
+    let asked = "2 2..3 50%..100% --policy small=1,window=100% --policies";
     for form in ["", "--csv", "--svg", "--json"] {
-        let line = format!(in rt.alloc(); "{form} {asked}")?;
+        let line = format!(in rt.alloc(); "{form} {asked} {ALL_POLICIES}")?;
         let words = words_of(rt.alloc(), &line)?;
         let alloc = Refusing::new(rt.alloc());
         let tried = try_in_turn(&alloc, true, SimulationError::Memory, || {

@@ -1,6 +1,6 @@
 //! The tables and the CSV texts, from arguments and a trace.
 
-use crate::arguments::options_of;
+use crate::arguments::{ALL_POLICIES, options_of};
 use crate::assertions::{same, same_at};
 use clock2q_cache::DefaultHashBuilder;
 use clock2q_ports::Device;
@@ -144,12 +144,13 @@ fn row_of_two(alloc: Global, capacity: usize) -> Result<String, Fail> {
 /// All policies at the largest capacity.
 #[test]
 fn largest_capacity(rt: HostRuntime) -> Result<(), Fail> {
-    let line = "16777215 --policies clock2q,sieve,s3fifo,lru,opt,fifo,clock,arc";
-    let table = "4 accesses, 2 keys, 0 asked for once, hits in percent, the best of a row with *
-capacity Clock2Q+    SIEVE  S3-FIFO      LRU      OPT     FIFO    CLOCK      ARC
-16777215    50.00    50.00    50.00    50.00    50.00    50.00    50.00    50.00
-";
-    let text = written(rt.alloc(), line, b"a\nb\na\nb\n")?;
+    let line = format!(in rt.alloc(); "16777215 --policies {ALL_POLICIES}")?;
+    let table = "4 accesses, 2 keys, 0 asked for once, hits in percent, the best of a row with *\n\
+         capacity Clock2Q+    SIEVE  S3-FIFO      LRU      OPT     FIFO    CLOCK      ARC       \
+         2Q     LIRS    LRU-2 WTinyLFU\n\
+         16777215    50.00    50.00    50.00    50.00    50.00    50.00    50.00    50.00    \
+         50.00    50.00    50.00    50.00\n";
+    let text = written(rt.alloc(), &line, b"a\nb\na\nb\n")?;
     same(&rt, text.as_slice(), table.as_bytes());
     Ok(())
 }
