@@ -4,4 +4,5 @@ mod KnownKeys
 mod LineByLine
 mod Numbering
 mod Skipping
+mod WorkedAmounts
 mod Zipped

@@ -1,5 +1,5 @@
 -- What words and arguments mean: amounts of keys, and capacities in order.
-use Rattle.std.specs.Prelude.{ℕ, ◌-◌, ◌*◌, ◌/◌, ◌^◌, ◌<◌, ◌≤◌, Bool, true, false, ◌&&◌, ◌||◌, ◌==◌, nat_lt, nat_le, min, max, if◌then◌else◌, List, [], ◌∷◌, ◌++◌, length, take, drop, get_or, map, Option, Some, None, codes}
+use Rattle.std.specs.Prelude.{ℕ, ◌+◌, ◌-◌, ◌*◌, ◌/◌, ◌^◌, ◌<◌, ◌≤◌, Bool, true, false, ◌&&◌, ◌||◌, ◌==◌, nat_lt, nat_le, min, max, if◌then◌else◌, List, [], ◌∷◌, ◌++◌, length, take, drop, get_or, map, Option, Some, None, codes}
 use Rattle.std.specs.List.{before_first, after_first, position_or_len, filter}
 use Rattle.std.specs.Option.{option_map}
 use Rattle.std.specs.Char.{is_ascii_digit}
@@ -7,29 +7,60 @@ use Rattle.std.specs.Str.{bytes_eq, all_ascii_digits}
 use Rattle.std.specs.Str.Parse.{digits_value}
 use Rattle.clock2q_simulation.specs.declared.amount.Amount.{Amount}
 use Rattle.clock2q_simulation.specs.declared.amount.Unit.{Unit as Counted}
-use Rattle.clock2q_simulation.specs.declared.amount.Unit.TheVariants.{Keys, Percent}
+use Rattle.clock2q_simulation.specs.declared.amount.Unit.TheVariants.{Keys, Millionths}
 
 -- the number that digits spell, capped at the largest of 64 bits
 abbrev pub number_in : List ℕ → Option ℕ
 number_in word = if nat_lt 0 (length word) && all_ascii_digits word then Some (min (digits_value 10 word) (2 ^ 64 - 1)) else None
 
+-- whether a word ends with a byte, and the word without its last byte
+abbrev pub ends_in : ℕ → List ℕ → Bool
+ends_in byte word = nat_lt 0 (length word) && (get_or word (length word - 1) 0 == byte)
+
+abbrev pub front : List ℕ → List ℕ
+front word = take (length word - 1) word
+
+-- a multiple of a number, capped at the largest of 64 bits
+abbrev pub times : ℕ → ℕ → ℕ
+times factor number = min (number * factor) (2 ^ 64 - 1)
+
+-- the number that digits spell, which a k after them makes thousands and an M millions
+abbrev pub count_in : List ℕ → Option ℕ
+count_in word =
+    if ends_in 107 word then option_map (times 1000) (number_in (front word))
+    else if ends_in 77 word then option_map (times 1000000) (number_in (front word))
+    else number_in word
+
+abbrev pub is_dot : ℕ → Bool
+is_dot byte = byte == 46
+
+-- one to four decimals of a percentage, in millionths
+abbrev pub decimals_in : List ℕ → Option ℕ
+decimals_in word = if nat_le (length word) 4 then option_map (times (10 ^ (4 - length word))) (number_in word) else None
+
+-- the sum of two numbers, if both exist
+abbrev pub sum_of : Option ℕ → Option ℕ → Option ℕ
+sum_of (Some one) (Some other) = Some (min (one + other) (2 ^ 64 - 1))
+sum_of _ _ = None
+
+-- the percentage that a word spells without its percent sign, in millionths: digits, then perhaps a dot and decimals
+abbrev pub millionths_in : List ℕ → Option ℕ
+millionths_in word =
+    if nat_lt (position_or_len is_dot word) (length word)
+    then sum_of (option_map (times 10000) (number_in (before_first is_dot word))) (decimals_in (after_first is_dot word))
+    else option_map (times 10000) (number_in word)
+
 abbrev pub amount : Counted → ℕ → Amount
 amount unit number = record { number = number; unit = unit }
 
--- whether a word ends with a percent sign
-abbrev pub is_percentage : List ℕ → Bool
-is_percentage word = nat_lt 0 (length word) && (get_or word (length word - 1) 0 == 37)
-
 -- the amount that a word spells
 abbrev pub amount_in : List ℕ → Option Amount
-amount_in word =
-    if is_percentage word then option_map (amount Percent) (number_in (take (length word - 1) word))
-    else option_map (amount Keys) (number_in word)
+amount_in word = if ends_in 37 word then option_map (amount Millionths) (millionths_in (front word)) else option_map (amount Keys) (count_in word)
 
 -- the number of keys in an amount of some unit, out of a number of keys
 abbrev pub keys_by : Counted → ℕ → ℕ → ℕ
 keys_by Keys number keys = number
-keys_by Percent number keys = max (keys * min number 100 / 100) 1
+keys_by Millionths number keys = max (keys * min number 1000000 / 1000000) 1
 
 abbrev pub keys_of : Amount → ℕ → ℕ
 keys_of amount keys = keys_by amount.unit amount.number keys
@@ -46,7 +77,7 @@ pub record IsFor (keys : ℕ) : Type 0 where
 -- the most that a capacity can be
 abbrev pub most_of : Counted → ℕ
 most_of Keys = most_keys
-most_of Percent = 100
+most_of Millionths = 1000000
 
 pub record IsCapacity (amount : Amount) : Type 0 where
   pub some : 0 < amount.number
@@ -65,13 +96,10 @@ numbers_between others first last = first ∷ (filter (λ n. nat_lt first n && n
 abbrev pub range : List ℕ → Amount → ℕ → List Amount
 range others first last = map (amount first.unit) (numbers_between others first.number last)
 
-abbrev pub is_dot : ℕ → Bool
-is_dot byte = byte == 46
-
 -- whether two units are the same
 abbrev pub is_same : Counted → Counted → Bool
 is_same Keys Keys = true
-is_same Percent Percent = true
+is_same Millionths Millionths = true
 is_same _ _ = false
 
 -- the capacities of a range, if both ends are amounts of one unit and the right way round
@@ -79,13 +107,19 @@ abbrev pub range_between : Option Amount → Option Amount → Option (List Amou
 range_between (Some first) (Some last) = if is_same last.unit first.unit && nat_le first.number last.number then Some (range round_numbers first last.number) else None
 range_between _ _ = None
 
+-- the parts of a word before and after its first two dots
+abbrev pub ends_of : List ℕ → Option (List ℕ × List ℕ)
+ends_of [] = None
+ends_of (byte ∷ rest) = if is_dot byte && is_dot (get_or rest 0 0) then Some ([], drop 1 rest) else option_map (λ ends. (byte ∷ ends.0, ends.1)) (ends_of rest)
+
+abbrev pub asked_between : List ℕ → Option (List ℕ × List ℕ) → Option (List Amount)
+asked_between word None = option_map (λ capacity. capacity ∷ []) (amount_in word)
+asked_between word (Some ends) = range_between (amount_in ends.0) (amount_in ends.1)
+
 -- the capacities that an argument asks for: those of a range, which has two dots between its ends, or the one that it
 -- spells; any other word asks for none
 abbrev pub asked_by : List ℕ → Option (List Amount)
-asked_by word =
-    if nat_lt (position_or_len is_dot word) (length word)
-    then (if get_or (after_first is_dot word) 0 0 == 46 then range_between (amount_in (before_first is_dot word)) (amount_in (drop 1 (after_first is_dot word))) else None)
-    else option_map (λ capacity. capacity ∷ []) (amount_in word)
+asked_by word = asked_between word (ends_of word)
 
 -- whether an option takes the word after it
 abbrev pub takes_value : List ℕ → Bool

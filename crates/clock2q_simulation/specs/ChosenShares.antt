@@ -4,7 +4,7 @@ use Rattle.clock2q_machine.specs.Shares.{Shares, usual_shares}
 use Rattle.clock2q_machine.specs.Policies.{IsPolicy, shares_of}
 use Rattle.clock2q_simulation.specs.declared.amount.Amount.{Amount}
 use Rattle.clock2q_simulation.specs.declared.amount.Unit.{Unit as Counted}
-use Rattle.clock2q_simulation.specs.declared.amount.Unit.TheVariants.{Keys, Percent}
+use Rattle.clock2q_simulation.specs.declared.amount.Unit.TheVariants.{Keys, Millionths}
 use Rattle.clock2q_simulation.specs.declared.shares.ChosenShares.{ChosenShares}
 use Rattle.clock2q_simulation.specs.Amounts.{keys_of}
 
@@ -24,7 +24,7 @@ shares_for (Some chosen) capacity = shares_of capacity (small_of chosen capacity
 -- shares fit together in a cache for this number of keys; the keys in a percentage are known only with the trace
 abbrev pub FitsBy : Option ChosenShares → Counted → ℕ → Type 0
 FitsBy shares Keys number = IsPolicy (shares_for shares number)
-FitsBy shares Percent number = Unit {0}
+FitsBy shares Millionths number = Unit {0}
 
 -- shares fit together in a cache of a capacity that is a number of keys
 abbrev pub Fits : Option ChosenShares → Amount → Type 0

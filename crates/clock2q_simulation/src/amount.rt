@@ -1,6 +1,6 @@
-//! A number of keys, or a percentage of a number of keys.
+//! A number of keys, or a part of a number of keys.
 ghost use Rattle.std.specs.Prelude.{◌≡◌, ◌≤◌, ◌^◌};
-ghost use Rattle.clock2q_simulation.specs.Amounts.{amount_in, number_in, keys_of};
+ghost use Rattle.clock2q_simulation.specs.Amounts.{amount_in, count_in, decimals_in, keys_of, millionths_in, number_in};
 
 use std::fmt;
 
@@ -9,22 +9,23 @@ use std::fmt;
 /// # Example
 ///
 /// ```
-/// assert_eq!(rt; Amount::written("10%"), Some(Amount { number: 10, unit: Unit::Percent }));
+/// let tenth = Amount { number: 100_000, unit: Unit::Millionths };
+/// assert_eq!(rt; Amount::written("10%"), Some(tenth));
 /// ```
 #[derive(Clone, Copy, Debug, PartialEq, Eq)]
 pub enum Unit {
     /// Keys.
     Keys,
-    /// Percent of some number of keys.
-    Percent,
+    /// Millionths of some number of keys: 10,000 of them are a percent.
+    Millionths,
 }
 
-/// A number of keys, or a percentage of a number of keys that is known later.
+/// A number of keys, or a part of a number of keys that is known later.
 ///
 /// # Example
 ///
 /// ```
-/// let tenth = Amount { number: 10, unit: Unit::Percent };
+/// let tenth = Amount { number: 100_000, unit: Unit::Millionths };
 /// assert_eq!(rt; tenth.of(250), 25);
 /// ```
 #[derive(Clone, Copy, Debug, PartialEq, Eq)]
@@ -36,18 +37,19 @@ pub struct Amount {
 }
 
 impl Amount {
-    /// Returns the amount that a word spells: digits, optionally followed by a percent sign. A
-    /// number of more than 64 bits is taken as the largest of 64 bits.
+    /// Returns the amount that a word spells: a number of keys, as `250`, `1k` or `1M`, or a
+    /// percentage with at most four decimals, as `10%` or `0.25%`. A number of more than 64 bits is
+    /// taken as the largest of 64 bits.
     pub fn written(word: &str) -> Option<Amount>
         ensures amount { result ≡ amount_in word.now }
     {
         match word.strip_suffix('%') {
-            Some(digits) => Some(Amount {
-                number: number_of(digits.as_bytes())?,
-                unit: Unit::Percent,
+            Some(percentage) => Some(Amount {
+                number: millionths_of(percentage)?,
+                unit: Unit::Millionths,
             }),
             None => Some(Amount {
-                number: number_of(word.as_bytes())?,
+                number: count_of(word)?,
                 unit: Unit::Keys,
             }),
         }
@@ -57,7 +59,7 @@ impl Amount {
     pub(crate) fn count(self) -> Option<usize> {
         match self.unit {
             Unit::Keys => Some(self.number),
-            Unit::Percent => None,
+            Unit::Millionths => None,
         }
     }
 
@@ -69,7 +71,7 @@ impl Amount {
     {
         match self.unit {
             Unit::Keys => self.number,
-            Unit::Percent => (keys * self.number.min(100) / 100).max(1),
+            Unit::Millionths => (keys * self.number.min(1_000_000) / 1_000_000).max(1),
         }
     }
 }
@@ -78,9 +80,64 @@ impl fmt::Display for Amount {
     fn fmt<W: fmt::Write>(&self, f: &mut fmt::Formatter<W>) -> fmt::Result {
         match self.unit {
             Unit::Keys => write!(f, "{}", self.number),
-            Unit::Percent => write!(f, "{}%", self.number),
+            Unit::Millionths => write_percentage(f, self.number),
         }
     }
+}
+
+/// Writes millionths as a percentage, with the decimals that it needs.
+fn write_percentage<W: fmt::Write>(f: &mut fmt::Formatter<W>, number: usize) -> fmt::Result {
+    let (whole, rest) = (number / 10_000, number % 10_000);
+    if rest == 0 {
+        write!(f, "{whole}%")
+    } else if rest % 1_000 == 0 {
+        write!(f, "{whole}.{}%", rest / 1_000)
+    } else if rest % 100 == 0 {
+        write!(f, "{whole}.{:02}%", rest / 100)
+    } else if rest % 10 == 0 {
+        write!(f, "{whole}.{:03}%", rest / 10)
+    } else {
+        write!(f, "{whole}.{rest:04}%")
+    }
+}
+
+/// Returns the number that a word spells: digits, then perhaps a `k` for thousands or an `M` for
+/// millions.
+fn count_of(word: &str) -> Option<usize>
+    ensures count { result ≡ count_in word.now }
+{
+    if let Some(thousands) = word.strip_suffix('k') {
+        return Some(number_of(thousands.as_bytes())?.saturating_mul(1_000));
+    }
+    if let Some(millions) = word.strip_suffix('M') {
+        return Some(number_of(millions.as_bytes())?.saturating_mul(1_000_000));
+    }
+    number_of(word.as_bytes())
+}
+
+/// Returns the percentage that a word spells without its percent sign, in millionths.
+fn millionths_of(word: &str) -> Option<usize>
+    ensures millionths { result ≡ millionths_in word.now }
+{
+    let Some((whole, decimals)) = word.split_once('.') else {
+        return Some(number_of(word.as_bytes())?.saturating_mul(10_000));
+    };
+    let whole = number_of(whole.as_bytes())?.saturating_mul(10_000);
+    Some(whole.saturating_add(decimals_of(decimals.as_bytes())?))
+}
+
+/// Returns the decimals of a percentage in millionths, if there are one to four.
+fn decimals_of(digits: &[u8]) -> Option<usize>
+    ensures decimals { result ≡ decimals_in digits.now }
+{
+    let worth = match digits.len() {
+        1 => 1_000,
+        2 => 100,
+        3 => 10,
+        4 => 1,
+        _ => return None,
+    };
+    Some(number_of(digits)?.saturating_mul(worth))
 }
 
 /// Returns the number that digits spell, or the largest of 64 bits if it has more.

@@ -15,7 +15,7 @@ const ROUND_NUMBERS: [usize; 22] = [
 ];
 
 /// Returns the capacities that an argument asks for: a single amount, or those of a range, such as
-/// `10..1000` or `1%..50%`. `index` is the index of the argument.
+/// `10..1M` or `0.1%..50%`. `index` is the index of the argument.
 ///
 /// # Errors
 ///
@@ -29,12 +29,9 @@ pub(crate) fn capacities_of<A: Allocator>(
     ensures asked { IfOk result (λ capacities. asked_by argument.now ≡ Some capacities.items) }
     ensures within { IfOk result (λ capacities. All IsCapacity capacities.items) }
 {
-    let Some((first, rest)) = argument.split_once('.') else {
+    let Some((first, last)) = argument.split_once("..") else {
         let capacity = capacity_of(argument, Fault::NotCapacity, index)?;
         return Ok(Vec::from_slice(alloc, &[capacity])?);
-    };
-    let Some(last) = rest.strip_prefix('.') else {
-        return Err(SimulationError::Argument(Fault::NotCapacity, index));
     };
     let first = capacity_of(first, Fault::NotCapacity, index)?;
     let last = capacity_of(last, Fault::NotRange, index)?;
@@ -85,7 +82,9 @@ fn capacity_of(word: &str, fault: Fault, index: usize) -> Result<Amount, Simulat
         Unit::Keys if capacity.number > MAX_CAPACITY => {
             Err(SimulationError::Argument(Fault::LargeCapacity, index))
         }
-        Unit::Percent if capacity.number > 100 => Err(SimulationError::Argument(fault, index)),
+        Unit::Millionths if capacity.number > 1_000_000 => {
+            Err(SimulationError::Argument(fault, index))
+        }
         _ if capacity.number == 0 => Err(SimulationError::Argument(fault, index)),
         _ => Ok(capacity),
     }

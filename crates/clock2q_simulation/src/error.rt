@@ -20,13 +20,13 @@ pub enum Fault {
     #[error("unknown option")]
     UnknownOption,
     /// It isn't an amount of at least 1, and has no two dots either.
-    #[error("not a capacity (1 to 16777215, 1% to 100% or 10..1000)")]
+    #[error("not a capacity (1 to 16777215, 1k, 1M, 0.0001% to 100%, or 10..1M)")]
     NotCapacity,
     /// It is more than [`MAX_CAPACITY`](clock2q_cache::MAX_CAPACITY) keys, or an end of it is.
     #[error("a capacity above 16777215")]
     LargeCapacity,
     /// An end of the range isn't an amount of at least 1, or only one end is a percentage.
-    #[error("not a range (of keys from 1 to 16777215, as 10..1000, or of percents, as 1%..50%)")]
+    #[error("not a range (of keys from 1 to 16777215, as 10..1M, or of percents, as 0.1%..50%)")]
     NotRange,
     /// The range ends below its beginning.
     #[error("range whose ends are the wrong way round")]
@@ -50,7 +50,7 @@ pub enum Fault {
     #[error("a second form beside another one")]
     SecondForm,
     /// It isn't a number of accesses.
-    #[error("not a number of accesses (as 100000)")]
+    #[error("not a number of accesses (as 100000, 100k or 1M)")]
     NotCount,
     /// It names a second trace for a picture.
     #[error("a second trace, and a picture shows one")]

@@ -72,7 +72,7 @@ impl ChosenShares {
     {
         match capacity.unit {
             Unit::Keys => self.fit(capacity.number),
-            Unit::Percent => true,
+            Unit::Millionths => true,
         }
     }
 
@@ -91,11 +91,11 @@ impl ChosenShares {
     }
 }
 
-/// Returns the amount that a word spells after a name. A percentage is from 1 to 100.
+/// Returns the amount that a word spells after a name. A percentage is above 0 and at most 100.
 fn share_named(word: &str, name: &str) -> Option<Amount> {
     let share = Amount::written(word.strip_prefix(name)?)?;
     match share.unit {
-        Unit::Percent if share.number == 0 || share.number > 100 => None,
+        Unit::Millionths if share.number == 0 || share.number > 1_000_000 => None,
         _ => Some(share),
     }
 }

@@ -58,19 +58,29 @@ fn is_refused(
     Ok(())
 }
 
-const NOT_CAPACITY: &str = "not a capacity (1 to 16777215, 1% to 100% or 10..1000)";
+const NOT_CAPACITY: &str = "not a capacity (1 to 16777215, 1k, 1M, 0.0001% to 100%, or 10..1M)";
 
 const NOT_RANGE: &str =
-    "not a range (of keys from 1 to 16777215, as 10..1000, or of percents, as 1%..50%)";
+    "not a range (of keys from 1 to 16777215, as 10..1M, or of percents, as 0.1%..50%)";
 
 /// Words that aren't capacities, and their messages.
-const REFUSED_CAPACITIES: [(&str, &str); 17] = [
+const REFUSED_CAPACITIES: [(&str, &str); 28] = [
     ("0", NOT_CAPACITY),
     ("0%", NOT_CAPACITY),
     ("101%", NOT_CAPACITY),
     ("5%%", NOT_CAPACITY),
     ("1.5", NOT_CAPACITY),
-    ("1.5%", NOT_CAPACITY),
+    ("1.5k", NOT_CAPACITY),
+    ("1K", NOT_CAPACITY),
+    ("1m", NOT_CAPACITY),
+    ("1kk", NOT_CAPACITY),
+    ("1k%", NOT_CAPACITY),
+    ("0k", NOT_CAPACITY),
+    ("1.%", NOT_CAPACITY),
+    ("0.00001%", NOT_CAPACITY),
+    ("0.0000%", NOT_CAPACITY),
+    ("100.0001%", NOT_CAPACITY),
+    ("1.2.3%", NOT_CAPACITY),
     ("10.x100", NOT_CAPACITY),
     ("10x.100", NOT_CAPACITY),
     ("0..9", NOT_CAPACITY),
@@ -79,6 +89,7 @@ const REFUSED_CAPACITIES: [(&str, &str); 17] = [
     ("1..2..3", NOT_RANGE),
     ("1...3", NOT_RANGE),
     ("1..50%", NOT_RANGE),
+    ("1k..50%", NOT_RANGE),
     ("1%..101%", NOT_RANGE),
     ("9..8", "range whose ends are the wrong way round"),
     ("9%..8%", "range whose ends are the wrong way round"),
@@ -90,7 +101,7 @@ fn refused_capacities(rt: HostRuntime) -> Result<(), Fail> {
         let wanted = format!(in rt.alloc(); "clock2q-simulate: {word}: {wanted}")?;
         is_refused(&rt, rt.alloc(), word, &wanted, 2)?;
     }
-    for word in ["16777216", "1..16777216", "99999999999999999999999"] {
+    for word in ["16777216", "1..16777216", "17M", "16778k", "99999999999999999999999M"] {
         let line = format!(in rt.alloc(); "5 {word}")?;
         let wanted = format!(in rt.alloc(); "clock2q-simulate: {word}: a capacity above 16777215")?;
         is_refused(&rt, rt.alloc(), &line, &wanted, 3)?;
@@ -109,7 +120,7 @@ const REFUSED_OPTIONS: [(&str, &str); 18] = [
     ("5 --policies", "--policies: nothing after it"),
     ("5 --policy", "--policy: nothing after it"),
     ("5 --skip", "--skip: nothing after it"),
-    ("5 --skip 1%", "1%: not a number of accesses (as 100000)"),
+    ("5 --skip 1%", "1%: not a number of accesses (as 100000, 100k or 1M)"),
     ("5 --skip=1 --skip 2", "--skip: option given twice"),
     (
         "5 --policies=new",
@@ -211,11 +222,11 @@ fn shares_that_do_not_fit(rt: HostRuntime) -> Result<(), Fail> {
 /// Names of traces, among them a dash, and one picture of two of them.
 #[test]
 fn traces(rt: HostRuntime) -> Result<(), Fail> {
-    let line = "a.trace 5 --skip=3 - ../10 --shares=small=1,window=1 10 ten";
+    let line = "a.trace 5 --skip=3k - ../10 --shares=small=1,window=1 10 ten";
     let options = options_of(rt.alloc(), line)?;
     same(&rt, options.traces.as_slice(), [0, 3, 4, 7].as_slice());
     same(&rt, options.capacities.len(), 2);
-    same(&rt, (options.skipped, options.shares.is_some()), (3, true));
+    same(&rt, (options.skipped, options.shares.is_some()), (3_000, true));
     let wanted = "clock2q-simulate: b: a second trace, and a picture shows one";
     is_refused(&rt, rt.alloc(), "a 5 b --svg", wanted, 2)?;
     let words = words_of(rt.alloc(), "5 a")?;
@@ -240,7 +251,7 @@ fn traces(rt: HostRuntime) -> Result<(), Fail> {
 
 #[test]
 fn accepted(rt: HostRuntime) -> Result<(), Fail> {
-    let line = "10 --svg 007 --policy window=1,small=20% 10 16777215 --policies opt,clock2q";
+    let line = "10 --svg 007 --policy window=1,small=2.5% 10 16777215 --policies opt,clock2q";
     let options = options_of(rt.alloc(), line)?;
     same(&rt, options.format, Format::Svg);
     same(
@@ -249,7 +260,7 @@ fn accepted(rt: HostRuntime) -> Result<(), Fail> {
         [Policy::Optimal, Policy::Clock2Q].as_slice(),
     );
     let shares = options.shares.ok_or("no shares")?;
-    same(&rt, (shares.small(40), shares.window(40)), (8, 1));
+    same(&rt, (shares.small(400), shares.window(400)), (10, 1));
     same(
         &rt,
         numbers_of(&options, Unit::Keys)?.as_slice(),
@@ -286,7 +297,7 @@ fn asks_for(
 
 #[test]
 fn ranges(rt: HostRuntime) -> Result<(), Fail> {
-    let cases: [(&str, &[usize]); 7] = [
+    let cases: [(&str, &[usize]); 8] = [
         ("1..1", &[1]),
         ("1..2", &[1, 2]),
         ("2..5", &[2, 5]),
@@ -303,18 +314,22 @@ fn ranges(rt: HostRuntime) -> Result<(), Fail> {
             &[4_999_999, 5_000_000, 10_000_000, MAX_CAPACITY],
         ),
         ("7 1..3 2", &[7, 1, 2, 3, 2]),
+        ("3k..10k 1M", &[3_000, 5_000, 10_000, 1_000_000]),
     ];
     for (line, wanted) in cases {
         asks_for(&rt, rt.alloc(), line, Unit::Keys, wanted)?;
     }
-    let percents = [3, 5, 10, 20, 30, 1, 100];
-    asks_for(&rt, rt.alloc(), "3%..30% 1% 100%", Unit::Percent, &percents)
+    let percents = [30_000, 50_000, 100_000, 200_000, 300_000, 10_000, 1_000_000];
+    asks_for(&rt, rt.alloc(), "3%..30% 1% 100%", Unit::Millionths, &percents)?;
+    let fractions = [1_500, 2_000, 5_000, 10_000, 20_000, 25_000, 1];
+    let line = "0.15%..2.5% 0.0001%";
+    asks_for(&rt, rt.alloc(), line, Unit::Millionths, &fractions)
 }
 
 /// All keys of a trace.
 const ALL: Amount = Amount {
-    number: 100,
-    unit: Unit::Percent,
+    number: 1_000_000,
+    unit: Unit::Millionths,
 };
 
 #[test]
@@ -338,6 +353,12 @@ fn refused_percentage(rt: HostRuntime) -> Result<(), Fail> {
 fn amounts(rt: HostRuntime) {
     for (word, keys, wanted) in [
         ("10%", 250, 25),
+        ("0.1%", 5_999, 5),
+        ("12.5%", 8, 1),
+        ("33.3333%", 3_000_000, 999_999),
+        ("0.0001%", 16_000_000, 16),
+        ("64k", 5, 64_000),
+        ("2M", 5, 2_000_000),
         ("1%", 199, 1),
         ("1%", 0, 1),
         ("100%", 65_537, 65_537),
@@ -354,4 +375,17 @@ fn amounts(rt: HostRuntime) {
     }
     same(&rt, SimulationError::Shares(1).status(), 2);
     same(&rt, SimulationError::Capacity(ALL).status(), 3);
+}
+
+/// An amount is displayed as it may be written.
+#[test]
+fn amounts_show(rt: HostRuntime) -> Result<(), Fail> {
+    for word in [
+        "0", "250", "0.0001%", "0.001%", "0.05%", "0.1%", "12.345%", "7.5%", "10%", "100%",
+    ] {
+        let amount = Amount::written(word).ok_or("no amount")?;
+        let text = format!(in rt.alloc(); "{amount}")?;
+        same(&rt, text.as_str(), word);
+    }
+    Ok(())
 }

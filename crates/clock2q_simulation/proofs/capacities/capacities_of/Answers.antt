@@ -1,14 +1,24 @@
-use Rattle.std.proofs.Common.{◌∙◌, Some, sym, ap, arith, rules}
-use Rattle.std.proofs.lemmas.Str.Pattern.{split_once_first, strip_prefix_char}
-use Rattle.clock2q_simulation.specs.Amounts.{round_numbers}
-use Rattle.clock2q_simulation.proofs.Amounts.{asked-range}
+use Rattle.std.proofs.Common.{◌≡◌, ◌∙◌, ◌∷◌, [], Some, None, sym, ap, subst, rules}
+use Rattle.std.specs.Option.{option_map}
+use Rattle.clock2q_simulation.specs.Amounts.{IsCapacity, amount, asked_between, ends_of, round_numbers}
+use Rattle.clock2q_simulation.proofs.Amounts.{asked-range, split-ends}
 use Rattle.clock2q_simulation.proofs.capacities.capacities_of.Goals as goal
 
 pub returns-clause-asked : goal.returns-clause-asked
 unfolding round_numbers
 returns-clause-asked g c =
-    let cut = rw c.in-Some.is at (split_once_first 46 c.args.argument.now c.split_once.result c.split_once.ensures.cases (omega arith)) in
-    let dot = rw c.in-Some-strip_prefix.is at (strip_prefix_char 46 c.in-Some.rest.now c.strip_prefix.result c.strip_prefix.ensures.cases (omega arith)) in
-    asked-range c.args.argument.now c.in-Some.first.now c.in-Some.rest.now c.in-Some-strip_prefix.last.now c.in_ok-first.first c.in_ok-last.last
-    cut.0 cut.1 cut.2 dot c.in_ok-first.ensures.asked c.in_ok-last.ensures.asked (search rules) (search rules)
+    let ends = rw c.in-Some.is at (split-ends c.args.argument.now c.split_once.result c.split_once.ensures.cases) in
+    asked-range c.args.argument.now (c.in-Some.first.now, c.in-Some.last.now) c.in_ok-first.first c.in_ok-last.last ends
+    c.in_ok-first.ensures.asked c.in_ok-last.ensures.asked (search rules) (search rules)
     ∙ ap Some (sym c.in_ok-range_of.ensures.range)
+
+pub returns-in_default-clause-asked : goal.returns-in_default-clause-asked
+returns-in_default-clause-asked g c =
+    let word = c.args.argument.now in
+    let none : ends_of word ≡ None = rw c.in_default.is at (split-ends word c.split_once.result c.split_once.ensures.cases) in
+    ap (asked_between word) none ∙ ap (option_map (λ capacity. capacity ∷ [])) c.in_ok-capacity.ensures.asked ∙ ap Some (sym c.in_ok-from_slice.ensures.items)
+
+pub range_of-requires-clause-last : goal.range_of-requires-clause-last
+range_of-requires-clause-last g c =
+    let same : c.in_ok-last.last.unit ≡ c.in_ok-first.first.unit = search rules in
+    subst (λ unit. IsCapacity (amount unit c.in_ok-last.last.number)) same c.in_ok-last.ensures.within

@@ -2,16 +2,16 @@ use Rattle.std.proofs.Common.{◌≡◌, ◌∙◌, false, sym, ap, arith}
 use Rattle.std.specs.Option.{option_map}
 use Rattle.std.proofs.lemmas.Str.Pattern.{strip_suffix_char}
 use Rattle.clock2q_simulation.specs.declared.amount.Unit.TheVariants.{Keys}
-use Rattle.clock2q_simulation.specs.Amounts.{amount, number_in, is_percentage}
-use Rattle.clock2q_simulation.proofs.Amounts.{percentage-none, amount_in-keys}
+use Rattle.clock2q_simulation.specs.Amounts.{amount, ends_in}
+use Rattle.clock2q_simulation.proofs.Amounts.{amount-plain, ends-none}
 use Rattle.clock2q_simulation.proofs.amount.Amount.written.Goals as goal
 
-pub returns-in_err-number_of-in-None : goal.returns-in_err-number_of-in-None
-returns-in_err-number_of-in-None c =
-    let none : is_percentage c.args.word.now ≡ false = percentage-none c.args.word.now (rw c.in-None.is at (strip_suffix_char 37 c.args.word.now c.strip_suffix.result c.strip_suffix.ensures.cases (omega arith))) in
-    record { amount = c.from_residual-in_err-number_of-in-None.ensures ∙ ap (option_map (amount Keys)) (c.in_err-number_of-in-None.ensures.number ∙ ap number_in c.as_bytes-in-None.ensures.value) ∙ sym (amount_in-keys c.args.word.now none) }
+pub returns-in_err-count_of-in-None : goal.returns-in_err-count_of-in-None
+returns-in_err-count_of-in-None c =
+    let none : ends_in 37 c.args.word.now ≡ false = ends-none 37 c.args.word.now (rw c.in-None.is at (strip_suffix_char 37 c.args.word.now c.strip_suffix.result c.strip_suffix.ensures.cases (omega arith))) in
+    record { amount = c.from_residual-in_err-count_of-in-None.ensures ∙ ap (option_map (amount Keys)) c.in_err-count_of-in-None.ensures.count ∙ sym (amount-plain c.args.word.now none) }
 
-pub returns-in_ok-number_of-in-None : goal.returns-in_ok-number_of-in-None
-returns-in_ok-number_of-in-None c =
-    let none : is_percentage c.args.word.now ≡ false = percentage-none c.args.word.now (rw c.in-None.is at (strip_suffix_char 37 c.args.word.now c.strip_suffix.result c.strip_suffix.ensures.cases (omega arith))) in
-    record { amount = ap (option_map (amount Keys)) (c.in_ok-number_of-in-None.ensures.number ∙ ap number_in c.as_bytes-in-None.ensures.value) ∙ sym (amount_in-keys c.args.word.now none) }
+pub returns-in_ok-count_of-in-None : goal.returns-in_ok-count_of-in-None
+returns-in_ok-count_of-in-None c =
+    let none : ends_in 37 c.args.word.now ≡ false = ends-none 37 c.args.word.now (rw c.in-None.is at (strip_suffix_char 37 c.args.word.now c.strip_suffix.result c.strip_suffix.ensures.cases (omega arith))) in
+    record { amount = ap (option_map (amount Keys)) c.in_ok-count_of-in-None.ensures.count ∙ sym (amount-plain c.args.word.now none) }
