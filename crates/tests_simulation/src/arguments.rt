@@ -101,7 +101,13 @@ fn refused_capacities(rt: HostRuntime) -> Result<(), Fail> {
         let wanted = format!(in rt.alloc(); "clock2q-simulate: {word}: {wanted}")?;
         is_refused(&rt, rt.alloc(), word, &wanted, 2)?;
     }
-    for word in ["16777216", "1..16777216", "17M", "16778k", "99999999999999999999999M"] {
+    for word in [
+        "16777216",
+        "1..16777216",
+        "17M",
+        "16778k",
+        "99999999999999999999999M",
+    ] {
         let line = format!(in rt.alloc(); "5 {word}")?;
         let wanted = format!(in rt.alloc(); "clock2q-simulate: {word}: a capacity above 16777215")?;
         is_refused(&rt, rt.alloc(), &line, &wanted, 3)?;
@@ -120,7 +126,10 @@ const REFUSED_OPTIONS: [(&str, &str); 18] = [
     ("5 --policies", "--policies: nothing after it"),
     ("5 --policy", "--policy: nothing after it"),
     ("5 --skip", "--skip: nothing after it"),
-    ("5 --skip 1%", "1%: not a number of accesses (as 100000, 100k or 1M)"),
+    (
+        "5 --skip 1%",
+        "1%: not a number of accesses (as 100000, 100k or 1M)",
+    ),
     ("5 --skip=1 --skip 2", "--skip: option given twice"),
     (
         "5 --policies=new",
@@ -226,7 +235,11 @@ fn traces(rt: HostRuntime) -> Result<(), Fail> {
     let options = options_of(rt.alloc(), line)?;
     same(&rt, options.traces.as_slice(), [0, 3, 4, 7].as_slice());
     same(&rt, options.capacities.len(), 2);
-    same(&rt, (options.skipped, options.shares.is_some()), (3_000, true));
+    same(
+        &rt,
+        (options.skipped, options.shares.is_some()),
+        (3_000, true),
+    );
     let wanted = "clock2q-simulate: b: a second trace, and a picture shows one";
     is_refused(&rt, rt.alloc(), "a 5 b --svg", wanted, 2)?;
     let words = words_of(rt.alloc(), "5 a")?;
@@ -320,7 +333,13 @@ fn ranges(rt: HostRuntime) -> Result<(), Fail> {
         asks_for(&rt, rt.alloc(), line, Unit::Keys, wanted)?;
     }
     let percents = [30_000, 50_000, 100_000, 200_000, 300_000, 10_000, 1_000_000];
-    asks_for(&rt, rt.alloc(), "3%..30% 1% 100%", Unit::Millionths, &percents)?;
+    asks_for(
+        &rt,
+        rt.alloc(),
+        "3%..30% 1% 100%",
+        Unit::Millionths,
+        &percents,
+    )?;
     let fractions = [1_500, 2_000, 5_000, 10_000, 20_000, 25_000, 1];
     let line = "0.15%..2.5% 0.0001%";
     asks_for(&rt, rt.alloc(), line, Unit::Millionths, &fractions)
