@@ -1,13 +1,12 @@
 //! The program's arguments.
 
-use crate::assertions::{same, same_at};
 use clock2q_cache::MAX_CAPACITY;
 use clock2q_simulation::{
     Amount, Complaint, Format, Options, Policy, SimulationError, Unit, parse_options,
 };
 use std::alloc::Global;
-use std::process::Abort;
 use std::test::Fail;
+use testing::{same, same_at};
 
 /// The names of all policies, as an argument lists them.
 pub(crate) const ALL_POLICIES: &str =
@@ -46,15 +45,9 @@ fn complaint_of(alloc: Global, line: &str) -> Result<(String, u8), Fail> {
 }
 
 /// Checks the message for a line of refused arguments, and the status.
-fn is_refused(
-    rt: &impl Abort,
-    alloc: Global,
-    line: &str,
-    wanted: &str,
-    status: u8,
-) -> Result<(), Fail> {
+fn is_refused(alloc: Global, line: &str, wanted: &str, status: u8) -> Result<(), Fail> {
     let (text, told) = complaint_of(alloc, line)?;
-    same_at(rt, (text.as_str(), told), (wanted, status), line);
+    same_at((text.as_str(), told), (wanted, status), line)?;
     Ok(())
 }
 
@@ -99,7 +92,7 @@ const REFUSED_CAPACITIES: [(&str, &str); 28] = [
 fn refused_capacities(rt: HostRuntime) -> Result<(), Fail> {
     for (word, wanted) in REFUSED_CAPACITIES {
         let wanted = format!(in rt.alloc(); "clock2q-simulate: {word}: {wanted}")?;
-        is_refused(&rt, rt.alloc(), word, &wanted, 2)?;
+        is_refused(rt.alloc(), word, &wanted, 2)?;
     }
     for word in [
         "16777216",
@@ -110,7 +103,7 @@ fn refused_capacities(rt: HostRuntime) -> Result<(), Fail> {
     ] {
         let line = format!(in rt.alloc(); "5 {word}")?;
         let wanted = format!(in rt.alloc(); "clock2q-simulate: {word}: a capacity above 16777215")?;
-        is_refused(&rt, rt.alloc(), &line, &wanted, 3)?;
+        is_refused(rt.alloc(), &line, &wanted, 3)?;
     }
     Ok(())
 }
@@ -165,17 +158,17 @@ const REFUSED_OPTIONS: [(&str, &str); 18] = [
 fn refused_options(rt: HostRuntime) -> Result<(), Fail> {
     for (line, wanted) in REFUSED_OPTIONS {
         let wanted = format!(in rt.alloc(); "clock2q-simulate: {wanted}")?;
-        is_refused(&rt, rt.alloc(), line, &wanted, 2)?;
+        is_refused(rt.alloc(), line, &wanted, 2)?;
     }
     Ok(())
 }
 
 /// Checks that a word is refused as shares.
-fn are_refused(rt: &impl Abort, alloc: Global, word: &str) -> Result<(), Fail> {
+fn are_refused(alloc: Global, word: &str) -> Result<(), Fail> {
     let shares = "not shares (small and window, as small=20%,window=50% or small=30,window=10)";
     let line = format!(in alloc; "5 --policy {word}")?;
     let wanted = format!(in alloc; "clock2q-simulate: {word}: {shares}")?;
-    is_refused(rt, alloc, &line, &wanted, 2)
+    is_refused(alloc, &line, &wanted, 2)
 }
 
 #[test]
@@ -191,7 +184,7 @@ fn refused_shares(rt: HostRuntime) -> Result<(), Fail> {
         "window=x,small=1",
         "--csv",
     ] {
-        are_refused(&rt, rt.alloc(), word)?;
+        are_refused(rt.alloc(), word)?;
     }
     Ok(())
 }
@@ -211,7 +204,7 @@ fn shares_that_do_not_fit(rt: HostRuntime) -> Result<(), Fail> {
         let wanted = format!(in rt.alloc();
             "clock2q-simulate: {word}: shares that fit no capacity"
         )?;
-        is_refused(&rt, rt.alloc(), &line, &wanted, 2)?;
+        is_refused(rt.alloc(), &line, &wanted, 2)?;
     }
     for (line, capacity) in [
         ("--policy small=5,window=1 9 4..20", 4),
@@ -221,10 +214,10 @@ fn shares_that_do_not_fit(rt: HostRuntime) -> Result<(), Fail> {
         let wanted = format!(in rt.alloc();
             "clock2q-simulate: --shares: shares that don't fit a capacity of {capacity}"
         )?;
-        is_refused(&rt, rt.alloc(), line, &wanted, 2)?;
+        is_refused(rt.alloc(), line, &wanted, 2)?;
     }
     let options = options_of(rt.alloc(), "6 10% --policy small=5,window=5")?;
-    same(&rt, options.capacities.len(), 2);
+    same(options.capacities.len(), 2)?;
     Ok(())
 }
 
@@ -233,15 +226,11 @@ fn shares_that_do_not_fit(rt: HostRuntime) -> Result<(), Fail> {
 fn traces(rt: HostRuntime) -> Result<(), Fail> {
     let line = "a.trace 5 --skip=3k - ../10 --shares=small=1,window=1 10 ten";
     let options = options_of(rt.alloc(), line)?;
-    same(&rt, options.traces.as_slice(), [0, 3, 4, 7].as_slice());
-    same(&rt, options.capacities.len(), 2);
-    same(
-        &rt,
-        (options.skipped, options.shares.is_some()),
-        (3_000, true),
-    );
+    same(options.traces.as_slice(), [0, 3, 4, 7].as_slice())?;
+    same(options.capacities.len(), 2)?;
+    same((options.skipped, options.shares.is_some()), (3_000, true))?;
     let wanted = "clock2q-simulate: b: a second trace, and a picture shows one";
-    is_refused(&rt, rt.alloc(), "a 5 b --svg", wanted, 2)?;
+    is_refused(rt.alloc(), "a 5 b --svg", wanted, 2)?;
     let words = words_of(rt.alloc(), "5 a")?;
     for (refusal, wanted) in [
         (SimulationError::Read, "clock2q-simulate: a: read failed"),
@@ -257,7 +246,7 @@ fn traces(rt: HostRuntime) -> Result<(), Fail> {
             arguments: &words,
         };
         let text = format!(in rt.alloc(); "{complaint}")?;
-        same(&rt, text.as_str(), wanted);
+        same(text.as_str(), wanted)?;
     }
     Ok(())
 }
@@ -266,19 +255,17 @@ fn traces(rt: HostRuntime) -> Result<(), Fail> {
 fn accepted(rt: HostRuntime) -> Result<(), Fail> {
     let line = "10 --svg 007 --policy window=1,small=2.5% 10 16777215 --policies opt,clock2q";
     let options = options_of(rt.alloc(), line)?;
-    same(&rt, options.format, Format::Svg);
+    same(options.format, Format::Svg)?;
     same(
-        &rt,
         options.policies.as_slice(),
         [Policy::Optimal, Policy::Clock2Q].as_slice(),
-    );
+    )?;
     let shares = options.shares.ok_or("no shares")?;
-    same(&rt, (shares.small(400), shares.window(400)), (10, 1));
+    same((shares.small(400), shares.window(400)), (10, 1))?;
     same(
-        &rt,
         numbers_of(&options, Unit::Keys)?.as_slice(),
         [10, 7, 10, MAX_CAPACITY].as_slice(),
-    );
+    )?;
     Ok(())
 }
 
@@ -296,15 +283,9 @@ fn numbers_of(options: &Options<Global>, unit: Unit) -> Result<Vec<usize>, Fail>
 }
 
 /// Checks that a line asks for capacities of these numbers.
-fn asks_for(
-    rt: &impl Abort,
-    alloc: Global,
-    line: &str,
-    unit: Unit,
-    wanted: &[usize],
-) -> Result<(), Fail> {
+fn asks_for(alloc: Global, line: &str, unit: Unit, wanted: &[usize]) -> Result<(), Fail> {
     let numbers = numbers_of(&options_of(alloc, line)?, unit)?;
-    same_at(rt, numbers.as_slice(), wanted, line);
+    same_at(numbers.as_slice(), wanted, line)?;
     Ok(())
 }
 
@@ -330,19 +311,13 @@ fn ranges(rt: HostRuntime) -> Result<(), Fail> {
         ("3k..10k 1M", &[3_000, 5_000, 10_000, 1_000_000]),
     ];
     for (line, wanted) in cases {
-        asks_for(&rt, rt.alloc(), line, Unit::Keys, wanted)?;
+        asks_for(rt.alloc(), line, Unit::Keys, wanted)?;
     }
     let percents = [30_000, 50_000, 100_000, 200_000, 300_000, 10_000, 1_000_000];
-    asks_for(
-        &rt,
-        rt.alloc(),
-        "3%..30% 1% 100%",
-        Unit::Millionths,
-        &percents,
-    )?;
+    asks_for(rt.alloc(), "3%..30% 1% 100%", Unit::Millionths, &percents)?;
     let fractions = [1_500, 2_000, 5_000, 10_000, 20_000, 25_000, 1];
     let line = "0.15%..2.5% 0.0001%";
-    asks_for(&rt, rt.alloc(), line, Unit::Millionths, &fractions)
+    asks_for(rt.alloc(), line, Unit::Millionths, &fractions)
 }
 
 /// All keys of a trace.
@@ -360,16 +335,15 @@ fn refused_percentage(rt: HostRuntime) -> Result<(), Fail> {
     };
     let text = format!(in rt.alloc(); "{complaint}")?;
     same(
-        &rt,
         text.as_str(),
         "clock2q-simulate: 100%: a capacity above 16777215",
-    );
+    )?;
     Ok(())
 }
 
 /// A percentage is rounded down, but to at least one key.
 #[test]
-fn amounts(rt: HostRuntime) {
+fn amounts(_rt: HostRuntime) -> Result<(), Fail> {
     for (word, keys, wanted) in [
         ("10%", 250, 25),
         ("0.1%", 5_999, 5),
@@ -385,15 +359,11 @@ fn amounts(rt: HostRuntime) {
         ("7", 5, 7),
     ] {
         let amount = Amount::written(word);
-        same_at(
-            &rt,
-            amount.map(|amount| amount.of(keys)),
-            Some(wanted),
-            word,
-        );
+        same_at(amount.map(|amount| amount.of(keys)), Some(wanted), word)?;
     }
-    same(&rt, SimulationError::Shares(1).status(), 2);
-    same(&rt, SimulationError::Capacity(ALL).status(), 3);
+    same(SimulationError::Shares(1).status(), 2)?;
+    same(SimulationError::Capacity(ALL).status(), 3)?;
+    Ok(())
 }
 
 /// An amount is displayed as it may be written.
@@ -404,7 +374,7 @@ fn amounts_show(rt: HostRuntime) -> Result<(), Fail> {
     ] {
         let amount = Amount::written(word).ok_or("no amount")?;
         let text = format!(in rt.alloc(); "{amount}")?;
-        same(&rt, text.as_str(), word);
+        same(text.as_str(), word)?;
     }
     Ok(())
 }

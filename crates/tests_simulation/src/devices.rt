@@ -1,14 +1,13 @@
 //! Traces from readers and texts to writers that fail at one of their calls.
 
 use crate::arguments::options_of;
-use crate::assertions::same;
 use clock2q_cache::DefaultHashBuilder;
 use clock2q_ports::Device;
 use clock2q_simulation::{Progress, SimulationError, simulate};
 use std::alloc::Global;
 use std::io::{Error, ErrorKind, Read, Result as IoResult, Write};
-use std::process::Abort;
 use std::test::Fail;
+use testing::same;
 
 const TRACE: &[u8] = b"a\nbb\na\n\nbb\n";
 
@@ -138,13 +137,7 @@ fn calls_for(bytes: usize, step: usize) -> usize {
 }
 
 /// Lets each read fail in turn.
-fn each_read_fails(
-    rt: &impl Abort,
-    alloc: Global,
-    line: &str,
-    step: usize,
-    kind: ErrorKind,
-) -> Result<(), Fail> {
+fn each_read_fails(alloc: Global, line: &str, step: usize, kind: ErrorKind) -> Result<(), Fail> {
     for reads in 0..=calls_for(TRACE.len(), step) {
         let plan = Plan {
             step,
@@ -153,12 +146,8 @@ fn each_read_fails(
             kind,
         };
         let ended = run_with(alloc, line, plan)?;
-        same(rt, ended.result, Err(SimulationError::Read));
-        same(
-            rt,
-            (ended.reads, ended.writes),
-            (reads.saturating_add(1), 0),
-        );
+        same(ended.result, Err(SimulationError::Read))?;
+        same((ended.reads, ended.writes), (reads.saturating_add(1), 0))?;
     }
     Ok(())
 }
@@ -168,17 +157,16 @@ fn failing_reads(rt: HostRuntime) -> Result<(), Fail> {
     for (line, _) in TEXTS {
         for step in [1, 3, 100] {
             for kind in KINDS {
-                each_read_fails(&rt, rt.alloc(), line, step, kind)?;
+                each_read_fails(rt.alloc(), line, step, kind)?;
             }
         }
     }
-    same(&rt, SimulationError::Read.status(), 4);
+    same(SimulationError::Read.status(), 4)?;
     Ok(())
 }
 
 /// Lets each write fail in turn, and then the flush.
 fn each_write_fails(
-    rt: &impl Abort,
     alloc: Global,
     (line, text): (&str, &str),
     step: usize,
@@ -192,10 +180,10 @@ fn each_write_fails(
             kind,
         };
         let ended = run_with(alloc, line, plan)?;
-        same(rt, ended.result, Err(SimulationError::Write));
-        same(rt, ended.writes, writes.saturating_add(1));
+        same(ended.result, Err(SimulationError::Write))?;
+        same(ended.writes, writes.saturating_add(1))?;
         let taken = text.len().min(writes.saturating_mul(step));
-        same(rt, ended.text.as_slice(), &text.as_bytes()[..taken]);
+        same(ended.text.as_slice(), &text.as_bytes()[..taken])?;
     }
     Ok(())
 }
@@ -205,11 +193,11 @@ fn failing_writes(rt: HostRuntime) -> Result<(), Fail> {
     for of_line in TEXTS {
         for step in [1, 7, 1000] {
             for kind in KINDS {
-                each_write_fails(&rt, rt.alloc(), of_line, step, kind)?;
+                each_write_fails(rt.alloc(), of_line, step, kind)?;
             }
         }
     }
-    same(&rt, SimulationError::Write.status(), 4);
+    same(SimulationError::Write.status(), 4)?;
     Ok(())
 }
 
@@ -223,8 +211,8 @@ fn nothing_fails(rt: HostRuntime) -> Result<(), Fail> {
             kind: ErrorKind::Other,
         };
         let ended = run_with(rt.alloc(), line, plan)?;
-        same(&rt, ended.result, Ok(()));
-        same(&rt, ended.text.as_slice(), text.as_bytes());
+        same(ended.result, Ok(()))?;
+        same(ended.text.as_slice(), text.as_bytes())?;
     }
     Ok(())
 }

@@ -1,16 +1,14 @@
 //! Hits worked out by hand.
 
-use crate::assertions::same;
 use crate::numbers::trace_of;
 use clock2q_simulation::{ChosenShares, Policy, SimulationError, Trace, replay};
 use std::alloc::Global;
 use std::num::NonZeroUsize;
-use std::process::Abort;
 use std::test::Fail;
+use testing::same;
 
 /// Checks the hits of Clock2Q+, LRU and FIFO in a cache of some capacity.
 fn hits_are(
-    rt: &impl Abort,
     alloc: Global,
     trace: &Trace<Global>,
     capacity: usize,
@@ -23,9 +21,9 @@ fn hits_are(
     ];
     let capacity = NonZeroUsize::new(capacity).ok_or("not zero")?;
     let row = replay(alloc, capacity, &policies, None, 0, trace)?;
-    same(rt, (row.capacity, row.accesses), (capacity, 8));
+    same((row.capacity, row.accesses), (capacity, 8))?;
     let hits: Vec<usize> = row.hits.iter().map(|hits| hits.hits).collect(alloc)?;
-    same(rt, hits.as_slice(), wanted);
+    same(hits.as_slice(), wanted)?;
     Ok(())
 }
 
@@ -38,7 +36,7 @@ fn hits_of_each_policy(rt: HostRuntime) -> Result<(), Fail> {
         (3, [3, 3, 2]),
         (4, [4, 4, 4]),
     ] {
-        hits_are(&rt, rt.alloc(), &trace, capacity, &wanted)?;
+        hits_are(rt.alloc(), &trace, capacity, &wanted)?;
     }
     Ok(())
 }
@@ -60,7 +58,7 @@ fn hits_of_chosen_shares(rt: HostRuntime) -> Result<(), Fail> {
             0,
             &trace,
         )?;
-        same(&rt, row.hits.first().map(|hits| hits.hits), Some(wanted));
+        same(row.hits.first().map(|hits| hits.hits), Some(wanted))?;
     }
     Ok(())
 }
@@ -74,7 +72,7 @@ fn usual_shares_written(rt: HostRuntime) -> Result<(), Fail> {
         let policies = [Policy::Clock2Q];
         let chosen = replay(rt.alloc(), capacity, &policies, Some(usual), 0, &trace)?;
         let row = replay(rt.alloc(), capacity, &policies, None, 0, &trace)?;
-        same(&rt, chosen.hits.as_slice(), row.hits.as_slice());
+        same(chosen.hits.as_slice(), row.hits.as_slice())?;
     }
     Ok(())
 }
@@ -100,7 +98,7 @@ fn shares_that_do_not_fit(rt: HostRuntime) -> Result<(), Fail> {
             0,
             &trace,
         );
-        same(&rt, refused.err(), Some(SimulationError::Shares(capacity)));
+        same(refused.err(), Some(SimulationError::Shares(capacity)))?;
     }
     Ok(())
 }
@@ -122,8 +120,8 @@ fn skipped_accesses(rt: HostRuntime) -> Result<(), Fail> {
     ] {
         let row = replay(rt.alloc(), capacity, &policies, None, skipped, &trace)?;
         let hits: Vec<usize> = row.hits.iter().map(|hits| hits.hits).collect(rt.alloc())?;
-        same(&rt, hits.as_slice(), wanted.as_slice());
-        same(&rt, row.accesses, accesses);
+        same(hits.as_slice(), wanted.as_slice())?;
+        same(row.accesses, accesses)?;
     }
     Ok(())
 }

@@ -7,8 +7,6 @@ mod arc;
 #[cfg(test)]
 mod arguments;
 #[cfg(test)]
-mod assertions;
-#[cfg(test)]
 mod devices;
 #[cfg(test)]
 mod hits;

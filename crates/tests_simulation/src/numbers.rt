@@ -1,12 +1,11 @@
 //! The numbers of a trace's keys.
 
-use crate::assertions::{same, same_at};
 use clock2q_cache::DefaultHashBuilder;
 use clock2q_ports::Device;
 use clock2q_simulation::{GrowingTrace, Progress, SimulationError, Trace, read_trace};
 use std::alloc::Global;
-use std::process::Abort;
 use std::test::Fail;
+use testing::{same, same_at};
 
 /// Reads a trace from bytes.
 pub(crate) fn trace_of(alloc: Global, input: &[u8]) -> Result<Trace<Global>, SimulationError> {
@@ -30,7 +29,7 @@ fn keys_have_numbers(rt: HostRuntime) -> Result<(), Fail> {
     ];
     for (input, numbers) in cases {
         let trace = trace_of(rt.alloc(), input)?;
-        same(&rt, trace.numbers(), numbers);
+        same(trace.numbers(), numbers)?;
     }
     Ok(())
 }
@@ -41,12 +40,12 @@ fn keys_that_begin_others(rt: HostRuntime) -> Result<(), Fail> {
     let keys: [&[u8]; 8] = [b"", b"a", b"aa", b"", b"aaa", b"a", b"aa", b"aaa"];
     let mut growing = GrowingTrace::new(rt.alloc());
     for (count, key) in keys.iter().enumerate() {
-        same(&rt, growing.len(), count);
+        same(growing.len(), count)?;
         growing.push(key)?;
     }
     let trace = growing.finish();
-    same(&rt, trace.numbers(), [0, 1, 2, 0, 3, 1, 2, 3].as_slice());
-    same(&rt, trace.key_count(), 4);
+    same(trace.numbers(), [0, 1, 2, 0, 3, 1, 2, 3].as_slice())?;
+    same(trace.key_count(), 4)?;
     Ok(())
 }
 
@@ -59,7 +58,7 @@ fn long_keys_differ_in_their_last_byte(rt: HostRuntime) -> Result<(), Fail> {
     }
     input.extend_from_slice(b"k\n")?;
     let trace = trace_of(rt.alloc(), &input)?;
-    same(&rt, trace.numbers(), [0, 1].as_slice());
+    same(trace.numbers(), [0, 1].as_slice())?;
     Ok(())
 }
 
@@ -74,17 +73,17 @@ fn many_lines(alloc: Global) -> Result<Vec<u8>, Fail> {
 }
 
 /// Checks the numbers of the keys of such lines.
-fn numbers_go_back(rt: &impl Abort, trace: &Trace<Global>) {
-    same(rt, trace.key_count(), 65_537);
-    same(rt, trace.numbers().len(), 131_074);
+fn numbers_go_back(trace: &Trace<Global>) -> Result<(), Fail> {
+    same(trace.key_count(), 65_537)?;
+    same(trace.numbers().len(), 131_074)?;
     for (index, number) in trace.numbers().iter().enumerate() {
         let wanted = index.min(131_073usize.saturating_sub(index));
-        same_at(rt, *number as usize, wanted, index);
+        same_at(*number as usize, wanted, index)?;
     }
+    Ok(())
 }
 
 #[test]
 fn many_keys(rt: HostRuntime) -> Result<(), Fail> {
-    numbers_go_back(&rt, &trace_of(rt.alloc(), &many_lines(rt.alloc())?)?);
-    Ok(())
+    numbers_go_back(&trace_of(rt.alloc(), &many_lines(rt.alloc())?)?)
 }

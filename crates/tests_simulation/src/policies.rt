@@ -1,7 +1,6 @@
 //! Tests against lists that are searched and shifted, over traces of several kinds.
 
 use crate::arc::arc_model;
-use crate::assertions::{same, same_at};
 use crate::lirs::lirs_model;
 use crate::lru_2::lru_2_model;
 use crate::queues::{Queue, evict_unmarked, marked, push, trace_of};
@@ -16,8 +15,8 @@ use clock2q_simulation::clock_hits;
 use std::alloc::{AllocError, Global};
 use std::collections::VecDeque;
 use std::num::NonZeroUsize;
-use std::process::Abort;
 use std::test::Fail;
+use testing::{same, same_at};
 
 const KEYS: u32 = 40;
 
@@ -108,32 +107,26 @@ fn optimal_model(alloc: Global, room: usize, trace: &[u32]) -> Result<usize, All
 }
 
 /// Checks that each policy's hits are those of its lists, in a cache of some capacity.
-fn hits_are_same(
-    rt: &impl Abort,
-    alloc: Global,
-    capacity: NonZeroUsize,
-    trace: &[u32],
-) -> Result<(), Fail> {
+fn hits_are_same(alloc: Global, capacity: NonZeroUsize, trace: &[u32]) -> Result<(), Fail> {
     let room = capacity.get();
     let clock = clock_hits(alloc, capacity, trace)?;
-    same_at(rt, clock, clock_model(alloc, room, trace)?, ("CLOCK", room));
+    same_at(clock, clock_model(alloc, room, trace)?, ("CLOCK", room))?;
     let sieve = sieve_hits(alloc, capacity, trace, KEYS)?;
-    same_at(rt, sieve, sieve_model(alloc, room, trace)?, ("SIEVE", room));
+    same_at(sieve, sieve_model(alloc, room, trace)?, ("SIEVE", room))?;
     let s3_fifo = s3_fifo_hits(alloc, capacity, trace, KEYS)?;
     let model = s3_fifo_model(alloc, room, trace)?;
-    same_at(rt, s3_fifo, model, ("S3-FIFO", room));
+    same_at(s3_fifo, model, ("S3-FIFO", room))?;
     let arc = arc_hits(alloc, capacity, trace, KEYS)?;
-    same_at(rt, arc, arc_model(alloc, room, trace)?, ("ARC", room));
-    let optimal = optimal_is_same(rt, alloc, capacity, trace)?;
-    let most = hits_of_more_are_same(rt, alloc, capacity, trace, KEYS)?;
+    same_at(arc, arc_model(alloc, room, trace)?, ("ARC", room))?;
+    let optimal = optimal_is_same(alloc, capacity, trace)?;
+    let most = hits_of_more_are_same(alloc, capacity, trace, KEYS)?;
     let most = most.max(clock).max(sieve).max(s3_fifo).max(arc);
-    assert!(rt; most <= optimal, "{room}");
+    same_at(most <= optimal, true, ("OPT", room))?;
     Ok(())
 }
 
 /// Does the same for the policies that remember more about a key. Returns their most hits.
 fn hits_of_more_are_same(
-    rt: &impl Abort,
     alloc: Global,
     capacity: NonZeroUsize,
     trace: &[u32],
@@ -141,42 +134,32 @@ fn hits_of_more_are_same(
 ) -> Result<usize, Fail> {
     let room = capacity.get();
     let two_q = two_q_hits(alloc, capacity, trace, keys)?;
-    same_at(rt, two_q, two_q_model(alloc, room, trace)?, ("2Q", room));
+    same_at(two_q, two_q_model(alloc, room, trace)?, ("2Q", room))?;
     let lirs = lirs_hits(alloc, capacity, trace, keys)?;
-    same_at(rt, lirs, lirs_model(alloc, room, trace)?, ("LIRS", room));
+    same_at(lirs, lirs_model(alloc, room, trace)?, ("LIRS", room))?;
     let lru_2 = lru_2_hits(alloc, capacity, trace, keys)?;
     let model = lru_2_model(alloc, room, trace, keys)?;
-    same_at(rt, lru_2, model, ("LRU-2", room));
+    same_at(lru_2, model, ("LRU-2", room))?;
     let w_tiny_lfu = w_tiny_lfu_hits(alloc, capacity, trace, keys)?;
     let model = w_tiny_lfu_model(alloc, room, trace)?;
-    same_at(rt, w_tiny_lfu, model, ("W-TinyLFU", room));
+    same_at(w_tiny_lfu, model, ("W-TinyLFU", room))?;
     Ok(two_q.max(lirs).max(lru_2).max(w_tiny_lfu))
 }
 
 /// Checks the most hits by a list that is searched for the key that the trace needs last. Returns
 /// them.
-fn optimal_is_same(
-    rt: &impl Abort,
-    alloc: Global,
-    capacity: NonZeroUsize,
-    trace: &[u32],
-) -> Result<usize, Fail> {
+fn optimal_is_same(alloc: Global, capacity: NonZeroUsize, trace: &[u32]) -> Result<usize, Fail> {
     let room = capacity.get();
     let optimal = optimal_hits(alloc, capacity, trace, KEYS)?;
-    same_at(
-        rt,
-        optimal,
-        optimal_model(alloc, room, trace)?,
-        ("OPT", room),
-    );
+    same_at(optimal, optimal_model(alloc, room, trace)?, ("OPT", room))?;
     Ok(optimal)
 }
 
 /// Does the same in caches of several capacities.
-fn all_hits_are_same(rt: &impl Abort, alloc: Global, trace: &[u32]) -> Result<(), Fail> {
+fn all_hits_are_same(alloc: Global, trace: &[u32]) -> Result<(), Fail> {
     for room in [1usize, 2, 3, 7, 10, 20, 22, 30, 41] {
         let capacity = NonZeroUsize::new(room).ok_or("not zero")?;
-        hits_are_same(rt, alloc, capacity, trace)?;
+        hits_are_same(alloc, capacity, trace)?;
     }
     Ok(())
 }
@@ -184,16 +167,16 @@ fn all_hits_are_same(rt: &impl Abort, alloc: Global, trace: &[u32]) -> Result<()
 #[test]
 fn hits_are_those_of_lists(rt: HostRuntime) -> Result<(), Fail> {
     for seed in 1..4 {
-        all_hits_are_same(&rt, rt.alloc(), &trace_of(rt.alloc(), seed, 600, KEYS)?)?;
+        all_hits_are_same(rt.alloc(), &trace_of(rt.alloc(), seed, 600, KEYS)?)?;
     }
     Ok(())
 }
 
 /// Checks the most hits in caches of several capacities.
-fn all_optimal_hits_are_same(rt: &impl Abort, alloc: Global, trace: &[u32]) -> Result<(), Fail> {
+fn all_optimal_hits_are_same(alloc: Global, trace: &[u32]) -> Result<(), Fail> {
     for room in [1usize, 2, 5, 20] {
         let capacity = NonZeroUsize::new(room).ok_or("not zero")?;
-        optimal_is_same(rt, alloc, capacity, trace)?;
+        optimal_is_same(alloc, capacity, trace)?;
     }
     Ok(())
 }
@@ -201,7 +184,7 @@ fn all_optimal_hits_are_same(rt: &impl Abort, alloc: Global, trace: &[u32]) -> R
 /// A trace of this length has indices whose words are on three levels.
 #[test]
 fn optimal_hits_of_a_long_trace(rt: HostRuntime) -> Result<(), Fail> {
-    all_optimal_hits_are_same(&rt, rt.alloc(), &trace_of(rt.alloc(), 4, 9000, KEYS)?)
+    all_optimal_hits_are_same(rt.alloc(), &trace_of(rt.alloc(), 4, 9000, KEYS)?)
 }
 
 /// Worked out by hand: 0 and 1 are accessed again, so a scan of 2, 3, 4 takes the room of keys
@@ -210,7 +193,7 @@ fn optimal_hits_of_a_long_trace(rt: HostRuntime) -> Result<(), Fail> {
 fn arc_keeps_what_came_again(rt: HostRuntime) -> Result<(), Fail> {
     let capacity = NonZeroUsize::new(3).ok_or("not zero")?;
     let trace = [0, 1, 0, 1, 2, 3, 4, 0, 1, 2, 2];
-    same(&rt, arc_hits(rt.alloc(), capacity, &trace, 5)?, 5);
+    same(arc_hits(rt.alloc(), capacity, &trace, 5)?, 5)?;
     Ok(())
 }
 
@@ -220,7 +203,7 @@ fn hits_in_large_caches_are_those_of_lists(rt: HostRuntime) -> Result<(), Fail> 
     let trace = trace_of(rt.alloc(), 5, 4000, MANY_KEYS)?;
     for room in [99usize, 201, 333] {
         let capacity = NonZeroUsize::new(room).ok_or("not zero")?;
-        hits_of_more_are_same(&rt, rt.alloc(), capacity, &trace, MANY_KEYS)?;
+        hits_of_more_are_same(rt.alloc(), capacity, &trace, MANY_KEYS)?;
     }
     Ok(())
 }
@@ -231,7 +214,7 @@ fn hits_in_large_caches_are_those_of_lists(rt: HostRuntime) -> Result<(), Fail> 
 fn two_q_keeps_what_came_after_it_left(rt: HostRuntime) -> Result<(), Fail> {
     let capacity = NonZeroUsize::new(4).ok_or("not zero")?;
     let trace = [0, 1, 2, 3, 4, 0, 0, 2, 5, 2, 2];
-    same(&rt, two_q_hits(rt.alloc(), capacity, &trace, 6)?, 3);
+    same(two_q_hits(rt.alloc(), capacity, &trace, 6)?, 3)?;
     Ok(())
 }
 
@@ -241,7 +224,7 @@ fn two_q_keeps_what_came_after_it_left(rt: HostRuntime) -> Result<(), Fail> {
 fn lirs_keeps_what_came_again_soon(rt: HostRuntime) -> Result<(), Fail> {
     let capacity = NonZeroUsize::new(3).ok_or("not zero")?;
     let trace = [0, 1, 2, 3, 2, 0, 1, 3, 0, 2];
-    same(&rt, lirs_hits(rt.alloc(), capacity, &trace, 4)?, 3);
+    same(lirs_hits(rt.alloc(), capacity, &trace, 4)?, 3)?;
     Ok(())
 }
 
@@ -251,7 +234,7 @@ fn lirs_keeps_what_came_again_soon(rt: HostRuntime) -> Result<(), Fail> {
 fn lru_2_keeps_what_came_twice(rt: HostRuntime) -> Result<(), Fail> {
     let capacity = NonZeroUsize::new(2).ok_or("not zero")?;
     let trace = [0, 0, 1, 2, 0, 1, 2, 1, 0];
-    same(&rt, lru_2_hits(rt.alloc(), capacity, &trace, 3)?, 3);
+    same(lru_2_hits(rt.alloc(), capacity, &trace, 3)?, 3)?;
     Ok(())
 }
 
@@ -260,6 +243,6 @@ fn lru_2_keeps_what_came_twice(rt: HostRuntime) -> Result<(), Fail> {
 fn w_tiny_lfu_keeps_what_came_more_often(rt: HostRuntime) -> Result<(), Fail> {
     let capacity = NonZeroUsize::new(3).ok_or("not zero")?;
     let trace = [0, 0, 1, 2, 3, 0, 1];
-    same(&rt, w_tiny_lfu_hits(rt.alloc(), capacity, &trace, 4)?, 3);
+    same(w_tiny_lfu_hits(rt.alloc(), capacity, &trace, 4)?, 3)?;
     Ok(())
 }

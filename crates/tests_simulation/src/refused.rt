@@ -1,14 +1,13 @@
 //! Requests for memory refused in turn, while the arguments are fetched and from them to the text.
 
 use crate::arguments::{ALL_POLICIES, words_of};
-use crate::assertions::same;
 use clock2q_cache::DefaultHashBuilder;
 use clock2q_ports::Device;
 use clock2q_simulation::{Progress, SimulationError, parse_options, simulate};
 use std::alloc::{Allocator, Global};
 use std::env;
 use std::test::Fail;
-use testing::{Refusing, Tried, try_in_turn};
+use testing::{Refusing, Tried, same, try_in_turn};
 
 const TRACE: &[u8] = b"a\nb\na\nc\nb\nd\na\nb\n";
 
@@ -68,6 +67,6 @@ fn each_request(rt: HostRuntime) -> Result<(), Fail> {
         });
         assert!(rt; matches!(tried, Tried::Done(_)), "{line}: {tried:?}");
     }
-    same(&rt, SimulationError::Memory.status(), 3);
+    same(SimulationError::Memory.status(), 3)?;
     Ok(())
 }

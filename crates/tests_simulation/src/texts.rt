@@ -1,14 +1,13 @@
 //! The tables and the CSV texts, from arguments and a trace.
 
 use crate::arguments::{ALL_POLICIES, options_of};
-use crate::assertions::{same, same_at};
 use clock2q_cache::DefaultHashBuilder;
 use clock2q_ports::Device;
 use clock2q_simulation::{Progress, replay_source, simulate, write_outcomes};
 use std::alloc::Global;
 use std::hash::{BuildHasher, RandomState};
 use std::test::Fail;
-use testing::Spread;
+use testing::{Spread, same, same_at};
 
 /// Returns what a simulation writes.
 fn written(alloc: Global, line: &str, input: &[u8]) -> Result<Vec<u8>, Fail> {
@@ -42,18 +41,13 @@ fn texts(rt: HostRuntime) -> Result<(), Fail> {
 capacity Clock2Q+    SIEVE  S3-FIFO      LRU      OPT
        1     0.00     0.00     0.00     0.00     0.00
 ";
-    same(
-        &rt,
-        written(rt.alloc(), "1", b"")?.as_slice(),
-        table.as_bytes(),
-    );
+    same(written(rt.alloc(), "1", b"")?.as_slice(), table.as_bytes())?;
     let lines = "\
 capacity,accesses,clock2q_hits,clock2q_ratio,lru_hits,lru_ratio,fifo_hits,fifo_ratio
 3,8,3,0.3750,3,0.3750,2,0.2500
 1,8,0,0.0000,0,0.0000,0,0.0000
 ";
     same(
-        &rt,
         written(
             rt.alloc(),
             "3 1 --csv --policies clock2q,lru,fifo",
@@ -61,7 +55,7 @@ capacity,accesses,clock2q_hits,clock2q_ratio,lru_hits,lru_ratio,fifo_hits,fifo_r
         )?
         .as_slice(),
         lines.as_bytes(),
-    );
+    )?;
     Ok(())
 }
 
@@ -73,13 +67,13 @@ capacity      LRU
        1    66.67
 ";
     let written_table = written(rt.alloc(), "1 --policies lru", b"a\na\na\n")?;
-    same(&rt, written_table.as_slice(), table.as_bytes());
+    same(written_table.as_slice(), table.as_bytes())?;
     let lines = "capacity,accesses,lru_hits,lru_ratio\n1,3,1,0.3333\n";
     let written_lines = written(rt.alloc(), "1 --csv --policies lru", b"a\na\nb\n")?;
-    same(&rt, written_lines.as_slice(), lines.as_bytes());
+    same(written_lines.as_slice(), lines.as_bytes())?;
     let lines = "capacity,accesses,lru_hits,lru_ratio\n1,3,2,0.6667\n";
     let written_lines = written(rt.alloc(), "1 --csv --policies lru", b"a\na\na\n")?;
-    same(&rt, written_lines.as_slice(), lines.as_bytes());
+    same(written_lines.as_slice(), lines.as_bytes())?;
     Ok(())
 }
 
@@ -105,10 +99,9 @@ capacity,accesses,lru_hits,lru_ratio
 ";
     let line = "2 1..700 67% --csv 33% 100% --policies lru";
     same(
-        &rt,
         written(rt.alloc(), line, b"a\nb\na\nc\n")?.as_slice(),
         lines.as_bytes(),
-    );
+    )?;
     Ok(())
 }
 
@@ -125,7 +118,7 @@ fn more_than_fifty_capacities(rt: HostRuntime) -> Result<(), Fail> {
         lines.push_str(&row_of_two(rt.alloc(), capacity)?)?;
     }
     let text = written(rt.alloc(), &line, b"a\nb\na\n")?;
-    same(&rt, text.as_slice(), lines.as_bytes());
+    same(text.as_slice(), lines.as_bytes())?;
     Ok(())
 }
 
@@ -151,7 +144,7 @@ fn largest_capacity(rt: HostRuntime) -> Result<(), Fail> {
          16777215    50.00    50.00    50.00    50.00    50.00    50.00    50.00    50.00    \
          50.00    50.00    50.00    50.00\n";
     let text = written(rt.alloc(), &line, b"a\nb\na\nb\n")?;
-    same(&rt, text.as_slice(), table.as_bytes());
+    same(text.as_slice(), table.as_bytes())?;
     Ok(())
 }
 
@@ -162,11 +155,11 @@ fn other_hashers(rt: HostRuntime) -> Result<(), Fail> {
     let trace = b"a\nb\na\nc\n\nb\nd\na\nb\n";
     let wanted = written(rt.alloc(), line, trace)?;
     let text = written_with(rt.alloc(), line, trace, RandomState::new(&rt)?)?;
-    same(&rt, text.as_slice(), wanted.as_slice());
+    same(text.as_slice(), wanted.as_slice())?;
     for (times, more) in [(0, 0), (0, 0xAB00_0000_0000_000F), (0, u64::MAX), (1, 0)] {
         let spread = Spread { times, more };
         let text = written_with(rt.alloc(), line, trace, spread)?;
-        same_at(&rt, text.as_slice(), wanted.as_slice(), spread);
+        same_at(text.as_slice(), wanted.as_slice(), spread)?;
     }
     Ok(())
 }
@@ -183,7 +176,7 @@ capacity Clock2Q+    SIEVE  S3-FIFO      LRU      OPT
        3    37.50   *50.00    25.00    37.50    50.00
 ";
     let text = written(rt.alloc(), "1..3", TRACE)?;
-    same(&rt, text.as_slice(), table.as_bytes());
+    same(text.as_slice(), table.as_bytes())?;
     Ok(())
 }
 
@@ -197,7 +190,7 @@ fn json(rt: HostRuntime) -> Result<(), Fail> {
 ]}
 "#;
     let text = written(rt.alloc(), "2 3 --json --policies=lru,opt --skip 3", TRACE)?;
-    same(&rt, text.as_slice(), wanted.as_bytes());
+    same(text.as_slice(), wanted.as_bytes())?;
     Ok(())
 }
 
@@ -227,12 +220,12 @@ capacity     FIFO      LRU  trace
        3     0.00     0.00  c
 ";
     let text = of_two(rt.alloc(), "3 --policies fifo,lru")?;
-    same(&rt, text.as_slice(), table.as_bytes());
+    same(text.as_slice(), table.as_bytes())?;
     let lines = "capacity,accesses,lru_hits,lru_ratio,trace
 3,8,3,0.3750,\"a \"\"b\"\"\"
 3,1,0,0.0000,\"c\"
 ";
     let text = of_two(rt.alloc(), "3 --policies=lru --csv")?;
-    same(&rt, text.as_slice(), lines.as_bytes());
+    same(text.as_slice(), lines.as_bytes())?;
     Ok(())
 }
