@@ -4,42 +4,42 @@ use Rattle.std.proofs.Math.Seq.{map-set_same}
 use Rattle.std.proofs.lemmas.List.{map-set}
 use Rattle.std.proofs.lemmas.Bool.{cases_Bool, eqb-true}
 use Rattle.clock2q_queues.specs.declared.links.Record.{Record}
-use Rattle.clock2q_queues.specs.declared.links.Mark.{Mark}
-use Rattle.clock2q_queues.specs.declared.links.Mark.TheVariants.{Free}
+use Rattle.clock2q_queues.specs.declared.links.Location.{Location}
+use Rattle.clock2q_queues.specs.declared.links.Location.TheVariants.{Free}
 use Rattle.clock2q_queues.specs.declared.links.flags.Flags.{Flags}
 use Rattle.clock2q_queues.specs.Cells.{CellsState, hit_bits}
-use Rattle.clock2q_queues.specs.Links.{vacant, record_at, standing_at, Detaches}
-use Rattle.clock2q_queues.specs.Flags.{is_queued, standing_in, is_set, is_standing, flags_shown, flag_state}
+use Rattle.clock2q_queues.specs.Links.{vacant, record_at, location_at, Detaches}
+use Rattle.clock2q_queues.specs.Flags.{is_linked, linked_in, is_set, says_linked, flags_shown, flag_state}
 use Rattle.clock2q_queues.proofs.Records.{changed, get_or-same}
 
--- one slot's flag and mark were written
-pub agree-changed : (standing : List Bool) (old new : List Record) (slot : ℕ) (mark : Mark) → slot < length standing
-    → ((t : ℕ) → standing_in standing t ≡ is_queued (standing_at old t))
-    → ((t : ℕ) → standing_at new t ≡ cond (eqb t slot) mark (standing_at old t))
-    → (t : ℕ) → standing_in (set standing slot (is_queued mark)) t ≡ is_queued (standing_at new t)
-agree-changed standing old new slot mark h agree marks t =
-    changed (λ (b : Bool). b) standing slot (is_queued mark) false t h
+-- one slot's flag and location were written
+pub agree-changed : (linked : List Bool) (old new : List Record) (slot : ℕ) (location : Location) → slot < length linked
+    → ((t : ℕ) → linked_in linked t ≡ is_linked (location_at old t))
+    → ((t : ℕ) → location_at new t ≡ cond (eqb t slot) location (location_at old t))
+    → (t : ℕ) → linked_in (set linked slot (is_linked location)) t ≡ is_linked (location_at new t)
+agree-changed linked old new slot location h agree locations t =
+    changed (λ (b : Bool). b) linked slot (is_linked location) false t h
     ∙ elim (cases_Bool (eqb t slot)) [
-      | inl e ↦ rw e (ap is_queued (sym (marks t ∙ rw e refl)))
-      | inr e ↦ rw e (agree t ∙ ap is_queued (sym (marks t ∙ rw e refl)))
+      | inl e ↦ rw e (ap is_linked (sym (locations t ∙ rw e refl)))
+      | inr e ↦ rw e (agree t ∙ ap is_linked (sym (locations t ∙ rw e refl)))
     ]
 
--- the marks after a record was written
-pub marks-written : (rs : List Record) (slot : ℕ) (content : Record) → slot < length rs
-    → (t : ℕ) → standing_at (set rs slot content) t ≡ cond (eqb t slot) content.standing (standing_at rs t)
-marks-written rs slot content h t = changed (λ (r : Record). r.standing) rs slot content vacant t h
+-- the locations after a record was written
+pub locations-written : (rs : List Record) (slot : ℕ) (content : Record) → slot < length rs
+    → (t : ℕ) → location_at (set rs slot content) t ≡ cond (eqb t slot) content.location (location_at rs t)
+locations-written rs slot content h t = changed (λ (r : Record). r.location) rs slot content vacant t h
 
--- the marks after a slot was taken from between its neighbours
-pub marks-detached : (slot : ℕ) (old new : CellsState Record) → Detaches slot old new
-    → (t : ℕ) → standing_at new.items t ≡ cond (eqb t slot) Free (standing_at old.items t)
-marks-detached slot old new d t = elim (cases_Bool (eqb t slot)) [
-  | inl e ↦ rw e (ap (λ (r : Record). r.standing) (subst (λ z. record_at new.items z ≡ vacant) (sym (eqb-true t slot e)) d.freed))
-  | inr e ↦ rw e (d.standings t e)
+-- the locations after a slot was taken from between its neighbours
+pub locations-detached : (slot : ℕ) (old new : CellsState Record) → Detaches slot old new
+    → (t : ℕ) → location_at new.items t ≡ cond (eqb t slot) Free (location_at old.items t)
+locations-detached slot old new d t = elim (cases_Bool (eqb t slot)) [
+  | inl e ↦ rw e (ap (λ (r : Record). r.location) (subst (λ z. record_at new.items z ≡ vacant) (sym (eqb-true t slot e)) d.freed))
+  | inr e ↦ rw e (d.locations t e)
 ]
 
 -- no slot is in a queue
-pub agree-blank : (m n : ℕ) (t : ℕ) → standing_in (replicate m false) t ≡ is_queued (standing_at (replicate n vacant) t)
-agree-blank m n t = get_or-same m t false ∙ sym (ap (λ (r : Record). is_queued r.standing) (get_or-same n t vacant))
+pub agree-blank : (m n : ℕ) (t : ℕ) → linked_in (replicate m false) t ≡ is_linked (location_at (replicate n vacant) t)
+agree-blank m n t = get_or-same m t false ∙ sym (ap (λ (r : Record). is_linked r.location) (get_or-same n t vacant))
 
 -- What the bytes say
 
@@ -56,6 +56,6 @@ told-same says zero f = refl
 told-same says (suc n) f = ap (λ z. says f ∷ z) (told-same says n f)
 
 -- no byte says that a bit is set, or that a slot is in a queue
-pub told-clear : (n inspections : ℕ) (f : Flags) → is_set f ≡ false → is_standing f ≡ false
+pub told-clear : (n inspections : ℕ) (f : Flags) → is_set f ≡ false → says_linked f ≡ false
     → flags_shown (replicate n f) inspections ≡ flag_state (hit_bits (replicate n false) inspections) (replicate n false)
-told-clear n inspections f bit standing = rw (told-same is_set n f, told-same is_standing n f, bit, standing) refl
+told-clear n inspections f bit linked = rw (told-same is_set n f, told-same says_linked n f, bit, linked) refl

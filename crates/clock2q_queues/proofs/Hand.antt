@@ -73,13 +73,13 @@ module _ (now l : LinkState) (main : MainRing) (hand : ℕ) (rest : List ℕ) (i
       counted = m.queue.counted ∙ (let e = length_push rest hand in omega arith);
       countable = rw as_many m.queue.countable;
     };
-    standing = λ t h. ap (λ (z : List Record). (record_at z t).standing) items ∙ m.standing t (has-behind t hand rest h);
+    location = λ t h. ap (λ (z : List Record). (record_at z t).location) items ∙ m.location t (has-behind t hand rest h);
   }
 
   stayed : IsMain l (with_hand hand main) (hand ∷ rest)
   stayed = record {
     queue = record { linked = linked; starts = refl; counted = m.queue.counted; countable = rw as_many m.queue.countable };
-    standing = λ t h. ap (λ (z : List Record). (record_at z t).standing) items ∙ m.standing t h;
+    location = λ t h. ap (λ (z : List Record). (record_at z t).location) items ∙ m.location t h;
   }
 
 -- an inspection of the hand's slot doesn't change the other bits
@@ -184,7 +184,9 @@ module _ (old : LinkState) (main : MainRing) (now : LinkState) (hand : ℕ) (s :
     -- the hand passed an entry whose bit was set
     module _ (b : bit_at now hand ≡ true) where
       after : main_entries l (with_hand (next_at now.records.items hand) main) ≡ es ++ (hand, false) ∷ []
-      after = ap (λ z. map {B = ℕ × Bool} (λ t. (t, bit_at l t)) z) (main_slots-is l (with_hand (next_at now.records.items hand) main) (rest ++ hand ∷ []) (turned now l main hand rest k.items at_hand))
+      after =
+          let entries = λ (slots : List ℕ). map {B = ℕ × Bool} (λ t. (t, bit_at l t)) slots in
+          ap entries (main_slots-is l (with_hand (next_at now.records.items hand) main) (rest ++ hand ∷ []) (turned now l main hand rest k.items at_hand))
           ∙ entries_turned now l main hand rest k at_hand
 
       looks_left : inspections (main_entries now (with_hand hand main)) ≡ inspections (main_entries l (with_hand (next_at now.records.items hand) main)) + 1

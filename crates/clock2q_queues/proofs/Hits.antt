@@ -4,12 +4,12 @@ use Rattle.std.proofs.lemmas.Bool.{cases_Bool}
 use Rattle.clock2q_machine.specs.Ages.{touched}
 use Rattle.clock2q_queues.specs.Cells.{CellsState, HitBits, bit_in}
 use Rattle.clock2q_queues.specs.declared.links.Record.{Record}
-use Rattle.clock2q_queues.specs.declared.links.Mark.{Mark}
-use Rattle.clock2q_queues.specs.declared.links.Mark.TheVariants.{Free, Young, Old, Main}
+use Rattle.clock2q_queues.specs.declared.links.Location.{Location}
+use Rattle.clock2q_queues.specs.declared.links.Location.TheVariants.{Free, SmallYoung, SmallOld, Main}
 use Rattle.clock2q_queues.specs.declared.main_ring.MainRing.{MainRing}
 use Rattle.clock2q_queues.specs.declared.small.Small.{Small}
 use Rattle.clock2q_queues.specs.Rings.{has}
-use Rattle.clock2q_queues.specs.Links.{LinkState, SetsBit, standing_at, bit_at}
+use Rattle.clock2q_queues.specs.Links.{LinkState, SetsBit, location_at, bit_at}
 use Rattle.clock2q_queues.specs.MainRing.{main_slots, main_entries, main_hit_at}
 use Rattle.clock2q_queues.specs.Small.{small_slots, small_entries, small_hit_at, age_of, age_at}
 use Rattle.clock2q_queues.specs.Queues.{AreQueues, QueueState, queues_shown, slots_of}
@@ -30,10 +30,10 @@ entries-at {X} f g h slot (s ∷ ss) a =
     ∙ ap (λ zs. cond (eqb s slot) (s, h (g s)) (s, g s) ∷ zs) (entries-at f g h slot ss a)
 
 -- the age of a slot whose bit is set
-age-hit : (window cursor : ℕ) (standing : Mark) (b : Bool) → age_of window cursor standing true ≡ touched (age_of window cursor standing b)
+age-hit : (window cursor : ℕ) (location : Location) (b : Bool) → age_of window cursor location true ≡ touched (age_of window cursor location b)
 age-hit window cursor Free b = refl
-age-hit window cursor (Young position) b = refl
-age-hit window cursor Old b = refl
+age-hit window cursor (SmallYoung position) b = refl
+age-hit window cursor SmallOld b = refl
 age-hit window cursor Main b = refl
 
 module _ (l : LinkState) (small : Small) (main : MainRing) (q : AreQueues l small main) (slot : ℕ) where
@@ -42,7 +42,7 @@ module _ (l : LinkState) (small : Small) (main : MainRing) (q : AreQueues l smal
   hit_bits b h i =
       let new : LinkState = record l { bits = b } in
       let ages = (λ (t : ℕ). elim (cases_Bool (eqb t slot)) as (λ w. age_at new small.cursor t ≡ cond (eqb t slot) (touched (age_at l small.cursor t)) (age_at l small.cursor t)) [
-        | inl e ↦ rw (h t, e) (age-hit (length l.window.items) small.cursor (standing_at l.records.items t) (bit_at l t))
+        | inl e ↦ rw (h t, e) (age-hit (length l.window.items) small.cursor (location_at l.records.items t) (bit_at l t))
         | inr e ↦ rw (h t, e) refl
       ]) in
       record {
@@ -50,13 +50,13 @@ module _ (l : LinkState) (small : Small) (main : MainRing) (q : AreQueues l smal
           small = record {
             queue = q.small.queue;
             ends = q.small.ends;
-            standing = q.small.standing;
+            location = q.small.location;
             placed = q.small.placed;
             occupied = q.small.occupied;
             cursor_in = q.small.cursor_in;
             countable_positions = q.small.countable_positions;
           };
-          main = record { queue = q.main.queue; standing = q.main.standing };
+          main = record { queue = q.main.queue; location = q.main.location };
           elsewhere = q.elsewhere;
         };
         is = queues_equal (queues_shown new small main) (record (queues_shown l small main) { small = small_hit_at slot (small_entries l small); main = main_hit_at slot (main_entries l main) })

@@ -1,5 +1,6 @@
 -- How putting a slot into the links, and taking one out, changes the queue that it joins or leaves, and the rest.
-use Rattle.std.proofs.Common.{◌≡◌, ℕ, ◌+◌, ◌-◌, ◌^◌, ◌<◌, ◌≤◌, ◌≢◌, ltb, true, false, not, cond, ◌||◌, eqb, Option, Some, None, slice_get, List, [], ◌∷◌, ◌++◌, length, map, set, inl, inr, refl, sym, ap, ◌∙◌, subst, arith}
+use Rattle.std.proofs.Common.{◌≡◌, ℕ, ◌+◌, ◌-◌, ◌^◌, ◌<◌, ◌≤◌, ◌≢◌, ltb, true, false, not, cond, ◌||◌, eqb, Option, Some}
+use Rattle.std.proofs.Common.{None, slice_get, List, [], ◌∷◌, ◌++◌, length, map, set, inl, inr, refl, sym, ap, ◌∙◌, subst, arith}
 use Rattle.std.specs.Bool.{then_some}
 use Rattle.std.specs.Option.{option_eq}
 use Rattle.std.specs.List.{filter, list_any, AllByRecursion, IsDistinct, last_or}
@@ -9,22 +10,23 @@ use Rattle.std.proofs.lemmas.List.Elements.{filter-append}
 use Rattle.std.proofs.lemmas.Map.Steps.{length-le_from_distinct_below}
 use Rattle.clock2q_machine.proofs.Whole.{last_some}
 use Rattle.clock2q_queues.specs.declared.links.Record.{Record}
-use Rattle.clock2q_queues.specs.declared.links.Mark.{Mark}
+use Rattle.clock2q_queues.specs.declared.links.Location.{Location}
 use Rattle.clock2q_queues.specs.Rings.{has, without, AllApart, AllBelow, Joins, IsRing}
 use Rattle.clock2q_queues.specs.Cells.{CellsState, written}
-use Rattle.clock2q_queues.specs.Links.{IsLinked, IsQueue, Attaches, Detaches, slots_from, record_at, next_at, previous_at, standing_at, vacant}
-use Rattle.clock2q_queues.proofs.Rings.{eqb_self, eqb_swap, has-append, has_first, has_later, differs, AllApart-append, AllApart-left, AllApart-right, apart_from, AllApart-turned, AllBelow-append, AllBelow-left, AllBelow-right, below_of, parted, IsRing-kept, IsRing-put, IsRing-taken, IsRing-turned, before_end, Joins_parts, around-ring, without-parted}
+use Rattle.clock2q_queues.specs.Links.{IsLinked, IsQueue, Attaches, Detaches, slots_from, record_at, next_at, previous_at, location_at, vacant}
+use Rattle.clock2q_queues.proofs.Rings.{eqb_self, eqb_swap, has-append, has_first, has_later, differs, AllApart-append, AllApart-left, AllApart-right, apart_from, AllApart-turned, AllBelow-append}
+use Rattle.clock2q_queues.proofs.Rings.{AllBelow-left, AllBelow-right, below_of, parted, IsRing-kept, IsRing-put, IsRing-taken, IsRing-turned, before_end, Joins_parts, around-ring, without-parted}
 use Rattle.clock2q_queues.proofs.Booleans.{or_left, or_right, or_parts, or_neither}
 use Rattle.clock2q_queues.proofs.Records.{changed}
 
 -- Slots
 
 -- a record is its three fields
-pub same_record : (x y : Record) → x.previous ≡ y.previous → x.next ≡ y.next → x.standing ≡ y.standing → x ≡ y
+pub same_record : (x y : Record) → x.previous ≡ y.previous → x.next ≡ y.next → x.location ≡ y.location → x ≡ y
 same_record x y p n s =
-    ap (λ z. record { previous = z; next = x.next; standing = x.standing }) p
-    ∙ ap (λ z. record { previous = y.previous; next = z; standing = x.standing }) n
-    ∙ ap (λ z. record { previous = y.previous; next = y.next; standing = z }) s
+    ap (λ z. record { previous = z; next = x.next; location = x.location }) p
+    ∙ ap (λ z. record { previous = y.previous; next = z; location = x.location }) n
+    ∙ ap (λ z. record { previous = y.previous; next = y.next; location = z }) s
 
 pub map-agree : {X : Type 0} (f g : ℕ → X) (ss : List ℕ) → ((t : ℕ) → has t ss ≡ true → f t ≡ g t) → map f ss ≡ map g ss
 map-agree f g [] h = refl
@@ -127,17 +129,17 @@ count_fits rs first count ss slot q absent b =
 -- Putting a slot in
 
 -- a slot was put last into a queue
-pub record Inserts (slot : ℕ) (standing : Mark) (ss : List ℕ) (old new : List Record) : Type 0 where
+pub record Inserts (slot : ℕ) (location : Location) (ss : List ℕ) (old new : List Record) : Type 0 where
   pub linked : IsLinked new (ss ++ slot ∷ [])
-  pub standings : (t : ℕ) → standing_at new t ≡ cond (eqb t slot) standing (standing_at old t)
+  pub locations : (t : ℕ) → location_at new t ≡ cond (eqb t slot) location (location_at old t)
   pub others : (t : ℕ) → has t (slot ∷ ss) ≡ false → record_at new t ≡ record_at old t
   pub as_many : length new ≡ length old
 
 -- into a queue with slots, just before its first one
-Inserts-attached : (old new : CellsState Record) (first : ℕ) (ss : List ℕ) (slot : ℕ) (standing : Mark)
-    → IsLinked old.items (first ∷ ss) → has slot (first ∷ ss) ≡ false → slot < length old.items → Attaches slot first standing old new
-    → Inserts slot standing (first ∷ ss) old.items new.items
-Inserts-attached old new first ss slot standing k absent b a =
+Inserts-attached : (old new : CellsState Record) (first : ℕ) (ss : List ℕ) (slot : ℕ) (location : Location)
+    → IsLinked old.items (first ∷ ss) → has slot (first ∷ ss) ≡ false → slot < length old.items → Attaches slot first location old new
+    → Inserts slot location (first ∷ ss) old.items new.items
+Inserts-attached old new first ss slot location k absent b a =
     let rs = old.items in
     let last_in = before_end (next_at rs) (previous_at rs) first ss first k.ring in
     record {
@@ -146,22 +148,22 @@ Inserts-attached old new first ss slot standing k absent b a =
         apart = AllApart-append (first ∷ ss) (slot ∷ []) k.apart (refl, tt) (λ t h. or_neither (eqb t slot) false (differs t slot (first ∷ ss) h absent) refl);
         below = subst (λ z. AllBelow z (first ∷ ss ++ slot ∷ [])) (sym a.as_many) (AllBelow-append (length rs) (first ∷ ss) (slot ∷ []) k.below (b, tt));
       };
-      standings = a.standings;
+      locations = a.locations;
       others = λ t h.
           let p : eqb t slot ≡ false = (or_parts (eqb t slot) (has t (first ∷ ss)) h).0 in
           let q : has t (first ∷ ss) ≡ false = (or_parts (eqb t slot) (has t (first ∷ ss)) h).1 in
           let f : eqb t first ≡ false = (or_parts (eqb t first) (has t ss) q).0 in
           let l : eqb t (previous_at rs first) ≡ false = eqb_swap (previous_at rs first) t (differs (previous_at rs first) t (first ∷ ss) last_in q) in
           same_record (record_at new.items t) (record_at rs t)
-          (a.previouses t ∙ rw (f, p) refl) (a.nexts t ∙ rw (l, p) refl) (a.standings t ∙ rw p refl);
+          (a.previouses t ∙ rw (f, p) refl) (a.nexts t ∙ rw (l, p) refl) (a.locations t ∙ rw p refl);
       as_many = a.as_many;
     }
 
 -- into an empty queue
-Inserts-alone : (rs : List Record) (slot : ℕ) (standing : Mark) → slot < length rs
-    → Inserts slot standing [] rs (set rs slot (record { previous = slot; next = slot; standing = standing }))
-Inserts-alone rs slot standing b =
-    let r : Record = record { previous = slot; next = slot; standing = standing } in
+Inserts-alone : (rs : List Record) (slot : ℕ) (location : Location) → slot < length rs
+    → Inserts slot location [] rs (set rs slot (record { previous = slot; next = slot; location = location }))
+Inserts-alone rs slot location b =
+    let r : Record = record { previous = slot; next = slot; location = location } in
     let n = length-set rs slot r in
     record {
       linked = record {
@@ -169,32 +171,32 @@ Inserts-alone rs slot standing b =
         apart = (refl, tt);
         below = (omega arith, tt);
       };
-      standings = λ t. changed (λ p. p.standing) rs slot r vacant t b;
+      locations = λ t. changed (λ p. p.location) rs slot r vacant t b;
       others = λ t h. changed (λ p. p) rs slot r vacant t b ∙ rw ((or_parts (eqb t slot) false h).0) refl;
       as_many = n;
     }
 
 -- a slot is put in before the first slot of a queue, as its owner holds it
-pub Inserts-before : (old new : CellsState Record) (ss : List ℕ) (slot : ℕ) (standing : Mark) (first : ℕ)
-    → IsLinked old.items ss → Some first ≡ slice_get ss 0 → has slot ss ≡ false → slot < length old.items → Attaches slot first standing old new
-    → Inserts slot standing ss old.items new.items
-Inserts-before old new [] slot standing first k e absent b a = absurd (cc)
-Inserts-before old new (s ∷ ss) slot standing first k e absent b a =
+pub Inserts-before : (old new : CellsState Record) (ss : List ℕ) (slot : ℕ) (location : Location) (first : ℕ)
+    → IsLinked old.items ss → Some first ≡ slice_get ss 0 → has slot ss ≡ false → slot < length old.items → Attaches slot first location old new
+    → Inserts slot location ss old.items new.items
+Inserts-before old new [] slot location first k e absent b a = absurd (cc)
+Inserts-before old new (s ∷ ss) slot location first k e absent b a =
     let q : first ≡ s = cc in
-    Inserts-attached old new s ss slot standing k absent b (subst (λ z. Attaches slot z standing old new) q a)
+    Inserts-attached old new s ss slot location k absent b (subst (λ z. Attaches slot z location old new) q a)
 
-pub Inserts-first : (old new : CellsState Record) (ss : List ℕ) (slot : ℕ) (standing : Mark)
-    → None ≡ slice_get ss 0 → slot < length old.items → new ≡ written slot (record { previous = slot; next = slot; standing = standing }) old
-    → Inserts slot standing ss old.items new.items
-Inserts-first old new [] slot standing e b n = subst (λ (z : CellsState Record). Inserts slot standing [] old.items z.items) (sym n) (Inserts-alone old.items slot standing b)
-Inserts-first old new (s ∷ ss) slot standing e b n = absurd (cc)
+pub Inserts-first : (old new : CellsState Record) (ss : List ℕ) (slot : ℕ) (location : Location)
+    → None ≡ slice_get ss 0 → slot < length old.items → new ≡ written slot (record { previous = slot; next = slot; location = location }) old
+    → Inserts slot location ss old.items new.items
+Inserts-first old new [] slot location e b n = subst (λ (z : CellsState Record). Inserts slot location [] old.items z.items) (sym n) (Inserts-alone old.items slot location b)
+Inserts-first old new (s ∷ ss) slot location e b n = absurd (cc)
 
 -- Taking a slot out
 
 -- a slot was taken out of a queue
 pub record Removes (slot : ℕ) (ss : List ℕ) (old new : List Record) : Type 0 where
   pub linked : IsLinked new (without slot ss)
-  pub standings : (t : ℕ) → eqb t slot ≡ false → standing_at new t ≡ standing_at old t
+  pub locations : (t : ℕ) → eqb t slot ≡ false → location_at new t ≡ location_at old t
   pub others : (t : ℕ) → has t ss ≡ false → record_at new t ≡ record_at old t
   pub freed : record_at new slot ≡ vacant
   pub as_many : length new ≡ length old
@@ -218,13 +220,13 @@ Removes-detached old new ss slot k h d =
             subst (λ z. AllBelow z (xs ++ ys)) (sym d.as_many)
             (AllBelow-append (length rs) xs ys (AllBelow-left (length rs) xs (slot ∷ ys) k'.below) (AllBelow-right (length rs) xs (slot ∷ ys) k'.below).1);
       });
-      standings = d.standings;
+      locations = d.locations;
       others = λ t g.
           let q : eqb t slot ≡ false = eqb_swap slot t (differs slot t ss h g) in
           let l : eqb t (previous_at rs slot) ≡ false = eqb_swap (previous_at rs slot) t (differs (previous_at rs slot) t ss (previous_in rs ss slot k h) g) in
           let r : eqb t (next_at rs slot) ≡ false = eqb_swap (next_at rs slot) t (differs (next_at rs slot) t ss (next_in rs ss slot k h) g) in
           same_record (record_at new.items t) (record_at rs t)
-          (d.previouses t q ∙ rw r refl) (d.nexts t q ∙ rw l refl) (d.standings t q);
+          (d.previouses t q ∙ rw r refl) (d.nexts t q ∙ rw l refl) (d.locations t q);
       freed = d.freed;
       as_many = d.as_many;
     }

@@ -6,12 +6,12 @@ use Rattle.std.proofs.lemmas.Bool.{eqb-true, eq-eqb, ne_eqb, both_ways, cases_Bo
 use Rattle.std.proofs.lemmas.List.{length-set, get_or_past, set_past}
 use Rattle.clock2q_machine.specs.Ages.{Age}
 use Rattle.clock2q_queues.specs.declared.links.Record.{Record}
-use Rattle.clock2q_queues.specs.declared.links.Mark.{Mark}
-use Rattle.clock2q_queues.specs.declared.links.Mark.TheVariants.{Free, Young, Old, Main}
+use Rattle.clock2q_queues.specs.declared.links.Location.{Location}
+use Rattle.clock2q_queues.specs.declared.links.Location.TheVariants.{Free, SmallYoung, SmallOld, Main}
 use Rattle.clock2q_queues.specs.declared.small.Small.{Small}
 use Rattle.clock2q_queues.specs.Cells.{CellsState, HitBits, bit_in}
 use Rattle.clock2q_queues.specs.Rings.{has, without}
-use Rattle.clock2q_queues.specs.Links.{LinkState, IsLinked, IsSameBut, Detaches, record_at, next_at, previous_at, standing_at, bit_at, young_at}
+use Rattle.clock2q_queues.specs.Links.{LinkState, IsLinked, IsSameBut, Detaches, record_at, next_at, previous_at, location_at, bit_at, young_at}
 use Rattle.clock2q_queues.specs.Ends.{position_freed, end_after}
 use Rattle.clock2q_queues.specs.Small.{IsSmall, IsSmallQueue, small_slots, small_entries, age_at}
 use Rattle.clock2q_queues.proofs.Records.{changed}
@@ -21,39 +21,41 @@ use Rattle.clock2q_queues.proofs.Window.{AreStaying, aged_slots, small_slots-is,
 
 -- Positions
 
-pub records-freed : (standing : Mark) (l : LinkState) → (position_freed standing l).records ≡ l.records
+pub records-freed : (location : Location) (l : LinkState) → (position_freed location l).records ≡ l.records
 records-freed Free l = refl
-records-freed (Young position) l = refl
-records-freed Old l = refl
+records-freed (SmallYoung position) l = refl
+records-freed SmallOld l = refl
 records-freed Main l = refl
 
-pub bits-freed : (standing : Mark) (l : LinkState) → (position_freed standing l).bits ≡ l.bits
+pub bits-freed : (location : Location) (l : LinkState) → (position_freed location l).bits ≡ l.bits
 bits-freed Free l = refl
-bits-freed (Young position) l = refl
-bits-freed Old l = refl
+bits-freed (SmallYoung position) l = refl
+bits-freed SmallOld l = refl
 bits-freed Main l = refl
 
-window-freed : (standing : Mark) (l : LinkState) → length (position_freed standing l).window.items ≡ length l.window.items
+window-freed : (location : Location) (l : LinkState) → length (position_freed location l).window.items ≡ length l.window.items
 window-freed Free l = refl
-window-freed (Young position) l = length-set l.window.items position None
-window-freed Old l = refl
+window-freed (SmallYoung position) l = length-set l.window.items position None
+window-freed SmallOld l = refl
 window-freed Main l = refl
 
 -- a slot keeps its position, if it isn't the one that was emptied
-young_at_kept : (standing : Mark) (l : LinkState) (p t : ℕ) → young_at l p ≡ Some t → ((position : ℕ) → standing ≡ Young position → p ≢ position) → young_at (position_freed standing l) p ≡ Some t
+young_at_kept : (location : Location) (l : LinkState) (p t : ℕ) → young_at l p ≡ Some t
+    → ((position : ℕ) → location ≡ SmallYoung position → p ≢ position) → young_at (position_freed location l) p ≡ Some t
 young_at_kept Free l p t h d = h
-young_at_kept (Young position) l p t h d = elim (cases_lt position (length l.window.items)) [
+young_at_kept (SmallYoung position) l p t h d = elim (cases_lt position (length l.window.items)) [
   | inl w ↦ changed (λ z. z) l.window.items position None None p w ∙ rw (ne_eqb p position (d position refl)) h
   | inr w ↦ rw (set_past l.window.items position None w) h
 ]
-young_at_kept Old l p t h d = h
+young_at_kept SmallOld l p t h d = h
 young_at_kept Main l p t h d = h
 
-young_at_was : (standing : Mark) (l : LinkState) (p t : ℕ) → young_at (position_freed standing l) p ≡ Some t → (young_at l p ≡ Some t) × ((position : ℕ) → standing ≡ Young position → p ≢ position)
+young_at_was : (location : Location) (l : LinkState) (p t : ℕ) → young_at (position_freed location l) p ≡ Some t
+    → (young_at l p ≡ Some t) × ((position : ℕ) → location ≡ SmallYoung position → p ≢ position)
 young_at_was Free l p t h = (h, λ position e. absurd (cc))
-young_at_was (Young position) l p t h = elim (cases_lt position (length l.window.items)) [
+young_at_was (SmallYoung position) l p t h = elim (cases_lt position (length l.window.items)) [
   | inl w ↦ elim (cases_Bool (eqb p position)) [
-    | inl g ↦ let q : young_at (position_freed (Young position) l) p ≡ None = changed (λ z. z) l.window.items position None None p w ∙ rw g refl in absurd (cc)
+    | inl g ↦ let q : young_at (position_freed (SmallYoung position) l) p ≡ None = changed (λ z. z) l.window.items position None None p w ∙ rw g refl in absurd (cc)
     | inr g ↦ (sym (changed (λ z. z) l.window.items position None None p w ∙ rw g refl) ∙ h, λ q e c. let r : q ≡ position = cc in both_ways (eqb p position) g (eq-eqb p position (c ∙ r)))
   ]
   | inr w ↦
@@ -64,7 +66,7 @@ young_at_was (Young position) l p t h = elim (cases_lt position (length l.window
             absurd (cc),
       )
 ]
-young_at_was Old l p t h = (h, λ position e. absurd (cc))
+young_at_was SmallOld l p t h = (h, λ position e. absurd (cc))
 young_at_was Main l p t h = (h, λ position e. absurd (cc))
 
 -- Ends
@@ -86,46 +88,47 @@ cases_end (Some s) slot = elim (cases_Bool (eqb s slot)) [
 -- The slots that stay
 
 module _ (slot : ℕ) {old : LinkState} {small : Small} (mid : LinkState) {new : LinkState} (m : IsSmallQueue old small) (h : has slot (small_slots old small) ≡ true)
-    (kept : (t : ℕ) → eqb t slot ≡ false → standing_at mid.records.items t ≡ standing_at old.records.items t)
+    (kept : (t : ℕ) → eqb t slot ≡ false → location_at mid.records.items t ≡ location_at old.records.items t)
     (as_many : length mid.records.items ≡ length old.records.items) (positions : mid.window.items ≡ old.window.items)
-    {standing : Mark} (was : standing ≡ standing_at old.records.items slot) (e : new ≡ position_freed standing mid) where
+    {location : Location} (was : location ≡ location_at old.records.items slot) (e : new ≡ position_freed location mid) where
   pub records_now : new.records.items ≡ mid.records.items
-  records_now = ap (λ (l : LinkState). l.records.items) e ∙ ap (λ (r : CellsState Record). r.items) (records-freed standing mid)
+  records_now = ap (λ (l : LinkState). l.records.items) e ∙ ap (λ (r : CellsState Record). r.items) (records-freed location mid)
 
   pub window_now : length new.window.items ≡ length old.window.items
-  window_now = ap (λ (l : LinkState). length l.window.items) e ∙ window-freed standing mid ∙ ap (λ (z : List (Option ℕ)). length z) positions
+  window_now = ap (λ (l : LinkState). length l.window.items) e ∙ window-freed location mid ∙ ap (λ (z : List (Option ℕ)). length z) positions
 
-  pub standing_now : (t : ℕ) → eqb t slot ≡ false → standing_at new.records.items t ≡ standing_at old.records.items t
-  standing_now t g = ap (λ (z : List Record). standing_at z t) records_now ∙ kept t g
+  pub location_now : (t : ℕ) → eqb t slot ≡ false → location_at new.records.items t ≡ location_at old.records.items t
+  location_now t g = ap (λ (z : List Record). location_at z t) records_now ∙ kept t g
 
-  placed_now : (t position : ℕ) → has t (without slot (small_slots old small)) ≡ true → standing_at new.records.items t ≡ Young position → (position < length new.window.items) × (young_at new position ≡ Some t)
+  placed_now : (t position : ℕ) → has t (without slot (small_slots old small)) ≡ true → location_at new.records.items t ≡ SmallYoung position
+      → (position < length new.window.items) × (young_at new position ≡ Some t)
   placed_now t position g y =
       let w = has-without t slot (small_slots old small) g in
-      let z : standing_at old.records.items t ≡ Young position = sym (standing_now t w.1) ∙ y in
+      let z : location_at old.records.items t ≡ SmallYoung position = sym (location_now t w.1) ∙ y in
       let p = m.placed t position w.0 z in
       let k : young_at mid position ≡ Some t = ap (λ q. get_or q position None) positions ∙ p.1 in (
         rw window_now p.0,
-        ap (λ l. young_at l position) e ∙ young_at_kept standing mid position t k (λ q s c.
+        ap (λ l. young_at l position) e ∙ young_at_kept location mid position t k (λ q s c.
             let o = (m.placed slot q h (sym was ∙ s)).1 in
             let f : young_at old position ≡ Some slot = ap (λ r. young_at old r) c ∙ o in
             let x : t ≡ slot = let a = p.1 in cc in
             both_ways (eqb t slot) w.1 (eq-eqb t slot x)),
       )
 
-  occupied_now : (position t : ℕ) → young_at new position ≡ Some t → (has t (without slot (small_slots old small)) ≡ true) × (standing_at new.records.items t ≡ Young position)
+  occupied_now : (position t : ℕ) → young_at new position ≡ Some t → (has t (without slot (small_slots old small)) ≡ true) × (location_at new.records.items t ≡ SmallYoung position)
   occupied_now position t g =
-      let w = young_at_was standing mid position t (sym (ap (λ l. young_at l position) e) ∙ g) in
+      let w = young_at_was location mid position t (sym (ap (λ l. young_at l position) e) ∙ g) in
       let p = m.occupied position t (sym (ap (λ q. get_or q position None) positions) ∙ w.0) in
       let n : eqb t slot ≡ false = elim (cases_Bool (eqb t slot)) [
-        | inl q ↦ absurd (w.1 position (was ∙ ap (λ z. standing_at old.records.items z) (sym (eqb-true t slot q)) ∙ p.1) refl)
+        | inl q ↦ absurd (w.1 position (was ∙ ap (λ z. location_at old.records.items z) (sym (eqb-true t slot q)) ∙ p.1) refl)
         | inr q ↦ q
       ] in
-      (has-without-back t slot (small_slots old small) p.0 n, standing_now t n ∙ p.1)
+      (has-without-back t slot (small_slots old small) p.0 n, location_now t n ∙ p.1)
 
   -- all but the slot whose position was emptied
   pub others_stay : AreStaying new small.cursor (without slot (small_slots old small))
   others_stay = record {
-    standing = λ t g. let w = has-without t slot (small_slots old small) g in rw (standing_now t w.1) (m.standing t w.0);
+    location = λ t g. let w = has-without t slot (small_slots old small) g in rw (location_now t w.1) (m.location t w.0);
     placed = placed_now;
     occupied = occupied_now;
     cursor_in = λ p. rw window_now (m.cursor_in (rw window_now at p));
@@ -139,21 +142,21 @@ module _ (slot : ℕ) {old : LinkState} {small : Small} (mid : LinkState) {new :
       map-agree {X = ℕ × Age} (λ s. (s, age_at new small.cursor s)) (λ s. (s, age_at old small.cursor s)) (without slot (small_slots old small))
       (λ t g.
       let w = has-without t slot (small_slots old small) g in
-      let b : bit_at new t ≡ bit_at old t = ap (λ (l : LinkState). bit_at l t) e ∙ ap (λ (b : HitBits). bit_in b.items t) (bits-freed standing mid ∙ bits) in
-      ap (λ z. (t, z)) (rw (window_now, standing_now t w.1, b) refl))
+      let b : bit_at new t ≡ bit_at old t = ap (λ (l : LinkState). bit_at l t) e ∙ ap (λ (b : HitBits). bit_in b.items t) (bits-freed location mid ∙ bits) in
+      ap (λ z. (t, z)) (rw (window_now, location_now t w.1, b) refl))
       ∙ sym (filter-entries slot (λ s. age_at old small.cursor s) (small_slots old small))
 
 -- a slot was taken out of Small
 pub record UnlinksSmall (slot : ℕ) (old : LinkState) (small : Small) (new : LinkState) (small' : Small) : Type 0 where
   pub whole : IsSmallQueue new small'
   pub entries : small_entries new small' ≡ filter (λ e. not (eqb e.0 slot)) (small_entries old small)
-  pub freed : standing_at new.records.items slot ≡ Free
+  pub freed : location_at new.records.items slot ≡ Free
   pub others : IsSameBut (small_slots old small) old new
   pub window : length new.window.items ≡ length old.window.items
 
 module _ (slot : ℕ) (old : LinkState) (small : Small) (mid new : LinkState) (m : IsSmallQueue old small) (h : has slot (small_slots old small) ≡ true)
     (d : Detaches slot old.records mid.records) (rest : mid ≡ record old { records = mid.records })
-    (standing : Mark) (was : standing ≡ standing_at old.records.items slot) (e : new ≡ position_freed standing mid) where
+    (location : Location) (was : location ≡ location_at old.records.items slot) (e : new ≡ position_freed location mid) where
   removed : Removes slot (small_slots old small) old.records.items mid.records.items
   removed = Removes-detached old.records mid.records (small_slots old small) slot m.queue.linked h d
 
@@ -161,13 +164,13 @@ module _ (slot : ℕ) (old : LinkState) (small : Small) (mid new : LinkState) (m
   positions_mid = ap (λ (l : LinkState). l.window.items) rest
 
   records_left : new.records.items ≡ mid.records.items
-  records_left = records_now slot mid m h removed.standings removed.as_many positions_mid was e
+  records_left = records_now slot mid m h removed.locations removed.as_many positions_mid was e
 
   window_left : length new.window.items ≡ length old.window.items
-  window_left = window_now slot mid m h removed.standings removed.as_many positions_mid was e
+  window_left = window_now slot mid m h removed.locations removed.as_many positions_mid was e
 
   stay : AreStaying new small.cursor (without slot (small_slots old small))
-  stay = others_stay slot mid m h removed.standings removed.as_many positions_mid was e
+  stay = others_stay slot mid m h removed.locations removed.as_many positions_mid was e
 
   as_many_left : length new.records.items ≡ length old.records.items
   as_many_left = ap (λ (z : List Record). length z) records_left ∙ removed.as_many
@@ -176,7 +179,7 @@ module _ (slot : ℕ) (old : LinkState) (small : Small) (mid new : LinkState) (m
   linked_left = subst (λ (z : List Record). IsLinked z (without slot (small_slots old small))) (sym records_left) removed.linked
 
   bit_left : (t : ℕ) → bit_at new t ≡ bit_at old t
-  bit_left t = ap (λ (l : LinkState). bit_at l t) e ∙ ap (λ (b : HitBits). bit_in b.items t) (bits-freed standing mid) ∙ ap (λ (l : LinkState). bit_at l t) rest
+  bit_left t = ap (λ (l : LinkState). bit_at l t) e ∙ ap (λ (b : HitBits). bit_in b.items t) (bits-freed location mid) ∙ ap (λ (l : LinkState). bit_at l t) rest
 
   module _ (small' : Small) (len : small'.len ≡ small.len - 1) (cursor : small'.cursor ≡ small.cursor)
       (newest : small'.newest ≡ end_after small.newest slot (small.len - 1) (next_at old.records.items slot))
@@ -203,7 +206,7 @@ module _ (slot : ℕ) (old : LinkState) (small : Small) (mid new : LinkState) (m
         countable = stay.countable;
       };
       ends = oldest_is;
-      standing = stay.standing;
+      location = stay.location;
       placed = stay.placed;
       occupied = stay.occupied;
       cursor_in = λ p. rw cursor (stay.cursor_in p);
@@ -216,8 +219,8 @@ module _ (slot : ℕ) (old : LinkState) (small : Small) (mid new : LinkState) (m
       entries =
           ap (λ z. map {B = ℕ × Age} (λ s. (s, age_at new small'.cursor s)) z) (small_slots-is new small' (without slot (small_slots old small)) whole_left)
           ∙ ap (λ z. aged_slots new z (without slot (small_slots old small))) cursor
-          ∙ ages_kept slot mid m h removed.standings removed.as_many positions_mid was e (ap (λ (l : LinkState). l.bits) rest);
-      freed = ap (λ (z : List Record). standing_at z slot) records_left ∙ ap (λ r. r.standing) removed.freed;
+          ∙ ages_kept slot mid m h removed.locations removed.as_many positions_mid was e (ap (λ (l : LinkState). l.bits) rest);
+      freed = ap (λ (z : List Record). location_at z slot) records_left ∙ ap (λ r. r.location) removed.freed;
       others =
           record {
             others = λ t g. ap (λ z. (z, bit_at new t)) (ap (λ (z : List Record). record_at z t) records_left ∙ removed.others t g)

@@ -5,10 +5,10 @@ use Rattle.std.proofs.lemmas.Bool.{both_ways, or_cases}
 use Rattle.std.proofs.lemmas.List.{map-append, length_push}
 use Rattle.clock2q_queues.specs.declared.links.Record.{Record}
 use Rattle.clock2q_queues.specs.declared.main_ring.MainRing.{MainRing}
-use Rattle.clock2q_queues.specs.declared.links.Mark.TheVariants.{Free, Main}
+use Rattle.clock2q_queues.specs.declared.links.Location.TheVariants.{Free, Main}
 use Rattle.clock2q_queues.specs.Cells.{CellsState, written}
 use Rattle.clock2q_queues.specs.Rings.{has, without}
-use Rattle.clock2q_queues.specs.Links.{LinkState, IsSameBut, SetsBit, Attaches, Detaches, previous_at, record_at, standing_at, bit_at}
+use Rattle.clock2q_queues.specs.Links.{LinkState, IsSameBut, SetsBit, Attaches, Detaches, previous_at, record_at, location_at, bit_at}
 use Rattle.clock2q_queues.specs.MainRing.{IsMain, IsMainRing, main_slots, main_entries}
 use Rattle.clock2q_queues.proofs.Rings.{eqb_self, has-append, differs, has-without}
 use Rattle.clock2q_queues.proofs.Joining.{Inserts, Inserts-before, Inserts-first, first_in, neighbours_fit, Removes-detached, length-without, map-agree, slots_from-is, filter-entries}
@@ -24,7 +24,7 @@ IsMainRing-from l main ss m = subst (λ z. IsMain l main z) (sym (main_slots-is 
 pub IsMainRing-empty : (l : LinkState) → length l.records.items < 2 ^ 32 → IsMainRing l (record { hand = None; len = 0 })
 IsMainRing-empty l h = record {
   queue = record { linked = record { ring = tt; apart = tt; below = tt }; starts = refl; counted = refl; countable = h };
-  standing = λ t g. absurd (both_ways false refl g);
+  location = λ t g. absurd (both_ways false refl g);
 }
 
 -- The hand after a slot was put in
@@ -54,9 +54,9 @@ module _ (slot : ℕ) (old : LinkState) (main : MainRing) (mid new : LinkState) 
       let ss = main_slots old main in
       let is : IsMain new main' (ss ++ slot ∷ []) = record {
         queue = record { linked = i.linked; starts = h; counted = n ∙ ap (λ z. z + 1) m.queue.counted ∙ sym (length_push ss slot); countable = rw i.as_many m.queue.countable };
-        standing = λ t g. elim (or_cases (has t ss) (has t (slot ∷ [])) (sym (has-append t ss (slot ∷ [])) ∙ g)) [
-          | inl q ↦ i.standings t ∙ rw (differs t slot ss q absent) (m.standing t q)
-          | inr q ↦ i.standings t ∙ elim (or_cases (eqb t slot) false q) [ inl z ↦ rw z refl | inr z ↦ absurd (both_ways false refl z) ]
+        location = λ t g. elim (or_cases (has t ss) (has t (slot ∷ [])) (sym (has-append t ss (slot ∷ [])) ∙ g)) [
+          | inl q ↦ i.locations t ∙ rw (differs t slot ss q absent) (m.location t q)
+          | inr q ↦ i.locations t ∙ elim (or_cases (eqb t slot) false q) [ inl z ↦ rw z refl | inr z ↦ absurd (both_ways false refl z) ]
         ];
       } in
       record {
@@ -79,11 +79,11 @@ module _ (slot : ℕ) (old : LinkState) (main : MainRing) (mid new : LinkState) 
       let starts = sym e ∙ m.queue.starts in
       pushed (Inserts-before old.records new.records (main_slots old main) slot Main hand m.queue.linked starts absent b a') (h ∙ slice_get-push (main_slots old main) slot hand starts)
 
-  pub PushesMain-alone : main.hand ≡ None → new.records ≡ written slot (record { previous = slot; next = slot; standing = Main }) mid.records
+  pub PushesMain-alone : main.hand ≡ None → new.records ≡ written slot (record { previous = slot; next = slot; location = Main }) mid.records
       → main'.hand ≡ Some slot → PushesMain slot old main new main'
   PushesMain-alone e w h =
       let starts = sym e ∙ m.queue.starts in
-      pushed (Inserts-first old.records new.records (main_slots old main) slot Main starts b (w ∙ ap (λ z. written slot (record { previous = slot; next = slot; standing = Main }) z) cleared.records))
+      pushed (Inserts-first old.records new.records (main_slots old main) slot Main starts b (w ∙ ap (λ z. written slot (record { previous = slot; next = slot; location = Main }) z) cleared.records))
       (h ∙ slice_get-first (main_slots old main) slot starts)
 
 -- the hand, and the slot before it, are among the records
@@ -114,7 +114,7 @@ module _ (slot : ℕ) (old : LinkState) (main : MainRing) (new : LinkState) (m :
                   let f = m.queue.counted in omega arith;
               countable = rw r.as_many m.queue.countable;
             };
-        standing = λ t g. let w = has-without t slot ss g in r.standings t w.1 ∙ m.standing t w.0;
+        location = λ t g. let w = has-without t slot ss g in r.locations t w.1 ∙ m.location t w.0;
       } in
       record {
         whole = IsMainRing-from new main' (without slot ss) is;
@@ -125,8 +125,8 @@ module _ (slot : ℕ) (old : LinkState) (main : MainRing) (new : LinkState) (m :
       }
 
   -- wherever the hand is then, the slot is free
-  pub freed-from : standing_at new.records.items slot ≡ Free
-  freed-from = ap (λ r. r.standing) (Removes-detached old.records new.records (main_slots old main) slot m.queue.linked h d).freed
+  pub freed-from : location_at new.records.items slot ≡ Free
+  freed-from = ap (λ r. r.location) (Removes-detached old.records new.records (main_slots old main) slot m.queue.linked h d).freed
 
   -- and the slots outside Main are unchanged
   pub others-from : IsSameBut (main_slots old main) old new

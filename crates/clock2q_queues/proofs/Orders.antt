@@ -1,19 +1,22 @@
 -- How each call changes the order of the history's places and the chain of the free ones.
-use Rattle.std.proofs.Common.{◌≡◌, ℕ, zero, suc, ◌+◌, ◌-◌, ◌^◌, ◌<◌, ◌≤◌, Bool, true, false, ◌||◌, eqb, Option, Some, None, slice_get, List, [], ◌∷◌, ◌++◌, length, take, drop, inl, inr, refl, sym, ap, ◌∙◌, subst, arith}
+use Rattle.std.proofs.Common.{◌≡◌, ℕ, zero, suc, ◌+◌, ◌-◌, ◌^◌, ◌<◌, ◌≤◌, Bool, true, false, ◌||◌, eqb, Option, Some}
+use Rattle.std.proofs.Common.{None, slice_get, List, [], ◌∷◌, ◌++◌, length, take, drop, inl, inr, refl, sym, ap, ◌∙◌, subst, arith}
 use Rattle.std.specs.Option.{unwrap_or}
 use Rattle.std.specs.List.{last_or}
 use Rattle.std.proofs.lemmas.Bool.{eqb-true, both_ways, cases_Bool}
 use Rattle.std.proofs.lemmas.List.{length-append, length-set}
 use Rattle.clock2q_queues.specs.declared.links.Record.{Record}
-use Rattle.clock2q_queues.specs.declared.links.Mark.TheVariants.{Free}
+use Rattle.clock2q_queues.specs.declared.links.Location.TheVariants.{Free}
 use Rattle.clock2q_queues.specs.declared.order.Chain.{Chain}
 use Rattle.clock2q_queues.specs.Rings.{has, without, AllApart, AllBelow, around}
 use Rattle.clock2q_queues.specs.Cells.{CellsState, accessed, written}
 use Rattle.clock2q_queues.specs.Links.{IsLinked, Attaches, Detaches, slots_from, record_at, next_at, previous_at, vacant}
 use Rattle.clock2q_queues.specs.Order.{PlaceOrder, IsOrderOf, IsOrder, IsWholeOrder, free_places, order_shown, place_for}
 use Rattle.clock2q_queues.proofs.Records.{changed}
-use Rattle.clock2q_queues.proofs.Rings.{eqb_self, has-append, has_first, has_later, AllApart-left, AllApart-right, AllApart-append, AllBelow-append, AllBelow-left, AllBelow-right, apart_from, apart_back, below_of, has-without}
-use Rattle.clock2q_queues.proofs.Joining.{Inserts, Inserts-before, Inserts-first, Removes, Removes-detached, IsLinked-kept, IsLinked-turned, slots_from-is, first_in, neighbours_fit, length-without, split_last, last_before}
+use Rattle.clock2q_queues.proofs.Rings.{eqb_self, has-append, has_first, has_later, AllApart-left, AllApart-right, AllApart-append}
+use Rattle.clock2q_queues.proofs.Rings.{AllBelow-append, AllBelow-left, AllBelow-right, apart_from, apart_back, below_of, has-without}
+use Rattle.clock2q_queues.proofs.Joining.{Inserts, Inserts-before, Inserts-first, Removes, Removes-detached, IsLinked-kept, IsLinked-turned}
+use Rattle.clock2q_queues.proofs.Joining.{slots_from-is, first_in, neighbours_fit, length-without, split_last, last_before}
 use Rattle.clock2q_queues.proofs.Booleans.{or_parts, or_neither}
 
 -- Lists of places
@@ -209,7 +212,7 @@ module _ (l : CellsState Record) (newest : Option ℕ) (len : ℕ) (chain : Chai
         Pushes new place e h (Inserts-before mid new places_now place Free first linked_mid (sym is ∙ o.queue.starts) n.absent (rw slots n.fits) a)
 
     pub Pushes-alone : (new : CellsState Record) (place : ℕ) → place ≡ place_for (length places_now) free_now → length places_now < length l.items → newest ≡ None
-        → new ≡ written place (record { previous = place; next = place; standing = Free }) mid
+        → new ≡ written place (record { previous = place; next = place; location = Free }) mid
         → IsOrderOf new.items (Some place) (len + 1) chain' (place ∷ places_now) (drop 1 free_now)
     Pushes-alone new place e h is w =
         let n : FitsNext (length l.items) place places_now free_now = subst (λ z. FitsNext (length l.items) z places_now free_now) (sym e) (next_fits h) in

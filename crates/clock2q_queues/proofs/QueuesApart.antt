@@ -6,7 +6,7 @@ use Rattle.clock2q_queues.specs.declared.links.Record.{Record}
 use Rattle.clock2q_queues.specs.declared.main_ring.MainRing.{MainRing}
 use Rattle.clock2q_queues.specs.declared.small.Small.{Small}
 use Rattle.clock2q_queues.specs.Rings.{has}
-use Rattle.clock2q_queues.specs.Links.{LinkState, IsSameBut, standing_at, bit_at}
+use Rattle.clock2q_queues.specs.Links.{LinkState, IsSameBut, location_at, bit_at}
 use Rattle.clock2q_queues.specs.MainRing.{IsMain, IsMainRing, main_slots, main_entries}
 use Rattle.clock2q_queues.specs.Small.{IsSmall, IsSmallQueue, IsInSmall, small_slots, small_entries, age_of, age_at}
 use Rattle.clock2q_queues.proofs.Joining.{IsLinked-kept, map-agree}
@@ -30,7 +30,7 @@ KeepsMain-from old main new ss m s d =
         counted = m.queue.counted;
         countable = rw s.as_many m.queue.countable;
       };
-      standing = λ t h. ap (λ z. z.0.standing) (same t h) ∙ m.standing t h;
+      location = λ t h. ap (λ z. z.0.location) (same t h) ∙ m.location t h;
     } in
     let e = main_slots-is new main (main_slots old main) is in
     record {
@@ -59,13 +59,13 @@ KeepsSmall-from old small new ss m s p d =
         countable = rw s.as_many m.queue.countable;
       };
       ends = m.ends;
-      standing = λ t h. subst (λ (z : Record × Bool). IsInSmall z.0.standing) (sym (same t h)) (m.standing t h);
+      location = λ t h. subst (λ (z : Record × Bool). IsInSmall z.0.location) (sym (same t h)) (m.location t h);
       placed = λ t position h y.
-          let q = m.placed t position h (sym (ap (λ z. z.0.standing) (same t h)) ∙ y) in
+          let q = m.placed t position h (sym (ap (λ z. z.0.location) (same t h)) ∙ y) in
           (rw window q.0, ap (λ z. get_or z position None) p ∙ q.1);
       occupied = λ position t h.
           let q = m.occupied position t (sym (ap (λ z. get_or z position None) p) ∙ h) in
-          (q.0, ap (λ z. z.0.standing) (same t q.0) ∙ q.1);
+          (q.0, ap (λ z. z.0.location) (same t q.0) ∙ q.1);
       cursor_in = λ h. rw window (m.cursor_in (rw window at h));
       countable_positions = rw window m.countable_positions;
     } in
@@ -75,14 +75,14 @@ KeepsSmall-from old small new ss m s p d =
       slots = e;
       entries = ap (λ z. map {B = ℕ × Age} (λ s. (s, age_at new small.cursor s)) z) e
           ∙ map-agree {X = ℕ × Age} (λ s. (s, age_at new small.cursor s)) (λ s. (s, age_at old small.cursor s)) (small_slots old small) (λ t h.
-          ap (λ (z : Record × Bool). (t, age_of (length new.window.items) small.cursor z.0.standing z.1)) (same t h)
-          ∙ ap (λ n. (t, age_of n small.cursor (standing_at old.records.items t) (bit_at old t))) window);
+          ap (λ (z : Record × Bool). (t, age_of (length new.window.items) small.cursor z.0.location z.1)) (same t h)
+          ∙ ap (λ n. (t, age_of n small.cursor (location_at old.records.items t) (bit_at old t))) window);
     }
 
 -- no slot is in both
 pub small_apart : (l : LinkState) (small : Small) (main : MainRing) → IsSmallQueue l small → IsMainRing l main → (t : ℕ) → has t (small_slots l small) ≡ true → has t (main_slots l main) ≡ false
 small_apart l small main s m t h = elim (cases_Bool (has t (main_slots l main))) [
-  | inl g ↦ absurd (subst (λ z. IsInSmall z) (m.standing t g) (s.standing t h))
+  | inl g ↦ absurd (subst (λ z. IsInSmall z) (m.location t g) (s.location t h))
   | inr g ↦ g
 ]
 

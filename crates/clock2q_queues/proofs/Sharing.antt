@@ -6,11 +6,11 @@ use Rattle.std.proofs.lemmas.List.{length-replicate}
 use Rattle.clock2q_machine.specs.Ages.{Age, grown}
 use Rattle.clock2q_queues.specs.Cells.{CellsState, accessed, cells_state}
 use Rattle.clock2q_queues.specs.declared.links.Record.{Record}
-use Rattle.clock2q_queues.specs.declared.links.Mark.TheVariants.{Free}
+use Rattle.clock2q_queues.specs.declared.links.Location.TheVariants.{Free}
 use Rattle.clock2q_queues.specs.declared.main_ring.MainRing.{MainRing}
 use Rattle.clock2q_queues.specs.declared.small.Small.{Small}
 use Rattle.clock2q_queues.specs.Rings.{has, without}
-use Rattle.clock2q_queues.specs.Links.{LinkState, IsBlank, IsSameBut, vacant, accesses_of, standing_at}
+use Rattle.clock2q_queues.specs.Links.{LinkState, IsBlank, IsSameBut, vacant, accesses_of, location_at}
 use Rattle.clock2q_queues.specs.MainRing.{IsMainRing, main_slots, main_entries, from_victim}
 use Rattle.clock2q_queues.specs.Small.{IsSmallQueue, small_slots, small_entries, admitted}
 use Rattle.clock2q_queues.specs.Queues.{AreQueues, QueueState, IsWholeQueues, slots_of, without_slot, queues_shown}
@@ -77,8 +77,8 @@ module _ (l : LinkState) (small : Small) (main : MainRing) (q : AreQueues l smal
 
   -- a slot that is in neither queue is still free, if it isn't among the changed ones
   stays_free : (new : LinkState) (ss : List ℕ) (t : ℕ) → IsSameBut ss l new → has t ss ≡ false
-      → has t (small_slots l small) ≡ false → has t (main_slots l main) ≡ false → standing_at new.records.items t ≡ Free
-  stays_free new ss t s n a b = ap (λ (z : Record × Bool). z.0.standing) (s.others t n) ∙ q.elsewhere t a b
+      → has t (small_slots l small) ≡ false → has t (main_slots l main) ≡ false → location_at new.records.items t ≡ Free
+  stays_free new ss t s n a b = ap (λ (z : Record × Bool). z.0.location) (s.others t n) ∙ q.elsewhere t a b
 
   -- Small changed, and Main did not
   small_changed : (new : LinkState) (small' : Small) (entries : List (ℕ × Age)) → AreQueues new small' main → main_entries new main ≡ main_entries l main
@@ -133,7 +133,7 @@ module _ (l : LinkState) (small : Small) (main : MainRing) (q : AreQueues l smal
       } in
       main_changed new main' (main_entries l main ++ (slot, false) ∷ []) queues k.entries e s.as_many p
 
-  pub after_small_left : (new : LinkState) (small' : Small) (slot : ℕ) → IsSmallQueue new small' → standing_at new.records.items slot ≡ Free
+  pub after_small_left : (new : LinkState) (small' : Small) (slot : ℕ) → IsSmallQueue new small' → location_at new.records.items slot ≡ Free
       → small_entries new small' ≡ filter (λ e. not (eqb e.0 slot)) (small_entries l small) → IsSameBut (small_slots l small) l new
       → length new.window.items ≡ length l.window.items → new.bits.inspections ≡ l.bits.inspections
       → Becomes new small' main (record (queues_shown l small main) { small = without_slot slot (small_entries l small); accesses = accesses_of new })
@@ -145,7 +145,7 @@ module _ (l : LinkState) (small : Small) (main : MainRing) (q : AreQueues l smal
         small = w;
         main = k.whole;
         elsewhere = λ t a b. elim (cases_Bool (eqb t slot)) [
-          | inl g ↦ ap (λ z. standing_at new.records.items z) (eqb-true t slot g) ∙ f
+          | inl g ↦ ap (λ z. location_at new.records.items z) (eqb-true t slot g) ∙ f
           | inr g ↦
               let n : has t (small_slots l small) ≡ false = not_among t slot (small_slots l small) g (subst (λ z. has t z ≡ false) slots a) in
               stays_free new (small_slots l small) t s n n (subst (λ z. has t z ≡ false) k.slots b)
@@ -162,7 +162,10 @@ module _ (l : LinkState) (small : Small) (main : MainRing) (q : AreQueues l smal
       let k = KeepsMain-from l main new (small_slots l small) q.main s (main_apart l small main q.small q.main) in
       let slots : small_slots new small' ≡ slot ∷ without slot (small_slots l small) =
       sym (small_slots-of new small') ∙ ap (λ (z : List (ℕ × Age)). slots_of z) e
-      ∙ ap (λ zs. slot ∷ zs) (slots_of-mapped (λ a. grown window a) (without_slot slot (small_entries l small)) ∙ slots_of-filter slot (small_entries l small) ∙ ap (λ z. without slot z) (small_slots-of l small)) in
+      ∙ ap (λ zs. slot ∷ zs) (
+      slots_of-mapped (λ a. grown window a) (without_slot slot (small_entries l small))
+      ∙ slots_of-filter slot (small_entries l small) ∙ ap (λ z. without slot z) (small_slots-of l small)
+      ) in
       let queues : AreQueues new small' main = record {
         small = w;
         main = k.whole;
@@ -173,7 +176,7 @@ module _ (l : LinkState) (small : Small) (main : MainRing) (q : AreQueues l smal
       } in
       small_changed new small' (admitted window slot (without_slot slot (small_entries l small))) queues k.entries e s.as_many p i
 
-  pub after_main_left : (new : LinkState) (main' : MainRing) (slot : ℕ) → IsMainRing new main' → standing_at new.records.items slot ≡ Free
+  pub after_main_left : (new : LinkState) (main' : MainRing) (slot : ℕ) → IsMainRing new main' → location_at new.records.items slot ≡ Free
       → main_entries new main' ≡ filter (λ e. not (eqb e.0 slot)) (main_entries l main) → IsSameBut (main_slots l main) l new → new.window ≡ l.window
       → Becomes new small main' (record (queues_shown l small main) { main = without_slot slot (main_entries l main); accesses = accesses_of new; inspections = new.bits.inspections })
   after_main_left new main' slot w f e s p =
@@ -184,7 +187,7 @@ module _ (l : LinkState) (small : Small) (main : MainRing) (q : AreQueues l smal
         small = k.whole;
         main = w;
         elsewhere = λ t a b. elim (cases_Bool (eqb t slot)) [
-          | inl g ↦ ap (λ z. standing_at new.records.items z) (eqb-true t slot g) ∙ f
+          | inl g ↦ ap (λ z. location_at new.records.items z) (eqb-true t slot g) ∙ f
           | inr g ↦
               let n : has t (main_slots l main) ≡ false = not_among t slot (main_slots l main) g (subst (λ z. has t z ≡ false) slots b) in
               stays_free new (main_slots l main) t s n (subst (λ z. has t z ≡ false) k.slots a) n
@@ -259,7 +262,7 @@ AreQueues-blank l small main s m b = record { small = s; main = m; elsewhere = �
 
 pub IsBlank-from : (l : LinkState) (slots window : ℕ) → l.records.items ≡ replicate slots vacant → l.window.items ≡ replicate window None → slots < 2 ^ 32 → window < 2 ^ 32 → IsBlank l
 IsBlank-from l slots window e f a b = record {
-  nowhere = λ t. ap (λ (z : List Record). standing_at z t) e ∙ ap (λ (r : Record). r.standing) (get_or-same slots t vacant);
+  nowhere = λ t. ap (λ (z : List Record). location_at z t) e ∙ ap (λ (r : Record). r.location) (get_or-same slots t vacant);
   free = λ p. ap (λ z. get_or z p None) f ∙ get_or-same window p None;
   countable = let n = ap (λ (z : List Record). length z) e ∙ length-replicate slots vacant in omega arith;
   countable_positions = let n = ap (λ (z : List (Option ℕ)). length z) f ∙ length-replicate window None in omega arith;

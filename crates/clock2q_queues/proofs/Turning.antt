@@ -5,12 +5,12 @@ use Rattle.std.proofs.lemmas.Bool.{cases_Bool, eqb-true}
 use Rattle.std.proofs.lemmas.List.{append-nil, length-set}
 use Rattle.clock2q_machine.proofs.Whole.{last_some}
 use Rattle.clock2q_queues.specs.declared.links.Record.{Record}
-use Rattle.clock2q_queues.specs.declared.links.Mark.{Mark}
-use Rattle.clock2q_queues.specs.declared.links.Mark.TheVariants.{Young}
+use Rattle.clock2q_queues.specs.declared.links.Location.{Location}
+use Rattle.clock2q_queues.specs.declared.links.Location.TheVariants.{SmallYoung}
 use Rattle.clock2q_queues.specs.declared.small.Small.{Small}
 use Rattle.clock2q_queues.specs.Cells.{CellsState, HitBits, accessed, bit_in, written}
 use Rattle.clock2q_queues.specs.Rings.{has, without, AllApart, AllBelow}
-use Rattle.clock2q_queues.specs.Links.{LinkState, IsLinked, IsSameBut, record_at, young_at, next_at, previous_at, standing_at, bit_at, with_standing, vacant}
+use Rattle.clock2q_queues.specs.Links.{LinkState, IsLinked, IsSameBut, record_at, young_at, next_at, previous_at, location_at, bit_at, with_location, vacant}
 use Rattle.clock2q_queues.specs.Ends.{position_freed}
 use Rattle.clock2q_queues.specs.Small.{IsSmallQueue, GrowsOld, small_slots, small_entries, admitted, next_cursor}
 use Rattle.clock2q_queues.proofs.Booleans.{and_false, or_parts, or_neither}
@@ -38,20 +38,20 @@ has_last (s ∷ ss) h = let x = last_some ss s in subst (λ o. IsSome o) (sym x.
 pub gone : (slot : ℕ) (ss : List ℕ) → has slot (without slot ss) ≡ false
 gone slot ss = has-without_test slot slot ss ∙ rw (eqb_self slot) (and_false (has slot ss))
 
--- the mark of a slot was changed, and nothing else
-pub restood : (rs : CellsState Record) (slot : ℕ) (standing : Mark) (t : ℕ) → slot < length rs.items
-    → (next_at (with_standing slot standing rs).items t ≡ next_at rs.items t) × (previous_at (with_standing slot standing rs).items t ≡ previous_at rs.items t)
-    × (standing_at (with_standing slot standing rs).items t ≡ cond (eqb t slot) standing (standing_at rs.items t))
-restood rs slot standing t fits =
-    let r : Record = record (record_at rs.items slot) { standing = standing } in
+-- the location of a slot was changed, and nothing else
+pub relocated : (rs : CellsState Record) (slot : ℕ) (location : Location) (t : ℕ) → slot < length rs.items
+    → (next_at (with_location slot location rs).items t ≡ next_at rs.items t) × (previous_at (with_location slot location rs).items t ≡ previous_at rs.items t)
+    × (location_at (with_location slot location rs).items t ≡ cond (eqb t slot) location (location_at rs.items t))
+relocated rs slot location t fits =
+    let r : Record = record (record_at rs.items slot) { location = location } in
     let nexts = changed (λ p. p.next) rs.items slot r vacant t fits in
     let previouses = changed (λ p. p.previous) rs.items slot r vacant t fits in
-    let standings = changed (λ p. p.standing) rs.items slot r vacant t fits in
+    let locations = changed (λ p. p.location) rs.items slot r vacant t fits in
     elim (cases_Bool (eqb t slot)) [
       | inl g ↦
           let q : t ≡ slot = eqb-true t slot g in
-          (nexts ∙ rw g (ap (λ z. next_at rs.items z) (sym q)), previouses ∙ rw g (ap (λ z. previous_at rs.items z) (sym q)), standings)
-      | inr g ↦ (nexts ∙ rw g refl, previouses ∙ rw g refl, standings)
+          (nexts ∙ rw g (ap (λ z. next_at rs.items z) (sym q)), previouses ∙ rw g (ap (λ z. previous_at rs.items z) (sym q)), locations)
+      | inr g ↦ (nexts ∙ rw g refl, previouses ∙ rw g refl, locations)
     ]
 
 -- the oldest slot of Small became its newest
@@ -82,9 +82,9 @@ module _ (slot : ℕ) (old : LinkState) (small : Small) (m : IsSmallQueue old sm
   last_is = sym (last_before (next_at old.records.items) (previous_at old.records.items) slot rest slot (IsLinked-turned old.records.items rest (slot ∷ []) linked_before).ring)
 
   module _ (read left : LinkState) (r : read ≡ record old { records = accessed old.records })
-      (standing : Mark) (was : standing ≡ standing_at old.records.items slot) (e : left ≡ position_freed standing read) where
-    kept : (t : ℕ) → eqb t slot ≡ false → standing_at read.records.items t ≡ standing_at old.records.items t
-    kept t g = ap (λ (l : LinkState). standing_at l.records.items t) r
+      (location : Location) (was : location ≡ location_at old.records.items slot) (e : left ≡ position_freed location read) where
+    kept : (t : ℕ) → eqb t slot ≡ false → location_at read.records.items t ≡ location_at old.records.items t
+    kept t g = ap (λ (l : LinkState). location_at l.records.items t) r
 
     as_many : length read.records.items ≡ length old.records.items
     as_many = ap (λ (l : LinkState). length l.records.items) r
@@ -102,12 +102,13 @@ module _ (slot : ℕ) (old : LinkState) (small : Small) (m : IsSmallQueue old sm
     records_left = records_now slot read m there kept as_many positions was e ∙ ap (λ (l : LinkState). l.records.items) r
 
     bits_left : left.bits ≡ old.bits
-    bits_left = ap (λ (l : LinkState). l.bits) e ∙ bits-freed standing read ∙ ap (λ (l : LinkState). l.bits) r
+    bits_left = ap (λ (l : LinkState). l.bits) e ∙ bits-freed location read ∙ ap (λ (l : LinkState). l.bits) r
 
     -- the position of the cursor holds another slot, which has a record, or none
     pub others_fit : IfSome (young_at left small.cursor) (λ t. t < length left.records.items)
     others_fit =
-        let below : AllBelow (length left.records.items) rest = subst (λ (rs : List Record). AllBelow (length rs) rest) (sym records_left) (AllBelow-left (length old.records.items) rest (slot ∷ []) linked_before.below) in
+        let below : AllBelow (length left.records.items) rest =
+        subst (λ (rs : List Record). AllBelow (length rs) rest) (sym records_left) (AllBelow-left (length old.records.items) rest (slot ∷ []) linked_before.below) in
         cursor_fits stay below
 
     module _ (mid aged : LinkState) (o : GrowsOld small.cursor left mid) (a : aged ≡ record mid { window = written small.cursor (Some slot) mid.window }) where
@@ -116,7 +117,7 @@ module _ (slot : ℕ) (old : LinkState) (small : Small) (m : IsSmallQueue old sm
 
     module _ (mid aged new : LinkState) (small' : Small) (w : 0 < length old.window.items) (o : GrowsOld small.cursor left mid)
         (a : aged ≡ record mid { window = written small.cursor (Some slot) mid.window })
-        (n : new ≡ record aged { records = accessed (with_standing slot (Young small.cursor) aged.records) })
+        (n : new ≡ record aged { records = accessed (with_location slot (SmallYoung small.cursor) aged.records) })
         (newest : small'.newest ≡ Some slot) (oldest : small'.oldest ≡ Some (previous_at old.records.items slot)) (len : small'.len ≡ small.len)
         (cursor : small'.cursor ≡ next_cursor (length new.window.items) small.cursor) where
       window_new : length new.window.items ≡ length left.window.items
@@ -124,19 +125,19 @@ module _ (slot : ℕ) (old : LinkState) (small : Small) (m : IsSmallQueue old sm
           ∙ length-set mid.window.items small.cursor (Some slot) ∙ ap (λ (z : List (Option ℕ)). length z) o.positions
 
       stood : (t : ℕ) → (next_at new.records.items t ≡ next_at mid.records.items t) × (previous_at new.records.items t ≡ previous_at mid.records.items t)
-          × (standing_at new.records.items t ≡ cond (eqb t slot) (Young small.cursor) (standing_at mid.records.items t))
+          × (location_at new.records.items t ≡ cond (eqb t slot) (SmallYoung small.cursor) (location_at mid.records.items t))
       stood t =
-          let s = restood aged.records slot (Young small.cursor) t (aged_fits mid aged o a) in
+          let s = relocated aged.records slot (SmallYoung small.cursor) t (aged_fits mid aged o a) in
           let same = ap (λ (l : LinkState). l.records.items) a in (
             ap (λ (l : LinkState). next_at l.records.items t) n ∙ s.0 ∙ ap (λ (rs : List Record). next_at rs t) same,
             ap (λ (l : LinkState). previous_at l.records.items t) n ∙ s.1 ∙ ap (λ (rs : List Record). previous_at rs t) same,
-            ap (λ (l : LinkState). standing_at l.records.items t) n ∙ s.2 ∙ ap (λ (rs : List Record). cond (eqb t slot) (Young small.cursor) (standing_at rs t)) same,
+            ap (λ (l : LinkState). location_at l.records.items t) n ∙ s.2 ∙ ap (λ (rs : List Record). cond (eqb t slot) (SmallYoung small.cursor) (location_at rs t)) same,
           )
 
       as_many_new : length new.records.items ≡ length mid.records.items
       as_many_new = ap (λ (l : LinkState). length l.records.items) n ∙ length-set aged.records.items slot _ ∙ ap (λ (l : LinkState). length l.records.items) a
 
-      inserted : Inserts slot (Young small.cursor) rest mid.records.items new.records.items
+      inserted : Inserts slot (SmallYoung small.cursor) rest mid.records.items new.records.items
       inserted = record {
         linked = record {
           ring = IsRing-kept (next_at old.records.items) (previous_at old.records.items) (next_at new.records.items) (previous_at new.records.items) (rest ++ slot ∷ []) linked_before.ring
@@ -145,7 +146,7 @@ module _ (slot : ℕ) (old : LinkState) (small : Small) (m : IsSmallQueue old sm
           apart = linked_before.apart;
           below = subst (λ z. AllBelow z (rest ++ slot ∷ [])) (sym (as_many_new ∙ o.as_many ∙ ap (λ (rs : List Record). length rs) records_left)) linked_before.below;
         };
-        standings = λ t. (stood t).2;
+        locations = λ t. (stood t).2;
         others = λ t h.
             let d : eqb t slot ≡ false = (or_parts (eqb t slot) (has t rest) h).0 in
             same_record (record_at new.records.items t) (record_at mid.records.items t) (stood t).1 (stood t).0 ((stood t).2 ∙ rw d refl);

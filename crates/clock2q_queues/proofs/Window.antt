@@ -1,17 +1,18 @@
 -- Small: how its list and the window change when a slot is admitted or leaves.
-use Rattle.std.proofs.Common.{◌≡◌, ℕ, ◌+◌, ◌^◌, ◌<◌, ◌≢◌, Bool, true, false, cond, eqb, Option, Some, None, slice_get, IfSome, List, [], ◌∷◌, length, map, set, get_or, inl, inr, refl, sym, ap, ◌∙◌, subst, arith}
+use Rattle.std.proofs.Common.{◌≡◌, ℕ, ◌+◌, ◌^◌, ◌<◌, ◌≢◌, Bool, true, false, cond, eqb, Option, Some, None, slice_get}
+use Rattle.std.proofs.Common.{IfSome, List, [], ◌∷◌, length, map, set, get_or, inl, inr, refl, sym, ap, ◌∙◌, subst, arith}
 use Rattle.std.specs.List.{last_or}
 use Rattle.std.proofs.lemmas.Bool.{eqb-true, eq-eqb, ne_eqb, both_ways, cases_Bool, or_cases, lt-ltb, le-ltb, cases_lt}
 use Rattle.std.proofs.lemmas.List.{length-set}
 use Rattle.clock2q_machine.specs.Ages as ages
 use Rattle.clock2q_machine.specs.Ages.{Age, grown}
-use Rattle.clock2q_queues.specs.declared.links.Mark.{Mark}
-use Rattle.clock2q_queues.specs.declared.links.Mark.TheVariants.{Free, Young, Old, Main}
+use Rattle.clock2q_queues.specs.declared.links.Location.{Location}
+use Rattle.clock2q_queues.specs.declared.links.Location.TheVariants.{Free, SmallYoung, SmallOld, Main}
 use Rattle.clock2q_queues.specs.declared.small.Small.{Small}
 use Rattle.clock2q_queues.specs.Rings.{has, AllBelow}
 use Rattle.clock2q_queues.specs.declared.links.Record.{Record}
 use Rattle.clock2q_queues.specs.Cells.{CellsState, written}
-use Rattle.clock2q_queues.specs.Links.{LinkState, IsBlank, IsLinked, IsSameBut, Attaches, record_at, next_at, previous_at, standing_at, bit_at, young_at}
+use Rattle.clock2q_queues.specs.Links.{LinkState, IsBlank, IsLinked, IsSameBut, Attaches, record_at, next_at, previous_at, location_at, bit_at, young_at}
 use Rattle.clock2q_queues.specs.Small.{IsSmall, IsSmallQueue, IsInSmall, GrowsOld, small_slots, small_entries, admissions_since, next_cursor, age_of, age_at, admitted, is_there}
 use Rattle.clock2q_queues.proofs.Records.{changed}
 use Rattle.clock2q_queues.proofs.Rings.{IsRing-kept, eqb_self, has_first, has_later, differs, below_of}
@@ -50,8 +51,8 @@ admissions_since-other window cursor position h p d = elim (cases_lt (cursor + 1
       rw (a, le-ltb position 0 (omega arith), lt-ltb position cursor (omega arith)) (omega arith, omega arith)
 ]
 
-Young≢Old : (position : ℕ) → Young position ≢ Old
-Young≢Old position e = cc
+SmallYoung≢SmallOld : (position : ℕ) → SmallYoung position ≢ SmallOld
+SmallYoung≢SmallOld position e = cc
 
 -- The slot at a position
 
@@ -62,18 +63,18 @@ is_there-true (Some s) t e = ap (λ z. Some z) (sym (eqb-true t s e))
 is_there-own : (o : Option ℕ) (t : ℕ) → o ≡ Some t → is_there o t ≡ true
 is_there-own o t e = subst (λ z. is_there z t ≡ true) (sym e) (eqb_self t)
 
-aged_standing : (window cursor : ℕ) (standing : Mark) (bit : Bool) → cursor < window
-    → ((position : ℕ) → standing ≡ Young position → (position < window) × (position ≢ cursor))
-    → age_of window (next_cursor window cursor) standing bit ≡ grown window (age_of window cursor standing bit)
-aged_standing window cursor Free bit h y = refl
-aged_standing window cursor Old bit h y = refl
-aged_standing window cursor Main bit h y = refl
-aged_standing window cursor (Young position) bit h y =
+aged_location : (window cursor : ℕ) (location : Location) (bit : Bool) → cursor < window
+    → ((position : ℕ) → location ≡ SmallYoung position → (position < window) × (position ≢ cursor))
+    → age_of window (next_cursor window cursor) location bit ≡ grown window (age_of window cursor location bit)
+aged_location window cursor Free bit h y = refl
+aged_location window cursor SmallOld bit h y = refl
+aged_location window cursor Main bit h y = refl
+aged_location window cursor (SmallYoung position) bit h y =
     let p = y position refl in
     let a = admissions_since-other window cursor position h p.0 p.1 in
     rw (lt-ltb (admissions_since window cursor position + 1) window a.1) (ap (λ z. ages.Young z) a.0)
 
-grown-at_cursor : (window cursor : ℕ) (bit : Bool) → cursor < window → grown window (age_of window cursor (Young cursor) bit) ≡ ages.Old false
+grown-at_cursor : (window cursor : ℕ) (bit : Bool) → cursor < window → grown window (age_of window cursor (SmallYoung cursor) bit) ≡ ages.Old false
 grown-at_cursor window cursor bit h =
     let a = admissions_since-cursor window cursor h in
     rw (le-ltb (admissions_since window cursor cursor + 1) window (omega arith)) refl
@@ -99,18 +100,18 @@ linked_still old mid ss cursor k o = record {
   below = subst (λ z. AllBelow z ss) (sym o.as_many) k.below;
 }
 
--- the slots of Small, perhaps without one that leaves: their marks, and what the window's positions hold
+-- the slots of Small, perhaps without one that leaves: their locations, and what the window's positions hold
 pub record AreStaying (l : LinkState) (cursor : ℕ) (ss : List ℕ) : Type 0 where
-  pub standing : (t : ℕ) → has t ss ≡ true → IsInSmall (standing_at l.records.items t)
-  pub placed : (t position : ℕ) → has t ss ≡ true → standing_at l.records.items t ≡ Young position → (position < length l.window.items) × (young_at l position ≡ Some t)
-  pub occupied : (position t : ℕ) → young_at l position ≡ Some t → (has t ss ≡ true) × (standing_at l.records.items t ≡ Young position)
+  pub location : (t : ℕ) → has t ss ≡ true → IsInSmall (location_at l.records.items t)
+  pub placed : (t position : ℕ) → has t ss ≡ true → location_at l.records.items t ≡ SmallYoung position → (position < length l.window.items) × (young_at l position ≡ Some t)
+  pub occupied : (position t : ℕ) → young_at l position ≡ Some t → (has t ss ≡ true) × (location_at l.records.items t ≡ SmallYoung position)
   pub cursor_in : 0 < length l.window.items → cursor < length l.window.items
   pub countable : length l.records.items < 2 ^ 32
   pub countable_positions : length l.window.items < 2 ^ 32
 
 -- all of them, if none leaves
 pub all_stay : {l : LinkState} {small : Small} → IsSmallQueue l small → AreStaying l small.cursor (small_slots l small)
-all_stay m = record { standing = m.standing; placed = m.placed; occupied = m.occupied; cursor_in = m.cursor_in; countable = m.queue.countable; countable_positions = m.countable_positions }
+all_stay m = record { location = m.location; placed = m.placed; occupied = m.occupied; cursor_in = m.cursor_in; countable = m.queue.countable; countable_positions = m.countable_positions }
 
 -- a slot at the cursor has a record
 pub cursor_fits : {l : LinkState} {cursor : ℕ} {ss : List ℕ} → AreStaying l cursor ss → AllBelow (length l.records.items) ss → IfSome (young_at l cursor) (λ slot. slot < length l.records.items)
@@ -134,7 +135,7 @@ pub record Admits (slot : ℕ) (old : LinkState) (cursor : ℕ) (ss : List ℕ) 
 module _ {slot : ℕ} {old : LinkState} {cursor : ℕ} {ss : List ℕ} {mid aged new : LinkState} {small' : Small}
     (m : AreStaying old cursor ss) (absent : has slot ss ≡ false) (w : 0 < length old.window.items)
     (o : GrowsOld cursor old mid) (e : aged ≡ record mid { window = written cursor (Some slot) mid.window })
-    (i : Inserts slot (Young cursor) ss mid.records.items new.records.items) (rest : new ≡ record aged { records = new.records })
+    (i : Inserts slot (SmallYoung cursor) ss mid.records.items new.records.items) (rest : new ≡ record aged { records = new.records })
     (newest : small'.newest ≡ Some slot) (oldest : small'.oldest ≡ last_or None (slot ∷ ss))
     (count : small'.len ≡ length ss + 1) (moved : small'.cursor ≡ next_cursor (length old.window.items) cursor) where
   within : cursor < length old.window.items
@@ -152,15 +153,15 @@ module _ {slot : ℕ} {old : LinkState} {cursor : ℕ} {ss : List ℕ} {mid aged
   young_at_new : (p : ℕ) → young_at new p ≡ cond (eqb p cursor) (Some slot) (young_at old p)
   young_at_new p = ap (λ z. get_or z p None) window_items_new ∙ changed (λ z. z) old.window.items cursor (Some slot) None p within
 
-  standing_new : (t : ℕ) → standing_at new.records.items t ≡ cond (eqb t slot) (Young cursor) (cond (is_there (young_at old cursor) t) Old (standing_at old.records.items t))
-  standing_new t = i.standings t ∙ ap (λ z. cond (eqb t slot) (Young cursor) z) (o.standings t)
+  location_new : (t : ℕ) → location_at new.records.items t ≡ cond (eqb t slot) (SmallYoung cursor) (cond (is_there (young_at old cursor) t) SmallOld (location_at old.records.items t))
+  location_new t = i.locations t ∙ ap (λ z. cond (eqb t slot) (SmallYoung cursor) z) (o.locations t)
 
   bit_new : (t : ℕ) → bit_at new t ≡ cond (is_there (young_at old cursor) t) false (bit_at old t)
   bit_new t = ap (λ (l : LinkState). bit_at l t) rest ∙ ap (λ (l : LinkState). bit_at l t) e ∙ o.bits t
 
   -- a young slot of the queue that isn't at the cursor has another position
   elsewhere : (t position : ℕ) → has t ss ≡ true → is_there (young_at old cursor) t ≡ false
-      → standing_at old.records.items t ≡ Young position → (position < length old.window.items) × (position ≢ cursor)
+      → location_at old.records.items t ≡ SmallYoung position → (position < length old.window.items) × (position ≢ cursor)
   elsewhere t position h n y =
       let p = m.placed t position h y in
       (p.0, λ q. both_ways (is_there (young_at old cursor) t) n (is_there-own _ t (subst (λ z. young_at old z ≡ Some t) q p.1)))
@@ -171,40 +172,40 @@ module _ {slot : ℕ} {old : LinkState} {cursor : ℕ} {ss : List ℕ} {mid aged
       elim (cases_Bool (is_there (young_at old cursor) t)) [
         | inl g ↦
             let y = (m.occupied cursor t (is_there-true _ t g)).1 in
-            rw (moved, window_new, standing_new t, bit_new t, d, g, y) (sym (grown-at_cursor (length old.window.items) cursor (bit_at old t) within))
+            rw (moved, window_new, location_new t, bit_new t, d, g, y) (sym (grown-at_cursor (length old.window.items) cursor (bit_at old t) within))
         | inr g ↦
-            rw (moved, window_new, standing_new t, bit_new t, d, g)
-            (aged_standing (length old.window.items) cursor (standing_at old.records.items t) (bit_at old t) within (λ position y. elsewhere t position h g y))
+            rw (moved, window_new, location_new t, bit_new t, d, g)
+            (aged_location (length old.window.items) cursor (location_at old.records.items t) (bit_at old t) within (λ position y. elsewhere t position h g y))
       ]
 
-  own_standing : standing_at new.records.items slot ≡ Young cursor
-  own_standing = standing_new slot ∙ rw (eqb_self slot) refl
+  own_location : location_at new.records.items slot ≡ SmallYoung cursor
+  own_location = location_new slot ∙ rw (eqb_self slot) refl
 
   -- a slot that is in the queue now was in it before, unless it is new
-  young_new : (t position : ℕ) → has t (slot ∷ ss) ≡ true → standing_at new.records.items t ≡ Young position → (position < length new.window.items) × (young_at new position ≡ Some t)
+  young_new : (t position : ℕ) → has t (slot ∷ ss) ≡ true → location_at new.records.items t ≡ SmallYoung position → (position < length new.window.items) × (young_at new position ≡ Some t)
   young_new t position h y = elim (cases_Bool (eqb t slot)) [
     | inl g ↦
         let q : t ≡ slot = eqb-true t slot g in
-        let p : position ≡ cursor = let r = own_standing in let y' = subst (λ z. standing_at new.records.items z ≡ Young position) q y in cc in
+        let p : position ≡ cursor = let r = own_location in let y' = subst (λ z. location_at new.records.items z ≡ SmallYoung position) q y in cc in
         (rw (p, window_new) within, young_at_new position ∙ rw (p, eqb_self cursor) (ap (λ z. Some z) (sym q)))
     | inr g ↦
         let k : has t ss ≡ true = elim (or_cases (eqb t slot) (has t ss) h) [ inl z ↦ absurd (both_ways (eqb t slot) g z) | inr z ↦ z ] in
         elim (cases_Bool (is_there (young_at old cursor) t)) [
-          | inl f ↦ let z : standing_at new.records.items t ≡ Old = standing_new t ∙ rw (g, f) refl in absurd (cc)
+          | inl f ↦ let z : location_at new.records.items t ≡ SmallOld = location_new t ∙ rw (g, f) refl in absurd (cc)
           | inr f ↦
-              let z : standing_at old.records.items t ≡ Young position = sym (standing_new t ∙ rw (g, f) refl) ∙ y in
+              let z : location_at old.records.items t ≡ SmallYoung position = sym (location_new t ∙ rw (g, f) refl) ∙ y in
               let p = elsewhere t position k f z in
               (rw window_new p.0, young_at_new position ∙ rw (ne_eqb position cursor p.1) (m.placed t position k z).1)
         ]
   ]
 
-  occupied_new : (position t : ℕ) → young_at new position ≡ Some t → (has t (slot ∷ ss) ≡ true) × (standing_at new.records.items t ≡ Young position)
+  occupied_new : (position t : ℕ) → young_at new position ≡ Some t → (has t (slot ∷ ss) ≡ true) × (location_at new.records.items t ≡ SmallYoung position)
   occupied_new position t h = elim (cases_Bool (eqb position cursor)) [
     | inl g ↦
         let q : Some slot ≡ Some t = sym (young_at_new position ∙ rw g refl) ∙ h in
         let r : t ≡ slot = cc in (
           or_left (eqb t slot) (has t ss) (eq-eqb t slot r),
-          subst (λ z. standing_at new.records.items z ≡ Young position) (sym r) (own_standing ∙ ap (λ z. Young z) (sym (eqb-true position cursor g))),
+          subst (λ z. location_at new.records.items z ≡ SmallYoung position) (sym r) (own_location ∙ ap (λ z. SmallYoung z) (sym (eqb-true position cursor g))),
         )
     | inr g ↦
         let q : young_at old position ≡ Some t = sym (young_at_new position ∙ rw g refl) ∙ h in
@@ -217,17 +218,17 @@ module _ {slot : ℕ} {old : LinkState} {cursor : ℕ} {ss : List ℕ} {mid aged
               absurd (both_ways (eqb position cursor) g (eq-eqb position cursor c))
           | inr z ↦ z
         ] in
-        (has_later t slot ss p.0, standing_new t ∙ rw (d, f) p.1)
+        (has_later t slot ss p.0, location_new t ∙ rw (d, f) p.1)
   ]
 
-  in_small_new : (t : ℕ) → has t (slot ∷ ss) ≡ true → IsInSmall (standing_at new.records.items t)
+  in_small_new : (t : ℕ) → has t (slot ∷ ss) ≡ true → IsInSmall (location_at new.records.items t)
   in_small_new t h = elim (cases_Bool (eqb t slot)) [
-    | inl g ↦ rw (standing_new t, g) tt
+    | inl g ↦ rw (location_new t, g) tt
     | inr g ↦
         let k : has t ss ≡ true = elim (or_cases (eqb t slot) (has t ss) h) [ inl z ↦ absurd (both_ways (eqb t slot) g z) | inr z ↦ z ] in
         elim (cases_Bool (is_there (young_at old cursor) t)) [
-          | inl f ↦ rw (standing_new t, g, f) tt
-          | inr f ↦ rw (standing_new t, g, f) (m.standing t k)
+          | inl f ↦ rw (location_new t, g, f) tt
+          | inr f ↦ rw (location_new t, g, f) (m.location t k)
         ]
   ]
 
@@ -246,7 +247,7 @@ module _ {slot : ℕ} {old : LinkState} {cursor : ℕ} {ss : List ℕ} {mid aged
       countable = rw slots_new m.countable;
     };
     ends = oldest;
-    standing = in_small_new;
+    location = in_small_new;
     placed = young_new;
     occupied = occupied_new;
     cursor_in = λ h. cursor_new;
@@ -260,7 +261,7 @@ module _ {slot : ℕ} {old : LinkState} {cursor : ℕ} {ss : List ℕ} {mid aged
     entries =
         ap (λ z. map {B = ℕ × Age} (λ s. (s, age_at new small'.cursor s)) z) (small_slots-is new small' (slot ∷ ss) whole_new)
         ∙ ap (λ z. (slot, z) ∷ map {B = ℕ × Age} (λ s. (s, age_at new small'.cursor s)) ss)
-        (rw (own_standing, window_new, moved) (ap (λ z. ages.Young z) (admissions_since-own (length old.window.items) cursor within)))
+        (rw (own_location, window_new, moved) (ap (λ z. ages.Young z) (admissions_since-own (length old.window.items) cursor within)))
         ∙ ap (λ z. (slot, ages.Young 0) ∷ z)
         (entries-mapped (λ s. age_at new small'.cursor s) (λ s. age_at old cursor s) (λ a. grown (length old.window.items) a) ss aged_at);
     others = record {
@@ -271,7 +272,7 @@ module _ {slot : ℕ} {old : LinkState} {cursor : ℕ} {ss : List ℕ} {mid aged
             | inl z ↦ absurd (both_ways (has t ss) k (m.occupied cursor t (is_there-true _ t z)).0)
             | inr z ↦ z
           ] in
-          ap (λ z. (z, bit_at new t)) (i.others t h ∙ same_record (record_at mid.records.items t) (record_at old.records.items t) (o.previouses t) (o.nexts t) (o.standings t ∙ rw f refl))
+          ap (λ z. (z, bit_at new t)) (i.others t h ∙ same_record (record_at mid.records.items t) (record_at old.records.items t) (o.previouses t) (o.nexts t) (o.locations t ∙ rw f refl))
           ∙ ap (λ z. (record_at old.records.items t, z)) (bit_new t ∙ rw f refl);
       as_many = slots_new;
     };
@@ -282,7 +283,7 @@ pub IsSmallQueue-empty : (l : LinkState) → IsBlank l → IsSmallQueue l (recor
 IsSmallQueue-empty l b = record {
   queue = record { linked = record { ring = tt; apart = tt; below = tt }; starts = refl; counted = refl; countable = b.countable };
   ends = refl;
-  standing = λ t h. absurd (both_ways false refl h);
+  location = λ t h. absurd (both_ways false refl h);
   placed = λ t position h y. absurd (both_ways false refl h);
   occupied = λ position t h. let f = b.free position in absurd (cc);
   cursor_in = λ h. h;
@@ -322,20 +323,21 @@ module _ (slot : ℕ) (old : LinkState) (small : Small) (mid aged : LinkState) (
     counted = omega (arith, c, m.queue.counted)
 
     pub Admits-attached : (newest : ℕ) → small.newest ≡ Some newest
-        → Attaches slot newest (Young small.cursor) aged.records new.records → small'.oldest ≡ small.oldest → Admits slot old small.cursor (small_slots old small) new small'
+        → Attaches slot newest (SmallYoung small.cursor) aged.records new.records → small'.oldest ≡ small.oldest → Admits slot old small.cursor (small_slots old small) new small'
     Admits-attached newest h a d =
         let k = linked_still old mid (small_slots old small) small.cursor m.queue.linked o in
         let s = sym h ∙ m.queue.starts in
-        let a' : Attaches slot newest (Young small.cursor) mid.records new.records = subst (λ (z : CellsState Record). Attaches slot newest (Young small.cursor) z new.records) records_aged a in
+        let a' : Attaches slot newest (SmallYoung small.cursor) mid.records new.records =
+        subst (λ (z : CellsState Record). Attaches slot newest (SmallYoung small.cursor) z new.records) records_aged a in
         Admits-from (all_stay m) absent w o e
-        (Inserts-before mid.records new.records (small_slots old small) slot (Young small.cursor) newest k s absent (rw o.as_many b) a') rest
+        (Inserts-before mid.records new.records (small_slots old small) slot (SmallYoung small.cursor) newest k s absent (rw o.as_many b) a') rest
         n (d ∙ m.ends ∙ last_behind (small_slots old small) slot newest s) counted r
 
-    pub Admits-alone : small.newest ≡ None → new.records ≡ written slot (record { previous = slot; next = slot; standing = Young small.cursor }) aged.records
+    pub Admits-alone : small.newest ≡ None → new.records ≡ written slot (record { previous = slot; next = slot; location = SmallYoung small.cursor }) aged.records
         → small'.oldest ≡ Some slot → Admits slot old small.cursor (small_slots old small) new small'
     Admits-alone h a d =
         let s = sym h ∙ m.queue.starts in
         Admits-from (all_stay m) absent w o e
-        (Inserts-first mid.records new.records (small_slots old small) slot (Young small.cursor) s (rw o.as_many b)
-        (a ∙ ap (λ z. written slot (record { previous = slot; next = slot; standing = Young small.cursor }) z) records_aged)) rest
+        (Inserts-first mid.records new.records (small_slots old small) slot (SmallYoung small.cursor) s (rw o.as_many b)
+        (a ∙ ap (λ z. written slot (record { previous = slot; next = slot; location = SmallYoung small.cursor }) z) records_aged)) rest
         n (d ∙ last_alone (small_slots old small) slot s) counted r

@@ -4,14 +4,14 @@ use Rattle.std.specs.Bool.{then_some}
 use Rattle.std.specs.Option.{option_eq}
 use Rattle.clock2q_queues.specs.Cells.{written}
 use Rattle.clock2q_queues.specs.Links.{LinkState}
-use Rattle.clock2q_queues.specs.declared.links.Mark.{Mark}
-use Rattle.clock2q_queues.specs.declared.links.Mark.TheVariants.{Free, Young, Old, Main}
+use Rattle.clock2q_queues.specs.declared.links.Location.{Location}
+use Rattle.clock2q_queues.specs.declared.links.Location.TheVariants.{Free, SmallYoung, SmallOld, Main}
 
 -- the position of a young slot is emptied
-abbrev pub position_freed : Mark → LinkState → LinkState
-position_freed (Young position) l = record l { window = written position None l.window }
+abbrev pub position_freed : Location → LinkState → LinkState
+position_freed (SmallYoung position) l = record l { window = written position None l.window }
 position_freed Free l = l
-position_freed Old l = l
+position_freed SmallOld l = l
 position_freed Main l = l
 
 -- an end of the queue after a slot left it: its neighbour if the slot was at that end, or none if no other slot is left

@@ -2,43 +2,43 @@
 use Rattle.std.specs.Prelude.{◌≡◌, ℕ, ◌%◌, ◌^◌, ◌<◌, ◌==◌, nat_le, Bool, true, false, List, Option, map, length, slice_index_or}
 use Rattle.clock2q_queues.specs.Cells.{HitBits, hit_bits}
 use Rattle.clock2q_queues.specs.declared.links.Record.{Record}
-use Rattle.clock2q_queues.specs.declared.links.Mark.{Mark}
-use Rattle.clock2q_queues.specs.declared.links.Mark.TheVariants.{Free, Young, Old, Main}
+use Rattle.clock2q_queues.specs.declared.links.Location.{Location}
+use Rattle.clock2q_queues.specs.declared.links.Location.TheVariants.{Free, SmallYoung, SmallOld, Main}
 use Rattle.clock2q_queues.specs.declared.links.flags.Flags.{Flags}
-use Rattle.clock2q_queues.specs.Links.{standing_at}
+use Rattle.clock2q_queues.specs.Links.{location_at}
 
 abbrev pub is_set : Flags → Bool
 is_set f = f.byte % 2 == 1
 
-abbrev pub is_standing : Flags → Bool
-is_standing f = nat_le 2 f.byte
+abbrev pub says_linked : Flags → Bool
+says_linked f = nat_le 2 f.byte
 
 -- the hit bits, and for each slot whether it is in a queue
 pub record FlagState : Type 0 where
   pub bits : HitBits
-  pub standing : List Bool
+  pub linked : List Bool
 
 abbrev pub flag_state : HitBits → List Bool → FlagState
-flag_state bits standing = record { bits = bits; standing = standing }
+flag_state bits linked = record { bits = bits; linked = linked }
 
 -- what the bytes of all slots say, with this number of inspections by the hand
 abbrev pub flags_shown : List Flags → ℕ → FlagState
-flags_shown flags inspections = flag_state (hit_bits (map is_set flags) inspections) (map is_standing flags)
+flags_shown flags inspections = flag_state (hit_bits (map is_set flags) inspections) (map says_linked flags)
 
 -- whether the flags say that a slot is in a queue
-abbrev pub standing_in : List Bool → ℕ → Bool
-standing_in standing slot = slice_index_or standing slot false
+abbrev pub linked_in : List Bool → ℕ → Bool
+linked_in linked slot = slice_index_or linked slot false
 
--- a slot with this mark is in a queue
-abbrev pub is_queued : Mark → Bool
-is_queued Free = false
-is_queued (Young position) = true
-is_queued Old = true
-is_queued Main = true
+-- a slot with this location is in a queue
+abbrev pub is_linked : Location → Bool
+is_linked Free = false
+is_linked (SmallYoung position) = true
+is_linked SmallOld = true
+is_linked Main = true
 
 -- each slot that has a record has flags, which say whether it is in a queue, as its record does
 pub record AreLinks (rs : List Record) (flags : FlagState) (window : List (Option ℕ)) : Type 0 where
   pub bits : length flags.bits.items ≡ length rs
-  pub standing : length flags.standing ≡ length rs
-  pub agree : (slot : ℕ) → standing_in flags.standing slot ≡ is_queued (standing_at rs slot)
+  pub linked : length flags.linked ≡ length rs
+  pub agree : (slot : ℕ) → linked_in flags.linked slot ≡ is_linked (location_at rs slot)
   pub countable_positions : length window < 2 ^ 32

@@ -3,14 +3,14 @@ use Rattle.std.specs.Prelude.{◌≡◌, ℕ, ◌+◌, ◌^◌, ◌<◌, ◌==�
 use Rattle.clock2q_queues.specs.Cells.{CellsState, HitBits, cells_state, hit_bits, written, bit_in}
 use Rattle.clock2q_queues.specs.Rings.{has, AllApart, AllBelow, IsRing, around}
 use Rattle.clock2q_queues.specs.declared.links.Record.{Record}
-use Rattle.clock2q_queues.specs.declared.links.Mark.{Mark}
-use Rattle.clock2q_queues.specs.declared.links.Mark.TheVariants.{Free, Young, Old, Main}
+use Rattle.clock2q_queues.specs.declared.links.Location.{Location}
+use Rattle.clock2q_queues.specs.declared.links.Location.TheVariants.{Free, SmallYoung, SmallOld, Main}
 
 -- Records by slot number
 
 -- the record of a slot that is in no queue
 abbrev pub vacant : Record
-vacant = record { previous = 0; next = 0; standing = Free }
+vacant = record { previous = 0; next = 0; location = Free }
 
 abbrev pub record_at : List Record → ℕ → Record
 record_at rs slot = slice_index_or rs slot vacant
@@ -21,8 +21,8 @@ next_at rs slot = (record_at rs slot).next
 abbrev pub previous_at : List Record → ℕ → ℕ
 previous_at rs slot = (record_at rs slot).previous
 
-abbrev pub standing_at : List Record → ℕ → Mark
-standing_at rs slot = (record_at rs slot).standing
+abbrev pub location_at : List Record → ℕ → Location
+location_at rs slot = (record_at rs slot).location
 
 abbrev pub with_next : ℕ → ℕ → CellsState Record → CellsState Record
 with_next slot next rs = written slot (record (record_at rs.items slot) { next = next }) rs
@@ -30,8 +30,8 @@ with_next slot next rs = written slot (record (record_at rs.items slot) { next =
 abbrev pub with_previous : ℕ → ℕ → CellsState Record → CellsState Record
 with_previous slot previous rs = written slot (record (record_at rs.items slot) { previous = previous }) rs
 
-abbrev pub with_standing : ℕ → Mark → CellsState Record → CellsState Record
-with_standing slot standing rs = written slot (record (record_at rs.items slot) { standing = standing }) rs
+abbrev pub with_location : ℕ → Location → CellsState Record → CellsState Record
+with_location slot location rs = written slot (record (record_at rs.items slot) { location = location }) rs
 
 -- these slots form a ring, each of them once
 pub record IsLinked (rs : List Record) (slots : List ℕ) : Type 0 where
@@ -52,10 +52,10 @@ slots_from rs None count = []
 slots_from rs (Some first) count = around (next_at rs) first count
 
 -- a slot was put just before another
-pub record Attaches (slot before : ℕ) (standing : Mark) (old new : CellsState Record) : Type 0 where
+pub record Attaches (slot before : ℕ) (location : Location) (old new : CellsState Record) : Type 0 where
   pub nexts : (t : ℕ) → next_at new.items t ≡ (if t == previous_at old.items before then slot else (if t == slot then before else next_at old.items t))
   pub previouses : (t : ℕ) → previous_at new.items t ≡ (if t == before then slot else (if t == slot then previous_at old.items before else previous_at old.items t))
-  pub standings : (t : ℕ) → standing_at new.items t ≡ (if t == slot then standing else standing_at old.items t)
+  pub locations : (t : ℕ) → location_at new.items t ≡ (if t == slot then location else location_at old.items t)
   pub as_many : length new.items ≡ length old.items
   pub accesses : new.accesses ≡ old.accesses + 6
 
@@ -63,7 +63,7 @@ pub record Attaches (slot before : ℕ) (standing : Mark) (old new : CellsState 
 pub record Detaches (slot : ℕ) (old new : CellsState Record) : Type 0 where
   pub nexts : (t : ℕ) → (t == slot) ≡ false → next_at new.items t ≡ (if t == previous_at old.items slot then next_at old.items slot else next_at old.items t)
   pub previouses : (t : ℕ) → (t == slot) ≡ false → previous_at new.items t ≡ (if t == next_at old.items slot then previous_at old.items slot else previous_at old.items t)
-  pub standings : (t : ℕ) → (t == slot) ≡ false → standing_at new.items t ≡ standing_at old.items t
+  pub locations : (t : ℕ) → (t == slot) ≡ false → location_at new.items t ≡ location_at old.items t
   pub freed : record_at new.items slot ≡ vacant
   pub as_many : length new.items ≡ length old.items
   pub accesses : new.accesses ≡ old.accesses + 6
@@ -108,14 +108,14 @@ pub record IsSameBut (slots : List ℕ) (old new : LinkState) : Type 0 where
 
 -- no slot is in a queue and no position is taken, and the numbers of slots and of positions fit in 32 bits
 pub record IsBlank (l : LinkState) : Type 0 where
-  pub nowhere : (slot : ℕ) → standing_at l.records.items slot ≡ Free
+  pub nowhere : (slot : ℕ) → location_at l.records.items slot ≡ Free
   pub free : (position : ℕ) → young_at l position ≡ None
   pub countable : length l.records.items < 2 ^ 32
   pub countable_positions : length l.window.items < 2 ^ 32
 
--- a slot with this mark is old
-abbrev pub is_old : Mark → Bool
+-- a slot with this location is old
+abbrev pub is_old : Location → Bool
 is_old Free = false
-is_old (Young position) = false
-is_old Old = true
+is_old (SmallYoung position) = false
+is_old SmallOld = true
 is_old Main = false

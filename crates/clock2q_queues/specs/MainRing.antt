@@ -2,8 +2,8 @@
 use Rattle.std.specs.Prelude.{◌≡◌, ℕ, Bool, true, false, List, map, ◌==◌, if◌then◌else◌}
 use Rattle.clock2q_machine.specs.Hand as hand
 use Rattle.clock2q_queues.specs.Rings.{has}
-use Rattle.clock2q_queues.specs.Links.{LinkState, IsQueue, slots_from, standing_at, bit_at}
-use Rattle.clock2q_queues.specs.declared.links.Mark.TheVariants.{Main}
+use Rattle.clock2q_queues.specs.Links.{LinkState, IsQueue, slots_from, location_at, bit_at}
+use Rattle.clock2q_queues.specs.declared.links.Location.TheVariants.{Main}
 use Rattle.clock2q_queues.specs.declared.main_ring.MainRing.{MainRing}
 
 -- the slots of Main, from the hand
@@ -14,10 +14,10 @@ main_slots l main = slots_from l.records.items main.hand main.len
 abbrev pub main_entries : LinkState → MainRing → List (ℕ × Bool)
 main_entries l main = map (λ s. (s, bit_at l s)) (main_slots l main)
 
--- these slots are Main's, and their marks say so
+-- these slots are Main's, and their locations say so
 pub record IsMain (l : LinkState) (main : MainRing) (slots : List ℕ) : Type 0 where
   pub queue : IsQueue l.records.items main.hand main.len slots
-  pub standing : (t : ℕ) → has t slots ≡ true → standing_at l.records.items t ≡ Main
+  pub location : (t : ℕ) → has t slots ≡ true → location_at l.records.items t ≡ Main
 
 -- the links represent Main
 abbrev pub IsMainRing : LinkState → MainRing → Type 0

@@ -3,12 +3,11 @@ use Rattle.std.specs.Prelude.{◌≡◌, ℕ, Bool, true, false, not, ◌==◌, 
 use Rattle.std.specs.List.{filter}
 use Rattle.clock2q_machine.specs.Ages.{Age, is_promoted}
 use Rattle.clock2q_queues.specs.Rings.{has, AllApart, AllBelow}
-use Rattle.clock2q_queues.specs.Links.{LinkState, accesses_of, standing_at}
+use Rattle.clock2q_queues.specs.Links.{LinkState, accesses_of, location_at}
 use Rattle.clock2q_queues.specs.Small.{IsSmallQueue, small_slots, small_entries}
 use Rattle.clock2q_queues.specs.MainRing.{IsMainRing, main_slots, main_entries}
-use Rattle.clock2q_queues.specs.declared.links.Mark.TheVariants as mark
-use Rattle.clock2q_queues.specs.declared.queues.Standing.{Standing}
-use Rattle.clock2q_queues.specs.declared.queues.Standing.TheVariants as standing
+use Rattle.clock2q_queues.specs.declared.links.Location.{Location}
+use Rattle.clock2q_queues.specs.declared.links.Location.TheVariants as at
 use Rattle.clock2q_queues.specs.declared.main_ring.MainRing.{MainRing}
 use Rattle.clock2q_queues.specs.declared.small.Small.{Small}
 
@@ -37,7 +36,7 @@ queues_shown l small main = record {
 pub record AreQueues (l : LinkState) (s : Small) (m : MainRing) : Type 0 where
   pub small : IsSmallQueue l s
   pub main : IsMainRing l m
-  pub elsewhere : (t : ℕ) → has t (small_slots l s) ≡ false → has t (main_slots l m) ≡ false → standing_at l.records.items t ≡ mark.Free
+  pub elsewhere : (t : ℕ) → has t (small_slots l s) ≡ false → has t (main_slots l m) ≡ false → location_at l.records.items t ≡ at.Free
 
 -- the slots of a queue's entries
 abbrev pub slots_of : {X : Type 0} → List (ℕ × X) → List ℕ
@@ -51,11 +50,12 @@ without_slot slot entries = filter (λ e. not (e.0 == slot)) entries
 abbrev pub empty_queues : ℕ → ℕ → QueueState
 empty_queues slots window = record { small = []; main = []; slots = slots; window = window; accesses = 0; inspections = 0 }
 
--- the queue that a slot is in: one of them, or neither
-abbrev pub IsStanding : Standing → ℕ → QueueState → Type 0
-IsStanding standing.Free slot q = (has slot (slots_of q.small) ≡ false) × (has slot (slots_of q.main) ≡ false)
-IsStanding standing.Small slot q = (has slot (slots_of q.small) ≡ true) × (has slot (slots_of q.main) ≡ false)
-IsStanding standing.Main slot q = (has slot (slots_of q.small) ≡ false) × (has slot (slots_of q.main) ≡ true)
+-- a slot is there: in one of the queues, or in neither
+abbrev pub IsAt : Location → ℕ → QueueState → Type 0
+IsAt at.Free slot q = (has slot (slots_of q.small) ≡ false) × (has slot (slots_of q.main) ≡ false)
+IsAt (at.SmallYoung position) slot q = (has slot (slots_of q.small) ≡ true) × (has slot (slots_of q.main) ≡ false)
+IsAt at.SmallOld slot q = (has slot (slots_of q.small) ≡ true) × (has slot (slots_of q.main) ≡ false)
+IsAt at.Main slot q = (has slot (slots_of q.small) ≡ false) × (has slot (slots_of q.main) ≡ true)
 
 -- whether Small's oldest slot goes on to Main instead of leaving
 abbrev pub tail_promoted : Option (ℕ × Age) → Bool

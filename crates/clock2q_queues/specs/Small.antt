@@ -4,9 +4,9 @@ use Rattle.std.specs.List.{last_or}
 use Rattle.clock2q_machine.specs.Ages as ages
 use Rattle.clock2q_machine.specs.Ages.{Age, grown, touched}
 use Rattle.clock2q_queues.specs.Rings.{has}
-use Rattle.clock2q_queues.specs.Links.{LinkState, IsQueue, slots_from, next_at, previous_at, standing_at, bit_at, young_at}
-use Rattle.clock2q_queues.specs.declared.links.Mark.{Mark}
-use Rattle.clock2q_queues.specs.declared.links.Mark.TheVariants.{Free, Young, Old, Main}
+use Rattle.clock2q_queues.specs.Links.{LinkState, IsQueue, slots_from, next_at, previous_at, location_at, bit_at, young_at}
+use Rattle.clock2q_queues.specs.declared.links.Location.{Location}
+use Rattle.clock2q_queues.specs.declared.links.Location.TheVariants.{Free, SmallYoung, SmallOld, Main}
 use Rattle.clock2q_queues.specs.declared.small.Small.{Small}
 
 -- the position after the cursor's: the next one, or the first one after the last
@@ -17,15 +17,15 @@ next_cursor window cursor = if nat_lt (cursor + 1) window then cursor + 1 else 0
 abbrev pub admissions_since : ℕ → ℕ → ℕ → ℕ
 admissions_since window cursor position = if nat_lt position cursor then cursor - 1 - position else cursor + window - 1 - position
 
--- the age of a slot of Small, by its mark and its bit
-abbrev pub age_of : ℕ → ℕ → Mark → Bool → Age
-age_of window cursor (Young position) bit = ages.Young (admissions_since window cursor position)
-age_of window cursor Old bit = ages.Old bit
+-- the age of a slot of Small, by its location and its bit
+abbrev pub age_of : ℕ → ℕ → Location → Bool → Age
+age_of window cursor (SmallYoung position) bit = ages.Young (admissions_since window cursor position)
+age_of window cursor SmallOld bit = ages.Old bit
 age_of window cursor Free bit = ages.Old bit
 age_of window cursor Main bit = ages.Old bit
 
 abbrev pub age_at : LinkState → ℕ → ℕ → Age
-age_at l cursor slot = age_of (length l.window.items) cursor (standing_at l.records.items slot) (bit_at l slot)
+age_at l cursor slot = age_of (length l.window.items) cursor (location_at l.records.items slot) (bit_at l slot)
 
 -- the slots of Small, newest first
 abbrev pub small_slots : LinkState → Small → List ℕ
@@ -35,20 +35,20 @@ small_slots l small = slots_from l.records.items small.newest small.len
 abbrev pub small_entries : LinkState → Small → List (ℕ × Age)
 small_entries l small = map (λ s. (s, age_at l small.cursor s)) (small_slots l small)
 
--- a slot with this mark is in Small
-abbrev pub IsInSmall : Mark → Type 0
-IsInSmall (Young position) = Unit {0}
-IsInSmall Old = Unit {0}
+-- a slot with this location is in Small
+abbrev pub IsInSmall : Location → Type 0
+IsInSmall (SmallYoung position) = Unit {0}
+IsInSmall SmallOld = Unit {0}
 IsInSmall Free = ⊥
 IsInSmall Main = ⊥
 
--- these slots are Small's, their marks say so, and the window's positions hold the young ones
+-- these slots are Small's, their locations say so, and the window's positions hold the young ones
 pub record IsSmall (l : LinkState) (small : Small) (slots : List ℕ) : Type 0 where
   pub queue : IsQueue l.records.items small.newest small.len slots
   pub ends : small.oldest ≡ last_or None slots
-  pub standing : (t : ℕ) → has t slots ≡ true → IsInSmall (standing_at l.records.items t)
-  pub placed : (t position : ℕ) → has t slots ≡ true → standing_at l.records.items t ≡ Young position → (position < length l.window.items) × (young_at l position ≡ Some t)
-  pub occupied : (position t : ℕ) → young_at l position ≡ Some t → (has t slots ≡ true) × (standing_at l.records.items t ≡ Young position)
+  pub location : (t : ℕ) → has t slots ≡ true → IsInSmall (location_at l.records.items t)
+  pub placed : (t position : ℕ) → has t slots ≡ true → location_at l.records.items t ≡ SmallYoung position → (position < length l.window.items) × (young_at l position ≡ Some t)
+  pub occupied : (position t : ℕ) → young_at l position ≡ Some t → (has t slots ≡ true) × (location_at l.records.items t ≡ SmallYoung position)
   pub cursor_in : 0 < length l.window.items → small.cursor < length l.window.items
   pub countable_positions : length l.window.items < 2 ^ 32
 
@@ -73,7 +73,7 @@ is_there (Some there) slot = slot == there
 pub record GrowsOld (cursor : ℕ) (old new : LinkState) : Type 0 where
   pub nexts : (t : ℕ) → next_at new.records.items t ≡ next_at old.records.items t
   pub previouses : (t : ℕ) → previous_at new.records.items t ≡ previous_at old.records.items t
-  pub standings : (t : ℕ) → standing_at new.records.items t ≡ (if is_there (young_at old cursor) t then Old else standing_at old.records.items t)
+  pub locations : (t : ℕ) → location_at new.records.items t ≡ (if is_there (young_at old cursor) t then SmallOld else location_at old.records.items t)
   pub bits : (t : ℕ) → bit_at new t ≡ (if is_there (young_at old cursor) t then false else bit_at old t)
   pub as_many : length new.records.items ≡ length old.records.items
   pub positions : new.window.items ≡ old.window.items

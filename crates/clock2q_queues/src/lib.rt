@@ -13,5 +13,3 @@ mod main_ring;
 pub mod order;
 pub mod queues;
 mod small;
-
-pub use queues::Standing;

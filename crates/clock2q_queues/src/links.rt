@@ -2,8 +2,8 @@
 //! positions of Small's window.
 ghost use Rattle.std.specs.Prelude.{◌≡◌, ℕ, ◌+◌, ◌^◌, ◌<◌, ◌&&◌, length, IfOk, replicate, None, false, if◌then◌else◌, ◌==◌};
 ghost use Rattle.clock2q_queues.specs.Cells.{CellsState, cells_state, accessed, written};
-ghost use Rattle.clock2q_queues.specs.Flags.{is_queued};
-ghost use Rattle.clock2q_queues.specs.Links.{LinkState, vacant, is_old, Attaches, Detaches, SetsBit, fresh, record_at, next_at, previous_at, with_standing, standing_at, bit_at, young_at};
+ghost use Rattle.clock2q_queues.specs.Flags.{is_linked};
+ghost use Rattle.clock2q_queues.specs.Links.{LinkState, vacant, is_old, Attaches, Detaches, SetsBit, fresh, record_at, next_at, previous_at, with_location, location_at, bit_at, young_at};
 
 mod cells;
 mod flags;
@@ -13,37 +13,37 @@ pub(crate) use cells::Cells;
 use std::alloc::{AllocError, Allocator, Global};
 use std::marker::Model;
 
-/// The mark in a slot's record: the queue that the slot is in, if any.
+/// Where a slot is: the queue that it is in, if any, and in Small whether it is young.
 #[derive(Clone, Copy, Debug, PartialEq, Eq)]
-pub(crate) enum Mark {
+pub(crate) enum Location {
     /// In neither queue.
     Free,
     /// In Small, young, with its position in the window.
-    Young(u32),
+    SmallYoung(u32),
     /// In Small, old.
-    Old,
+    SmallOld,
     /// In Main.
     Main,
 }
 
-impl Mark {
+impl Location {
     /// Returns true if the slot is in a queue.
-    fn is_queued(self) -> bool
-        ensures { result ≡ is_queued self }
+    fn is_linked(self) -> bool
+        ensures { result ≡ is_linked self }
     {
         match self {
-            Mark::Free => false,
-            Mark::Young(_) | Mark::Old | Mark::Main => true,
+            Location::Free => false,
+            Location::SmallYoung(_) | Location::SmallOld | Location::Main => true,
         }
     }
 }
 
-/// The neighbours of a slot in its queue, and its mark.
+/// The neighbours of a slot in its queue, and its location.
 #[derive(Clone, Copy, Debug)]
 pub(crate) struct Record {
     pub(crate) previous: u32,
     pub(crate) next: u32,
-    pub(crate) standing: Mark,
+    pub(crate) location: Location,
 }
 
 const _: () = prove!(size_of::<Record>() <= 16);
@@ -52,7 +52,7 @@ const _: () = prove!(size_of::<Record>() <= 16);
 pub(crate) const VACANT: Record = Record {
     previous: 0,
     next: 0,
-    standing: Mark::Free,
+    location: Location::Free,
 };
 
 /// The records and the hit bits of the slots, which both queues share, and the window's positions.
@@ -101,7 +101,10 @@ impl<A: Allocator> Links<A> {
     /// Raises the count of accesses by an amount that the proof of the call picks.
     pub(crate) fn charge(&mut self)
         ghost more: { ℕ }
-        ensures { self.new ≡ record self.old { records = cells_state self.old.records.items (self.old.records.accesses + more) } }
+        ensures { self.new ≡ record self.old {
+          records = cells_state self.old.records.items
+              (self.old.records.accesses + more);
+        } }
     {
         self.records.charge();
     }
@@ -120,63 +123,72 @@ impl<A: Allocator> Links<A> {
         requires { slot < length self.old.records.items }
         ensures { self.new ≡ record self.old { records = written slot content self.old.records } }
     {
-        self.bits.set_standing(slot, content.standing.is_queued());
+        self.bits.set_linked(slot, content.location.is_linked());
         self.records.write(slot, content);
     }
 
-    /// Writes the mark of a slot.
-    pub(crate) fn set_standing(&mut self, slot: u32, standing: Mark)
+    /// Writes the location of a slot.
+    pub(crate) fn set_location(&mut self, slot: u32, location: Location)
         requires { slot < length self.old.records.items }
-        ensures { self.new ≡ record self.old { records = accessed (with_standing slot standing self.old.records) } }
+        ensures { self.new ≡ record self.old {
+          records = accessed
+              (with_location slot location self.old.records);
+        } }
     {
-        self.bits.set_standing(slot, standing.is_queued());
-        self.records.set_standing(slot, standing);
+        self.bits.set_linked(slot, location.is_linked());
+        self.records.set_location(slot, location);
     }
 
     /// Puts a slot just before another.
-    pub(crate) fn attach(&mut self, slot: u32, before: u32, standing: Mark)
+    pub(crate) fn attach(&mut self, slot: u32, before: u32, location: Location)
         requires slot_in { slot < length self.old.records.items }
         requires before_in { before < length self.old.records.items }
-        requires previous_in { previous_at self.old.records.items before < length self.old.records.items }
-        ensures attached { Attaches slot before standing self.old.records self.new.records }
+        requires previous_in { previous_at self.old.records.items before
+            < length self.old.records.items }
+        ensures attached { Attaches slot before location self.old.records self.new.records }
         ensures rest { self.new ≡ record self.old { records = self.new.records } }
     {
-        self.bits.set_standing(slot, standing.is_queued());
-        self.records.attach(slot, before, standing);
+        self.bits.set_linked(slot, location.is_linked());
+        self.records.attach(slot, before, location);
     }
 
     /// Puts a slot just before another, with a clear bit.
-    pub(crate) fn attach_clear(&mut self, slot: u32, before: u32, standing: Mark)
+    pub(crate) fn attach_clear(&mut self, slot: u32, before: u32, location: Location)
         requires slot_in { slot < length self.old.records.items }
         requires before_in { before < length self.old.records.items }
-        requires previous_in { previous_at self.old.records.items before < length self.old.records.items }
-        ensures attached { Attaches slot before standing self.old.records self.new.records }
-        ensures cleared { SetsBit slot false self.old (record self.new { records = self.old.records }) }
+        requires previous_in { previous_at self.old.records.items before
+            < length self.old.records.items }
+        ensures attached { Attaches slot before location self.old.records self.new.records }
+        ensures cleared { SetsBit slot false self.old
+            (record self.new { records = self.old.records }) }
     {
-        self.bits.renew(slot, standing.is_queued());
-        self.records.attach(slot, before, standing);
+        self.bits.renew(slot, location.is_linked());
+        self.records.attach(slot, before, location);
     }
 
     /// Makes a slot old, with a clear bit.
     pub(crate) fn make_old(&mut self, slot: u32)
         requires { slot < length self.old.records.items }
-        ensures marked { self.new.records ≡ accessed (with_standing slot Mark.Old self.old.records) }
-        ensures cleared { SetsBit slot false self.old (record self.new { records = self.old.records }) }
+        ensures marked { self.new.records
+            ≡ accessed (with_location slot Location.SmallOld self.old.records) }
+        ensures cleared { SetsBit slot false self.old
+            (record self.new { records = self.old.records }) }
     {
         self.bits.renew(slot, true);
-        self.records.set_standing(slot, Mark::Old);
+        self.records.set_location(slot, Location::SmallOld);
     }
 
     /// Removes a slot from between its neighbours, and returns the record that it had.
     pub(crate) fn detach(&mut self, slot: u32) -> Record
         requires slot_in { slot < length self.old.records.items }
         requires next_in { next_at self.old.records.items slot < length self.old.records.items }
-        requires previous_in { previous_at self.old.records.items slot < length self.old.records.items }
+        requires previous_in { previous_at self.old.records.items slot
+            < length self.old.records.items }
         ensures detached { Detaches slot self.old.records self.new.records }
         ensures value { result ≡ record_at self.old.records.items slot }
         ensures rest { self.new ≡ record self.old { records = self.new.records } }
     {
-        self.bits.set_standing(slot, false);
+        self.bits.set_linked(slot, false);
         self.records.detach(slot)
     }
 
@@ -192,17 +204,18 @@ impl<A: Allocator> Links<A> {
     /// Puts a slot at a position of the window, or empties the position.
     pub(crate) fn set_young_at(&mut self, position: u32, occupant: Option<u32>)
         requires { position < length self.old.window.items }
-        ensures { self.new ≡ record self.old { window = written position occupant self.old.window } }
+        ensures { self.new
+            ≡ record self.old { window = written position occupant self.old.window } }
     {
         self.window.write(position, occupant);
     }
 
     /// Returns true if a slot is in a queue. It reads the byte with the slot's bit, and no record.
-    pub(crate) fn is_standing(&self, slot: u32) -> bool
+    pub(crate) fn is_linked(&self, slot: u32) -> bool
         requires { slot < length self.now.records.items }
-        ensures { result ≡ is_queued (standing_at self.now.records.items slot) }
+        ensures { result ≡ is_linked (location_at self.now.records.items slot) }
     {
-        self.bits.is_standing(slot)
+        self.bits.is_linked(slot)
     }
 
     /// Sets or clears the hit bit of a slot.
@@ -217,7 +230,8 @@ impl<A: Allocator> Links<A> {
     pub(crate) fn inspect(&mut self, slot: u32) -> bool
         requires { slot < length self.old.records.items }
         ensures value { result ≡ bit_at self.old slot }
-        ensures bits { (t : ℕ) → bit_at self.new t ≡ (if t == slot then false else bit_at self.old t) }
+        ensures bits { (t : ℕ) → bit_at self.new t
+            ≡ (if t == slot then false else bit_at self.old t) }
         ensures rest { self.new ≡ record self.old { bits = self.new.bits } }
         ensures counted { self.new.bits.inspections ≡ self.old.bits.inspections + 1 }
     {
@@ -227,22 +241,26 @@ impl<A: Allocator> Links<A> {
     /// Reads a slot's record, and returns true if the slot is old and its bit is set.
     pub(crate) fn is_old_hit(&mut self, slot: u32) -> bool
         requires { slot < length self.old.records.items }
-        ensures value { result ≡ (is_old (standing_at self.old.records.items slot) && bit_at self.old slot) }
+        ensures value { result
+            ≡ (is_old (location_at self.old.records.items slot) && bit_at self.old slot) }
         ensures counted { self.new ≡ record self.old { records = accessed self.old.records } }
     {
-        match self.records.read(slot).standing {
-            Mark::Old => self.bits.is_set(slot),
+        match self.records.read(slot).location {
+            Location::SmallOld => self.bits.is_set(slot),
             _ => false,
         }
     }
 
     /// Resets every record, every position and every bit to its initial state.
     pub(crate) fn reset(&mut self)
-        ensures records { self.new.records.items ≡ replicate (length self.old.records.items) vacant }
+        ensures records { self.new.records.items
+            ≡ replicate (length self.old.records.items) vacant }
         ensures positions { self.new.window.items ≡ replicate (length self.old.window.items) None }
         ensures inspections { self.new.bits.inspections ≡ self.old.bits.inspections }
-        ensures records_counted { self.new.records.accesses ≡ self.old.records.accesses + length self.old.records.items }
-        ensures positions_counted { self.new.window.accesses ≡ self.old.window.accesses + length self.old.window.items }
+        ensures records_counted { self.new.records.accesses
+            ≡ self.old.records.accesses + length self.old.records.items }
+        ensures positions_counted { self.new.window.accesses
+            ≡ self.old.window.accesses + length self.old.window.items }
     {
         self.records.fill(VACANT);
         self.window.fill(None);

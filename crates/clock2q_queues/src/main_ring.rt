@@ -3,9 +3,9 @@ ghost use Rattle.std.specs.Prelude.{◌≡◌, ℕ, ◌+◌, ◌^◌, ◌<◌, �
 ghost use Rattle.std.specs.List.{filter};
 ghost use Rattle.clock2q_queues.specs.Cells.{Rises, accessed};
 ghost use Rattle.clock2q_queues.specs.Rings.{has};
-ghost use Rattle.clock2q_queues.specs.Links.{LinkState, IsSameBut, standing_at};
+ghost use Rattle.clock2q_queues.specs.Links.{LinkState, IsSameBut, location_at};
 
-use crate::links::{Links, Mark, Record};
+use crate::links::{Links, Location, Record};
 use std::alloc::Allocator;
 
 /// A ring of slots. The hand is at the slot that it inspects next, and a new slot goes just before
@@ -29,7 +29,8 @@ impl MainRing {
 
     /// Returns the number of slots.
     pub(crate) fn len(&self) -> usize
-        ensures { (l : LinkState) → IsMainRing l self.now → result ≡ length (main_slots l self.now) }
+        ensures { (l : LinkState) → IsMainRing l self.now
+            → result ≡ length (main_slots l self.now) }
     {
         self.len
     }
@@ -40,7 +41,8 @@ impl MainRing {
         requires slot_in { slot < length links.old.records.items }
         requires absent { has slot (main_slots links.old self.old) ≡ false }
         ensures whole { IsMainRing links.new self.new }
-        ensures entries { main_entries links.new self.new ≡ main_entries links.old self.old ++ (slot, false) ∷ [] }
+        ensures entries { main_entries links.new self.new
+            ≡ main_entries links.old self.old ++ (slot, false) ∷ [] }
         ensures others { IsSameBut (slot ∷ main_slots links.old self.old) links.old links.new }
         ensures window { links.new.window ≡ links.old.window }
         ensures inspections { links.new.bits.inspections ≡ links.old.bits.inspections }
@@ -52,12 +54,12 @@ impl MainRing {
                 let alone = Record {
                     previous: slot,
                     next: slot,
-                    standing: Mark::Main,
+                    location: Location::Main,
                 };
                 links.write(slot, alone);
                 self.hand = Some(slot);
             }
-            Some(hand) => links.attach_clear(slot, hand, Mark::Main),
+            Some(hand) => links.attach_clear(slot, hand, Location::Main),
         }
         self.len += 1;
     }
@@ -69,7 +71,7 @@ impl MainRing {
         ensures whole { IsMainRing links.new self.new }
         ensures entries { main_entries links.new self.new
             ≡ filter (λ e. not (e.0 == slot)) (main_entries links.old self.old) }
-        ensures freed { standing_at links.new.records.items slot ≡ Mark.Free }
+        ensures freed { location_at links.new.records.items slot ≡ Location.Free }
         ensures others { IsSameBut (main_slots links.old self.old) links.old links.new }
         ensures rest { links.new ≡ record links.old { records = links.new.records } }
         ensures accesses { links.new.records.accesses ≡ links.old.records.accesses + 6 }
@@ -87,12 +89,15 @@ impl MainRing {
         requires whole { IsMainRing links.old self.old }
         requires occupied { 0 < length (main_slots links.old self.old) }
         ensures whole { IsMainRing links.new self.new }
-        ensures entries { main_entries links.new self.new ≡ from_victim (main_entries links.old self.old) }
+        ensures entries { main_entries links.new self.new
+            ≡ from_victim (main_entries links.old self.old) }
         ensures victim { slice_get (main_entries links.new self.new) 0 ≡ Some (result, false) }
         ensures others { IsSameBut (main_slots links.old self.old) links.old links.new }
         ensures window { links.new.window ≡ links.old.window }
-        ensures inspections { links.new.bits.inspections ≡ links.old.bits.inspections + inspections (main_entries links.old self.old) }
-        ensures accesses { links.new.records.accesses + 1 ≡ links.old.records.accesses + inspections (main_entries links.old self.old) }
+        ensures inspections { links.new.bits.inspections
+            ≡ links.old.bits.inspections + inspections (main_entries links.old self.old) }
+        ensures accesses { links.new.records.accesses + 1
+            ≡ links.old.records.accesses + inspections (main_entries links.old self.old) }
     {
         // a ring with an entry has a hand
         let mut hand = self.hand.unwrap();
@@ -108,7 +113,8 @@ impl MainRing {
         requires whole { IsMainRing links.old self.old }
         requires first { slice_get (main_entries links.old self.old) 0 ≡ Some (slot, false) }
         ensures whole { IsMainRing links.new self.new }
-        ensures entries { main_entries links.new self.new ≡ drop 1 (main_entries links.old self.old) ++ (slot, false) ∷ [] }
+        ensures entries { main_entries links.new self.new
+            ≡ drop 1 (main_entries links.old self.old) ++ (slot, false) ∷ [] }
         ensures links { links.new ≡ record links.old { records = accessed links.old.records } }
     {
         self.hand = Some(links.read(slot).next);

@@ -5,7 +5,7 @@ ghost use Rattle.clock2q_queues.specs.Cells.{CellsState, Rises, written};
 ghost use Rattle.clock2q_queues.specs.Rings.{has, without};
 ghost use Rattle.clock2q_queues.specs.Order.{free_places};
 
-use crate::links::{Cells, Mark, Record, VACANT};
+use crate::links::{Cells, Location, Record, VACANT};
 use std::alloc::{AllocError, Allocator, Global};
 use std::marker::Model;
 
@@ -21,7 +21,8 @@ impl Chain {
     fn take<A: Allocator>(&mut self, records: &mut Cells<Record, A>) -> Option<u32>
         requires { 0 < self.old.len → self.old.head < length records.old.items }
         ensures taken { result ≡ slice_get (free_places records.old.items self.old) 0 }
-        ensures rest { free_places records.new.items self.new ≡ drop 1 (free_places records.old.items self.old) }
+        ensures rest { free_places records.new.items self.new
+            ≡ drop 1 (free_places records.old.items self.old) }
         ensures items { records.new.items ≡ records.old.items }
         ensures accesses { Rises 0 1 records.old.accesses records.new.accesses }
     {
@@ -39,8 +40,11 @@ impl Chain {
         requires place_in { place < length records.old.items }
         requires absent { has place (free_places records.old.items self.old) ≡ false }
         requires countable { self.old.len + 1 < 2 ^ 32 }
-        ensures chain { free_places records.new.items self.new ≡ place ∷ free_places records.old.items self.old }
-        ensures rest { (next : ℕ) × (records.new ≡ written place (record { previous = 0; next = next; standing = Mark.Free }) records.old) }
+        ensures chain { free_places records.new.items self.new
+            ≡ place ∷ free_places records.old.items self.old }
+        ensures rest { (next : ℕ)
+            × (records.new ≡ written place
+            (record { previous = 0; next = next; location = Location.Free }) records.old) }
     {
         records.write(
             place,
@@ -128,7 +132,12 @@ impl<A: Allocator> Order<A> {
         requires { length self.old.places < self.old.limit }
         ensures whole { IsWholeOrder self.new }
         ensures place { result ≡ next_place self.old }
-        ensures order { self.new ≡ record self.old { places = result ∷ self.old.places; free = drop 1 self.old.free; accesses = self.new.accesses } }
+        ensures order { self.new
+            ≡ record self.old {
+              places = result ∷ self.old.places;
+              free = drop 1 self.old.free;
+              accesses = self.new.accesses;
+            } }
         ensures accesses { Rises 1 7 self.old.accesses self.new.accesses }
     {
         let place = self.chain.take(&mut self.records).unwrap_or(self.len);
@@ -137,11 +146,11 @@ impl<A: Allocator> Order<A> {
                 let alone = Record {
                     previous: place,
                     next: place,
-                    standing: Mark::Free,
+                    location: Location::Free,
                 };
                 self.records.write(place, alone);
             }
-            Some(newest) => self.records.attach(place, newest, Mark::Free),
+            Some(newest) => self.records.attach(place, newest, Location::Free),
         }
         self.newest = Some(place);
         self.len += 1;
@@ -153,7 +162,11 @@ impl<A: Allocator> Order<A> {
         requires { 0 < length self.old.places }
         ensures whole { IsWholeOrder self.new }
         ensures oldest { last_or None self.old.places ≡ Some result }
-        ensures order { self.new ≡ record self.old { places = result ∷ take (length self.old.places - 1) self.old.places; accesses = self.old.accesses + 1 } }
+        ensures order { self.new
+            ≡ record self.old {
+              places = result ∷ take (length self.old.places - 1) self.old.places;
+              accesses = self.old.accesses + 1;
+            } }
     {
         // an order with a place has a newest one
         let newest = self.newest.unwrap();
@@ -166,7 +179,12 @@ impl<A: Allocator> Order<A> {
     pub fn unlink(&mut self, place: u32)
         requires { has place self.old.places ≡ true }
         ensures whole { IsWholeOrder self.new }
-        ensures order { self.new ≡ record self.old { places = without place self.old.places; free = place ∷ self.old.free; accesses = self.old.accesses + 7 } }
+        ensures order { self.new
+            ≡ record self.old {
+              places = without place self.old.places;
+              free = place ∷ self.old.free;
+              accesses = self.old.accesses + 7;
+            } }
     {
         let was = self.records.detach(place);
         self.chain.put(&mut self.records, place);

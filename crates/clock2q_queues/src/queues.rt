@@ -5,32 +5,13 @@ ghost use Rattle.clock2q_queues.specs.Cells.{Rises};
 ghost use Rattle.clock2q_queues.specs.Rings.{has};
 ghost use Rattle.clock2q_queues.specs.Small.{admitted, small_hit_at};
 ghost use Rattle.clock2q_queues.specs.MainRing.{inspections, from_victim, main_hit_at};
-ghost use Rattle.clock2q_queues.specs.Queues.{slots_of, without_slot, empty_queues, IsStanding, IsWholeQueues, tail_promoted};
+ghost use Rattle.clock2q_queues.specs.Queues.{slots_of, without_slot, empty_queues, IsAt, IsWholeQueues, tail_promoted};
 
-use crate::links::{Links, Mark};
+use crate::links::{Links, Location};
 use crate::main_ring::MainRing;
 use crate::small::Small;
 use std::alloc::{AllocError, Allocator, Global};
 use std::marker::Model;
-
-/// The queue that a slot is in.
-///
-/// # Example
-///
-/// ```
-/// if queues.standing(slot) == Standing::Free {
-///     queues.admit(slot);
-/// }
-/// ```
-#[derive(Clone, Copy, Debug, PartialEq, Eq)]
-pub enum Standing {
-    /// Neither queue.
-    Free,
-    /// Small.
-    Small,
-    /// Main.
-    Main,
-}
 
 /// The two queues of a cache's residents. They hold slot numbers from 0, and a slot is in at most
 /// one of them.
@@ -47,11 +28,10 @@ pub enum Standing {
 /// queues.admit(1);
 /// queues.admit(2);
 /// queues.hit(0);
-/// assert_eq!(rt; queues.tail(), Some(0));
 /// assert!(rt; queues.tail_is_promoted());
-/// queues.leave(0);
+/// assert_eq!(rt; queues.take_tail(), Some(0));
 /// queues.append(0);
-/// assert_eq!(rt; queues.standing(0), Standing::Main);
+/// assert!(rt; queues.is_resident(0));
 /// assert_eq!(rt; queues.take_victim(), 0);
 /// ```
 #[derive(Drop)]
@@ -108,14 +88,6 @@ impl<A: Allocator> Queues<A> {
         self.main.len()
     }
 
-    /// Returns the oldest slot of Small, or `None` if Small is empty.
-    pub fn tail(&self) -> Option<u32>
-        ensures tail { result ≡ last_or None (slots_of self.now.small) }
-        ensures whole { IsWholeQueues self.now }
-    {
-        self.small.tail()
-    }
-
     /// Returns true if the oldest slot of Small goes on to Main instead of leaving: it is old, and
     /// its bit is set.
     pub fn tail_is_promoted(&mut self) -> bool
@@ -136,7 +108,11 @@ impl<A: Allocator> Queues<A> {
         requires not_in_small { has slot (slots_of self.old.small) ≡ false }
         requires not_in_main { has slot (slots_of self.old.main) ≡ false }
         requires window { 0 < self.old.window }
-        ensures queues { self.new ≡ record self.old { small = admitted self.old.window slot self.old.small; accesses = self.new.accesses } }
+        ensures queues { self.new
+            ≡ record self.old {
+              small = admitted self.old.window slot self.old.small;
+              accesses = self.new.accesses;
+            } }
         ensures accesses { Rises 3 10 self.old.accesses self.new.accesses }
     {
         self.small.push(&mut self.links, slot);
@@ -147,23 +123,23 @@ impl<A: Allocator> Queues<A> {
         requires slot_in { slot < self.old.slots }
         requires not_in_small { has slot (slots_of self.old.small) ≡ false }
         requires not_in_main { has slot (slots_of self.old.main) ≡ false }
-        ensures queues { self.new ≡ record self.old { main = self.old.main ++ (slot, false) ∷ []; accesses = self.new.accesses } }
+        ensures queues { self.new
+            ≡ record self.old {
+              main = self.old.main ++ (slot, false) ∷ [];
+              accesses = self.new.accesses;
+            } }
         ensures accesses { Rises 1 6 self.old.accesses self.new.accesses }
     {
         self.main.push(&mut self.links, slot);
     }
 
-    /// Returns the queue that a slot is in.
-    pub fn standing(&mut self, slot: u32) -> Standing
+    /// Returns where a slot is.
+    fn location(&mut self, slot: u32) -> Location
         requires slot_in { slot < self.old.slots }
-        ensures value { IsStanding result slot self.old }
+        ensures value { IsAt result slot self.old }
         ensures queues { self.new ≡ record self.old { accesses = self.old.accesses + 1 } }
     {
-        match self.links.read(slot).standing {
-            Mark::Free => Standing::Free,
-            Mark::Young(_) | Mark::Old => Standing::Small,
-            Mark::Main => Standing::Main,
-        }
+        self.links.read(slot).location
     }
 
     /// Returns true if a slot is in a queue. It accesses no link.
@@ -171,14 +147,18 @@ impl<A: Allocator> Queues<A> {
         requires slot_in { slot < self.now.slots }
         ensures resident { result ≡ has slot (slots_of self.now.small ++ slots_of self.now.main) }
     {
-        self.links.is_standing(slot)
+        self.links.is_linked(slot)
     }
 
     /// Removes Small's oldest slot, and returns it. Returns `None` if Small is empty.
     #[inline(always)]
     pub fn take_tail(&mut self) -> Option<u32>
         ensures tail { result ≡ last_or None (slots_of self.old.small) }
-        ensures queues { self.new ≡ record self.old { small = take (length self.old.small - 1) self.old.small; accesses = self.new.accesses } }
+        ensures queues { self.new
+            ≡ record self.old {
+              small = take (length self.old.small - 1) self.old.small;
+              accesses = self.new.accesses;
+            } }
         ensures accesses { Rises 0 7 self.old.accesses self.new.accesses }
     {
         let tail = self.small.tail()?;
@@ -193,7 +173,12 @@ impl<A: Allocator> Queues<A> {
         requires some { 0 < length self.old.small }
         requires window { 0 < self.old.window }
         ensures tail { last_or None (slots_of self.old.small) ≡ Some result }
-        ensures queues { self.new ≡ record self.old { small = admitted self.old.window result (take (length self.old.small - 1) self.old.small); accesses = self.new.accesses } }
+        ensures queues { self.new
+            ≡ record self.old {
+              small = admitted self.old.window result
+                  (take (length self.old.small - 1) self.old.small);
+              accesses = self.new.accesses;
+            } }
         ensures accesses { Rises 5 8 self.old.accesses self.new.accesses }
     {
         self.small.reuse_oldest(&mut self.links)
@@ -210,8 +195,14 @@ impl<A: Allocator> Queues<A> {
     pub fn take_victim(&mut self) -> u32
         requires some { 0 < length self.old.main }
         ensures victim { slice_get (from_victim self.old.main) 0 ≡ Some (result, false) }
-        ensures queues { self.new ≡ record self.old { main = drop 1 (from_victim self.old.main); accesses = self.new.accesses; inspections = self.new.inspections } }
-        ensures inspections { self.new.inspections ≡ self.old.inspections + inspections self.old.main }
+        ensures queues { self.new
+            ≡ record self.old {
+              main = drop 1 (from_victim self.old.main);
+              accesses = self.new.accesses;
+              inspections = self.new.inspections;
+            } }
+        ensures inspections { self.new.inspections
+            ≡ self.old.inspections + inspections self.old.main }
         ensures accesses { self.new.accesses ≡ self.old.accesses + inspections self.old.main + 5 }
     {
         let victim = self.main.select(&mut self.links);
@@ -228,8 +219,14 @@ impl<A: Allocator> Queues<A> {
     pub fn reuse_victim(&mut self) -> u32
         requires some { 0 < length self.old.main }
         ensures victim { slice_get (from_victim self.old.main) 0 ≡ Some (result, false) }
-        ensures queues { self.new ≡ record self.old { main = drop 1 (from_victim self.old.main) ++ (result, false) ∷ []; accesses = self.new.accesses; inspections = self.new.inspections } }
-        ensures inspections { self.new.inspections ≡ self.old.inspections + inspections self.old.main }
+        ensures queues { self.new
+            ≡ record self.old {
+              main = drop 1 (from_victim self.old.main) ++ (result, false) ∷ [];
+              accesses = self.new.accesses;
+              inspections = self.new.inspections;
+            } }
+        ensures inspections { self.new.inspections
+            ≡ self.old.inspections + inspections self.old.main }
         ensures accesses { self.new.accesses ≡ self.old.accesses + inspections self.old.main }
     {
         let victim = self.main.select(&mut self.links);
@@ -240,20 +237,32 @@ impl<A: Allocator> Queues<A> {
     /// Removes a slot from its queue. If it is in neither, nothing changes.
     pub fn leave(&mut self, slot: u32)
         requires slot_in { slot < self.old.slots }
-        ensures queues { self.new ≡ record self.old { small = without_slot slot self.old.small; main = without_slot slot self.old.main; accesses = self.new.accesses } }
+        ensures queues { self.new
+            ≡ record self.old {
+              small = without_slot slot self.old.small;
+              main = without_slot slot self.old.main;
+              accesses = self.new.accesses;
+            } }
         ensures accesses { Rises 1 8 self.old.accesses self.new.accesses }
     {
-        match self.standing(slot) {
-            Standing::Free => {}
-            Standing::Small => self.small.unlink(&mut self.links, slot),
-            Standing::Main => self.main.unlink(&mut self.links, slot),
+        match self.location(slot) {
+            Location::Free => {}
+            Location::SmallYoung(_) | Location::SmallOld => {
+                self.small.unlink(&mut self.links, slot);
+            }
+            Location::Main => self.main.unlink(&mut self.links, slot),
         }
     }
 
     /// Records a hit on a slot. A hit on a young slot doesn't count.
     pub fn hit(&mut self, slot: u32)
-        requires resident { (has slot (slots_of self.old.small) ≡ true) ⊎ (has slot (slots_of self.old.main) ≡ true) }
-        ensures queues { self.new ≡ record self.old { small = small_hit_at slot self.old.small; main = main_hit_at slot self.old.main } }
+        requires resident { (has slot (slots_of self.old.small) ≡ true)
+            ⊎ (has slot (slots_of self.old.main) ≡ true) }
+        ensures queues { self.new
+            ≡ record self.old {
+              small = small_hit_at slot self.old.small;
+              main = main_hit_at slot self.old.main;
+            } }
     {
         self.links.set_bit(slot, true);
     }
@@ -273,7 +282,12 @@ impl<A: Allocator> Queues<A> {
     ///
     /// Linear in the number of slots and the length of the window.
     pub fn clear(&mut self)
-        ensures queues { self.new ≡ record self.old { small = []; main = []; accesses = self.old.accesses + self.old.slots + self.old.window } }
+        ensures queues { self.new
+            ≡ record self.old {
+              small = [];
+              main = [];
+              accesses = self.old.accesses + self.old.slots + self.old.window;
+            } }
     {
         self.small.clear();
         self.main.clear();

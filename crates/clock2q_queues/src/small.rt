@@ -4,9 +4,9 @@ ghost use Rattle.std.specs.List.{filter, last_or};
 ghost use Rattle.clock2q_queues.specs.Cells.{Rises};
 ghost use Rattle.clock2q_queues.specs.Rings.{has};
 ghost use Rattle.clock2q_queues.specs.Ends.{end_after, position_freed};
-ghost use Rattle.clock2q_queues.specs.Links.{LinkState, IsBlank, IsSameBut, accesses_of, standing_at, young_at};
+ghost use Rattle.clock2q_queues.specs.Links.{LinkState, IsBlank, IsSameBut, accesses_of, location_at, young_at};
 
-use crate::links::{Links, Mark, Record};
+use crate::links::{Links, Location, Record};
 use std::alloc::Allocator;
 
 /// A queue of slots, newest first. The window's positions hold the young slots, and the cursor is
@@ -37,14 +37,16 @@ impl Small {
 
     /// Returns the number of slots.
     pub(crate) fn len(&self) -> usize
-        ensures { (l : LinkState) → IsSmallQueue l self.now → result ≡ length (small_slots l self.now) }
+        ensures { (l : LinkState) → IsSmallQueue l self.now
+            → result ≡ length (small_slots l self.now) }
     {
         self.len
     }
 
     /// Returns the oldest slot, or `None` if there is none.
     pub(crate) fn tail(&self) -> Option<u32>
-        ensures { (l : LinkState) → IsSmallQueue l self.now → result ≡ last_or None (small_slots l self.now) }
+        ensures { (l : LinkState) → IsSmallQueue l self.now
+            → result ≡ last_or None (small_slots l self.now) }
     {
         self.oldest
     }
@@ -52,7 +54,8 @@ impl Small {
     /// Makes the slot at the cursor, if there is one, old with a clear bit.
     fn free_position<A: Allocator>(&self, links: &mut Links<A>)
         requires cursor { self.now.cursor < length links.old.window.items }
-        requires slot { IfSome (young_at links.old self.now.cursor) (λ slot. slot < length links.old.records.items) }
+        requires slot { IfSome (young_at links.old self.now.cursor)
+            (λ slot. slot < length links.old.records.items) }
         ensures older { GrowsOld self.now.cursor links.old links.new }
         ensures accesses { Rises 1 3 (accesses_of links.old) (accesses_of links.new) }
     {
@@ -89,18 +92,18 @@ impl Small {
     {
         self.free_position(links);
         links.set_young_at(self.cursor, Some(slot));
-        let standing = Mark::Young(self.cursor);
+        let location = Location::SmallYoung(self.cursor);
         match self.newest {
             None => {
                 let alone = Record {
                     previous: slot,
                     next: slot,
-                    standing,
+                    location,
                 };
                 links.write(slot, alone);
                 self.oldest = Some(slot);
             }
-            Some(newest) => links.attach(slot, newest, standing),
+            Some(newest) => links.attach(slot, newest, location),
         }
         self.newest = Some(slot);
         self.cursor = self.next_position(links.window());
@@ -117,7 +120,8 @@ impl Small {
         ensures oldest { last_or None (small_slots links.old self.old) ≡ Some result }
         ensures whole { IsSmallQueue links.new self.new }
         ensures entries { small_entries links.new self.new
-            ≡ admitted (length links.old.window.items) result (filter (λ e. not (e.0 == result)) (small_entries links.old self.old)) }
+            ≡ admitted (length links.old.window.items) result
+            (filter (λ e. not (e.0 == result)) (small_entries links.old self.old)) }
         ensures others { IsSameBut (small_slots links.old self.old) links.old links.new }
         ensures window { length links.new.window.items ≡ length links.old.window.items }
         ensures inspections { links.new.bits.inspections ≡ links.old.bits.inspections }
@@ -126,10 +130,10 @@ impl Small {
         // a queue with a slot has an oldest one
         let slot = self.oldest.unwrap();
         let record = links.read(slot);
-        leave_position(links, record.standing);
+        leave_position(links, record.location);
         self.free_position(links);
         links.set_young_at(self.cursor, Some(slot));
-        links.set_standing(slot, Mark::Young(self.cursor));
+        links.set_location(slot, Location::SmallYoung(self.cursor));
         self.newest = Some(slot);
         self.oldest = Some(record.previous);
         self.cursor = self.next_position(links.window());
@@ -143,14 +147,14 @@ impl Small {
         ensures whole { IsSmallQueue links.new self.new }
         ensures entries { small_entries links.new self.new
             ≡ filter (λ e. not (e.0 == slot)) (small_entries links.old self.old) }
-        ensures freed { standing_at links.new.records.items slot ≡ Mark.Free }
+        ensures freed { location_at links.new.records.items slot ≡ Location.Free }
         ensures others { IsSameBut (small_slots links.old self.old) links.old links.new }
         ensures window { length links.new.window.items ≡ length links.old.window.items }
         ensures inspections { links.new.bits.inspections ≡ links.old.bits.inspections }
         ensures accesses { Rises 6 7 (accesses_of links.old) (accesses_of links.new) }
     {
         let was = links.detach(slot);
-        leave_position(links, was.standing);
+        leave_position(links, was.location);
         self.len -= 1;
         self.newest = end_after(self.newest, slot, self.len, was.next);
         self.oldest = end_after(self.oldest, slot, self.len, was.previous);
@@ -166,11 +170,12 @@ impl Small {
 }
 
 /// Empties the position of a slot, if it was young.
-fn leave_position<A: Allocator>(links: &mut Links<A>, standing: Mark)
-    requires { (position : ℕ) → standing ≡ Mark.Young position → position < length links.old.window.items }
-    ensures { links.new ≡ position_freed standing links.old }
+fn leave_position<A: Allocator>(links: &mut Links<A>, location: Location)
+    requires { (position : ℕ) → location ≡ Location.SmallYoung position
+        → position < length links.old.window.items }
+    ensures { links.new ≡ position_freed location links.old }
 {
-    if let Mark::Young(position) = standing {
+    if let Location::SmallYoung(position) = location {
         links.set_young_at(position, None);
     }
 }

@@ -5,7 +5,7 @@ ghost use Rattle.clock2q_queues.specs.Cells.{cells_state, accessed, written};
 ghost use Rattle.clock2q_queues.specs.Links.{Attaches, Detaches, next_at, previous_at, record_at, with_next, with_previous};
 
 use crate::links::flags::Flags;
-use crate::links::{Mark, Record, VACANT};
+use crate::links::{Location, Record, VACANT};
 use clock2q_count::Count;
 use std::alloc::{AllocError, Allocator, Global};
 use std::marker::Model;
@@ -85,31 +85,31 @@ impl<T: Copy, A: Allocator> Cells<T, A> {
 }
 
 impl<A: Allocator> Cells<Record, A> {
-    ghost use Rattle.clock2q_queues.specs.Links.{with_standing};
+    ghost use Rattle.clock2q_queues.specs.Links.{with_location};
 
-    /// Writes the mark of a slot. Changing one field counts as a read and a write of the record.
-    pub(super) fn set_standing(&mut self, slot: u32, standing: Mark)
+    /// Writes the location of a slot. Changing one field counts as a read and a write of the record.
+    pub(super) fn set_location(&mut self, slot: u32, location: Location)
         requires { slot < length self.old.items }
-        ensures { self.new ≡ accessed (with_standing slot standing self.old) }
+        ensures { self.new ≡ accessed (with_location slot location self.old) }
     {
         self.accesses.tick();
         self.accesses.tick();
-        self.items[slot as usize].standing = standing;
+        self.items[slot as usize].location = location;
     }
 
     /// Puts a slot just before another.
-    pub(crate) fn attach(&mut self, slot: u32, before: u32, standing: Mark)
+    pub(crate) fn attach(&mut self, slot: u32, before: u32, location: Location)
         requires slot_in { slot < length self.old.items }
         requires before_in { before < length self.old.items }
         requires previous_in { previous_at self.old.items before < length self.old.items }
-        ensures { Attaches slot before standing self.old self.new }
+        ensures { Attaches slot before location self.old self.new }
     {
         attach_in(
             self.items.as_mut_slice(),
             &mut self.accesses,
             slot,
             before,
-            standing,
+            location,
         );
     }
 
@@ -127,11 +127,18 @@ impl<A: Allocator> Cells<Record, A> {
 
 /// Puts a slot just before another, in a slice of the records.
 #[inline(always)]
-fn attach_in(records: &mut [Record], accesses: &mut Count, slot: u32, before: u32, standing: Mark)
+fn attach_in(
+    records: &mut [Record],
+    accesses: &mut Count,
+    slot: u32,
+    before: u32,
+    location: Location,
+)
     requires slot_in { slot < length records.old }
     requires before_in { before < length records.old }
     requires previous_in { previous_at records.old before < length records.old }
-    ensures { Attaches slot before standing (cells_state records.old accesses.old.total) (cells_state records.new accesses.new.total) }
+    ensures { Attaches slot before location (cells_state records.old accesses.old.total)
+        (cells_state records.new accesses.new.total) }
 {
     accesses.tick();
     let previous = records[before as usize].previous;
@@ -139,7 +146,7 @@ fn attach_in(records: &mut [Record], accesses: &mut Count, slot: u32, before: u3
     records[slot as usize] = Record {
         previous,
         next: before,
-        standing,
+        location,
     };
     set_next(records, accesses, previous, slot);
     set_previous(records, accesses, before, slot);
@@ -151,7 +158,8 @@ fn detach_in(records: &mut [Record], accesses: &mut Count, slot: u32) -> Record
     requires slot_in { slot < length records.old }
     requires next_in { next_at records.old slot < length records.old }
     requires previous_in { previous_at records.old slot < length records.old }
-    ensures detached { Detaches slot (cells_state records.old accesses.old.total) (cells_state records.new accesses.new.total) }
+    ensures detached { Detaches slot (cells_state records.old accesses.old.total)
+        (cells_state records.new accesses.new.total) }
     ensures value { result ≡ record_at records.old slot }
 {
     accesses.tick();
@@ -166,7 +174,8 @@ fn detach_in(records: &mut [Record], accesses: &mut Count, slot: u32) -> Record
 /// Writes the slot after another. Changing one field counts as a read and a write of the record.
 fn set_next(records: &mut [Record], accesses: &mut Count, slot: u32, next: u32)
     requires { slot < length records.old }
-    ensures { cells_state records.new accesses.new.total ≡ accessed (with_next slot next (cells_state records.old accesses.old.total)) }
+    ensures { cells_state records.new accesses.new.total
+        ≡ accessed (with_next slot next (cells_state records.old accesses.old.total)) }
 {
     accesses.tick();
     accesses.tick();
@@ -176,7 +185,8 @@ fn set_next(records: &mut [Record], accesses: &mut Count, slot: u32, next: u32)
 /// Writes the slot before another.
 fn set_previous(records: &mut [Record], accesses: &mut Count, slot: u32, previous: u32)
     requires { slot < length records.old }
-    ensures { cells_state records.new accesses.new.total ≡ accessed (with_previous slot previous (cells_state records.old accesses.old.total)) }
+    ensures { cells_state records.new accesses.new.total
+        ≡ accessed (with_previous slot previous (cells_state records.old accesses.old.total)) }
 {
     accesses.tick();
     accesses.tick();
@@ -201,11 +211,12 @@ impl<A: Allocator> Model for Bits<A> {
 
 impl<A: Allocator> Bits<A> {
     ghost use Rattle.clock2q_queues.specs.Cells.{hit_bits, bit_in, inspected, with_bit};
-    ghost use Rattle.clock2q_queues.specs.Flags.{flag_state, standing_in};
+    ghost use Rattle.clock2q_queues.specs.Flags.{flag_state, linked_in};
 
     /// Returns clear bits for `slots` slots that are in no queue. The hand has inspected none yet.
     pub(super) fn new(alloc: A, slots: u32) -> Result<Self, AllocError>
-        ensures made { IfOk result (λ b. b ≡ flag_state (hit_bits (replicate slots false) 0) (replicate slots false)) }
+        ensures made { IfOk result
+            (λ b. b ≡ flag_state (hit_bits (replicate slots false) 0) (replicate slots false)) }
     {
         Ok(Bits {
             flags: Vec::from_elem(alloc, Flags::clear(), slots as usize)?,
@@ -214,30 +225,30 @@ impl<A: Allocator> Bits<A> {
     }
 
     /// Returns true if a slot is in a queue.
-    pub(super) fn is_standing(&self, slot: u32) -> bool
+    pub(super) fn is_linked(&self, slot: u32) -> bool
         requires { slot < length self.now.bits.items }
-        ensures { result ≡ standing_in self.now.standing slot }
+        ensures { result ≡ linked_in self.now.linked slot }
     {
-        self.flags[slot as usize].is_standing()
+        self.flags[slot as usize].is_linked()
     }
 
     /// Records whether a slot is in a queue.
-    pub(super) fn set_standing(&mut self, slot: u32, standing: bool)
+    pub(super) fn set_linked(&mut self, slot: u32, linked: bool)
         requires { slot < length self.old.bits.items }
         ensures bits { self.new.bits ≡ self.old.bits }
-        ensures standing { self.new.standing ≡ slice_set self.old.standing slot standing }
+        ensures linked { self.new.linked ≡ slice_set self.old.linked slot linked }
     {
         let flags = self.flags[slot as usize];
-        self.flags[slot as usize] = flags.with_standing(standing);
+        self.flags[slot as usize] = flags.with_linked(linked);
     }
 
     /// Clears the bit of a slot, and records whether the slot is in a queue.
-    pub(super) fn renew(&mut self, slot: u32, standing: bool)
+    pub(super) fn renew(&mut self, slot: u32, linked: bool)
         requires { slot < length self.old.bits.items }
         ensures bits { self.new.bits ≡ with_bit slot false self.old.bits }
-        ensures standing { self.new.standing ≡ slice_set self.old.standing slot standing }
+        ensures linked { self.new.linked ≡ slice_set self.old.linked slot linked }
     {
-        self.flags[slot as usize] = Flags::clear().with_standing(standing);
+        self.flags[slot as usize] = Flags::clear().with_linked(linked);
     }
 
     /// Returns true if a slot's bit is set.
@@ -252,7 +263,7 @@ impl<A: Allocator> Bits<A> {
     pub(super) fn set(&mut self, slot: u32, bit: bool)
         requires { slot < length self.old.bits.items }
         ensures bits { self.new.bits ≡ with_bit slot bit self.old.bits }
-        ensures standing { self.new.standing ≡ self.old.standing }
+        ensures linked { self.new.linked ≡ self.old.linked }
     {
         let flags = self.flags[slot as usize];
         self.flags[slot as usize] = flags.with_bit(bit);
@@ -263,7 +274,7 @@ impl<A: Allocator> Bits<A> {
         requires { slot < length self.old.bits.items }
         ensures value { result ≡ bit_in self.old.bits.items slot }
         ensures counted { self.new.bits ≡ inspected (with_bit slot false self.old.bits) }
-        ensures standing { self.new.standing ≡ self.old.standing }
+        ensures linked { self.new.linked ≡ self.old.linked }
     {
         self.inspections.tick();
         let flags = self.flags[slot as usize];
@@ -274,7 +285,9 @@ impl<A: Allocator> Bits<A> {
 
     /// Clears every bit, and records that no slot is in a queue.
     pub(super) fn clear(&mut self)
-        ensures { self.new ≡ flag_state (hit_bits (replicate (length self.old.bits.items) false) self.old.bits.inspections) (replicate (length self.old.bits.items) false) }
+        ensures { self.new ≡ flag_state
+            (hit_bits (replicate (length self.old.bits.items) false) self.old.bits.inspections)
+            (replicate (length self.old.bits.items) false) }
     {
         self.flags.fill(Flags::clear());
     }

@@ -2,7 +2,7 @@
 ghost use Rattle.std.specs.Prelude.{◌≡◌, false};
 
 /// The byte of a slot that is in a queue, with a clear hit bit, which is the lowest one.
-const STANDING: u8 = 2;
+const LINKED: u8 = 2;
 
 /// A slot's hit bit, and whether the slot is in a queue.
 #[derive(Clone, Copy)]
@@ -11,12 +11,12 @@ pub(super) struct Flags {
 }
 
 impl Flags {
-    ghost use Rattle.clock2q_queues.specs.Flags.{is_set, is_standing};
+    ghost use Rattle.clock2q_queues.specs.Flags.{is_set, says_linked};
 
     /// Returns the flags of a slot that is in no queue, with a clear bit.
     pub(super) fn clear() -> Self
         ensures bit { is_set result ≡ false }
-        ensures standing { is_standing result ≡ false }
+        ensures linked { says_linked result ≡ false }
     {
         Flags { byte: 0 }
     }
@@ -29,16 +29,16 @@ impl Flags {
     }
 
     /// Returns true if the slot is in a queue.
-    pub(super) fn is_standing(self) -> bool
-        ensures { result ≡ is_standing self }
+    pub(super) fn is_linked(self) -> bool
+        ensures { result ≡ says_linked self }
     {
-        self.byte >= STANDING
+        self.byte >= LINKED
     }
 
     /// Returns the flags with the bit set or clear.
     pub(super) fn with_bit(self, bit: bool) -> Self
         ensures bit { is_set result ≡ bit }
-        ensures standing { is_standing result ≡ is_standing self }
+        ensures linked { says_linked result ≡ says_linked self }
     {
         Flags {
             byte: self.byte / 2 * 2 + u8::from(bit),
@@ -46,11 +46,11 @@ impl Flags {
     }
 
     /// Returns the flags with the slot in a queue, or in none.
-    pub(super) fn with_standing(self, standing: bool) -> Self
+    pub(super) fn with_linked(self, linked: bool) -> Self
         ensures bit { is_set result ≡ is_set self }
-        ensures standing { is_standing result ≡ standing }
+        ensures linked { says_linked result ≡ linked }
     {
-        let above = if standing { STANDING } else { 0 };
+        let above = if linked { LINKED } else { 0 };
         Flags {
             byte: above + self.byte % 2,
         }

@@ -2,15 +2,17 @@ use Rattle.std.proofs.Common.{true, refl, sym, ap, ◌∙◌}
 use Rattle.clock2q_queues.specs.Rings.{has}
 use Rattle.clock2q_queues.specs.Links.{LinkState, accesses_of}
 use Rattle.clock2q_queues.specs.Queues.{QueueState, slots_of, without_slot}
+use Rattle.clock2q_queues.proofs.Locations.{in_small_alone}
 use Rattle.clock2q_queues.proofs.Sharing.{after_small_left, after_main_left, in_small, in_main, queues_equal}
 use Rattle.clock2q_queues.proofs.SlotLists.{without_slot-absent}
 use Rattle.clock2q_queues.proofs.queues.Queues.leave.Goals as goal
 
 pub unlink-requires-clause-present : goal.unlink-requires-clause-present
 unlink-requires-clause-present g c =
-    let read = c.in-Small.ensures in
+    let read = c.location.ensures in
+    let at = in_small_alone c.location.result c.args.slot c.args.self.now c.in-SmallYoung.is read.value in
     in_small c.self.inside.links c.self.inside.small c.self.inside.main _ c.args.slot true c.self.view_is
-    (ap (λ (q : QueueState). has c.args.slot (slots_of q.small)) read.queues ∙ read.value.0)
+    (ap (λ (q : QueueState). has c.args.slot (slots_of q.small)) read.queues ∙ at.0)
 
 pub unlink-requires-in-Main-clause-present : goal.unlink-requires-in-Main-clause-present
 unlink-requires-in-Main-clause-present g c =
@@ -37,14 +39,15 @@ returns-in-Free-clause-queues g c =
     read.queues ∙ queues_equal _ _ (without_slot-absent c.args.slot q.small read.value.0)
     (without_slot-absent c.args.slot q.main read.value.1) refl refl (sym (ap (λ (z : QueueState). z.accesses) read.queues)) refl
 
-pub returns-in-Small-clause-queues : goal.returns-in-Small-clause-queues
-returns-in-Small-clause-queues g c =
-    let read = c.in-Small.ensures in
+pub returns-in-SmallYoung-clause-queues : goal.returns-in-SmallYoung-clause-queues
+returns-in-SmallYoung-clause-queues g c =
+    let read = c.location.ensures in
+    let at = in_small_alone c.location.result c.args.slot c.args.self.now c.in-SmallYoung.is read.value in
     let u = c.unlink in
     (after_small_left c.self.inside.links c.self.inside.small c.self.inside.main c.self.invariant u.new.links u.new.self c.args.slot
     u.ensures.whole u.ensures.freed u.ensures.entries u.ensures.others u.ensures.window u.ensures.inspections).is
     ∙ ap (λ (z : QueueState). record z { small = without_slot c.args.slot z.small; accesses = accesses_of u.new.links }) (c.self.view_is ∙ read.queues)
-    ∙ queues_equal _ _ refl (without_slot-absent c.args.slot c.args.self.now.main read.value.1) refl refl refl refl
+    ∙ queues_equal _ _ refl (without_slot-absent c.args.slot c.args.self.now.main at.1) refl refl refl refl
 
 pub returns-in-Main-clause-queues : goal.returns-in-Main-clause-queues
 returns-in-Main-clause-queues g c =

@@ -6,7 +6,7 @@ use Rattle.clock2q_queues.specs.Links.{accesses_of}
 use Rattle.clock2q_queues.specs.Queues.{QueueState, slots_of, queues_shown}
 use Rattle.clock2q_queues.specs.Small.{small_slots, age_at, admitted}
 use Rattle.clock2q_queues.proofs.Sharing.{after_reuse, small_slots-of}
-use Rattle.clock2q_queues.proofs.Standings.{tail_out}
+use Rattle.clock2q_queues.proofs.Locations.{tail_out}
 use Rattle.clock2q_queues.proofs.queues.Queues.reuse_tail.Goals as goal
 
 pub reuse_oldest-requires-clause-some : goal.reuse_oldest-requires-clause-some
@@ -38,5 +38,6 @@ returns-clause-queues g c =
     let after =
     after_reuse i.links i.small i.main c.self.invariant c.reuse_oldest.new.links c.reuse_oldest.new.self c.reuse_oldest.result (length i.links.window.items)
     e.whole e.entries e.others e.window e.inspections in
-    rw (← c.self.view_is) (after.is ∙ ap (λ z. record (queues_shown i.links i.small i.main) { small = admitted (length i.links.window.items) c.reuse_oldest.result z; accesses = accesses_of c.reuse_oldest.new.links })
+    let oldest = c.reuse_oldest in
+    rw (← c.self.view_is) (after.is ∙ ap (λ z. record (queues_shown i.links i.small i.main) { small = admitted (length i.links.window.items) oldest.result z; accesses = accesses_of oldest.new.links })
     (tail_out i.links i.small i.main c.self.invariant c.reuse_oldest.result e.oldest))

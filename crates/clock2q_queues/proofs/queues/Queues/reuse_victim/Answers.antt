@@ -3,7 +3,7 @@ use Rattle.clock2q_queues.specs.Links.{accesses_of}
 use Rattle.clock2q_queues.specs.MainRing.{main_entries, from_victim}
 use Rattle.clock2q_queues.specs.Queues.{QueueState, queues_shown}
 use Rattle.clock2q_queues.proofs.Sharing.{after_choice, after_pass}
-use Rattle.clock2q_queues.proofs.Standings.{first_there}
+use Rattle.clock2q_queues.proofs.Locations.{first_there}
 use Rattle.clock2q_queues.proofs.queues.Queues.reuse_victim.Goals as goal
 
 pub invariant_of-self : goal.invariant_of-self
@@ -23,7 +23,8 @@ returns-clause-queues g c =
     let chosen = after_choice i.links i.small i.main c.self.invariant s.new.links s.new.self s.ensures.whole s.ensures.entries s.ensures.others s.ensures.window in
     let out = (first_there s.new.links i.small s.new.self chosen.queues s.result false s.ensures.victim).1 in
     let passed = after_pass s.new.links i.small s.new.self chosen.queues p.new.links p.new.self s.result out p.ensures.whole p.ensures.entries p.ensures.links in
-    let now = (λ (q : QueueState) (main : List (ℕ × Bool)). record q { main = drop 1 main ++ (s.result, false) ∷ []; accesses = accesses_of p.new.links; inspections = p.new.links.bits.inspections }) in
+    let l = p.new.links in
+    let now = (λ (q : QueueState) (main : List (ℕ × Bool)). record q { main = drop 1 main ++ (s.result, false) ∷ []; accesses = accesses_of l; inspections = l.bits.inspections }) in
     rw (← c.self.view_is) (passed.is
     ∙ ap (λ z. now (queues_shown s.new.links i.small s.new.self) z) s.ensures.entries
     ∙ ap (λ q. now q (from_victim (main_entries i.links i.main))) chosen.is)

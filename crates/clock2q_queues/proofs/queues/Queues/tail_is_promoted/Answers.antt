@@ -2,7 +2,7 @@ use Rattle.std.proofs.Common.{None, sym, ap, ◌∙◌}
 use Rattle.std.specs.List.{last_or}
 use Rattle.clock2q_queues.specs.Queues.{QueueState, tail_promoted}
 use Rattle.clock2q_queues.proofs.Sharing.{after_reading}
-use Rattle.clock2q_queues.proofs.Standings.{tail_in, tail_promoted-some, tail_promoted-none}
+use Rattle.clock2q_queues.proofs.Locations.{tail_in, tail_promoted-some, tail_promoted-none}
 use Rattle.clock2q_queues.proofs.queues.Queues.tail_is_promoted.Goals as goal
 
 pub is_old_hit-requires : goal.is_old_hit-requires

@@ -3,7 +3,7 @@ use Rattle.std.specs.List.{last_or}
 use Rattle.clock2q_queues.specs.Links.{accesses_of}
 use Rattle.clock2q_queues.specs.Queues.{QueueState, slots_of, queues_shown}
 use Rattle.clock2q_queues.proofs.Sharing.{after_small_left, small_slots-of}
-use Rattle.clock2q_queues.proofs.Standings.{tail_there, tail_out, no_tail}
+use Rattle.clock2q_queues.proofs.Locations.{tail_there, tail_out, no_tail}
 use Rattle.clock2q_queues.proofs.queues.Queues.take_tail.Goals as goal
 
 pub unlink-requires-clause-present : goal.unlink-requires-clause-present

@@ -3,7 +3,7 @@ use Rattle.clock2q_queues.specs.Links.{LinkState, accesses_of}
 use Rattle.clock2q_queues.specs.MainRing.{main_entries, from_victim}
 use Rattle.clock2q_queues.specs.Queues.{QueueState, queues_shown}
 use Rattle.clock2q_queues.proofs.Sharing.{after_choice, after_main_left}
-use Rattle.clock2q_queues.proofs.Standings.{first_there}
+use Rattle.clock2q_queues.proofs.Locations.{first_there}
 use Rattle.clock2q_queues.proofs.queues.Queues.take_victim.Goals as goal
 
 pub unlink-requires-clause-present : goal.unlink-requires-clause-present

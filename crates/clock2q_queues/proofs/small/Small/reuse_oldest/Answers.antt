@@ -17,20 +17,20 @@ pub leave_position-requires : goal.leave_position-requires
 leave_position-requires g c = λ position e.
     let m = c.requires.whole in
     let here = there c.unwrap-slot.result c.args.links.now c.args.self.now m (sym m.ends ∙ c.unwrap-slot.ensures) in
-    let p = (m.placed c.unwrap-slot.result position here (ap (λ (r : Record). r.standing) (sym c.read-record.ensures.value) ∙ e)).0 in
+    let p = (m.placed c.unwrap-slot.result position here (ap (λ (r : Record). r.location) (sym c.read-record.ensures.value) ∙ e)).0 in
     rw (ap (λ (l : LinkState). l.window) c.read-record.ensures.counted) p
 
 pub free_position-requires-clause-slot : goal.free_position-requires-clause-slot
 free_position-requires-clause-slot g c =
     let m = c.requires.whole in
     others_fit c.unwrap-slot.result c.args.links.now c.args.self.now m (sym m.ends ∙ c.unwrap-slot.ensures) c.read-record.new.self c.leave_position.new.links
-    c.read-record.ensures.counted c.read-record.result.standing (ap (λ (r : Record). r.standing) c.read-record.ensures.value) c.leave_position.ensures
+    c.read-record.ensures.counted c.read-record.result.location (ap (λ (r : Record). r.location) c.read-record.ensures.value) c.leave_position.ensures
 
-pub set_standing-requires : goal.set_standing-requires
-set_standing-requires g c =
+pub set_location-requires : goal.set_location-requires
+set_location-requires g c =
     let m = c.requires.whole in
     aged_fits c.unwrap-slot.result c.args.links.now c.args.self.now m (sym m.ends ∙ c.unwrap-slot.ensures) c.read-record.new.self c.leave_position.new.links
-    c.read-record.ensures.counted c.read-record.result.standing (ap (λ (r : Record). r.standing) c.read-record.ensures.value) c.leave_position.ensures
+    c.read-record.ensures.counted c.read-record.result.location (ap (λ (r : Record). r.location) c.read-record.ensures.value) c.leave_position.ensures
     c.free_position.new.links c.set_young_at.new.self c.free_position.ensures.older c.set_young_at.ensures
 
 pub returns : goal.returns
@@ -41,10 +41,10 @@ returns g c =
     let slot = c.unwrap-slot.result in
     let small' : Small = record { newest = Some slot; oldest = Some c.read-record.result.previous; len = small.len; cursor = c.next_position-self.result } in
     let is = sym m.ends ∙ c.unwrap-slot.ensures in
-    let turned : Turns slot old small c.set_standing.new.self small' =
+    let turned : Turns slot old small c.set_location.new.self small' =
     Turns-from slot old small m is c.read-record.new.self c.leave_position.new.links
-    c.read-record.ensures.counted c.read-record.result.standing (ap (λ (r : Record). r.standing) c.read-record.ensures.value) c.leave_position.ensures
-    c.free_position.new.links c.set_young_at.new.self c.set_standing.new.self small' c.requires.window c.free_position.ensures.older c.set_young_at.ensures c.set_standing.ensures
+    c.read-record.ensures.counted c.read-record.result.location (ap (λ (r : Record). r.location) c.read-record.ensures.value) c.leave_position.ensures
+    c.free_position.new.links c.set_young_at.new.self c.set_location.new.self small' c.requires.window c.free_position.ensures.older c.set_young_at.ensures c.set_location.ensures
     refl (ap (λ (r : Record). Some r.previous) c.read-record.ensures.value) refl
     (c.next_position-self.ensures ∙ ap (λ z. next_cursor z small.cursor) c.window.ensures) in
     record {

@@ -16,7 +16,7 @@ detach-was-requires g c =
 
 pub leave_position-requires : goal.leave_position-requires
 leave_position-requires g c = λ position e.
-    let p = (c.requires.whole.placed c.args.slot position c.requires.present (ap (λ (r : Record). r.standing) (sym c.detach-was.ensures.value) ∙ e)).0 in
+    let p = (c.requires.whole.placed c.args.slot position c.requires.present (ap (λ (r : Record). r.location) (sym c.detach-was.ensures.value) ∙ e)).0 in
     rw (ap (λ (l : LinkState). l.window) c.detach-was.ensures.rest) p
 
 pub returns : goal.returns
@@ -26,7 +26,7 @@ returns g c =
     let small' : Small = record { newest = c.end_after-self.result; oldest = c.end_after-self-2.result; len = small.len - 1; cursor = small.cursor } in
     let was = c.detach-was.ensures.value in
     let u = UnlinksSmall-from c.args.slot old small c.detach-was.new.self c.leave_position.new.links c.requires.whole c.requires.present
-    c.detach-was.ensures.detached c.detach-was.ensures.rest c.detach-was.result.standing (ap (λ (r : Record). r.standing) was) c.leave_position.ensures
+    c.detach-was.ensures.detached c.detach-was.ensures.rest c.detach-was.result.location (ap (λ (r : Record). r.location) was) c.leave_position.ensures
     small' refl refl
     (c.end_after-self.ensures ∙ ap (λ (r : Record). end_after small.newest c.args.slot (small.len - 1) r.next) was)
     (c.end_after-self-2.ensures ∙ ap (λ (r : Record). end_after small.oldest c.args.slot (small.len - 1) r.previous) was) in

@@ -9,4 +9,4 @@ returns g c =
     let inspections = c.self.inside.inspections.total in
     rw (← c.self.view_is, length-map c.self.inside.flags.items is_set, ← c.self.inside.flags.ok.0)
     (ap (λ flags. flags_shown flags inspections) (c.fill.ensures.items (λ y e. e))
-    ∙ told-clear _ inspections c.clear.result c.clear.ensures.bit c.clear.ensures.standing)
+    ∙ told-clear _ inspections c.clear.result c.clear.ensures.bit c.clear.ensures.linked)

@@ -1,7 +1,7 @@
 use Rattle.std.proofs.Common.{false, set, map, ap, ◌∙◌, arith}
 use Rattle.std.proofs.lemmas.Grind.{common_steps}
 use Rattle.clock2q_queues.specs.Cells.{hit_bits}
-use Rattle.clock2q_queues.specs.Flags.{FlagState, is_set, is_standing}
+use Rattle.clock2q_queues.specs.Flags.{FlagState, is_set, says_linked}
 use Rattle.clock2q_queues.proofs.Flagged.{told-set, told-kept}
 use Rattle.clock2q_queues.proofs.links.cells.Bits.inspect.Goals as goal
 
@@ -12,10 +12,10 @@ returns-clause-counted g c =
     (ap (λ bits. hit_bits bits c.tick.new.self.total) (told-set is_set flags c.args.slot c.with_bit.result false c.with_bit.ensures.bit)
     ∙ ap (λ n. hit_bits (set (map is_set flags) c.args.slot false) n) c.tick.ensures.ticked)
 
-pub returns-clause-standing : goal.returns-clause-standing
-returns-clause-standing g c =
-    told-kept is_standing c.self.inside.flags.items c.args.slot c.index-flags.result.now c.with_bit.result c.index-flags.ensures c.with_bit.ensures.standing
-    ∙ ap (λ (s : FlagState). s.standing) c.self.view_is
+pub returns-clause-linked : goal.returns-clause-linked
+returns-clause-linked g c =
+    told-kept says_linked c.self.inside.flags.items c.args.slot c.index-flags.result.now c.with_bit.result c.index-flags.ensures c.with_bit.ensures.linked
+    ∙ ap (λ (s : FlagState). s.linked) c.self.view_is
 
 pub returns-clause-value : goal.returns-clause-value
 returns-clause-value g c = grind (arith, common_steps)

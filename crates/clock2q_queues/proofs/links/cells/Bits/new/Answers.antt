@@ -9,6 +9,6 @@ returns g c =
     let blank = replicate c.args.slots false in
     record {
       made = ap (λ flags. flags_shown flags c.new.result.total) (c.in_ok-from_elem.ensures.items_if_clones_equal (λ y e. e))
-          ∙ told-clear c.args.slots c.new.result.total c.clear.result c.clear.ensures.bit c.clear.ensures.standing
+          ∙ told-clear c.args.slots c.new.result.total c.clear.result c.clear.ensures.bit c.clear.ensures.linked
           ∙ ap (λ n. flag_state (hit_bits blank n) blank) c.new.ensures.zero;
     }

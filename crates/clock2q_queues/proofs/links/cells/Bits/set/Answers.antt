@@ -1,6 +1,6 @@
 use Rattle.std.proofs.Common.{ap, ◌∙◌}
 use Rattle.clock2q_queues.specs.Cells.{hit_bits}
-use Rattle.clock2q_queues.specs.Flags.{FlagState, is_set, is_standing}
+use Rattle.clock2q_queues.specs.Flags.{FlagState, is_set, says_linked}
 use Rattle.clock2q_queues.proofs.Flagged.{told-set, told-kept}
 use Rattle.clock2q_queues.proofs.links.cells.Bits.set.Goals as goal
 
@@ -9,7 +9,7 @@ returns-clause-bits g c =
     rw (← c.self.view_is)
     (ap (λ bits. hit_bits bits c.self.inside.inspections.total) (told-set is_set c.self.inside.flags.items c.args.slot c.with_bit.result c.args.bit c.with_bit.ensures.bit))
 
-pub returns-clause-standing : goal.returns-clause-standing
-returns-clause-standing g c =
-    told-kept is_standing c.self.inside.flags.items c.args.slot c.index-flags.result.now c.with_bit.result c.index-flags.ensures c.with_bit.ensures.standing
-    ∙ ap (λ (s : FlagState). s.standing) c.self.view_is
+pub returns-clause-linked : goal.returns-clause-linked
+returns-clause-linked g c =
+    told-kept says_linked c.self.inside.flags.items c.args.slot c.index-flags.result.now c.with_bit.result c.index-flags.ensures c.with_bit.ensures.linked
+    ∙ ap (λ (s : FlagState). s.linked) c.self.view_is

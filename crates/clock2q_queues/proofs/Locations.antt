@@ -3,17 +3,16 @@ use Rattle.std.proofs.Common.{◌≡◌, ◌⊎◌, ℕ, ◌-◌, ◌<◌, ◌�
 use Rattle.std.specs.List.{last_or}
 use Rattle.std.proofs.lemmas.Bool.{cases_Bool}
 use Rattle.clock2q_machine.specs.Ages.{is_promoted}
-use Rattle.clock2q_queues.specs.declared.links.Mark.{Mark}
-use Rattle.clock2q_queues.specs.declared.links.Mark.TheVariants.{Free, Young, Old, Main}
-use Rattle.clock2q_queues.specs.declared.queues.Standing.TheVariants as standing
+use Rattle.clock2q_queues.specs.declared.links.Location.{Location}
+use Rattle.clock2q_queues.specs.declared.links.Location.TheVariants.{Free, SmallYoung, SmallOld, Main}
 use Rattle.clock2q_queues.specs.declared.main_ring.MainRing.{MainRing}
 use Rattle.clock2q_queues.specs.declared.small.Small.{Small}
 use Rattle.clock2q_queues.specs.Rings.{has}
-use Rattle.clock2q_queues.specs.Flags.{is_queued}
-use Rattle.clock2q_queues.specs.Links.{LinkState, standing_at, bit_at, is_old}
+use Rattle.clock2q_queues.specs.Flags.{is_linked}
+use Rattle.clock2q_queues.specs.Links.{LinkState, location_at, bit_at, is_old}
 use Rattle.clock2q_queues.specs.MainRing.{main_slots, main_entries}
 use Rattle.clock2q_queues.specs.Small.{IsInSmall, small_slots, small_entries, age_of, age_at}
-use Rattle.clock2q_queues.specs.Queues.{AreQueues, IsStanding, queues_shown, slots_of, without_slot, tail_promoted}
+use Rattle.clock2q_queues.specs.Queues.{QueueState, AreQueues, IsAt, queues_shown, slots_of, without_slot, tail_promoted}
 use Rattle.clock2q_queues.proofs.Joining.{in_bounds}
 use Rattle.clock2q_queues.proofs.Rings.{has-append}
 use Rattle.clock2q_queues.proofs.Sharing.{small_slots-of, main_slots-of}
@@ -23,19 +22,19 @@ Free≢Main : Free ≢ Main
 Free≢Main e = cc
 
 module _ (l : LinkState) (small : Small) (main : MainRing) (q : AreQueues l small main) (slot : ℕ) where
-  abbrev mark : Mark
-  mark = standing_at l.records.items slot
+  abbrev location : Location
+  location = location_at l.records.items slot
 
-  not_in_small : (IsInSmall mark → ⊥) → has slot (small_slots l small) ≡ false
-  not_in_small n = elim (cases_Bool (has slot (small_slots l small))) [ inl h ↦ absurd (n (q.small.standing slot h)) | inr h ↦ h ]
+  not_in_small : (IsInSmall location → ⊥) → has slot (small_slots l small) ≡ false
+  not_in_small n = elim (cases_Bool (has slot (small_slots l small))) [ inl h ↦ absurd (n (q.small.location slot h)) | inr h ↦ h ]
 
-  not_in_main : mark ≢ Main → has slot (main_slots l main) ≡ false
-  not_in_main n = elim (cases_Bool (has slot (main_slots l main))) [ inl h ↦ absurd (n (q.main.standing slot h)) | inr h ↦ h ]
+  not_in_main : location ≢ Main → has slot (main_slots l main) ≡ false
+  not_in_main n = elim (cases_Bool (has slot (main_slots l main))) [ inl h ↦ absurd (n (q.main.location slot h)) | inr h ↦ h ]
 
-  is_in_small : mark ≢ Main → mark ≢ Free → has slot (small_slots l small) ≡ true
+  is_in_small : location ≢ Main → location ≢ Free → has slot (small_slots l small) ≡ true
   is_in_small n f = elim (cases_Bool (has slot (small_slots l small))) [ inl h ↦ h | inr h ↦ absurd (f (q.elsewhere slot h (not_in_main n))) ]
 
-  is_in_main : (IsInSmall mark → ⊥) → mark ≢ Free → has slot (main_slots l main) ≡ true
+  is_in_main : (IsInSmall location → ⊥) → location ≢ Free → has slot (main_slots l main) ≡ true
   is_in_main n f = elim (cases_Bool (has slot (main_slots l main))) [ inl h ↦ h | inr h ↦ absurd (f (q.elsewhere slot (not_in_small n) h)) ]
 
   of_small : {b : Bool} → has slot (small_slots l small) ≡ b → has slot (slots_of (small_entries l small)) ≡ b
@@ -44,35 +43,44 @@ module _ (l : LinkState) (small : Small) (main : MainRing) (q : AreQueues l smal
   of_main : {b : Bool} → has slot (main_slots l main) ≡ b → has slot (slots_of (main_entries l main)) ≡ b
   of_main h = ap (λ z. has slot z) (main_slots-of l main) ∙ h
 
-  pub stands_free : Free ≡ mark → IsStanding standing.Free slot (queues_shown l small main)
-  stands_free e = (of_small (not_in_small (λ i. subst (λ z. IsInSmall z) (sym e) i)), of_main (not_in_main (λ m. Free≢Main (e ∙ m))))
+  at_free : Free ≡ location → IsAt Free slot (queues_shown l small main)
+  at_free e = (of_small (not_in_small (λ i. subst (λ z. IsInSmall z) (sym e) i)), of_main (not_in_main (λ m. Free≢Main (e ∙ m))))
 
-  pub stands_main : Main ≡ mark → IsStanding standing.Main slot (queues_shown l small main)
-  stands_main e =
-      let n = (λ (i : IsInSmall mark). subst (λ z. IsInSmall z) (sym e) i) in
+  at_main : Main ≡ location → IsAt Main slot (queues_shown l small main)
+  at_main e =
+      let n = (λ (i : IsInSmall location). subst (λ z. IsInSmall z) (sym e) i) in
       (of_small (not_in_small n), of_main (is_in_main n (λ f. Free≢Main (sym f ∙ sym e))))
 
-  pub stands_small : (m : Mark) → m ≡ mark → ((position : ℕ) × (m ≡ Young position)) ⊎ (m ≡ Old) → IsStanding standing.Small slot (queues_shown l small main)
-  stands_small m e o =
-      let n : mark ≢ Main = λ h. elim o [ inl y ↦ let p = y.1 in cc | inr y ↦ cc ] in
-      let f : mark ≢ Free = λ h. elim o [ inl y ↦ let p = y.1 in cc | inr y ↦ cc ] in
-      (of_small (is_in_small n f), of_main (not_in_main n))
+  at_small : location ≢ Main → location ≢ Free → IsAt SmallOld slot (queues_shown l small main)
+  at_small n f = (of_small (is_in_small n f), of_main (not_in_main n))
+
+  -- a slot is where its record says
+  pub is_at : (m : Location) → m ≡ location → IsAt m slot (queues_shown l small main)
+  is_at Free e = at_free e
+  is_at (SmallYoung position) e = at_small (λ h. cc) (λ h. cc)
+  is_at SmallOld e = at_small (λ h. cc) (λ h. cc)
+  is_at Main e = at_main e
 
   -- a slot is in one of the queues if its record says so, and only then
-  pub stands_anywhere : is_queued mark ≡ has slot (slots_of (small_entries l small) ++ slots_of (main_entries l main))
-  stands_anywhere = of mark refl ∙ sym (has-append slot (slots_of (small_entries l small)) (slots_of (main_entries l main)))
+  pub linked_anywhere : is_linked location ≡ has slot (slots_of (small_entries l small) ++ slots_of (main_entries l main))
+  linked_anywhere = of location refl ∙ sym (has-append slot (slots_of (small_entries l small)) (slots_of (main_entries l main)))
     where
-      of : (m : Mark) → m ≡ mark → is_queued m ≡ (has slot (slots_of (small_entries l small)) || has slot (slots_of (main_entries l main)))
-      of Free e = let at = stands_free e in rw (at.0, at.1) refl
-      of (Young position) e = let at = stands_small (Young position) e (inl (position, refl)) in rw at.0 refl
-      of Old e = let at = stands_small Old e (inr refl) in rw at.0 refl
-      of Main e = let at = stands_main e in rw (at.0, at.1) refl
+      of : (m : Location) → m ≡ location → is_linked m ≡ (has slot (slots_of (small_entries l small)) || has slot (slots_of (main_entries l main)))
+      of Free e = let at = is_at Free e in rw (at.0, at.1) refl
+      of (SmallYoung position) e = let at = is_at (SmallYoung position) e in rw at.0 refl
+      of SmallOld e = let at = is_at SmallOld e in rw at.0 refl
+      of Main e = let at = is_at Main e in rw (at.0, at.1) refl
+
+-- a slot with such a location is in Small alone
+pub in_small_alone : (m : Location) (slot : ℕ) (q : QueueState) → ((position : ℕ) × (m ≡ SmallYoung position)) ⊎ (m ≡ SmallOld) → IsAt m slot q → IsAt SmallOld slot q
+in_small_alone m slot q (inl y) at = subst (λ z. IsAt z slot q) y.1 at
+in_small_alone m slot q (inr y) at = subst (λ z. IsAt z slot q) y at
 
 -- The slots at the ends
 
-promoted-is : (window cursor : ℕ) (m : Mark) (bit : Bool) → IsInSmall m → (is_old m && bit) ≡ is_promoted (age_of window cursor m bit)
-promoted-is window cursor (Young position) bit s = refl
-promoted-is window cursor Old bit s = refl
+promoted-is : (window cursor : ℕ) (m : Location) (bit : Bool) → IsInSmall m → (is_old m && bit) ≡ is_promoted (age_of window cursor m bit)
+promoted-is window cursor (SmallYoung position) bit s = refl
+promoted-is window cursor SmallOld bit s = refl
 promoted-is window cursor Free bit s = absurd s
 promoted-is window cursor Main bit s = absurd s
 
@@ -86,9 +94,9 @@ module _ (l : LinkState) (small : Small) (main : MainRing) (q : AreQueues l smal
     tail_in = in_bounds l.records.items (small_slots l small) tail q.small.queue.linked tail_there
 
     -- it goes on to Main if it is old and its bit is set
-    pub tail_promoted-some : (is_old (standing_at l.records.items tail) && bit_at l tail) ≡ tail_promoted (last_or None (small_entries l small))
+    pub tail_promoted-some : (is_old (location_at l.records.items tail) && bit_at l tail) ≡ tail_promoted (last_or None (small_entries l small))
     tail_promoted-some =
-        promoted-is (length l.window.items) small.cursor (standing_at l.records.items tail) (bit_at l tail) (q.small.standing tail tail_there)
+        promoted-is (length l.window.items) small.cursor (location_at l.records.items tail) (bit_at l tail) (q.small.location tail tail_there)
         ∙ sym (ap tail_promoted (tail_entry (λ s. age_at l small.cursor s) (small_slots l small) tail is))
 
     -- without it, all but the last entry are left
