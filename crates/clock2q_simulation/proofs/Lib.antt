@@ -4,5 +4,6 @@ mod KnownKeys
 mod LineByLine
 mod Numbering
 mod Skipping
+mod WindowByWindow
 mod WorkedAmounts
 mod Zipped

@@ -7,3 +7,4 @@ pub mod Rows
 pub mod Simulated
 pub mod SimulationError
 pub mod Trace
+pub mod Windows

@@ -1,5 +1,6 @@
 -- A trace read, and the text written about it.
 use Rattle.std.specs.Prelude.{ℕ, List, Option}
+use Rattle.std.specs.declared.num.NonZeroUsize.{NonZeroUsize}
 use Rattle.clock2q_ports.specs.Ports.{Traffic}
 use Rattle.clock2q_ports.specs.Transfer.{IsSent}
 use Rattle.clock2q_simulation.specs.Reading.{AreRead}
@@ -7,8 +8,10 @@ use Rattle.clock2q_simulation.specs.declared.amount.Amount.{Amount}
 use Rattle.clock2q_simulation.specs.declared.policy.Policy.{Policy}
 use Rattle.clock2q_simulation.specs.declared.row.Row.{Row}
 use Rattle.clock2q_simulation.specs.declared.shares.ChosenShares.{ChosenShares}
+use Rattle.clock2q_simulation.specs.declared.window.Windows.{Windows}
 use Rattle.clock2q_simulation.specs.Rows.{AreRows}
 use Rattle.clock2q_simulation.specs.Trace.{Numbered}
+use Rattle.clock2q_simulation.specs.Windows.{AreAskedWindows}
 
 module _ (given gives : Traffic) (left remain : Option (List ℕ)) where
   -- the whole input was read, as these keys
@@ -16,11 +19,12 @@ module _ (given gives : Traffic) (left remain : Option (List ℕ)) where
     pub keys : List (List ℕ)
     pub read : AreRead given gives left remain keys
 
-  -- the rows are those of a trace with the keys that were read
-  pub record IsReplayed {A : Type 0} (policies : List Policy) (shares : Option ChosenShares) (skipped : ℕ) (capacities : List Amount) (made : List (Row A)) : Type 0 where
+  -- the rows and the windows are those of a trace with the keys that were read
+  pub record IsReplayed {A : Type 0} (policies : List Policy) (shares : Option ChosenShares) (skipped : ℕ) (window : Option NonZeroUsize) (capacities : List Amount) (made : List (Row A)) (all : List (Windows A)) : Type 0 where
     pub trace : Numbered
     pub read : AreRead given gives left remain trace.keys
     pub rows : AreRows policies shares skipped trace capacities made
+    pub windows : AreAskedWindows policies shares trace.numbers skipped window made all
 
 -- a whole text was written and flushed
 pub record IsWritten (took takes : Traffic) (held holds : Option (List ℕ)) : Type 0 where

@@ -1,19 +1,48 @@
-//! The horizontal axis of a picture: where each capacity is, and which ones are labelled.
+//! The horizontal axis of a picture: where each number is, and which ones are labelled.
 ghost use Rattle.std.specs.Prelude.{◌<◌};
 
 use std::alloc::{AllocError, Allocator};
 use std::num::nearest_usize_to_f64;
 
-/// The round numbers up to the largest capacity.
-const ROUND: [usize; 23] = [
-    1, 2, 5, 10, 20, 50, 100, 200, 500, 1_000, 2_000, 5_000, 10_000, 20_000, 50_000, 100_000,
-    200_000, 500_000, 1_000_000, 2_000_000, 5_000_000, 10_000_000, 20_000_000,
+/// The round numbers up to the largest step.
+const ROUND: [usize; 28] = [
+    1,
+    2,
+    5,
+    10,
+    20,
+    50,
+    100,
+    200,
+    500,
+    1_000,
+    2_000,
+    5_000,
+    10_000,
+    20_000,
+    50_000,
+    100_000,
+    200_000,
+    500_000,
+    1_000_000,
+    2_000_000,
+    5_000_000,
+    10_000_000,
+    20_000_000,
+    50_000_000,
+    100_000_000,
+    200_000_000,
+    500_000_000,
+    1_000_000_000,
 ];
 
-/// The largest number of labelled capacities.
+/// The largest number of labels between the ends.
 const NAMED: usize = 10;
 
-/// The capacities from `low` to `high`, on a linear or logarithmic scale.
+/// How far a label is from those of the ends, as a part of the axis.
+const CLEAR: f64 = 0.08;
+
+/// The numbers from `low` to `high`, on a linear or logarithmic scale.
 #[derive(Clone, Copy, Debug, PartialEq, Eq)]
 pub(crate) struct Axis {
     pub(crate) low: usize,
@@ -22,9 +51,11 @@ pub(crate) struct Axis {
 }
 
 impl Axis {
-    /// Returns an axis from one capacity to another, logarithmic if the higher is at least eight
-    /// times the lower.
-    pub(crate) fn new(low: usize, high: usize) -> Axis {
+    /// Returns an axis for these numbers, logarithmic if the highest is at least eight times the
+    /// lowest.
+    pub(crate) fn of(numbers: &[usize]) -> Axis {
+        let low = numbers.iter().copied().min().unwrap_or(1);
+        let high = numbers.iter().copied().max().unwrap_or(1);
         Axis {
             low,
             high,
@@ -32,30 +63,52 @@ impl Axis {
         }
     }
 
-    /// Returns the position of a capacity: 0 at the low end, 1 at the high end. An axis of one
-    /// capacity has it in the middle.
-    pub(crate) fn position(&self, capacity: usize) -> f64 {
+    /// Returns a linear axis from one number to another.
+    pub(crate) fn linear(low: usize, high: usize) -> Axis {
+        Axis {
+            low,
+            high,
+            is_logarithmic: false,
+        }
+    }
+
+    /// Returns the position of a number: 0 at the low end, 1 at the high end. An axis of one number
+    /// has it in the middle.
+    pub(crate) fn position(&self, number: usize) -> f64 {
         if self.low >= self.high {
             return 0.5;
         }
         let low = self.measure(self.low);
-        (self.measure(capacity) - low) / (self.measure(self.high) - low)
+        (self.measure(number) - low) / (self.measure(self.high) - low)
     }
 
-    /// Returns the distance of a capacity from 0.
-    fn measure(&self, capacity: usize) -> f64 {
+    /// Returns the distance of a number from 0, or from 1 on a logarithmic scale.
+    fn measure(&self, number: usize) -> f64 {
         if self.is_logarithmic {
-            logarithm(capacity)
+            logarithm(number)
         } else {
-            nearest_usize_to_f64(capacity)
+            nearest_usize_to_f64(number)
         }
     }
 
-    /// Returns the capacities to label: round ones, or the only one.
+    /// Returns the numbers to label: both ends, and round ones between them.
     pub(crate) fn ticks<A: Allocator + Copy>(&self, alloc: A) -> Result<Vec<usize, A>, AllocError> {
+        let mut ticks = vec![in alloc; self.low]?;
         if self.low >= self.high {
-            return Ok(vec![in alloc; self.low]?);
+            return Ok(ticks);
         }
+        for tick in self.between(alloc)? {
+            let position = self.position(tick);
+            if CLEAR < position && position < 1.0 - CLEAR {
+                ticks.push(tick)?;
+            }
+        }
+        ticks.push(self.high)?;
+        Ok(ticks)
+    }
+
+    /// Returns few enough round numbers on the axis.
+    fn between<A: Allocator + Copy>(&self, alloc: A) -> Result<Vec<usize, A>, AllocError> {
         if !self.is_logarithmic {
             return self.multiples(alloc, self.step());
         }

@@ -1,21 +1,22 @@
 //! The results of traces as CSV.
 
+use crate::options::Options;
 use crate::outcome::Outcome;
-use crate::policy::Policy;
 use crate::row::Row;
+use crate::window::Windows;
 use std::alloc::{AllocError, Allocator};
 use std::fmt::Write;
 
-/// Returns the rows as CSV, below a header line. If there are several traces, each row ends with
-/// the name of its trace, in quotes.
+/// Returns the rows as CSV, below a header line: a row for each capacity, or for each window. If
+/// there are several traces, each row ends with the name of its trace, in quotes.
 pub(crate) fn csv_text<A: Allocator>(
     alloc: A,
-    policies: &[Policy],
+    options: &Options<A>,
     outcomes: &[Outcome<'_, A>],
 ) -> Result<String<A>, AllocError> {
     let mut text = String::new(alloc);
     let has_names = outcomes.len() > 1;
-    write_names(&mut text, policies, has_names)?;
+    write_names(&mut text, options, has_names)?;
     for outcome in outcomes {
         write_rows(&mut text, outcome, has_names)?;
     }
@@ -24,11 +25,15 @@ pub(crate) fn csv_text<A: Allocator>(
 
 fn write_names<A: Allocator>(
     text: &mut String<A>,
-    policies: &[Policy],
+    options: &Options<A>,
     has_names: bool,
 ) -> Result<(), AllocError> {
-    write!(text, "capacity,accesses")?;
-    for policy in policies {
+    text.push_str("capacity")?;
+    if options.window.is_some() {
+        text.push_str(",first")?;
+    }
+    text.push_str(",accesses")?;
+    for policy in options.policies.iter() {
         let name = policy.name();
         write!(text, ",{name}_hits,{name}_ratio")?;
     }
@@ -38,25 +43,65 @@ fn write_names<A: Allocator>(
     text.push('\n')
 }
 
-/// Writes the rows of a trace, with or without its name at the end of each.
+/// Writes the rows of a trace, or its windows, with or without its name at the end of each.
 fn write_rows<A: Allocator>(
     text: &mut String<A>,
     outcome: &Outcome<'_, A>,
     has_names: bool,
 ) -> Result<(), AllocError> {
+    let name = has_names.then_some(outcome.name);
+    if !outcome.windows.is_empty() {
+        return write_all_windows(text, &outcome.windows, name);
+    }
     for row in outcome.rows.iter() {
-        write_ratios(text, row)?;
-        if has_names {
-            write_quoted(text, outcome.name)?;
-        }
-        text.push('\n')?;
+        write_row(text, row, None, name)?;
     }
     Ok(())
 }
 
-fn write_ratios<A: Allocator>(text: &mut String<A>, row: &Row<A>) -> Result<(), AllocError> {
+fn write_all_windows<A: Allocator>(
+    text: &mut String<A>,
+    all: &[Windows<A>],
+    name: Option<&str>,
+) -> Result<(), AllocError> {
+    for windows in all {
+        write_windows(text, windows, name)?;
+    }
+    Ok(())
+}
+
+fn write_windows<A: Allocator>(
+    text: &mut String<A>,
+    windows: &Windows<A>,
+    name: Option<&str>,
+) -> Result<(), AllocError> {
+    for window in windows.windows.iter() {
+        write_row(text, &window.row, Some(window.first), name)?;
+    }
+    Ok(())
+}
+
+/// Writes a row, with the first access of its window and the name of its trace if they are given.
+fn write_row<A: Allocator>(
+    text: &mut String<A>,
+    row: &Row<A>,
+    first: Option<usize>,
+    name: Option<&str>,
+) -> Result<(), AllocError> {
     let capacity = row.capacity.get();
-    write!(text, "{capacity},{}", row.accesses)?;
+    write!(text, "{capacity}")?;
+    if let Some(first) = first {
+        write!(text, ",{first}")?;
+    }
+    write_ratios(text, row)?;
+    if let Some(name) = name {
+        write_quoted(text, name)?;
+    }
+    text.push('\n')
+}
+
+fn write_ratios<A: Allocator>(text: &mut String<A>, row: &Row<A>) -> Result<(), AllocError> {
+    write!(text, ",{}", row.accesses)?;
     for hits in row.hits.iter() {
         let ratio = row.ratio(hits.hits);
         write!(text, ",{},{ratio:.4}", hits.hits)?;

@@ -52,6 +52,9 @@ pub enum Fault {
     /// It isn't a number of accesses.
     #[error("not a number of accesses (as 100000, 100k or 1M)")]
     NotCount,
+    /// It isn't a number of at least one access.
+    #[error("not a number of accesses from 1 up (as 100000)")]
+    NotLength,
     /// It names a second trace for a picture.
     #[error("a second trace, and a picture shows one")]
     SecondTrace,

@@ -3,11 +3,12 @@
 use crate::options::Options;
 use crate::outcome::Outcome;
 use crate::row::{Hits, Row};
+use crate::window::{Window, Windows};
 use std::alloc::{AllocError, Allocator};
 use std::fmt::Write;
 
 /// Returns an object with the traces in order, each with its name, its figures and its rows. A row
-/// has the hits and the hit ratio of each policy.
+/// has the hits and the hit ratio of each policy, and the windows if they are asked for.
 pub(crate) fn json_text<A: Allocator + Copy>(
     alloc: A,
     options: &Options<A>,
@@ -41,19 +42,48 @@ fn write_outcome<A: Allocator>(
     )?;
     for (index, row) in outcome.rows.iter().enumerate() {
         text.push_str(if index > 0 { ",\n" } else { "\n" })?;
-        write_row(text, row)?;
+        let capacity = row.capacity.get();
+        write!(text, "    {{\"capacity\": {capacity}, ")?;
+        write_policies(text, row)?;
+        if let Some(windows) = outcome.windows.get(index) {
+            write_windows(text, windows)?;
+        }
+        text.push('}')?;
     }
     text.push_str("\n  ]}")
 }
 
-fn write_row<A: Allocator>(text: &mut String<A>, row: &Row<A>) -> Result<(), AllocError> {
-    let capacity = row.capacity.get();
-    write!(text, "    {{\"capacity\": {capacity}, \"policies\": {{")?;
+/// Writes the hits and the hit ratio of each policy.
+fn write_policies<A: Allocator>(text: &mut String<A>, row: &Row<A>) -> Result<(), AllocError> {
+    text.push_str("\"policies\": {")?;
     for (index, hits) in row.hits.iter().enumerate() {
         text.push_str(if index > 0 { ", " } else { "" })?;
         write_hits(text, *hits, row.ratio(hits.hits))?;
     }
-    text.push_str("}}")
+    text.push('}')
+}
+
+/// Writes the windows of a row.
+fn write_windows<A: Allocator>(
+    text: &mut String<A>,
+    windows: &Windows<A>,
+) -> Result<(), AllocError> {
+    text.push_str(", \"windows\": [")?;
+    for (index, window) in windows.windows.iter().enumerate() {
+        text.push_str(if index > 0 { ",\n" } else { "\n" })?;
+        write_window(text, window)?;
+    }
+    text.push_str("\n    ]")
+}
+
+fn write_window<A: Allocator>(text: &mut String<A>, window: &Window<A>) -> Result<(), AllocError> {
+    let (first, accesses) = (window.first, window.row.accesses);
+    write!(
+        text,
+        "      {{\"first\": {first}, \"accesses\": {accesses}, "
+    )?;
+    write_policies(text, &window.row)?;
+    text.push('}')
 }
 
 fn write_hits<A: Allocator>(

@@ -5,6 +5,7 @@
 mod amount;
 mod axis;
 mod capacities;
+mod chart;
 mod clock;
 mod csv_text;
 mod error;
@@ -13,6 +14,7 @@ mod key_bytes;
 mod known_keys;
 mod options;
 mod outcome;
+mod pen;
 mod picture;
 mod policy;
 mod progress;
@@ -23,6 +25,7 @@ mod simulation;
 mod summary;
 mod table_text;
 mod trace;
+mod window;
 
 pub use amount::{Amount, Unit};
 pub use clock::{clock_hits, clock2q_hits};
@@ -37,3 +40,4 @@ pub use shares::ChosenShares;
 pub use simulation::{STANDARD_INPUT, rows_of, simulate, write_outcomes};
 pub use summary::{Summary, summary_of};
 pub use trace::{GrowingTrace, Trace};
+pub use window::{Window, Windows, all_windows_of, windows_of};

@@ -11,6 +11,7 @@ use crate::policy::Policy;
 use crate::shares::ChosenShares;
 use clock2q_cache::MAX_CAPACITY;
 use std::alloc::{AllocError, Allocator};
+use std::num::NonZeroUsize;
 
 /// The form of the result.
 ///
@@ -56,6 +57,8 @@ pub struct Options<A: Allocator> {
     pub shares: Option<ChosenShares>,
     /// The number of accesses at the beginning of a trace that only warm the caches.
     pub skipped: usize,
+    /// The number of accesses of a window, if windows are asked for.
+    pub window: Option<NonZeroUsize>,
 }
 
 /// The program's help text.
@@ -80,6 +83,7 @@ or a part of the trace's different keys, as 10%. A range such as 10..1000 or
                     small queue's of the capacity and the window's of the queue,
                     in percent or in keys
   --skip=COUNT      counts no hits in this many accesses at a trace's beginning
+  --window=COUNT    counts the hits of each COUNT accesses, in rows or a picture
   -h, --help        prints this text
 
 Status: 2 if an argument is wrong, 3 if a capacity is too large or memory ran
@@ -143,6 +147,7 @@ enum Valued {
     Policies,
     Shares,
     Skip,
+    Window,
 }
 
 impl Valued {
@@ -156,6 +161,8 @@ impl Valued {
             Some(Valued::Shares)
         } else if name == "--skip" {
             Some(Valued::Skip)
+        } else if name == "--window" {
+            Some(Valued::Window)
         } else {
             None
         }
@@ -179,6 +186,7 @@ struct Chosen<A: Allocator> {
     policies: Option<Vec<Policy, A>>,
     shares: Option<ChosenShares>,
     skipped: Option<usize>,
+    window: Option<NonZeroUsize>,
 }
 
 impl<A: Allocator> Chosen<A> {
@@ -188,6 +196,7 @@ impl<A: Allocator> Chosen<A> {
             Valued::Policies => self.policies.is_some(),
             Valued::Shares => self.shares.is_some(),
             Valued::Skip => self.skipped.is_some(),
+            Valued::Window => self.window.is_some(),
         };
         if is_repeated {
             return Err(SimulationError::Argument(Fault::RepeatedOption, index));
@@ -209,6 +218,7 @@ impl<A: Allocator + Copy> Chosen<A> {
             Valued::Policies => self.policies = Some(policies_of(alloc, value, index)?),
             Valued::Shares => self.shares = Some(shares_of(value, index)?),
             Valued::Skip => self.skipped = Some(count_of(value, index)?),
+            Valued::Window => self.window = Some(length_of(value, index)?),
         }
         Ok(())
     }
@@ -241,6 +251,7 @@ impl<A: Allocator + Copy> Asked<A> {
                 policies: None,
                 shares: None,
                 skipped: None,
+                window: None,
             },
             awaited: None,
         }
@@ -330,6 +341,7 @@ impl<A: Allocator + Copy> Asked<A> {
             policies,
             shares,
             skipped,
+            window,
         } = chosen;
         if capacities.is_empty() {
             return Err(SimulationError::NoCapacity);
@@ -354,6 +366,7 @@ impl<A: Allocator + Copy> Asked<A> {
             policies,
             shares,
             skipped: skipped.unwrap_or(0),
+            window,
         })
     }
 }
@@ -363,6 +376,15 @@ fn count_of(value: &str, index: usize) -> Result<usize, SimulationError> {
     match Amount::written(value).and_then(Amount::count) {
         Some(count) => Ok(count),
         None => Err(SimulationError::Argument(Fault::NotCount, index)),
+    }
+}
+
+/// Returns the number of accesses, at least one, that a value spells.
+fn length_of(value: &str, index: usize) -> Result<NonZeroUsize, SimulationError> {
+    let count = Amount::written(value).and_then(Amount::count);
+    match count.and_then(NonZeroUsize::new) {
+        Some(length) => Ok(length),
+        None => Err(SimulationError::Argument(Fault::NotLength, index)),
     }
 }
 

@@ -9,6 +9,7 @@ use crate::reading::read_trace;
 use crate::row::Row;
 use crate::simulation::rows_of;
 use crate::summary::{Summary, summary_of};
+use crate::window::{Windows, all_windows_of};
 use clock2q_ports::Source;
 use std::alloc::Allocator;
 use std::hash::BuildHasher;
@@ -30,6 +31,8 @@ pub struct Outcome<'a, A: Allocator> {
     pub summary: Summary,
     /// The hits at each capacity, in the order of the capacities.
     pub rows: Vec<Row<A>, A>,
+    /// The windows at each capacity, if they are asked for.
+    pub windows: Vec<Windows<A>, A>,
 }
 
 /// Reads a trace and replays it in caches of each capacity. The result doesn't depend on the
@@ -37,11 +40,11 @@ pub struct Outcome<'a, A: Allocator> {
 ///
 /// # Errors
 ///
-/// Those of [`read_trace`], then those of [`rows_of`].
+/// Those of [`read_trace`], then those of [`rows_of`] and of [`all_windows_of`].
 ///
 /// # Cost
 ///
-/// That of [`read_trace`] and of [`rows_of`]. The trace stays in memory until the call returns.
+/// That of [`read_trace`], [`rows_of`] and [`all_windows_of`]. The trace stays in memory until the call returns.
 pub fn replay_source<'a, R: Source, P: Write, S: BuildHasher + Drop, A: Allocator + Copy>(
     alloc: A,
     options: &Options<A>,
@@ -51,7 +54,7 @@ pub fn replay_source<'a, R: Source, P: Write, S: BuildHasher + Drop, A: Allocato
     progress: &mut Progress<P>,
 ) -> Result<Outcome<'a, A>, SimulationError>
     ensures ok { IfOk result (λ outcome. IsReplayed (R.given reader.old) (R.given reader.new) (R.remaining reader.old) (R.remaining reader.new)
-        options.now.policies.items options.now.shares options.now.skipped options.now.capacities.items outcome.rows.items) }
+        options.now.policies.items options.now.shares options.now.skipped options.now.window options.now.capacities.items outcome.rows.items outcome.windows.items) }
 
     // A failed source is always reported as `Read`, and nothing else is.
     ensures read { ((R.given reader.old).failures < (R.given reader.new).failures) ↔ IsErrOf result SimulationError.Read }
@@ -69,9 +72,24 @@ pub fn replay_source<'a, R: Source, P: Write, S: BuildHasher + Drop, A: Allocato
         options.skipped,
         progress,
     )?;
+    let windows = match options.window {
+        Some(size) => {
+            all_windows_of(
+                alloc,
+                &rows,
+                &options.policies,
+                options.shares,
+                options.skipped,
+                size,
+                &trace,
+            )?
+        }
+        None => Vec::new(alloc),
+    };
     Ok(Outcome {
         name,
         summary,
         rows,
+        windows,
     })
 }

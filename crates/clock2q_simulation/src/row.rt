@@ -56,24 +56,6 @@ impl<A: Allocator> Row<A> {
         }
         nearest_usize_to_f64(hits) / nearest_usize_to_f64(self.accesses)
     }
-
-    /// Returns the highest hit ratio of the policies in percent.
-    pub(crate) fn highest(&self) -> f64 {
-        let mut most = 0.0;
-        for hits in self.hits.iter() {
-            most = (self.ratio(hits.hits) * 100.0).max(most);
-        }
-        most
-    }
-
-    /// Returns the lowest hit ratio of the policies in percent.
-    pub(crate) fn lowest(&self) -> f64 {
-        let mut least = 100.0;
-        for hits in self.hits.iter() {
-            least = (self.ratio(hits.hits) * 100.0).min(least);
-        }
-        least
-    }
 }
 
 /// Replays a trace in a new cache of each policy, in the order of the policies. Clock2Q+ has the
@@ -134,7 +116,7 @@ fn hits_with<A: Allocator + Copy>(
 }
 
 /// Returns the numbers of the first keys, at most `count` of them.
-fn first_of<A: Allocator + Copy>(trace: &Trace<A>, count: usize) -> &[u32]
+pub(crate) fn first_of<A: Allocator + Copy>(trace: &Trace<A>, count: usize) -> &[u32]
     ensures first { result.now ≡ take count trace.now.numbers }
     ensures below { AreBelow trace.now.different result.now }
 {

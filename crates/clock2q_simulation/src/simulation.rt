@@ -145,13 +145,12 @@ fn text_of<A: Allocator + Copy>(
 ) -> Result<String<A>, SimulationError>
     ensures devices { IfErr result IsOfNoDevice }
 {
-    let policies = options.policies.as_slice();
     let text = match options.format {
-        Format::Table => table_text(alloc, policies, outcomes),
-        Format::Csv => csv_text(alloc, policies, outcomes),
+        Format::Table => table_text(alloc, options, outcomes),
+        Format::Csv => csv_text(alloc, options, outcomes),
         Format::Json => json_text(alloc, options, outcomes),
         Format::Svg => match outcomes.first() {
-            Some(outcome) => picture(alloc, policies, &outcome.rows),
+            Some(outcome) => picture(alloc, options, outcome),
             None => Ok(String::new(alloc)),
         },
     };

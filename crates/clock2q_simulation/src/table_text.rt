@@ -1,17 +1,20 @@
 //! The results of traces as a table.
 
+use crate::options::Options;
 use crate::outcome::Outcome;
 use crate::policy::Policy;
 use crate::row::{Hits, Row};
 use crate::summary::Summary;
+use crate::window::Windows;
 use std::alloc::{AllocError, Allocator};
 use std::fmt::Write;
 
 /// Returns the hit ratios in columns, in percent, below a line of headings and the figures of each
-/// trace. If there are several traces, each row ends with the name of its trace.
+/// trace: a row for each capacity, or for each window. If there are several traces, each row ends
+/// with the name of its trace.
 pub(crate) fn table_text<A: Allocator>(
     alloc: A,
-    policies: &[Policy],
+    options: &Options<A>,
     outcomes: &[Outcome<'_, A>],
 ) -> Result<String<A>, AllocError> {
     let mut text = String::new(alloc);
@@ -23,7 +26,7 @@ pub(crate) fn table_text<A: Allocator>(
         _ => write_all_figures(&mut text, outcomes)?,
     }
     writeln!(text, "hits in percent, the best of a row with *")?;
-    write_headings(&mut text, policies, outcomes.len() > 1)?;
+    write_headings(&mut text, options, outcomes.len() > 1)?;
     for outcome in outcomes {
         write_rows(&mut text, outcome, outcomes.len() > 1)?;
     }
@@ -49,20 +52,24 @@ fn write_figures<A: Allocator>(text: &mut String<A>, summary: Summary) -> Result
         keys,
         keys_once,
     } = summary;
-    let plural = if keys == 1 { "" } else { "s" };
+    let accesses_plural = if accesses == 1 { "" } else { "es" };
+    let keys_plural = if keys == 1 { "" } else { "s" };
     write!(
         text,
-        "{accesses} accesses, {keys} key{plural}, {keys_once} asked for once"
+        "{accesses} access{accesses_plural}, {keys} key{keys_plural}, {keys_once} asked for once"
     )
 }
 
 fn write_headings<A: Allocator>(
     text: &mut String<A>,
-    policies: &[Policy],
+    options: &Options<A>,
     has_names: bool,
 ) -> Result<(), AllocError> {
     write!(text, "capacity")?;
-    for policy in policies {
+    if options.window.is_some() {
+        write!(text, "{:>11}", "first")?;
+    }
+    for policy in options.policies.iter() {
         write!(text, "{:>9}", policy.heading())?;
     }
     if has_names {
@@ -71,25 +78,64 @@ fn write_headings<A: Allocator>(
     text.push('\n')
 }
 
-/// Writes the rows of a trace, with or without its name at the end of each.
+/// Writes the rows of a trace, or its windows, with or without its name at the end of each.
 fn write_rows<A: Allocator>(
     text: &mut String<A>,
     outcome: &Outcome<'_, A>,
     has_names: bool,
 ) -> Result<(), AllocError> {
+    let name = has_names.then_some(outcome.name);
+    if !outcome.windows.is_empty() {
+        return write_all_windows(text, &outcome.windows, name);
+    }
     for row in outcome.rows.iter() {
-        write_percents(text, row)?;
-        if has_names {
-            write!(text, "  {}", outcome.name)?;
-        }
-        text.push('\n')?;
+        write_row(text, row, None, name)?;
     }
     Ok(())
 }
 
-fn write_percents<A: Allocator>(text: &mut String<A>, row: &Row<A>) -> Result<(), AllocError> {
+fn write_all_windows<A: Allocator>(
+    text: &mut String<A>,
+    all: &[Windows<A>],
+    name: Option<&str>,
+) -> Result<(), AllocError> {
+    for windows in all {
+        write_windows(text, windows, name)?;
+    }
+    Ok(())
+}
+
+fn write_windows<A: Allocator>(
+    text: &mut String<A>,
+    windows: &Windows<A>,
+    name: Option<&str>,
+) -> Result<(), AllocError> {
+    for window in windows.windows.iter() {
+        write_row(text, &window.row, Some(window.first), name)?;
+    }
+    Ok(())
+}
+
+/// Writes a row, with the first access of its window and the name of its trace if they are given.
+fn write_row<A: Allocator>(
+    text: &mut String<A>,
+    row: &Row<A>,
+    first: Option<usize>,
+    name: Option<&str>,
+) -> Result<(), AllocError> {
     let capacity = row.capacity.get();
     write!(text, "{capacity:>8}")?;
+    if let Some(first) = first {
+        write!(text, "{first:>11}")?;
+    }
+    write_percents(text, row)?;
+    if let Some(name) = name {
+        write!(text, "  {name}")?;
+    }
+    text.push('\n')
+}
+
+fn write_percents<A: Allocator>(text: &mut String<A>, row: &Row<A>) -> Result<(), AllocError> {
     let best = best_of(row);
     for hits in row.hits.iter() {
         let percent = row.ratio(hits.hits) * 100.0;

@@ -109,7 +109,7 @@ fn refused_capacities(rt: HostRuntime) -> Result<(), Fail> {
 }
 
 /// Arguments with an option that is refused, and the message.
-const REFUSED_OPTIONS: [(&str, &str); 18] = [
+const REFUSED_OPTIONS: [(&str, &str); 22] = [
     ("", "no capacity (--help tells what to write)"),
     ("--csv", "no capacity (--help tells what to write)"),
     ("--csv --svg 5", "--svg: a second form beside another one"),
@@ -124,6 +124,16 @@ const REFUSED_OPTIONS: [(&str, &str); 18] = [
         "1%: not a number of accesses (as 100000, 100k or 1M)",
     ),
     ("5 --skip=1 --skip 2", "--skip: option given twice"),
+    ("5 --window", "--window: nothing after it"),
+    (
+        "5 --window 0",
+        "0: not a number of accesses from 1 up (as 100000)",
+    ),
+    (
+        "5 --window=1%",
+        "--window=1%: not a number of accesses from 1 up (as 100000)",
+    ),
+    ("--window=1 5 --window 2", "--window: option given twice"),
     (
         "5 --policies=new",
         "--policies=new: unknown policy (--help names them)",

@@ -17,6 +17,8 @@ mod lru_2;
 #[cfg(test)]
 mod numbers;
 #[cfg(test)]
+mod pictures;
+#[cfg(test)]
 mod policies;
 #[cfg(test)]
 mod queues;
@@ -30,3 +32,5 @@ mod texts;
 mod two_q;
 #[cfg(test)]
 mod w_tiny_lfu;
+#[cfg(test)]
+mod windows;

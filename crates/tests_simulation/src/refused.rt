@@ -58,7 +58,13 @@ fn arguments_fetched(rt: HostRuntime) -> Result<(), Fail> {
 #[test]
 fn each_request(rt: HostRuntime) -> Result<(), Fail> {
     let asked = "2 2..3 50%..100% --policy small=1,window=100% --policies";
-    for form in ["", "--csv", "--svg", "--json"] {
+    for form in [
+        "",
+        "--csv",
+        "--svg",
+        "--json --window=3",
+        "--svg --window=3",
+    ] {
         let line = format!(in rt.alloc(); "{form} {asked} {ALL_POLICIES}")?;
         let words = words_of(rt.alloc(), &line)?;
         let alloc = Refusing::new(rt.alloc());

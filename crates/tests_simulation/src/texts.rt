@@ -1,4 +1,4 @@
-//! The tables and the CSV texts, from arguments and a trace.
+//! The tables, the CSV and the JSON texts, from arguments and a trace.
 
 use crate::arguments::{ALL_POLICIES, options_of};
 use clock2q_cache::DefaultHashBuilder;
@@ -10,7 +10,7 @@ use std::test::Fail;
 use testing::{Spread, same, same_at};
 
 /// Returns what a simulation writes.
-fn written(alloc: Global, line: &str, input: &[u8]) -> Result<Vec<u8>, Fail> {
+pub(crate) fn written(alloc: Global, line: &str, input: &[u8]) -> Result<Vec<u8>, Fail> {
     written_with(alloc, line, input, DefaultHashBuilder::new())
 }
 
@@ -164,7 +164,7 @@ fn other_hashers(rt: HostRuntime) -> Result<(), Fail> {
     Ok(())
 }
 
-const TRACE: &[u8] = b"a\nb\na\nc\nb\nd\na\nb\n";
+pub(crate) const TRACE: &[u8] = b"a\nb\na\nc\nb\nd\na\nb\n";
 
 /// The best of a row is marked, except for the optimum, but not if all are equal.
 #[test]
@@ -195,7 +195,7 @@ fn json(rt: HostRuntime) -> Result<(), Fail> {
 }
 
 /// Returns what is written for two traces.
-fn of_two(alloc: Global, line: &str) -> Result<Vec<u8>, Fail> {
+pub(crate) fn of_two(alloc: Global, line: &str) -> Result<Vec<u8>, Fail> {
     let options = options_of(alloc, line)?;
     let mut progress = Progress::new(Vec::new(alloc), false);
     let mut outcomes = Vec::new(alloc);
@@ -213,7 +213,7 @@ fn of_two(alloc: Global, line: &str) -> Result<Vec<u8>, Fail> {
 #[test]
 fn two_traces(rt: HostRuntime) -> Result<(), Fail> {
     let table = "a \"b\": 8 accesses, 4 keys, 2 asked for once
-c: 1 accesses, 1 key, 1 asked for once
+c: 1 access, 1 key, 1 asked for once
 hits in percent, the best of a row with *
 capacity     FIFO      LRU  trace
        3    25.00   *37.50  a \"b\"

@@ -1,0 +1,150 @@
+//! The hits of a trace in windows of its accesses: worked out by hand, and as texts.
+
+use crate::assertions::{same, same_at};
+use crate::numbers::trace_of;
+use crate::texts::{TRACE, of_two, written};
+use clock2q_simulation::{Policy, Row, Trace, Window, all_windows_of, replay, windows_of};
+use std::alloc::Global;
+use std::num::NonZeroUsize;
+use std::process::Abort;
+use std::test::Fail;
+
+const POLICIES: [Policy; 2] = [Policy::LeastRecentlyUsed, Policy::Optimal];
+
+/// A window: its first access, its number of accesses, and the hits of LRU and OPT.
+type Wanted = (usize, usize, [usize; 2]);
+
+/// Returns the windows of a trace in a cache for three keys.
+fn windows_for(
+    alloc: Global,
+    trace: &Trace<Global>,
+    skipped: usize,
+    size: usize,
+) -> Result<Vec<Window<Global>>, Fail> {
+    let room = NonZeroUsize::new(3).ok_or("not zero")?;
+    let size = NonZeroUsize::new(size).ok_or("not zero")?;
+    Ok(windows_of(alloc, room, &POLICIES, None, skipped, size, trace)?)
+}
+
+/// Checks a window.
+fn is_window(
+    rt: &impl Abort,
+    alloc: Global,
+    window: &Window<Global>,
+    wanted: Wanted,
+) -> Result<(), Fail> {
+    let (first, accesses, wanted) = wanted;
+    same(rt, (window.first, window.row.accesses), (first, accesses));
+    let hits: Vec<usize> = window.row.hits.iter().map(|hits| hits.hits).collect(alloc)?;
+    same_at(rt, hits.as_slice(), wanted.as_slice(), first);
+    Ok(())
+}
+
+/// Windows that divide the accesses, that don't, that begin after skipped ones, and one of more
+/// accesses than there are.
+#[test]
+fn windows_by_hand(rt: HostRuntime) -> Result<(), Fail> {
+    let trace = trace_of(rt.alloc(), TRACE)?;
+    let cases: [(usize, usize, &[Wanted]); 5] = [
+        (0, 4, &[(0, 4, [1, 1]), (4, 4, [2, 3])]),
+        (0, 3, &[(0, 3, [1, 1]), (3, 3, [1, 1]), (6, 2, [1, 2])]),
+        (2, 3, &[(2, 3, [2, 2]), (5, 3, [1, 2])]),
+        (3, 100, &[(3, 5, [2, 3])]),
+        (8, 1, &[]),
+    ];
+    for (skipped, size, wanted) in cases {
+        let windows = windows_for(rt.alloc(), &trace, skipped, size)?;
+        same(&rt, windows.len(), wanted.len());
+        for (window, wanted) in windows.iter().zip(wanted) {
+            is_window(&rt, rt.alloc(), window, *wanted)?;
+        }
+    }
+    Ok(())
+}
+
+/// Returns the row of all policies at a capacity.
+fn row_at(
+    alloc: Global,
+    capacity: usize,
+    skipped: usize,
+    trace: &Trace<Global>,
+) -> Result<Row<Global>, Fail> {
+    let capacity = NonZeroUsize::new(capacity).ok_or("not zero")?;
+    Ok(replay(alloc, capacity, &Policy::ALL, None, skipped, trace)?)
+}
+
+/// Returns the hits of a policy in all windows.
+fn hits_in_all(windows: &[Window<Global>], index: usize) -> usize {
+    windows
+        .iter()
+        .filter_map(|window| window.row.hits.get(index))
+        .map(|hits| hits.hits)
+        .sum()
+}
+
+/// With each policy, the hits of all windows are those of the counted accesses.
+#[test]
+fn windows_add_up(rt: HostRuntime) -> Result<(), Fail> {
+    let alloc = rt.alloc();
+    let trace = trace_of(
+        alloc,
+        b"a\nb\na\nc\nb\nd\na\nb\ne\na\nf\nb\nc\na\nb\nd\na\n",
+    )?;
+    let size = NonZeroUsize::new(5).ok_or("not zero")?;
+    let mut rows = Vec::new(alloc);
+    rows.push(row_at(alloc, 2, 1, &trace)?)?;
+    rows.push(row_at(alloc, 3, 1, &trace)?)?;
+    let all = all_windows_of(alloc, &rows, &Policy::ALL, None, 1, size, &trace)?;
+    same(&rt, all.len(), rows.len());
+    for (windows, row) in all.iter().zip(&rows) {
+        same(
+            &rt,
+            (windows.capacity, windows.windows.len()),
+            (row.capacity, 4),
+        );
+        for (index, hits) in row.hits.iter().enumerate() {
+            same_at(&rt, hits_in_all(&windows.windows, index), hits.hits, index);
+        }
+    }
+    Ok(())
+}
+
+#[test]
+fn table_of_windows(rt: HostRuntime) -> Result<(), Fail> {
+    let table = "8 accesses, 4 keys, 2 asked for once, hits in percent, the best of a row with *
+capacity      first     FIFO      LRU
+       2          0    33.33    33.33
+       2          3   *33.33     0.00
+       2          6     0.00     0.00
+       3          0    33.33    33.33
+       3          3    33.33    33.33
+       3          6     0.00   *50.00
+";
+    let text = written(rt.alloc(), "2 3 --window=3 --policies=fifo,lru", TRACE)?;
+    same(&rt, text.as_slice(), table.as_bytes());
+    let lines = "capacity,first,accesses,lru_hits,lru_ratio,trace
+3,0,5,2,0.4000,\"a \"\"b\"\"\"
+3,5,3,1,0.3333,\"a \"\"b\"\"\"
+3,0,1,0,0.0000,\"c\"
+";
+    let text = of_two(rt.alloc(), "3 --window 5 --policies=lru --csv")?;
+    same(&rt, text.as_slice(), lines.as_bytes());
+    Ok(())
+}
+
+#[test]
+fn json_of_windows(rt: HostRuntime) -> Result<(), Fail> {
+    let wanted = r#"{"traces": [
+  {"trace": "-", "accesses": 8, "keys": 4, "keys_once": 2, "skipped": 3, "rows": [
+    {"capacity": 3, "policies": {"lru": {"hits": 2, "ratio": 0.4000}}, "windows": [
+      {"first": 3, "accesses": 4, "policies": {"lru": {"hits": 1, "ratio": 0.2500}}},
+      {"first": 7, "accesses": 1, "policies": {"lru": {"hits": 1, "ratio": 1.0000}}}
+    ]}
+  ]}
+]}
+"#;
+    let line = "3 --json --policies=lru --skip 3 --window 4";
+    let text = written(rt.alloc(), line, TRACE)?;
+    same(&rt, text.as_slice(), wanted.as_bytes());
+    Ok(())
+}
