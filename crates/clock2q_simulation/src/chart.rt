@@ -1,6 +1,7 @@
 //! Curves of hit ratios in a frame.
 ghost use Rattle.std.specs.Prelude.{◌<◌};
 
+use crate::amount::{Amount, Unit};
 use crate::axis::Axis;
 use crate::pen::Pen;
 use crate::policy::Policy;
@@ -45,8 +46,8 @@ pub(crate) struct Curve<A: Allocator> {
 pub(crate) struct Chart<A: Allocator> {
     pub(crate) title: String<A>,
     pub(crate) scale: String<A>,
-    // What is written after each number of the horizontal axis.
-    pub(crate) unit: &'static str,
+    // What the numbers of the horizontal axis count: keys or accesses, or millionths.
+    pub(crate) unit: Unit,
     pub(crate) axis: Axis,
     pub(crate) curves: Vec<Curve<A>, A>,
 }
@@ -86,7 +87,11 @@ impl<A: Allocator + Copy> Chart<A> {
             "<path d=\"M {LEFT:.0} {TOP:.0} V {BOTTOM:.0} H {RIGHT:.0}\" fill=\"none\" stroke=\"black\"/>"
         )?;
         for tick in frame.axis.ticks(alloc)? {
-            write_place(text, frame.x(tick), tick, self.unit)?;
+            let place = Amount {
+                number: tick,
+                unit: self.unit,
+            };
+            write_place(text, frame.x(tick), place)?;
         }
         let kind = if frame.axis.is_logarithmic {
             " (logarithmic)"
@@ -263,22 +268,26 @@ fn write_ratio<A: Allocator>(text: &mut String<A>, y: f64, percent: u8) -> Resul
     )
 }
 
-/// Writes a number below the horizontal axis.
+/// Writes a number below the horizontal axis, as a percentage if it is one of millionths.
 fn write_place<A: Allocator>(
     text: &mut String<A>,
     x: f64,
-    place: usize,
-    unit: &str,
+    place: Amount,
 ) -> Result<(), AllocError> {
     writeln!(
         text,
         "<path d=\"M {x:.1} {BOTTOM:.0} v 6\" stroke=\"black\"/>"
     )?;
-    let (count, thousands) = short(place);
-    writeln!(
+    write!(
         text,
-        "<text x=\"{x:.1}\" y=\"422\" text-anchor=\"middle\">{count}{thousands}{unit}</text>"
-    )
+        "<text x=\"{x:.1}\" y=\"422\" text-anchor=\"middle\">"
+    )?;
+    let (count, thousands) = short(place.number);
+    match place.unit {
+        Unit::Keys => write!(text, "{count}{thousands}")?,
+        Unit::Millionths => write!(text, "{place}")?,
+    }
+    writeln!(text, "</text>")
 }
 
 /// Returns a number in thousands or millions, if it is a multiple of them, and their letter.

@@ -76,11 +76,11 @@ fn chart_of_capacities<A: Allocator + Copy>(
     let keys = outcome.summary.keys;
     let (unit, scale) = if is_percent {
         (
-            "%",
+            Unit::Millionths,
             format!(in alloc; "capacity in percent of {keys} keys")?,
         )
     } else {
-        ("", String::from_str(alloc, "capacity")?)
+        (Unit::Keys, String::from_str(alloc, "capacity")?)
     };
     Ok(Chart {
         title: format!(in alloc; "Hit ratio by capacity ({accesses} accesses)")?,
@@ -92,7 +92,7 @@ fn chart_of_capacities<A: Allocator + Copy>(
 }
 
 fn is_percentage(capacity: &Amount) -> bool {
-    capacity.unit == Unit::Percent
+    capacity.unit == Unit::Millionths
 }
 
 /// Returns an axis for the places of rows.
@@ -127,7 +127,7 @@ fn chart_of_windows<A: Allocator + Copy>(
     Ok(Chart {
         title: format!(in alloc; "Hit ratio of each {size} accesses at capacity {capacity}")?,
         scale: String::from_str(alloc, "accesses")?,
-        unit: "",
+        unit: Unit::Keys,
         axis: Axis::linear(first, end),
         curves: curves_of(alloc, &placed)?,
     })

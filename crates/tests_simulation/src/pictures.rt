@@ -1,10 +1,10 @@
 //! What pictures contain: lines, labels, and names in the order of the curves.
 
-use crate::assertions::{same, same_at};
 use crate::texts::{TRACE, written};
 use std::alloc::Global;
 use std::str::from_utf8;
 use std::test::Fail;
+use testing::{same, same_at};
 
 /// Returns where a word begins in the picture of the trace, or nothing.
 fn place_in_picture(alloc: Global, line: &str, word: &str) -> Result<Option<usize>, Fail> {
@@ -42,7 +42,7 @@ fn words_of_pictures(rt: HostRuntime) -> Result<(), Fail> {
         ("2 --svg --window=5 --skip=2", ">2</text>", true),
     ] {
         let place = place_in_picture(rt.alloc(), line, word)?;
-        same_at(&rt, place.is_some(), is_there, (line, word));
+        same_at(place.is_some(), is_there, (line, word))?;
     }
     Ok(())
 }
@@ -54,6 +54,5 @@ fn names_in_the_order_of_the_curves(rt: HostRuntime) -> Result<(), Fail> {
     let first = place_in_picture(rt.alloc(), line, ">OPT<")?.ok_or("no OPT")?;
     let second = place_in_picture(rt.alloc(), line, ">LRU<")?.ok_or("no LRU")?;
     let third = place_in_picture(rt.alloc(), line, ">FIFO<")?.ok_or("no FIFO")?;
-    same(&rt, (first < second, second < third), (true, true));
-    Ok(())
+    same((first < second, second < third), (true, true))
 }

@@ -1,13 +1,12 @@
 //! The hits of a trace in windows of its accesses: worked out by hand, and as texts.
 
-use crate::assertions::{same, same_at};
 use crate::numbers::trace_of;
 use crate::texts::{TRACE, of_two, written};
 use clock2q_simulation::{Policy, Row, Trace, Window, all_windows_of, replay, windows_of};
 use std::alloc::Global;
 use std::num::NonZeroUsize;
-use std::process::Abort;
 use std::test::Fail;
+use testing::{same, same_at};
 
 const POLICIES: [Policy; 2] = [Policy::LeastRecentlyUsed, Policy::Optimal];
 
@@ -27,17 +26,11 @@ fn windows_for(
 }
 
 /// Checks a window.
-fn is_window(
-    rt: &impl Abort,
-    alloc: Global,
-    window: &Window<Global>,
-    wanted: Wanted,
-) -> Result<(), Fail> {
+fn is_window(alloc: Global, window: &Window<Global>, wanted: Wanted) -> Result<(), Fail> {
     let (first, accesses, wanted) = wanted;
-    same(rt, (window.first, window.row.accesses), (first, accesses));
+    same((window.first, window.row.accesses), (first, accesses))?;
     let hits: Vec<usize> = window.row.hits.iter().map(|hits| hits.hits).collect(alloc)?;
-    same_at(rt, hits.as_slice(), wanted.as_slice(), first);
-    Ok(())
+    same_at(hits.as_slice(), wanted.as_slice(), first)
 }
 
 /// Windows that divide the accesses, that don't, that begin after skipped ones, and one of more
@@ -54,9 +47,9 @@ fn windows_by_hand(rt: HostRuntime) -> Result<(), Fail> {
     ];
     for (skipped, size, wanted) in cases {
         let windows = windows_for(rt.alloc(), &trace, skipped, size)?;
-        same(&rt, windows.len(), wanted.len());
+        same(windows.len(), wanted.len())?;
         for (window, wanted) in windows.iter().zip(wanted) {
-            is_window(&rt, rt.alloc(), window, *wanted)?;
+            is_window(rt.alloc(), window, *wanted)?;
         }
     }
     Ok(())
@@ -95,15 +88,14 @@ fn windows_add_up(rt: HostRuntime) -> Result<(), Fail> {
     rows.push(row_at(alloc, 2, 1, &trace)?)?;
     rows.push(row_at(alloc, 3, 1, &trace)?)?;
     let all = all_windows_of(alloc, &rows, &Policy::ALL, None, 1, size, &trace)?;
-    same(&rt, all.len(), rows.len());
+    same(all.len(), rows.len())?;
     for (windows, row) in all.iter().zip(&rows) {
         same(
-            &rt,
             (windows.capacity, windows.windows.len()),
             (row.capacity, 4),
-        );
+        )?;
         for (index, hits) in row.hits.iter().enumerate() {
-            same_at(&rt, hits_in_all(&windows.windows, index), hits.hits, index);
+            same_at(hits_in_all(&windows.windows, index), hits.hits, index)?;
         }
     }
     Ok(())
@@ -121,15 +113,14 @@ capacity      first     FIFO      LRU
        3          6     0.00   *50.00
 ";
     let text = written(rt.alloc(), "2 3 --window=3 --policies=fifo,lru", TRACE)?;
-    same(&rt, text.as_slice(), table.as_bytes());
+    same(text.as_slice(), table.as_bytes())?;
     let lines = "capacity,first,accesses,lru_hits,lru_ratio,trace
 3,0,5,2,0.4000,\"a \"\"b\"\"\"
 3,5,3,1,0.3333,\"a \"\"b\"\"\"
 3,0,1,0,0.0000,\"c\"
 ";
     let text = of_two(rt.alloc(), "3 --window 5 --policies=lru --csv")?;
-    same(&rt, text.as_slice(), lines.as_bytes());
-    Ok(())
+    same(text.as_slice(), lines.as_bytes())
 }
 
 #[test]
@@ -145,6 +136,5 @@ fn json_of_windows(rt: HostRuntime) -> Result<(), Fail> {
 "#;
     let line = "3 --json --policies=lru --skip 3 --window 4";
     let text = written(rt.alloc(), line, TRACE)?;
-    same(&rt, text.as_slice(), wanted.as_bytes());
-    Ok(())
+    same(text.as_slice(), wanted.as_bytes())
 }
