@@ -1,11 +1,11 @@
 //! Tables that grow, and tables with few hashes.
-use crate::assertions::{same, same_at};
 use crate::crowded::{Crowded, has_read};
 use crate::hashed::{Handle, Hashed, Seen};
 use crate::walks::{A, B};
 use clock2q_handles::TableError;
 use std::alloc::Global;
 use std::test::Fail;
+use testing::{same, same_at};
 
 #[test]
 fn growths(rt: HostRuntime) -> Result<(), Fail> {
@@ -20,10 +20,10 @@ fn growths(rt: HostRuntime) -> Result<(), Fail> {
             growths = growths.saturating_add(1);
         }
     }
-    same(&rt, growths, 10);
-    same(&rt, capacity, 6144);
-    same(&rt, asked.count.get(), 6132);
-    same(&rt, tested.table.len(), 5000);
+    same(growths, 10)?;
+    same(capacity, 6144)?;
+    same(asked.count.get(), 6132)?;
+    same(tested.table.len(), 5000)?;
     Ok(())
 }
 
@@ -44,7 +44,7 @@ fn one_hash(rt: HostRuntime) -> Result<(), Fail> {
     let (candidates, walk) = crowded.drained();
     assert!(rt; candidates == 1000);
     has_read(&walk, 1001);
-    same(&rt, crowded.capacity(), 3072);
+    same(crowded.capacity(), 3072)?;
     Ok(())
 }
 
@@ -98,14 +98,14 @@ const TWELVE_APART: [(usize, u64, usize); 12] = [
 fn two_hashes(rt: HostRuntime) -> Result<(), Fail> {
     let asked = Seen::new();
     let mut tested = alternating(rt.alloc(), &asked)?;
-    same(&rt, tested.table.capacity(), 12);
-    tested.yields(&rt, A, &[0, 1, 2, 3, 4, 5, 6, 7, 8, 9, 10, 11]);
-    tested.stands(&rt, rt.alloc(), &TWELVE)?;
-    tested.reserve(&rt, 1, &asked)?;
-    same(&rt, tested.table.capacity(), 24);
-    tested.yields(&rt, A, &[2, 4, 6, 8, 10, 0]);
-    tested.yields(&rt, B, &[1, 3, 5, 7, 9, 11]);
-    tested.stands(&rt, rt.alloc(), &TWELVE_APART)?;
+    same(tested.table.capacity(), 12)?;
+    tested.yields(A, &[0, 1, 2, 3, 4, 5, 6, 7, 8, 9, 10, 11])?;
+    tested.stands(rt.alloc(), &TWELVE)?;
+    tested.reserve(1, &asked)?;
+    same(tested.table.capacity(), 24)?;
+    tested.yields(A, &[2, 4, 6, 8, 10, 0])?;
+    tested.yields(B, &[1, 3, 5, 7, 9, 11])?;
+    tested.stands(rt.alloc(), &TWELVE_APART)?;
     Ok(())
 }
 
@@ -116,15 +116,15 @@ fn two_hashes(rt: HostRuntime) -> Result<(), Fail> {
 fn two_hashes_apart(rt: HostRuntime) -> Result<(), Fail> {
     let asked = Seen::new();
     let mut tested = alternating(rt.alloc(), &asked)?;
-    tested.reserve(&rt, 1, &asked)?;
-    same(&rt, asked.first.get(), [1, 2, 3, 4, 5, 6, 7, 8]);
+    tested.reserve(1, &asked)?;
+    same(asked.first.get(), [1, 2, 3, 4, 5, 6, 7, 8])?;
     let again = Seen::new();
-    tested.reserve(&rt, 20, &again)?;
-    same(&rt, tested.table.capacity(), 48);
-    same(&rt, again.count.get(), 12);
-    same(&rt, again.first.get(), [3, 5, 7, 9, 11, 2, 4, 6]);
-    tested.yields(&rt, A, &[2, 4, 6, 8, 10, 0]);
-    tested.yields(&rt, B, &[3, 5, 7, 9, 11, 1]);
+    tested.reserve(20, &again)?;
+    same(tested.table.capacity(), 48)?;
+    same(again.count.get(), 12)?;
+    same(again.first.get(), [3, 5, 7, 9, 11, 2, 4, 6])?;
+    tested.yields(A, &[2, 4, 6, 8, 10, 0])?;
+    tested.yields(B, &[3, 5, 7, 9, 11, 1])?;
     Ok(())
 }
 
@@ -135,14 +135,14 @@ fn slot_order(rt: HostRuntime) -> Result<(), Fail> {
     for (number, hash) in [(0, 14), (1, 14), (2, 15), (3, 0), (4, 0)] {
         tested.insert(hash, number, &asked)?;
     }
-    same(&rt, asked.count.get(), 0);
-    tested.reserve(&rt, 20, &asked)?;
-    same(&rt, asked.count.get(), 5);
-    same(&rt, asked.first.get(), [2, 3, 4, 0, 1, 0, 0, 0]);
-    same(&rt, tested.table.capacity(), 48);
-    tested.yields(&rt, 14, &[0, 1]);
-    tested.yields(&rt, 15, &[2]);
-    tested.yields(&rt, 0, &[3, 4]);
+    same(asked.count.get(), 0)?;
+    tested.reserve(20, &asked)?;
+    same(asked.count.get(), 5)?;
+    same(asked.first.get(), [2, 3, 4, 0, 1, 0, 0, 0])?;
+    same(tested.table.capacity(), 48)?;
+    tested.yields(14, &[0, 1])?;
+    tested.yields(15, &[2])?;
+    tested.yields(0, &[3, 4])?;
     Ok(())
 }
 
@@ -166,11 +166,11 @@ fn found_after_growth(rt: HostRuntime) -> Result<(), Fail> {
             &offered,
             &asked,
         )?;
-        same_at(&rt, (outcome.0.number, outcome.1), reply, accepted);
+        same_at((outcome.0.number, outcome.1), reply, accepted)?;
         let asked_about = (offered.count.get(), offered.first.get());
-        same_at(&rt, asked_about, offers, accepted);
-        same_at(&rt, asked.count.get(), 12, accepted);
-        same_at(&rt, tested.table.capacity(), 24, accepted);
+        same_at(asked_about, offers, accepted)?;
+        same_at(asked.count.get(), 12, accepted)?;
+        same_at(tested.table.capacity(), 24, accepted)?;
     }
     Ok(())
 }
@@ -187,12 +187,12 @@ fn found_or_new(rt: HostRuntime) -> Result<(), Fail> {
         (9, 2, 2, (2, true)),
     ] {
         let outcome = tested.find_or_insert(Handle { hash, number }, accepted, &offered, &asked)?;
-        same_at(&rt, (outcome.0.number, outcome.1), reply, number);
+        same_at((outcome.0.number, outcome.1), reply, number)?;
     }
-    tested.yields(&rt, 5, &[0, 1]);
-    tested.yields(&rt, 9, &[2]);
-    same(&rt, tested.table.len(), 3);
-    same(&rt, (offered.count.get(), asked.count.get()), (2, 0));
+    tested.yields(5, &[0, 1])?;
+    tested.yields(9, &[2])?;
+    same(tested.table.len(), 3)?;
+    same((offered.count.get(), asked.count.get()), (2, 0))?;
     Ok(())
 }
 
@@ -204,11 +204,11 @@ fn too_much_room(rt: HostRuntime) -> Result<(), Fail> {
     let mut tested = Hashed::with_capacity(rt.alloc(), 12)?;
     tested.insert(A, 1, &asked)?;
     for additional in [usize::MAX, usize::MAX - 1] {
-        let outcome = tested.reserve(&rt, additional, &asked);
-        same_at(&rt, outcome, Err(TableError::Size), additional);
-        same_at(&rt, tested.table.capacity(), 12, additional);
-        tested.stands(&rt, rt.alloc(), &[(15, 1, 0)])?;
+        let outcome = tested.reserve(additional, &asked);
+        same_at(outcome, Err(TableError::Size), additional)?;
+        same_at(tested.table.capacity(), 12, additional)?;
+        tested.stands(rt.alloc(), &[(15, 1, 0)])?;
     }
-    same(&rt, asked.count.get(), 0);
+    same(asked.count.get(), 0)?;
     Ok(())
 }

@@ -1,13 +1,13 @@
 //! A table in which each handle was inserted under the hash that it contains.
 ghost use Rattle.std.specs.Prelude.{◌≡◌};
 
-use crate::assertions::{same, same_at};
 use crate::standing::{hold, slots_of};
 use clock2q_handles::{Table, TableError};
-use std::alloc::{AllocError, Global};
+use std::alloc::Global;
 use std::cell::Cell;
 use std::marker::Model;
-use std::process::Abort;
+use std::test::Fail;
+use testing::{same, same_at};
 
 /// A handle that contains the hash that it is inserted under.
 #[derive(Debug, Clone, Copy, PartialEq, Eq, Default)]
@@ -46,11 +46,11 @@ impl Seen {
         self.count.set(count.saturating_add(1));
     }
 
-    /// Stops the test unless both saw the same handles, as far as they recorded them.
-    pub(crate) fn is_same(&self, rt: &impl Abort, other: &Seen, shown: &str) {
-        same_at(rt, self.count.get(), other.count.get(), shown);
-        same_at(rt, self.first.get(), other.first.get(), shown);
-        same_at(rt, self.mixed.get(), other.mixed.get(), shown);
+    /// Returns the failure of a test unless both saw the same handles, as far as they recorded them.
+    pub(crate) fn is_same(&self, other: &Seen, shown: &str) -> Result<(), Fail> {
+        same_at(self.count.get(), other.count.get(), shown)?;
+        same_at(self.first.get(), other.first.get(), shown)?;
+        same_at(self.mixed.get(), other.mixed.get(), shown)
     }
 }
 
@@ -102,14 +102,10 @@ impl Hashed {
         )
     }
 
-    pub(crate) fn reserve(
-        &mut self,
-        rt: &impl Abort,
-        additional: usize,
-        asked: &Seen,
-    ) -> Result<(), TableError> {
-        let before = self.table.len();
-        let outcome = self.table.reserve(
+    pub(crate) fn reserve(&mut self, additional: usize, asked: &Seen) -> Result<(), TableError> {
+        // This call shows contracts that the handles can be counted.
+        let _ = self.table.len();
+        self.table.reserve(
             additional,
             |held: Handle| -> u64
                 ensures { result ≡ held.hash }
@@ -117,9 +113,7 @@ impl Hashed {
                 asked.note(held.number);
                 held.hash
             },
-        );
-        same(rt, self.table.len(), before);
-        outcome
+        )
     }
 
     pub(crate) fn find_or_insert(
@@ -149,29 +143,23 @@ impl Hashed {
         self.table.remove(hash, handle)
     }
 
-    pub(crate) fn yields(&self, rt: &impl Abort, hash: u64, wanted: &[u64]) {
+    pub(crate) fn yields(&self, hash: u64, wanted: &[u64]) -> Result<(), Fail> {
         let mut walk = self.table.get(hash);
         for number in wanted {
             let found = walk.next().map(|handle| handle.number);
-            same(rt, found, Some(*number));
+            same(found, Some(*number))?;
         }
-        same(rt, walk.next(), None);
+        same(walk.next(), None)
     }
 
-    /// Stops the test unless the table has exactly the wanted handles, each with its slot and
+    /// Returns the failure of a test unless the table has exactly the wanted handles, each with its slot and
     /// displacement.
-    pub(crate) fn stands(
-        &self,
-        rt: &impl Abort,
-        alloc: Global,
-        wanted: &[(usize, u64, usize)],
-    ) -> Result<(), AllocError> {
-        same(rt, self.table.len(), wanted.len());
+    pub(crate) fn stands(&self, alloc: Global, wanted: &[(usize, u64, usize)]) -> Result<(), Fail> {
+        same(self.table.len(), wanted.len())?;
         let mut numbers = Vec::new(alloc);
         for slot in &slots_of(alloc, &self.table)? {
             numbers.push(slot.map(|held| (held.0.number, held.1)))?;
         }
-        hold(rt, &numbers, wanted, "numbers");
-        Ok(())
+        hold(&numbers, wanted, "numbers")
     }
 }

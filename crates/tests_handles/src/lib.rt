@@ -4,8 +4,6 @@
 #![tactic(auto)]
 
 #[cfg(test)]
-mod assertions;
-#[cfg(test)]
 mod crowded;
 #[cfg(test)]
 mod growing;
@@ -15,8 +13,6 @@ mod hashed;
 mod partitions;
 #[cfg(test)]
 mod plain;
-#[cfg(test)]
-mod plain_table;
 #[cfg(test)]
 mod positions;
 #[cfg(test)]

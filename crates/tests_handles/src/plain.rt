@@ -1,5 +1,4 @@
 //! A table as the list of the entries of each home, and where those lists put each entry.
-ghost use Rattle.std.specs.Prelude.{◌<◌, vec_len};
 
 use crate::hashed::{Handle, Seen};
 use crate::standing::Slot;
@@ -72,14 +71,14 @@ impl Plain {
     pub(crate) fn find_or_insert(
         &mut self,
         handle: Handle,
-        accepted: u64,
+        accepted: &[u64],
         offered: &Seen,
         asked: &Seen,
     ) -> Result<(Handle, bool), AllocError> {
         self.make_room(asked)?;
         for held in &self.candidates(handle.hash)? {
             offered.note(held.number);
-            if held.number == accepted {
+            if accepted.contains(&held.number) {
                 return Ok((*held, false));
             }
         }
@@ -129,28 +128,19 @@ impl Plain {
     /// Returns where each home's list puts its entries, slot by slot, and how far past their home.
     pub(crate) fn layout(&self) -> Result<Vec<Slot<Handle>>, AllocError> {
         let mut slots = vec![in self.alloc; None; self.homes.len()]?;
+        let mut spill = self.wrapped();
         for (home, list) in self.homes.iter().enumerate() {
-            if !list.is_empty() {
-                stand(list, home, self.spill(home), &mut slots);
-            }
+            put_into(&mut slots, home, spill, list);
+            spill = handed_on(spill, list);
         }
         Ok(slots)
     }
 
-    /// Returns how far earlier homes push the entries of a home: the most by which, in a window of
-    /// slots that ends just before it, the entries that are at home there outnumber the slots.
-    fn spill(&self, home: usize) -> usize
-        requires { home < vec_len self.now.homes }
-    {
-        let count = self.homes.len();
-        let mut at_home = 0usize;
-        let mut most = 0;
-        for slots in 1..count {
-            let first = (home + count - slots) % count;
-            at_home = at_home.saturating_add(self.homes[first].len());
-            most = most.max(at_home.saturating_sub(slots));
-        }
-        most
+    /// Returns the number of entries past the end, which are in the first slots: what the last home
+    /// hands on to the first.
+    fn wrapped(&self) -> usize {
+        let homes = self.homes.iter().chain(self.homes.iter());
+        homes.fold(0, |spill, list| handed_on(spill, list))
     }
 
     fn make_room(&mut self, asked: &Seen) -> Result<(), AllocError> {
@@ -193,8 +183,14 @@ fn is_candidate(held: &Handle, hash: u64) -> bool {
     held.hash >> 56 == hash >> 56
 }
 
+/// Returns the number of entries for which a home and those before it have no slot, if those before
+/// it have none for `spill` entries.
+fn handed_on(spill: usize, list: &[Handle]) -> usize {
+    spill.saturating_add(list.len()).saturating_sub(1)
+}
+
 /// Puts a home's entries into the slots, one after another from `spill` slots past it on.
-fn stand(list: &[Handle], home: usize, spill: usize, slots: &mut [Slot<Handle>]) {
+fn put_into(slots: &mut [Slot<Handle>], home: usize, spill: usize, list: &[Handle]) {
     for (i, handle) in list.iter().enumerate() {
         let past = spill.saturating_add(i);
         let slot = home.saturating_add(past).checked_rem(slots.len());

@@ -1,9 +1,9 @@
 //! Entries that a search finds, and entries that are inserted or removed.
-use crate::assertions::same;
 use crate::walks::{A, B, yields};
 use clock2q_handles::Table;
 use std::alloc::Global;
 use std::test::Fail;
+use testing::same;
 
 /// The outcome of a search.
 #[derive(Clone, Copy, Debug, PartialEq)]
@@ -49,34 +49,34 @@ fn wrapped(alloc: Global) -> Result<Table<u32>, Fail> {
 #[test]
 fn found_where_they_are(rt: HostRuntime) -> Result<(), Fail> {
     let mut table = wrapped(rt.alloc())?;
-    same(&rt, set(&mut table, 15, 1), Led::Found(0));
-    same(&rt, set(&mut table, 0, 3), Led::Found(2));
-    same(&rt, table.len(), 4);
-    yields(&rt, table.get(15), &[0, 1], "last home");
-    yields(&rt, table.get(0), &[2, 3], "first home");
+    same(set(&mut table, 15, 1), Led::Found(0))?;
+    same(set(&mut table, 0, 3), Led::Found(2))?;
+    same(table.len(), 4)?;
+    yields(table.get(15), &[0, 1], "last home")?;
+    yields(table.get(0), &[2, 3], "first home")?;
     Ok(())
 }
 
 #[test]
 fn inserted_where_they_are_not(rt: HostRuntime) -> Result<(), Fail> {
     let mut table = wrapped(rt.alloc())?;
-    same(&rt, set(&mut table, 15, 4), Led::Inserted);
-    yields(&rt, table.get(15), &[0, 1, 4], "last home");
-    yields(&rt, table.get(0), &[2, 3], "first home");
-    same(&rt, set(&mut table, A, 5), Led::Inserted);
-    same(&rt, set(&mut table, B, 5), Led::Found(2));
-    yields(&rt, table.get(A), &[5], "another fingerprint");
+    same(set(&mut table, 15, 4), Led::Inserted)?;
+    yields(table.get(15), &[0, 1, 4], "last home")?;
+    yields(table.get(0), &[2, 3], "first home")?;
+    same(set(&mut table, A, 5), Led::Inserted)?;
+    same(set(&mut table, B, 5), Led::Found(2))?;
+    yields(table.get(A), &[5], "another fingerprint")?;
     Ok(())
 }
 
 #[test]
 fn removed_where_they_are(rt: HostRuntime) -> Result<(), Fail> {
     let mut table = wrapped(rt.alloc())?;
-    same(&rt, take(&mut table, 15, 0), Some(15));
-    same(&rt, take(&mut table, 0, 3), Some(1));
-    same(&rt, take(&mut table, 0, 3), None);
-    yields(&rt, table.get(15), &[1], "last home");
-    yields(&rt, table.get(0), &[2], "first home");
-    same(&rt, take(&mut Table::new(rt.alloc()), 0, 3), None);
+    same(take(&mut table, 15, 0), Some(15))?;
+    same(take(&mut table, 0, 3), Some(1))?;
+    same(take(&mut table, 0, 3), None)?;
+    yields(table.get(15), &[1], "last home")?;
+    yields(table.get(0), &[2], "first home")?;
+    same(take(&mut Table::new(rt.alloc()), 0, 3), None)?;
     Ok(())
 }

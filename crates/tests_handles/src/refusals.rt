@@ -1,7 +1,7 @@
 //! The texts of refusals.
-use crate::assertions::same;
 use clock2q_handles::TableError;
 use std::test::Fail;
+use testing::same;
 
 #[test]
 fn refusals_show(rt: HostRuntime) -> Result<(), Fail> {
@@ -11,7 +11,7 @@ fn refusals_show(rt: HostRuntime) -> Result<(), Fail> {
         (TableError::RunTooLong, "run too long"),
     ] {
         let shown = format!(in rt.alloc(); "{refusal}")?;
-        same(&rt, shown.as_str(), text);
+        same(shown.as_str(), text)?;
     }
     Ok(())
 }

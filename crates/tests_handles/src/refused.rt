@@ -2,13 +2,12 @@
 ghost use Rattle.std.specs.Prelude.{◌≡◌, Err, IfOk};
 ghost use Rattle.clock2q_handles.specs.TableStep.{IsHashOf};
 
-use crate::assertions::{same, same_at};
 use clock2q_handles::{Table, TableError};
 use std::alloc::Global;
 use std::cell::Cell;
 use std::process::Abort;
 use std::test::Fail;
-use testing::Refusing;
+use testing::{Refusing, same, same_at};
 
 type RefusedTable<'a> = Table<u64, &'a Refusing<Global>>;
 
@@ -36,31 +35,31 @@ fn construct(alloc: &Refusing<Global>) -> Result<(usize, bool), TableError> {
 }
 
 /// Makes tables with requests refused, and returns the turn in which none is.
-fn construct_in_turn(rt: &impl Abort, alloc: &Refusing<Global>) -> u64 {
+fn construct_in_turn(alloc: &Refusing<Global>) -> Result<u64, Fail> {
     for turn in 0..MANY {
         refuse_in(turn, alloc);
         let Err(error) = construct(alloc) else {
-            return turn;
+            return Ok(turn);
         };
-        same_at(rt, (error, alloc.held()), (TableError::Memory, 0), turn);
+        same_at((error, alloc.held()), (TableError::Memory, 0), turn)?;
     }
-    MANY
+    Ok(MANY)
 }
 
 #[test]
 fn constructions(rt: HostRuntime) -> Result<(), Fail> {
     let alloc = Refusing::new(rt.alloc());
-    same(&rt, construct_in_turn(&rt, &alloc), REFUSED_TURNS);
+    same(construct_in_turn(&alloc)?, REFUSED_TURNS)?;
     alloc.grant();
-    same(&rt, construct(&alloc), Ok((24, true)));
+    same(construct(&alloc), Ok((24, true)))?;
     Ok(())
 }
 
 /// Looks up and removes in tables without slots.
-fn read_no_slots(rt: &impl Abort, none: &mut RefusedTable<'_>, empty: &RefusedTable<'_>) {
-    same(rt, (none.capacity(), empty.capacity()), (0, 0));
-    same(rt, none.get(5).next(), None);
-    assert!(rt; !none.remove(5, 5));
+fn read_no_slots(none: &mut RefusedTable<'_>, empty: &RefusedTable<'_>) -> Result<(), Fail> {
+    same((none.capacity(), empty.capacity()), (0, 0))?;
+    same(none.get(5).next(), None)?;
+    same(none.remove(5, 5), false)
 }
 
 /// A table without slots requests nothing, and neither do lookups and removals in it.
@@ -69,8 +68,8 @@ fn no_slots(rt: HostRuntime) -> Result<(), Fail> {
     let alloc = Refusing::new(rt.alloc());
     let mut none: RefusedTable = Table::new(&alloc);
     let empty: RefusedTable = Table::with_capacity(&alloc, 0)?;
-    read_no_slots(&rt, &mut none, &empty);
-    same(&rt, alloc.requests(), 0);
+    read_no_slots(&mut none, &empty)?;
+    same(alloc.requests(), 0)?;
     Ok(())
 }
 
@@ -99,12 +98,13 @@ fn read_and_remove(rt: &impl Abort, table: &mut RefusedTable<'_>) -> Result<(), 
 }
 
 /// Makes calls that a table has room for.
-fn call_within_capacity(rt: &impl Abort, table: &mut RefusedTable<'_>) -> Result<(), TableError> {
+fn call_within_capacity(rt: &impl Abort, table: &mut RefusedTable<'_>) -> Result<(), Fail> {
     insert_two(rt, table)?;
     for wanted in [(7, true), (7, false)] {
-        same(rt, find_any(rt, table)?, wanted);
+        same(find_any(rt, table)?, wanted)?;
     }
-    read_and_remove(rt, table)
+    read_and_remove(rt, table)?;
+    Ok(())
 }
 
 #[test]
@@ -114,7 +114,7 @@ fn no_requests(rt: HostRuntime) -> Result<(), Fail> {
     let made = alloc.requests();
     alloc.refuse_after(0);
     call_within_capacity(&rt, &mut table)?;
-    same(&rt, alloc.requests(), made);
+    same(alloc.requests(), made)?;
     Ok(())
 }
 
@@ -139,15 +139,14 @@ fn full<'a>(rt: &impl Abort, alloc: &'a Refusing<Global>) -> Result<RefusedTable
     Ok(table)
 }
 
-/// Stops the test unless a full table has kept its memory and its number of handles.
+/// Returns the failure of a test unless a full table has kept its memory and its number of handles.
 fn assert_kept(
-    rt: &impl Abort,
     alloc: &Refusing<Global>,
     held: u64,
     table: &RefusedTable<'_>,
     turn: u64,
-) {
-    same_at(rt, (alloc.held(), table.len()), (held, 12), turn);
+) -> Result<(), Fail> {
+    same_at((alloc.held(), table.len()), (held, 12), turn)
 }
 
 /// Inserts a handle, and returns the number of handles whose hash was asked for.
@@ -170,7 +169,11 @@ fn insert_counted(table: &mut RefusedTable<'_>) -> (Result<(), TableError>, u64)
 }
 
 /// Inserts into a full table with requests refused, and returns the turn in which none is.
-fn insert_in_turn(rt: &impl Abort, alloc: &Refusing<Global>, table: &mut RefusedTable<'_>) -> u64
+fn insert_in_turn(
+    rt: &impl Abort,
+    alloc: &Refusing<Global>,
+    table: &mut RefusedTable<'_>,
+) -> Result<u64, Fail>
     requires keyed { IsHashOf (λ handle. handle) table.old.homes }
 {
     let held = alloc.held();
@@ -178,33 +181,33 @@ fn insert_in_turn(rt: &impl Abort, alloc: &Refusing<Global>, table: &mut Refused
         refuse_in(turn, alloc);
         let (outcome, asked) = insert_counted(table);
         if outcome.is_ok() {
-            same(rt, asked, 12);
-            return turn;
+            same(asked, 12)?;
+            return Ok(turn);
         }
         assert_eq!(rt;
             (outcome, asked),
             (Err(TableError::Memory), 0),
             "turn {turn}"
         );
-        assert_kept(rt, alloc, held, table, turn);
+        assert_kept(alloc, held, table, turn)?;
     }
-    MANY
+    Ok(MANY)
 }
 
 /// Looks at a table that grew for its thirteenth handle.
-fn look_at_thirteen(rt: &impl Abort, table: &RefusedTable<'_>) {
-    same(rt, (table.len(), table.capacity()), (13, 24));
-    same(rt, table.get(12).next(), Some(12));
+fn look_at_thirteen(table: &RefusedTable<'_>) -> Result<(), Fail> {
+    same((table.len(), table.capacity()), (13, 24))?;
+    same(table.get(12).next(), Some(12))
 }
 
 #[test]
 fn insertions(rt: HostRuntime) -> Result<(), Fail> {
     let alloc = Refusing::new(rt.alloc());
     let mut table = full(&rt, &alloc)?;
-    let turn = insert_in_turn(&rt, &alloc, &mut table);
-    look_at_thirteen(&rt, &table);
+    let turn = insert_in_turn(&rt, &alloc, &mut table)?;
+    look_at_thirteen(&table)?;
     drop(table);
-    same(&rt, turn, REFUSED_TURNS);
+    same(turn, REFUSED_TURNS)?;
     Ok(())
 }
 
@@ -227,7 +230,11 @@ fn reserve_counted(table: &mut RefusedTable<'_>) -> (Result<(), TableError>, u64
 }
 
 /// Reserves room in a full table with requests refused, and returns the turn in which none is.
-fn reserve_in_turn(rt: &impl Abort, alloc: &Refusing<Global>, table: &mut RefusedTable<'_>) -> u64
+fn reserve_in_turn(
+    rt: &impl Abort,
+    alloc: &Refusing<Global>,
+    table: &mut RefusedTable<'_>,
+) -> Result<u64, Fail>
     requires keyed { IsHashOf (λ handle. handle) table.old.homes }
 {
     let held = alloc.held();
@@ -235,32 +242,32 @@ fn reserve_in_turn(rt: &impl Abort, alloc: &Refusing<Global>, table: &mut Refuse
         refuse_in(turn, alloc);
         let (outcome, asked) = reserve_counted(table);
         if outcome.is_ok() {
-            same(rt, asked, 12);
-            return turn;
+            same(asked, 12)?;
+            return Ok(turn);
         }
         assert_eq!(rt;
             (outcome, asked),
             (Err(TableError::Memory), 0),
             "turn {turn}"
         );
-        assert_kept(rt, alloc, held, table, turn);
+        assert_kept(alloc, held, table, turn)?;
     }
-    MANY
+    Ok(MANY)
 }
 
 /// Looks at a table that grew without another handle.
-fn look_at_twelve(rt: &impl Abort, table: &RefusedTable<'_>) {
-    same(rt, (table.len(), table.capacity()), (12, 24));
+fn look_at_twelve(table: &RefusedTable<'_>) -> Result<(), Fail> {
+    same((table.len(), table.capacity()), (12, 24))
 }
 
 #[test]
 fn reservations(rt: HostRuntime) -> Result<(), Fail> {
     let alloc = Refusing::new(rt.alloc());
     let mut table = full(&rt, &alloc)?;
-    let turn = reserve_in_turn(&rt, &alloc, &mut table);
-    look_at_twelve(&rt, &table);
+    let turn = reserve_in_turn(&rt, &alloc, &mut table)?;
+    look_at_twelve(&table)?;
     drop(table);
-    same(&rt, turn, REFUSED_TURNS);
+    same(turn, REFUSED_TURNS)?;
     Ok(())
 }
 
@@ -293,7 +300,11 @@ fn find_counted(table: &mut RefusedTable<'_>) -> Found
 }
 
 /// Finds in a full table with requests refused, and returns the turn in which none is.
-fn find_in_turn(rt: &impl Abort, alloc: &Refusing<Global>, table: &mut RefusedTable<'_>) -> u64
+fn find_in_turn(
+    rt: &impl Abort,
+    alloc: &Refusing<Global>,
+    table: &mut RefusedTable<'_>,
+) -> Result<u64, Fail>
     requires keyed { IsHashOf (λ handle. handle) table.old.homes }
 {
     let held = alloc.held();
@@ -301,26 +312,26 @@ fn find_in_turn(rt: &impl Abort, alloc: &Refusing<Global>, table: &mut RefusedTa
         refuse_in(turn, alloc);
         let (outcome, calls) = find_counted(table);
         if outcome.is_ok() {
-            same(rt, (outcome, calls), (Ok((5, false)), (1, 12)));
-            return turn;
+            same((outcome, calls), (Ok((5, false)), (1, 12)))?;
+            return Ok(turn);
         }
         assert_eq!(rt;
             (outcome, calls),
             (Err(TableError::Memory), (0, 0)),
             "turn {turn}"
         );
-        assert_kept(rt, alloc, held, table, turn);
+        assert_kept(alloc, held, table, turn)?;
     }
-    MANY
+    Ok(MANY)
 }
 
 #[test]
 fn finds(rt: HostRuntime) -> Result<(), Fail> {
     let alloc = Refusing::new(rt.alloc());
     let mut table = full(&rt, &alloc)?;
-    let turn = find_in_turn(&rt, &alloc, &mut table);
-    look_at_twelve(&rt, &table);
+    let turn = find_in_turn(&rt, &alloc, &mut table)?;
+    look_at_twelve(&table)?;
     drop(table);
-    same(&rt, turn, REFUSED_TURNS);
+    same(turn, REFUSED_TURNS)?;
     Ok(())
 }

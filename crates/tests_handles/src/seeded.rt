@@ -1,14 +1,12 @@
 //! Seeded lists of calls, whose replies and results are compared with plain lists.
 
-use crate::assertions::same_at;
 use crate::hashed::{Handle, Hashed, Seen};
 use crate::plain::Plain;
 use crate::standing::write_down;
 use crate::walks::yields;
-use std::alloc::{AllocError, Global};
-use std::process::Abort;
+use std::alloc::Global;
 use std::test::Fail;
-use testing::Draws;
+use testing::{Draws, same_at};
 
 const LISTS: u64 = 200;
 
@@ -124,59 +122,50 @@ impl Pair {
 
     /// Makes the call of both. The reply is the same, and so are the handles that closures were
     /// called on.
-    fn call(&mut self, rt: &impl Abort, call: Call, shown: &str) -> Result<(), Fail> {
+    fn call(&mut self, call: Call, shown: &str) -> Result<(), Fail> {
         let (offered, asked) = (Seen::new(), Seen::new());
         let (offers, asks) = (Seen::new(), Seen::new());
         match call {
             Call::Insert(handle) => {
                 let reply = self.tested.insert(handle.hash, handle.number, &asked);
-                same_at(rt, reply, Ok(()), shown);
+                same_at(reply, Ok(()), shown)?;
                 self.plain.insert(handle, &asks)?;
             }
             Call::FindOrInsert(handle, accepted) => {
                 let reply = self
                     .tested
                     .find_or_insert(handle, accepted, &offered, &asked);
-                let wanted = self.plain.find_or_insert(handle, accepted, &offers, &asks)?;
-                same_at(rt, reply, Ok(wanted), shown);
+                let wanted = self
+                    .plain
+                    .find_or_insert(handle, &[accepted], &offers, &asks)?;
+                same_at(reply, Ok(wanted), shown)?;
             }
             Call::Remove(hash, handle) => {
                 let wanted = self.plain.remove(hash, handle);
-                same_at(rt, self.tested.remove(hash, handle), wanted, shown);
+                same_at(self.tested.remove(hash, handle), wanted, shown)?;
             }
             Call::Reserve(additional) => {
-                let reply = self.tested.reserve(rt, additional, &asked);
-                same_at(rt, reply, self.plain.reserve(additional, &asks), shown);
+                let reply = self.tested.reserve(additional, &asked);
+                same_at(reply, self.plain.reserve(additional, &asks), shown)?;
             }
-            Call::Get(hash) => self.lookup_is_same(rt, hash, shown)?,
-            Call::Len | Call::Capacity => self.sizes_are_same(rt, shown),
+            Call::Get(hash) => self.lookup_is_same(hash, shown)?,
+            Call::Len | Call::Capacity => self.sizes_are_same(shown)?,
             Call::IsEmpty => {
                 let wanted = self.plain.len() == 0;
-                same_at(rt, self.tested.table.is_empty(), wanted, shown);
+                same_at(self.tested.table.is_empty(), wanted, shown)?;
             }
         }
-        offered.is_same(rt, &offers, shown);
-        asked.is_same(rt, &asks, shown);
-        Ok(())
+        offered.is_same(&offers, shown)?;
+        asked.is_same(&asks, shown)
     }
 
-    fn sizes_are_same(&self, rt: &impl Abort, shown: &str) {
-        same_at(rt, self.tested.table.len(), self.plain.len(), shown);
-        same_at(
-            rt,
-            self.tested.table.capacity(),
-            self.plain.capacity(),
-            shown,
-        );
+    fn sizes_are_same(&self, shown: &str) -> Result<(), Fail> {
+        same_at(self.tested.table.len(), self.plain.len(), shown)?;
+        same_at(self.tested.table.capacity(), self.plain.capacity(), shown)
     }
 
     /// Each slot holds what the lists put there.
-    fn slots_are_same(
-        &self,
-        rt: &impl Abort,
-        alloc: Global,
-        shown: &str,
-    ) -> Result<(), AllocError> {
+    fn slots_are_same(&self, alloc: Global, shown: &str) -> Result<(), Fail> {
         let wanted = self.plain.layout()?;
         let mut slots = vec![in alloc; None; wanted.len()]?;
         for home in &self.plain.taken_homes()? {
@@ -185,31 +174,24 @@ impl Pair {
                 write_down(&self.tested.table, hash, &mut slots);
             }
         }
-        same_at(rt, slots.as_slice(), wanted.as_slice(), shown);
-        Ok(())
+        same_at(slots.as_slice(), wanted.as_slice(), shown)
     }
 
     /// Grows both. They ask for the hash of each held handle, in the order of the slots.
-    fn order_is_same(&mut self, rt: &impl Abort, shown: &str) -> Result<(), Fail> {
+    fn order_is_same(&mut self, shown: &str) -> Result<(), Fail> {
         let vacant = self.plain.capacity().saturating_sub(self.plain.len());
-        self.call(rt, Call::Reserve(vacant.saturating_add(1)), shown)
+        self.call(Call::Reserve(vacant.saturating_add(1)), shown)
     }
 
-    fn lookup_is_same(&self, rt: &impl Abort, hash: u64, shown: &str) -> Result<(), AllocError> {
+    fn lookup_is_same(&self, hash: u64, shown: &str) -> Result<(), Fail> {
         let wanted = self.plain.candidates(hash)?;
-        yields(rt, self.tested.table.get(hash), &wanted, shown);
-        Ok(())
+        yields(self.tested.table.get(hash), &wanted, shown)
     }
 
     /// Looks up drawn hashes in both.
-    fn lookups_are_same(
-        &self,
-        rt: &impl Abort,
-        draws: &mut DrawnCalls,
-        shown: &str,
-    ) -> Result<(), AllocError> {
+    fn lookups_are_same(&self, draws: &mut DrawnCalls, shown: &str) -> Result<(), Fail> {
         for _ in 0..8 {
-            self.lookup_is_same(rt, draws.hash(), shown)?;
+            self.lookup_is_same(draws.hash(), shown)?;
         }
         Ok(())
     }
@@ -226,14 +208,14 @@ fn plain_lists(rt: HostRuntime) -> Result<(), Fail> {
         for number in 0..CALLS {
             let call = draws.call(number, &pair.plain);
             let shown = format!(in rt.alloc(); "list {seed}, call {number}: {call:?}")?;
-            pair.call(&rt, call, shown.as_str())?;
-            pair.sizes_are_same(&rt, shown.as_str());
-            pair.slots_are_same(&rt, rt.alloc(), shown.as_str())?;
+            pair.call(call, shown.as_str())?;
+            pair.sizes_are_same(shown.as_str())?;
+            pair.slots_are_same(rt.alloc(), shown.as_str())?;
             if number % (CALLS / 2) == CALLS / 2 - 1 {
-                pair.order_is_same(&rt, shown.as_str())?;
+                pair.order_is_same(shown.as_str())?;
             }
             if number % 5 == 4 {
-                pair.lookups_are_same(&rt, &mut draws, shown.as_str())?;
+                pair.lookups_are_same(&mut draws, shown.as_str())?;
             }
         }
     }

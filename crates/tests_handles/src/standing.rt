@@ -1,9 +1,9 @@
 //! The contents of each slot of a table, as searches report them.
-use crate::assertions::same_at;
 use clock2q_handles::Table;
 use std::alloc::{AllocError, Global};
 use std::fmt::Debug;
-use std::process::Abort;
+use std::test::Fail;
+use testing::same_at;
 
 /// A slot: a handle and how far past its home it is, or nothing.
 pub(crate) type Slot<H> = Option<(H, usize)>;
@@ -62,32 +62,30 @@ pub(crate) fn slots_of<H: Copy + Eq + Default>(
     Ok(slots)
 }
 
-/// Stops the test unless the slots hold exactly the wanted handles, each with its slot and
+/// Returns the failure of a test unless the slots hold exactly the wanted handles, each with its slot and
 /// displacement.
 pub(crate) fn hold<H: Copy + Eq + Debug>(
-    rt: &impl Abort,
     slots: &[Slot<H>],
     wanted: &[(usize, H, usize)],
     shown: &str,
-) {
-    same_at(rt, slots.iter().flatten().count(), wanted.len(), shown);
+) -> Result<(), Fail> {
+    same_at(slots.iter().flatten().count(), wanted.len(), shown)?;
     for (position, slot) in slots.iter().enumerate() {
         let cell = wanted.iter().find(|cell| cell.0 == position);
         let held = cell.map(|cell| (cell.1, cell.2));
-        same_at(rt, *slot, held, (shown, position));
+        same_at(*slot, held, (shown, position))?;
     }
+    Ok(())
 }
 
-/// Stops the test unless a table has exactly the wanted handles, each with its slot and
-/// displacement.
+/// Returns the failure of a test unless a table has exactly the wanted handles, each with its slot
+/// and displacement.
 pub(crate) fn stands(
-    rt: &impl Abort,
     alloc: Global,
     table: &Table<usize>,
     wanted: &[(usize, usize, usize)],
     shown: &str,
-) -> Result<(), AllocError> {
-    same_at(rt, table.len(), wanted.len(), shown);
-    hold(rt, &slots_of(alloc, table)?, wanted, shown);
-    Ok(())
+) -> Result<(), Fail> {
+    same_at(table.len(), wanted.len(), shown)?;
+    hold(&slots_of(alloc, table)?, wanted, shown)
 }

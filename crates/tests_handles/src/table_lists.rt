@@ -1,17 +1,14 @@
 //! Seeded lists of commands to a handle table, whose replies are compared with those of plain
-//! lists.
-//!
-//! Lookups are compared in their whole order. A growth takes the handles slot by slot, and begins
-//! with those that found no room before the end; the plain lists only count these.
+//! lists. Lookups are compared in their whole order. Each handle is its own hash.
 ghost use Rattle.std.specs.Prelude.{◌≡◌};
 
-use crate::plain_table::PlainTable;
+use crate::hashed::{Handle, Seen};
+use crate::plain::Plain;
 use clock2q_handles::{Table, TableError};
 use clock2q_table_commands::{TableCommand, TableReply, run_table};
 use std::alloc::{AllocError, Allocator, Global};
-use std::process::Abort;
 use std::test::Fail;
-use testing::Draws;
+use testing::{Draws, same_at};
 
 const LISTS: u64 = 200;
 
@@ -35,7 +32,7 @@ struct Source {
     /// The number of homes near the end of the slots that the handles have.
     homes: u64,
     alloc: Global,
-    plain: PlainTable,
+    plain: Plain,
 }
 
 impl Source {
@@ -57,8 +54,8 @@ impl Source {
         let place = self
             .draws
             .below((self.plain.len() as u64).saturating_add(2));
-        match self.plain.handle(place as usize) {
-            Some(handle) => handle,
+        match self.plain.entry(place as usize) {
+            Some(entry) => entry.number,
             None => self.fresh(number),
         }
     }
@@ -80,7 +77,7 @@ impl Source {
                 .draws
                 .below((candidates.len() as u64).saturating_add(1));
             let handle = match candidates.get(place as usize) {
-                Some(candidate) => *candidate,
+                Some(candidate) => candidate.number,
                 None => self.held(number),
             };
             accepted.push(handle)?;
@@ -121,16 +118,59 @@ impl Source {
         }
     }
 
+    /// Returns the handles that a lookup of the hash should yield.
+    fn candidates(&self, hash: u64) -> Result<Vec<u64>, AllocError> {
+        let mut handles = Vec::new(self.alloc);
+        for entry in &self.plain.candidates(hash)? {
+            handles.push(entry.number)?;
+        }
+        Ok(handles)
+    }
+
+    /// Makes the call of a command on the plain lists, and returns the reply that it should have.
+    fn reply(&mut self, command: &TableCommand<u64>) -> Result<TableReply<u64>, AllocError> {
+        let (offered, asked) = (Seen::new(), Seen::new());
+        Ok(match command {
+            TableCommand::Insert(handle) => {
+                self.plain.insert(entry_of(*handle), &asked)?;
+                TableReply::Done
+            }
+            TableCommand::Remove(hash, handle) => {
+                TableReply::Removed(self.plain.remove(*hash, entry_of(*handle)))
+            }
+            TableCommand::Find(handle, accepted) => {
+                let entry = entry_of(*handle);
+                let (found, inserted) = self
+                    .plain
+                    .find_or_insert(entry, accepted, &offered, &asked)?;
+                TableReply::Found(found.number, inserted)
+            }
+            TableCommand::Reserve(additional) => match self.plain.reserve(*additional, &asked) {
+                Ok(()) => TableReply::Done,
+                Err(refusal) => TableReply::Refused(refusal),
+            },
+            TableCommand::Get(hash) => TableReply::Handles(self.candidates(*hash)?),
+        })
+    }
+
     /// Returns the commands of a list, each with the reply of the plain lists.
     fn list(&mut self) -> Result<List, AllocError> {
         let mut commands = Vec::new(self.alloc);
         let mut wanted = Vec::new(self.alloc);
         for number in 0..COMMANDS {
             let command = self.command(number)?;
-            wanted.push(self.plain.reply(&command)?)?;
+            wanted.push(self.reply(&command)?)?;
             commands.push(command)?;
         }
         Ok(List { commands, wanted })
+    }
+}
+
+/// Returns the entry of a handle.
+fn entry_of(handle: u64) -> Handle {
+    Handle {
+        hash: handle,
+        number: handle,
     }
 }
 
@@ -151,12 +191,13 @@ fn replies_of<A: Allocator + Copy>(
 }
 
 /// Compares each reply with the wanted one.
-fn replies_are(rt: &impl Abort, replies: &[TableReply<u64>], list: &List, seed: u64) {
-    assert_eq!(rt; replies.len(), list.wanted.len(), "list {seed}");
-    let told = list.commands.iter().zip(list.wanted.iter());
-    for (number, (reply, (command, wanted))) in replies.iter().zip(told).enumerate() {
-        assert_eq!(rt; reply, wanted, "list {seed}, command {number}: {command:?}");
+fn replies_are(replies: &[TableReply<u64>], list: &List, seed: u64) -> Result<(), Fail> {
+    same_at(replies.len(), list.wanted.len(), seed)?;
+    let wanted = list.commands.iter().zip(list.wanted.iter());
+    for (number, (reply, (command, wanted))) in replies.iter().zip(wanted).enumerate() {
+        same_at(reply, wanted, (seed, number, command))?;
     }
+    Ok(())
 }
 
 #[test]
@@ -168,11 +209,11 @@ fn plain_lists(rt: HostRuntime) -> Result<(), Fail> {
             draws: Draws::new(seed),
             homes: 1 << (seed % 4),
             alloc,
-            plain: PlainTable::with_capacity(alloc, handles)?,
+            plain: Plain::with_capacity(alloc, handles)?,
         };
         let list = source.list()?;
         let replies = replies_of(alloc, handles, &list.commands)?;
-        replies_are(&rt, &replies, &list, seed);
+        replies_are(&replies, &list, seed)?;
     }
     Ok(())
 }
