@@ -1,2 +1,3 @@
+mod Either
 mod Filling
 mod Residents

@@ -1,11 +1,10 @@
 //! The history beside a plain list of keys.
 ghost use Rattle.std.specs.Prelude.{◌<◌};
 
-use crate::assertions::{same, same_at};
 use crate::beside::Beside;
 use std::alloc::Global;
-use std::process::Abort;
 use std::test::Fail;
+use testing::{same, same_at};
 
 /// Mixes the bits of a number.
 fn mixed(x: u64) -> u64 {
@@ -31,34 +30,36 @@ fn call(beside: &mut Beside, key: u64, drawn: u64) -> Option<(bool, bool)> {
 }
 
 /// Two keys fit: a third one takes the place of the oldest.
-fn a_third_key_takes_a_place(rt: &impl Abort, beside: &mut Beside) {
-    same(rt, beside.renew(1), (false, true));
-    same(rt, beside.renew(5), (false, true));
-    same(rt, beside.forget(1), true);
-    same(rt, beside.renew(6), (false, true));
-    same(rt, beside.renew(7), (false, true));
-    same(rt, beside.len(), 2);
-    same(rt, beside.pass(6), true);
-    same(rt, beside.forget(6), false);
-    same(rt, beside.forget(5), false);
-    same(rt, beside.renew(8), (false, true));
-    same(rt, beside.renew(8), (true, true));
-    same(rt, beside.len(), 2);
+fn a_third_key_takes_a_place(beside: &mut Beside) -> Result<(), Fail> {
+    same(beside.renew(1), (false, true))?;
+    same(beside.renew(5), (false, true))?;
+    same(beside.forget(1), true)?;
+    same(beside.renew(6), (false, true))?;
+    same(beside.renew(7), (false, true))?;
+    same(beside.len(), 2)?;
+    same(beside.pass(6), true)?;
+    same(beside.forget(6), false)?;
+    same(beside.forget(5), false)?;
+    same(beside.renew(8), (false, true))?;
+    same(beside.renew(8), (true, true))?;
+    same(beside.len(), 2)?;
+    Ok(())
 }
 
 /// A cleared history takes keys again.
-fn cleared(rt: &impl Abort, beside: &mut Beside) {
+fn cleared(beside: &mut Beside) -> Result<(), Fail> {
     beside.clear();
-    same(rt, beside.len(), 0);
-    same(rt, beside.renew(8), (false, true));
-    same(rt, beside.len(), 1);
+    same(beside.len(), 0)?;
+    same(beside.renew(8), (false, true))?;
+    same(beside.len(), 1)?;
+    Ok(())
 }
 
 #[test]
 fn two_keys(rt: HostRuntime) -> Result<(), Fail> {
     let mut beside = Beside::new(rt.alloc(), 2, 100)?;
-    a_third_key_takes_a_place(&rt, &mut beside);
-    cleared(&rt, &mut beside);
+    a_third_key_takes_a_place(&mut beside)?;
+    cleared(&mut beside)?;
     Ok(())
 }
 
@@ -84,7 +85,6 @@ fn follow(list: &mut Vec<u64>, key: u64, drawn: u64, limit: usize) -> Result<(),
 
 /// One call on both.
 fn step(
-    rt: &impl Abort,
     beside: &mut Beside,
     list: &mut Vec<u64>,
     limit: usize,
@@ -94,16 +94,16 @@ fn step(
     let key = (drawn >> 8) % 12;
     let known = take(list, key);
     if let Some(asked) = call(beside, key, drawn) {
-        same_at(rt, asked, (known, true), turn);
+        same_at(asked, (known, true), turn)?;
     }
     follow(list, key, drawn, limit)?;
-    same_at(rt, beside.len(), list.len(), turn);
+    same_at(beside.len(), list.len(), turn)?;
     Ok(())
 }
 
 /// 2,000 calls beside a plain list of keys, newest first. The keys are few, and those with the same
 /// remainder modulo `hashes` have the same hash.
-fn beside_a_list(rt: &impl Abort, alloc: Global, limit: usize, hashes: u64) -> Result<(), Fail>
+fn beside_a_list(alloc: Global, limit: usize, hashes: u64) -> Result<(), Fail>
     requires few { limit < 10 }
     requires some { 0 < hashes }
 {
@@ -111,7 +111,7 @@ fn beside_a_list(rt: &impl Abort, alloc: Global, limit: usize, hashes: u64) -> R
     let mut list: Vec<u64> = Vec::new(alloc);
     for turn in 0..2000u64 {
         let drawn = mixed(turn.wrapping_add(hashes));
-        step(rt, &mut beside, &mut list, limit, turn, drawn)?;
+        step(&mut beside, &mut list, limit, turn, drawn)?;
     }
     Ok(())
 }
@@ -119,10 +119,10 @@ fn beside_a_list(rt: &impl Abort, alloc: Global, limit: usize, hashes: u64) -> R
 #[test]
 fn two_thousand_calls(rt: HostRuntime) -> Result<(), Fail> {
     for hashes in [1, 3, 100] {
-        beside_a_list(&rt, rt.alloc(), 0, hashes)?;
-        beside_a_list(&rt, rt.alloc(), 1, hashes)?;
-        beside_a_list(&rt, rt.alloc(), 2, hashes)?;
-        beside_a_list(&rt, rt.alloc(), 7, hashes)?;
+        beside_a_list(rt.alloc(), 0, hashes)?;
+        beside_a_list(rt.alloc(), 1, hashes)?;
+        beside_a_list(rt.alloc(), 2, hashes)?;
+        beside_a_list(rt.alloc(), 7, hashes)?;
     }
     Ok(())
 }

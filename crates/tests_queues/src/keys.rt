@@ -5,12 +5,12 @@ ghost use Rattle.clock2q_directory.specs.Keys.{is_key_at, with_value};
 ghost use Rattle.clock2q_queues.specs.Rings.{AllBelow};
 ghost use Rattle.clock2q_directory.specs.Indexes.{IsIndex};
 
-use crate::assertions::same;
 use clock2q_count::Count;
 use clock2q_directory::index::index_room;
 use clock2q_directory::keys::Keys;
 use clock2q_handles::Table;
 use std::test::Fail;
+use testing::same;
 
 /// Writes a value through the reference that is lent.
 fn set_value(keys: &mut Keys<u64, u64>, place: u32, value: u64)
@@ -26,21 +26,21 @@ fn two_keys(rt: HostRuntime) -> Result<(), Fail> {
     let mut keys: Keys<u64, u64> = Keys::new(rt.alloc(), 2)?;
     keys.push(7, 70, 700);
     keys.write(1, 8, 80, 800);
-    same(&rt, keys.len(), 2);
-    same(&rt, keys.key_equals(0, &70), true);
-    same(&rt, keys.key_equals(1, &70), false);
-    same(&rt, keys.replace(0, 9, 90), (7, 70));
-    same(&rt, keys.hash(0), 9);
-    same(&rt, *keys.key(0), 90);
-    same(&rt, *keys.value(0), 700);
+    same(keys.len(), 2)?;
+    same(keys.key_equals(0, &70), true)?;
+    same(keys.key_equals(1, &70), false)?;
+    same(keys.replace(0, 9, 90), (7, 70))?;
+    same(keys.hash(0), 9)?;
+    same(*keys.key(0), 90)?;
+    same(*keys.value(0), 700)?;
     set_value(&mut keys, 0, 900);
-    same(&rt, keys.replace_value(0, 901), 900);
+    same(keys.replace_value(0, 901), 900)?;
     keys.write(1, 6, 60, 600);
-    same(&rt, keys.key_equals(1, &60), true);
-    same(&rt, *keys.value(1), 600);
-    same(&rt, *keys.value(0), 901);
+    same(keys.key_equals(1, &60), true)?;
+    same(*keys.value(1), 600)?;
+    same(*keys.value(0), 901)?;
     keys.clear();
-    same(&rt, keys.len(), 0);
+    same(keys.len(), 0)?;
     Ok(())
 }
 
@@ -82,11 +82,11 @@ fn keys_of_one_hash(rt: HostRuntime) -> Result<(), Fail> {
     put(&mut keys, &mut index, 7, 70);
     put(&mut keys, &mut index, 7, 71);
     put(&mut keys, &mut index, 7 + 16, 72);
-    same(&rt, place_of(&mut keys, &index, 7, 70), Some(0));
-    same(&rt, place_of(&mut keys, &index, 7, 71), Some(1));
-    same(&rt, place_of(&mut keys, &index, 7, 73), None);
-    same(&rt, place_of(&mut keys, &index, 7 + 16, 72), Some(2));
-    same(&rt, place_of(&mut keys, &index, 8, 71), None);
+    same(place_of(&mut keys, &index, 7, 70), Some(0))?;
+    same(place_of(&mut keys, &index, 7, 71), Some(1))?;
+    same(place_of(&mut keys, &index, 7, 73), None)?;
+    same(place_of(&mut keys, &index, 7 + 16, 72), Some(2))?;
+    same(place_of(&mut keys, &index, 8, 71), None)?;
     Ok(())
 }
 
@@ -94,12 +94,12 @@ fn keys_of_one_hash(rt: HostRuntime) -> Result<(), Fail> {
 /// a large one for no more.
 #[test]
 fn room_of_an_index(rt: HostRuntime) -> Result<(), Fail> {
-    same(&rt, index_room(0), 0);
-    same(&rt, index_room(1), 3);
-    same(&rt, index_room(16_384), 49_152);
-    same(&rt, index_room(16_385), 32_770);
-    same(&rt, index_room(262_144), 524_288);
-    same(&rt, index_room(262_145), 262_145);
-    same(&rt, index_room(16_777_215), 16_777_215);
+    same(index_room(0), 0)?;
+    same(index_room(1), 3)?;
+    same(index_room(16_384), 49_152)?;
+    same(index_room(16_385), 32_770)?;
+    same(index_room(262_144), 524_288)?;
+    same(index_room(262_145), 262_145)?;
+    same(index_room(16_777_215), 16_777_215)?;
     Ok(())
 }

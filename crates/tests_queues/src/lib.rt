@@ -2,8 +2,6 @@
 #![tactic(auto)]
 
 #[cfg(test)]
-mod assertions;
-#[cfg(test)]
 mod beside;
 #[cfg(test)]
 mod directory;
@@ -12,6 +10,10 @@ mod history;
 #[cfg(test)]
 mod keys;
 #[cfg(test)]
+mod lists;
+#[cfg(test)]
 mod queues;
 #[cfg(test)]
 mod refused;
+#[cfg(test)]
+mod seeded;

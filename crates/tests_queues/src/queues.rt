@@ -1,51 +1,50 @@
-//! The two queues on runs worked out by hand, and beside plain lists.
+//! The two queues on runs worked out by hand.
 ghost use Rattle.std.specs.Prelude.{◌≡◌, ◌+◌, ◌<◌, true, false, [], ◌∷◌, map};
 ghost use Rattle.std.specs.List.{range_with_len};
 ghost use Rattle.clock2q_machine.specs.Ages.{Young, Old};
 
-use crate::assertions::same;
-use clock2q_queues::queues::{Queues, Standing};
-use std::alloc::Global;
-use std::process::Abort;
+use clock2q_queues::queues::Queues;
 use std::test::Fail;
-
-const SLOTS: u32 = 12;
+use testing::same;
 
 /// Admits a slot that is in no queue.
-fn admit(rt: &impl Abort, queues: &mut Queues, slot: u32)
+pub(crate) fn admit(queues: &mut Queues, slot: u32) -> Result<(), Fail>
     requires slot_in { slot < queues.old.slots }
     requires window { 0 < queues.old.window }
     ensures slots { queues.new.slots ≡ queues.old.slots }
     ensures window { queues.new.window ≡ queues.old.window }
 {
-    match queues.standing(slot) {
-        Standing::Free => queues.admit(slot),
-        _ => panic!(rt; "the slot stands in a queue"),
+    if queues.is_resident(slot) {
+        return Err(Fail::from("the slot is in a queue"));
     }
+    queues.admit(slot);
+    Ok(())
 }
 
 /// Puts a slot that is in no queue into Main.
-fn append(rt: &impl Abort, queues: &mut Queues, slot: u32)
+pub(crate) fn append(queues: &mut Queues, slot: u32) -> Result<(), Fail>
     requires slot_in { slot < queues.old.slots }
     ensures slots { queues.new.slots ≡ queues.old.slots }
     ensures window { queues.new.window ≡ queues.old.window }
 {
-    match queues.standing(slot) {
-        Standing::Free => queues.append(slot),
-        _ => panic!(rt; "the slot stands in a queue"),
+    if queues.is_resident(slot) {
+        return Err(Fail::from("the slot is in a queue"));
     }
+    queues.append(slot);
+    Ok(())
 }
 
 /// Hits a slot that is in a queue.
-fn hit(rt: &impl Abort, queues: &mut Queues, slot: u32)
+pub(crate) fn hit(queues: &mut Queues, slot: u32) -> Result<(), Fail>
     requires slot_in { slot < queues.old.slots }
     ensures slots { queues.new.slots ≡ queues.old.slots }
     ensures window { queues.new.window ≡ queues.old.window }
 {
-    match queues.standing(slot) {
-        Standing::Free => panic!(rt; "the slot stands in no queue"),
-        Standing::Small => queues.hit(slot),
-        Standing::Main => queues.hit(slot),
+    if queues.is_resident(slot) {
+        queues.hit(slot);
+        Ok(())
+    } else {
+        Err(Fail::from("the slot is in no queue"))
     }
 }
 
@@ -74,18 +73,15 @@ fn admit_again(queues: &mut Queues)
 fn admissions_count_after_a_removal(rt: HostRuntime) -> Result<(), Fail> {
     let mut queues = Queues::new(rt.alloc(), 4, 2)?;
     admit_again(&mut queues);
-    same(&rt, queues.standing(3), Standing::Small);
-    hit(&rt, &mut queues, 2);
-    same(&rt, queues.small_len(), 4);
-    same(&rt, queues.tail(), Some(0));
-    same(&rt, queues.tail_is_promoted(), false);
+    same(queues.is_resident(3), true)?;
+    hit(&mut queues, 2)?;
+    same(queues.small_len(), 4)?;
+    same(queues.tail_is_promoted(), false)?;
     queues.leave(0);
-    same(&rt, queues.tail(), Some(1));
-    same(&rt, queues.tail_is_promoted(), false);
-    queues.leave(1);
-    same(&rt, queues.tail(), Some(2));
-    same(&rt, queues.tail_is_promoted(), true);
-    Ok(())
+    same(queues.tail_is_promoted(), false)?;
+    same(queues.take_tail(), Some(1))?;
+    same(queues.tail_is_promoted(), true)?;
+    same(queues.take_tail(), Some(2))
 }
 
 /// Slot 3 leaves and is admitted once more, and then slot 0 is. The positions that slot 3 left were
@@ -111,12 +107,11 @@ fn empty_places(queues: &mut Queues)
 fn an_emptied_position_makes_no_slot_old(rt: HostRuntime) -> Result<(), Fail> {
     let mut queues = Queues::new(rt.alloc(), 4, 2)?;
     empty_places(&mut queues);
-    same(&rt, queues.main_len(), 0);
-    same(&rt, queues.take_tail(), Some(1));
-    same(&rt, queues.take_tail(), Some(2));
-    same(&rt, queues.tail(), Some(3));
-    same(&rt, queues.tail_is_promoted(), false);
-    Ok(())
+    same(queues.main_len(), 0)?;
+    same(queues.take_tail(), Some(1))?;
+    same(queues.take_tail(), Some(2))?;
+    same(queues.tail_is_promoted(), false)?;
+    same(queues.take_tail(), Some(3))
 }
 
 /// Puts the slots from 2 to 19 into Main, and hits each.
@@ -149,32 +144,34 @@ fn go_round(queues: &mut Queues) -> u32
 }
 
 /// Main isn't empty, and evicts this slot.
-fn give_up(rt: &impl Abort, queues: &mut Queues, slot: u32)
+fn give_up(queues: &mut Queues, slot: u32) -> Result<(), Fail>
     ensures slots { queues.new.slots ≡ queues.old.slots }
 {
-    assert!(rt; queues.main_len() > 0);
-    same(rt, queues.take_victim(), slot);
+    if queues.main_len() == 0 {
+        return Err(Fail::from("Main is empty"));
+    }
+    same(queues.take_victim(), slot)
 }
 
 #[test]
 fn the_hand_comes_round(rt: HostRuntime) -> Result<(), Fail> {
     let mut queues = Queues::new(rt.alloc(), 20, 1)?;
-    same(&rt, go_round(&mut queues), 2);
-    same(&rt, queues.main_len(), 17);
+    same(go_round(&mut queues), 2)?;
+    same(queues.main_len(), 17)?;
     // Each bit was cleared on the way, and a bit behind a victim stays set.
-    hit(&rt, &mut queues, 3);
-    hit(&rt, &mut queues, 19);
-    give_up(&rt, &mut queues, 4);
-    hit(&rt, &mut queues, 3);
-    same(&rt, queues.main_len(), 16);
+    hit(&mut queues, 3)?;
+    hit(&mut queues, 19)?;
+    give_up(&mut queues, 4)?;
+    hit(&mut queues, 3)?;
+    same(queues.main_len(), 16)?;
     for slot in 5..19 {
-        give_up(&rt, &mut queues, slot);
+        give_up(&mut queues, slot)?;
     }
     // The bits of the last two are set: the hand clears both, and evicts the first.
-    same(&rt, queues.main_len(), 2);
-    give_up(&rt, &mut queues, 19);
-    same(&rt, queues.main_len(), 1);
-    give_up(&rt, &mut queues, 3);
+    same(queues.main_len(), 2)?;
+    give_up(&mut queues, 19)?;
+    same(queues.main_len(), 1)?;
+    give_up(&mut queues, 3)?;
     Ok(())
 }
 
@@ -196,227 +193,11 @@ fn look_twice(queues: &mut Queues) -> u32
 #[test]
 fn a_single_slot_gets_one_more_look(rt: HostRuntime) -> Result<(), Fail> {
     let mut queues = Queues::new(rt.alloc(), 1, 0)?;
-    same(&rt, look_twice(&mut queues), 0);
-    same(&rt, queues.main_len(), 0);
-    append(&rt, &mut queues, 0);
-    same(&rt, queues.main_len(), 1);
+    same(look_twice(&mut queues), 0)?;
+    same(queues.main_len(), 0)?;
+    append(&mut queues, 0)?;
+    same(queues.main_len(), 1)?;
     queues.clear();
-    same(&rt, queues.main_len(), 0);
-    same(&rt, queues.standing(0), Standing::Free);
-    Ok(())
-}
-
-#[derive(Clone, Copy, Drop)]
-struct Entry {
-    slot: u32,
-    age: u32,
-    bit: bool,
-}
-
-/// The two queues as plain lists, Small oldest first. An age that has reached the window is old.
-#[derive(Drop)]
-struct Lists {
-    small: Vec<Entry>,
-    main: Vec<Entry>,
-    window: u32,
-}
-
-impl Lists {
-    fn admit(&mut self, slot: u32) -> Result<(), Fail> {
-        for entry in self.small.iter_mut() {
-            if entry.age < self.window {
-                entry.age += 1;
-                entry.bit = false;
-            }
-        }
-        self.small.push(Entry {
-            slot,
-            age: 0,
-            bit: false,
-        })?;
-        Ok(())
-    }
-
-    fn append(&mut self, slot: u32) -> Result<(), Fail> {
-        self.main.push(Entry {
-            slot,
-            age: 0,
-            bit: false,
-        })?;
-        Ok(())
-    }
-
-    fn leave(&mut self, slot: u32) {
-        self.small.retain(|entry| entry.slot != slot);
-        self.main.retain(|entry| entry.slot != slot);
-    }
-
-    fn hit(&mut self, slot: u32) {
-        for entry in self.small.iter_mut() {
-            if entry.slot == slot && entry.age >= self.window {
-                entry.bit = true;
-            }
-        }
-        for entry in self.main.iter_mut() {
-            if entry.slot == slot {
-                entry.bit = true;
-            }
-        }
-    }
-
-    fn select(&mut self) -> Result<Option<u32>, Fail> {
-        for _ in 0..SLOTS {
-            if let Some(first) = self.main.first().copied() {
-                if !first.bit {
-                    return Ok(Some(first.slot));
-                }
-                self.main.retain(|entry| entry.slot != first.slot);
-                self.main.push(Entry {
-                    bit: false,
-                    ..first
-                })?;
-            }
-        }
-        Ok(self.main.first().map(|entry| entry.slot))
-    }
-
-    fn standing(&self, slot: u32) -> Standing {
-        if self.small.iter().any(|entry| entry.slot == slot) {
-            Standing::Small
-        } else if self.main.iter().any(|entry| entry.slot == slot) {
-            Standing::Main
-        } else {
-            Standing::Free
-        }
-    }
-}
-
-/// Each slot is where the lists have it.
-fn compare(rt: &impl Abort, queues: &mut Queues, lists: &Lists)
-    requires { queues.old.slots ≡ 12 }
-    ensures slots { queues.new.slots ≡ 12 }
-    ensures window { queues.new.window ≡ queues.old.window }
-{
-    for slot in 0..SLOTS {
-        same(rt, queues.standing(slot), lists.standing(slot));
-        let stands = lists.standing(slot) != Standing::Free;
-        same(rt, queues.is_resident(slot), stands);
-    }
-    same(rt, queues.small_len(), lists.small.len());
-    same(rt, queues.main_len(), lists.main.len());
-    let tail = lists.small.first();
-    same(rt, queues.tail(), tail.map(|entry| entry.slot));
-    let promoted = tail.is_some_and(|entry| entry.age >= lists.window && entry.bit);
-    same(rt, queues.tail_is_promoted(), promoted);
-}
-
-/// Small's tail, if there is one, is reused for another key.
-fn reuse_tail(rt: &impl Abort, queues: &mut Queues, lists: &mut Lists) -> Result<(), Fail>
-    requires slots { queues.old.slots ≡ 12 }
-    requires window { 0 < queues.old.window }
-    ensures slots { queues.new.slots ≡ 12 }
-    ensures window { queues.new.window ≡ queues.old.window }
-{
-    if queues.small_len() > 0 {
-        let tail = queues.reuse_tail();
-        assert!(rt; lists.small.first().map(|entry| entry.slot) == Some(tail));
-        lists.leave(tail);
-        lists.admit(tail)?;
-    }
-    Ok(())
-}
-
-/// Main's victim, if there is one, is reused for another key.
-fn reuse_victim(rt: &impl Abort, queues: &mut Queues, lists: &mut Lists) -> Result<(), Fail>
-    requires slots { queues.old.slots ≡ 12 }
-    requires window { 0 < queues.old.window }
-    ensures slots { queues.new.slots ≡ 12 }
-    ensures window { queues.new.window ≡ queues.old.window }
-{
-    if queues.main_len() > 0 {
-        let victim = queues.reuse_victim();
-        assert!(rt; lists.select()? == Some(victim));
-        lists.leave(victim);
-        lists.append(victim)?;
-    }
-    Ok(())
-}
-
-/// One step of a run: an admission, in place of Small's tail if Small is full, a slot put into
-/// Main, a slot that leaves, a hit, an eviction from Main, or Small's tail or Main's victim reused.
-fn step(
-    rt: &impl Abort,
-    queues: &mut Queues,
-    lists: &mut Lists,
-    small: usize,
-    random: u32,
-) -> Result<(), Fail>
-    requires slots { queues.old.slots ≡ 12 }
-    requires window { 0 < queues.old.window }
-    ensures slots { queues.new.slots ≡ 12 }
-    ensures window { queues.new.window ≡ queues.old.window }
-{
-    let slot = random / 9 % SLOTS;
-    let free = queues.standing(slot) == Standing::Free;
-    match random % 9 {
-        0..4 if free => {
-            if queues.small_len() >= small {
-                let tail = queues.take_tail().expect(rt, "Small is full");
-                lists.leave(tail);
-            }
-            admit(rt, queues, slot);
-            lists.admit(slot)?;
-        }
-        4 if free => {
-            append(rt, queues, slot);
-            lists.append(slot)?;
-        }
-        5 => {
-            queues.leave(slot);
-            lists.leave(slot);
-        }
-        6 if queues.main_len() > 0 => {
-            let victim = queues.take_victim();
-            assert!(rt; lists.select()? == Some(victim));
-            lists.leave(victim);
-        }
-        7 => reuse_tail(rt, queues, lists)?,
-        8 => reuse_victim(rt, queues, lists)?,
-        _ if !free => {
-            hit(rt, queues, slot);
-            lists.hit(slot);
-        }
-        _ => {}
-    }
-    Ok(())
-}
-
-fn seeded_run(rt: &impl Abort, alloc: Global, small: usize, window: u32) -> Result<(), Fail>
-    requires { 0 < window }
-{
-    let mut queues = Queues::new(alloc, SLOTS, window)?;
-    let mut lists = Lists {
-        small: Vec::new(alloc),
-        main: Vec::new(alloc),
-        window,
-    };
-    let mut seed: u64 = 1;
-    for _ in 0..2000 {
-        seed = seed
-            .wrapping_mul(6364136223846793005)
-            .wrapping_add(1442695040888963407);
-        step(rt, &mut queues, &mut lists, small, (seed >> 33) as u32)?;
-        compare(rt, &mut queues, &lists);
-    }
-    Ok(())
-}
-
-#[test]
-fn seeded_runs_match_plain_lists(rt: HostRuntime) -> Result<(), Fail> {
-    for (small, windows) in [(1, 1), (2, 2), (5, 5)] {
-        for window in 1..=windows {
-            seeded_run(&rt, rt.alloc(), small, window)?;
-        }
-    }
-    Ok(())
+    same(queues.main_len(), 0)?;
+    same(queues.is_resident(0), false)
 }

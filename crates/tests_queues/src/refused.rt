@@ -1,14 +1,12 @@
 //! Queues and directories whose requests for memory are refused.
 ghost use Rattle.std.specs.Prelude.{◌≡◌, []};
 
-use crate::assertions::{same, same_at};
 use crate::beside::Beside;
 use clock2q_directory::directory::Directory;
 use clock2q_queues::queues::Queues;
 use std::alloc::{AllocError, Global};
-use std::process::Abort;
 use std::test::Fail;
-use testing::{Refusing, Tried, try_in_turn};
+use testing::{Refusing, Tried, same, same_at, try_in_turn};
 
 /// Makes queues, and returns the number of slots in Small and whether memory is held for them.
 fn new_queues(alloc: &Refusing<Global>) -> Result<(usize, bool), AllocError> {
@@ -21,8 +19,8 @@ fn new_queues(alloc: &Refusing<Global>) -> Result<(usize, bool), AllocError> {
 fn queues(rt: HostRuntime) -> Result<(), Fail> {
     let alloc = Refusing::new(rt.alloc());
     let tried = try_in_turn(&alloc, (0, true), AllocError, || new_queues(&alloc));
-    same(&rt, tried, Tried::Done(3));
-    same(&rt, alloc.held(), 0);
+    same(tried, Tried::Done(3))?;
+    same(alloc.held(), 0)?;
     Ok(())
 }
 
@@ -49,8 +47,8 @@ fn directories(rt: HostRuntime) -> Result<(), Fail> {
             AllocError,
             || new_directory(&alloc, limit),
         );
-        same_at(&rt, tried, Tried::Done(requests), limit);
-        same_at(&rt, alloc.held(), 0, limit);
+        same_at(tried, Tried::Done(requests), limit)?;
+        same_at(alloc.held(), 0, limit)?;
     }
     Ok(())
 }
@@ -77,24 +75,24 @@ fn pass_through(queues: &mut Queues<&Refusing<Global>>)
 }
 
 /// Only the slot that is admitted last is left.
-fn pass_and_look(rt: &impl Abort, queues: &mut Queues<&Refusing<Global>>)
+fn pass_and_look(queues: &mut Queues<&Refusing<Global>>) -> Result<(), Fail>
     requires slots { queues.old.slots ≡ 4 }
     requires window { queues.old.window ≡ 2 }
     requires small { queues.old.small ≡ [] }
     requires main { queues.old.main ≡ [] }
 {
     pass_through(queues);
-    same(rt, queues.tail(), Some(3));
-    same(rt, queues.small_len(), 1);
-    same(rt, queues.main_len(), 0);
+    same(queues.small_len(), 1)?;
+    same(queues.main_len(), 0)?;
+    same(queues.take_tail(), Some(3))?;
+    Ok(())
 }
 
 /// Once made, queues request no memory and give none back.
 fn pass_with_all_refused(
-    rt: &impl Abort,
     alloc: &Refusing<Global>,
     queues: &mut Queues<&Refusing<Global>>,
-)
+) -> Result<(), Fail>
     requires slots { queues.old.slots ≡ 4 }
     requires window { queues.old.window ≡ 2 }
     requires small { queues.old.small ≡ [] }
@@ -103,57 +101,60 @@ fn pass_with_all_refused(
     let asked = alloc.requests();
     let held = alloc.held();
     alloc.refuse_after(0);
-    pass_and_look(rt, queues);
-    same(rt, alloc.requests(), asked);
-    same(rt, alloc.held(), held);
+    pass_and_look(queues)?;
+    same(alloc.requests(), asked)?;
+    same(alloc.held(), held)?;
+    Ok(())
 }
 
 #[test]
 fn queues_ask_for_nothing_more(rt: HostRuntime) -> Result<(), Fail> {
     let alloc = Refusing::new(rt.alloc());
     let mut queues = Queues::new(&alloc, 4, 2)?;
-    pass_with_all_refused(&rt, &alloc, &mut queues);
+    pass_with_all_refused(&alloc, &mut queues)?;
     Ok(())
 }
 
 /// More keys than fit, each with the same hash as others.
-fn fill_and_forget(rt: &impl Abort, beside: &mut Beside<&Refusing<Global>>) {
+fn fill_and_forget(beside: &mut Beside<&Refusing<Global>>) -> Result<(), Fail> {
     for key in 0..20 {
-        same_at(rt, beside.renew(key), (false, true), key);
+        same_at(beside.renew(key), (false, true), key)?;
     }
-    same(rt, beside.len(), 7);
-    assert!(rt; beside.forget(15));
-    assert!(rt; !beside.forget(12));
-    same(rt, beside.renew(13), (true, true));
-    same(rt, beside.len(), 6);
+    same(beside.len(), 7)?;
+    same(beside.forget(15), true)?;
+    same(beside.forget(12), false)?;
+    same(beside.renew(13), (true, true))?;
+    same(beside.len(), 6)?;
+    Ok(())
 }
 
 /// A key that is forgotten is new again.
-fn clear_and_renew(rt: &impl Abort, beside: &mut Beside<&Refusing<Global>>) {
+fn clear_and_renew(beside: &mut Beside<&Refusing<Global>>) -> Result<(), Fail> {
     beside.clear();
-    same(rt, beside.renew(13), (false, true));
-    same(rt, beside.len(), 1);
+    same(beside.renew(13), (false, true))?;
+    same(beside.len(), 1)?;
+    Ok(())
 }
 
 /// Once made, a directory requests no memory and gives none back.
 fn renew_with_all_refused(
-    rt: &impl Abort,
     alloc: &Refusing<Global>,
     beside: &mut Beside<&Refusing<Global>>,
-) {
+) -> Result<(), Fail> {
     let asked = alloc.requests();
     let held = alloc.held();
     alloc.refuse_after(0);
-    fill_and_forget(rt, beside);
-    clear_and_renew(rt, beside);
-    same(rt, alloc.requests(), asked);
-    same(rt, alloc.held(), held);
+    fill_and_forget(beside)?;
+    clear_and_renew(beside)?;
+    same(alloc.requests(), asked)?;
+    same(alloc.held(), held)?;
+    Ok(())
 }
 
 #[test]
 fn directories_ask_for_nothing_more(rt: HostRuntime) -> Result<(), Fail> {
     let alloc = Refusing::new(rt.alloc());
     let mut beside = Beside::new(&alloc, 7, 3)?;
-    renew_with_all_refused(&rt, &alloc, &mut beside);
+    renew_with_all_refused(&alloc, &mut beside)?;
     Ok(())
 }

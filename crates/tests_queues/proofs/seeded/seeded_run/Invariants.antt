@@ -1,0 +1,5 @@
+use Rattle.std.proofs.Common.{◌≡◌, ◌<◌}
+use Rattle.tests_queues.proofs.seeded.seeded_run.Given as goal
+
+abbrev pub invariant-loop : goal.invariant-loop
+invariant-loop l = (l.queues.slots ≡ 12) × (0 < l.queues.window)
