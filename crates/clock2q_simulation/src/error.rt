@@ -80,7 +80,7 @@ pub enum SimulationError {
     #[error("clock2q-simulate: an argument is not in UTF-8")]
     NotText,
     /// No argument is a capacity.
-    #[error("clock2q-simulate: no capacity (--help tells what to write)")]
+    #[error("clock2q-simulate: no capacity (see --help)")]
     NoCapacity,
     /// Shares are chosen for Clock2Q+, but it isn't among the policies.
     #[error("clock2q-simulate: --shares: shares of clock2q, which --policies leaves out")]

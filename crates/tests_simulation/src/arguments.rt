@@ -110,8 +110,8 @@ fn refused_capacities(rt: HostRuntime) -> Result<(), Fail> {
 
 /// Arguments with an option that is refused, and the message.
 const REFUSED_OPTIONS: [(&str, &str); 22] = [
-    ("", "no capacity (--help tells what to write)"),
-    ("--csv", "no capacity (--help tells what to write)"),
+    ("", "no capacity (see --help)"),
+    ("--csv", "no capacity (see --help)"),
     ("--csv --svg 5", "--svg: a second form beside another one"),
     ("--csv 5 --csv", "--csv: option given twice"),
     ("--helpless 5", "--helpless: unknown option"),
