@@ -1,6 +1,7 @@
 pub mod CacheInvariant
 pub mod Changed
 pub mod Charged
+pub mod Evicting
 pub mod Fetched
 pub mod Filled
 pub mod Finding

@@ -6,6 +6,8 @@ use Rattle.clock2q_cache.proofs.Changed.{known-any}
 use Rattle.clock2q_cache.proofs.Finding.{none-has, counted-map}
 use Rattle.clock2q_cache.proofs.Insertions.{no_last}
 use Rattle.clock2q_machine.specs.Entries as machine
+use Rattle.clock2q_machine.specs.Leaving.{first_of, leaves_for_small}
+use Rattle.clock2q_cache.specs.Insertions.{leaves_placed}
 use Rattle.clock2q_cache.proofs.WithKeys.{keys-cons, small-admitted, main-behind, small_with, main_with, keys-agree, small-take, small-last, main-from_victim}
 use Rattle.clock2q_cache.proofs.Stored.{stored-renewed, hash-of-key}
 use Rattle.clock2q_cache.proofs.Slots.{small_have, main_have, apart, times, times-cons, times-none, has-times, times-both, times-pushed, times-admitted, length-admitted, stored-moved, at_most_once, length-places, length-swept}
@@ -108,6 +110,10 @@ module _ {K V : Type 0} {eq : K → K → Bool} {hash : K → ℕ} {shares : Sha
     choice = main-from_victim (key_at keys.entries) q.main (main_have laws kept)
         ∙ ap (λ z. with_keys_main (key_at keys.entries) z) swept ∙ keys-cons main_with (key_at keys.entries) (victim, false) rest victim_key.0 victim_key.1
 
+    -- the resident that leaves is the one at its slot
+    pub victim-leaves : (k : K) → key_at keys.entries victim ≡ Some k → first_of (machine.from_victim m.main) ≡ Some (k, victim)
+    victim-leaves k is = ap first_of choice ∙ ap (λ z. Some (z, victim)) (some_is victim_key.0 k (sym victim_key.1 ∙ is))
+
   -- Small's tail
   module _ (tail : ℕ) (last : last_or None (slots_of q.small) ≡ Some tail) where
     pub tail_at : (x : Age) × (last_or None q.small ≡ Some (tail, x))
@@ -181,6 +187,20 @@ module _ {K V : Type 0} {eq : K → K → Bool} {hash : K → ℕ} {shares : Sha
         let own : cond (eq old_key tail_key.0) 1 0 ≡ 1 =
         ap {B = ℕ} (λ b. cond b 1 0) (subst (λ z. eq old_key z ≡ true) (sym (tail_is old_key key_is)) (laws.refl old_key)) in
         known-any (eq old_key) h.entries ∙ none-has (eq old_key) m.history (omega (arith, kept.whole.keys_once old_key, w, own))
+
+    -- who leaves for a key that enters a full Small
+    leaves-by : vacancy m ≡ None → (b : Bool) → IfSome (last_or None m.small) (λ tail. is_promoted tail.age ≡ b)
+        → leaves_placed false m ≡ (if b then first_of (machine.from_victim m.main) else Some (tail_key.0, tail))
+    leaves-by none b at =
+        let goes : is_promoted tail_at.0 ≡ b = subst (λ z. IfSome z (λ tail. is_promoted tail.age ≡ b)) last_entry at in
+        ap (λ v. leaves_for_small v (last_or None m.small) m.main) none ∙ ap (λ t. leaves_for_small None t m.main) last_entry
+        ∙ ap (λ z. if z then first_of (machine.from_victim m.main) else Some (tail_key.0, tail)) goes
+
+    pub tail-goes_on : vacancy m ≡ None → IfSome (last_or None m.small) (λ tail. is_promoted tail.age ≡ true) → leaves_placed false m ≡ first_of (machine.from_victim m.main)
+    tail-goes_on none on = leaves-by none true on
+
+    pub tail-leaves : (k : K) → key_at keys.entries tail ≡ Some k → vacancy m ≡ None → IfSome (last_or None m.small) (λ tail. is_promoted tail.age ≡ false) → leaves_placed false m ≡ Some (k, tail)
+    tail-leaves k is none out = leaves-by none false out ∙ ap (λ z. Some (z, tail)) (tail_is k is)
 
     -- where a key then goes
     abbrev onto : K → Bool → Placement K V

@@ -1,6 +1,6 @@
 -- The keys by slot and their index, after a key enters or replaces another.
-use Rattle.std.proofs.Common.{◌≡◌, ℕ, zero, suc, ◌+◌, ◌^◌, ◌<◌, ◌≤◌, true, false, ◌&&◌, eqb, Some, None, List, [], ◌∷◌, length, inl, inr, refl, sym, ap, ◌∙◌, subst, arith, eqb-true}
-use Rattle.clock2q_cache.proofs.Names.{slice_set, AllByRecursion, cases_Bool, total, capacity, with_handle, removed, Entry, has, without, AllApart, AllBelow, entry, written, with_key, hash_at, key_at, IsIndex, is_named, eqb_self, below_of, has-without, has-without_test, below-has, below-more, and_true, and_false, some_is, length-written, slice_get_some, set-written, all-written, value-there, hash_at-own, hash_at-others, IsIndex-put, IsIndex-taken, length-taken, IsStored, Writes}
+use Rattle.std.proofs.Common.{◌≡◌, ℕ, zero, suc, ◌<◌, ◌≤◌, true, false, ◌&&◌, eqb, Some, None, List, [], ◌∷◌, length, inl, inr, refl, sym, ap, ◌∙◌, subst, arith, eqb-true}
+use Rattle.clock2q_cache.proofs.Names.{AllByRecursion, cases_Bool, with_handle, removed, Entry, has, without, AllApart, AllBelow, entry, written, hash_at, key_at, is_named, eqb_self, below_of, has-without, has-without_test, below-has, below-more, and_true, and_false, some_is, length-written, slice_get_some, all-written, hash_at-own, hash_at-others, IsIndex-put, IsIndex-taken, length-taken, IsStored}
 use Rattle.clock2q_queues.proofs.Joining.{length-without}
 use Rattle.clock2q_cache.proofs.WithKeys.{HaveKeys}
 

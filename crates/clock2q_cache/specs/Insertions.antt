@@ -1,12 +1,15 @@
 -- Where a key that is not known is inserted: the number of inspections by the hand, and the value that its slot then
 -- has. No public clause cites this file.
-use Rattle.std.specs.Prelude.{◌≡◌, ℕ, Bool, not, ◌&&◌, ◌==◌, if◌then◌else◌, nat_lt, length, Option, None, is_some}
+use Rattle.std.specs.Prelude.{◌≡◌, ℕ, Bool, not, ◌&&◌, ◌==◌, if◌then◌else◌, nat_lt, length, Option, Some, None, MatchOption, is_some}
+use Rattle.std.specs.Borrow.{Bor}
+use Rattle.std.specs.Fn.{Once, FnOnceReturnsAt}
 use Rattle.std.specs.List.{last_or}
 use Rattle.clock2q_machine.specs.Shares.{main_share}
 use Rattle.clock2q_machine.specs.Entries.{inspections}
 use Rattle.clock2q_directory.specs.Keys.{IsValueFor}
 use Rattle.clock2q_machine.specs.Machine.{Machine, Placement, vacancy, into_main, into_small, stored}
 use Rattle.clock2q_machine.specs.Bounds.{goes_on}
+use Rattle.clock2q_machine.specs.Leaving.{leaves_for_main, leaves_for_small}
 
 module _ {K V : Type 0} where
   -- for a key that enters Main
@@ -39,3 +42,12 @@ module _ {K V : Type 0} where
   -- whether a slot is made for the key: none is free, and it takes no other key's
   abbrev pub makes_slot : Bool → Machine K V → Bool
   makes_slot main m = next_is_vacant m && not (main && (length m.main == main_share m.shares))
+
+  -- the resident that leaves then
+  abbrev pub leaves_placed : Bool → Machine K V → Option (K × ℕ)
+  leaves_placed main m = if main then leaves_for_main m else leaves_for_small (vacancy m) (last_or None m.small) m.main
+
+module _ {F K R : Type 0} (g : Once F (Bor K × Unit {0}) R) (f : F) where
+  -- the closure was called with the key that left this slot, and returned the note; without a note none left
+  pub record Notes (leaver : Option (K × ℕ)) (slot : ℕ) (note : Option R) : Type 0 where
+    pub noted : MatchOption note (leaver ≡ None) (λ n. (key : K) × (leaver ≡ Some (key, slot)) × FnOnceReturnsAt g f key n)

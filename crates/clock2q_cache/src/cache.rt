@@ -3,6 +3,7 @@
 mod clearing;
 mod construction;
 mod debug;
+mod evicting;
 mod fetching;
 mod filling;
 mod insertion;

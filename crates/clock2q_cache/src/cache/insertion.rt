@@ -20,7 +20,8 @@ impl<K: Hash + Eq + Drop, V: Drop, S: BuildHasher, A: Allocator> Cache<K, V, S, 
     ghost use Rattle.clock2q_cache.specs.Hashes.{hash_of};
     ghost use Rattle.clock2q_cache.specs.Closures.{Reuses};
     ghost use Rattle.clock2q_cache.specs.Places.{Reindexes, entered, out_of, out_of_small, discarded};
-    ghost use Rattle.clock2q_cache.specs.Insertions.{Fills, placed, placed_inspections, makes_slot, next_is_vacant, main_inspections, small_inspections};
+    ghost use Rattle.clock2q_cache.specs.Insertions.{Fills, Notes, placed, placed_inspections, makes_slot, next_is_vacant, main_inspections, small_inspections, leaves_placed};
+    ghost use Rattle.clock2q_machine.specs.Leaving.{leaves_for_main};
     ghost use Rattle.clock2q_machine.specs.Machine.{slot_of, vacancy, goes_to_main, into_main, into_small, forgotten, placement, inserted};
 
     /// Inserts a key that is not resident. If the history has it, it is there at `place`.
@@ -35,7 +36,7 @@ impl<K: Hash + Eq + Drop, V: Drop, S: BuildHasher, A: Allocator> Cache<K, V, S, 
     {
         let known = self.forget(hash, &key, place);
         let main = self.admits_to_main(known);
-        self.insert_unknown(hash, key, Some(value), main)
+        self.insert_unknown(hash, key, Some(value), main, |_| ()).0
     }
 
     /// Inserts a key that is not resident, whether or not the history has it. A slot that was made
@@ -57,30 +58,40 @@ impl<K: Hash + Eq + Drop, V: Drop, S: BuildHasher, A: Allocator> Cache<K, V, S, 
         let known = self.forget(hash, &key, place);
         let main = self.admits_to_main(known);
         let value = self.makes_slot(main).then(make);
-        self.insert_unknown(hash, key, value, main)
+        self.insert_unknown(hash, key, value, main, |_| ()).0
     }
 
-    /// Inserts a key that is not known into Main or into Small.
-    fn insert_unknown(&mut self, hash: u64, key: K, value: Option<V>, main: bool) -> u32
+    /// Inserts a key that is not known into Main or into Small. If a resident leaves, `leaves` is
+    /// called with its key, and what it returns comes back beside the slot.
+    pub(super) fn insert_unknown<R, F: FnOnce(&K) -> R>(
+        &mut self,
+        hash: u64,
+        key: K,
+        value: Option<V>,
+        main: bool,
+        leaves: F,
+    ) -> (u32, Option<R>)
+        requires callable { F.IsAlwaysCallable leaves }
         requires hash { hash ≡ hash_of S.BuildHasher S.Hasher.Hasher self.old.hasher (K.hash_input key) }
         requires absent { known_count (K.eq key) self.old.machine ≡ 0 }
         requires small { main ≡ false → goes_to_main false self.old.machine ≡ false }
         requires had { IfNone value ((placed main key self.old.machine).slot < length self.old.machine.values) }
-        ensures slot { result ≡ (placed main key self.old.machine).slot }
+        ensures slot { result.0 ≡ (placed main key self.old.machine).slot }
         ensures machine { Fills value (placed main key self.old.machine) self.old.machine self.new.machine }
-        ensures indexes { Reindexes (λ k. hash_of S.BuildHasher S.Hasher.Hasher self.old.hasher (K.hash_input k)) key result (out_of main self.old.machine) self.old self.new }
+        ensures indexes { Reindexes (λ k. hash_of S.BuildHasher S.Hasher.Hasher self.old.hasher (K.hash_input k)) key result.0 (out_of main self.old.machine) self.old self.new }
         ensures hasher { self.new.hasher ≡ self.old.hasher }
+        ensures left { Notes F.FnOnce leaves (leaves_placed main self.old.machine) result.0 result.1 }
         ensures counts { Spends (placed_inspections main self.old.machine) (placed_inspections main self.old.machine + 29) 0 self.old.counts self.new.counts }
     {
         if main {
-            self.insert_into_main(hash, key, value)
+            self.insert_into_main(hash, key, value, leaves)
         } else {
-            self.insert_into_small(hash, key, value)
+            self.insert_into_small(hash, key, value, leaves)
         }
     }
 
     /// Returns true if a slot is made for a key that goes into Main or into Small.
-    fn makes_slot(&self, main: bool) -> bool
+    pub(super) fn makes_slot(&self, main: bool) -> bool
         ensures makes { result ≡ makes_slot main self.now.machine }
         ensures whole { IsWhole K.eq self.now.machine }
     {
@@ -111,7 +122,7 @@ impl<K: Hash + Eq + Drop, V: Drop, S: BuildHasher, A: Allocator> Cache<K, V, S, 
     }
 
     /// Returns true if a key enters Main. `known` is true if it was in the history.
-    fn admits_to_main(&self, known: bool) -> bool
+    pub(super) fn admits_to_main(&self, known: bool) -> bool
         ensures { result ≡ goes_to_main known self.now.machine }
     {
         if known {
@@ -127,37 +138,53 @@ impl<K: Hash + Eq + Drop, V: Drop, S: BuildHasher, A: Allocator> Cache<K, V, S, 
 
     /// Inserts a key into Main: in the slot of Main's victim if Main is full, otherwise in a free
     /// slot.
-    fn insert_into_main(&mut self, hash: u64, key: K, value: Option<V>) -> u32
+    fn insert_into_main<R, F: FnOnce(&K) -> R>(
+        &mut self,
+        hash: u64,
+        key: K,
+        value: Option<V>,
+        leaves: F,
+    ) -> (u32, Option<R>)
+        requires callable { F.IsAlwaysCallable leaves }
         requires hash { hash ≡ hash_of S.BuildHasher S.Hasher.Hasher self.old.hasher (K.hash_input key) }
         requires absent { known_count (K.eq key) self.old.machine ≡ 0 }
         requires had { IfNone value ((into_main key self.old.machine).slot < length self.old.machine.values) }
-        ensures slot { result ≡ (into_main key self.old.machine).slot }
+        ensures slot { result.0 ≡ (into_main key self.old.machine).slot }
         ensures machine { Fills value (into_main key self.old.machine) self.old.machine self.new.machine }
-        ensures indexes { Reindexes (λ k. hash_of S.BuildHasher S.Hasher.Hasher self.old.hasher (K.hash_input k)) key result None self.old self.new }
+        ensures indexes { Reindexes (λ k. hash_of S.BuildHasher S.Hasher.Hasher self.old.hasher (K.hash_input k)) key result.0 None self.old self.new }
         ensures hasher { self.new.hasher ≡ self.old.hasher }
+        ensures left { Notes F.FnOnce leaves (leaves_for_main self.old.machine) result.0 result.1 }
         ensures counts { Spends (main_inspections self.old.machine) (main_inspections self.old.machine + 28) 0 self.old.counts self.new.counts }
     {
         if self.queues.main_len() == self.shares.main() {
-            self.replace_victim(hash, key, value)
+            self.replace_victim(hash, key, value, leaves)
         } else {
-            self.join_main(hash, key, value)
+            (self.join_main(hash, key, value), None)
         }
     }
 
     /// Inserts a key into a full Main, in place of its victim.
-    fn replace_victim(&mut self, hash: u64, key: K, value: Option<V>) -> u32
+    fn replace_victim<R, F: FnOnce(&K) -> R>(
+        &mut self,
+        hash: u64,
+        key: K,
+        value: Option<V>,
+        leaves: F,
+    ) -> (u32, Option<R>)
+        requires callable { F.IsAlwaysCallable leaves }
         requires hash { hash ≡ hash_of S.BuildHasher S.Hasher.Hasher self.old.hasher (K.hash_input key) }
         requires absent { known_count (K.eq key) self.old.machine ≡ 0 }
         requires full { length self.old.machine.main ≡ main_share self.old.machine.shares }
-        ensures slot { result ≡ (into_main key self.old.machine).slot }
+        ensures slot { result.0 ≡ (into_main key self.old.machine).slot }
         ensures machine { Fills value (into_main key self.old.machine) self.old.machine self.new.machine }
-        ensures indexes { Reindexes (λ k. hash_of S.BuildHasher S.Hasher.Hasher self.old.hasher (K.hash_input k)) key result None self.old self.new }
+        ensures indexes { Reindexes (λ k. hash_of S.BuildHasher S.Hasher.Hasher self.old.hasher (K.hash_input k)) key result.0 None self.old self.new }
         ensures hasher { self.new.hasher ≡ self.old.hasher }
+        ensures left { Notes F.FnOnce leaves (leaves_for_main self.old.machine) result.0 result.1 }
         ensures counts { Spends (inspections self.old.machine.main) (inspections self.old.machine.main + 28) 0 self.old.counts self.new.counts }
     {
         let victim = self.queues.reuse_victim();
-        self.directory.renew(victim, hash, key, value);
-        victim
+        let old = self.directory.renew(victim, hash, key, value);
+        (victim, Some(leaves(&old.1)))
     }
 
     /// Inserts a key into Main, which has room, at a vacancy.
@@ -180,23 +207,31 @@ impl<K: Hash + Eq + Drop, V: Drop, S: BuildHasher, A: Allocator> Cache<K, V, S, 
 
     /// Inserts a key into Small: in a free slot if there is one, otherwise in the slot of Small's
     /// tail or of Main's victim.
-    fn insert_into_small(&mut self, hash: u64, key: K, value: Option<V>) -> u32
+    fn insert_into_small<R, F: FnOnce(&K) -> R>(
+        &mut self,
+        hash: u64,
+        key: K,
+        value: Option<V>,
+        leaves: F,
+    ) -> (u32, Option<R>)
+        requires callable { F.IsAlwaysCallable leaves }
         requires hash { hash ≡ hash_of S.BuildHasher S.Hasher.Hasher self.old.hasher (K.hash_input key) }
         requires absent { known_count (K.eq key) self.old.machine ≡ 0 }
         requires small { goes_to_main false self.old.machine ≡ false }
         requires had { IfNone value ((into_small key self.old.machine).slot < length self.old.machine.values) }
-        ensures slot { result ≡ (into_small key self.old.machine).slot }
+        ensures slot { result.0 ≡ (into_small key self.old.machine).slot }
         ensures machine { Fills value (into_small key self.old.machine) self.old.machine self.new.machine }
-        ensures indexes { Reindexes (λ k. hash_of S.BuildHasher S.Hasher.Hasher self.old.hasher (K.hash_input k)) key result (out_of_small self.old.machine) self.old self.new }
+        ensures indexes { Reindexes (λ k. hash_of S.BuildHasher S.Hasher.Hasher self.old.hasher (K.hash_input k)) key result.0 (out_of_small self.old.machine) self.old self.new }
         ensures hasher { self.new.hasher ≡ self.old.hasher }
+        ensures left { Notes F.FnOnce leaves (leaves_placed false self.old.machine) result.0 result.1 }
         ensures counts { Spends (small_inspections self.old.machine) (small_inspections self.old.machine + 29) 0 self.old.counts self.new.counts }
     {
         if self.has_vacancy() {
-            self.join_small(hash, key, value)
+            (self.join_small(hash, key, value), None)
         } else if self.tail_is_promoted() {
-            self.promote_tail(hash, key, value)
+            self.promote_tail(hash, key, value, leaves)
         } else {
-            self.evict_tail(hash, key, value)
+            self.evict_tail(hash, key, value, leaves)
         }
     }
 
@@ -231,34 +266,51 @@ impl<K: Hash + Eq + Drop, V: Drop, S: BuildHasher, A: Allocator> Cache<K, V, S, 
     }
 
     /// Inserts a key into Small in the slot of its tail, which is evicted and remembered.
-    fn evict_tail(&mut self, hash: u64, key: K, value: Option<V>) -> u32
+    fn evict_tail<R, F: FnOnce(&K) -> R>(
+        &mut self,
+        hash: u64,
+        key: K,
+        value: Option<V>,
+        leaves: F,
+    ) -> (u32, Option<R>)
+        requires callable { F.IsAlwaysCallable leaves }
         requires hash { hash ≡ hash_of S.BuildHasher S.Hasher.Hasher self.old.hasher (K.hash_input key) }
         requires absent { known_count (K.eq key) self.old.machine ≡ 0 }
         requires some { 0 < length self.old.machine.small }
         requires full { vacancy self.old.machine ≡ None }
         requires out { IfSome (last_or None self.old.machine.small) (λ tail. is_promoted tail.age ≡ false) }
-        ensures slot { result ≡ (into_small key self.old.machine).slot }
+        ensures slot { result.0 ≡ (into_small key self.old.machine).slot }
         ensures machine { Fills value (into_small key self.old.machine) self.old.machine self.new.machine }
-        ensures indexes { Reindexes (λ k. hash_of S.BuildHasher S.Hasher.Hasher self.old.hasher (K.hash_input k)) key result (option_map (λ tail. tail.key) (last_or None self.old.machine.small)) self.old self.new }
+        ensures indexes { Reindexes (λ k. hash_of S.BuildHasher S.Hasher.Hasher self.old.hasher (K.hash_input k)) key result.0 (option_map (λ tail. tail.key) (last_or None self.old.machine.small)) self.old self.new }
         ensures hasher { self.new.hasher ≡ self.old.hasher }
+        ensures left { Notes F.FnOnce leaves (leaves_placed false self.old.machine) result.0 result.1 }
         ensures counts { Spends 0 28 0 self.old.counts self.new.counts }
     {
         let tail = self.queues.reuse_tail();
+        let left = leaves(self.directory.key(tail));
         self.directory.remember(tail, hash, key, value);
-        tail
+        (tail, Some(left))
     }
 
     /// Inserts a key into Small in the slot of Main's victim, while Small's tail moves on to Main.
-    fn promote_tail(&mut self, hash: u64, key: K, value: Option<V>) -> u32
+    fn promote_tail<R, F: FnOnce(&K) -> R>(
+        &mut self,
+        hash: u64,
+        key: K,
+        value: Option<V>,
+        leaves: F,
+    ) -> (u32, Option<R>)
+        requires callable { F.IsAlwaysCallable leaves }
         requires hash { hash ≡ hash_of S.BuildHasher S.Hasher.Hasher self.old.hasher (K.hash_input key) }
         requires absent { known_count (K.eq key) self.old.machine ≡ 0 }
         requires some { 0 < length self.old.machine.small }
         requires full { vacancy self.old.machine ≡ None }
         requires on { IfSome (last_or None self.old.machine.small) (λ tail. is_promoted tail.age ≡ true) }
-        ensures slot { result ≡ (into_small key self.old.machine).slot }
+        ensures slot { result.0 ≡ (into_small key self.old.machine).slot }
         ensures machine { Fills value (into_small key self.old.machine) self.old.machine self.new.machine }
-        ensures indexes { Reindexes (λ k. hash_of S.BuildHasher S.Hasher.Hasher self.old.hasher (K.hash_input k)) key result None self.old self.new }
+        ensures indexes { Reindexes (λ k. hash_of S.BuildHasher S.Hasher.Hasher self.old.hasher (K.hash_input k)) key result.0 None self.old self.new }
         ensures hasher { self.new.hasher ≡ self.old.hasher }
+        ensures left { Notes F.FnOnce leaves (leaves_placed false self.old.machine) result.0 result.1 }
         ensures counts { Spends (inspections self.old.machine.main) (inspections self.old.machine.main + 28) 0 self.old.counts self.new.counts }
     {
         let slot = self.queues.take_victim();
@@ -267,8 +319,8 @@ impl<K: Hash + Eq + Drop, V: Drop, S: BuildHasher, A: Allocator> Cache<K, V, S, 
             unreachable!()
         };
         self.queues.append(tail);
-        self.directory.renew(slot, hash, key, value);
+        let old = self.directory.renew(slot, hash, key, value);
         self.queues.admit(slot);
-        slot
+        (slot, Some(leaves(&old.1)))
     }
 }

@@ -2,12 +2,18 @@
 use Rattle.std.proofs.Common.{◌≡◌, ℕ, eqb, refl, ap, ◌∙◌, arith, vec_capacity}
 use Rattle.clock2q_cache.proofs.Names.{oldest_hash, pushed_places, if◌then◌else◌, with_handle, removed, is_shared, slots, Remembered, Places, most_beside, slots-pushed, shared-pushed, slots-entered, into_small}
 use Rattle.clock2q_cache.proofs.CacheInvariant.{m, IsDone}
-use Rattle.clock2q_cache.proofs.Renewed.{is-resident, within-room, slot-below, tail-in, tail-unremembered, evicted-done}
+use Rattle.clock2q_cache.proofs.Renewed.{is-resident, within-room, slot-below, tail-in, tail-unremembered, tail-leaves, evicted-done}
 use Rattle.clock2q_cache.proofs.Insertions.{evicted-spends}
+use Rattle.clock2q_cache.proofs.Evicting.{noted}
 use Rattle.clock2q_cache.proofs.Places.{entered-evicting}
 use Rattle.clock2q_cache.proofs.cache.Cache.evict_tail.Given.{Over}
 use Rattle.clock2q_cache.proofs.cache.Cache.evict_tail.Goals.{After-remember}
 use Rattle.clock2q_cache.proofs.cache.Cache.evict_tail.Goals as goal
+
+pub key-requires : goal.key-requires
+key-requires g c =
+    let there = tail-in g.met.K.Eq.laws c.self.invariant c.reuse_tail-tail.result c.reuse_tail-tail.ensures.tail in
+    record { made = (slot-below g.met.K.Eq.laws c.self.invariant c.reuse_tail-tail.result there).0 }
 
 pub remember-requires : goal.remember-requires
 remember-requires g c =
@@ -47,11 +53,15 @@ returns g c =
     let i = c.self.inside in
     let d = done g (goal.at.returns g c).After-remember in
     let r = c.remember.ensures.index in
+    let leaver =
+    tail-leaves g.met.K.Eq.laws c.self.invariant c.reuse_tail-tail.result c.reuse_tail-tail.ensures.tail c.key.result.now c.key.ensures.key
+    (rw (← c.self.view_is) at c.requires.full) (rw (← c.self.view_is) at c.requires.out) in
     rw (← c.self.view_is) (record {
       slot = d.at;
       machine = d.fills;
       indexes = entered-evicting g.met.K.Eq.laws c.self.invariant i.directory.history.places c.args.key c.reuse_tail-tail.result
           (rw (← c.self.view_is) at c.requires.hash) c.reuse_tail-tail.ensures.tail r.had_key r.had_hash r.places;
       hasher = refl;
+      left = noted g.F.FnOnce leaver c.leaves-left.ensures;
       counts = evicted-spends i.queues i.directory.history i.directory.residents c.reuse_tail-tail.ensures.queues c.reuse_tail-tail.ensures.accesses r.becomes r.accesses c.remember.ensures.kept;
     })

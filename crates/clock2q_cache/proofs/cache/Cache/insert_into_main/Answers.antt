@@ -3,6 +3,7 @@ use Rattle.std.proofs.Common.{◌≡◌, ◌<◌, length, arith}
 use Rattle.clock2q_cache.proofs.Names.{main_share}
 use Rattle.clock2q_cache.proofs.CacheInvariant.{length_in_main}
 use Rattle.clock2q_cache.proofs.Insertions.{full-inspections, room-inspections}
+use Rattle.clock2q_cache.proofs.Evicting.{room-leaver}
 use Rattle.clock2q_cache.proofs.cache.Cache.insert_into_main.Goals as goal
 
 pub replace_victim-requires-clause-full : goal.replace_victim-requires-clause-full
@@ -22,3 +23,9 @@ returns-else-main_len-main-clause-counts g c =
     let m = c.args.self.now.machine in
     let room : length m.main < main_share m.shares = rw (← c.self.view_is) (omega (arith, length_in_main g.met.K.Eq.laws c.self.invariant, c.self.invariant.whole.main_within)) in
     rw (room-inspections m room) c.join_main.ensures.counts
+
+pub returns-else-main_len-main-clause-left : goal.returns-else-main_len-main-clause-left
+returns-else-main_len-main-clause-left g c =
+    let m = c.args.self.now.machine in
+    let room : length m.main < main_share m.shares = rw (← c.self.view_is) (omega (arith, length_in_main g.met.K.Eq.laws c.self.invariant, c.self.invariant.whole.main_within)) in
+    record { noted = room-leaver m room }

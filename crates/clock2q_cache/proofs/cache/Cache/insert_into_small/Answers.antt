@@ -4,6 +4,7 @@ use Rattle.clock2q_cache.proofs.Names.{last_or}
 use Rattle.clock2q_cache.proofs.Places.{key-out}
 use Rattle.clock2q_cache.proofs.Changed.{small-some}
 use Rattle.clock2q_cache.proofs.Insertions.{tail-inspections, looked-spends}
+use Rattle.clock2q_cache.proofs.Evicting.{vacant-leaver}
 use Rattle.clock2q_cache.proofs.cache.Cache.insert_into_small.Goals as goal
 
 pub tail_is_promoted-requires : goal.tail_is_promoted-requires
@@ -41,3 +42,12 @@ pub returns-else-tail_is_promoted-clause-indexes : goal.returns-else-tail_is_pro
 returns-else-tail_is_promoted-clause-indexes g c =
     let out = key-out false (last_or None c.args.self.now.machine.small) c.if-tail_is_promoted.ensures.value in
     rw (← c.if-has_vacancy.ensures.vacant, out) (rw c.tail_is_promoted.ensures.kept at c.evict_tail.ensures.indexes)
+
+pub returns-then-has_vacancy-clause-left : goal.returns-then-has_vacancy-clause-left
+returns-then-has_vacancy-clause-left g c = record { noted = vacant-leaver c.args.self.now.machine (sym c.if-has_vacancy.ensures.vacant) }
+
+pub returns-then-tail_is_promoted-clause-left : goal.returns-then-tail_is_promoted-clause-left
+returns-then-tail_is_promoted-clause-left g c = rw c.tail_is_promoted.ensures.machine at c.promote_tail.ensures.left
+
+pub returns-else-tail_is_promoted-clause-left : goal.returns-else-tail_is_promoted-clause-left
+returns-else-tail_is_promoted-clause-left g c = rw c.tail_is_promoted.ensures.machine at c.evict_tail.ensures.left

@@ -1,9 +1,10 @@
 -- The tail moves on to Main, and the new key takes the slot of Main's victim.
-use Rattle.std.proofs.Common.{◌≡◌, Some, None, refl, sym, arith, vec_capacity, ap}
+use Rattle.std.proofs.Common.{◌≡◌, Some, None, refl, sym, arith, vec_capacity, ap, ◌∙◌}
 use Rattle.clock2q_cache.proofs.Names.{last_or, slots_of, slots, Remembered, into_small}
 use Rattle.clock2q_cache.proofs.CacheInvariant.{m, IsDone, done-reindexed, reindexed, slots-renewed, length_in_small}
-use Rattle.clock2q_cache.proofs.Renewed.{is-resident, within-room, slot-below, no-tail, victim-in, victim-not_in_front, victim-not_behind, tail-in, tail-not_in_front, tail-not_in_rest, promoted-done}
+use Rattle.clock2q_cache.proofs.Renewed.{is-resident, within-room, slot-below, no-tail, victim-in, victim-leaves, tail-goes_on, victim-not_in_front, victim-not_behind, tail-in, tail-not_in_front, tail-not_in_rest, promoted-done}
 use Rattle.clock2q_cache.proofs.Insertions.{victim-spends}
+use Rattle.clock2q_cache.proofs.Evicting.{noted}
 use Rattle.clock2q_cache.proofs.Places.{entered-renewed}
 use Rattle.clock2q_cache.proofs.cache.Cache.promote_tail.Given.{Over}
 use Rattle.clock2q_cache.proofs.cache.Cache.promote_tail.Goals.{In-Some, After-admit}
@@ -28,8 +29,8 @@ append-requires g c =
       not_in_main = tail-not_in_rest g.met.K.Eq.laws c.self.invariant c.in-Some.tail tail c.take_victim-slot.result c.take_victim-slot.ensures.victim;
     })
 
-pub renew-requires : goal.renew-requires
-renew-requires g c =
+pub renew-old-requires : goal.renew-old-requires
+renew-old-requires g c =
     let there = victim-in g.met.K.Eq.laws c.self.invariant c.take_victim-slot.result c.take_victim-slot.ensures.victim in
     record { resident = is-resident c.self.inside.directory g.met.K.Eq.laws c.self.invariant c.take_victim-slot.result there; room = within-room c.self.inside.directory g.met.K.Eq.laws c.self.invariant }
 
@@ -49,15 +50,15 @@ admit-requires g c =
 -- the key has the slot
 done : (g : Over) (c : After-admit g) → last_or None (slots_of c.self.inside.queues.small) ≡ Some c.in-Some.tail
     → IsDone g.met.K.Eq.laws c.self.invariant c.take_victim-slot.result c.args.value (into_small c.args.key (m g.met.K.Eq.laws c.self.invariant))
-    c.admit.new.self c.renew.new.self.history (slots c.renew.new.self.history.places.index) c.renew.new.self.residents c.self.inside.free.items (vec_capacity c.self.inside.free)
+    c.admit.new.self c.renew-old.new.self.history (slots c.renew-old.new.self.history.places.index) c.renew-old.new.self.residents c.self.inside.free.items (vec_capacity c.self.inside.free)
 done g c tail =
     let victim = c.take_victim-slot.ensures.victim in
-    let r = c.renew.ensures in
+    let r = c.renew-old.ensures in
     let below = (slot-below g.met.K.Eq.laws c.self.invariant c.take_victim-slot.result (victim-in g.met.K.Eq.laws c.self.invariant c.take_victim-slot.result victim)).2 in
     done-reindexed g.met.K.Eq.laws c.self.invariant (reindexed c.self.inside.directory.history r.index refl)
     (promoted-done g.met.K.Eq.laws c.self.invariant (rw (← c.self.view_is) at c.requires.hash) (rw (← c.self.view_is) at c.requires.absent)
     (victim-in g.met.K.Eq.laws c.self.invariant c.take_victim-slot.result victim) r.hash
-    (slots-renewed c.self.inside.directory.history c.renew.result.0 c.args.hash r.index below) r.entries r.kept tail victim (rw (← c.self.view_is) at c.requires.full) (rw (← c.self.view_is) at c.requires.on)
+    (slots-renewed c.self.inside.directory.history c.renew-old.result.0 c.args.hash r.index below) r.entries r.kept tail victim (rw (← c.self.view_is) at c.requires.full) (rw (← c.self.view_is) at c.requires.on)
     (rw (c.append.ensures.queues, c.in-Some.ensures.queues, c.take_victim-slot.ensures.queues) at c.admit.ensures.queues))
 
 pub invariant_of-self : goal.invariant_of-self
@@ -67,16 +68,19 @@ pub returns : goal.returns
 returns g c =
     let at = goal.at.returns g c in
     let d = done g at.After-admit (last g at.In-Some) in
-    let r = c.renew.ensures in
+    let r = c.renew-old.ensures in
     let taken = c.take_victim-slot.ensures.accesses in
     let appended = c.append.ensures.accesses in
     let admitted = c.admit.ensures.accesses in
+    let moves = tail-goes_on g.met.K.Eq.laws c.self.invariant c.in-Some.tail (last g at.In-Some) (rw (← c.self.view_is) at c.requires.full) (rw (← c.self.view_is) at c.requires.on) in
+    let leaver = victim-leaves g.met.K.Eq.laws c.self.invariant c.take_victim-slot.result c.take_victim-slot.ensures.victim c.renew-old.result.1 r.key in
     rw (← c.self.view_is) (record {
       slot = d.at;
       machine = d.fills;
       indexes = entered-renewed g.met.K.Eq.laws c.self.invariant c.self.inside.directory.history.places c.args.key c.take_victim-slot.result (rw (← c.self.view_is) at c.requires.hash)
           (victim-in g.met.K.Eq.laws c.self.invariant c.take_victim-slot.result c.take_victim-slot.ensures.victim) r.hash (ap (λ (z : Remembered _). z.places) r.index);
       hasher = refl;
+      left = noted g.F.FnOnce (moves ∙ leaver) c.leaves.ensures;
       counts = victim-spends g.met.K.Eq.laws c.self.invariant c.take_victim-slot.ensures.inspections
           (omega (arith, taken, c.in-Some.ensures.accesses.0, appended.0, admitted.0), omega (arith, taken, c.in-Some.ensures.accesses.1, appended.1, admitted.1))
           (rw (c.append.ensures.queues, c.in-Some.ensures.queues, c.take_victim-slot.ensures.queues) at c.admit.ensures.queues) r.index r.kept;

@@ -1,44 +1,48 @@
 -- The key goes to the end of Main, at the victim's slot.
-use Rattle.std.proofs.Common.{arith, refl, vec_capacity, ap}
+use Rattle.std.proofs.Common.{arith, refl, ap, ◌∙◌, vec_capacity}
 use Rattle.clock2q_cache.proofs.Names.{slots, Remembered, into_main}
 use Rattle.clock2q_cache.proofs.CacheInvariant.{m, IsDone, done-reindexed, reindexed, slots-renewed}
-use Rattle.clock2q_cache.proofs.Renewed.{is-resident, within-room, slot-below, victim-in, replaced-done}
+use Rattle.clock2q_cache.proofs.Renewed.{is-resident, within-room, slot-below, victim-in, victim-leaves, replaced-done}
 use Rattle.clock2q_cache.proofs.Insertions.{victim-spends}
+use Rattle.clock2q_cache.proofs.Evicting.{full-leaver, noted}
 use Rattle.clock2q_cache.proofs.Places.{entered-renewed}
 use Rattle.clock2q_cache.proofs.cache.Cache.replace_victim.Given.{Over}
-use Rattle.clock2q_cache.proofs.cache.Cache.replace_victim.Goals.{After-renew}
+use Rattle.clock2q_cache.proofs.cache.Cache.replace_victim.Goals.{After-renew-old}
 use Rattle.clock2q_cache.proofs.cache.Cache.replace_victim.Goals as goal
 
-pub renew-requires : goal.renew-requires
-renew-requires g c =
+pub renew-old-requires : goal.renew-old-requires
+renew-old-requires g c =
     let there = victim-in g.met.K.Eq.laws c.self.invariant c.reuse_victim-victim.result c.reuse_victim-victim.ensures.victim in
     record { resident = is-resident c.self.inside.directory g.met.K.Eq.laws c.self.invariant c.reuse_victim-victim.result there; room = within-room c.self.inside.directory g.met.K.Eq.laws c.self.invariant }
 
 -- the key has the slot
-done : (g : Over) (c : After-renew g) → IsDone g.met.K.Eq.laws c.self.invariant c.reuse_victim-victim.result c.args.value (into_main c.args.key (m g.met.K.Eq.laws c.self.invariant))
-    c.reuse_victim-victim.new.self c.renew.new.self.history (slots c.renew.new.self.history.places.index) c.renew.new.self.residents c.self.inside.free.items (vec_capacity c.self.inside.free)
+done : (g : Over) (c : After-renew-old g) → IsDone g.met.K.Eq.laws c.self.invariant c.reuse_victim-victim.result c.args.value (into_main c.args.key (m g.met.K.Eq.laws c.self.invariant))
+    c.reuse_victim-victim.new.self c.renew-old.new.self.history (slots c.renew-old.new.self.history.places.index) c.renew-old.new.self.residents c.self.inside.free.items (vec_capacity c.self.inside.free)
 done g c =
     let victim = c.reuse_victim-victim.ensures.victim in
     let below = (slot-below g.met.K.Eq.laws c.self.invariant c.reuse_victim-victim.result (victim-in g.met.K.Eq.laws c.self.invariant c.reuse_victim-victim.result victim)).2 in
-    done-reindexed g.met.K.Eq.laws c.self.invariant (reindexed c.self.inside.directory.history c.renew.ensures.index refl)
+    done-reindexed g.met.K.Eq.laws c.self.invariant (reindexed c.self.inside.directory.history c.renew-old.ensures.index refl)
     (replaced-done g.met.K.Eq.laws c.self.invariant (rw (← c.self.view_is) at c.requires.hash) (rw (← c.self.view_is) at c.requires.absent)
-    (victim-in g.met.K.Eq.laws c.self.invariant c.reuse_victim-victim.result victim) c.renew.ensures.hash
-    (slots-renewed c.self.inside.directory.history c.renew.result.0 c.args.hash c.renew.ensures.index below) c.renew.ensures.entries c.renew.ensures.kept victim (rw (← c.self.view_is) at c.requires.full) c.reuse_victim-victim.ensures.queues)
+    (victim-in g.met.K.Eq.laws c.self.invariant c.reuse_victim-victim.result victim) c.renew-old.ensures.hash
+    (slots-renewed c.self.inside.directory.history c.renew-old.result.0 c.args.hash c.renew-old.ensures.index below) c.renew-old.ensures.entries c.renew-old.ensures.kept victim (rw (← c.self.view_is) at c.requires.full) c.reuse_victim-victim.ensures.queues)
 
 pub invariant_of-self : goal.invariant_of-self
-invariant_of-self g c = (done g (goal.at.invariant_of-self g c).After-renew).holds
+invariant_of-self g c = (done g (goal.at.invariant_of-self g c).After-renew-old).holds
 
 pub returns : goal.returns
 returns g c =
-    let d = done g (goal.at.returns g c).After-renew in
+    let d = done g (goal.at.returns g c).After-renew-old in
     let there = victim-in g.met.K.Eq.laws c.self.invariant c.reuse_victim-victim.result c.reuse_victim-victim.ensures.victim in
     let looked = c.reuse_victim-victim.ensures.accesses in
+    let machine = m g.met.K.Eq.laws c.self.invariant in
+    let leaver = victim-leaves g.met.K.Eq.laws c.self.invariant c.reuse_victim-victim.result c.reuse_victim-victim.ensures.victim c.renew-old.result.1 c.renew-old.ensures.key in
     rw (← c.self.view_is) (record {
       slot = d.at;
       machine = d.fills;
       indexes = entered-renewed g.met.K.Eq.laws c.self.invariant c.self.inside.directory.history.places c.args.key c.reuse_victim-victim.result
-          (rw (← c.self.view_is) at c.requires.hash) there c.renew.ensures.hash (ap (λ (z : Remembered _). z.places) c.renew.ensures.index);
+          (rw (← c.self.view_is) at c.requires.hash) there c.renew-old.ensures.hash (ap (λ (z : Remembered _). z.places) c.renew-old.ensures.index);
       hasher = refl;
+      left = noted g.F.FnOnce (full-leaver machine (rw (← c.self.view_is) at c.requires.full) ∙ leaver) c.leaves.ensures;
       counts = victim-spends g.met.K.Eq.laws c.self.invariant c.reuse_victim-victim.ensures.inspections (omega (arith, looked), omega (arith, looked))
-          c.reuse_victim-victim.ensures.queues c.renew.ensures.index c.renew.ensures.kept;
+          c.reuse_victim-victim.ensures.queues c.renew-old.ensures.index c.renew-old.ensures.kept;
     })

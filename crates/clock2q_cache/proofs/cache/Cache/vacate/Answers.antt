@@ -3,7 +3,7 @@ use Rattle.std.proofs.Common.{refl, ap, ◌∙◌, arith}
 use Rattle.clock2q_cache.proofs.Names.{QueueState, slots, Remembered, slots-left, CacheState, machine_of, vacated}
 use Rattle.clock2q_cache.proofs.CacheInvariant.{kept-reindexed, reindexed, now-slots}
 use Rattle.clock2q_cache.proofs.Renewed.{slot-below, is-resident}
-use Rattle.clock2q_cache.proofs.Vacated.{stands, slot-made, slot-in, vacated-machine, kept-vacated}
+use Rattle.clock2q_cache.proofs.Vacated.{stands, slot-in, vacated-machine, kept-vacated}
 use Rattle.clock2q_cache.proofs.cache.Cache.vacate.Goals as goal
 
 pub leave-requires : goal.leave-requires

@@ -1,0 +1,112 @@
+-- The resident that leaves for a key, and what comes back of it.
+use Rattle.std.proofs.Common.{◌≡◌, ℕ, ◌<◌, ◌==◌, Bool, true, false, not, ◌&&◌, List, [], ◌∷◌, length, Option, Some, None, refl, sym, ap, ◌∙◌, subst, eq-eqb, ne_eqb, arith}
+use Rattle.std.specs.Borrow.{Bor}
+use Rattle.std.specs.Prelude.{IfSome, MatchOption}
+use Rattle.std.specs.Fn.{Once, FnOnceReturnsAt}
+use Rattle.clock2q_cache.proofs.Names.{if◌then◌else◌, is_some, slice_get, nat_lt, list_any, option_and_then, option_map, slice_get_within, last_or, main_share, Machine, Placement, slot_of, value_of, vacancy, vacant_slot, stored, inserted, IsWhole, Fills, placed, next_is_vacant, makes_slot, stored_same}
+use Rattle.clock2q_machine.specs.Calls.{Put}
+use Rattle.clock2q_machine.specs.Entries.{from_victim}
+use Rattle.clock2q_machine.specs.Leaving.{first_of, leaves_for, leaves_for_main, leaves_for_small, victim_of, with_value}
+use Rattle.clock2q_cache.specs.Insertions.{leaves_placed, Notes}
+use Rattle.clock2q_cache.proofs.Insertions.{IsSent, goes-there}
+use Rattle.clock2q_cache.proofs.Making.{small-unknown, placed-there, placed-values}
+
+-- a closure was called with the key that leaves
+pub noted : {F K R : Type 0} (g : Once F (Bor K × Unit {0}) R) {f : F} {leaver : Option (K × ℕ)} {slot : ℕ} {key : Bor K} {note : R}
+    → leaver ≡ Some (key.now, slot) → g.post f (key, tt) note → Notes g f leaver slot (Some note)
+noted g {f} {leaver} {slot} {key} leaves called = record { noted = (key.now, leaves, (key, called, refl)) }
+
+module _ {K V : Type 0} (m : Machine K V) where
+  abbrev main_leaver : Bool → Option (K × ℕ)
+  main_leaver full = if full then first_of (from_victim m.main) else None
+
+  -- for a key that enters Main
+  pub full-leaver : length m.main ≡ main_share m.shares → leaves_for_main m ≡ first_of (from_victim m.main)
+  full-leaver full = ap main_leaver (eq-eqb (length m.main) (main_share m.shares) full)
+
+  pub room-leaver : length m.main < main_share m.shares → leaves_for_main m ≡ None
+  room-leaver room = ap main_leaver (ne_eqb (length m.main) (main_share m.shares) (λ e. omega (arith, e, room)))
+
+  -- for a key that enters Small at a vacancy
+  pub vacant-leaver : is_some (vacancy m) ≡ true → leaves_placed false m ≡ None
+  vacant-leaver some = by (vacancy m) some where
+    by : (v : Option ℕ) → is_some v ≡ true → leaves_for_small v (last_or None m.small) m.main ≡ None
+    by None some = cc
+    by (Some slot) some = refl
+
+  -- none leaves if a slot is made
+  pub maker-leaves : (main : Bool) → makes_slot main m ≡ true → leaves_placed main m ≡ None
+  maker-leaves true makes = by (next_is_vacant m) (length m.main == main_share m.shares) makes where
+    by : (next full : Bool) → (next && not full) ≡ true → main_leaver full ≡ None
+    by true true makes = cc
+    by true false makes = refl
+    by false full makes = cc
+  maker-leaves false makes = vacant-leaver (by m.free makes) where
+    room : (b : Bool) → (((0 == 0) && b) && true) ≡ true → is_some (if b then Some (length m.values) else None) ≡ true
+    room true makes = refl
+    room false makes = cc
+
+    by : (free : List ℕ) → (((length free == 0) && nat_lt (length m.values) m.shares.capacity) && true) ≡ true → is_some (vacant_slot free (length m.values) m.shares.capacity) ≡ true
+    by [] makes = room (nat_lt (length m.values) m.shares.capacity) makes
+    by (slot ∷ slots) makes = refl
+
+-- what comes back of the resident that leaves, with the value of its slot
+module _ {K V : Type 0} (m : Machine K V) where
+  abbrev pub handed : Option (K × ℕ) → Option (K × V)
+  handed leaver = option_map (λ (v : K × (ℕ × V)). (v.0, v.1.1)) (with_value m leaver)
+
+  -- with a closure that returned the key itself
+  module _ {F : Type 0} {g : Once F (Bor K × Unit {0}) K} {f : F} {leaver : Option (K × ℕ)} {slot : ℕ} {left : Option K} (n : Notes g f leaver slot left) where
+    pub hands-over : {out : Option (K × ℕ)} → leaver ≡ out → ((key note : K) → FnOnceReturnsAt g f key note → note ≡ key) → {value : V} → slice_get m.values slot ≡ Some value
+        → (o : Option K) → left ≡ o → option_map (λ (key : K). (key, value)) o ≡ handed out
+    hands-over {out} is same {value} there o found = ap (λ o. option_map (λ (key : K). (key, value)) o) (sym found) ∙ by left n.noted ∙ ap handed is where
+      by : (o : Option K) → MatchOption o (leaver ≡ None) (λ note. (key : K) × (leaver ≡ Some (key, slot)) × FnOnceReturnsAt g f key note) → option_map (λ (key : K). (key, value)) o ≡ handed leaver
+      by None none = sym (ap handed none)
+      by (Some note) e =
+          ap (λ k. Some (k, value)) (same e.0 note e.2)
+          ∙ sym (ap handed e.1 ∙ ap (λ (o : Option V). option_map (λ (v : K × (ℕ × V)). (v.0, v.1.1)) (option_map (λ v. (e.0, (slot, v))) o)) there)
+
+  pub hands-none : {leaver : Option (K × ℕ)} → leaver ≡ None → None ≡ handed leaver
+  hands-none none = sym (ap handed none)
+
+-- of a put of a key that isn't resident
+pub victim-handed : {K V : Type 0} (eq : K → K → Bool) (m : Machine K V) (key : K) (value : V) → slot_of (eq key) m ≡ None
+    → handed m (leaves_for (list_any (eq key) m.history) m) ≡ option_map (λ (v : K × (ℕ × V)). (v.0, v.1.1)) (victim_of eq (Put key value) m)
+victim-handed eq m key value absent = sym (ap (λ (o : Option ℕ). handed m (if is_some o then None else leaves_for (list_any (eq key) m.history) m)) absent)
+
+-- the same once the key's history is erased
+module _ {K V : Type 0} {is : K → Bool} {m m1 : Machine K V} {main : Bool} (s : IsSent is m m1 main) where
+  pub leaver-there : leaves_placed main m1 ≡ leaves_for (list_any is m.history) m
+  leaver-there = ap (leaves_placed main) s.erased ∙ ap (λ b. leaves_placed b m) (goes-there s)
+
+-- a key that isn't resident has no value, and a resident has that of its slot
+module _ {K V : Type 0} (is : K → Bool) (m : Machine K V) (P : V → Type 0) where
+  pub none-had : slot_of is m ≡ None → IfSome (value_of is m) P
+  none-had absent = subst (λ o. IfSome (option_and_then (slice_get m.values) o) P) (sym absent) tt
+
+  pub had-before : {slot : ℕ} {value : V} → slot_of is m ≡ Some slot → slice_get m.values slot ≡ Some value → P value → IfSome (value_of is m) P
+  had-before found there p = subst (λ o. IfSome o P) (sym (ap (option_and_then (slice_get m.values)) found ∙ there)) p
+
+-- a key that is placed without a value leaves the values as they are, and its slot can be given one
+module _ {K V : Type 0} (eq : K → K → Bool) (key : K) {m m1 : Machine K V} {main : Bool} (s : IsSent (eq key) m m1 main) (h : IsWhole eq m1) {slot : ℕ} {new : Machine K V}
+    (at : slot ≡ (placed main key m1).slot) (f : Fills None (placed main key m1) m1 new) where
+  abbrev p : Placement K V
+  p = placed main key m1
+
+  values : p.machine.values ≡ m1.values
+  values = placed-values eq m1 h key main (small-unknown eq key s)
+
+  kept : new ≡ p.machine
+  kept = f.becomes ∙ stored_same p.machine p.slot f.held (ap (λ vs. slice_get vs p.slot) values ∙ f.is)
+
+  same : new.values ≡ m1.values
+  same = ap (λ (z : Machine K V). z.values) kept ∙ values
+
+  pub slot-made : slot < length new.values
+  slot-made = subst (λ (z : List V). slot < length z) (sym same) (subst (λ z. z < length m1.values) (sym at) (slice_get_within m1.values p.slot f.held f.is))
+
+  pub slot-had : {value : V} → slice_get new.values slot ≡ Some value → slice_get m.values slot ≡ Some value
+  slot-had is = ap (λ vs. slice_get vs slot) (sym (same ∙ ap (λ (z : Machine K V). z.values) s.erased)) ∙ is
+
+  pub slot-stored : (value : V) → stored slot value new ≡ inserted (eq key) key value m
+  slot-stored value = ap (λ z. stored z value new) at ∙ ap (stored p.slot value) kept ∙ ap (λ (q : Placement K V). stored q.slot value q.machine) (placed-there eq key s)

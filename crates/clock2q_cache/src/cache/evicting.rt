@@ -1,0 +1,68 @@
+//! A `put` that hands over what it replaces or evicts.
+use crate::cache::Cache;
+use clock2q_directory::history::Found;
+use std::alloc::Allocator;
+use std::hash::{BuildHasher, Hash};
+
+impl<K: Hash + Eq + Copy, V: Drop, S: BuildHasher, A: Allocator> Cache<K, V, S, A> {
+    ghost use Rattle.std.specs.Prelude.{◌≡◌, ◌+◌, IfSome, None, Some};
+    ghost use Rattle.std.specs.List.{list_any};
+    ghost use Rattle.std.specs.Option.{option_map};
+    ghost use Rattle.clock2q_machine.specs.Bounds.{inspections_for};
+    ghost use Rattle.clock2q_machine.specs.Calls.{Put};
+    ghost use Rattle.clock2q_machine.specs.Leaving.{leaves_for, victim_of, with_value};
+    ghost use Rattle.clock2q_machine.specs.Machine.{inserted, slot_of, value_of};
+    ghost use Rattle.clock2q_machine.specs.Steps.{put};
+    ghost use Rattle.clock2q_directory.specs.History.{place_of};
+    ghost use Rattle.clock2q_cache.specs.Costs.{Costs, Spends};
+    ghost use Rattle.clock2q_cache.specs.Hashes.{hash_of};
+
+    /// Stores a value for a key as [`put`](Cache::put) does, and hands over what it replaces or
+    /// evicts: `key` with the value that it had, or the resident that leaves, with its value.
+    ///
+    /// A write-back cache writes what leaves. A key that leaves Small goes into the history, so the
+    /// one that is handed over is a copy.
+    ///
+    /// # Cost
+    ///
+    /// That of [`put`](Cache::put).
+    pub fn put_evicting(&mut self, key: K, value: V) -> Option<(K, V)>
+        ensures replaced { IfSome (value_of (K.eq key) self.old.machine) (λ before. result ≡ Some (key, before)) }
+        ensures evicted { slot_of (K.eq key) self.old.machine ≡ None → result ≡ option_map (λ v. (v.0, v.1.1)) (victim_of K.eq (Put key value) self.old.machine) }
+        ensures machine { self.new.machine ≡ put (K.eq key) key value self.old.machine }
+        ensures resident { value_of (K.eq key) self.new.machine ≡ Some value }
+        ensures hasher { self.new.hasher ≡ self.old.hasher }
+        ensures costs { Costs K.Hash S.BuildHasher S.Hasher.Hasher (Put key value) self.old self.new }
+    {
+        let hash = self.hash(&key);
+        let found = self.lookup(hash, &key);
+        let Found::Resident(slot) = found else {
+            return self.insert_evicting(hash, key, value, found.place());
+        };
+        self.record_hit(slot, &key);
+        Some((key, self.replace(slot, value)))
+    }
+
+    /// Inserts a key that is not resident, and hands over the resident that leaves. If the history
+    /// has the key, it is there at `place`.
+    fn insert_evicting(&mut self, hash: u64, key: K, value: V, place: Option<u32>) -> Option<(K, V)>
+        requires place { place ≡ place_of (K.eq key) self.old.machine.history self.old.known.taken }
+        requires hash { hash ≡ hash_of S.BuildHasher S.Hasher.Hasher self.old.hasher (K.hash_input key) }
+        requires absent { slot_of (K.eq key) self.old.machine ≡ None }
+        ensures evicted { result ≡ option_map (λ v. (v.0, v.1.1)) (with_value self.old.machine (leaves_for (list_any (K.eq key) self.old.machine.history) self.old.machine)) }
+        ensures machine { self.new.machine ≡ inserted (K.eq key) key value self.old.machine }
+        ensures hasher { self.new.hasher ≡ self.old.hasher }
+        ensures counts { Spends (inspections_for (K.eq key) self.old.machine) (inspections_for (K.eq key) self.old.machine + 36) 0 self.old.counts self.new.counts }
+    {
+        let known = self.forget(hash, &key, place);
+        let main = self.admits_to_main(known);
+        if self.makes_slot(main) {
+            self.insert_unknown(hash, key, Some(value), main, |_| ());
+            return None;
+        }
+        let (slot, left) = self.insert_unknown(hash, key, None, main, |key| *key);
+        let before = self.replace(slot, value);
+        let evicted = left?;
+        Some((evicted, before))
+    }
+}
