@@ -159,10 +159,10 @@ module _ (hash : List ℕ → ℕ) (known : List (List ℕ)) (homes : List (List
   -- however the lookup ends
   pub settled : (result : Result (ℕ × Bool) TableError) (new : List (List (ℕ × ℕ))) → (result ≢ Err Memory → IsDone result new) → (result ≡ Err Memory → new ≡ homes)
       → IfOk result (λ found. IsNumbered hash known key found.0 found.1 new) × OnErr result (IsIndexed hash known new)
-  settled (Ok r) new told memory = (told (λ e. absurd (cc)), tt)
-  settled (Err Memory) new told memory = (tt, subst (IsIndexed hash known) (sym (memory refl)) is)
-  settled (Err Size) new told memory = (tt, told (λ e. absurd (cc)))
-  settled (Err RunTooLong) new told memory = (tt, told (λ e. absurd (cc)))
+  settled (Ok r) new known_as memory = (known_as (λ e. absurd (cc)), tt)
+  settled (Err Memory) new known_as memory = (tt, subst (IsIndexed hash known) (sym (memory refl)) is)
+  settled (Err Size) new known_as memory = (tt, known_as (λ e. absurd (cc)))
+  settled (Err RunTooLong) new known_as memory = (tt, known_as (λ e. absurd (cc)))
 
 -- the vectors of the keys' bytes and starts, when a new key is added whose number is already in the table
 module _ (hash : List ℕ → ℕ) (bytes starts b s b' s' x y key : List ℕ) (end number : ℕ) (is_new : Bool) (homes : List (List (ℕ × ℕ))) where

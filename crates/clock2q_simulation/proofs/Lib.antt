@@ -1,9 +1,11 @@
 mod Amounts
+mod FieldByField
 mod KeyBytes
 mod KnownKeys
-mod LineByLine
 mod Numbering
+mod RecordByRecord
 mod Skipping
 mod WindowByWindow
 mod WorkedAmounts
+mod WorkedFormats
 mod Zipped

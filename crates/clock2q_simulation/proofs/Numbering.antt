@@ -6,20 +6,20 @@ use Rattle.std.proofs.lemmas.List.Elements.{Contains-append_left, Contains-appen
 use Rattle.std.proofs.lemmas.Option.{slice_get_within}
 use Rattle.std.proofs.Math.Seq.{get_or-append_seam}
 use Rattle.clock2q_simulation.specs.KnownKeys.{AreApart}
-use Rattle.clock2q_simulation.specs.Trace.{AreTold, AreUsed, IsNumbering}
+use Rattle.clock2q_simulation.specs.Trace.{AreNumbersOf, AreUsed, IsNumbering}
 
-pub numbers_tell : (known : List (List ℕ)) (numbers : List ℕ) (keys : List (List ℕ)) → IsNumbering known numbers keys → AreTold keys numbers (length known)
-numbers_tell known numbers keys is = record {
+pub numbers_are : (known : List (List ℕ)) (numbers : List ℕ) (keys : List (List ℕ)) → IsNumbering known numbers keys → AreNumbersOf keys numbers (length known)
+numbers_are known numbers keys is = record {
   alike = record {
     long = is.long;
     alike = λ place other l m. (
-      (λ same. is.apart.apart (get_or numbers place 0) (get_or numbers other 0) (get_or keys place []) (is.told place l) (is.told other m ∙ ap Some (sym same))),
+      (λ same. is.apart.apart (get_or numbers place 0) (get_or numbers other 0) (get_or keys place []) (is.each place l) (is.each other m ∙ ap Some (sym same))),
       (λ same.
-          let both : Some (get_or keys place []) ≡ Some (get_or keys other []) = sym (is.told place l) ∙ ap (slice_get known) same ∙ is.told other m in
+          let both : Some (get_or keys place []) ≡ Some (get_or keys other []) = sym (is.each place l) ∙ ap (slice_get known) same ∙ is.each other m in
           cc),
     );
   };
-  below = λ place l. slice_get_within known (get_or numbers place 0) (get_or keys place []) (is.told place (omega (arith, l, is.long)));
+  below = λ place l. slice_get_within known (get_or numbers place 0) (get_or keys place []) (is.each place (omega (arith, l, is.long)));
   used = is.used;
   few = is.apart.few;
 }
@@ -38,9 +38,9 @@ pub numbering_more : (known more : List (List ℕ)) (numbers : List ℕ) (keys :
 numbering_more known more numbers keys number key is apart here kept only = record {
   apart = apart;
   long = omega (arith, is.long, length-append numbers (number ∷ []), length-append keys (key ∷ []));
-  told = λ place l. elim (cases_lt place (length keys)) [
+  each = λ place l. elim (cases_lt place (length keys)) [
     | inl old ↦ ap (slice_get more) (get_or_append_left numbers (number ∷ []) 0 place (omega (arith, old, is.long)))
-        ∙ kept (get_or numbers place 0) (get_or keys place []) (is.told place old) ∙ ap Some (sym (get_or_append_left keys (key ∷ []) [] place old))
+        ∙ kept (get_or numbers place 0) (get_or keys place []) (is.each place old) ∙ ap Some (sym (get_or_append_left keys (key ∷ []) [] place old))
     | inr from ↦
         let last : place ≡ length keys = omega (arith, from, l, length-append keys (key ∷ [])) in
         ap (slice_get more) (ap (λ p. get_or (numbers ++ number ∷ []) p 0) (last ∙ sym is.long) ∙ get_or-append_seam numbers number [] 0)

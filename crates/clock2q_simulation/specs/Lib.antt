@@ -1,5 +1,7 @@
 pub mod Amounts
 pub mod ChosenShares
+pub mod Fields
+pub mod Formats
 pub mod KnownKeys
 pub mod MachineHits
 pub mod Reading

@@ -1,34 +1,90 @@
 -- A trace read from a source.
-use Rattle.std.specs.Prelude.{◌≡◌, ℕ, Bool, true, false, ◌==◌, List, ◌++◌, Option, Result, Ok, Err}
+use Rattle.std.specs.Prelude.{◌≡◌, ℕ, ◌<◌, Bool, true, false, ◌==◌, List, [], ◌∷◌, ◌++◌, length, Option, Some, None, Result, Ok, Err}
 use Rattle.std.specs.List.{All}
+use Rattle.std.specs.Option.{option_map}
 use Rattle.std.specs.Io.KnownBytes.{Consumes, IsAtEnd}
 use Rattle.clock2q_ports.specs.Ports.{Traffic, traffic_after}
-use Rattle.clock2q_ports.specs.Lines.{lines_of}
 use Rattle.clock2q_simulation.specs.declared.error.SimulationError.{SimulationError}
-use Rattle.clock2q_simulation.specs.declared.error.SimulationError.TheVariants.{Argument, NotText, NoCapacity, UnusedShares, Shares, Capacity, Memory, Open, Read, Write}
+use Rattle.clock2q_simulation.specs.declared.error.SimulationError.TheVariants.{Argument, NotText, NoCapacity, UnusedShares, Shares, Capacity, Memory, Open, Read, Line, Record, Write}
+use Rattle.clock2q_simulation.specs.declared.format.TraceFormat.{TraceFormat}
+use Rattle.clock2q_simulation.specs.declared.format.TraceFormat.TheVariants.{Lines, Csv, OracleGeneral}
+use Rattle.clock2q_simulation.specs.Formats.{keys_after, keys_in}
 
 -- no byte of the line is a line end
 abbrev pub HasNoEnd : List ℕ → Type 0
 HasNoEnd line = All (λ byte. (byte == 10) ≡ false) line
 
--- after some bytes, the lines that ended and the one that didn't are those from before with the bytes, whatever follows
-pub record Takes (keys : List (List ℕ)) (line bytes : List ℕ) (more : List (List ℕ)) (rest : List ℕ) : Type 0 where
-  pub unended : HasNoEnd rest
-  pub same : (next : List ℕ) → keys ++ lines_of (line ++ (bytes ++ next)) ≡ more ++ lines_of (rest ++ next)
+-- some bytes are the beginning of a record, and may be all of it but for a line end
+abbrev pub IsBegun : TraceFormat → List ℕ → Type 0
+IsBegun Lines part = HasNoEnd part
+IsBegun (Csv _) part = HasNoEnd part
+IsBegun OracleGeneral part = length part < 24
 
-module _ (old new : Traffic) (left remain : Option (List ℕ)) where
-  -- the whole input was read, once up to its end, and the keys are its lines
-  pub record AreRead (told : List (List ℕ)) : Type 0 where
+-- some bytes are a whole record, but for a line end
+abbrev pub IsWhole : TraceFormat → List ℕ → Type 0
+IsWhole Lines part = HasNoEnd part
+IsWhole (Csv _) part = HasNoEnd part
+IsWhole OracleGeneral part = length part ≡ 24
+
+-- what is between two records
+abbrev pub between : TraceFormat → List ℕ
+between Lines = 10 ∷ []
+between (Csv _) = 10 ∷ []
+between OracleGeneral = []
+
+-- a format of lines
+abbrev pub IsOfLines : TraceFormat → Type 0
+IsOfLines Lines = Unit {0}
+IsOfLines (Csv _) = Unit {0}
+IsOfLines OracleGeneral = ⊥
+
+-- keys with those of the rest after them
+abbrev pub joined_keys : List (List ℕ) → Option (List (List ℕ)) → Option (List (List ℕ))
+joined_keys keys more = option_map (λ rest. keys ++ rest) more
+
+-- after some bytes, the keys so far, with those of what has come of the next record and of whatever follows, are those
+-- from before with the bytes
+pub record Takes (format : TraceFormat) (keys : List (List ℕ)) (count : ℕ) (part bytes : List ℕ) (more : List (List ℕ)) (counted : ℕ) (rest : List ℕ) : Type 0 where
+  pub begun : IsBegun format rest
+  pub same : (next : List ℕ) → joined_keys keys (keys_after format count (part ++ (bytes ++ next))) ≡ joined_keys more (keys_after format counted (rest ++ next))
+
+-- a refusal of records says that a record is bad, or that memory ran out
+abbrev pub IsBad : SimulationError → Type 0 → Type 0
+IsBad (Line _ _) bad = bad
+IsBad (Record _) bad = bad
+IsBad Memory bad = Unit {0}
+IsBad Open bad = ⊥
+IsBad Read bad = ⊥
+IsBad Write bad = ⊥
+IsBad (Capacity _) bad = ⊥
+IsBad (Argument _ _) bad = ⊥
+IsBad NotText bad = ⊥
+IsBad NoCapacity bad = ⊥
+IsBad UnusedShares bad = ⊥
+IsBad (Shares _) bad = ⊥
+
+module _ (old new : Traffic) (left remain : Option (List ℕ)) (format : TraceFormat) where
+  -- the whole input was read, once up to its end, and the keys are those of its records
+  pub record AreRead (known : List (List ℕ)) : Type 0 where
     pub input : List ℕ
     pub given : new ≡ traffic_after old input true false
-    pub known : Consumes left remain input
+    pub consumed : Consumes left remain input
     pub at_end : IsAtEnd remain
-    pub lines : told ≡ lines_of input
+    pub keys : keys_in format input ≡ Some known
 
-  -- reading was given up: memory ran out, or the source failed
+  -- the bytes that were read are no trace of the format, and nothing that may follow them makes one of them
+  pub record IsNoTrace : Type 0 where
+    pub bytes : List ℕ
+    pub ended : Bool
+    pub given : new ≡ traffic_after old bytes ended false
+    pub bad : (next : List ℕ) → (ended ≡ true → next ≡ []) → keys_in format (bytes ++ next) ≡ None
+
+  -- reading was given up: memory ran out, the source failed, or a record is bad
   abbrev pub IsGivenUp : SimulationError → Type 0
   IsGivenUp Memory = (bytes : List ℕ) × (stopped : Bool) × (new ≡ traffic_after old bytes stopped false)
   IsGivenUp Read = (bytes : List ℕ) × (new ≡ traffic_after old bytes false true)
+  IsGivenUp (Line _ _) = IsNoTrace
+  IsGivenUp (Record _) = IsNoTrace
   IsGivenUp Open = ⊥
   IsGivenUp Write = ⊥
   IsGivenUp (Capacity _) = ⊥

@@ -5,6 +5,7 @@ use Rattle.clock2q_ports.specs.Ports.{Traffic}
 use Rattle.clock2q_ports.specs.Transfer.{IsSent}
 use Rattle.clock2q_simulation.specs.Reading.{AreRead}
 use Rattle.clock2q_simulation.specs.declared.amount.Amount.{Amount}
+use Rattle.clock2q_simulation.specs.declared.format.TraceFormat.{TraceFormat}
 use Rattle.clock2q_simulation.specs.declared.policy.Policy.{Policy}
 use Rattle.clock2q_simulation.specs.declared.row.Row.{Row}
 use Rattle.clock2q_simulation.specs.declared.shares.ChosenShares.{ChosenShares}
@@ -13,16 +14,16 @@ use Rattle.clock2q_simulation.specs.Rows.{AreRows}
 use Rattle.clock2q_simulation.specs.Trace.{Numbered}
 use Rattle.clock2q_simulation.specs.Windows.{AreAskedWindows}
 
-module _ (given gives : Traffic) (left remain : Option (List ℕ)) where
-  -- the whole input was read, as these keys
+module _ (given gives : Traffic) (left remain : Option (List ℕ)) (format : TraceFormat) where
+  -- the whole input was read, as the keys of its records
   pub record IsRead : Type 0 where
     pub keys : List (List ℕ)
-    pub read : AreRead given gives left remain keys
+    pub read : AreRead given gives left remain format keys
 
   -- the rows and the windows are those of a trace with the keys that were read
   pub record IsReplayed {A : Type 0} (policies : List Policy) (shares : Option ChosenShares) (skipped : ℕ) (window : Option NonZeroUsize) (capacities : List Amount) (made : List (Row A)) (all : List (Windows A)) : Type 0 where
     pub trace : Numbered
-    pub read : AreRead given gives left remain trace.keys
+    pub read : AreRead given gives left remain format trace.keys
     pub rows : AreRows policies shares skipped trace capacities made
     pub windows : AreAskedWindows policies shares trace.numbers skipped window made all
 
@@ -32,6 +33,6 @@ pub record IsWritten (took takes : Traffic) (held holds : Option (List ℕ)) : T
   pub sent : IsSent took takes held holds text
 
 -- the whole input was read, and a whole text was written and flushed
-pub record IsSimulated (given gives : Traffic) (left remain : Option (List ℕ)) (took takes : Traffic) (held holds : Option (List ℕ)) : Type 0 where
-  pub read : IsRead given gives left remain
+pub record IsSimulated (given gives : Traffic) (left remain : Option (List ℕ)) (format : TraceFormat) (took takes : Traffic) (held holds : Option (List ℕ)) : Type 0 where
+  pub read : IsRead given gives left remain format
   pub written : IsWritten took takes held holds

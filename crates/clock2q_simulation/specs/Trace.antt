@@ -20,7 +20,7 @@ abbrev pub AreUsed : List ℕ → ℕ → Type 0
 AreUsed numbers different = (number : ℕ) → number < different → Contains numbers number
 
 -- the numbers of this many different keys, each of them used
-pub record AreTold (keys : List (List ℕ)) (numbers : List ℕ) (different : ℕ) : Type 0 where
+pub record AreNumbersOf (keys : List (List ℕ)) (numbers : List ℕ) (different : ℕ) : Type 0 where
   pub alike : AreNumbers keys numbers
   pub below : AreBelow different numbers
   pub used : AreUsed numbers different
@@ -30,5 +30,5 @@ pub record AreTold (keys : List (List ℕ)) (numbers : List ℕ) (different : �
 pub record IsNumbering (known : List (List ℕ)) (numbers : List ℕ) (keys : List (List ℕ)) : Type 0 where
   pub apart : AreApart known
   pub long : length numbers ≡ length keys
-  pub told : (place : ℕ) → place < length keys → slice_get known (get_or numbers place 0) ≡ Some (get_or keys place [])
+  pub each : (place : ℕ) → place < length keys → slice_get known (get_or numbers place 0) ≡ Some (get_or keys place [])
   pub used : AreUsed numbers (length known)

@@ -4,7 +4,7 @@ ghost use Rattle.std.specs.Prelude.{◌≡◌, ◌≤◌, Some, IfOk};
 ghost use Rattle.clock2q_simulation.specs.Amounts.{IsCapacity, amount, amount_in, asked_by, range};
 
 use crate::amount::{Amount, Unit};
-use crate::error::{Fault, SimulationError};
+use crate::error::{ArgumentError, SimulationError};
 use clock2q_cache::MAX_CAPACITY;
 use std::alloc::{AllocError, Allocator};
 
@@ -30,16 +30,16 @@ pub(crate) fn capacities_of<A: Allocator>(
     ensures within { IfOk result (λ capacities. All IsCapacity capacities.items) }
 {
     let Some((first, last)) = argument.split_once("..") else {
-        let capacity = capacity_of(argument, Fault::NotCapacity, index)?;
+        let capacity = capacity_of(argument, ArgumentError::NotCapacity, index)?;
         return Ok(Vec::from_slice(alloc, &[capacity])?);
     };
-    let first = capacity_of(first, Fault::NotCapacity, index)?;
-    let last = capacity_of(last, Fault::NotRange, index)?;
+    let first = capacity_of(first, ArgumentError::NotCapacity, index)?;
+    let last = capacity_of(last, ArgumentError::NotRange, index)?;
     if last.unit != first.unit {
-        return Err(SimulationError::Argument(Fault::NotRange, index));
+        return Err(SimulationError::Argument(ArgumentError::NotRange, index));
     }
     if last.number < first.number {
-        return Err(SimulationError::Argument(Fault::ReversedRange, index));
+        return Err(SimulationError::Argument(ArgumentError::ReversedRange, index));
     }
     Ok(range_of(alloc, first, last.number, &ROUND_NUMBERS)?)
 }
@@ -71,7 +71,7 @@ fn range_of<A: Allocator>(
 }
 
 /// Returns the capacity that a word spells. `fault` is what is wrong if it spells none.
-fn capacity_of(word: &str, fault: Fault, index: usize) -> Result<Amount, SimulationError>
+fn capacity_of(word: &str, fault: ArgumentError, index: usize) -> Result<Amount, SimulationError>
     ensures asked { IfOk result (λ capacity. amount_in word.now ≡ Some capacity) }
     ensures within { IfOk result IsCapacity }
 {
@@ -80,7 +80,7 @@ fn capacity_of(word: &str, fault: Fault, index: usize) -> Result<Amount, Simulat
     };
     match capacity.unit {
         Unit::Keys if capacity.number > MAX_CAPACITY => {
-            Err(SimulationError::Argument(Fault::LargeCapacity, index))
+            Err(SimulationError::Argument(ArgumentError::LargeCapacity, index))
         }
         Unit::Millionths if capacity.number > 1_000_000 => {
             Err(SimulationError::Argument(fault, index))

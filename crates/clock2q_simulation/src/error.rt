@@ -2,6 +2,7 @@
 ghost use Rattle.std.specs.Prelude.{◌≡◌};
 
 use crate::amount::{Amount, Unit};
+use crate::simulation::STANDARD_INPUT;
 use clock2q_cache::CacheError;
 use std::alloc::AllocError;
 use std::{fmt, io};
@@ -12,10 +13,11 @@ use thiserror::Error;
 /// # Example
 ///
 /// ```
-/// assert_eq!(rt; format!(in rt.alloc(); "{}", Fault::UnknownOption)?.as_str(), "unknown option");
+/// let text = format!(in rt.alloc(); "{}", ArgumentError::UnknownOption)?;
+/// assert_eq!(rt; text.as_str(), "unknown option");
 /// ```
 #[derive(Debug, Clone, Copy, PartialEq, Eq, Error)]
-pub enum Fault {
+pub enum ArgumentError {
     /// It begins with a dash, and no option has this name.
     #[error("unknown option")]
     UnknownOption,
@@ -32,7 +34,7 @@ pub enum Fault {
     #[error("range whose ends are the wrong way round")]
     ReversedRange,
     /// A name in it isn't that of a policy.
-    #[error("unknown policy (--help names them)")]
+    #[error("unknown policy (--help policies names them)")]
     UnknownPolicy,
     /// It contains a name twice.
     #[error("policy named twice")]
@@ -58,6 +60,18 @@ pub enum Fault {
     /// It names a second trace for a picture.
     #[error("a second trace, and a picture shows one")]
     SecondTrace,
+    /// It isn't the name of a format.
+    #[error("unknown format (lines, csv or oracleGeneral)")]
+    UnknownFormat,
+    /// It isn't the number of a column.
+    #[error("not a column (1 for the first)")]
+    NotColumn,
+    /// It asks for the format csv, and no argument for a column.
+    #[error("csv without a column of keys (--column=1 for the first)")]
+    NoColumn,
+    /// It asks for a column, and no argument for the format csv.
+    #[error("a column of keys, which only --format=csv has")]
+    UnusedColumn,
     /// It needs an argument after it.
     #[error("nothing after it")]
     NoValue,
@@ -75,7 +89,7 @@ pub enum Fault {
 pub enum SimulationError {
     /// An argument is wrong: why, and its index, counted from 0.
     #[error("argument {1}: {0}")]
-    Argument(Fault, usize),
+    Argument(ArgumentError, usize),
     /// An argument is not in UTF-8.
     #[error("clock2q-simulate: an argument is not in UTF-8")]
     NotText,
@@ -100,6 +114,13 @@ pub enum SimulationError {
     /// The trace could not be read to its end.
     #[error("clock2q-simulate: read failed")]
     Read,
+    /// A line of a trace isn't comma-separated values, or has too few: its number and the column of
+    /// the keys, both counted from 1.
+    #[error("line {0}: not comma-separated values with a column {1}")]
+    Line(usize, usize),
+    /// A trace ends inside a record, which begins after this many bytes.
+    #[error("offset {0}: less than the 24 bytes of a record")]
+    Record(usize),
     /// The write failed. A prefix of the result, or all of it, may have been written.
     #[error("clock2q-simulate: write failed")]
     Write,
@@ -108,18 +129,20 @@ pub enum SimulationError {
 impl SimulationError {
     ghost use Rattle.clock2q_simulation.specs.SimulationError.{status_of, of_cache};
 
-    /// Returns the program's exit status: 2 for its arguments, 3 if a capacity is too large or
-    /// memory is refused, 4 if reading or writing failed.
+    /// Returns the program's exit status: 2 for its arguments or a bad record, 3 if a capacity is
+    /// too large or memory is refused, 4 if reading or writing failed.
     pub fn status(&self) -> u8
         ensures status { result ≡ status_of self.now }
     {
         match self {
-            SimulationError::Argument(Fault::LargeCapacity, _) => 3,
+            SimulationError::Argument(ArgumentError::LargeCapacity, _) => 3,
             SimulationError::Argument(..)
             | SimulationError::NotText
             | SimulationError::NoCapacity
             | SimulationError::UnusedShares
-            | SimulationError::Shares(_) => 2,
+            | SimulationError::Shares(_)
+            | SimulationError::Line(_, _)
+            | SimulationError::Record(_) => 2,
             SimulationError::Memory | SimulationError::Capacity(_) => 3,
             SimulationError::Open | SimulationError::Read | SimulationError::Write => 4,
         }
@@ -164,11 +187,11 @@ impl From<AllocError> for SimulationError {
 ///
 /// ```
 /// if let Err(refusal) = parse_options(rt.alloc(), &arguments) {
-///     eprintln!(rt; "{}", Complaint { refusal, trace: None, arguments: &arguments })?;
+///     eprintln!(rt; "{}", ErrorReport { refusal, trace: None, arguments: &arguments })?;
 /// }
 /// ```
 #[derive(Drop)]
-pub struct Complaint<'a> {
+pub struct ErrorReport<'a> {
     /// The refusal.
     pub refusal: SimulationError,
     /// The index of the argument that names the trace it occurred at, if any.
@@ -185,7 +208,7 @@ fn argument_at(arguments: &[String], index: usize) -> &str {
     }
 }
 
-impl fmt::Display for Complaint<'_> {
+impl fmt::Display for ErrorReport<'_> {
     fn fmt<W: fmt::Write>(&self, f: &mut fmt::Formatter<W>) -> fmt::Result {
         match (self.refusal, self.trace) {
             (SimulationError::Argument(fault, index), _) => {
@@ -202,6 +225,10 @@ impl fmt::Display for Complaint<'_> {
             (SimulationError::Read, Some(index)) => {
                 let name = argument_at(self.arguments, index);
                 write!(f, "clock2q-simulate: {name}: read failed")
+            }
+            (refusal @ (SimulationError::Line(_, _) | SimulationError::Record(_)), trace) => {
+                let name = trace.map_or(STANDARD_INPUT, |index| argument_at(self.arguments, index));
+                write!(f, "clock2q-simulate: {name}: {refusal}")
             }
             (refusal, _) => write!(f, "{refusal}"),
         }

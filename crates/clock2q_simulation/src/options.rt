@@ -6,7 +6,8 @@ ghost use Rattle.clock2q_simulation.specs.Amounts.{IsCapacity, asked_from, asked
 
 use crate::amount::Amount;
 use crate::capacities::capacities_of;
-use crate::error::{Fault, SimulationError};
+use crate::error::{ArgumentError, SimulationError};
+use crate::format::{AskedFormat, TraceFormat};
 use crate::policy::Policy;
 use crate::shares::ChosenShares;
 use clock2q_cache::MAX_CAPACITY;
@@ -59,36 +60,9 @@ pub struct Options<A: Allocator> {
     pub skipped: usize,
     /// The number of accesses of a window, if windows are asked for.
     pub window: Option<NonZeroUsize>,
+    /// How the traces are written.
+    pub trace_format: TraceFormat,
 }
-
-/// The program's help text.
-pub const HELP: &str = "\
-usage: ./clock2q-simulate [OPTION].. CAPACITY.. [TRACE]..
-Tells which part of a trace's accesses hit in a cache of each capacity.
-
-A trace is a list of accesses in their order, a key a line: the names of the
-files, blocks or pages that were asked for. It is a file, or - or nothing for
-standard input. A capacity is how many keys a cache holds, from 1 to 16777215,
-or a part of the trace's different keys, as 10%. A range such as 10..1000 or
-1%..50% adds 20, 50, 100 and so on between its ends.
-
-    printf 'a\\nb\\na\\nc\\nb\\nd\\na\\nb\\n' | ./clock2q-simulate 2 75%
-    ./clock2q-simulate --svg --policies=clock2q,lru,opt 9 50 trace >hits.svg
-
-  --csv, --json, --svg  prints rows with commas, JSON, or a picture of a trace
-  --policies=NAMES  compares clock2q, sieve, s3fifo, lru, opt (the default),
-                    fifo, clock, arc, 2q, lirs, lru2, wtinylfu; opt is the most
-                    that one can hit that keeps each key that it misses
-  --shares=SHARES   gives Clock2Q+ other shares than small=10%,window=50%: the
-                    small queue's of the capacity and the window's of the queue,
-                    in percent or in keys
-  --skip=COUNT      counts no hits in this many accesses at a trace's beginning
-  --window=COUNT    counts the hits of each COUNT accesses, in rows or a picture
-  -h, --help        prints this text
-
-Status: 2 if an argument is wrong, 3 if a capacity is too large or memory ran
-out, 4 if reading or writing failed. The first start proves and builds it.
-";
 
 /// Parses arguments: capacities and ranges of them, names of traces, at most one option that asks
 /// for a form, and the other options at most once each, with a value after them or after `=`.
@@ -120,7 +94,7 @@ pub fn parse_options<A: Allocator + Copy>(
     }
     if asked.awaited.is_some() {
         let last = arguments.len().saturating_sub(1);
-        return Err(SimulationError::Argument(Fault::NoValue, last));
+        return Err(SimulationError::Argument(ArgumentError::NoValue, last));
     }
     asked.finish(alloc)
 }
@@ -148,6 +122,8 @@ enum Valued {
     Shares,
     Skip,
     Window,
+    Format,
+    Column,
 }
 
 impl Valued {
@@ -163,6 +139,10 @@ impl Valued {
             Some(Valued::Skip)
         } else if name == "--window" {
             Some(Valued::Window)
+        } else if name == "--format" {
+            Some(Valued::Format)
+        } else if name == "--column" {
+            Some(Valued::Column)
         } else {
             None
         }
@@ -187,6 +167,7 @@ struct Chosen<A: Allocator> {
     shares: Option<ChosenShares>,
     skipped: Option<usize>,
     window: Option<NonZeroUsize>,
+    trace_format: AskedFormat,
 }
 
 impl<A: Allocator> Chosen<A> {
@@ -197,9 +178,11 @@ impl<A: Allocator> Chosen<A> {
             Valued::Shares => self.shares.is_some(),
             Valued::Skip => self.skipped.is_some(),
             Valued::Window => self.window.is_some(),
+            Valued::Format => self.trace_format.has_name(),
+            Valued::Column => self.trace_format.has_column(),
         };
         if is_repeated {
-            return Err(SimulationError::Argument(Fault::RepeatedOption, index));
+            return Err(SimulationError::Argument(ArgumentError::RepeatedOption, index));
         }
         Ok(())
     }
@@ -219,6 +202,8 @@ impl<A: Allocator + Copy> Chosen<A> {
             Valued::Shares => self.shares = Some(shares_of(value, index)?),
             Valued::Skip => self.skipped = Some(count_of(value, index)?),
             Valued::Window => self.window = Some(length_of(value, index)?),
+            Valued::Format => self.trace_format.take_name(value, index)?,
+            Valued::Column => self.trace_format.take_column(value, index)?,
         }
         Ok(())
     }
@@ -226,14 +211,14 @@ impl<A: Allocator + Copy> Chosen<A> {
     /// Takes an option that has no value.
     fn take_flag(&mut self, option: &str, index: usize) -> Result<(), SimulationError> {
         let Some(format) = format_of(option) else {
-            return Err(SimulationError::Argument(Fault::UnknownOption, index));
+            return Err(SimulationError::Argument(ArgumentError::UnknownOption, index));
         };
         match self.format.replace(format) {
             None => Ok(()),
             Some(earlier) if earlier == format => {
-                Err(SimulationError::Argument(Fault::RepeatedOption, index))
+                Err(SimulationError::Argument(ArgumentError::RepeatedOption, index))
             }
-            Some(_) => Err(SimulationError::Argument(Fault::SecondForm, index)),
+            Some(_) => Err(SimulationError::Argument(ArgumentError::SecondForm, index)),
         }
     }
 }
@@ -252,6 +237,7 @@ impl<A: Allocator + Copy> Asked<A> {
                 shares: None,
                 skipped: None,
                 window: None,
+                trace_format: AskedFormat::NONE,
             },
             awaited: None,
         }
@@ -316,7 +302,7 @@ impl<A: Allocator + Copy> Asked<A> {
             return self.chosen.take_flag(option, index);
         };
         let Some(valued) = Valued::named(name) else {
-            return Err(SimulationError::Argument(Fault::UnknownOption, index));
+            return Err(SimulationError::Argument(ArgumentError::UnknownOption, index));
         };
         self.chosen.refuse_second(valued, index)?;
         self.chosen.take_value(alloc, valued, value, index)
@@ -342,12 +328,14 @@ impl<A: Allocator + Copy> Asked<A> {
             shares,
             skipped,
             window,
+            trace_format,
         } = chosen;
+        let trace_format = trace_format.finish()?;
         if capacities.is_empty() {
             return Err(SimulationError::NoCapacity);
         }
         if let (Some(Format::Svg), [_, second, ..]) = (format, traces.as_slice()) {
-            return Err(SimulationError::Argument(Fault::SecondTrace, *second));
+            return Err(SimulationError::Argument(ArgumentError::SecondTrace, *second));
         }
         let policies = match policies {
             Some(policies) => policies,
@@ -367,6 +355,7 @@ impl<A: Allocator + Copy> Asked<A> {
             shares,
             skipped: skipped.unwrap_or(0),
             window,
+            trace_format,
         })
     }
 }
@@ -375,7 +364,7 @@ impl<A: Allocator + Copy> Asked<A> {
 fn count_of(value: &str, index: usize) -> Result<usize, SimulationError> {
     match Amount::written(value).and_then(Amount::count) {
         Some(count) => Ok(count),
-        None => Err(SimulationError::Argument(Fault::NotCount, index)),
+        None => Err(SimulationError::Argument(ArgumentError::NotCount, index)),
     }
 }
 
@@ -384,17 +373,17 @@ fn length_of(value: &str, index: usize) -> Result<NonZeroUsize, SimulationError>
     let count = Amount::written(value).and_then(Amount::count);
     match count.and_then(NonZeroUsize::new) {
         Some(length) => Ok(length),
-        None => Err(SimulationError::Argument(Fault::NotLength, index)),
+        None => Err(SimulationError::Argument(ArgumentError::NotLength, index)),
     }
 }
 
 /// Returns the shares that a value spells.
 fn shares_of(value: &str, index: usize) -> Result<ChosenShares, SimulationError> {
     let Some(shares) = ChosenShares::written(value) else {
-        return Err(SimulationError::Argument(Fault::NotShares, index));
+        return Err(SimulationError::Argument(ArgumentError::NotShares, index));
     };
     if !shares.fit(MAX_CAPACITY) {
-        return Err(SimulationError::Argument(Fault::UnfitShares, index));
+        return Err(SimulationError::Argument(ArgumentError::UnfitShares, index));
     }
     Ok(shares)
 }
@@ -408,10 +397,10 @@ fn policies_of<A: Allocator>(
     let mut policies = Vec::new(alloc);
     for name in names.split(',') {
         let Some(policy) = Policy::named(name) else {
-            return Err(SimulationError::Argument(Fault::UnknownPolicy, index));
+            return Err(SimulationError::Argument(ArgumentError::UnknownPolicy, index));
         };
         if policies.contains(&policy) {
-            return Err(SimulationError::Argument(Fault::RepeatedPolicy, index));
+            return Err(SimulationError::Argument(ArgumentError::RepeatedPolicy, index));
         }
         policies.push(policy).map_err(AllocError::from)?;
     }

@@ -53,14 +53,14 @@ pub fn replay_source<'a, R: Source, P: Write, S: BuildHasher + Drop, A: Allocato
     reader: &mut R,
     progress: &mut Progress<P>,
 ) -> Result<Outcome<'a, A>, SimulationError>
-    ensures ok { IfOk result (λ outcome. IsReplayed (R.given reader.old) (R.given reader.new) (R.remaining reader.old) (R.remaining reader.new)
+    ensures ok { IfOk result (λ outcome. IsReplayed (R.given reader.old) (R.given reader.new) (R.remaining reader.old) (R.remaining reader.new) options.now.trace_format
         options.now.policies.items options.now.shares options.now.skipped options.now.window options.now.capacities.items outcome.rows.items outcome.windows.items) }
 
     // A failed source is always reported as `Read`, and nothing else is.
     ensures read { ((R.given reader.old).failures < (R.given reader.new).failures) ↔ IsErrOf result SimulationError.Read }
     ensures written { IfErr result (λ refusal. refusal ≢ SimulationError.Write) }
 {
-    let trace = read_trace(alloc, hasher, reader, progress)?;
+    let trace = read_trace(alloc, hasher, name, options.trace_format, reader, progress)?;
     let summary = summary_of(alloc, &trace)?;
     progress.warn_of(name, &summary);
     let rows = rows_of(

@@ -14,14 +14,14 @@ const MILLION: usize = 1_000_000;
 ///
 /// ```
 /// let mut progress = Progress::new(rt.stderr(), rt.stderr().is_terminal());
-/// let trace = read_trace(rt.alloc(), reader, &mut progress)?;
+/// let trace = read_trace(alloc, hasher, "-", TraceFormat::Lines, reader, &mut progress)?;
 /// ```
 #[derive(Drop)]
 pub struct Progress<W> {
     writer: W,
     is_shown: bool,
     // The number of millions of keys reported so far.
-    told: usize,
+    reported: usize,
 }
 
 impl<W: Write> Progress<W> {
@@ -30,19 +30,19 @@ impl<W: Write> Progress<W> {
         Progress {
             writer,
             is_shown,
-            told: 0,
+            reported: 0,
         }
     }
 
     /// Reports the number of keys read so far, once for each million.
     pub(crate) fn read(&mut self, keys: usize) {
         let millions = keys / MILLION;
-        if self.is_shown && millions > self.told {
+        if self.is_shown && millions > self.reported {
             let _ = writeln!(
                 self.writer,
                 "clock2q-simulate: {millions} million keys read"
             );
-            self.told = millions;
+            self.reported = millions;
         }
     }
 
@@ -51,6 +51,20 @@ impl<W: Write> Progress<W> {
         if self.is_shown && keys >= MILLION {
             let _ = writeln!(self.writer, "clock2q-simulate: capacity {capacity}");
         }
+    }
+
+    /// Writes a warning if the first bytes of a trace are those of a compressed file, whether
+    /// progress is shown or not.
+    pub(crate) fn warn_if_compressed(&mut self, name: &str, bytes: &[u8]) {
+        let command = match bytes {
+            [0x1F, 0x8B, ..] => "zcat",
+            [0x28, 0xB5, 0x2F, 0xFD, ..] => "zstdcat",
+            _ => return,
+        };
+        let _ = writeln!(
+            self.writer,
+            "clock2q-simulate: {name}: warning: looks compressed: try {command} FILE | ./clock2q-simulate .. -"
+        );
     }
 
     /// Writes a warning if a trace is suspicious, whether progress is shown or not.

@@ -34,7 +34,8 @@ pub struct Hits {
 ///
 /// ```
 /// let input = b"a\nb\na\nc\nb\nd\na\nb\n".as_slice();
-/// let trace = read_trace(rt.alloc(), hasher, &mut Device::new(input), &mut progress)?;
+/// let mut reader = Device::new(input);
+/// let trace = read_trace(alloc, hasher, "-", TraceFormat::Lines, &mut reader, &mut progress)?;
 /// let row = replay(rt.alloc(), two, &[Policy::FirstInFirstOut], None, 0, &trace)?; // for two keys
 /// assert_eq!(rt; row.ratio(row.hits[0].hits), 0.25);
 /// ```

@@ -41,7 +41,7 @@ pub fn simulate<R: Source, W: Sink, P: Write, S: BuildHasher + Drop, A: Allocato
     writer: &mut W,
     progress: &mut Progress<P>,
 ) -> Result<(), SimulationError>
-    ensures ok { OnOk result (IsSimulated (R.given reader.old) (R.given reader.new) (R.remaining reader.old) (R.remaining reader.new)
+    ensures ok { OnOk result (IsSimulated (R.given reader.old) (R.given reader.new) (R.remaining reader.old) (R.remaining reader.new) options.now.trace_format
         (W.taken writer.old) (W.taken writer.new) (W.contents writer.old) (W.contents writer.new)) }
 
     // A failed device is always reported, and no other refusal is reported this way.

@@ -44,13 +44,13 @@ pub struct Trace<A: Allocator> {
 }
 
 impl<A: Allocator> Model for Trace<A> {
-    ghost use Rattle.clock2q_simulation.specs.Trace.{Numbered, AreTold};
+    ghost use Rattle.clock2q_simulation.specs.Trace.{Numbered, AreNumbersOf};
 
     ghost Value = { Numbered };
 
     ghost view = { λ t. record { keys = t.keys.value; numbers = t.numbers.items; different = t.different } };
 
-    ghost invariant = { λ t. AreTold t.keys.value t.numbers.items t.different };
+    ghost invariant = { λ t. AreNumbersOf t.keys.value t.numbers.items t.different };
 }
 
 impl<A: Allocator> Trace<A> {

@@ -3,8 +3,8 @@
 
 use clock2q_ports::{Device, Source, send};
 use clock2q_simulation::{
-    Complaint, HELP, Options, Outcome, Progress, STANDARD_INPUT, SimulationError, parse_options,
-    replay_source, write_outcomes,
+    ErrorReport, Options, Outcome, Progress, STANDARD_INPUT, SimulationError, help_for,
+    parse_options, replay_source, write_outcomes,
 };
 use std::alloc::Global;
 use std::env;
@@ -25,12 +25,12 @@ fn main(rt: HostRuntime) -> ExitCode {
     let Err(Ended { refusal, trace }) = ended else {
         return ExitCode::SUCCESS;
     };
-    let complaint = Complaint {
+    let report = ErrorReport {
         refusal,
         trace,
         arguments: &arguments,
     };
-    let _ = eprintln!(rt; "{complaint}");
+    let _ = eprintln!(rt; "{report}");
     ExitCode::from(refusal.status())
 }
 
@@ -59,8 +59,8 @@ fn arguments_of(rt: &HostRuntime) -> Result<Vec<String>, SimulationError> {
 
 fn run(rt: &HostRuntime, arguments: &[String]) -> Result<(), Ended> {
     let mut writer = Device::new(rt.stdout());
-    if arguments.iter().any(|argument| is_help(argument.as_str())) {
-        return send(&mut writer, HELP.as_bytes()).map_err(|_| Ended::at_none(
+    if let Some(text) = help_for(arguments) {
+        return send(&mut writer, text.as_bytes()).map_err(|_| Ended::at_none(
             SimulationError::Write,
         ));
     }
@@ -145,8 +145,4 @@ fn replay<'a, R: Source>(
             replay_source(rt.alloc(), options, name, hasher, reader, progress)
         }
     }
-}
-
-fn is_help(argument: &str) -> bool {
-    argument == "-h" || argument == "--help"
 }

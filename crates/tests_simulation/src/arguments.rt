@@ -2,9 +2,11 @@
 
 use clock2q_cache::MAX_CAPACITY;
 use clock2q_simulation::{
-    Amount, Complaint, Format, Options, Policy, SimulationError, Unit, parse_options,
+    Amount, ErrorReport, FORMATS_HELP, Format, HELP, Options, POLICIES_HELP, Policy,
+    SimulationError, TraceFormat, Unit, help_for, parse_options,
 };
 use std::alloc::Global;
+use std::num::NonZeroUsize;
 use std::test::Fail;
 use testing::{same, same_at};
 
@@ -31,24 +33,23 @@ pub(crate) fn options_of(alloc: Global, line: &str) -> Result<Options<Global>, F
 }
 
 /// Returns the message for a line of refused arguments, and the status.
-fn complaint_of(alloc: Global, line: &str) -> Result<(String, u8), Fail> {
+fn report_of(alloc: Global, line: &str) -> Result<(String, u8), Fail> {
     let words = words_of(alloc, line)?;
     let Err(refusal) = parse_options(alloc, &words) else {
         return Err(Fail::from("not refused"));
     };
-    let complaint = Complaint {
+    let report = ErrorReport {
         refusal,
         trace: None,
         arguments: &words,
     };
-    Ok((format!(in alloc; "{complaint}")?, refusal.status()))
+    Ok((format!(in alloc; "{report}")?, refusal.status()))
 }
 
 /// Checks the message for a line of refused arguments, and the status.
 fn is_refused(alloc: Global, line: &str, wanted: &str, status: u8) -> Result<(), Fail> {
-    let (text, told) = complaint_of(alloc, line)?;
-    same_at((text.as_str(), told), (wanted, status), line)?;
-    Ok(())
+    let (text, given) = report_of(alloc, line)?;
+    same_at((text.as_str(), given), (wanted, status), line)
 }
 
 const NOT_CAPACITY: &str = "not a capacity (1 to 16777215, 1k, 1M, 0.0001% to 100%, or 10..1M)";
@@ -109,7 +110,7 @@ fn refused_capacities(rt: HostRuntime) -> Result<(), Fail> {
 }
 
 /// Arguments with an option that is refused, and the message.
-const REFUSED_OPTIONS: [(&str, &str); 22] = [
+const REFUSED_OPTIONS: [(&str, &str); 33] = [
     ("", "no capacity (see --help)"),
     ("--csv", "no capacity (see --help)"),
     ("--csv --svg 5", "--svg: a second form beside another one"),
@@ -135,16 +136,57 @@ const REFUSED_OPTIONS: [(&str, &str); 22] = [
     ),
     ("--window=1 5 --window 2", "--window: option given twice"),
     (
+        "5 --skip 1.5k",
+        "1.5k: not a number of accesses (as 100000, 100k or 1M)",
+    ),
+    ("5 --format", "--format: nothing after it"),
+    (
+        "5 --format=tsv",
+        "--format=tsv: unknown format (lines, csv or oracleGeneral)",
+    ),
+    (
+        "5 --format CSV --column 1",
+        "CSV: unknown format (lines, csv or oracleGeneral)",
+    ),
+    (
+        "5 --format=csv --format lines",
+        "--format: option given twice",
+    ),
+    (
+        "5 --format csv",
+        "csv: csv without a column of keys (--column=1 for the first)",
+    ),
+    (
+        "5 --format=csv --column=0",
+        "--column=0: not a column (1 for the first)",
+    ),
+    (
+        "5 --format=csv --column key",
+        "key: not a column (1 for the first)",
+    ),
+    (
+        "5 --format=csv --column=1 --column=1",
+        "--column=1: option given twice",
+    ),
+    (
+        "--column 2 5",
+        "2: a column of keys, which only --format=csv has",
+    ),
+    (
+        "--column=2 5 --format=oracleGeneral",
+        "--column=2: a column of keys, which only --format=csv has",
+    ),
+    (
         "5 --policies=new",
-        "--policies=new: unknown policy (--help names them)",
+        "--policies=new: unknown policy (--help policies names them)",
     ),
     (
         "5 --policies lru,new",
-        "lru,new: unknown policy (--help names them)",
+        "lru,new: unknown policy (--help policies names them)",
     ),
     (
         "5 --policies lru,",
-        "lru,: unknown policy (--help names them)",
+        "lru,: unknown policy (--help policies names them)",
     ),
     (
         "5 --policies lru,opt,lru",
@@ -250,12 +292,12 @@ fn traces(rt: HostRuntime) -> Result<(), Fail> {
         ),
         (SimulationError::Memory, "clock2q-simulate: no memory"),
     ] {
-        let complaint = Complaint {
+        let report = ErrorReport {
             refusal,
             trace: Some(1),
             arguments: &words,
         };
-        let text = format!(in rt.alloc(); "{complaint}")?;
+        let text = format!(in rt.alloc(); "{report}")?;
         same(text.as_str(), wanted)?;
     }
     Ok(())
@@ -338,12 +380,12 @@ const ALL: Amount = Amount {
 
 #[test]
 fn refused_percentage(rt: HostRuntime) -> Result<(), Fail> {
-    let complaint = Complaint {
+    let report = ErrorReport {
         refusal: SimulationError::Capacity(ALL),
         trace: None,
         arguments: &[],
     };
-    let text = format!(in rt.alloc(); "{complaint}")?;
+    let text = format!(in rt.alloc(); "{report}")?;
     same(
         text.as_str(),
         "clock2q-simulate: 100%: a capacity above 16777215",
@@ -385,6 +427,47 @@ fn amounts_show(rt: HostRuntime) -> Result<(), Fail> {
         let amount = Amount::written(word).ok_or("no amount")?;
         let text = format!(in rt.alloc(); "{amount}")?;
         same(text.as_str(), word)?;
+    }
+    Ok(())
+}
+
+/// The formats of traces.
+#[test]
+fn formats(rt: HostRuntime) -> Result<(), Fail> {
+    let second = TraceFormat::Csv(NonZeroUsize::new(2).ok_or("not zero")?);
+    for (line, wanted) in [
+        ("5", TraceFormat::Lines),
+        ("5 --format=lines", TraceFormat::Lines),
+        ("--format oracleGeneral 5", TraceFormat::OracleGeneral),
+        ("--column 2 5 --csv --format csv", second),
+        ("5 --format=csv --column=02", second),
+    ] {
+        same_at(
+            options_of(rt.alloc(), line)?.trace_format,
+            wanted,
+            line,
+        )?;
+    }
+    Ok(())
+}
+
+/// The help texts: the first fits a screen, and the subject is the word after the option.
+#[test]
+fn help(rt: HostRuntime) -> Result<(), Fail> {
+    for (line, wanted) in [
+        ("5 formats", None),
+        ("--help", Some(HELP)),
+        ("5 -h", Some(HELP)),
+        ("--help 5", Some(HELP)),
+        ("--help formats", Some(FORMATS_HELP)),
+        ("5 -h policies", Some(POLICIES_HELP)),
+    ] {
+        same_at(help_for(&words_of(rt.alloc(), line)?), wanted, line)?;
+    }
+    same(HELP.lines().count() <= 28, true)?;
+    for policy in Policy::ALL {
+        let name = format!(in rt.alloc(); "\n  {} ", policy.name())?;
+        same_at(POLICIES_HELP.contains(name.as_str()), true, policy)?;
     }
     Ok(())
 }

@@ -9,6 +9,8 @@ mod arguments;
 #[cfg(test)]
 mod devices;
 #[cfg(test)]
+mod formats;
+#[cfg(test)]
 mod hits;
 #[cfg(test)]
 mod lirs;

@@ -2,7 +2,7 @@
 
 use clock2q_cache::DefaultHashBuilder;
 use clock2q_ports::Device;
-use clock2q_simulation::{GrowingTrace, Progress, SimulationError, Trace, read_trace};
+use clock2q_simulation::{GrowingTrace, Progress, SimulationError, Trace, TraceFormat, read_trace};
 use std::alloc::Global;
 use std::test::Fail;
 use testing::{same, same_at};
@@ -11,7 +11,9 @@ use testing::{same, same_at};
 pub(crate) fn trace_of(alloc: Global, input: &[u8]) -> Result<Trace<Global>, SimulationError> {
     let mut progress = Progress::new(Vec::new(alloc), false);
     let hasher = DefaultHashBuilder::new();
-    read_trace(alloc, hasher, &mut Device::new(input), &mut progress)
+    let mut reader = Device::new(input);
+    let lines = TraceFormat::Lines;
+    read_trace(alloc, hasher, "-", lines, &mut reader, &mut progress)
 }
 
 #[test]

@@ -64,6 +64,7 @@ fn each_request(rt: HostRuntime) -> Result<(), Fail> {
         "--svg",
         "--json --window=3",
         "--svg --window=3",
+        "--json --format=csv --column=1",
     ] {
         let line = format!(in rt.alloc(); "{form} {asked} {ALL_POLICIES}")?;
         let words = words_of(rt.alloc(), &line)?;

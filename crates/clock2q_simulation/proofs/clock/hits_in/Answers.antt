@@ -14,5 +14,5 @@ loop-key-preserved g c =
     ] in
     record {
       few = elim c.if-is_some.branch [ then-is_some w ↦ omega arith | else-is_some w ↦ omega arith ];
-      told = rw c.put.ensures.machine (counted machine_holds machine_after c.args.trace.now c.loop-key.key-index c.loop-key.hits c.if-is_some.hits _ c.loop-key.cache.machine c.loop-key-test.true c.loop-key.invariant.told more);
+      sum = rw c.put.ensures.machine (counted machine_holds machine_after c.args.trace.now c.loop-key.key-index c.loop-key.hits c.if-is_some.hits _ c.loop-key.cache.machine c.loop-key-test.true c.loop-key.invariant.sum more);
     }

@@ -7,5 +7,5 @@ use Rattle.clock2q_simulation.proofs.clock.hits_in.Given as goal
 abbrev pub invariant-loop-key : goal.invariant-loop-key
 invariant-loop-key g l = record {
   few : l.hits ≤ l.key-index;
-  told : l.hits + hits machine_holds machine_after (drop l.key-index l.trace) l.cache.machine ≡ hits machine_holds machine_after l.trace l.fn.cache.machine;
+  sum : l.hits + hits machine_holds machine_after (drop l.key-index l.trace) l.cache.machine ≡ hits machine_holds machine_after l.trace l.fn.cache.machine;
 }

@@ -1,25 +1,46 @@
-use Rattle.std.proofs.Common.{◌∙◌, ◌++◌, false, take, ap, rules}
+use Rattle.std.proofs.Common.{◌≡◌, ◌∙◌, ◌++◌, ℕ, List, None, false, take, ap, sym, rules}
 use Rattle.std.proofs.lemmas.Bool.{ne_eqb}
+use Rattle.std.proofs.lemmas.Result.{err_from_is_err_and}
 use Rattle.clock2q_ports.specs.Ports.{traffic_after}
-use Rattle.clock2q_simulation.proofs.LineByLine.{read-given, read-more, read-whole}
+use Rattle.clock2q_simulation.specs.Formats.{keys_after}
+use Rattle.clock2q_simulation.proofs.RecordByRecord.{finished, given-up, read-bad, read-given, read-new}
 use Rattle.clock2q_simulation.proofs.reading.read_trace.Goals as goal
 
-pub loop-preserved : goal.loop-preserved
-loop-preserved g c =
-    let given = c.in-Ok.ensures.given ∙ ap (λ b. traffic_after (g.R.Source.given c.loop.reader) (take c.in-Ok.count c.read.new.into) b false) (ne_eqb c.in-Ok.count 0 c.if-count-eq0.false) in
-    read-more _ (g.R.Source.given c.loop.reader) (g.R.Source.given c.read.new.self) _ (g.R.Source.remaining c.loop.reader) (g.R.Source.remaining c.read.new.self) c.loop.lines.trace.keys c.loop.lines.line.items
-    (take c.in-Ok.count c.read.new.into) c.loop.invariant c.take.new.self.trace.keys c.take.new.self.line.items given c.in-Ok.ensures.bytes.0 c.in-Ok-take.ensures.taken
+pub loop-index-init : goal.loop-index-init
+loop-index-init g c =
+    let made = c.new-records in
+    record {
+      format = made.ensures.format;
+      read = read-new (g.R.Source.given c.args.reader.now) (g.R.Source.remaining c.args.reader.now) c.args.format made.result.trace.keys made.result.count made.result.begun.items made.ensures.keys made.ensures.count made.ensures.begun;
+    }
 
-pub returns-in-Ok-finish : goal.returns-in-Ok-finish
-returns-in-Ok-finish g c =
-    read-whole _ (g.R.Source.given c.loop.reader) (g.R.Source.given c.read.new.self) _ (g.R.Source.remaining c.loop.reader) (g.R.Source.remaining c.read.new.self) c.loop.lines.trace.keys c.in-Ok-finish.trace.keys c.loop.lines.line.items c.loop.invariant
-    (rw c.if-count-eq0.true at c.in-Ok.ensures.given) (rw c.if-count-eq0.true at c.in-Ok.ensures.bytes.0) (c.in-Ok.ensures.bytes.1 c.if-count-eq0.true (search rules)) c.in-Ok-finish.ensures.keys
+pub returns-then-count-eq0 : goal.returns-then-count-eq0
+returns-then-count-eq0 g c =
+    let records = c.loop-index.records in
+    finished (g.R.Source.given c.args.reader.now) (g.R.Source.given c.loop-index.reader) (g.R.Source.given c.read.new.self)
+    (g.R.Source.remaining c.args.reader.now) (g.R.Source.remaining c.loop-index.reader) (g.R.Source.remaining c.read.new.self)
+    c.args.format records.format records.trace.keys records.count records.begun.items c.loop-index.invariant.read (λ trace. trace.keys) c.finish.result c.loop-index.invariant.format
+    (rw c.if-count-eq0.true at c.in-Ok.ensures.given) (rw c.if-count-eq0.true at c.in-Ok.ensures.bytes.0) (c.in-Ok.ensures.bytes.1 c.if-count-eq0.true (search rules))
+    c.finish.ensures.keys c.finish.ensures.bad
 
-pub returns-in-Err-take : goal.returns-in-Err-take
-returns-in-Err-take g c =
-    let given = c.in-Ok.ensures.given ∙ ap (λ b. traffic_after (g.R.Source.given c.loop.reader) (take c.in-Ok.count c.read.new.into) b false) (ne_eqb c.in-Ok.count 0 c.if-count-eq0.false) in (
-      c.loop.invariant.input ++ take c.in-Ok.count c.read.new.into,
-      false,
-      read-given _ (g.R.Source.given c.loop.reader) (g.R.Source.given c.read.new.self) _ (g.R.Source.remaining c.loop.reader) (g.R.Source.remaining c.read.new.self) c.loop.lines.trace.keys c.loop.lines.line.items
-          (take c.in-Ok.count c.read.new.into) c.loop.invariant false false given,
-    )
+pub returns-in_err-take : goal.returns-in_err-take
+returns-in_err-take g c =
+    let records = c.loop-index.records in
+    let format = c.args.format in
+    let bytes = take c.in-Ok.count c.read.new.into in
+    let is = c.loop-index.invariant.read in
+    let old = g.R.Source.given c.args.reader.now in
+    let mid = g.R.Source.given c.loop-index.reader in
+    let new = g.R.Source.given c.read.new.self in
+    let left = g.R.Source.remaining c.args.reader.now in
+    let some = g.R.Source.remaining c.loop-index.reader in
+    let remain = g.R.Source.remaining c.read.new.self in
+    let given : new ≡ traffic_after mid bytes false false = c.in-Ok.ensures.given ∙ ap (λ b. traffic_after mid bytes b false) (ne_eqb c.in-Ok.count 0 c.if-count-eq0.false) in
+    let p = err_from_is_err_and c.from_residual.result c.from_residual.ensures.1 in
+    rw (p.1, p.2)
+    (given-up old new left remain format c.in_err-take.field-0.0
+    (is.input ++ bytes, false, read-given old mid new left some remain format records.trace.keys records.count records.begun.items bytes is false false given)
+    (λ (none : (next : List ℕ) → keys_after records.format records.count (records.begun.items ++ (bytes ++ next)) ≡ None).
+    read-bad old mid new left some remain format records.trace.keys records.count records.begun.items bytes is given
+    (λ next. ap (λ f. keys_after f records.count (records.begun.items ++ (bytes ++ next))) (sym c.loop-index.invariant.format) ∙ none next))
+    c.in_err-take.ensures.bad)

@@ -1,0 +1,390 @@
+-- Records put together byte by byte, and read from a source.
+use Rattle.std.proofs.Common.{◌≡◌, ℕ, zero, suc, ◌+◌, ◌-◌, ◌/◌, ◌%◌, ◌<◌, ◌≤◌, Bool, true, false, cond, List, [], ◌∷◌, ◌++◌, length, length-append, map, take, drop, get_or, eqb, refl, sym, ap, subst, ◌∙◌, arith, rules, append_assoc, append-nil, Option, None, Some, Result, Ok, Err}
+use Rattle.std.proofs.lemmas.Bool.{eqb-true, ne_eqb}
+use Rattle.std.proofs.lemmas.List.{drop_more, drop_all}
+use Rattle.std.proofs.lemmas.List.Elements.{All-append}
+use Rattle.std.proofs.lemmas.List.Splits.{slice_split_at, slice_split_none}
+use Rattle.std.proofs.Math.Seq.{take-append_seam, drop-append_seam}
+use Rattle.std.specs.Io.KnownBytes.{Consumes, IsAtEnd}
+use Rattle.std.specs.NonZero.{non_zero_usize_get}
+use Rattle.std.specs.Option.{option_map}
+use Rattle.std.specs.Result.{IfErr, IfOk, OnOk}
+use Rattle.std.specs.Simd.{first_chunks}
+use Rattle.clock2q_ports.specs.Lines.{lines_of}
+use Rattle.clock2q_ports.proofs.Lines.{lines_of-ended, lines_of-last, lines_of-empty}
+use Rattle.clock2q_ports.specs.Ports.{Traffic, traffic_after, one_if}
+use Rattle.clock2q_simulation.specs.declared.error.SimulationError.{SimulationError}
+use Rattle.clock2q_simulation.specs.declared.error.SimulationError.TheVariants.{Argument, NotText, NoCapacity, UnusedShares, Shares, Capacity, Memory, Open, Read, Line, Record, Write}
+use Rattle.clock2q_simulation.specs.declared.format.TraceFormat.{TraceFormat}
+use Rattle.clock2q_simulation.specs.declared.format.TraceFormat.TheVariants.{Lines, Csv, OracleGeneral}
+use Rattle.clock2q_simulation.specs.Formats.{column_of, consed, field, id_of, keys_after, keys_in}
+use Rattle.clock2q_simulation.specs.Reading.{AreRead, HasNoEnd, IsBad, IsBegun, IsGivenUp, IsNoTrace, IsOfLines, IsWhole, ReadsTrace, Takes, between, joined_keys}
+
+-- a line and its end come first of the lines
+pub ended-lines : (line next : List ℕ) → HasNoEnd line → lines_of (line ++ 10 ∷ next) ≡ line ∷ lines_of next
+ended-lines line next h = lines_of-ended (line ++ 10 ∷ next) line next (slice_split_at (λ b. eqb b 10) line 10 next h refl)
+
+-- the last line, which lacks its end
+pub last-line : (line : List ℕ) → HasNoEnd line → 0 < length line → lines_of line ≡ line ∷ []
+last-line line h some =
+    lines_of-last line line (slice_split_none (λ b. eqb b 10) line h) some ∙ ap (λ xs. line ∷ xs) (lines_of-empty [] refl)
+
+-- a line that hasn't ended yet, with one more byte
+pub longer-line : (line : List ℕ) (byte : ℕ) → HasNoEnd line → eqb byte 10 ≡ false → HasNoEnd (line ++ byte ∷ [])
+longer-line line byte h e = All-append (λ b. eqb b 10 ≡ false) line (byte ∷ []) h (search (rules, e))
+
+-- no byte has no end
+pub no-line : HasNoEnd []
+no-line = λ k d l. absurd (omega (arith, l))
+
+-- keys, and one more before those of the rest
+pub joined-more : (keys : List (List ℕ)) (key : List ℕ) (rest : Option (List (List ℕ))) → joined_keys keys (consed (Some key) rest) ≡ joined_keys (keys ++ key ∷ []) rest
+joined-more keys key None = refl
+joined-more keys key (Some rest) = ap Some (sym (append_assoc keys (key ∷ []) rest))
+
+pub joined-none : (keys : List (List ℕ)) (rest : Option (List (List ℕ))) → joined_keys keys rest ≡ None → rest ≡ None
+joined-none keys None e = refl
+joined-none keys (Some rest) e = absurd (cc)
+
+pub joined-nothing : (rest : Option (List (List ℕ))) → joined_keys [] rest ≡ rest
+joined-nothing None = refl
+joined-nothing (Some rest) = refl
+
+pub joined-twice : (keys more : List (List ℕ)) (rest : Option (List (List ℕ))) → joined_keys keys (joined_keys more rest) ≡ joined_keys (keys ++ more) rest
+joined-twice keys more None = refl
+joined-twice keys more (Some rest) = ap Some (sym (append_assoc keys more rest))
+
+-- what a refusal of records says, from something that implies it
+pub bad-by : (refusal : SimulationError) {P Q : Type 0} → (P → Q) → IsBad refusal P → IsBad refusal Q
+bad-by (Line _ _) f b = f b
+bad-by (Record _) f b = f b
+bad-by Memory f b = b
+bad-by Open f b = b
+bad-by Read f b = b
+bad-by Write f b = b
+bad-by (Capacity _) f b = b
+bad-by (Argument _ _) f b = b
+bad-by NotText f b = b
+bad-by NoCapacity f b = b
+bad-by UnusedShares f b = b
+bad-by (Shares _) f b = b
+
+-- the same of a result, and what a result without one says
+pub bad-result : {X : Type 0} (result : Result X SimulationError) {P Q : Type 0} → (P → Q) → IfErr result (λ refusal. IsBad refusal P) → IfErr result (λ refusal. IsBad refusal Q)
+bad-result (Ok x) f b = b
+bad-result (Err refusal) f b = bad-by refusal f b
+
+pub ok-result : {X E : Type 0} (result : Result X E) {P Q : Type 0} → (P → Q) → OnOk result P → OnOk result Q
+ok-result (Ok x) f p = f p
+ok-result (Err e) f p = p
+
+-- 24 bytes and what follows
+module _ (part next : List ℕ) (h : length part ≡ 24) where
+  whole-first : (n : ℕ) → first_chunks 24 (suc n) (part ++ next) ≡ part ∷ first_chunks 24 n next
+  whole-first n =
+      let first : take 24 (part ++ next) ≡ part = ap (λ k. take k (part ++ next)) (sym h) ∙ take-append_seam part next in
+      let rest : drop 24 (part ++ next) ≡ next = ap (λ k. drop k (part ++ next)) (sym h) ∙ drop-append_seam part next in
+      rw (first, rest) refl
+
+  pub piece-first : (keys : List (List ℕ)) (count counted : ℕ) → joined_keys keys (keys_after OracleGeneral count (part ++ next)) ≡ joined_keys (keys ++ id_of part ∷ []) (keys_after OracleGeneral counted next)
+  piece-first keys count counted =
+      let long : length (part ++ next) ≡ 24 + length next = length-append part next ∙ ap (λ n. n + length next) h in
+      let left : length (part ++ next) % 24 ≡ length next % 24 = omega (arith, long) in
+      let many : length (part ++ next) / 24 ≡ suc (length next / 24) = omega (arith, long) in
+      ap (λ n. joined_keys keys (cond (eqb n 0) (Some (map id_of (first_chunks 24 (length (part ++ next) / 24) (part ++ next)))) None)) left
+      ∙ ap (λ n. joined_keys keys (cond (eqb (length next % 24) 0) (Some (map id_of (first_chunks 24 n (part ++ next)))) None)) many
+      ∙ ap (λ rs. joined_keys keys (cond (eqb (length next % 24) 0) (Some (map id_of rs)) None)) (whole-first (length next / 24))
+      ∙ cases (eqb (length next % 24) 0) (map id_of (first_chunks 24 (length next / 24) next))
+    where
+      cases : (b : Bool) (ids : List (List ℕ)) → joined_keys keys (cond b (Some (id_of part ∷ ids)) None) ≡ joined_keys (keys ++ id_of part ∷ []) (cond b (Some ids) None)
+      cases false ids = refl
+      cases true ids = ap Some (sym (append_assoc keys (id_of part ∷ []) ids))
+
+-- the format csv, with its keys in a column
+abbrev pub IsCsv : ℕ → TraceFormat → Type 0
+IsCsv column Lines = ⊥
+IsCsv column (Csv other) = non_zero_usize_get other ≡ column
+IsCsv column OracleGeneral = ⊥
+
+module _ (keys more : List (List ℕ)) (count counted : ℕ) (part : List ℕ) where
+  -- a record that ends, and what its key does to those so far
+  abbrev pub Ends : TraceFormat → Type 0
+  Ends format = (next : List ℕ) → joined_keys keys (keys_after format count (part ++ (between format ++ next))) ≡ joined_keys more (keys_after format counted next)
+
+  pub line-ends : (format : TraceFormat) → format ≡ Lines → IsWhole format part → more ≡ keys ++ part ∷ [] → Ends format
+  line-ends Lines e whole m next =
+      ap (λ ls. joined_keys keys (Some ls)) (ended-lines part next whole) ∙ joined-more keys part (Some (lines_of next)) ∙ ap (λ ks. joined_keys ks (Some (lines_of next))) (sym m)
+  line-ends (Csv column) e whole m next = absurd (cc)
+  line-ends OracleGeneral e whole m next = absurd (cc)
+
+  pub header-ends : (format : TraceFormat) (column : ℕ) → IsCsv column format → IsWhole format part → count ≡ 0 → 0 < counted → more ≡ keys → Ends format
+  header-ends Lines column e whole z some m next = absurd e
+  header-ends OracleGeneral column e whole z some m next = absurd e
+  header-ends (Csv other) column e whole z some m next =
+      let first : drop (1 - count) (lines_of (part ++ 10 ∷ next)) ≡ lines_of next = rw (z, ended-lines part next whole) refl in
+      let none : 1 - counted ≡ 0 = omega arith in
+      ap (λ ls. joined_keys keys (column_of (non_zero_usize_get other) ls)) first ∙ rw (m, none) refl
+
+  pub fields-end : (format : TraceFormat) (column : ℕ) (key : List ℕ) → IsCsv column format → IsWhole format part → 0 < count → 0 < counted → field column part ≡ Some key → more ≡ keys ++ key ∷ [] → Ends format
+  fields-end Lines column key e whole so some f m next = absurd e
+  fields-end OracleGeneral column key e whole so some f m next = absurd e
+  fields-end (Csv other) column key e whole so some f m next =
+      let before : 1 - count ≡ 0 = omega arith in
+      let after : 1 - counted ≡ 0 = omega arith in
+      let at : field (non_zero_usize_get other) part ≡ Some key = ap (λ c. field c part) e ∙ f in
+      ap (λ n. joined_keys keys (column_of (non_zero_usize_get other) (drop n (lines_of (part ++ 10 ∷ next))))) before
+      ∙ ap (λ ls. joined_keys keys (column_of (non_zero_usize_get other) ls)) (ended-lines part next whole)
+      ∙ ap (λ k. joined_keys keys (consed k (column_of (non_zero_usize_get other) (lines_of next)))) at
+      ∙ joined-more keys key (column_of (non_zero_usize_get other) (lines_of next))
+      ∙ rw (m, after) refl
+
+  pub no-field-ends : (format : TraceFormat) (column : ℕ) → IsCsv column format → IsWhole format part → 0 < count → field column part ≡ None
+      → (next : List ℕ) → keys_after format count (part ++ (between format ++ next)) ≡ None
+  no-field-ends Lines column e whole so f next = absurd e
+  no-field-ends OracleGeneral column e whole so f next = absurd e
+  no-field-ends (Csv other) column e whole so f next =
+      let before : 1 - count ≡ 0 = omega arith in
+      let at : field (non_zero_usize_get other) part ≡ None = ap (λ c. field c part) e ∙ f in
+      ap (λ n. column_of (non_zero_usize_get other) (drop n (lines_of (part ++ 10 ∷ next)))) before
+      ∙ ap (column_of (non_zero_usize_get other)) (ended-lines part next whole)
+      ∙ ap (λ k. consed k (column_of (non_zero_usize_get other) (lines_of next))) at
+
+  pub piece-ends : (format : TraceFormat) → format ≡ OracleGeneral → IsWhole format part → more ≡ keys ++ id_of part ∷ [] → Ends format
+  piece-ends Lines e whole m next = absurd (cc)
+  piece-ends (Csv column) e whole m next = absurd (cc)
+  piece-ends OracleGeneral e whole m next = piece-first part next whole keys count counted ∙ ap (λ ks. joined_keys ks (keys_after OracleGeneral counted next)) (sym m)
+
+-- a whole record is begun, and one of 24 bytes isn't of lines
+pub whole-line : (format : TraceFormat) (part : List ℕ) → IsOfLines format → IsBegun format part → IsWhole format part
+whole-line Lines part l h = h
+whole-line (Csv column) part l h = h
+whole-line OracleGeneral part l h = absurd l
+
+pub begun-line : (format : TraceFormat) (part : List ℕ) → IsOfLines format → HasNoEnd part → IsBegun format part
+begun-line Lines part l h = h
+begun-line (Csv column) part l h = h
+begun-line OracleGeneral part l h = absurd l
+
+pub line-begun : (format : TraceFormat) (part : List ℕ) → IsOfLines format → IsBegun format part → HasNoEnd part
+line-begun Lines part l h = h
+line-begun (Csv column) part l h = h
+line-begun OracleGeneral part l h = absurd l
+
+pub after-line : (format : TraceFormat) → IsOfLines format → between format ≡ 10 ∷ []
+after-line Lines l = refl
+after-line (Csv column) l = refl
+after-line OracleGeneral l = absurd l
+
+-- nothing of a record
+pub none-begun : (format : TraceFormat) → IsBegun format []
+none-begun Lines = no-line
+none-begun (Csv column) = no-line
+none-begun OracleGeneral = omega arith
+
+-- the last line is as if it had its end
+pub last-ends : (format : TraceFormat) (part : List ℕ) (count : ℕ) → IsOfLines format → IsBegun format part → 0 < length part → keys_after format count part ≡ keys_after format count (part ++ (between format ++ []))
+last-ends format part count l h some = cases format l h where
+  same : HasNoEnd part → lines_of part ≡ lines_of (part ++ 10 ∷ [])
+  same h = last-line part h some ∙ sym (ended-lines part [] h ∙ ap (λ ls. part ∷ ls) (lines_of-empty [] refl))
+
+  cases : (format : TraceFormat) → IsOfLines format → IsBegun format part → keys_after format count part ≡ keys_after format count (part ++ (between format ++ []))
+  cases Lines l h = ap Some (same h)
+  cases (Csv column) l h = ap (λ ls. column_of (non_zero_usize_get column) (drop (1 - count) ls)) (same h)
+  cases OracleGeneral l h = absurd l
+
+-- nothing is left
+pub none-left : (format : TraceFormat) (count : ℕ) → keys_after format count [] ≡ Some []
+none-left Lines count = ap Some (lines_of-empty [] refl)
+none-left (Csv column) count = ap (λ ls. column_of (non_zero_usize_get column) (drop (1 - count) ls)) (lines_of-empty [] refl) ∙ ap (column_of (non_zero_usize_get column)) (drop_all (1 - count) [] (omega arith))
+none-left OracleGeneral count = refl
+
+-- part of a record is left
+pub part-left : (format : TraceFormat) (part : List ℕ) (count : ℕ) → format ≡ OracleGeneral → IsBegun format part → 0 < length part → keys_after format count part ≡ None
+part-left Lines part count e h some = absurd (cc)
+part-left (Csv column) part count e h some = absurd (cc)
+part-left OracleGeneral part count e h some =
+    let below : length part < 24 = h in
+    let left : (length part % 24 ≡ 0) → ⊥ = λ z. omega (arith, below, some, z) in
+    rw (ne_eqb (length part % 24) 0 left) refl
+
+-- bytes that went through a source, and those that came after them
+pub went-on : (old : Traffic) (xs ys : List ℕ) (stopped failed : Bool) → traffic_after (traffic_after old xs false false) ys stopped failed ≡ traffic_after old (xs ++ ys) stopped failed
+went-on old xs ys stopped failed =
+    let bytes : (old.bytes ++ xs) ++ ys ≡ old.bytes ++ (xs ++ ys) = append_assoc old.bytes xs ys in
+    let stops : old.stops + 0 + one_if stopped ≡ old.stops + one_if stopped = omega arith in
+    let failures : old.failures + 0 + one_if failed ≡ old.failures + one_if failed = omega arith in
+    cc
+
+-- what was read from a source so far: the keys so far, and those of what has come of the next record and of what follows
+pub record IsReadUpTo (old new : Traffic) (left remain : Option (List ℕ)) (format : TraceFormat) (keys : List (List ℕ)) (count : ℕ) (line : List ℕ) : Type 0 where
+  pub begun : IsBegun format line
+  pub input : List ℕ
+  pub given : new ≡ traffic_after old input false false
+  pub consumed : Consumes left remain input
+  pub same : (next : List ℕ) → keys_in format (input ++ next) ≡ joined_keys keys (keys_after format count (line ++ next))
+
+Consumes-twice : (a b c : Option (List ℕ)) (xs ys : List ℕ) → Consumes a b xs → Consumes b c ys → Consumes a c (xs ++ ys)
+Consumes-twice None b c xs ys p q = tt
+Consumes-twice (Some x) None c xs ys p q = absurd p
+Consumes-twice (Some x) (Some y) None xs ys p q = absurd q
+Consumes-twice (Some x) (Some y) (Some z) xs ys p q = p ∙ ap (λ l. xs ++ l) q ∙ sym (append_assoc xs ys z)
+
+Consumes-none : (a : Option (List ℕ)) → Consumes a a []
+Consumes-none None = tt
+Consumes-none (Some x) = refl
+
+zero_more : (n : ℕ) → n + 0 ≡ n
+zero_more n = omega arith
+
+-- nothing has been read at first
+pub read-none : (old : Traffic) (left : Option (List ℕ)) (format : TraceFormat) → IsReadUpTo old old left left format [] 0 []
+read-none old left format = record {
+  begun = none-begun format;
+  input = [];
+  given = none;
+  consumed = Consumes-none left;
+  same = λ next. sym (joined-nothing (keys_after format 0 next));
+} where
+  none : old ≡ traffic_after old [] false false
+  none = sym (rw (append-nil old.bytes, zero_more old.stops, zero_more old.failures) refl)
+
+module _ (old mid new : Traffic) (left some remain : Option (List ℕ)) (format : TraceFormat) (keys : List (List ℕ)) (count : ℕ) (line bytes : List ℕ) (is : IsReadUpTo old mid left some format keys count line) where
+  -- the bytes of one more read
+  pub read-more : (more : List (List ℕ)) (counted : ℕ) (rest : List ℕ) → new ≡ traffic_after mid bytes false false → Consumes some remain bytes → Takes format keys count line bytes more counted rest
+      → IsReadUpTo old new left remain format more counted rest
+  read-more more counted rest given consumed takes = record {
+    begun = takes.begun;
+    input = is.input ++ bytes;
+    given = given ∙ ap (λ t. traffic_after t bytes false false) is.given ∙ went-on old is.input bytes false false;
+    consumed = Consumes-twice left some remain is.input bytes is.consumed consumed;
+    same = λ next. ap (keys_in format) (append_assoc is.input bytes next) ∙ is.same (bytes ++ next) ∙ takes.same next;
+  }
+
+  -- a read after which nothing was added
+  pub read-given : (stopped failed : Bool) → new ≡ traffic_after mid bytes stopped failed → new ≡ traffic_after old (is.input ++ bytes) stopped failed
+  read-given stopped failed given = given ∙ ap (λ t. traffic_after t bytes stopped failed) is.given ∙ went-on old is.input bytes stopped failed
+
+  -- a read of bytes that end no trace
+  pub read-bad : new ≡ traffic_after mid bytes false false → ((next : List ℕ) → keys_after format count (line ++ (bytes ++ next)) ≡ None) → IsNoTrace old new left remain format
+  read-bad given bad = record {
+    bytes = is.input ++ bytes;
+    ended = false;
+    given = read-given false false given;
+    bad = λ next _. ap (keys_in format) (append_assoc is.input bytes next) ∙ is.same (bytes ++ next) ∙ ap (joined_keys keys) (bad next);
+  }
+
+-- the end was reached
+module _ (old mid new : Traffic) (left some remain : Option (List ℕ)) (format : TraceFormat) (keys : List (List ℕ)) (count : ℕ) (line : List ℕ) (is : IsReadUpTo old mid left some format keys count line) where
+  ended-given : new ≡ traffic_after mid [] true false → new ≡ traffic_after old is.input true false
+  ended-given given =
+      given ∙ ap (λ t. traffic_after t [] true false) is.given ∙ went-on old is.input [] true false ∙ ap (λ bs. traffic_after old bs true false) (append-nil is.input)
+
+  pub read-whole : (all : List (List ℕ)) → new ≡ traffic_after mid [] true false → Consumes some remain [] → IsAtEnd remain → joined_keys keys (keys_after format count line) ≡ Some all
+      → AreRead old new left remain format all
+  read-whole all given consumed at_end e = record {
+    input = is.input;
+    given = ended-given given;
+    consumed = subst (Consumes left remain) (append-nil is.input) (Consumes-twice left some remain is.input [] is.consumed consumed);
+    at_end = at_end;
+    keys = ap (keys_in format) (sym (append-nil is.input)) ∙ is.same [] ∙ ap (λ l. joined_keys keys (keys_after format count l)) (append-nil line) ∙ e;
+  }
+
+  pub read-badly : new ≡ traffic_after mid [] true false → keys_after format count line ≡ None → IsNoTrace old new left remain format
+  read-badly given bad = record {
+    bytes = is.input;
+    ended = true;
+    given = ended-given given;
+    bad = λ next none. ap (λ n. keys_in format (is.input ++ n)) (none refl) ∙ is.same [] ∙ ap (λ l. joined_keys keys (keys_after format count l)) (append-nil line) ∙ ap (joined_keys keys) bad;
+  }
+
+-- a refusal of records, as one of reading
+pub given-up : (old new : Traffic) (left remain : Option (List ℕ)) (format : TraceFormat) (refusal : SimulationError) {P : Type 0} → ((bytes : List ℕ) × (stopped : Bool) × (new ≡ traffic_after old bytes stopped false))
+    → (P → IsNoTrace old new left remain format) → IsBad refusal P → IsGivenUp old new left remain format refusal
+given-up old new left remain format (Line _ _) m f b = f b
+given-up old new left remain format (Record _) m f b = f b
+given-up old new left remain format Memory m f b = m
+given-up old new left remain format Open m f b = b
+given-up old new left remain format Read m f b = absurd b
+given-up old new left remain format Write m f b = b
+given-up old new left remain format (Capacity _) m f b = b
+given-up old new left remain format (Argument _ _) m f b = b
+given-up old new left remain format NotText m f b = b
+given-up old new left remain format NoCapacity m f b = b
+given-up old new left remain format UnusedShares m f b = b
+given-up old new left remain format (Shares _) m f b = b
+
+-- the byte at a place, and those after it
+rest-at : (bytes : List ℕ) (i : ℕ) (next : List ℕ) → i < length bytes → drop i bytes ++ next ≡ get_or bytes i 0 ∷ (drop (i + 1) bytes ++ next)
+rest-at bytes i next h = ap (λ xs. xs ++ next) (drop_more bytes i 0 h)
+
+-- a byte that ends a line
+pub byte-ends : (format : TraceFormat) (keys more : List (List ℕ)) (count counted : ℕ) (part rest bytes : List ℕ) (i : ℕ) → i < length bytes → IsOfLines format → get_or bytes i 0 ≡ 10 → rest ≡ []
+    → Ends keys more count counted part format
+    → (next : List ℕ) → joined_keys keys (keys_after format count (part ++ (drop i bytes ++ next))) ≡ joined_keys more (keys_after format counted (rest ++ (drop (i + 1) bytes ++ next)))
+byte-ends format keys more count counted part rest bytes i h lined e none ends next =
+    let after = drop (i + 1) bytes ++ next in
+    let here : drop i bytes ++ next ≡ between format ++ after = rest-at bytes i next h ∙ ap (λ b. b ∷ after) e ∙ ap (λ xs. xs ++ after) (sym (after-line format lined)) in
+    ap (λ xs. joined_keys keys (keys_after format count (part ++ xs))) here ∙ ends after ∙ ap (λ xs. joined_keys more (keys_after format counted (xs ++ after))) (sym none)
+
+-- a byte of a record
+pub byte-more : (format : TraceFormat) (keys : List (List ℕ)) (count : ℕ) (part longer bytes : List ℕ) (i : ℕ) → i < length bytes → longer ≡ part ++ get_or bytes i 0 ∷ []
+    → (next : List ℕ) → joined_keys keys (keys_after format count (part ++ (drop i bytes ++ next))) ≡ joined_keys keys (keys_after format count (longer ++ (drop (i + 1) bytes ++ next)))
+byte-more format keys count part longer bytes i h e next =
+    let after = drop (i + 1) bytes ++ next in
+    let same : part ++ (drop i bytes ++ next) ≡ longer ++ after =
+    ap (λ xs. part ++ xs) (rest-at bytes i next h) ∙ sym (append_assoc part (get_or bytes i 0 ∷ []) after) ∙ ap (λ xs. xs ++ after) (sym e) in
+    ap (λ xs. joined_keys keys (keys_after format count xs)) same
+
+-- no byte is left
+pub bytes-done : (format : TraceFormat) (keys : List (List ℕ)) (count : ℕ) (part bytes : List ℕ) (i : ℕ) → length bytes ≤ i
+    → (next : List ℕ) → joined_keys keys (keys_after format count (part ++ (drop i bytes ++ next))) ≡ joined_keys keys (keys_after format count (part ++ next))
+bytes-done format keys count part bytes i h next = ap (λ xs. joined_keys keys (keys_after format count (part ++ (xs ++ next)))) (drop_all i bytes h)
+
+-- a line end after a line that is bad
+pub byte-bad : (format now : TraceFormat) (first keys : List (List ℕ)) (start count : ℕ) (begun part bytes : List ℕ) (i : ℕ) → i < length bytes → now ≡ format → IsOfLines format → get_or bytes i 0 ≡ 10
+    → ((next : List ℕ) → joined_keys first (keys_after format start (begun ++ (bytes ++ next))) ≡ joined_keys keys (keys_after format count (part ++ (drop i bytes ++ next))))
+    → ((next : List ℕ) → keys_after now count (part ++ (between now ++ next)) ≡ None)
+    → (next : List ℕ) → keys_after format start (begun ++ (bytes ++ next)) ≡ None
+byte-bad format now first keys start count begun part bytes i h e lined ten same none next =
+    let after = drop (i + 1) bytes ++ next in
+    let here : drop i bytes ++ next ≡ between format ++ after = rest-at bytes i next h ∙ ap (λ b. b ∷ after) ten ∙ ap (λ xs. xs ++ after) (sym (after-line format lined)) in
+    let bad : keys_after format count (part ++ (between format ++ after)) ≡ None = ap (λ f. keys_after f count (part ++ (between f ++ after))) (sym e) ∙ none after in
+    joined-none first (keys_after format start (begun ++ (bytes ++ next)))
+    (same next ∙ ap (λ xs. joined_keys keys (keys_after format count (part ++ xs))) here ∙ ap (joined_keys keys) bad)
+
+after-piece : (format : TraceFormat) → format ≡ OracleGeneral → between format ≡ []
+after-piece Lines e = absurd (cc)
+after-piece (Csv column) e = absurd (cc)
+after-piece OracleGeneral e = refl
+
+-- the last byte of a record that is bad
+pub piece-bad : (format now : TraceFormat) (first keys : List (List ℕ)) (start count counted : ℕ) (begun part longer bytes : List ℕ) (i : ℕ) → i < length bytes → now ≡ format → format ≡ OracleGeneral → counted ≡ count
+    → longer ≡ part ++ get_or bytes i 0 ∷ []
+    → ((next : List ℕ) → joined_keys first (keys_after format start (begun ++ (bytes ++ next))) ≡ joined_keys keys (keys_after format count (part ++ (drop i bytes ++ next))))
+    → ((next : List ℕ) → keys_after now counted (longer ++ (between now ++ next)) ≡ None)
+    → (next : List ℕ) → keys_after format start (begun ++ (bytes ++ next)) ≡ None
+piece-bad format now first keys start count counted begun part longer bytes i h e pieces c l same none next =
+    let after = drop (i + 1) bytes ++ next in
+    let bad : keys_after format count (longer ++ after) ≡ None =
+    ap (λ n. keys_after format n (longer ++ after)) (sym c) ∙ ap (λ xs. keys_after format counted (longer ++ (xs ++ after))) (sym (after-piece format pieces))
+    ∙ ap (λ f. keys_after f counted (longer ++ (between f ++ after))) (sym e) ∙ none after in
+    joined-none first (keys_after format start (begun ++ (bytes ++ next))) (same next ∙ byte-more format keys count part longer bytes i h l next ∙ ap (joined_keys keys) bad)
+
+-- a list without elements
+pub no-elements : (bytes : List ℕ) → eqb (length bytes) 0 ≡ true → bytes ≡ []
+no-elements [] e = refl
+no-elements (byte ∷ bytes) e = absurd (omega (arith, eqb-true (length (byte ∷ bytes)) 0 e))
+
+-- a trace before its first byte
+pub read-new : (old : Traffic) (left : Option (List ℕ)) (format : TraceFormat) (keys : List (List ℕ)) (count : ℕ) (part : List ℕ) → keys ≡ [] → count ≡ 0 → part ≡ [] → IsReadUpTo old old left left format keys count part
+read-new old left format keys count part p q r = rw (p, q, r) (read-none old left format)
+
+-- a trace after its last byte
+module _ (old mid new : Traffic) (left some remain : Option (List ℕ)) (format now : TraceFormat) (keys : List (List ℕ)) (count : ℕ) (line : List ℕ) (is : IsReadUpTo old mid left some format keys count line) where
+  pub finished : {X : Type 0} (view : X → List (List ℕ)) (result : Result X SimulationError) → now ≡ format → new ≡ traffic_after mid [] true false → Consumes some remain [] → IsAtEnd remain
+      → IfOk result (λ trace. joined_keys keys (keys_after now count line) ≡ Some (view trace)) → IfErr result (λ refusal. IsBad refusal (keys_after now count line ≡ None)) → ReadsTrace old new left remain format view result
+  finished view (Ok trace) e given consumed at_end ok bad =
+      read-whole old mid new left some remain format keys count line is (view trace) given consumed at_end (ap (λ f. joined_keys keys (keys_after f count line)) (sym e) ∙ ok)
+  finished view (Err refusal) e given consumed at_end ok bad =
+      given-up old new left remain format refusal (is.input, true, ended-given old mid new left some remain format keys count line is given)
+      (λ (none : keys_after now count line ≡ None). read-badly old mid new left some remain format keys count line is given (ap (λ f. keys_after f count line) (sym e) ∙ none)) bad

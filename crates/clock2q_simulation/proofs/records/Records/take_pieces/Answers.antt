@@ -1,0 +1,27 @@
+use Rattle.std.proofs.Common.{◌≡◌, ◌∙◌, ◌++◌, ℕ, List, None}
+use Rattle.std.proofs.lemmas.Result.{err_from_is_err_and}
+use Rattle.clock2q_simulation.specs.Formats.{keys_after}
+use Rattle.clock2q_simulation.specs.Reading.{between}
+use Rattle.clock2q_simulation.proofs.RecordByRecord.{bad-by, bytes-done, piece-bad}
+use Rattle.clock2q_simulation.proofs.records.Records.take_pieces.Goals as goal
+
+pub returns-in_err-end_record-clause-bad : goal.returns-in_err-end_record-clause-bad
+returns-in_err-end_record-clause-bad g c =
+    let self = c.args.self.now in
+    let was = c.loop-byte.self in
+    let new = c.push.new.self in
+    let p = err_from_is_err_and c.from_residual-in_err-end_record.result c.from_residual-in_err-end_record.ensures.1 in
+    rw (p.1, p.2)
+    (bad-by c.in_err-end_record.field-0.0
+    (λ (none : (next : List ℕ) → keys_after new.format new.count (new.begun.items ++ (between new.format ++ next)) ≡ None).
+    piece-bad self.format new.format self.trace.keys was.trace.keys self.count was.count new.count self.begun.items was.begun.items new.begun.items c.args.bytes.now c.loop-byte.byte-index
+    c.loop-byte-test.true (c.in_ok-push.ensures.format ∙ c.loop-byte.invariant.format) c.requires.pieces c.in_ok-push.ensures.count c.in_ok-push.ensures.begun c.loop-byte.invariant.same none)
+    c.in_err-end_record.ensures.bad)
+
+pub returns-clause-taken : goal.returns-clause-taken
+returns-clause-taken g c =
+    let was = c.loop-byte.self in
+    record {
+      begun = c.loop-byte.invariant.begun;
+      same = λ next. c.loop-byte.invariant.same next ∙ bytes-done c.args.self.now.format was.trace.keys was.count was.begun.items c.args.bytes.now c.loop-byte.byte-index c.loop-byte-test.false next;
+    }

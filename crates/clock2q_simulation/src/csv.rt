@@ -1,0 +1,153 @@
+//! A line of comma-separated values.
+ghost use Rattle.std.specs.Prelude.{◌≡◌, ◌∷◌, ℕ, List, [], IfOk, OnOk, MatchBool, Some, None};
+ghost use Rattle.std.specs.NonZero.{non_zero_usize_get};
+ghost use Rattle.clock2q_simulation.specs.Formats.{field, fields_from, without_return};
+ghost use Rattle.clock2q_simulation.specs.Fields.{IsEarly, after_step, found_in};
+
+use std::alloc::{AllocError, Allocator};
+use std::num::NonZeroUsize;
+
+/// Where in a field the next byte is.
+#[derive(Clone, Copy, Debug, PartialEq, Eq)]
+pub(crate) enum Place {
+    /// At its beginning.
+    Start,
+    /// Inside it, and it isn't between quotes.
+    Plain,
+    /// Between its quotes.
+    Quoted,
+    /// After its last quote, or after the first of two.
+    Closed,
+}
+
+/// What a byte of a line is.
+#[derive(Clone, Copy, Debug, PartialEq, Eq)]
+pub(crate) enum Step {
+    /// A byte of the field.
+    Add(Place),
+    /// A quote around the field, or the first of two.
+    Skip(Place),
+    /// The comma after the field.
+    End,
+}
+
+impl Place {
+    /// Returns what the next byte is, or `None` if it can't be there.
+    fn step(self, byte: u8) -> Option<Step>
+        ensures step { (rest : List ℕ) → fields_from self (byte ∷ rest) ≡ after_step result byte rest }
+    {
+        match self {
+            Place::Start => match byte {
+                b'"' => Some(Step::Skip(Place::Quoted)),
+                b',' => Some(Step::End),
+                _ => Some(Step::Add(Place::Plain)),
+            },
+            Place::Plain => match byte {
+                b'"' => None,
+                b',' => Some(Step::End),
+                _ => Some(Step::Add(Place::Plain)),
+            },
+            Place::Quoted => match byte {
+                b'"' => Some(Step::Skip(Place::Closed)),
+                _ => Some(Step::Add(Place::Quoted)),
+            },
+            Place::Closed => match byte {
+                b'"' => Some(Step::Add(Place::Quoted)),
+                b',' => Some(Step::End),
+                _ => None,
+            },
+        }
+    }
+
+    /// Returns true if a line may end there.
+    fn may_end(self) -> bool
+        ensures end { MatchBool result (fields_from self [] ≡ Some ([] ∷ [])) (fields_from self [] ≡ None) }
+    {
+        match self {
+            Place::Quoted => false,
+            Place::Start | Place::Plain | Place::Closed => true,
+        }
+    }
+}
+
+/// Returns a line without the carriage return at its end.
+fn trimmed(line: &[u8]) -> &[u8]
+    ensures trimmed { result.now ≡ without_return line.now }
+{
+    let end = line.len();
+    if 0 < end && line[end - 1] == b'\r' {
+        return &line[..end - 1];
+    }
+    line
+}
+
+/// The reader of one column: the key that it read last, or what it has read of one.
+#[derive(Drop)]
+pub(crate) struct ColumnReader<A: Allocator> {
+    /// The key.
+    pub(crate) key: Vec<u8, A>,
+    // Where in a field the next byte is.
+    place: Place,
+    // The number of this field's column if columns are counted down to 1 at the key's; later 0.
+    left: usize,
+}
+
+impl<A: Allocator> ColumnReader<A> {
+    /// Returns a reader that has read no key.
+    pub(crate) fn new(alloc: A) -> ColumnReader<A> {
+        ColumnReader {
+            key: Vec::new(alloc),
+            place: Place::Start,
+            left: 0,
+        }
+    }
+
+    /// Reads the field in a column of a line as the key. Returns false if the line isn't fields, or
+    /// has fewer.
+    pub(crate) fn read(&mut self, line: &[u8], column: NonZeroUsize) -> Result<bool, AllocError>
+        ensures field { IfOk result (λ is_there. MatchBool is_there (field (non_zero_usize_get column) line.now ≡ Some self.new.key.items) (field (non_zero_usize_get column) line.now ≡ None)) }
+    {
+        self.key.clear();
+        self.place = Place::Start;
+        self.left = column.get();
+        let text = trimmed(line);
+        for byte in text {
+            if !self.take(*byte)? {
+                return Ok(false);
+            }
+        }
+        Ok(self.left <= 1 && self.place.may_end())
+    }
+
+    /// Takes the next byte of the line. Returns false if it can't be there.
+    fn take(&mut self, byte: u8) -> Result<bool, AllocError>
+        requires early { IsEarly self.old.left self.old.key.items }
+        ensures early { OnOk result (IsEarly self.new.left self.new.key.items) }
+        ensures taken { IfOk result (λ is_taken. MatchBool is_taken ((rest : List ℕ) → found_in self.old.left self.old.key.items (fields_from self.old.place (byte ∷ rest)) ≡ found_in self.new.left self.new.key.items (fields_from self.new.place rest)) ((rest : List ℕ) → fields_from self.old.place (byte ∷ rest) ≡ None)) }
+    {
+        let Some(step) = self.place.step(byte) else {
+            return Ok(false);
+        };
+        match step {
+            Step::Skip(next) => {
+                self.place = next;
+                Ok(true)
+            }
+            Step::End => {
+                self.place = Place::Start;
+                self.left = self.left.saturating_sub(1);
+                Ok(true)
+            }
+            Step::Add(next) if self.left == 1 => {
+                self.place = next;
+                self.key.reserve(1)?;
+                self.key.push_reserved(byte);
+                Ok(true)
+            }
+            Step::Add(next) => {
+                self.place = next;
+                Ok(true)
+            }
+        }
+    }
+}

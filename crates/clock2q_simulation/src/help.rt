@@ -1,0 +1,93 @@
+//! The program's help texts.
+
+/// The program's help text, which fits one screen.
+pub const HELP: &str = "\
+usage: ./clock2q-simulate [OPTION].. CAPACITY.. [TRACE]..
+Reports which part of a trace's accesses hit in a cache of each capacity.
+
+A trace is a list of accesses in their order, a key a line: the names of the
+files, blocks or pages that were asked for. It is a file, or - or nothing for
+standard input. A capacity is how many keys a cache holds, up to 16777215, as
+500, 64k or 1M, or a part of the trace's different keys, as 10% or 0.1%. A
+range such as 10..1k or 0.1%..50% adds 20, 50, 100 and so on between its ends.
+
+    printf 'a\\nb\\na\\nc\\nb\\nd\\na\\nb\\n' | ./clock2q-simulate 2 75%
+    ./clock2q-simulate --svg --policies=clock2q,lru,opt 9 50 trace >hits.svg
+
+  --csv, --json, --svg  prints rows with commas, JSON, or a picture of a trace
+  --policies=NAMES  compares these policies (--help policies)
+  --format=FORMAT   reads lines, csv or oracleGeneral (--help formats)
+  --column=N        takes the keys of csv from this column, 1 for the first
+  --shares=SHARES   gives Clock2Q+ other shares than small=10%,window=50%: the
+                    small queue's of the capacity and the window's of the queue
+  --skip=COUNT      counts no hits in this many accesses at a trace's beginning
+  --window=COUNT    counts the hits of each COUNT accesses, in rows or a picture
+  -h, --help        prints this text
+
+Status: 2 if an argument or a record is wrong, 3 if a capacity is too large or
+memory ran out, 4 if reading or writing failed. The first start proves and
+builds it.
+";
+
+/// The help text on the formats of traces.
+pub const FORMATS_HELP: &str = "\
+The formats of traces, for --format:
+
+  lines          a key a line, of any bytes; the default
+  csv            comma-separated values: the keys are in the column --column=N,
+                 1 for the first. The first line is a header, which is skipped.
+                 A value may be between quotes, with each quote in it doubled,
+                 but has no line end.
+  oracleGeneral  libCacheSim's records of 24 bytes, little endian: a time of 4
+                 bytes, the key of 8, a size of 4, a next access of 8
+
+    ./clock2q-simulate --format=csv --column=2 10% trace.csv
+    zcat trace.gz | ./clock2q-simulate 1k -
+    zstdcat oracle.zst | ./clock2q-simulate --format=oracleGeneral 0.1% -
+
+A record that isn't of the format ends the program with its line or offset,
+before anything is printed.
+";
+
+/// The help text on the policies.
+pub const POLICIES_HELP: &str = "\
+The policies, for --policies. The first five are the default.
+
+  clock2q    Clock2Q+: a small queue, a main ring, and a history of evicted keys
+  sieve      SIEVE (2024)
+  s3fifo     S3-FIFO (2023)
+  lru        LRU: evicts the key that was used least recently
+  opt        the most hits of any policy that keeps each key that it misses
+  fifo       FIFO: evicts the key that was admitted first
+  clock      CLOCK (1968)
+  arc        ARC (2003)
+  2q         2Q (1994), the full version
+  lirs       LIRS (2002)
+  lru2       LRU-2 (1993)
+  wtinylfu   W-TinyLFU (2017)
+
+    ./clock2q-simulate --policies=clock2q,lru 1%..50% trace
+";
+
+/// Returns the help text that the arguments ask for: `-h` or `--help`, and perhaps a subject after
+/// it. Another word after it is ignored.
+///
+/// # Example
+///
+/// ```
+/// assert_eq!(rt; help_for(&arguments), Some(POLICIES_HELP)); // of `--help policies`
+/// ```
+pub fn help_for(arguments: &[String]) -> Option<&'static str> {
+    let asked = arguments
+        .iter()
+        .position(|argument| is_help(argument.as_str()))?;
+    match arguments.get(asked.saturating_add(1)) {
+        Some(subject) if subject.as_str() == "formats" => Some(FORMATS_HELP),
+        Some(subject) if subject.as_str() == "policies" => Some(POLICIES_HELP),
+        _ => Some(HELP),
+    }
+}
+
+fn is_help(argument: &str) -> bool {
+    argument == "-h" || argument == "--help"
+}

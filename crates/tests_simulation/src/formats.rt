@@ -1,0 +1,245 @@
+//! Traces in each format, and those that aren't in it.
+
+use crate::arguments::{options_of, words_of};
+use clock2q_cache::DefaultHashBuilder;
+use clock2q_ports::Device;
+use clock2q_simulation::{ErrorReport, Progress, SimulationError, Trace, read_trace, simulate};
+use std::alloc::Global;
+use std::io::{Read, Result as IoResult};
+use std::test::Fail;
+use testing::{same, same_at};
+
+/// A reader that gives a few bytes at a time.
+#[derive(Drop)]
+struct Slow<'a> {
+    left: &'a [u8],
+    step: usize,
+}
+
+impl Read for Slow<'_> {
+    fn read(&mut self, buf: &mut [u8]) -> IoResult<usize> {
+        let count = self.step.min(self.left.len()).min(buf.len());
+        let (given, left) = self.left.split_at(count);
+        buf[..count].copy_from_slice(given);
+        self.left = left;
+        Ok(count)
+    }
+}
+
+/// Reads a trace in the format that a line of arguments asks for, a few bytes at a time.
+fn read(
+    alloc: Global,
+    line: &str,
+    bytes: &[u8],
+    step: usize,
+) -> Result<Result<Trace<Global>, SimulationError>, Fail> {
+    let format = options_of(alloc, line)?.trace_format;
+    let mut progress = Progress::new(Vec::new(alloc), false);
+    let mut reader = Device::new(Slow { left: bytes, step });
+    let hasher = DefaultHashBuilder::new();
+    Ok(read_trace(alloc, hasher, "-", format, &mut reader, &mut progress))
+}
+
+/// Checks the numbers of a trace's keys, read in pieces of several lengths.
+fn has_numbers(
+    alloc: Global,
+    line: &str,
+    bytes: &[u8],
+    wanted: &[u32],
+) -> Result<(), Fail> {
+    for step in [1, 2, 5, 23, 24, 1000] {
+        let trace = read(alloc, line, bytes, step)??;
+        same_at(trace.numbers(), wanted, step)?;
+    }
+    Ok(())
+}
+
+/// Checks how a trace is refused, read in pieces of several lengths.
+fn is_refused(
+    alloc: Global,
+    line: &str,
+    bytes: &[u8],
+    wanted: SimulationError,
+) -> Result<(), Fail> {
+    for step in [1, 2, 5, 23, 24, 1000] {
+        let refusal = read(alloc, line, bytes, step)?.err();
+        same_at(refusal, Some(wanted), step)?;
+    }
+    Ok(())
+}
+
+const FIRST: &str = "5 --format=csv --column=1";
+
+const SECOND: &str = "5 --format=csv --column=2";
+
+/// Values with commas and quotes, empty ones, and carriage returns at the lines' ends.
+#[test]
+fn values(rt: HostRuntime) -> Result<(), Fail> {
+    let cases: [(&str, &[u8], &[u32]); 11] = [
+        (FIRST, b"", &[]),
+        (FIRST, b"key", &[]),
+        (FIRST, b"key\na\nb\na", &[0, 1, 0]),
+        (FIRST, b"a\na\n", &[0]),
+        (SECOND, b"time,key\n1,a\n2,b\n3,a\n", &[0, 1, 0]),
+        (FIRST, b"time,key\n1,a\n2,b\n3,a\n", &[0, 1, 2]),
+        (
+            SECOND,
+            b"t,k,s\n1,\"a,b\",5\n2,\"a\",5\n3,a,5\n",
+            &[0, 1, 1],
+        ),
+        (
+            SECOND,
+            b"t,k\n1,\"a\"\"b\"\n2,\"a\"\n3,\"a\"\"b\"",
+            &[0, 1, 0],
+        ),
+        (SECOND, b"t,k\n1,\n2,\"\"\n,\n,\"\"\"\"\n", &[0, 0, 0, 1]),
+        (SECOND, b"t,k\r\n1,a\r\n2,\"a\"\r\n3,a", &[0, 0, 0]),
+        (FIRST, b"a \"header\nx\n y\nx\n", &[0, 1, 0]),
+    ];
+    for (line, bytes, wanted) in cases {
+        has_numbers(rt.alloc(), line, bytes, wanted)?;
+    }
+    Ok(())
+}
+
+/// A line with fewer values than the column, and quotes that aren't around a value.
+#[test]
+fn refused_lines(rt: HostRuntime) -> Result<(), Fail> {
+    let cases: [(&[u8], usize); 8] = [
+        (b"t,k\n1\n", 2),
+        (b"t,k\n1,a\n\n3,a\n", 3),
+        (b"t,k\n1,a\n2,b\n3", 4),
+        (b"t,k\n1,\"a\n", 2),
+        (b"t,k\n1,\"a\"b\n", 2),
+        (b"t,k\n1,a\"\n", 2),
+        (b"t,k\n1,a,\"\n", 2),
+        (b"t,k\n1,a\n2,\"a\"\"\n", 3),
+    ];
+    for (bytes, number) in cases {
+        let wanted = SimulationError::Line(number, 2);
+        is_refused(rt.alloc(), SECOND, bytes, wanted)?;
+        same(wanted.status(), 2)?;
+    }
+    Ok(())
+}
+
+const ORACLE: &str = "5 --format=oracleGeneral";
+
+/// Writes records with these ids, whose other fields are all different.
+fn records_of(alloc: Global, ids: &[u64]) -> Result<Vec<u8>, Fail> {
+    let mut bytes = Vec::new(alloc);
+    let mut other = 1u8;
+    for id in ids {
+        bytes.extend_from_slice(&[other; 4])?;
+        bytes.extend_from_slice(&id.to_le_bytes())?;
+        bytes.extend_from_slice(&[other; 12])?;
+        other = other.wrapping_add(1);
+    }
+    Ok(bytes)
+}
+
+/// Ids that differ in one byte alone, among them a line end, and a record that isn't whole.
+#[test]
+fn oracle_general(rt: HostRuntime) -> Result<(), Fail> {
+    let ids = [
+        7,
+        7 << 56,
+        7,
+        10,
+        0x0A0A_0A0A_0A0A_0A0A,
+        10,
+        7 << 32,
+        u64::MAX,
+    ];
+    let bytes = records_of(rt.alloc(), &ids)?;
+    let wanted = [0, 1, 0, 2, 3, 2, 4, 5];
+    has_numbers(rt.alloc(), ORACLE, &bytes, &wanted)?;
+    has_numbers(rt.alloc(), ORACLE, b"", &[])?;
+    for left in [1, 12, 23] {
+        let wanted = SimulationError::Record(24 * 7);
+        let part = &bytes[..24 * 7 + left];
+        is_refused(rt.alloc(), ORACLE, part, wanted)?;
+        same(wanted.status(), 2)?;
+    }
+    Ok(())
+}
+
+/// The lines that report bad records, of a file and of standard input.
+#[test]
+fn reports(rt: HostRuntime) -> Result<(), Fail> {
+    let words = words_of(rt.alloc(), "5 a.csv")?;
+    for (refusal, trace, wanted) in [
+        (
+            SimulationError::Line(3, 2),
+            Some(1),
+            "clock2q-simulate: a.csv: line 3: not comma-separated values with a column 2",
+        ),
+        (
+            SimulationError::Record(48),
+            None,
+            "clock2q-simulate: -: offset 48: less than the 24 bytes of a record",
+        ),
+    ] {
+        let report = ErrorReport {
+            refusal,
+            trace,
+            arguments: &words,
+        };
+        let text = format!(in rt.alloc(); "{report}")?;
+        same(text.as_str(), wanted)?;
+    }
+    Ok(())
+}
+
+/// What is written for a trace with a bad record, and the warnings.
+fn written(alloc: Global, line: &str, bytes: &[u8]) -> Result<(usize, Vec<u8>), Fail> {
+    let options = options_of(alloc, line)?;
+    let mut output = Device::new(Vec::new(alloc));
+    let mut errors = Vec::new(alloc);
+    {
+        let mut progress = Progress::new(&mut errors, false);
+        let hasher = DefaultHashBuilder::new();
+        let mut reader = Device::new(bytes);
+        let _ = simulate(
+            alloc,
+            &options,
+            hasher,
+            &mut reader,
+            &mut output,
+            &mut progress,
+        );
+    }
+    Ok((output.into_inner().len(), errors))
+}
+
+/// Nothing is written for a bad record after good ones.
+#[test]
+fn nothing_before_a_refusal(rt: HostRuntime) -> Result<(), Fail> {
+    let (count, errors) = written(rt.alloc(), SECOND, b"t,k\n1,a\n2,a\n3\n")?;
+    same((count, errors.len()), (0, 0))?;
+    let (count, _) = written(rt.alloc(), SECOND, b"t,k\n1,a\n2,a\n")?;
+    same(count > 0, true)?;
+    Ok(())
+}
+
+/// The first bytes of compressed files, and some that only resemble them.
+#[test]
+fn compressed(rt: HostRuntime) -> Result<(), Fail> {
+    let gzip =
+        "clock2q-simulate: -: warning: looks compressed: try zcat FILE | ./clock2q-simulate .. -\n";
+    let zstd =
+        "clock2q-simulate: -: warning: looks compressed: try zstdcat FILE | ./clock2q-simulate .. -\n";
+    let cases: [(&[u8], &str); 6] = [
+        (b"\x1F\x8B\n\x1F\x8B\n", gzip),
+        (b"\x28\xB5\x2F\xFD\n\x28\xB5\x2F\xFD\n", zstd),
+        (b"\x1F\n\x8B\n\x1F\n", ""),
+        (b"\x28\xB5\x2F\n\x28\xB5\x2F\n", ""),
+        (b"a\n\x1F\x8B\na\n", ""),
+        (b"a\na\n", ""),
+    ];
+    for (bytes, wanted) in cases {
+        let (_, errors) = written(rt.alloc(), "5", bytes)?;
+        same(errors.as_slice(), wanted.as_bytes())?;
+    }
+    Ok(())
+}
