@@ -278,10 +278,7 @@ fn write_place<A: Allocator>(
         text,
         "<path d=\"M {x:.1} {BOTTOM:.0} v 6\" stroke=\"black\"/>"
     )?;
-    write!(
-        text,
-        "<text x=\"{x:.1}\" y=\"422\" text-anchor=\"middle\">"
-    )?;
+    write!(text, "<text x=\"{x:.1}\" y=\"422\" text-anchor=\"middle\">")?;
     let (count, thousands) = short(place.number);
     match place.unit {
         Unit::Keys => write!(text, "{count}{thousands}")?,

@@ -442,11 +442,7 @@ fn formats(rt: HostRuntime) -> Result<(), Fail> {
         ("--column 2 5 --csv --format csv", second),
         ("5 --format=csv --column=02", second),
     ] {
-        same_at(
-            options_of(rt.alloc(), line)?.trace_format,
-            wanted,
-            line,
-        )?;
+        same_at(options_of(rt.alloc(), line)?.trace_format, wanted, line)?;
     }
     Ok(())
 }

@@ -41,12 +41,7 @@ fn read(
 }
 
 /// Checks the numbers of a trace's keys, read in pieces of several lengths.
-fn has_numbers(
-    alloc: Global,
-    line: &str,
-    bytes: &[u8],
-    wanted: &[u32],
-) -> Result<(), Fail> {
+fn has_numbers(alloc: Global, line: &str, bytes: &[u8], wanted: &[u32]) -> Result<(), Fail> {
     for step in [1, 2, 5, 23, 24, 1000] {
         let trace = read(alloc, line, bytes, step)??;
         same_at(trace.numbers(), wanted, step)?;

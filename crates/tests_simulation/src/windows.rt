@@ -90,10 +90,7 @@ fn windows_add_up(rt: HostRuntime) -> Result<(), Fail> {
     let all = all_windows_of(alloc, &rows, &Policy::ALL, None, 1, size, &trace)?;
     same(all.len(), rows.len())?;
     for (windows, row) in all.iter().zip(&rows) {
-        same(
-            (windows.capacity, windows.windows.len()),
-            (row.capacity, 4),
-        )?;
+        same((windows.capacity, windows.windows.len()), (row.capacity, 4))?;
         for (index, hits) in row.hits.iter().enumerate() {
             same_at(hits_in_all(&windows.windows, index), hits.hits, index)?;
         }
