@@ -21,7 +21,7 @@ without_no_longer key (first ∷ held) = elim (cases_Bool (first == key)) [
   | inr apart ↦ rw apart (omega (arith, without_no_longer key held))
 ]
 
-without_shorter : (key : ℕ) (held : List ℕ) → is_in key held ≡ true → 1 + length (without key held) ≤ length held
+pub without_shorter : (key : ℕ) (held : List ℕ) → is_in key held ≡ true → 1 + length (without key held) ≤ length held
 without_shorter key [] there = absurd cc
 without_shorter key (first ∷ held) there = elim (cases_Bool (first == key)) [
   | inl same ↦ rw same (omega (arith, without_no_longer key held))
@@ -40,7 +40,7 @@ front_or_behind key other held there = elim (or_cases (key == other) (is_in othe
 
 -- The optimum: a cache knows the rest of the trace, and what it holds.
 
-farthest_in : (trace : List ℕ) (first : ℕ) (held : List ℕ) → is_in (farthest trace first held) (first ∷ held) ≡ true
+pub farthest_in : (trace : List ℕ) (first : ℕ) (held : List ℕ) → is_in (farthest trace first held) (first ∷ held) ≡ true
 farthest_in trace first [] = in_first first []
 farthest_in trace first (other ∷ held) =
     let gone : ℕ = farthest trace (later trace first other) held in
@@ -85,7 +85,7 @@ module _ (capacity : ℕ) (some : 0 < capacity) where
     fewer_fit [] within = omega (arith, some)
     fewer_fit (first ∷ held) within = omega (arith, within, without_shorter (farthest rest first held) (first ∷ held) (farthest_in rest first held))
 
-    optimal_fits : (held : List ℕ) → length held ≤ capacity → length (optimal_after capacity key rest held) ≤ capacity
+    pub optimal_fits : (held : List ℕ) → length held ≤ capacity → length (optimal_after capacity key rest held) ≤ capacity
     optimal_fits held within = elim (cases_Bool (is_in key held)) [
       | inl is ↦ rw is within
       | inr missed ↦ elim (cases_Bool (nat_lt (length held) capacity)) [

@@ -15,3 +15,6 @@ pub mod Nodes
 pub mod StackDistances
 pub mod LastAccesses
 pub mod Curve
+pub mod IndexTrees
+pub mod Awaited
+pub mod AwaitedSteps

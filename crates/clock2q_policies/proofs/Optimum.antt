@@ -81,7 +81,7 @@ module _ (capacity key : ℕ) (rest best : List ℕ) where
         | inr apart ↦ others_without gone key keys apart ∙ absent
       ]
 
-    optimal_differ : AreDifferent (optimal_after capacity key rest best)
+    pub optimal_differ : AreDifferent (optimal_after capacity key rest best)
     optimal_differ = elim (cases_Bool (is_in key best)) [
       | inl is ↦ rw is differ
       | inr missed ↦ elim (cases_Bool (nat_lt (length best) capacity)) [

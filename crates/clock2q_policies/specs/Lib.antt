@@ -6,3 +6,5 @@ pub mod Optimum
 pub mod StackDistances
 pub mod CountTree
 pub mod LastAccesses
+pub mod IndexTree
+pub mod Awaited

@@ -1,13 +1,17 @@
 //! Policies of caches, replayed over keys that are numbers: the number of accesses of a trace that
 //! hit. The hits of LRU and FIFO are proved to be those of a list, for LRU also at many capacities
-//! at once; those of the policies in [`tested`] are tested.
+//! at once, and those of Belady's optimum are proved too; those of the policies in [`tested`] are
+//! tested.
 #![tactic(auto)]
 
 mod count_tree;
+mod index_tree;
 mod last_accesses;
 mod lru_curve;
+mod optimal;
 mod plain;
 pub mod tested;
 
 pub use lru_curve::lru_hits_at;
+pub use optimal::optimal_hits;
 pub use plain::{PlainPolicy, plain_hits};

@@ -7,7 +7,6 @@ mod lirs;
 mod lists;
 mod lru_2;
 mod marks;
-mod optimal;
 mod replayed;
 mod s3_fifo;
 mod sieve;
@@ -16,5 +15,4 @@ mod two_q;
 mod w_tiny_lfu;
 
 pub use lru_2::lru_2_hits;
-pub use optimal::optimal_hits;
 pub use replayed::{arc_hits, lirs_hits, s3_fifo_hits, sieve_hits, two_q_hits, w_tiny_lfu_hits};

@@ -9,10 +9,9 @@ use crate::clock::{clock_hits, clock2q_hits};
 use crate::error::SimulationError;
 use crate::shares::ChosenShares;
 use clock2q_policies::tested::{
-    arc_hits, lirs_hits, lru_2_hits, optimal_hits, s3_fifo_hits, sieve_hits, two_q_hits,
-    w_tiny_lfu_hits,
+    arc_hits, lirs_hits, lru_2_hits, s3_fifo_hits, sieve_hits, two_q_hits, w_tiny_lfu_hits,
 };
-use clock2q_policies::{PlainPolicy, plain_hits};
+use clock2q_policies::{PlainPolicy, optimal_hits, plain_hits};
 use std::alloc::Allocator;
 use std::num::NonZeroUsize;
 

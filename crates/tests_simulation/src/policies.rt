@@ -7,9 +7,9 @@ use crate::queues::{Queue, evict_unmarked, marked, push, trace_of};
 use crate::s3_fifo::s3_fifo_model;
 use crate::two_q::two_q_model;
 use crate::w_tiny_lfu::w_tiny_lfu_model;
+use clock2q_policies::optimal_hits;
 use clock2q_policies::tested::{
-    arc_hits, lirs_hits, lru_2_hits, optimal_hits, s3_fifo_hits, sieve_hits, two_q_hits,
-    w_tiny_lfu_hits,
+    arc_hits, lirs_hits, lru_2_hits, s3_fifo_hits, sieve_hits, two_q_hits, w_tiny_lfu_hits,
 };
 use clock2q_simulation::clock_hits;
 use std::alloc::{AllocError, Global};
@@ -181,7 +181,6 @@ fn all_optimal_hits_are_same(alloc: Global, trace: &[u32]) -> Result<(), Fail> {
     Ok(())
 }
 
-/// A trace of this length has indices whose words are on three levels.
 #[test]
 fn optimal_hits_of_a_long_trace(rt: HostRuntime) -> Result<(), Fail> {
     all_optimal_hits_are_same(rt.alloc(), &trace_of(rt.alloc(), 4, 9000, KEYS)?)

@@ -60,15 +60,6 @@ impl<A: Allocator> IndexSet<A> {
         }
     }
 
-    /// Removes the last index that isn't after `index`. Returns true if there was one.
-    pub(crate) fn take_last(&mut self, index: usize) -> bool {
-        let Some(last) = self.last(index) else {
-            return false;
-        };
-        self.remove(last);
-        true
-    }
-
     /// Returns the first index.
     pub(crate) fn first(&self) -> Option<usize> {
         let mut index = 0usize;
@@ -80,28 +71,6 @@ impl<A: Allocator> IndexSet<A> {
             index = first_bit(index, word);
         }
         Some(index)
-    }
-
-    /// Returns the last index that isn't after `index`.
-    fn last(&self, index: usize) -> Option<usize> {
-        let mut bit = index.saturating_add(1);
-        for level in 0..LEVELS {
-            let earlier = self.word(level, bit / BITS) & mask(bit).wrapping_sub(1);
-            if earlier != 0 {
-                return Some(self.last_below(level, last_bit(bit / BITS, earlier)));
-            }
-            bit /= BITS;
-        }
-        None
-    }
-
-    /// Returns the last index below a bit of a level.
-    fn last_below(&self, level: usize, bit: usize) -> usize {
-        let mut bit = bit;
-        for below in (0..level).rev() {
-            bit = last_bit(bit, self.word(below, bit));
-        }
-        bit
     }
 
     fn word(&self, level: usize, index: usize) -> u64 {
@@ -123,12 +92,6 @@ impl<A: Allocator> IndexSet<A> {
 /// Returns the word with one bit.
 fn mask(bit: usize) -> u64 {
     1 << (bit % BITS)
-}
-
-/// Returns the last bit that is set in a word, among the bits of its level.
-fn last_bit(index: usize, word: u64) -> usize {
-    let last = word.checked_ilog2().unwrap_or(0);
-    index.saturating_mul(BITS).saturating_add(last as usize)
 }
 
 /// Returns the first bit that is set in a word, among the bits of its level.

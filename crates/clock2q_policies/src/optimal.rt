@@ -1,0 +1,128 @@
+//! Belady's optimum.
+ghost use Rattle.std.specs.Prelude.{◌≡◌, ◌+◌, ◌<◌, IfOk, length, slice_index};
+ghost use Rattle.std.specs.NonZero.{non_zero_usize_get};
+ghost use Rattle.clock2q_policies.specs.Policies.{is_in, without, AreBelow};
+ghost use Rattle.clock2q_policies.specs.Optimum.{optimal_hits};
+ghost use Rattle.clock2q_policies.specs.Awaited.{optimal_at, AreNextUses, IsAwaiting};
+
+use crate::index_tree::IndexTree;
+use std::alloc::{AllocError, Allocator};
+use std::num::NonZeroUsize;
+
+/// The next accesses of the keys that the optimum holds.
+#[derive(Drop)]
+struct Awaited<A: Allocator> {
+    /// For each access of the trace the index of its key's next one, or the number of accesses.
+    next: Vec<usize, A>,
+    /// The indices of the next accesses of the held keys.
+    waiting: IndexTree<A>,
+    /// The number of held keys that are accessed again.
+    count: usize,
+}
+
+impl<A: Allocator> Awaited<A> {
+    /// Accesses the key at an index of the trace, and returns true if it was held.
+    fn access(&mut self, capacity: NonZeroUsize, trace: &[u32], at: usize) -> bool
+        requires at { at < length trace.now }
+        requires awaiting { IsAwaiting trace.now at (optimal_at (non_zero_usize_get capacity) trace.now at) self.old }
+        ensures hit { result ≡ is_in (slice_index trace.now at) (optimal_at (non_zero_usize_get capacity) trace.now at) }
+        ensures awaiting { IsAwaiting trace.now (at + 1) (optimal_at (non_zero_usize_get capacity) trace.now (at + 1)) self.new }
+    {
+        let is_hit = self.leave(capacity, trace, at);
+        let next = self.next[at];
+        if next < trace.len() {
+            self.waiting.insert(next);
+            self.count += 1;
+        }
+        is_hit
+    }
+
+    /// Stops to wait for the access at an index, if its key is held. If it isn't, and all keys that
+    /// are held are accessed again, evicts the one whose next access is last. Returns true if the
+    /// key was held.
+    fn leave(&mut self, capacity: NonZeroUsize, trace: &[u32], at: usize) -> bool
+        requires at { at < length trace.now }
+        requires awaiting { IsAwaiting trace.now at (optimal_at (non_zero_usize_get capacity) trace.now at) self.old }
+        ensures hit { result ≡ is_in (slice_index trace.now at) (optimal_at (non_zero_usize_get capacity) trace.now at) }
+        ensures awaiting { IsAwaiting trace.now (at + 1) (without (slice_index trace.now at) (optimal_at (non_zero_usize_get capacity) trace.now (at + 1))) self.new }
+        ensures room { self.new.count < usize.MAX }
+    {
+        if self.waiting.contains(at) {
+            self.waiting.remove(at);
+            self.count -= 1;
+            return true;
+        }
+        if self.count < capacity.get() {
+            return false;
+        }
+        let Some(last) = self.waiting.last() else {
+            return false;
+        };
+        self.waiting.remove(last);
+        self.count -= 1;
+        false
+    }
+}
+
+/// Returns the index of the next access of each access's key, or the number of accesses if there is
+/// none.
+fn next_uses<A: Allocator + Copy>(
+    alloc: A,
+    trace: &[u32],
+    keys: u32,
+) -> Result<Vec<usize, A>, AllocError>
+    requires below { AreBelow keys trace.now }
+    ensures next { IfOk result (λ next. AreNextUses trace.now next.items) }
+{
+    let mut soonest = vec![in alloc; trace.len(); keys as usize]?;
+    let mut next = vec![in alloc; 0; trace.len()]?;
+    for at in (0..trace.len()).rev() {
+        let key = trace[at] as usize;
+        next[at] = soonest[key];
+        soonest[key] = at;
+    }
+    Ok(next)
+}
+
+/// Returns the number of accesses of a trace that hit in a new cache if the key whose next access
+/// is farthest away is evicted, of 'A Study of Replacement Algorithms for a Virtual-Storage
+/// Computer' (1966): the most hits of any policy that admits each key that it misses. The keys are
+/// numbers below `keys`.
+///
+/// # Errors
+///
+/// `AllocError` if a request for memory is refused.
+///
+/// # Cost
+///
+/// Time in proportion to n log n for n accesses at most, and to `keys`, whatever the capacity; 10
+/// to 12 bytes an access, and at first 8 bytes a key.
+///
+/// # Example
+///
+/// ```
+/// let trace = [0, 1, 2, 0, 1]; // three different keys, in a cache for two: 2 replaces 1
+/// assert_eq!(rt; optimal_hits(rt.alloc(), two, &trace, 3)?, 1);
+/// ```
+pub fn optimal_hits<A: Allocator + Copy>(
+    alloc: A,
+    capacity: NonZeroUsize,
+    trace: &[u32],
+    keys: u32,
+) -> Result<usize, AllocError>
+    requires below { AreBelow keys trace.now }
+    ensures hits { IfOk result (λ hits. hits ≡ optimal_hits (non_zero_usize_get capacity) trace.now) }
+{
+    let mut awaited = Awaited {
+        next: next_uses(alloc, trace, keys)?,
+        waiting: IndexTree::new(alloc, trace.len())?,
+        count: 0,
+    };
+    let mut hits = 0;
+    for at in 0..trace.len() {
+        if awaited.access(capacity, trace, at) {
+            hits += 1;
+        }
+    }
+    Ok(hits)
+}
