@@ -20,6 +20,7 @@ impl<S: BuildHasher> Called<S> {
     pub(crate) fn answer(&mut self, call: Call) -> Answer {
         match call {
             Call::Put(key, value) => Answer::Value(self.put(key, value)),
+            Call::Evict(key, value) => Answer::Handed(self.put_evicting(key, value)),
             Call::Get(key) => Answer::Value(self.get(key)),
             Call::GetAt(slot, key) => Answer::Value(self.get_at(slot, key)),
             Call::Set(key, value) => Answer::Value(self.set(key, value)),
@@ -41,6 +42,10 @@ impl<S: BuildHasher> Called<S> {
 
     fn put(&mut self, key: u64, value: u64) -> Option<u64> {
         self.cache.put(key, value)
+    }
+
+    fn put_evicting(&mut self, key: u64, value: u64) -> Option<(u64, u64)> {
+        self.cache.put_evicting(key, value)
     }
 
     fn get(&mut self, key: u64) -> Option<u64> {

@@ -7,6 +7,8 @@ use testing::Draws;
 #[derive(Clone, Copy, Debug)]
 pub(crate) enum Call {
     Put(u64, u64),
+    /// Puts a value, and asks what was replaced or evicted.
+    Evict(u64, u64),
     Get(u64),
     Peek(u64),
     Contains(u64),
@@ -35,6 +37,8 @@ pub(crate) enum Call {
 pub(crate) enum Answer {
     Value(Option<u64>),
     Stored(u64),
+    /// A key and its value.
+    Handed(Option<(u64, u64)>),
     Tried(Option<u64>),
     /// A key's slot and the value there.
     Slot(usize, u64),

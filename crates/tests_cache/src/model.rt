@@ -108,6 +108,7 @@ impl Model {
     pub(crate) fn answer(&mut self, call: Call) -> Result<Answer, AllocError> {
         Ok(match call {
             Call::Put(key, value) => Answer::Value(self.put(key, value)?),
+            Call::Evict(key, value) => Answer::Handed(self.put_evicting(key, value)?),
             Call::Get(key) => Answer::Value(self.get(key)),
             Call::Peek(key) => Answer::Value(self.peek(key)),
             Call::Contains(key) => Answer::Flag(self.find(key).is_some()),
@@ -231,6 +232,26 @@ impl Model {
         }
         self.insert(key, value)?;
         Ok(None)
+    }
+
+    /// Returns what the value replaces, or else the resident that is gone afterwards.
+    fn put_evicting(&mut self, key: u64, value: u64) -> Result<Option<(u64, u64)>, AllocError> {
+        if self.find(key).is_some() {
+            return Ok(self.replace(key, value).map(|before| (key, before)));
+        }
+        let residents = self.residents()?;
+        self.insert(key, value)?;
+        Ok(self.first_gone(&residents))
+    }
+
+    /// Returns the first of these that isn't resident.
+    fn first_gone(&self, residents: &[(u64, u64)]) -> Option<(u64, u64)> {
+        for (key, value) in residents {
+            if self.find(*key).is_none() {
+                return Some((*key, *value));
+            }
+        }
+        None
     }
 
     fn fetch(&mut self, key: u64, value: u64) -> Result<u64, AllocError> {

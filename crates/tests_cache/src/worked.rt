@@ -45,6 +45,24 @@ const RUNS: &[Run] = &[
             (Call::Len, Answer::Number(1)),
         ],
     },
+    // What each put replaces or evicts: nothing, Small's tail, a value, Main's victim, and nothing
+    // where a slot is free.
+    Run {
+        capacity: 2,
+        puts: (0, 0),
+        hits: (0, 0),
+        calls: &[
+            (Call::Evict(1, 10), Answer::Handed(None)),
+            (Call::Evict(2, 20), Answer::Handed(None)),
+            (Call::Evict(3, 30), Answer::Handed(Some((1, 10)))),
+            (Call::Evict(3, 31), Answer::Handed(Some((3, 30)))),
+            (Call::Evict(1, 11), Answer::Handed(Some((2, 20)))),
+            (Call::Remove(3), Answer::Flag(true)),
+            (Call::Evict(4, 40), Answer::Handed(None)),
+            (Call::Get(1), Answer::Value(Some(11))),
+            (Call::Get(4), Answer::Value(Some(40))),
+        ],
+    },
     // A key that comes back.
     Run {
         capacity: 2,
