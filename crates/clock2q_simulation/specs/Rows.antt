@@ -5,6 +5,7 @@ use Rattle.std.specs.NonZero.{non_zero_usize_get}
 use Rattle.clock2q_policies.specs.declared.plain.PlainPolicy.TheVariants as plain
 use Rattle.clock2q_policies.specs.Policies.{plain_hits}
 use Rattle.clock2q_policies.specs.SecondChance.{clock_hits}
+use Rattle.clock2q_policies.specs.Optimum.{optimal_hits}
 use Rattle.clock2q_simulation.specs.declared.policy.Policy.{Policy}
 use Rattle.clock2q_simulation.specs.declared.policy.Policy.TheVariants.{Clock2Q, Sieve, S3Fifo, LeastRecentlyUsed, Optimal, FirstInFirstOut, Clock, Arc, TwoQ, Lirs, Lru2, WTinyLfu}
 use Rattle.clock2q_simulation.specs.declared.row.Row.{Row}
@@ -23,7 +24,7 @@ module _ (shares : Option ChosenShares) (numbers : List ℕ) (room : ℕ) where
   AreHits FirstInFirstOut hits = hits ≡ plain_hits plain.FirstInFirstOut room numbers
   AreHits Sieve hits = Unit {0}
   AreHits S3Fifo hits = Unit {0}
-  AreHits Optimal hits = Unit {0}
+  AreHits Optimal hits = hits ≡ optimal_hits room numbers
   AreHits Clock hits = hits ≡ clock_hits room numbers
   AreHits Arc hits = Unit {0}
   AreHits TwoQ hits = Unit {0}
