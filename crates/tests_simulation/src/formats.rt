@@ -150,9 +150,9 @@ fn oracle_general(rt: HostRuntime) -> Result<(), Fail> {
     let wanted = [0, 1, 0, 2, 3, 2, 4, 5];
     has_numbers(rt.alloc(), ORACLE, &bytes, &wanted)?;
     has_numbers(rt.alloc(), ORACLE, b"", &[])?;
-    for left in [1, 12, 23] {
+    for left in [1usize, 12, 23] {
         let wanted = SimulationError::Record(24 * 7);
-        let part = &bytes[..24 * 7 + left];
+        let part = &bytes[..bytes.len().min(24 * 7 + left)];
         is_refused(rt.alloc(), ORACLE, part, wanted)?;
         same(wanted.status(), 2)?;
     }

@@ -7,11 +7,10 @@ use crate::queues::{Queue, evict_unmarked, marked, push, trace_of};
 use crate::s3_fifo::s3_fifo_model;
 use crate::two_q::two_q_model;
 use crate::w_tiny_lfu::w_tiny_lfu_model;
-use clock2q_policies::optimal_hits;
 use clock2q_policies::tested::{
     arc_hits, lirs_hits, lru_2_hits, s3_fifo_hits, sieve_hits, two_q_hits, w_tiny_lfu_hits,
 };
-use clock2q_simulation::clock_hits;
+use clock2q_simulation::{GrowingTrace, Policy, Trace, clock_hits, replay};
 use std::alloc::{AllocError, Global};
 use std::collections::VecDeque;
 use std::num::NonZeroUsize;
@@ -146,12 +145,23 @@ fn hits_of_more_are_same(
     Ok(two_q.max(lirs).max(lru_2).max(w_tiny_lfu))
 }
 
+/// Returns the trace of these keys.
+fn numbered(alloc: Global, keys: &[u32]) -> Result<Trace<Global>, Fail> {
+    let mut growing = GrowingTrace::new(alloc);
+    for key in keys {
+        growing.push(&key.to_le_bytes())?;
+    }
+    Ok(growing.finish())
+}
+
 /// Checks the most hits by a list that is searched for the key that the trace needs last. Returns
 /// them.
-fn optimal_is_same(alloc: Global, capacity: NonZeroUsize, trace: &[u32]) -> Result<usize, Fail> {
+fn optimal_is_same(alloc: Global, capacity: NonZeroUsize, keys: &[u32]) -> Result<usize, Fail> {
     let room = capacity.get();
-    let optimal = optimal_hits(alloc, capacity, trace, KEYS)?;
-    same_at(optimal, optimal_model(alloc, room, trace)?, ("OPT", room))?;
+    let trace = numbered(alloc, keys)?;
+    let row = replay(alloc, capacity, &[Policy::Optimal], None, 0, &trace)?;
+    let optimal = row.hits.first().copied().ok_or("no hits")?.hits;
+    same_at(optimal, optimal_model(alloc, room, keys)?, ("OPT", room))?;
     Ok(optimal)
 }
 

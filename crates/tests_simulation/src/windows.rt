@@ -68,11 +68,13 @@ fn row_at(
 
 /// Returns the hits of a policy in all windows.
 fn hits_in_all(windows: &[Window<Global>], index: usize) -> usize {
-    windows
-        .iter()
-        .filter_map(|window| window.row.hits.get(index))
-        .map(|hits| hits.hits)
-        .sum()
+    let mut sum = 0usize;
+    for window in windows {
+        if let Some(hits) = window.row.hits.get(index) {
+            sum = sum.saturating_add(hits.hits);
+        }
+    }
+    sum
 }
 
 /// With each policy, the hits of all windows are those of the counted accesses.
