@@ -54,19 +54,19 @@ fn arguments_fetched(rt: HostRuntime) -> Result<(), Fail> {
     Ok(())
 }
 
-/// Each form with all policies, over capacities of each kind.
+/// Each form over capacities of each kind: with all policies, and windows with two.
 #[test]
 fn each_request(rt: HostRuntime) -> Result<(), Fail> {
     let asked = "2 2..3 50%..100% --policy small=1,window=100% --policies";
-    for form in [
-        "",
-        "--csv",
-        "--svg",
-        "--json --window=3",
-        "--svg --window=3",
-        "--json --format=csv --column=1",
+    for (form, policies) in [
+        ("", ALL_POLICIES),
+        ("--csv", ALL_POLICIES),
+        ("--svg", ALL_POLICIES),
+        ("--json --format=csv --column=1", ALL_POLICIES),
+        ("--json --window=5", "clock2q,opt"),
+        ("--svg --window=5", "clock2q,opt"),
     ] {
-        let line = format!(in rt.alloc(); "{form} {asked} {ALL_POLICIES}")?;
+        let line = format!(in rt.alloc(); "{form} {asked} {policies}")?;
         let words = words_of(rt.alloc(), &line)?;
         let alloc = Refusing::new(rt.alloc());
         let tried = try_in_turn(&alloc, true, SimulationError::Memory, || {
