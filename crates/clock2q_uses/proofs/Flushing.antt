@@ -1,13 +1,17 @@
 -- A flush of a write-back cache: afterwards the device has the blocks that are read, and every block is clean.
-use Rattle.std.proofs.Common.{◌≡◌, ℕ, ◌<◌, Bool, true, false, ◌||◌, eqb, List, [], ◌∷◌, length, inl, inr, Option, Some, None, refl, sym, ap, ◌∙◌, arith, eqb-true}
+use Rattle.std.proofs.Common.{◌≡◌, ℕ, ◌<◌, Bool, true, false, ◌||◌, eqb, List, [], ◌∷◌, map, length, inl, inr, Option, Some, None, refl, sym, ap, ◌∙◌, subst, arith, eqb-true}
 use Rattle.std.specs.Prelude.{slice_get, slice_set, if◌then◌else◌}
+use Rattle.std.specs.Cmp.{nat_eq_equiv}
 use Rattle.std.specs.List.{AllByRecursion, list_any}
 use Rattle.std.proofs.lemmas.Bool.{cases_Bool}
 use Rattle.std.proofs.lemmas.Option.{slice_get_within}
 use Rattle.std.proofs.Math.ListN.{length-set}
 use Rattle.clock2q_machine.specs.Machine.{Machine, value_of}
+use Rattle.clock2q_machine.specs.Whole.{IsWhole}
 use Rattle.clock2q_machine.proofs.Whole.{some_is, none_is}
-use Rattle.clock2q_uses.specs.WriteBack.{is_dirty, blocks, written_back, flushed, IsInStep}
+use Rattle.clock2q_cache.specs.Iteration.{entries}
+use Rattle.clock2q_cache.proofs.Listed.{entries-values, entries-listed}
+use Rattle.clock2q_uses.specs.WriteBack.{is_dirty, blocks, written_back, flushed, number_and_block, IsInStep}
 use Rattle.clock2q_uses.proofs.WritingBack.{same_list, set_there, set_elsewhere, length-blocks, resident_seen, stored_seen}
 
 -- once each resident block that is dirty is written, the device has the blocks that are read
@@ -88,6 +92,46 @@ module _ {T : Type 0} (m : Machine ℕ T) (dirty : List Bool) where
           | inl d ↦ got k v had d resident all (listed k v had) device (step.within k v had)
           | inr clean ↦ kept k v had resident all device (step.clean k v had clean)
         ]) ∙ sym (resident_seen m device k v had (step.within k v had))
+
+-- the entries that are left are written one after another
+module _ {T : Type 0} (dirty : List Bool) (es rest : List (ℕ × ℕ × T)) where
+  pub one_flushed : (e : ℕ × ℕ × T) → es ≡ e ∷ rest → (device now : List T) → now ≡ written_back dirty (e.0, e.2) device
+      → flushed dirty (map number_and_block rest) now ≡ flushed dirty (map number_and_block es) device
+  one_flushed e is device now written =
+      ap (λ d. flushed dirty (map number_and_block rest) d) written ∙ sym (ap (λ (zs : List (ℕ × ℕ × T)). flushed dirty (map number_and_block zs) device) is)
+
+  pub none_flushed : es ≡ [] → (device : List T) → flushed dirty (map number_and_block es) device ≡ device
+  none_flushed is device = ap (λ (zs : List (ℕ × ℕ × T)). flushed dirty (map number_and_block zs) device) is
+
+  pub first_within : (n : ℕ) (e : ℕ × ℕ × T) → es ≡ e ∷ rest → AllByRecursion (λ (x : ℕ × ℕ × T). x.0 < n) es → (e.0 < n) × AllByRecursion (λ (x : ℕ × ℕ × T). x.0 < n) rest
+  first_within n e is all = subst (λ (zs : List (ℕ × ℕ × T)). AllByRecursion (λ (x : ℕ × ℕ × T). x.0 < n) zs) is all
+
+-- the blocks that an iterator over the cache yields
+module _ {T : Type 0} (m : Machine ℕ T) (whole : IsWhole eqb m) (dirty : List Bool) (device : List T) (step : IsInStep m dirty device) where
+  abbrev HasValue : ℕ × ℕ × T → Type 0
+  HasValue e = value_of (eqb e.0) m ≡ Some e.2
+
+  values : AllByRecursion HasValue (entries m)
+  values = entries-values eqb nat_eq_equiv m whole
+
+  are_resident : (es : List (ℕ × ℕ × T)) → AllByRecursion HasValue es → AreResident m dirty (map number_and_block es)
+  are_resident [] all = tt
+  are_resident (e ∷ es) all = (all.0, are_resident es all.1)
+
+  same_numbers : (k : ℕ) (es : List (ℕ × ℕ × T)) → list_any (λ (r : ℕ × T). eqb k r.0) (map number_and_block es) ≡ list_any (λ (e : ℕ × ℕ × T). eqb k e.0) es
+  same_numbers k [] = refl
+  same_numbers k (e ∷ es) = ap (λ b. eqb k e.0 || b) (same_numbers k es)
+
+  are_within : (es : List (ℕ × ℕ × T)) → AllByRecursion HasValue es → AllByRecursion (λ (e : ℕ × ℕ × T). e.0 < length device) es
+  are_within [] all = tt
+  are_within (e ∷ es) all = (step.within e.0 e.2 all.0, are_within es all.1)
+
+  pub entries_within : (es : List (ℕ × ℕ × T)) → es ≡ entries m → AllByRecursion (λ (e : ℕ × ℕ × T). e.0 < length device) es
+  entries_within es is = subst (λ (zs : List (ℕ × ℕ × T)). AllByRecursion (λ (e : ℕ × ℕ × T). e.0 < length device) zs) (sym is) (are_within (entries m) values)
+
+  pub all_flushed : flushed dirty (map number_and_block (entries m)) device ≡ blocks m device
+  all_flushed = flushed_is m dirty device step (map number_and_block (entries m)) (are_resident (entries m) values)
+      (λ k v had. same_numbers k (entries m) ∙ entries-listed eqb nat_eq_equiv m whole k v had)
 
 -- then the device has the blocks that are read, and every block is clean
 module _ {T : Type 0} (m : Machine ℕ T) (dirty dirty' : List Bool) (device : List T) (step : IsInStep m dirty device) where

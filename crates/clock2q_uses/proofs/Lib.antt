@@ -6,5 +6,6 @@ pub mod Replaying
 pub mod Splitting
 pub mod Squaring
 pub mod WritingBack
+pub mod ReadingBack
 pub mod Flushing
 pub mod WorkedWriteBack

@@ -2,10 +2,11 @@
 use Rattle.std.proofs.Common.{◌≡◌, ℕ, zero, suc, ◌+◌, ◌<◌, ◌==◌, Bool, true, false, ◌&&◌, eqb, List, [], ◌∷◌, length, inl, inr, Option, Some, None, refl, sym, ap, ◌∙◌, subst, arith, eq-eqb, eqb-true, ne_eqb}
 use Rattle.std.specs.Prelude.{slice_get, slice_set, if◌then◌else◌, is_some, IfSome}
 use Rattle.std.specs.Cmp.{nat_eq_equiv}
+use Rattle.std.specs.List.{list_any}
 use Rattle.std.specs.Option.{option_map, option_and_then, unwrap_or}
 use Rattle.std.proofs.lemmas.Bool.{cases_Bool, both_ways, eqb-false}
 use Rattle.clock2q_machine.specs.Calls.{Call, Put}
-use Rattle.clock2q_machine.specs.Leaving.{leaver, one_with, with_value}
+use Rattle.clock2q_machine.specs.Leaving.{leaver, leaves_for, one_with, with_value}
 use Rattle.clock2q_machine.specs.Machine.{Machine, empty, slot_of, value_of, placement}
 use Rattle.clock2q_machine.specs.Shares.{Shares}
 use Rattle.clock2q_machine.specs.Steps.{put}
@@ -16,7 +17,7 @@ use Rattle.clock2q_machine.proofs.MachineInvariant.{lasting-after, resident_made
 use Rattle.clock2q_machine.proofs.Laws.{put_there, others_had, others_keep}
 use Rattle.clock2q_machine.proofs.Victims.{one_leaves, victim_gone, others_stay, counted_residents}
 use Rattle.std.proofs.Math.ListN.{length-set}
-use Rattle.clock2q_uses.specs.WriteBack.{is_dirty, blocks_from, blocks, written_if_left, left_by, IsInStep}
+use Rattle.clock2q_uses.specs.WriteBack.{is_dirty, blocks_from, blocks, other_than, written_if_left, left_by, IsInStep}
 
 -- lists with the same elements are equal
 module _ {T : Type 0} where
@@ -170,6 +171,59 @@ module _ {T : Type 0} (m : Machine ℕ T) (whole : IsWhole eqb m) (number : ℕ)
             (λ x is. let v = left_is r out in subst (λ z. eqb k z ≡ false) (ap (λ (b : ℕ × T). b.0) (some_is (r.0, v.0) x (sym v.1 ∙ is))) differs)
       ]
 
+  -- the block that is put isn't the one that leaves
+  pub put_stays : (r : ℕ × T) → left_by number block m ≡ Some r → eqb number r.0 ≡ false
+  put_stays x is = by_leaver (leaver eqb call m) refl
+    where
+      by_leaver : (o : Option (ℕ × ℕ)) → leaver eqb call m ≡ o → eqb number x.0 ≡ false
+      by_leaver None none = absurd (none_is x (sym (ap left_for none) ∙ is))
+      by_leaver (Some r) out =
+          let v = left_is r out in
+          let e = ap (λ (b : ℕ × T). b.0) (some_is (r.0, v.0) x (sym v.1 ∙ is)) in
+          ne_eqb number x.0 (λ same. both_ways (eqb r.0 number) (not_put r out) (eq-eqb r.0 number (e ∙ sym same)))
+
+  -- what the put hands over of another number is the block that leaves
+  module _ (handed : Option (ℕ × T)) (replaced : IfSome (value_of (eqb number) m) (λ before. handed ≡ Some (number, before)))
+      (evicted : slot_of (eqb number) m ≡ None → handed ≡ left_by number block m) where
+    pub handed_left : other_than number handed ≡ left_by number block m
+    handed_left = by_slot (slot_of (eqb number) m) refl
+      where
+        others : (o : Option (ℕ × T)) → left_by number block m ≡ o → other_than number o ≡ o
+        others None none = refl
+        others (Some r) is = ap (λ (b : Bool). if b then None else Some r) (put_stays r is)
+
+        by_slot : (o : Option ℕ) → slot_of (eqb number) m ≡ o → other_than number handed ≡ left_by number block m
+        by_slot None absent = ap (other_than number) (evicted absent) ∙ others (left_by number block m) refl
+        by_slot (Some slot) found =
+            let v = at_slot number slot found in
+            ap (other_than number) (subst (λ o. IfSome o (λ before. handed ≡ Some (number, before))) v.2 replaced)
+            ∙ ap (λ (b : Bool). if b then None else Some (number, v.0)) (eq-eqb number number refl)
+            ∙ sym (ap (λ (o : Option ℕ). left_for (if is_some o then None else leaves_for (list_any (eqb number) m.history) m)) found)
+
+    -- and a block of the device
+    pub handed_within : {dirty : List Bool} {device : List T} → IsInStep m dirty device → number < length device → IfSome handed (λ r. r.0 < length device)
+    handed_within {dirty} {device} step within = by_slot (slot_of (eqb number) m) refl
+      where
+        left_within : (r : ℕ × T) → left_by number block m ≡ Some r → r.0 < length device
+        left_within x is = by_leaver (leaver eqb call m) refl
+          where
+            by_leaver : (o : Option (ℕ × ℕ)) → leaver eqb call m ≡ o → x.0 < length device
+            by_leaver None none = absurd (none_is x (sym (ap left_for none) ∙ is))
+            by_leaver (Some r) out =
+                let v = left_is r out in
+                let e : r.0 ≡ x.0 = ap (λ (b : ℕ × T). b.0) (some_is (r.0, v.0) x (sym v.1 ∙ is)) in
+                omega (arith, e, step.within r.0 v.0 v.2)
+
+        by_left : (o : Option (ℕ × T)) → left_by number block m ≡ o → IfSome o (λ r. r.0 < length device)
+        by_left None none = tt
+        by_left (Some r) is = left_within r is
+
+        by_slot : (o : Option ℕ) → slot_of (eqb number) m ≡ o → IfSome handed (λ r. r.0 < length device)
+        by_slot None absent = subst (λ o. IfSome o (λ r. r.0 < length device)) (sym (evicted absent)) (by_left (left_by number block m) refl)
+        by_slot (Some slot) found =
+            let v = at_slot number slot found in
+            subst (λ o. IfSome o (λ r. r.0 < length device)) (sym (subst (λ o. IfSome o (λ before. handed ≡ Some (number, before))) v.2 replaced)) within
+
   module _ (dirty : List Bool) (device : List T) (step : IsInStep m dirty device) (within : number < length device) where
     abbrev written : List T
     written = written_if_left dirty (left_by number block m) device
@@ -226,17 +280,6 @@ module _ {T : Type 0} (m : Machine ℕ T) (whole : IsWhole eqb m) (number : ℕ)
                 ∙ ap (λ o. option_map (λ stored. unwrap_or (value_of (eqb k) m) stored) o) (same_there k not_left) ∙ sym (block_seen m device k)
             by_other other (Leaves v is had gone) =
                 stored_seen now written k gone ∙ on_device k v is had ∙ sym (resident_seen m device k v had (step.within k v had))
-
-    -- the block that is put isn't the one that leaves
-    put_stays : (r : ℕ × T) → left_by number block m ≡ Some r → eqb number r.0 ≡ false
-    put_stays x is = by_leaver (leaver eqb call m) refl
-      where
-        by_leaver : (o : Option (ℕ × ℕ)) → leaver eqb call m ≡ o → eqb number x.0 ≡ false
-        by_leaver None none = absurd (none_is x (sym (ap left_for none) ∙ is))
-        by_leaver (Some r) out =
-            let v = left_is r out in
-            let e = ap (λ (b : ℕ × T). b.0) (some_is (r.0, v.0) x (sym v.1 ∙ is)) in
-            ne_eqb number x.0 (λ same. both_ways (eqb r.0 number) (not_put r out) (eq-eqb r.0 number (e ∙ sym same)))
 
     -- and the cache stays in step with the device: a block may be marked clean if it was clean, or left, or was put as
     -- the device has it

@@ -1,5 +1,5 @@
 -- A device's blocks in a cache that writes a block back when it leaves, if the device has an older one.
-use Rattle.std.specs.Prelude.{◌≡◌, ℕ, ◌+◌, ◌<◌, Bool, false, eqb, List, [], ◌∷◌, length, slice_get, slice_set, slice_index_or, if◌then◌else◌, Option, Some, None}
+use Rattle.std.specs.Prelude.{◌≡◌, ℕ, ◌+◌, ◌<◌, Bool, false, eqb, List, [], ◌∷◌, length, slice_get, slice_set, slice_index_or, ◌==◌, if◌then◌else◌, Option, Some, None}
 use Rattle.std.specs.List.{fold}
 use Rattle.std.specs.Option.{option_map, unwrap_or}
 use Rattle.clock2q_machine.specs.Calls.{Put}
@@ -29,6 +29,11 @@ module _ {T : Type 0} where
   written_if_left dirty None device = device
   written_if_left dirty (Some block) device = written_back dirty block device
 
+  -- what a put hands over, if it is of another number
+  abbrev pub other_than : ℕ → Option (ℕ × T) → Option (ℕ × T)
+  other_than number None = None
+  other_than number (Some block) = if number == block.0 then None else Some block
+
   -- the block that leaves if this one is put
   abbrev pub left_by : ℕ → T → Machine ℕ T → Option (ℕ × T)
   left_by number block m = option_map (λ v. (v.0, v.1.1)) (victim_of eqb (Put number block) m)
@@ -36,6 +41,10 @@ module _ {T : Type 0} where
   -- the device once the dirty ones of these blocks are written, one after another
   abbrev pub flushed : List Bool → List (ℕ × T) → List T → List T
   flushed dirty resident device = fold (λ written block. written_back dirty block written) device resident
+
+  -- the block of a cache's entry
+  abbrev pub number_and_block : ℕ × ℕ × T → ℕ × T
+  number_and_block e = (e.0, e.2)
 
   -- a resident block is one of the device's, where it is the same unless it is dirty
   pub record IsInStep (m : Machine ℕ T) (dirty : List Bool) (device : List T) : Type 0 where

@@ -11,3 +11,4 @@ pub mod routes;
 pub mod scans;
 pub mod split;
 pub mod squares;
+pub mod write_back;

@@ -1,0 +1,26 @@
+-- What the put hands over of another number is the block that leaves, and it is on the device if it was dirty.
+use Rattle.std.proofs.Common.{sym, ◌∙◌, arith}
+use Rattle.clock2q_uses.proofs.WritingBack.{handed_left, handed_within, blocks_put}
+use Rattle.clock2q_uses.proofs.ReadingBack.{step_marked}
+use Rattle.clock2q_uses.proofs.write_back.write_block.Goals as goal
+
+pub write_left-requires-clause-within : goal.write_left-requires-clause-within
+write_left-requires-clause-within g c =
+    let e = c.put_evicting-handed.ensures in
+    handed_within c.args.cache.now.machine c.len.ensures.whole c.args.number c.args.block c.put_evicting-handed.result e.replaced e.evicted c.requires.in_step c.requires.within
+
+pub returns-clause-blocks : goal.returns-clause-blocks
+returns-clause-blocks g c =
+    let e = c.put_evicting-handed.ensures in
+    let m = c.args.cache.now.machine in
+    rw (e.machine, c.write_left.ensures.written, handed_left m c.len.ensures.whole c.args.number c.args.block c.put_evicting-handed.result e.replaced e.evicted)
+    (blocks_put m c.len.ensures.whole c.args.number c.args.block c.args.dirty.now c.args.device.now c.requires.in_step c.requires.within)
+
+pub returns-clause-in_step : goal.returns-clause-in_step
+returns-clause-in_step g c =
+    let e = c.put_evicting-handed.ensures in
+    let m = c.args.cache.now.machine in
+    let left = handed_left m c.len.ensures.whole c.args.number c.args.block c.put_evicting-handed.result e.replaced e.evicted in
+    rw (e.machine, c.write_left.ensures.written, left)
+    (step_marked m c.len.ensures.whole c.args.dirty.now c.args.device.now c.requires.in_step c.args.number c.args.block c.write_left.new.dirty
+    (λ k stays. c.write_left.ensures.clean k (λ r is. stays r (sym left ∙ is))) c.requires.within (omega (arith, c.write_left.ensures.marks, c.requires.marks, c.requires.within)))
