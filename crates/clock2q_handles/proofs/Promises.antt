@@ -1,5 +1,6 @@
 -- What users of a table rely on over single insertions: few entries are never refused, and removing an entry again restores the slots.
-use Rattle.std.proofs.Common.{◌≡◌, ℕ, suc, ◌+◌, ◌^◌, ◌<◌, refl, sym, ap, ◌∙◌, subst, arith, Bool, true, List, length, Option}
+use Rattle.std.proofs.Common.{◌≡◌, ℕ, suc, ◌+◌, ◌^◌, ◌<◌, refl, sym, ap, ◌∙◌, subst, arith, Bool, true, false, List, length, Option}
+use Rattle.std.specs.Bool.{OnTrue, OnFalse}
 use Rattle.std.specs.Prelude.{Result, Ok, Err, IsOk, OnOk, OnErr, IfOk, IfErr}
 use Rattle.clock2q_handles.specs.Homes.{total, capacity, with_handle, top, removed, IsNew}
 use Rattle.clock2q_handles.specs.Layout.{Placed, layout, homes_of, IsTidy, IsTooLong}
@@ -24,6 +25,11 @@ pub on_ok : {T E P Q : Type 0} (r : Result T E) → (P → Q) → OnOk r P → O
 on_ok (Ok x) gives p = gives p
 on_ok (Err e) gives p = p
 
+-- and if it did not
+pub on_err : {T E P Q : Type 0} (r : Result T E) → (P → Q) → OnErr r P → OnErr r Q
+on_err (Ok x) gives p = p
+on_err (Err e) gives p = gives p
+
 -- what follows from the result if a call returned `Ok`, and from the error if it did not
 pub if_ok : {T E : Type 0} {P Q : T → Type 0} (r : Result T E) → ((x : T) → P x → Q x) → IfOk r P → IfOk r Q
 if_ok (Ok x) gives p = gives x p
@@ -32,6 +38,15 @@ if_ok (Err e) gives p = tt
 pub if_err : {T E : Type 0} {P Q : E → Type 0} (r : Result T E) → ((e : E) → P e → Q e) → IfErr r P → IfErr r Q
 if_err (Ok x) gives p = tt
 if_err (Err e) gives p = gives e p
+
+-- what follows from what is so if a test succeeds, or fails
+pub on_true : {P Q : Type 0} (b : Bool) → (P → Q) → OnTrue b P → OnTrue b Q
+on_true true gives p = gives p
+on_true false gives p = p
+
+pub on_false : {P Q : Type 0} (b : Bool) → (P → Q) → OnFalse b P → OnFalse b Q
+on_false true gives p = p
+on_false false gives p = gives p
 
 -- a call that returned `Ok` returned no error
 pub no_error : {T E : Type 0} (r : Result T E) (e : E) → IsOk r → r ≡ Err e → ⊥

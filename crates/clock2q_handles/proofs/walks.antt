@@ -5,3 +5,4 @@ pub mod Yields
 pub mod Cursors
 pub mod Positions
 pub mod Lookups
+pub mod Reads

@@ -1,10 +1,14 @@
--- What a call that changes a table results in, and how many slots it writes.
+-- What a call that changes a table results in, and how many slots it reads and writes.
 use Rattle.std.specs.Prelude.{◌≡◌, ℕ, ◌+◌, ◌^◌, ◌<◌, ◌≤◌, Bool, List, Result, MatchResult, IsOk, OnOk, OnErr}
 use Rattle.clock2q_handles.specs.Homes.{with_handle, removed, count, total, IsNew}
 use Rattle.clock2q_handles.specs.Layout.{layout, run, spill_of, IsTooLong, IsBestPlaced}
 use Rattle.clock2q_handles.specs.TableStep.{TableValue}
 use Rattle.clock2q_handles.specs.declared.error.TableError.{TableError}
 use Rattle.clock2q_handles.specs.declared.error.TableError.TheVariants.{RunTooLong}
+
+-- a count rises by at most n
+abbrev pub RisesAtMost : (n old new : ℕ) → Type 0
+RisesAtMost n old new = (old ≤ new) × (new ≤ old + n)
 
 module _ {H : Type 0} where
   -- v is put in under x, and no run is too long; or a run would be, and nothing is put in
@@ -14,6 +18,18 @@ module _ {H : Type 0} where
   -- at most n slots are written
   abbrev pub WritesAtMost : ℕ → TableValue H → TableValue H → Type 0
   WritesAtMost n old new = (old.writes ≤ new.writes) × (new.writes ≤ old.writes + n)
+
+  -- n slots are read, and as many more as are written
+  abbrev pub ReadsWalk : ℕ → TableValue H → TableValue H → Type 0
+  ReadsWalk n old new = new.reads + old.writes ≡ old.reads + n + new.writes
+
+  -- at most n slots are read beside as many as are written
+  abbrev pub ReadsAtMost : ℕ → TableValue H → TableValue H → Type 0
+  ReadsAtMost n old new = (old.reads ≤ new.reads) × (new.reads + old.writes ≤ old.reads + n + new.writes)
+
+  -- at most n slots are read, and nothing is written
+  abbrev pub OnlyReads : ℕ → TableValue H → TableValue H → Type 0
+  OnlyReads n old new = (new ≡ record old { reads = new.reads }) × RisesAtMost n old.reads new.reads
 
   -- removing v again restores the slots, if there was no such entry before
   abbrev pub Restores : (H → H → Bool) → ℕ → H → TableValue H → TableValue H → Type 0
@@ -29,15 +45,18 @@ module _ {H : Type 0} where
     pub put : new.homes ≡ with_handle old.homes x v
     pub short : IsTooLong (with_handle old.homes x v) → ⊥
     pub writes : WritesAtMost (run old.slots x + 1) old new
+    pub reads : ReadsWalk 0 old new
     pub restores : Restores eq x v old new
     pub laid : IsLaidOut new
 
   -- v is put in under x below capacity, or refused because a run would be too long, which takes 2^24 entries and changes nothing
   pub record Inserts (eq : H → H → Bool) (x : ℕ) (v : H) (result : Result (Unit {0}) TableError) (old new : TableValue H) : Type 0 where
     pub put : PutIn old.homes x v result new.homes
-    pub refused : OnErr result (new ≡ old)
+    pub refused : OnErr result (new ≡ record old { reads = new.reads })
     pub few : total old.homes + 1 < 2 ^ 24 → IsOk result
     pub writes : WritesAtMost (run old.slots x + 1) old new
+    pub reads : total old.homes + 1 < 2 ^ 24 → ReadsWalk 0 old new
+    pub counted : old.reads ≤ new.reads
     pub restores : OnOk result (Restores eq x v old new)
     pub laid : IsLaidOut new
 

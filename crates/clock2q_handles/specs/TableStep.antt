@@ -5,20 +5,21 @@ use Rattle.clock2q_handles.specs.Homes.{top, capacity, home, listed, total, no_e
 use Rattle.clock2q_handles.specs.Layout.{Placed, placed_code, layout, entries}
 use mathlib.Core.Path.{refl}
 
--- what a contract sees of a table: each home's list, the contents of each slot, and the number of slot writes
+-- what a contract sees of a table: each home's list, the contents of each slot, and the numbers of slot writes and of slot reads
 pub record TableValue (H : Type 0) : Type 0 where
   pub homes : List (List (ℕ × H))
   pub slots : List (Option (Placed (ℕ × H)))
   pub writes : ℕ
+  pub reads : ℕ
 
-abbrev pub table_value : {H : Type 0} → List (List (ℕ × H)) → List (Option (Placed (ℕ × H))) → ℕ → TableValue H
-table_value homes slots writes = record { homes = homes; slots = slots; writes = writes }
+abbrev pub table_value : {H : Type 0} → List (List (ℕ × H)) → List (Option (Placed (ℕ × H))) → ℕ → ℕ → TableValue H
+table_value homes slots writes reads = record { homes = homes; slots = slots; writes = writes; reads = reads }
 
 abbrev pub table_code : {H : Type 0} → Coded H → Coded (TableValue H)
 table_code {H} h =
-    code_by (List (List (ℕ × H)) × (List (Option (Placed (ℕ × H))) × ℕ))
-    (coded× (coded_list (coded_list (coded× coded_ℕ h))) (coded× (coded_list (coded_option (placed_code (coded× coded_ℕ h)))) coded_ℕ))
-    (λ t. (t.homes, (t.slots, t.writes))) (λ p. table_value p.0 p.1.0 p.1.1) (λ _. refl)
+    code_by (List (List (ℕ × H)) × (List (Option (Placed (ℕ × H))) × (ℕ × ℕ)))
+    (coded× (coded_list (coded_list (coded× coded_ℕ h))) (coded× (coded_list (coded_option (placed_code (coded× coded_ℕ h)))) (coded× coded_ℕ coded_ℕ)))
+    (λ t. (t.homes, (t.slots, (t.writes, t.reads)))) (λ p. table_value p.0 p.1.0 p.1.1.0 p.1.1.1) (λ _. refl)
 
 -- the first of m, 2 m, 4 m .. in which e entries fit, after at most k doublings
 abbrev pub doubled_until : ℕ → ℕ → ℕ → ℕ

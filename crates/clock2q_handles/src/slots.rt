@@ -2,13 +2,14 @@
 ghost use Rattle.clock2q_handles.specs.Candidates.{EndsAt};
 ghost use Rattle.clock2q_handles.specs.Found.{FindsAt};
 ghost use Rattle.clock2q_handles.specs.Homes.{is_entry_of, listed};
-ghost use Rattle.clock2q_handles.specs.Layout.{IsTidy, homes_of, AreNear};
+ghost use Rattle.clock2q_handles.specs.Changes.{RisesAtMost};
+ghost use Rattle.clock2q_handles.specs.Layout.{IsTidy, homes_of, walk, AreNear};
 ghost use Rattle.clock2q_handles.specs.Moves.{MayMove, Moves};
 ghost use Rattle.clock2q_handles.specs.Shifts.{HasRoomAt, LacksRoomAt};
-ghost use Rattle.clock2q_handles.specs.Slots.{cells};
+ghost use Rattle.clock2q_handles.specs.Slots.{cells, mark_reach};
 ghost use Rattle.std.specs.Bool.{OnTrue, OnFalse};
 ghost use Rattle.std.specs.List.{list_any};
-ghost use Rattle.std.specs.Prelude.{true, false, ◌≡◌, ◌+◌, ◌%◌, ◌^◌, ◌<◌, IfSome, IfNone, length};
+ghost use Rattle.std.specs.Prelude.{true, false, ◌≡◌, ◌+◌, ◌%◌, ◌^◌, ◌<◌, ◌≤◌, IfSome, IfNone, length};
 
 mod counted_slice;
 mod reader;
@@ -17,6 +18,7 @@ mod view;
 
 use crate::gap::Gap;
 use crate::metadata::Wanted;
+use clock2q_count::Count;
 pub(super) use reader::Reader;
 use std::alloc::Allocator;
 pub(super) use vectors::Slots;
@@ -44,15 +46,16 @@ impl<H: Copy + Default, A: Allocator> Slots<H, A> {
 
     /// Returns where a walk for `hash` ends.
     #[inline(always)]
-    pub(super) fn gap(&self, hash: u64) -> Gap
+    pub(super) fn gap(&self, hash: u64, reads: &mut Count) -> Gap
         requires tidy { IsTidy self.now.slots }
         requires near { AreNear self.now.slots }
         requires some { 0 < length self.now.slots }
         ensures ends { EndsAt self.now.slots hash result.mark result.position }
+        ensures reads { reads.new.total ≡ reads.old.total + mark_reach result.mark }
     {
         let mut slot = self.home(hash);
         let mut wanted = Wanted::new(hash);
-        while !self.metadata(slot).ends_walk_for(wanted) {
+        while !self.read(slot, reads).ends_walk_for(wanted) {
             slot = self.after(slot);
             wanted = wanted.next();
         }
@@ -61,18 +64,19 @@ impl<H: Copy + Default, A: Allocator> Slots<H, A> {
 
     /// Returns true if an entry can be inserted at the gap: neither it nor an entry that has to
     /// move on for it ends up too far past its home.
-    pub(super) fn has_room(&self, gap: &Gap) -> bool
+    pub(super) fn has_room(&self, gap: &Gap, reads: &mut Count) -> bool
         requires tidy { IsTidy self.now.slots }
         requires within { gap.now.position < length self.now.slots }
         ensures room { OnTrue result (HasRoomAt self.now.slots gap.now.mark gap.now.position) }
         ensures far { OnFalse result (LacksRoomAt self.now.slots gap.now.mark gap.now.position) }
+        ensures counted { reads.old.total ≤ reads.new.total }
     {
         if !gap.wanted().is_near() {
             return false;
         }
         let mut slot = gap.slot();
         loop {
-            let metadata = self.metadata(slot);
+            let metadata = self.read(slot, reads);
             if metadata.is_empty() {
                 return true;
             }
@@ -85,13 +89,14 @@ impl<H: Copy + Default, A: Allocator> Slots<H, A> {
 
     /// Returns the slot of the first candidate of `hash` that equals `handle`.
     #[inline(always)]
-    pub(super) fn find(&self, hash: u64, handle: H) -> Option<usize>
+    pub(super) fn find(&self, hash: u64, handle: H, reads: &mut Count) -> Option<usize>
     where
         H: PartialEq,
         requires tidy { IsTidy self.now.slots }
         requires near { AreNear self.now.slots }
         ensures found { IfSome result (FindsAt (is_entry_of H.PartialEq.eq hash handle) self.now.slots (hash % length self.now.slots)) }
         ensures none { IfNone result (list_any (is_entry_of H.PartialEq.eq hash handle) (listed (homes_of self.now.slots) (hash % length self.now.slots)) ≡ false) }
+        ensures reads { RisesAtMost (walk (homes_of self.now.slots) hash) reads.old.total reads.new.total }
     {
         if self.count() == 0 {
             return None;
@@ -99,7 +104,7 @@ impl<H: Copy + Default, A: Allocator> Slots<H, A> {
         let mut slot = self.home(hash);
         let mut wanted = Wanted::new(hash);
         loop {
-            let metadata = self.metadata(slot);
+            let metadata = self.read(slot, reads);
             if metadata.is(wanted) && self.handle(slot) == handle {
                 return Some(slot);
             }
@@ -114,18 +119,19 @@ impl<H: Copy + Default, A: Allocator> Slots<H, A> {
     /// Returns the slot of the first candidate of `hash` that equals `handle`, given that there is
     /// one.
     #[inline(always)]
-    pub(super) fn find_held(&self, hash: u64, handle: H) -> usize
+    pub(super) fn find_held(&self, hash: u64, handle: H, reads: &mut Count) -> usize
     where
         H: PartialEq,
         requires tidy { IsTidy self.now.slots }
         requires near { AreNear self.now.slots }
         requires held { list_any (is_entry_of H.PartialEq.eq hash handle) (listed (homes_of self.now.slots) (hash % length self.now.slots)) ≡ true }
         ensures found { FindsAt (is_entry_of H.PartialEq.eq hash handle) self.now.slots (hash % length self.now.slots) result }
+        ensures reads { RisesAtMost (walk (homes_of self.now.slots) hash) reads.old.total reads.new.total }
     {
         let mut slot = self.home(hash);
         let mut wanted = Wanted::new(hash);
         loop {
-            let metadata = self.metadata(slot);
+            let metadata = self.read(slot, reads);
             if metadata.is(wanted) && self.handle(slot) == handle {
                 return slot;
             }
@@ -136,10 +142,16 @@ impl<H: Copy + Default, A: Allocator> Slots<H, A> {
 
     /// Inserts each entry of other slots, in the order of those slots, under the hash that `rehash`
     /// returns for its handle.
-    pub(super) fn put_all<F: FnMut(H) -> u64>(&mut self, old: SlotsRef<'_, H>, rehash: &mut F)
+    pub(super) fn put_all<F: FnMut(H) -> u64>(
+        &mut self,
+        old: SlotsRef<'_, H>,
+        rehash: &mut F,
+        reads: &mut Count,
+    )
         requires same { length old.handles.now ≡ length old.metadata.now }
         requires movable { MayMove F.FnMut rehash.old (cells old.metadata.now old.handles.now) self.old.slots }
         ensures moved { Moves F.FnMut rehash.old rehash.new (cells old.entry.metadata.now old.entry.handles.now) self.old.slots self.new.slots }
+        ensures counted { reads.old.total ≤ reads.new.total }
     {
         for slot in 0..old.count() {
             if old.metadata(slot).is_empty() {
@@ -147,8 +159,8 @@ impl<H: Copy + Default, A: Allocator> Slots<H, A> {
             }
             let handle = old.handle(slot);
             let hash = rehash(handle);
-            let gap = self.gap(hash);
-            self.put_at(&gap, handle);
+            let gap = self.gap(hash, reads);
+            self.put_at(&gap, handle, reads);
         }
     }
 }

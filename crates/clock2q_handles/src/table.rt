@@ -14,6 +14,7 @@ use crate::candidates::Candidates;
 use crate::error::TableError;
 use crate::slots::Slots;
 use crate::table::growth::slots_for;
+use clock2q_count::Count;
 use std::alloc::{Allocator, Global};
 use std::fmt;
 use std::marker::Model;
@@ -37,6 +38,7 @@ use std::marker::Model;
 #[derive(Drop)]
 pub struct Table<H: Copy + Eq + Default, A: Allocator = Global> {
     slots: Slots<H, A>,
+    reads: Count,
     len: usize,
 }
 
@@ -49,7 +51,7 @@ impl<H: Copy + Eq + Default, A: Allocator> Model for Table<H, A> {
 
     ghost coded = { table_code H.code };
 
-    ghost view = { λ t. table_value (homes_of t.slots.slots) t.slots.slots t.slots.writes };
+    ghost view = { λ t. table_value (homes_of t.slots.slots) t.slots.slots t.slots.writes t.reads.total };
 
     ghost invariant = { λ t. IsTable t.slots.slots t.len };
 }
@@ -60,10 +62,11 @@ impl<H: Copy + Eq + Default, A: Allocator + Copy> Table<H, A> {
 
     /// Returns an empty table with no slots, which takes no memory.
     pub fn new(alloc: A) -> Table<H, A>
-        ensures made { result ≡ table_value [] [] 0 }
+        ensures made { result ≡ table_value [] [] 0 0 }
     {
         Table {
             slots: Slots::new(alloc),
+            reads: Count::new(),
             len: 0,
         }
     }
@@ -78,7 +81,7 @@ impl<H: Copy + Eq + Default, A: Allocator + Copy> Table<H, A> {
     ///
     /// Linear in `entries`: every slot is initialized.
     pub fn with_capacity(alloc: A, entries: usize) -> Result<Table<H, A>, TableError>
-        ensures made { IfOk result (λ t. t ≡ table_value (made_for entries) (layout (made_for entries)) 0) }
+        ensures made { IfOk result (λ t. t ≡ table_value (made_for entries) (layout (made_for entries)) 0 0) }
         ensures size { IsErrOf result TableError.Size ↔ ((0 < entries) × (2 ^ 64 ≤ fit entries)) }
         ensures only { result ≢ Err TableError.RunTooLong }
         ensures none { entries ≡ 0 → IsOk result }
@@ -92,7 +95,9 @@ impl<H: Copy + Eq + Default, A: Allocator + Copy> Table<H, A> {
         let Ok(slots) = Slots::with_count(alloc, count) else {
             return Err(TableError::Memory);
         };
-        Ok(Table { slots, len: 0 })
+        let reads = Count::new();
+        let len = 0;
+        Ok(Table { slots, reads, len })
     }
 }
 

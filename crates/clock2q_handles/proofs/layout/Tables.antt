@@ -65,9 +65,9 @@ module _ (H : Type 0) where
   }
 
   -- and the table has no entries
-  pub view-empty : (m : ℕ) → table_value (homes_of (empty (ℕ × H) m)) (empty (ℕ × H) m) 0 ≡ table_value (nothing (ℕ × H) m) (layout (nothing (ℕ × H) m)) 0
+  pub view-empty : (m : ℕ) → table_value (homes_of (empty (ℕ × H) m)) (empty (ℕ × H) m) 0 0 ≡ table_value (nothing (ℕ × H) m) (layout (nothing (ℕ × H) m)) 0 0
   view-empty m =
-      ap (λ hs. table_value hs (empty (ℕ × H) m) 0) (homes_of-empty (ℕ × H) m) ∙ ap (λ s. table_value (nothing (ℕ × H) m) s 0) (sym (layout-nothing (ℕ × H) m))
+      ap (λ hs. table_value hs (empty (ℕ × H) m) 0 0) (homes_of-empty (ℕ × H) m) ∙ ap (λ s. table_value (nothing (ℕ × H) m) s 0 0) (sym (layout-nothing (ℕ × H) m))
 
   pub made_for-some : (n : ℕ) → 0 < n → made_for {H = H} n ≡ nothing (ℕ × H) (fit n)
   made_for-some zero some = absurd (omega (arith, some))
@@ -88,8 +88,8 @@ module _ {H : Type 0} (slots : List (Option (Placed (ℕ × H)))) (len : ℕ) (t
       omega (arith, long.2, long.3, ap reach stands, table.near (h + spill_of homes h + i))
 
   -- so callers may rely on all of it
-  pub table-whole : (writes : ℕ) → IsWhole (table_value (homes_of slots) slots writes)
-  table-whole writes = record {
+  pub table-whole : (writes reads : ℕ) → IsWhole (table_value (homes_of slots) slots writes reads)
+  table-whole writes reads = record {
     laid = tidy-layout slots table.tidy;
     slot_count = subst IsSlotCount (sym (length-homes_of slots)) table.slot_count;
     room = tidy-room slots table.tidy;

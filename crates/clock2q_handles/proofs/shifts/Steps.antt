@@ -164,8 +164,8 @@ pub table-best : {H : Type 0} (slots : List (Option (Placed (ℕ × H)))) (len :
 table-best slots len table = best-placed (homes_of slots) (tidy-room slots table.tidy)
 
 -- in the slots that their lists determine
-pub table-laid : {H : Type 0} (slots : List (Option (Placed (ℕ × H)))) (len : ℕ) → IsTable slots len → (writes : ℕ) → IsLaidOut (table_value (homes_of slots) slots writes)
-table-laid slots len table writes = record { laid = tidy-layout slots table.tidy; best = table-best slots len table }
+pub table-laid : {H : Type 0} (slots : List (Option (Placed (ℕ × H)))) (len : ℕ) → IsTable slots len → (writes reads : ℕ) → IsLaidOut (table_value (homes_of slots) slots writes reads)
+table-laid slots len table writes reads = record { laid = tidy-layout slots table.tidy; best = table-best slots len table }
 
 -- what a removal results in: the lists without the entry, which was there, and the writes
 pub record Removal {H : Type 0} (eq : H → H → Bool) (x : ℕ) (v : H) (others slots : List (Option (Placed (ℕ × H)))) (len before after : ℕ) : Type 0 where

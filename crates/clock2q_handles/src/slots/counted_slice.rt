@@ -33,4 +33,11 @@ impl<'a, T: Copy> CountedSlice<'a, T> {
         self.reads.tick();
         self.items[index]
     }
+
+    /// Returns the count of reads.
+    pub(crate) fn reads(&self) -> &Count
+        ensures { result.now ≡ self.now.reads }
+    {
+        &self.reads
+    }
 }

@@ -5,6 +5,7 @@ ghost use Rattle.std.specs.Prelude.{◌≡◌, ◌+◌, ◌%◌, ◌<◌, IfSome
 use crate::metadata::Metadata;
 use crate::slots::Slots;
 use crate::slots::counted_slice::CountedSlice;
+use clock2q_count::Count;
 use std::alloc::Allocator;
 use std::marker::Model;
 
@@ -74,6 +75,13 @@ impl<'a, H: Copy + Default> Reader<'a, H> {
         ensures reads { self.new.reads ≡ self.old.reads }
     {
         self.handles.read(slot)
+    }
+
+    /// Returns the count of metadata reads.
+    pub(crate) fn reads(&self) -> &Count
+        ensures { result.now.total ≡ self.now.reads }
+    {
+        self.metadata.reads()
     }
 
     /// Returns the slot after `slot`: slot 0 after the last.

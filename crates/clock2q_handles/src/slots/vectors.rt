@@ -1,10 +1,10 @@
-//! The two vectors of a table's slots. Only this module writes them, and it counts each write of a
-//! slot.
+//! The two vectors of a table's slots. Only this module writes them. It counts each write of a slot,
+//! and each read of its metadata.
 ghost use Rattle.clock2q_handles.specs.Found.{TakesOutAt};
 ghost use Rattle.clock2q_handles.specs.Layout.{IsTidy, slot_at, reach};
 ghost use Rattle.clock2q_handles.specs.Shifts.{HasRoomAt, PutsAt};
 ghost use Rattle.clock2q_handles.specs.Slots.{cell, cells, meaning, ArePaired, IsSlotCount};
-ghost use Rattle.std.specs.Prelude.{◌≡◌, ◌+◌, ◌%◌, ◌^◌, ◌<◌, [], None, IfOk, IfSome, length, replicate, set};
+ghost use Rattle.std.specs.Prelude.{◌≡◌, ◌+◌, ◌%◌, ◌^◌, ◌<◌, ◌≤◌, [], None, IfOk, IfSome, length, replicate, set};
 
 use crate::gap::Gap;
 use crate::metadata::Metadata;
@@ -100,10 +100,14 @@ impl<H: Copy + Default, A: Allocator> Slots<H, A> {
         self.metadata.len()
     }
 
-    pub(crate) fn metadata(&self, slot: usize) -> Metadata
+    /// Reads the metadata of a slot, and counts the read.
+    #[inline(always)]
+    pub(crate) fn read(&self, slot: usize, reads: &mut Count) -> Metadata
         requires { slot < length self.now.slots }
-        ensures { meaning result ≡ mark_of (slot_at self.now.slots slot) }
+        ensures meaning { meaning result ≡ mark_of (slot_at self.now.slots slot) }
+        ensures counted { reads.new.total ≡ reads.old.total + 1 }
     {
+        reads.tick();
         self.metadata[slot]
     }
 
@@ -126,17 +130,20 @@ impl<H: Copy + Default, A: Allocator> Slots<H, A> {
 
     /// Inserts an entry at a gap. The rest of the run moves on by one slot.
     #[inline(always)]
-    pub(crate) fn put_at(&mut self, gap: &Gap, handle: H)
+    pub(crate) fn put_at(&mut self, gap: &Gap, handle: H, reads: &mut Count)
         requires tidy { IsTidy self.old.slots }
         requires within { gap.now.position < length self.old.slots }
         requires room { HasRoomAt self.old.slots gap.now.mark gap.now.position }
         ensures puts { PutsAt self.old.slots self.new.slots gap.now.mark gap.now.position handle self.old.writes self.new.writes }
+        ensures counted { reads.old.total ≤ reads.new.total }
+        ensures reads { reads.new.total + self.old.writes ≡ reads.old.total + self.new.writes }
         ensures small { length self.old.slots < 2 ^ 63 }
     {
         carry(
             self.metadata.as_mut_slice(),
             self.handles.as_mut_slice(),
             &mut self.writes,
+            reads,
             gap.slot(),
             gap.wanted().metadata(),
             handle,
@@ -146,16 +153,18 @@ impl<H: Copy + Default, A: Allocator> Slots<H, A> {
     /// Removes the entry in a slot. The entries after it move back by one slot, up to an empty slot
     /// or an entry at its home.
     #[inline(always)]
-    pub(crate) fn take_out(&mut self, slot: usize)
+    pub(crate) fn take_out(&mut self, slot: usize, reads: &mut Count)
         requires tidy { IsTidy self.old.slots }
         requires within { slot < length self.old.slots }
         requires occupied { 0 < reach (slot_at self.old.slots slot) }
         ensures taken { TakesOutAt self.old.slots self.new.slots slot self.old.writes self.new.writes }
+        ensures reads { reads.new.total + self.old.writes ≡ reads.old.total + self.new.writes }
     {
         close(
             self.metadata.as_mut_slice(),
             self.handles.as_mut_slice(),
             &mut self.writes,
+            reads,
             slot,
         );
     }
@@ -173,11 +182,13 @@ impl<H: Copy + Default, A: Allocator> Slots<H, A> {
 }
 
 /// Writes an entry to a slot, and moves the entries from there on by one slot, up to an empty slot.
+/// It reads each slot that it writes.
 #[inline(always)]
 fn carry<H: Copy>(
     metadata: &mut [Metadata],
     handles: &mut [H],
     writes: &mut Count,
+    reads: &mut Count,
     mut slot: usize,
     mut word: Metadata,
     mut handle: H,
@@ -187,9 +198,12 @@ fn carry<H: Copy>(
     requires within { slot < length (cells metadata.old handles.old) }
     requires room { HasRoomAt (cells metadata.old handles.old) (meaning word) slot }
     ensures puts { PutsAt (cells metadata.old handles.old) (cells metadata.new handles.new) (meaning word) slot handle writes.old.total writes.new.total }
+    ensures counted { reads.old.total ≤ reads.new.total }
+    ensures reads { reads.new.total + writes.old.total ≡ reads.old.total + writes.new.total }
     ensures pair { ArePaired metadata.new handles.new }
     ensures len { length metadata.new ≡ length metadata.old }
 {
+    reads.tick();
     let mut there = metadata[slot];
     while !there.is_empty() {
         let held = handles[slot];
@@ -197,18 +211,20 @@ fn carry<H: Copy>(
         word = there.one_further();
         handle = held;
         slot = after(slot, metadata.len());
+        reads.tick();
         there = metadata[slot];
     }
     write(metadata, handles, writes, slot, word, handle);
 }
 
 /// Empties a slot, once the entries after it have moved back by one slot, up to an empty slot or an
-/// entry at its home.
+/// entry at its home. It reads as many slots as it writes.
 #[inline(always)]
 fn close<H: Copy + Default>(
     metadata: &mut [Metadata],
     handles: &mut [H],
     writes: &mut Count,
+    reads: &mut Count,
     slot: usize,
 )
     requires pair { ArePaired metadata.old handles.old }
@@ -216,12 +232,14 @@ fn close<H: Copy + Default>(
     requires within { slot < length (cells metadata.old handles.old) }
     requires occupied { 0 < reach (slot_at (cells metadata.old handles.old) slot) }
     ensures taken { TakesOutAt (cells metadata.old handles.old) (cells metadata.new handles.new) slot writes.old.total writes.new.total }
+    ensures reads { reads.new.total + writes.old.total ≡ reads.old.total + writes.new.total }
     ensures pair { ArePaired metadata.new handles.new }
     ensures len { length metadata.new ≡ length metadata.old }
 {
     let mut hole = slot;
     loop {
         let next = after(hole, metadata.len());
+        reads.tick();
         let word = metadata[next];
         if !word.can_move_back() {
             break;

@@ -16,6 +16,7 @@ impl<H: Copy + Eq + Default, A: Allocator> Table<H, A> {
     pub fn clear(&mut self)
         ensures cleared { self.new.homes ≡ no_entries (length self.old.homes) }
         ensures writes { self.new.writes ≡ self.old.writes + length self.old.slots }
+        ensures reads { self.new.reads ≡ self.old.reads }
         ensures laid { IsLaidOut self.new }
     {
         self.slots.clear();

@@ -9,6 +9,7 @@ ghost use Rattle.std.specs.Prelude.{◌≡◌, ◌≢◌, Err, ◌*◌, ◌^◌,
 use crate::error::TableError;
 use crate::slots::Slots;
 use crate::table::Table;
+use clock2q_count::Count;
 use std::alloc::Allocator;
 
 /// The smallest number of slots of a table that has any.
@@ -59,6 +60,7 @@ impl<H: Copy + Eq + Default, A: Allocator + Copy> Table<H, A> {
         ensures refused { OnErr result (self.new ≡ self.old) }
         ensures laid { IsLaidOut self.new }
         ensures counted { self.old.writes ≤ self.new.writes }
+        ensures reads { self.old.reads ≤ self.new.reads }
 
         // No home's entries reach further past it than before.
         ensures nearer { IsNearer self.old.homes self.new.homes }
@@ -92,6 +94,7 @@ impl<H: Copy + Eq + Default, A: Allocator + Copy> Table<H, A> {
         ensures only { IsOkUnless result TableError.Memory }
         ensures laid { IsLaidOut self.new }
         ensures counted { self.old.writes ≤ self.new.writes }
+        ensures reads { self.old.reads ≤ self.new.reads }
         ensures nearer { AfterGrowth F.FnMut rehash.old self.old.homes (IsNearer self.old.homes) }
     {
         if self.len() == self.capacity() {
@@ -114,6 +117,7 @@ impl<H: Copy + Eq + Default, A: Allocator + Copy> Table<H, A> {
         ensures only { IsOkUnless result TableError.Memory }
         ensures laid { IsLaidOut self.new }
         ensures counted { self.old.writes ≤ self.new.writes }
+        ensures reads { self.old.reads ≤ self.new.reads }
     {
         let count = (self.slots.count() * 2).max(MIN_SLOTS);
         *self = self.rebuilt(count, rehash)?;
@@ -136,15 +140,19 @@ impl<H: Copy + Eq + Default, A: Allocator + Copy> Table<H, A> {
         ensures unasked { OnErr result (rehash.new ≡ rehash.old) }
         ensures laid { IfOk result IsLaidOut }
         ensures counted { IfOk result (λ t. self.now.writes ≤ t.writes) }
+        ensures reads { IfOk result (λ t. self.now.reads ≤ t.reads) }
         ensures only { IsOkUnless result TableError.Memory }
     {
         let Ok(mut slots) = Slots::with_count(self.slots.allocator(), count) else {
             return Err(TableError::Memory);
         };
-        slots.put_all(self.slots.view(), rehash);
+        let mut reads = Count::new();
+        reads.raise(&self.reads);
+        slots.put_all(self.slots.view(), rehash, &mut reads);
         slots.take_over_writes(&self.slots);
         Ok(Table {
             slots,
+            reads,
             len: self.len,
         })
     }

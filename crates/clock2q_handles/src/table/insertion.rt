@@ -1,12 +1,13 @@
 //! Insertion of entries into a table.
-ghost use Rattle.clock2q_handles.specs.Changes.{PutIn, Inserts, PutsUnder, WritesAtMost, Restores, IsLaidOut};
+ghost use Rattle.clock2q_handles.specs.Changes.{PutIn, Inserts, PutsUnder, WritesAtMost, ReadsWalk, ReadsAtMost, OnlyReads, Restores, IsLaidOut};
 ghost use Rattle.clock2q_handles.specs.Candidates.{EndsAt};
 ghost use Rattle.clock2q_handles.specs.Homes.{candidates, total, with_handle};
-ghost use Rattle.clock2q_handles.specs.Layout.{run, IsTooLong};
-ghost use Rattle.clock2q_handles.specs.Offers.{FindsOrPuts, MayBeOffered};
+ghost use Rattle.clock2q_handles.specs.Layout.{run, walk, IsTooLong};
+ghost use Rattle.clock2q_handles.specs.Offers.{FindsOrPuts, MayBeOffered, Offers, handle_in};
 ghost use Rattle.clock2q_handles.specs.Shifts.{HasRoomAt};
 ghost use Rattle.clock2q_handles.specs.TableStep.{IsBelowCapacity};
-ghost use Rattle.std.specs.Prelude.{false, ◌≡◌, ◌≢◌, Err, ◌^◌, ◌<◌, ◌≤◌, ◌+◌, IsTrue, IsOk, OnOk, OnErr, IfOk};
+ghost use Rattle.std.specs.Bool.{OnTrue, OnFalse};
+ghost use Rattle.std.specs.Prelude.{false, ◌≡◌, ◌≢◌, Err, ◌^◌, ◌<◌, ◌≤◌, ◌+◌, IsTrue, IsOk, OnOk, OnErr, IfOk, IfErr, length};
 
 use crate::error::TableError;
 use crate::gap::Gap;
@@ -50,6 +51,8 @@ impl<H: Copy + Eq + Default, A: Allocator + Copy> Table<H, A> {
         ensures few { total self.old.homes + 1 < 2 ^ 24 → result ≢ Err TableError.RunTooLong }
         ensures asks { result ≢ Err TableError.Memory → IsFull self.old.homes → (last : F) × AsksHeld F.FnMut rehash self.old.homes last }
         ensures writes { IsBelowCapacity self.old.homes → WritesAtMost (run self.old.slots hash + 1) self.old self.new }
+        ensures reads { IsBelowCapacity self.old.homes → total self.old.homes + 1 < 2 ^ 24 → ReadsWalk (walk self.old.homes hash) self.old self.new }
+        ensures reads_counted { self.old.reads ≤ self.new.reads }
         ensures restores { IsBelowCapacity self.old.homes → OnOk result (Restores H.PartialEq.eq hash handle self.old self.new) }
         ensures laid { IsLaidOut self.new }
         ensures nearer { AfterGrowth F.FnMut rehash self.old.homes (IsNearer self.old.homes) }
@@ -88,9 +91,11 @@ impl<H: Copy + Eq + Default, A: Allocator + Copy> Table<H, A> {
         ensures few { total self.old.homes + 1 < 2 ^ 24 → result ≢ Err TableError.RunTooLong }
         ensures asks { result ≢ Err TableError.Memory → IsFull self.old.homes → (last : F) × AsksHeld F.FnMut rehash self.old.homes last }
         ensures writes { IsBelowCapacity self.old.homes → WritesAtMost (run self.old.slots hash + 1) self.old self.new }
+        ensures reads { IsBelowCapacity self.old.homes → total self.old.homes + 1 < 2 ^ 24 → ReadsAtMost (walk self.old.homes hash) self.old self.new }
+        ensures reads_counted { self.old.reads ≤ self.new.reads }
         ensures laid { IsLaidOut self.new }
         ensures nearer { AfterGrowth F.FnMut rehash self.old.homes (IsNearer self.old.homes) }
-        ensures found { IsBelowCapacity self.old.homes → IfOk result (λ r. r.1 ≡ false → self.new ≡ self.old) }
+        ensures found { IsBelowCapacity self.old.homes → IfOk result (λ r. r.1 ≡ false → OnlyReads (walk self.old.homes hash) self.old self.new) }
         ensures counted { self.old.writes ≤ self.new.writes }
         ensures restores { IsBelowCapacity self.old.homes → IfOk result (λ r. IsTrue r.1 → Restores H.PartialEq.eq hash handle self.old self.new) }
     {
@@ -116,13 +121,15 @@ impl<H: Copy + Eq + Default, A: Allocator> Table<H, A> {
     pub fn insert_within_capacity(&mut self, hash: u64, handle: H) -> Result<(), TableError>
         requires room { IsBelowCapacity self.old.homes }
         ensures put { PutIn self.old.homes hash handle result self.new.homes }
-        ensures refused { OnErr result (self.new ≡ self.old) }
+        ensures refused { OnErr result (self.new ≡ record self.old { reads = self.new.reads }) }
         ensures few { total self.old.homes + 1 < 2 ^ 24 → IsOk result }
         ensures writes { WritesAtMost (run self.old.slots hash + 1) self.old self.new }
+        ensures reads { total self.old.homes + 1 < 2 ^ 24 → ReadsWalk (walk self.old.homes hash) self.old self.new }
+        ensures reads_counted { self.old.reads ≤ self.new.reads }
         ensures restores { OnOk result (Restores H.PartialEq.eq hash handle self.old self.new) }
         ensures laid { IsLaidOut self.new }
     {
-        let gap = self.slots.gap(hash);
+        let gap = self.gap(hash);
         self.insert_at(gap, hash, handle)
     }
 
@@ -136,10 +143,11 @@ impl<H: Copy + Eq + Default, A: Allocator> Table<H, A> {
         ensures put { self.new.homes ≡ with_handle self.old.homes hash handle }
         ensures short { IsTooLong (with_handle self.old.homes hash handle) → ⊥ }
         ensures writes { WritesAtMost (run self.old.slots hash + 1) self.old self.new }
+        ensures reads { ReadsWalk (walk self.old.homes hash) self.old self.new }
         ensures restores { Restores H.PartialEq.eq hash handle self.old self.new }
         ensures laid { IsLaidOut self.new }
     {
-        let gap = self.slots.gap(hash);
+        let gap = self.gap(hash);
         self.put_at(gap, hash, handle);
     }
 
@@ -153,21 +161,51 @@ impl<H: Copy + Eq + Default, A: Allocator> Table<H, A> {
         requires room { IsBelowCapacity self.old.homes }
         requires callable { MayBeOffered M.FnMut matches.old (candidates self.old.homes hash) }
         ensures settles { FindsOrPuts M.FnMut matches.old self.old.homes hash handle result self.new.homes matches.new }
-        ensures found { IfOk result (λ r. r.1 ≡ false → self.new ≡ self.old) }
+        ensures found { IfOk result (λ r. r.1 ≡ false → OnlyReads (walk self.old.homes hash) self.old self.new) }
         ensures only { result ≢ Err TableError.Memory }
         ensures few { total self.old.homes + 1 < 2 ^ 24 → IsOk result }
         ensures writes { WritesAtMost (run self.old.slots hash + 1) self.old self.new }
+        ensures reads { total self.old.homes + 1 < 2 ^ 24 → ReadsAtMost (walk self.old.homes hash) self.old self.new }
+        ensures reads_counted { self.old.reads ≤ self.new.reads }
         ensures restores { IfOk result (λ r. IsTrue r.1 → Restores H.PartialEq.eq hash handle self.old self.new) }
         ensures laid { IsLaidOut self.new }
     {
-        let mut reader = Reader::new(&self.slots);
-        match reader.offer(hash, matches) {
+        match self.offer(hash, matches) {
             Ok(found) => Ok((found.0, false)),
             Err(end) => match self.insert_at(end, hash, handle) {
                 Ok(()) => Ok((handle, true)),
                 Err(refusal) => Err(refusal),
             },
         }
+    }
+
+    /// Calls `matches` on the candidates of `hash`, up to the first that it accepts. Returns that
+    /// candidate and its slot, or else the gap for the hash.
+    #[inline(always)]
+    fn offer<M: FnMut(H) -> bool>(&mut self, hash: u64, matches: &mut M) -> Result<(H, usize), Gap>
+        requires slots { 0 < length self.old.homes }
+        requires callable { MayBeOffered M.FnMut matches.old (candidates self.old.homes hash) }
+        ensures offers { Offers M.FnMut matches.old (candidates self.old.homes hash) (handle_in result) matches.new }
+        ensures gap { IfErr result (λ gap. EndsAt self.old.slots hash gap.mark gap.position) }
+        ensures read { OnlyReads (walk self.old.homes hash) self.old self.new }
+        ensures read_all { IfErr result (λ _. self.new.reads ≡ self.old.reads + walk self.old.homes hash) }
+        ensures laid { IsLaidOut self.new }
+    {
+        let mut reader = Reader::new(&self.slots);
+        let offered = reader.offer(hash, matches);
+        self.reads.raise(reader.reads());
+        offered
+    }
+
+    /// Returns the gap for a hash: where its walk ends.
+    #[inline(always)]
+    fn gap(&mut self, hash: u64) -> Gap
+        requires below { IsBelowCapacity self.old.homes }
+        ensures ends { EndsAt self.old.slots hash result.mark result.position }
+        ensures few { H → total self.old.homes + 1 < 2 ^ 24 → HasRoomAt self.old.slots result.mark result.position }
+        ensures reads { self.new ≡ record self.old { reads = self.old.reads + walk self.old.homes hash } }
+    {
+        self.slots.gap(hash, &mut self.reads)
     }
 
     /// Inserts an entry at the gap for its hash, unless a run would be too long.
@@ -177,11 +215,41 @@ impl<H: Copy + Eq + Default, A: Allocator> Table<H, A> {
         requires ends { EndsAt self.old.slots hash end.mark end.position }
         ensures { Inserts H.PartialEq.eq hash handle result self.old self.new }
     {
-        if self.len > MAX_DISPLACEMENT && !self.slots.has_room(&end) {
+        if self.len > MAX_DISPLACEMENT {
+            return self.insert_among_many(end, hash, handle);
+        }
+        self.put_at(end, hash, handle);
+        Ok(())
+    }
+
+    /// Inserts an entry at the gap for its hash as [insert_at](Table::insert_at) does, in a table
+    /// with so many entries that a run may become too long. It first reads the rest of the run.
+    #[inline(never)]
+    fn insert_among_many(&mut self, end: Gap, hash: u64, handle: H) -> Result<(), TableError>
+        requires room { IsBelowCapacity self.old.homes }
+        requires ends { EndsAt self.old.slots hash end.mark end.position }
+        requires many { 2 ^ 24 ≤ total self.old.homes + 1 }
+        ensures { Inserts H.PartialEq.eq hash handle result self.old self.new }
+    {
+        if !self.has_room(&end, hash, handle) {
             return Err(TableError::RunTooLong);
         }
         self.put_at(end, hash, handle);
         Ok(())
+    }
+
+    /// Returns true if inserting an entry at the gap for its hash makes no run too long.
+    fn has_room(&mut self, gap: &Gap, hash: u64, handle: H) -> bool
+        requires below { IsBelowCapacity self.old.homes }
+        requires ends { EndsAt self.old.slots hash gap.now.mark gap.now.position }
+        ensures room { OnTrue result (HasRoomAt self.old.slots gap.now.mark gap.now.position) }
+        ensures long { OnFalse result (IsTooLong (with_handle self.old.homes hash handle)) }
+        ensures kept { self.new ≡ record self.old { reads = self.new.reads } }
+        ensures counted { self.old.reads ≤ self.new.reads }
+        ensures laid { IsLaidOut self.new }
+    {
+        let _ = (hash, handle);
+        self.slots.has_room(gap, &mut self.reads)
     }
 
     /// Inserts an entry at the gap for its hash, given that there is room.
@@ -192,7 +260,7 @@ impl<H: Copy + Eq + Default, A: Allocator> Table<H, A> {
         requires room { HasRoomAt self.old.slots gap.mark gap.position }
         ensures { PutsUnder H.PartialEq.eq hash handle self.old self.new }
     {
-        self.slots.put_at(&gap, handle);
+        self.slots.put_at(&gap, handle, &mut self.reads);
         self.len += 1;
     }
 }

@@ -1,7 +1,8 @@
 //! Replacing the handles of a table's entries.
-ghost use Rattle.clock2q_handles.specs.Changes.{IsLaidOut};
+ghost use Rattle.clock2q_handles.specs.Changes.{IsLaidOut, RisesAtMost};
 ghost use Rattle.clock2q_handles.specs.Positions.{relabelled, gap_of};
 ghost use Rattle.clock2q_handles.specs.Homes.{is_entry_of, listed};
+ghost use Rattle.clock2q_handles.specs.Layout.{walk};
 ghost use Rattle.std.specs.List.{list_any};
 ghost use Rattle.std.specs.Prelude.{true, ◌≡◌, ◌+◌, ℕ};
 
@@ -21,9 +22,10 @@ impl<H: Copy + Eq + Default, A: Allocator> Table<H, A> {
         ensures relabelled { self.new.homes ≡ relabelled H.PartialEq.eq self.old.homes hash handle new }
         ensures gaps { (x : ℕ) → gap_of self.new.homes x ≡ gap_of self.old.homes x }
         ensures writes { self.new.writes ≡ self.old.writes + 1 }
+        ensures reads { RisesAtMost (walk self.old.homes hash) self.old.reads self.new.reads }
         ensures laid { IsLaidOut self.new }
     {
-        let slot = self.slots.find_held(hash, handle);
+        let slot = self.slots.find_held(hash, handle, &mut self.reads);
         self.slots.relabel_at(slot, new);
     }
 }

@@ -1,5 +1,5 @@
 //! Removal of entries from a table.
-ghost use Rattle.clock2q_handles.specs.Changes.{WritesAtMost, IsLaidOut};
+ghost use Rattle.clock2q_handles.specs.Changes.{WritesAtMost, ReadsAtMost, OnlyReads, IsLaidOut};
 ghost use Rattle.clock2q_handles.specs.Homes.{listed, removed, is_entry_of};
 ghost use Rattle.clock2q_handles.specs.Layout.{run, walk};
 ghost use Rattle.std.specs.Bool.{OnFalse};
@@ -16,19 +16,21 @@ impl<H: Copy + Eq + Default, A: Allocator> Table<H, A> {
     ///
     /// # Cost
     ///
-    /// It writes the slots from the removed entry's to that of the last entry that moves back.
+    /// It reads the walk to the entry. It writes the slots from the removed entry's to that of the
+    /// last entry that moves back, and reads as many more.
     pub fn remove(&mut self, hash: u64, handle: H) -> bool
         ensures removed { self.new.homes ≡ removed H.PartialEq.eq self.old.homes hash handle }
         ensures found { result ≡ list_any (is_entry_of H.PartialEq.eq hash handle) (listed self.old.homes hash) }
-        ensures none { OnFalse result (self.new ≡ self.old) }
+        ensures none { OnFalse result (OnlyReads (walk self.old.homes hash) self.old self.new) }
         ensures writes { WritesAtMost (run self.old.slots hash) self.old self.new }
+        ensures reads { ReadsAtMost (walk self.old.homes hash) self.old self.new }
         ensures laid { IsLaidOut self.new }
         ensures shorter { (x : ℕ) → walk self.new.homes x ≤ walk self.old.homes x }
     {
-        let Some(found) = self.slots.find(hash, handle) else {
+        let Some(found) = self.slots.find(hash, handle, &mut self.reads) else {
             return false;
         };
-        self.slots.take_out(found);
+        self.slots.take_out(found, &mut self.reads);
         self.len -= 1;
         true
     }
@@ -43,11 +45,12 @@ impl<H: Copy + Eq + Default, A: Allocator> Table<H, A> {
         requires held { list_any (is_entry_of H.PartialEq.eq hash handle) (listed self.old.homes hash) ≡ true }
         ensures removed { self.new.homes ≡ removed H.PartialEq.eq self.old.homes hash handle }
         ensures writes { WritesAtMost (run self.old.slots hash) self.old self.new }
+        ensures reads { ReadsAtMost (walk self.old.homes hash) self.old self.new }
         ensures laid { IsLaidOut self.new }
         ensures shorter { (x : ℕ) → walk self.new.homes x ≤ walk self.old.homes x }
     {
-        let held = self.slots.find_held(hash, handle);
-        self.slots.take_out(held);
+        let held = self.slots.find_held(hash, handle, &mut self.reads);
+        self.slots.take_out(held, &mut self.reads);
         self.len -= 1;
     }
 }

@@ -21,6 +21,8 @@ loop-there-init g c = record {
   state =
       carry_begins (cells c.args.metadata.now c.args.handles.now) (cell (meaning c.args.word) c.args.handle) _ c.args.slot c.args.writes.now.total c.requires.within
       (mark_read_or c.args.metadata.now c.args.handles.now c.args.slot _ c.requires.pair.same (omega (arith, c.requires.within, length-cells _ _ c.requires.pair.same)));
+  counted = omega arith;
+  reads = omega arith;
 }
 
 -- the slot that the loop has reached
@@ -84,6 +86,8 @@ loop-there-preserved g c =
           subst (λ w. CarryState (cells c.args.metadata.now c.args.handles.now) (cells c.write.new.metadata c.write.new.handles) (cell (meaning c.args.word) c.args.handle)
           (cell (meaning c.one_further-word.result) c.index-handles-slot.result) (meaning (get_or c.write.new.metadata c.after-slot.result (record { word = 0 })))
           c.args.slot c.after-slot.result c.args.writes.now.total w) (sym c.write.ensures.counted) next;
+      counted = omega (arith, c.loop-there.invariant.counted, c.tick-in-loop-there.ensures.ticked);
+      reads = omega (arith, c.loop-there.invariant.reads, c.tick-in-loop-there.ensures.ticked, c.write.ensures.counted);
     }
 
 pub write-requires-2-clause-within : goal.write-requires-2-clause-within

@@ -1,4 +1,4 @@
-use Rattle.std.proofs.Common.{◌≡◌, ◌-◌, length}
+use Rattle.std.proofs.Common.{◌≡◌, ◌+◌, ◌-◌, ◌≤◌, length}
 use Rattle.clock2q_handles.specs.Slots.{cell, cells, meaning, ArePaired}
 use Rattle.clock2q_handles.proofs.layout.Periods.{lap}
 use Rattle.clock2q_handles.proofs.shifts.Carrying.{CarryState}
@@ -10,6 +10,8 @@ invariant-loop-there g l = record {
   len : length l.metadata ≡ length l.initial.metadata;
   state : CarryState (cells l.initial.metadata l.initial.handles) (cells l.metadata l.handles) (cell (meaning l.initial.word) l.initial.handle)
       (cell (meaning l.word) l.handle) (meaning l.there) l.initial.slot l.slot l.initial.writes.total l.writes.total;
+  counted : l.initial.reads.total ≤ l.reads.total;
+  reads : l.reads.total + l.initial.writes.total ≡ l.initial.reads.total + l.writes.total;
 }
 
 abbrev pub decreases-loop-there : goal.decreases-loop-there

@@ -15,6 +15,7 @@ loop-word-init g c = record {
   pair = c.requires.pair;
   len = refl;
   state = close_begins (cells c.args.metadata.now c.args.handles.now) c.args.slot c.args.writes.now.total c.requires.within c.requires.occupied;
+  reads = omega arith;
 }
 
 pub after-next-requires-clause-within : goal.after-next-requires-clause-within
@@ -70,6 +71,7 @@ loop-word-preserved g c =
       len = c.write.ensures.len ∙ c.loop-word.invariant.len;
       state = subst (λ w. CloseState (cells c.args.metadata.now c.args.handles.now) (cells c.write.new.metadata c.write.new.handles) c.args.slot c.after-next.result c.args.writes.now.total w)
           (sym c.write.ensures.counted) (more g before.After-write (next g before.After-after-next));
+      reads = omega (arith, c.loop-word.invariant.reads, c.tick.ensures.ticked, c.write.ensures.counted);
     }
 
 pub write-requires-2-clause-within : goal.write-requires-2-clause-within

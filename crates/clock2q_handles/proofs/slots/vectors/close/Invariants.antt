@@ -1,4 +1,4 @@
-use Rattle.std.proofs.Common.{◌≡◌, ◌-◌, length}
+use Rattle.std.proofs.Common.{◌≡◌, ◌+◌, ◌-◌, length}
 use Rattle.clock2q_handles.specs.Slots.{cells, ArePaired}
 use Rattle.clock2q_handles.proofs.layout.Periods.{lap}
 use Rattle.clock2q_handles.proofs.shifts.Carrying.{CloseState}
@@ -9,6 +9,7 @@ invariant-loop-word g l = record {
   pair : ArePaired l.metadata l.handles;
   len : length l.metadata ≡ length l.initial.metadata;
   state : CloseState (cells l.initial.metadata l.initial.handles) (cells l.metadata l.handles) l.slot l.hole l.initial.writes.total l.writes.total;
+  reads : l.reads.total + l.initial.writes.total ≡ l.initial.reads.total + l.writes.total;
 }
 
 abbrev pub decreases-loop-word : goal.decreases-loop-word

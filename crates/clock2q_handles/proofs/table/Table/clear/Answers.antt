@@ -16,4 +16,4 @@ returns-clause-cleared g c =
     ∙ ap (λ n. no_entries n) (sym (length-homes_of c.self.inside.slots.slots) ∙ ap (λ t. length t.homes) c.self.view_is)
 
 pub returns-clause-laid : goal.returns-clause-laid
-returns-clause-laid g c = table-laid c.clear.new.self.slots 0 (invariant_of-self g c) c.clear.new.self.writes
+returns-clause-laid g c = table-laid c.clear.new.self.slots 0 (invariant_of-self g c) c.clear.new.self.writes c.self.inside.reads.total

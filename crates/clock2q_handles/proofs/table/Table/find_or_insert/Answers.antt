@@ -1,4 +1,7 @@
-use Rattle.std.proofs.Common.{sym, subst, inl, inr, length}
+use Rattle.std.proofs.Common.{◌≡◌, ◌+◌, false, sym, subst, inl, inr, length, arith}
+use Rattle.std.specs.Prelude.{IfOk}
+use Rattle.clock2q_handles.specs.Changes.{OnlyReads, ReadsAtMost}
+use Rattle.clock2q_handles.specs.Layout.{walk}
 use Rattle.std.proofs.lemmas.Bool.{cases_eq}
 use Rattle.clock2q_handles.specs.Homes.{total, capacity, candidates}
 use Rattle.clock2q_handles.specs.Offers.{MayBeOffered, FindsOrPuts}
@@ -26,3 +29,12 @@ returns-clause-settles g c _ = (
 
 pub returns-clause-asks : goal.returns-clause-asks
 returns-clause-asks g c _ full = (_, c.in_ok-make_room.ensures.asks full)
+
+pub returns-clause-found : goal.returns-clause-found
+returns-clause-found g c room =
+    subst (λ t. IfOk c.find_or_put.result (λ r. r.1 ≡ false → OnlyReads (walk t.homes c.args.hash) t c.find_or_put.new.self)) (c.in_ok-make_room.ensures.kept room).1 c.find_or_put.ensures.found
+
+pub returns-clause-reads : goal.returns-clause-reads
+returns-clause-reads g c room few =
+    subst (λ t. ReadsAtMost (walk t.homes c.args.hash) t c.find_or_put.new.self) (c.in_ok-make_room.ensures.kept room).1
+    (c.find_or_put.ensures.reads (omega (arith, few, c.in_ok-make_room.ensures.as_many)))

@@ -44,7 +44,7 @@ rebuilt-requires-clause-multiple g c some =
 
 pub returns-in_err-self-inside-clause-laid : goal.returns-in_err-self-inside-clause-laid
 returns-in_err-self-inside-clause-laid g c =
-    subst IsLaidOut c.self.view_is (table-laid c.self.inside.slots.slots c.self.inside.len c.self.invariant c.self.inside.slots.writes)
+    subst IsLaidOut c.self.view_is (table-laid c.self.inside.slots.slots c.self.inside.len c.self.invariant c.self.inside.slots.writes c.self.inside.reads.total)
 
 pub returns-clause-grown : goal.returns-clause-grown
 returns-clause-grown g c key gives =
@@ -62,7 +62,7 @@ returns-clause-room g c =
     (rebuilt_room c.requires.asked.0 homes c.max-count.result (room g before) (omega (arith, c.max-count.ensures)) (omega (arith, c.requires.full, more, ap capacity c.max-count.ensures)))
 
 pub returns-clause-laid : goal.returns-clause-laid
-returns-clause-laid g c = table-laid c.drop.inside.slots.slots c.drop.inside.len c.drop.invariant c.drop.inside.slots.writes
+returns-clause-laid g c = table-laid c.drop.inside.slots.slots c.drop.inside.len c.drop.invariant c.drop.inside.slots.writes c.drop.inside.reads.total
 
 pub returns-clause-as_many : goal.returns-clause-as_many
 returns-clause-as_many g c =

@@ -1,6 +1,6 @@
 use Rattle.std.proofs.Common.{◌+◌, subst, arith, OnOk}
-use Rattle.clock2q_handles.specs.Changes.{PutIn, Restores, WritesAtMost}
-use Rattle.clock2q_handles.specs.Layout.{run}
+use Rattle.clock2q_handles.specs.Changes.{PutIn, Restores, WritesAtMost, ReadsWalk}
+use Rattle.clock2q_handles.specs.Layout.{run, walk}
 use Rattle.clock2q_handles.proofs.Promises.{no_error}
 use Rattle.clock2q_handles.proofs.table.Table.insert.Goals as goal
 
@@ -24,3 +24,8 @@ pub returns-clause-restores : goal.returns-clause-restores
 returns-clause-restores g c room =
     subst (λ t. OnOk c.insert_within_capacity.result (Restores g.H.PartialEq.eq c.args.hash c.args.handle t c.insert_within_capacity.new.self))
     (c.in_ok-make_room.ensures.kept room).1 c.insert_within_capacity.ensures.restores
+
+pub returns-clause-reads : goal.returns-clause-reads
+returns-clause-reads g c room few =
+    subst (λ t. ReadsWalk (walk t.homes c.args.hash) t c.insert_within_capacity.new.self) (c.in_ok-make_room.ensures.kept room).1
+    (c.insert_within_capacity.ensures.reads (omega (arith, few, c.in_ok-make_room.ensures.as_many)))

@@ -8,4 +8,4 @@ pub returns-clause-len : goal.returns-clause-len
 returns-clause-len g c = c.self.invariant.counted ∙ ap (λ t. total t.homes) c.self.view_is
 
 pub returns-clause-whole : goal.returns-clause-whole
-returns-clause-whole g c = subst IsWhole c.self.view_is (table-whole c.self.inside.slots.slots c.self.inside.len c.self.invariant c.self.inside.slots.writes)
+returns-clause-whole g c = subst IsWhole c.self.view_is (table-whole c.self.inside.slots.slots c.self.inside.len c.self.invariant c.self.inside.slots.writes c.self.inside.reads.total)

@@ -10,4 +10,7 @@ invariant_of-result g c = subst (λ s. IsTable s.slots 0) (sym c.new.ensures) (t
 
 pub returns : goal.returns
 returns g c =
-    record { made = ap (λ s. table_value (homes_of s.slots) s.slots s.writes) c.new.ensures ∙ view-empty _ 0 ∙ ap (λ s. table_value [] s 0) (layout-nothing _ 0) }
+    record {
+      made = ap (table_value (homes_of c.new.result.slots) c.new.result.slots c.new.result.writes) c.new-2.ensures.zero
+          ∙ ap (λ s. table_value (homes_of s.slots) s.slots s.writes 0) c.new.ensures ∙ view-empty _ 0 ∙ ap (λ s. table_value [] s 0 0) (layout-nothing _ 0);
+    }

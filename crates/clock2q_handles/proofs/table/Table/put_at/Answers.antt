@@ -62,9 +62,10 @@ returns g c =
       put = lists;
       short = subst (λ t. IsTooLong (with_handle t.homes c.args.hash c.args.handle) → ⊥) c.self.view_is done.short;
       writes = subst (λ t. (t.writes ≤ c.put_at.new.self.writes) × (c.put_at.new.self.writes ≤ t.writes + (run t.slots c.args.hash + 1))) c.self.view_is (done.counted, within);
+      reads = omega (arith, c.put_at.ensures.reads, ap (λ t. t.writes) c.self.view_is, ap (λ t. t.reads) c.self.view_is);
       restores = λ fresh.
           restored_by g.H.PartialEq.eq slots c.args.self.now.homes (homes_of others) c.args.hash c.args.handle (ap (λ t. t.homes) c.self.view_is)
           c.self.invariant.tidy c.requires.below (g.met.H.Eq.laws.refl c.args.handle) lists fresh
           ∙ ap (λ t. t.slots) c.self.view_is;
-      laid = table-laid others (c.self.inside.len + 1) done.table c.put_at.new.self.writes;
+      laid = table-laid others (c.self.inside.len + 1) done.table c.put_at.new.self.writes c.put_at.new.reads.total;
     }

@@ -16,8 +16,8 @@ pub returns-clause-laid : goal.returns-clause-laid
 returns-clause-laid g c =
     let lists = ap homes_of c.view.ensures.shown in
     let table = subst (IsTable c.put_all.new.self.slots) (ap total lists ∙ sym c.self.invariant.counted) c.put_all.ensures.moved.table in
-    subst (λ s. IsLaidOut (table_value (homes_of s.slots) s.slots s.writes)) (sym c.take_over_writes.ensures.counted)
-    (table-laid c.put_all.new.self.slots c.self.inside.len table (c.put_all.new.self.writes + c.self.inside.slots.writes))
+    subst (λ s. IsLaidOut (table_value (homes_of s.slots) s.slots s.writes c.put_all.new.reads.total)) (sym c.take_over_writes.ensures.counted)
+    (table-laid c.put_all.new.self.slots c.self.inside.len table (c.put_all.new.self.writes + c.self.inside.slots.writes) c.put_all.new.reads.total)
 
 pub put_all-requires-clause-movable : goal.put_all-requires-clause-movable
 put_all-requires-clause-movable g c =

@@ -61,4 +61,4 @@ pub returns-clause-laid : goal.returns-clause-laid
 returns-clause-laid g c =
     let at = goal.at.returns-clause-laid g c in
     let found = first g at.After-find_held-slot in
-    table-laid c.relabel_at.new.self.slots c.self.inside.len (step g at.After-relabel_at found.0 found.1 found.2).table c.relabel_at.new.self.writes
+    table-laid c.relabel_at.new.self.slots c.self.inside.len (step g at.After-relabel_at found.0 found.1 found.2).table c.relabel_at.new.self.writes c.find_held-slot.new.reads.total

@@ -41,8 +41,15 @@ returns-clause-writes g c =
     let done = step g (goal.at.returns-clause-writes g c).After-take_out in
     subst (λ t. (t.writes ≤ c.take_out.new.self.writes) × (c.take_out.new.self.writes ≤ t.writes + run t.slots c.args.hash)) c.self.view_is (done.counted, done.writes)
 
+pub returns-clause-reads : goal.returns-clause-reads
+returns-clause-reads g c =
+    let done = step g (goal.at.returns-clause-reads g c).After-take_out in
+    let after = c.take_out.new.reads.total in
+    subst (λ t. (t.reads ≤ after) × (after + t.writes ≤ t.reads + walk t.homes c.args.hash + c.take_out.new.self.writes)) c.self.view_is
+    (omega (arith, c.find_held-held.ensures.reads.0, c.take_out.ensures.reads, done.counted), omega (arith, c.find_held-held.ensures.reads.1, c.take_out.ensures.reads))
+
 pub returns-clause-laid : goal.returns-clause-laid
-returns-clause-laid g c = table-laid c.take_out.new.self.slots (c.self.inside.len - 1) (step g (goal.at.returns-clause-laid g c).After-take_out).table c.take_out.new.self.writes
+returns-clause-laid g c = table-laid c.take_out.new.self.slots (c.self.inside.len - 1) (step g (goal.at.returns-clause-laid g c).After-take_out).table c.take_out.new.self.writes c.take_out.new.reads.total
 
 pub returns-clause-shorter : goal.returns-clause-shorter
 returns-clause-shorter g c x =

@@ -6,6 +6,7 @@ use Rattle.clock2q_handles.specs.Shifts.{HasCome}
 use Rattle.clock2q_handles.specs.Slots.{sought, mark_reach, mark_of}
 use Rattle.clock2q_handles.proofs.layout.TidyLayout.{listed-homes_of}
 use Rattle.clock2q_handles.proofs.walks.Finding.{met_all, none_more, candidate, is_entry_of-candidate, any-other, any-failed}
+use Rattle.clock2q_handles.proofs.walks.Reads.{come_reads}
 use Rattle.clock2q_handles.proofs.shifts.Moves.{refused}
 use Rattle.clock2q_handles.proofs.shifts.Carrying.{come_home, come_here, looks_on, looks_room, looks_end}
 use Rattle.clock2q_handles.proofs.slots.vectors.Slots.find.Given.{Over}
@@ -25,13 +26,13 @@ loop-handle-init g c =
     let some : 0 < length slots = omega (arith, c.count.ensures.count, c.if-count-eq0.false) in
     let at = c.home-slot.ensures.home some in
     let within : home < length slots = omega (arith, at, c.home-slot.ensures.within some) in
-    record { come = (0, come_home slots c.requires.tidy home (top c.args.hash) c.home-slot.result at within, c.new-wanted.ensures, refl) }
+    record { come = (0, come_home slots c.requires.tidy home (top c.args.hash) c.home-slot.result at within, c.new-wanted.ensures, refl); reads = omega (arith, ap mark_reach c.new-wanted.ensures) }
 
 pub returns-then-eq-clause-found : goal.returns-then-eq-clause-found
 returns-then-eq-clause-found g c =
     let slots = c.args.self.now.slots in
     let l = c.loop-handle.invariant.come in
-    let here = candidate c.args.hash _ (slot_at slots c.loop-handle.slot) l.0 c.handle.result c.metadata-metadata.ensures (c.is.ensures.0 c.if-is.true ∙ l.2) c.handle.ensures in
+    let here = candidate c.args.hash _ (slot_at slots c.loop-handle.slot) l.0 c.handle.result c.read-metadata.ensures.meaning (c.is.ensures.0 c.if-is.true ∙ l.2) c.handle.ensures in
     record {
       distance = l.0;
       slot = l.1.slot;
@@ -51,14 +52,14 @@ returns-then-ends_walk_for-clause-none g c =
     let home : ℕ = c.args.hash % length slots in
     let l = c.loop-handle.invariant.come in
     let near = looks_end slots c.requires.tidy 0 (top c.args.hash) l.0 c.loop-handle.slot c.ends_walk_for.result
-    (sought c.loop-handle.wanted) _ l.2 c.ends_walk_for.ensures c.if-ends_walk_for.true c.metadata-metadata.ensures in
+    (sought c.loop-handle.wanted) _ l.2 c.ends_walk_for.ensures c.if-ends_walk_for.true c.read-metadata.ensures.meaning in
     ap (list_any (is_entry_of g.H.PartialEq.eq c.args.hash c.args.handle))
     (met_all slots c.requires.tidy home l.0 l.1.within l.1.passed (omega (arith, near, ap reach (come_here slots home l.0 c.loop-handle.slot l.1)))) ∙ l.3
 
 pub next-wanted-requires-clause-room : goal.next-wanted-requires-clause-room
 next-wanted-requires-clause-room g c =
     looks_room c.args.self.now.slots c.requires.tidy 0 0 c.loop-handle.invariant.come.0 c.loop-handle.slot c.ends_walk_for.result
-    (sought c.loop-handle.wanted) _ c.ends_walk_for.ensures c.if-ends_walk_for.false c.metadata-metadata.ensures c.requires.near
+    (sought c.loop-handle.wanted) _ c.ends_walk_for.ensures c.if-ends_walk_for.false c.read-metadata.ensures.meaning c.requires.near
 
 more : (g : Over) (c : After-next-wanted g)
     → HasCome c.args.self.now.slots (c.args.hash % length c.args.self.now.slots) (suc c.loop-handle.invariant.come.0) c.after-slot.result
@@ -68,7 +69,7 @@ more g c =
     let l = c.loop-handle.invariant.come in
     looks_on slots c.requires.tidy (c.args.hash % length slots) (top c.args.hash)
     l.0 c.loop-handle.slot c.after-slot.result c.ends_walk_for.result (sought c.loop-handle.wanted) (sought c.next-wanted.result) _ l.1 l.2
-    c.ends_walk_for.ensures c.if-ends_walk_for.false c.metadata-metadata.ensures c.after-slot.ensures.after c.next-wanted.ensures
+    c.ends_walk_for.ensures c.if-ends_walk_for.false c.read-metadata.ensures.meaning c.after-slot.ensures.after c.next-wanted.ensures
 
 pub loop-handle-smaller : goal.loop-handle-smaller
 loop-handle-smaller g c =
@@ -89,9 +90,24 @@ loop-handle-preserved g c =
     let none = none_more test A home d l.3 (elim c.else-is.branch [
       | else-is-via-then-is+else-eq w ↦
           any-failed _ (A (home + d)) d (top c.args.hash, w.handle.result)
-          (sym at ∙ candidate c.args.hash _ (A c.loop-handle.slot) d w.handle.result c.metadata-metadata.ensures (c.is.ensures.0 w.if-is.true ∙ l.2) w.handle.ensures)
+          (sym at ∙ candidate c.args.hash _ (A c.loop-handle.slot) d w.handle.result c.read-metadata.ensures.meaning (c.is.ensures.0 w.if-is.true ∙ l.2) w.handle.ensures)
           (is_entry_of-candidate g.H.PartialEq.eq c.args.hash c.args.handle w.handle.result ∙ sym w.eq.ensures ∙ w.if-eq.false)
       | else-is-via-else-is w ↦
-          any-other g.H.PartialEq.eq c.args.hash c.args.handle (A (home + d)) d (λ e. refused c.is.result c.is.ensures w.if-is.false (c.metadata-metadata.ensures ∙ ap mark_of at ∙ e ∙ sym l.2))
+          any-other g.H.PartialEq.eq c.args.hash c.args.handle (A (home + d)) d (λ e. refused c.is.result c.is.ensures w.if-is.false (c.read-metadata.ensures.meaning ∙ ap mark_of at ∙ e ∙ sym l.2))
     ]) in
-    record { come = (suc d, next.0, next.1, ap (λ k. list_any test (met A home 0 k)) (sym one) ∙ none) }
+    record {
+      come = (suc d, next.0, next.1, ap (λ k. list_any test (met A home 0 k)) (sym one) ∙ none);
+      reads = omega (arith, c.loop-handle.invariant.reads, c.read-metadata.ensures.counted, ap mark_reach l.2, ap mark_reach next.1);
+    }
+
+pub returns-then-eq-clause-reads : goal.returns-then-eq-clause-reads
+returns-then-eq-clause-reads g c =
+    let l = c.loop-handle.invariant.come in
+    let within = come_reads c.args.self.now.slots c.requires.tidy c.args.hash l.0 c.loop-handle.slot l.1 in
+    (omega (arith, c.loop-handle.invariant.reads, c.read-metadata.ensures.counted, ap mark_reach l.2), omega (arith, c.loop-handle.invariant.reads, c.read-metadata.ensures.counted, ap mark_reach l.2, within))
+
+pub returns-then-ends_walk_for-clause-reads : goal.returns-then-ends_walk_for-clause-reads
+returns-then-ends_walk_for-clause-reads g c =
+    let l = c.loop-handle.invariant.come in
+    let within = come_reads c.args.self.now.slots c.requires.tidy c.args.hash l.0 c.loop-handle.slot l.1 in
+    (omega (arith, c.loop-handle.invariant.reads, c.read-metadata.ensures.counted, ap mark_reach l.2), omega (arith, c.loop-handle.invariant.reads, c.read-metadata.ensures.counted, ap mark_reach l.2, within))

@@ -14,12 +14,12 @@ loop-slot-init g c =
     let home : ℕ = c.args.hash % length slots in
     let at = c.home-slot.ensures.home c.requires.some in
     let within : home < length slots = omega (arith, at, c.home-slot.ensures.within c.requires.some) in
-    record { come = (0, come_home slots c.requires.tidy home (top c.args.hash) c.home-slot.result at within, c.new-wanted.ensures) }
+    record { come = (0, come_home slots c.requires.tidy home (top c.args.hash) c.home-slot.result at within, c.new-wanted.ensures); reads = omega (arith, ap mark_reach c.new-wanted.ensures) }
 
 pub next-wanted-requires-clause-room : goal.next-wanted-requires-clause-room
 next-wanted-requires-clause-room g c =
     looks_room c.args.self.now.slots c.requires.tidy 0 0 c.loop-slot.invariant.come.0 c.loop-slot.slot c.ends_walk_for.result
-    (sought c.loop-slot.wanted) _ c.ends_walk_for.ensures c.loop-slot-test.true c.metadata.ensures c.requires.near
+    (sought c.loop-slot.wanted) _ c.ends_walk_for.ensures c.loop-slot-test.true c.read.ensures.meaning c.requires.near
 
 more : (g : Over) (c : After-next-wanted g)
     → HasCome c.args.self.now.slots (c.args.hash % length c.args.self.now.slots) (suc c.loop-slot.invariant.come.0) c.after-slot.result
@@ -29,7 +29,7 @@ more g c =
     let l = c.loop-slot.invariant.come in
     looks_on slots c.requires.tidy (c.args.hash % length slots) (top c.args.hash)
     l.0 c.loop-slot.slot c.after-slot.result c.ends_walk_for.result (sought c.loop-slot.wanted) (sought c.next-wanted.result) _ l.1 l.2
-    c.ends_walk_for.ensures c.loop-slot-test.true c.metadata.ensures c.after-slot.ensures.after c.next-wanted.ensures
+    c.ends_walk_for.ensures c.loop-slot-test.true c.read.ensures.meaning c.after-slot.ensures.after c.next-wanted.ensures
 
 pub loop-slot-smaller : goal.loop-slot-smaller
 loop-slot-smaller g c =
@@ -39,7 +39,10 @@ loop-slot-smaller g c =
 pub loop-slot-preserved : goal.loop-slot-preserved
 loop-slot-preserved g c =
     let next = more g (goal.at.loop-slot-preserved g c).After-next-wanted in
-    record { come = (suc c.loop-slot.invariant.come.0, next.0, next.1) }
+    record {
+      come = (suc c.loop-slot.invariant.come.0, next.0, next.1);
+      reads = omega (arith, c.loop-slot.invariant.reads, c.read.ensures.counted, ap mark_reach c.loop-slot.invariant.come.2, ap mark_reach next.1);
+    }
 
 pub returns : goal.returns
 returns g c =
@@ -47,8 +50,9 @@ returns g c =
     let l = c.loop-slot.invariant.come in
     let near =
     looks_end slots c.requires.tidy 0 (top c.args.hash) l.0 c.loop-slot.slot c.ends_walk_for.result
-    (sought c.loop-slot.wanted) _ l.2 c.ends_walk_for.ensures c.loop-slot-test.false c.metadata.ensures in
+    (sought c.loop-slot.wanted) _ l.2 c.ends_walk_for.ensures c.loop-slot-test.false c.read.ensures.meaning in
     record {
       ends = subst (λ e. EndsAt slots c.args.hash e.mark e.position) (sym c.new.ensures)
           (record { walk = record { distance = l.0; come = l.1; mark = l.2 }; stop = omega (arith, near, ap mark_reach l.2) });
+      reads = omega (arith, c.loop-slot.invariant.reads, c.read.ensures.counted, ap (λ e. mark_reach e.mark) c.new.ensures);
     }

@@ -18,20 +18,21 @@ pub loop-metadata-init : goal.loop-metadata-init
 loop-metadata-init g c = record {
   own = omega (arith, c.is_near.ensures.0 c.if-not-is_near.false, ap mark_reach c.wanted.ensures);
   passing = subst (IsPassing c.args.self.now.slots c.args.gap.now.position) (sym c.slot-slot.ensures) (pass_begins c.args.self.now.slots c.args.gap.now.position c.requires.within);
+  counted = omega arith;
 }
 
-pub metadata-metadata-requires : goal.metadata-metadata-requires
-metadata-metadata-requires g c = pass_slot c.args.self.now.slots c.args.gap.now.position c.loop-metadata.invariant.passing
+pub read-metadata-requires : goal.read-metadata-requires
+read-metadata-requires g c = pass_slot c.args.self.now.slots c.args.gap.now.position c.loop-metadata.invariant.passing
 
 pub returns-then-is_empty-clause-room : goal.returns-then-is_empty-clause-room
 returns-then-is_empty-clause-room g c =
     pass_room c.args.self.now.slots c.args.gap.now.position c.loop-metadata.invariant.passing c.loop-metadata.invariant.own
-    (vacant_of_meaning _ _ (c.is_empty.ensures.0 c.if-is_empty.true) c.metadata-metadata.ensures)
+    (vacant_of_meaning _ _ (c.is_empty.ensures.0 c.if-is_empty.true) c.read-metadata.ensures.meaning)
 
 pub returns-then-not-can_move_on-clause-far : goal.returns-then-not-can_move_on-clause-far
 returns-then-not-can_move_on-clause-far g c =
-    let here = reach_of_meaning (meaning c.metadata-metadata.result) (slot_at c.args.self.now.slots c.loop-metadata.slot) c.metadata-metadata.ensures in
-    let far : longest_reach ≤ reach (slot_at c.args.self.now.slots c.loop-metadata.slot) = elim (cases_lt 16777214 (mark_reach (meaning c.metadata-metadata.result))) [
+    let here = reach_of_meaning (meaning c.read-metadata.result) (slot_at c.args.self.now.slots c.loop-metadata.slot) c.read-metadata.ensures.meaning in
+    let far : longest_reach ≤ reach (slot_at c.args.self.now.slots c.loop-metadata.slot) = elim (cases_lt 16777214 (mark_reach (meaning c.read-metadata.result))) [
       | inl far ↦ omega (arith, far, here)
       | inr near ↦ absurd (refused c.can_move_on.result c.can_move_on.ensures c.if-not-can_move_on.true near)
     ] in
@@ -49,17 +50,18 @@ pub loop-metadata-smaller : goal.loop-metadata-smaller
 loop-metadata-smaller g c =
     let slots = c.args.self.now.slots in
     let s = c.args.gap.now.position in
-    let some = occupied_of_meaning c.is_empty.result (meaning c.metadata-metadata.result) (slot_at slots c.loop-metadata.slot) c.is_empty.ensures c.if-is_empty.false c.metadata-metadata.ensures in
-    let here = reach_of_meaning (meaning c.metadata-metadata.result) (slot_at slots c.loop-metadata.slot) c.metadata-metadata.ensures in
+    let some = occupied_of_meaning c.is_empty.result (meaning c.read-metadata.result) (slot_at slots c.loop-metadata.slot) c.is_empty.ensures c.if-is_empty.false c.read-metadata.ensures.meaning in
+    let here = reach_of_meaning (meaning c.read-metadata.result) (slot_at slots c.loop-metadata.slot) c.read-metadata.ensures.meaning in
     let next = on g (goal.at.loop-metadata-smaller g c).After-after-slot some (omega (arith, c.can_move_on.ensures.0 c.if-not-can_move_on.false, here)) in
     omega (arith, pass_lap slots s c.loop-metadata.invariant.passing, pass_lap slots s next.0, next.1, next.0.within)
 
 pub loop-metadata-preserved : goal.loop-metadata-preserved
 loop-metadata-preserved g c =
     let slots = c.args.self.now.slots in
-    let some = occupied_of_meaning c.is_empty.result (meaning c.metadata-metadata.result) (slot_at slots c.loop-metadata.slot) c.is_empty.ensures c.if-is_empty.false c.metadata-metadata.ensures in
-    let here = reach_of_meaning (meaning c.metadata-metadata.result) (slot_at slots c.loop-metadata.slot) c.metadata-metadata.ensures in
+    let some = occupied_of_meaning c.is_empty.result (meaning c.read-metadata.result) (slot_at slots c.loop-metadata.slot) c.is_empty.ensures c.if-is_empty.false c.read-metadata.ensures.meaning in
+    let here = reach_of_meaning (meaning c.read-metadata.result) (slot_at slots c.loop-metadata.slot) c.read-metadata.ensures.meaning in
     record {
       own = c.loop-metadata.invariant.own;
       passing = (on g (goal.at.loop-metadata-preserved g c).After-after-slot some (omega (arith, c.can_move_on.ensures.0 c.if-not-can_move_on.false, here))).0;
+      counted = omega (arith, c.loop-metadata.invariant.counted, c.read-metadata.ensures.counted);
     }

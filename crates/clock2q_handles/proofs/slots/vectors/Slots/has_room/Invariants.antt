@@ -9,6 +9,7 @@ abbrev pub invariant-loop-metadata : goal.invariant-loop-metadata
 invariant-loop-metadata g l = record {
   own : mark_reach l.gap.mark ≤ longest_reach;
   passing : IsPassing l.self.slots l.gap.position l.slot;
+  counted : l.initial.reads.total ≤ l.reads.total;
 }
 
 abbrev pub decreases-loop-metadata : goal.decreases-loop-metadata

@@ -10,7 +10,7 @@ use Rattle.clock2q_handles.proofs.slots.vectors.Slots.put_all.Goals as goal
 use Rattle.clock2q_handles.proofs.slots.vectors.Slots.put_all.Goals.{After-is_empty, After-handle-handle}
 
 pub loop-slot-init : goal.loop-slot-init
-loop-slot-init g c = record { moved = moving_begins g.F.FnMut c.requires.movable }
+loop-slot-init g c = record { moved = moving_begins g.F.FnMut c.requires.movable; counted = omega arith }
 
 within : (g : Over) (c : After-is_empty g) → c.loop-slot.slot < length (cells c.args.old.metadata.now c.args.old.handles.now)
 within g c = omega (arith, c.loop-slot-test.true, c.count-slot-end.ensures, length-cells c.args.old.metadata.now c.args.old.handles.now c.requires.same)
@@ -26,6 +26,7 @@ pub loop-slot-preserved-then-is_empty : goal.loop-slot-preserved-then-is_empty
 loop-slot-preserved-then-is_empty g c = record {
   moved = moving_past g.F.FnMut c.requires.movable c.loop-slot.invariant.moved (within g (goal.at.loop-slot-preserved-then-is_empty g c).After-is_empty)
       (vacant_of_meaning _ _ (c.is_empty.ensures.0 c.if-is_empty.true) c.metadata.ensures);
+  counted = c.loop-slot.invariant.counted;
 }
 
 pub rehash-hash-requires : goal.rehash-hash-requires
@@ -54,9 +55,10 @@ loop-slot-preserved g c =
     record {
       moved = moving_on g.F.FnMut c.requires.movable c.loop-slot.invariant.moved (within g before.After-is_empty) (holds g before.After-handle-handle)
           c.rehash-hash.ensures c.gap-gap.ensures.ends c.put_at.ensures.puts;
+      counted = omega (arith, c.loop-slot.invariant.counted, c.gap-gap.ensures.reads, c.put_at.ensures.counted);
     }
 
 pub returns : goal.returns
 returns g c =
     let all = length-cells c.args.old.metadata.now c.args.old.handles.now c.requires.same in
-    record { moved = moving_ends g.F.FnMut c.requires.movable (omega (arith, c.loop-slot-test.false, c.loop-slot.auto.slot-end, c.count-slot-end.ensures, all)) c.loop-slot.invariant.moved }
+    record { moved = moving_ends g.F.FnMut c.requires.movable (omega (arith, c.loop-slot-test.false, c.loop-slot.auto.slot-end, c.count-slot-end.ensures, all)) c.loop-slot.invariant.moved; counted = c.loop-slot.invariant.counted }

@@ -36,3 +36,6 @@ returns-clause-small g c =
       c.self.inside.metadata.ok.1,
       c.self.inside.metadata.small,
     )
+
+pub returns-clause-reads : goal.returns-clause-reads
+returns-clause-reads g c = omega (arith, c.carry.ensures.reads, ap (λ s. s.writes) c.self.view_is)

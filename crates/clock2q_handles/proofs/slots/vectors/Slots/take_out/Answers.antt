@@ -9,4 +9,7 @@ returns g c =
     (omega (arith, c.close.ensures.len, c.as_mut_slice.ensures.len, ap length c.as_mut_slice.ensures.value, c.self.inside.metadata.ok.0))
     (omega (arith, c.close.ensures.len, c.close.ensures.pair.same, c.as_mut_slice.ensures.len, ap length c.as_mut_slice.ensures.value, c.self.invariant.same, c.self.inside.handles.ok.0)) in
     let old = cells_along c.as_mut_slice.ensures.value c.as_mut_slice-2.ensures.value ∙ ap (λ s. s.slots) c.self.view_is in
-    record { taken = takes_at_along c.close.ensures.taken old new (ap (λ s. s.writes) c.self.view_is) }
+    record {
+      taken = takes_at_along c.close.ensures.taken old new (ap (λ s. s.writes) c.self.view_is);
+      reads = omega (arith, c.close.ensures.reads, ap (λ s. s.writes) c.self.view_is);
+    }

@@ -1,0 +1,32 @@
+use Rattle.std.proofs.Common.{◌≡◌, ◌+◌, ◌^◌, ◌<◌, length, ap, sym, ◌∙◌, subst, arith}
+use Rattle.clock2q_handles.specs.Candidates.{EndsAt}
+use Rattle.clock2q_handles.specs.Layout.{homes_of, walk}
+use Rattle.clock2q_handles.specs.Homes.{total, capacity}
+use Rattle.clock2q_handles.specs.Shifts.{HasRoomAt}
+use Rattle.clock2q_handles.specs.TableStep.{table_value}
+use Rattle.clock2q_handles.proofs.shifts.Insertions.{few_room}
+use Rattle.clock2q_handles.proofs.layout.TidyLayout.{length-homes_of}
+use Rattle.clock2q_handles.proofs.walks.Reads.{ends_reads}
+use Rattle.clock2q_handles.proofs.table.Table.gap.Goals as goal
+
+pub gap-requires-clause-some : goal.gap-requires-clause-some
+gap-requires-clause-some g c = omega (arith, c.requires.below, length-homes_of c.self.inside.slots.slots, ap (λ t. length t.homes) c.self.view_is)
+
+pub returns-clause-ends : goal.returns-clause-ends
+returns-clause-ends g c = subst (λ t. EndsAt t.slots c.args.hash c.gap.result.mark c.gap.result.position) c.self.view_is c.gap.ensures.ends
+
+pub returns-clause-reads : goal.returns-clause-reads
+returns-clause-reads g c =
+    let slots = c.self.inside.slots.slots in
+    let all = ends_reads slots c.self.invariant.tidy c.args.hash c.gap.result.position c.gap.result.mark c.gap.ensures.ends in
+    ap (table_value (homes_of slots) slots c.self.inside.slots.writes) (c.gap.ensures.reads ∙ ap (λ k. c.self.inside.reads.total + k) all)
+    ∙ ap (λ t. table_value t.homes t.slots t.writes (t.reads + walk t.homes c.args.hash)) c.self.view_is
+
+pub returns-clause-few : goal.returns-clause-few
+returns-clause-few g c v few =
+    let slots = c.self.inside.slots.slots in
+    let fits : total (homes_of slots) < capacity (length slots) =
+    subst (λ m. total (homes_of slots) < capacity m) (length-homes_of slots) (subst (λ t. total t.homes < capacity (length t.homes)) (sym c.self.view_is) c.requires.below) in
+    let most = subst (λ t. total t.homes + 1 < 2 ^ 24) (sym c.self.view_is) few in
+    subst (λ t. HasRoomAt t.slots c.gap.result.mark c.gap.result.position) c.self.view_is
+    (few_room c.args.hash v c.self.invariant fits c.gap.ensures.ends (omega (arith, c.self.invariant.counted, most)))

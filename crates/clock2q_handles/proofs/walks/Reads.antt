@@ -1,0 +1,34 @@
+-- How many slots a walk has read when it has come to one, and when it ends.
+use Rattle.std.proofs.Common.{◌≡◌, ℕ, suc, ◌+◌, ◌-◌, ◌%◌, ◌<◌, ◌≤◌, inl, inr, refl, ap, sym, ◌∙◌, arith, List, length, Option}
+use Rattle.std.proofs.lemmas.Bool.{cases_lt}
+use Rattle.clock2q_handles.specs.Candidates.{EndsAt}
+use Rattle.clock2q_handles.specs.Layout.{Placed, slot_at, reach, homes_of, walk, IsTidy}
+use Rattle.clock2q_handles.specs.Shifts.{HasCome}
+use Rattle.clock2q_handles.specs.Slots.{Mark, mark_reach}
+use Rattle.clock2q_handles.proofs.layout.FewerEntries.{walk-is}
+use Rattle.clock2q_handles.proofs.layout.TidyLayout.{length-homes_of}
+use Rattle.clock2q_handles.proofs.shifts.Carrying.{come_here}
+use Rattle.clock2q_handles.proofs.walks.Yields.{walk-at, walk-beyond, walk-home}
+
+module _ {H : Type 0} (slots : List (Option (Placed (ℕ × H)))) (tidy : IsTidy slots) where
+  -- a walk reads the slot that it has come to, and each before it
+  pub come_reads : (x d n : ℕ) → HasCome slots (x % length slots) d n → d < walk (homes_of slots) x
+  come_reads x d n come =
+      let some : 0 < length slots = omega (arith, come.within) in
+      elim (cases_lt 0 d) [
+        | inl on ↦
+            let j : ℕ = d - 1 in
+            omega (arith, on, (walk-beyond slots tidy (x % length slots) j some (come.passed j (omega (arith, on)))).0, walk-home slots tidy x (x % length slots) (λ _. refl))
+        | inr home ↦ omega (arith, home, walk-is (homes_of slots) x (omega (arith, some, length-homes_of slots)))
+      ]
+
+  -- a walk that ends has read as many slots as its definition says
+  pub ends_reads : (x n : ℕ) (s : Mark) → EndsAt slots x s n → mark_reach s ≡ walk (homes_of slots) x
+  ends_reads x n s ends =
+      let come = ends.walk.come in
+      let d : ℕ = ends.walk.distance in
+      let g : ℕ = x % length slots in
+      let some : 0 < length slots = omega (arith, come.within) in
+      let near : reach (slot_at slots (g + d)) ≤ d = omega (arith, ends.stop, ap mark_reach ends.walk.mark, ap reach (come_here slots g d n come)) in
+      let all : walk (homes_of slots) g ≡ d + 1 = walk-at slots tidy g d some come.passed near in
+      omega (arith, all, ap mark_reach ends.walk.mark, walk-home slots tidy x g (λ _. refl))
