@@ -24,6 +24,16 @@ agree-changed linked old new slot location h agree locations t =
       | inr e ↦ rw e (agree t ∙ ap is_linked (sym (locations t ∙ rw e refl)))
     ]
 
+-- one slot's location was written, and the slot stayed in a queue, or in none
+pub agree-kept : (linked : List Bool) (old new : List Record) (slot : ℕ) (location : Location) → is_linked location ≡ is_linked (location_at old slot)
+    → ((t : ℕ) → linked_in linked t ≡ is_linked (location_at old t))
+    → ((t : ℕ) → location_at new t ≡ cond (eqb t slot) location (location_at old t))
+    → (t : ℕ) → linked_in linked t ≡ is_linked (location_at new t)
+agree-kept linked old new slot location stays agree locations t = elim (cases_Bool (eqb t slot)) [
+  | inl e ↦ agree t ∙ ap (λ z. is_linked (location_at old z)) (eqb-true t slot e) ∙ sym stays ∙ ap is_linked (sym (locations t ∙ rw e refl))
+  | inr e ↦ agree t ∙ ap is_linked (sym (locations t ∙ rw e refl))
+]
+
 -- the locations after a record was written
 pub locations-written : (rs : List Record) (slot : ℕ) (content : Record) → slot < length rs
     → (t : ℕ) → location_at (set rs slot content) t ≡ cond (eqb t slot) content.location (location_at rs t)

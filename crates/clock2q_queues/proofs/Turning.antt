@@ -6,13 +6,14 @@ use Rattle.std.proofs.lemmas.List.{append-nil, length-set}
 use Rattle.clock2q_machine.proofs.Whole.{last_some}
 use Rattle.clock2q_queues.specs.declared.links.Record.{Record}
 use Rattle.clock2q_queues.specs.declared.links.Location.{Location}
-use Rattle.clock2q_queues.specs.declared.links.Location.TheVariants.{SmallYoung}
+use Rattle.clock2q_queues.specs.declared.links.Location.TheVariants.{Free, SmallYoung, SmallOld, Main}
 use Rattle.clock2q_queues.specs.declared.small.Small.{Small}
 use Rattle.clock2q_queues.specs.Cells.{CellsState, HitBits, accessed, bit_in, written}
 use Rattle.clock2q_queues.specs.Rings.{has, without, AllApart, AllBelow}
 use Rattle.clock2q_queues.specs.Links.{LinkState, IsLinked, IsSameBut, record_at, young_at, next_at, previous_at, location_at, bit_at, with_location, vacant}
 use Rattle.clock2q_queues.specs.Ends.{position_freed}
-use Rattle.clock2q_queues.specs.Small.{IsSmallQueue, GrowsOld, small_slots, small_entries, admitted, next_cursor}
+use Rattle.clock2q_queues.specs.Flags.{is_linked}
+use Rattle.clock2q_queues.specs.Small.{IsSmallQueue, IsInSmall, GrowsOld, is_there, small_slots, small_entries, admitted, next_cursor}
 use Rattle.clock2q_queues.proofs.Booleans.{and_false, or_parts, or_neither}
 use Rattle.clock2q_queues.proofs.Records.{changed}
 use Rattle.clock2q_queues.proofs.Rings.{IsRing-kept, AllBelow-left, eqb_self, has-append, has-without_test, without-parted}
@@ -37,6 +38,13 @@ has_last (s ∷ ss) h = let x = last_some ss s in subst (λ o. IsSome o) (sym x.
 -- the slot is none of the others
 pub gone : (slot : ℕ) (ss : List ℕ) → has slot (without slot ss) ≡ false
 gone slot ss = has-without_test slot slot ss ∙ rw (eqb_self slot) (and_false (has slot ss))
+
+-- a slot of Small is in a queue
+in_small_linked : (location : Location) → IsInSmall location → true ≡ is_linked location
+in_small_linked (SmallYoung position) i = refl
+in_small_linked SmallOld i = refl
+in_small_linked Free i = absurd i
+in_small_linked Main i = absurd i
 
 -- the location of a slot was changed, and nothing else
 pub relocated : (rs : CellsState Record) (slot : ℕ) (location : Location) (t : ℕ) → slot < length rs.items
@@ -114,6 +122,17 @@ module _ (slot : ℕ) (old : LinkState) (small : Small) (m : IsSmallQueue old sm
     module _ (mid aged : LinkState) (o : GrowsOld small.cursor left mid) (a : aged ≡ record mid { window = written small.cursor (Some slot) mid.window }) where
       pub aged_fits : slot < length aged.records.items
       aged_fits = rw (ap (λ (l : LinkState). length l.records.items) a ∙ o.as_many ∙ ap (λ (rs : List Record). length rs) records_left) slot_fits
+
+      -- the slot is still in a queue
+      pub aged_linked : true ≡ is_linked (location_at aged.records.items slot)
+      aged_linked =
+          let is_aged = ap (λ (l : LinkState). location_at l.records.items slot) a ∙ o.locations slot in
+          let was_in : true ≡ is_linked (location_at left.records.items slot) =
+          in_small_linked _ (m.location slot there) ∙ ap (λ (rs : List Record). is_linked (location_at rs slot)) (sym records_left) in
+          elim (cases_Bool (is_there (young_at left small.cursor) slot)) [
+            | inl g ↦ let q : location_at aged.records.items slot ≡ SmallOld = is_aged ∙ rw g refl in ap is_linked (sym q)
+            | inr g ↦ let q : location_at aged.records.items slot ≡ location_at left.records.items slot = is_aged ∙ rw g refl in was_in ∙ ap is_linked (sym q)
+          ]
 
     module _ (mid aged new : LinkState) (small' : Small) (w : 0 < length old.window.items) (o : GrowsOld small.cursor left mid)
         (a : aged ≡ record mid { window = written small.cursor (Some slot) mid.window })

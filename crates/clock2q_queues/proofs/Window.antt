@@ -11,7 +11,7 @@ use Rattle.clock2q_queues.specs.declared.links.Location.TheVariants.{Free, Small
 use Rattle.clock2q_queues.specs.declared.small.Small.{Small}
 use Rattle.clock2q_queues.specs.Rings.{has, AllBelow}
 use Rattle.clock2q_queues.specs.declared.links.Record.{Record}
-use Rattle.clock2q_queues.specs.Cells.{CellsState, written}
+use Rattle.clock2q_queues.specs.Cells.{CellsState, accessed, written}
 use Rattle.clock2q_queues.specs.Links.{LinkState, IsBlank, IsLinked, IsSameBut, Attaches, record_at, next_at, previous_at, location_at, bit_at, young_at}
 use Rattle.clock2q_queues.specs.Small.{IsSmall, IsSmallQueue, IsInSmall, GrowsOld, small_slots, small_entries, admissions_since, next_cursor, age_of, age_at, admitted, is_there}
 use Rattle.clock2q_queues.proofs.Records.{changed}
@@ -120,6 +120,14 @@ cursor_fits {l} {cursor} {ss} m b = of (young_at l cursor) refl
     of : (o : Option ℕ) → young_at l cursor ≡ o → IfSome o (λ slot. slot < length l.records.items)
     of None e = tt
     of (Some t) e = below_of (length l.records.items) ss b t (m.occupied cursor t e).0
+
+-- the slot at the cursor became old, and its position was given to another: the links between the two
+abbrev pub aged_before : LinkState → LinkState → LinkState
+aged_before old new = record new { window = accessed old.window }
+
+pub position_taken : (old new : LinkState) (cursor slot : ℕ) → new.window ≡ written cursor (Some slot) (accessed old.window)
+    → new ≡ record (aged_before old new) { window = written cursor (Some slot) (aged_before old new).window }
+position_taken old new cursor slot e = ap (λ (w : CellsState (Option ℕ)). record new { window = w }) e
 
 -- the slots with their ages
 abbrev pub aged_slots : LinkState → ℕ → List ℕ → List (ℕ × Age)

@@ -127,15 +127,16 @@ impl<A: Allocator> Links<A> {
         self.records.write(slot, content);
     }
 
-    /// Writes the location of a slot.
+    /// Writes the location of a slot that stays in a queue, or in none. It doesn't touch the slot's
+    /// flags.
     pub(crate) fn set_location(&mut self, slot: u32, location: Location)
-        requires { slot < length self.old.records.items }
+        requires slot_in { slot < length self.old.records.items }
+        requires stays { is_linked location ≡ is_linked (location_at self.old.records.items slot) }
         ensures { self.new ≡ record self.old {
           records = accessed
               (with_location slot location self.old.records);
         } }
     {
-        self.bits.set_linked(slot, location.is_linked());
         self.records.set_location(slot, location);
     }
 

@@ -1,7 +1,8 @@
 //! Small: the queue of the newest residents, of which the last admitted ones are young.
 ghost use Rattle.std.specs.Prelude.{◌≡◌, ℕ, ◌+◌, ◌^◌, ◌<◌, ◌≤◌, ◌==◌, true, false, not, [], ◌∷◌, length, Some, None, IfSome};
 ghost use Rattle.std.specs.List.{filter, last_or};
-ghost use Rattle.clock2q_queues.specs.Cells.{Rises};
+ghost use Rattle.clock2q_queues.specs.Cells.{Rises, accessed, written};
+ghost use Rattle.clock2q_queues.specs.Small.{GrowsOld, next_cursor};
 ghost use Rattle.clock2q_queues.specs.Rings.{has};
 ghost use Rattle.clock2q_queues.specs.Ends.{end_after, position_freed};
 ghost use Rattle.clock2q_queues.specs.Links.{LinkState, IsBlank, IsSameBut, accesses_of, location_at, young_at};
@@ -20,7 +21,7 @@ pub(crate) struct Small {
 }
 
 impl Small {
-    ghost use Rattle.clock2q_queues.specs.Small.{IsSmallQueue, GrowsOld, small_slots, small_entries, next_cursor, admitted};
+    ghost use Rattle.clock2q_queues.specs.Small.{IsSmallQueue, small_slots, small_entries, admitted};
 
     /// Returns an empty queue.
     pub(crate) fn new() -> Self
@@ -51,31 +52,6 @@ impl Small {
         self.oldest
     }
 
-    /// Makes the slot at the cursor, if there is one, old with a clear bit.
-    fn free_position<A: Allocator>(&self, links: &mut Links<A>)
-        requires cursor { self.now.cursor < length links.old.window.items }
-        requires slot { IfSome (young_at links.old self.now.cursor)
-            (λ slot. slot < length links.old.records.items) }
-        ensures older { GrowsOld self.now.cursor links.old links.new }
-        ensures accesses { Rises 1 3 (accesses_of links.old) (accesses_of links.new) }
-    {
-        if let Some(slot) = links.young_at(self.cursor) {
-            links.make_old(slot);
-        }
-    }
-
-    /// Returns the position after the cursor, or the first one after the last.
-    fn next_position(&self, window: u32) -> u32
-        requires { self.now.cursor < window }
-        ensures { result ≡ next_cursor window self.now.cursor }
-    {
-        if self.cursor + 1 < window {
-            self.cursor + 1
-        } else {
-            0
-        }
-    }
-
     /// Admits a slot as the newest, and young. All other young slots grow older.
     pub(crate) fn push<A: Allocator>(&mut self, links: &mut Links<A>, slot: u32)
         requires whole { IsSmallQueue links.old self.old }
@@ -90,9 +66,9 @@ impl Small {
         ensures inspections { links.new.bits.inspections ≡ links.old.bits.inspections }
         ensures accesses { Rises 3 10 (accesses_of links.old) (accesses_of links.new) }
     {
-        self.free_position(links);
-        links.set_young_at(self.cursor, Some(slot));
-        let location = Location::SmallYoung(self.cursor);
+        let cursor = self.cursor;
+        take_position(links, cursor, slot);
+        let location = Location::SmallYoung(cursor);
         match self.newest {
             None => {
                 let alone = Record {
@@ -106,7 +82,7 @@ impl Small {
             Some(newest) => links.attach(slot, newest, location),
         }
         self.newest = Some(slot);
-        self.cursor = self.next_position(links.window());
+        self.cursor = next_position(cursor, links.window());
         self.len += 1;
     }
 
@@ -128,15 +104,17 @@ impl Small {
         ensures accesses { Rises 5 8 (accesses_of links.old) (accesses_of links.new) }
     {
         // a queue with a slot has an oldest one
-        let slot = self.oldest.unwrap();
+        let Some(slot) = self.oldest else {
+            unreachable!()
+        };
+        self.newest = Some(slot);
+        let cursor = self.cursor;
         let record = links.read(slot);
         leave_position(links, record.location);
-        self.free_position(links);
-        links.set_young_at(self.cursor, Some(slot));
-        links.set_location(slot, Location::SmallYoung(self.cursor));
-        self.newest = Some(slot);
+        take_position(links, cursor, slot);
+        links.set_location(slot, Location::SmallYoung(cursor));
         self.oldest = Some(record.previous);
-        self.cursor = self.next_position(links.window());
+        self.cursor = next_position(cursor, links.window());
         slot
     }
 
@@ -167,6 +145,32 @@ impl Small {
     {
         *self = Small::new();
     }
+}
+
+/// Puts a slot at the cursor. The slot that was there, if there was one, becomes old with a clear
+/// bit.
+fn take_position<A: Allocator>(links: &mut Links<A>, cursor: u32, slot: u32)
+    requires cursor { cursor < length links.old.window.items }
+    requires there { IfSome (young_at links.old cursor)
+        (λ slot. slot < length links.old.records.items) }
+    ensures taken { links.new.window ≡ written cursor (Some slot) (accessed links.old.window) }
+    ensures older { GrowsOld cursor links.old
+        (record links.new { window = accessed links.old.window }) }
+    ensures accesses { Rises 2 4 (accesses_of links.old) (accesses_of links.new) }
+{
+    let there = links.young_at(cursor);
+    links.set_young_at(cursor, Some(slot));
+    if let Some(oldest) = there {
+        links.make_old(oldest);
+    }
+}
+
+/// Returns the position after the cursor, or the first one after the last.
+fn next_position(cursor: u32, window: u32) -> u32
+    requires { cursor < window }
+    ensures { result ≡ next_cursor window cursor }
+{
+    if cursor + 1 < window { cursor + 1 } else { 0 }
 }
 
 /// Empties the position of a slot, if it was young.

@@ -5,7 +5,7 @@ use Rattle.std.specs.List.{find, AllByRecursion}
 use Rattle.std.proofs.lemmas.Bool.{both_ways}
 use Rattle.clock2q_handles.specs.Homes.{candidates, with_handle, removed, no_entries}
 use Rattle.clock2q_directory.specs.declared.keys.store.Entry.{Entry}
-use Rattle.clock2q_directory.specs.Index.{index_state, index_for, is_shared, slots, entered, left}
+use Rattle.clock2q_directory.specs.Index.{emptied, index_for, is_shared, slots, entered, left}
 use Rattle.clock2q_directory.specs.Indexes.{IsIndex}
 use Rattle.clock2q_directory.specs.Keys.{KeyPlaces, key_places, entry, written, hash_at, key_at, Writes}
 use Rattle.clock2q_directory.specs.Directory.{Known, IsResident, IsWithinRoom, Remembers}
@@ -183,7 +183,7 @@ new-alone limit hashes h r some short made keys =
 
 -- nor has one that was cleared
 pub cleared-alone : {hashes : ℕ} {h h' : Remembered ℕ} {r r' : KeyPlaces ℕ (Unit {0})} → IsAlone hashes h r
-    → h' ≡ record h { entries = []; places = places_with (index_state (no_entries (length h.places.index.shared)) (no_entries (length h.places.index.own))) [] [] }
+    → h' ≡ record h { entries = []; places = places_with (emptied h.places.index) [] [] }
     → r' ≡ record r { entries = [] } → IsAlone hashes h' r'
 cleared-alone {hashes} {h} {h'} {r} {r'} k cleared keys =
     let index = h.places.index in

@@ -1,24 +1,27 @@
 use Rattle.std.proofs.Common.{◌≡◌, ◌+◌, Some, length, refl, sym, ap, ◌∙◌, rules, arith}
 use Rattle.clock2q_queues.specs.declared.small.Small.{Small}
 use Rattle.clock2q_queues.specs.Links.{LinkState}
+use Rattle.clock2q_queues.specs.Cells.{written}
 use Rattle.clock2q_queues.specs.Small.{small_slots, next_cursor}
 use Rattle.clock2q_queues.proofs.Joining.{count_fits}
-use Rattle.clock2q_queues.proofs.Window.{Admits, Admits-attached, Admits-alone, all_stay, cursor_fits, window_aged, first_fits}
+use Rattle.clock2q_queues.proofs.Window.{aged_before, position_taken, Admits, Admits-attached, Admits-alone, all_stay, cursor_fits, window_aged, first_fits}
 use Rattle.clock2q_queues.proofs.small.Small.push.Goals as goal
 use Rattle.clock2q_queues.proofs.small.Small.push.Goals.{in-None, in-Some}
 
-pub free_position-requires-clause-slot : goal.free_position-requires-clause-slot
-free_position-requires-clause-slot g c = cursor_fits (all_stay c.requires.whole) c.requires.whole.queue.linked.below
+pub take_position-requires-clause-there : goal.take_position-requires-clause-there
+take_position-requires-clause-there g c = cursor_fits (all_stay c.requires.whole) c.requires.whole.queue.linked.below
 
 pub attach-requires-clause-before_in : goal.attach-requires-clause-before_in
 attach-requires-clause-before_in g c =
-    (first_fits c.args.slot c.args.links.now c.args.self.now c.free_position.new.links c.set_young_at.new.self
-    c.requires.whole c.free_position.ensures.older c.set_young_at.ensures c.in-Some.newest c.in-Some.is).0
+    (first_fits c.args.slot c.args.links.now c.args.self.now (aged_before c.args.links.now c.take_position.new.links) c.take_position.new.links
+    c.requires.whole c.take_position.ensures.older
+    (position_taken c.args.links.now c.take_position.new.links c.args.self.now.cursor c.args.slot c.take_position.ensures.taken) c.in-Some.newest c.in-Some.is).0
 
 pub attach-requires-clause-previous_in : goal.attach-requires-clause-previous_in
 attach-requires-clause-previous_in g c =
-    (first_fits c.args.slot c.args.links.now c.args.self.now c.free_position.new.links c.set_young_at.new.self
-    c.requires.whole c.free_position.ensures.older c.set_young_at.ensures c.in-Some.newest c.in-Some.is).1
+    (first_fits c.args.slot c.args.links.now c.args.self.now (aged_before c.args.links.now c.take_position.new.links) c.take_position.new.links
+    c.requires.whole c.take_position.ensures.older
+    (position_taken c.args.links.now c.take_position.new.links c.args.self.now.cursor c.args.slot c.take_position.ensures.taken) c.in-Some.newest c.in-Some.is).1
 
 pub overflow_add-self : goal.overflow_add-self
 overflow_add-self g c =
@@ -34,27 +37,28 @@ pub returns : goal.returns
 returns g c =
     let old = c.args.links.now in
     let small = c.args.self.now in
-    let mid = c.free_position.new.links in
-    let aged = c.set_young_at.new.self in
+    let aged = c.take_position.new.links in
+    let mid = aged_before old aged in
+    let taken : aged ≡ record mid { window = written small.cursor (Some c.args.slot) mid.window } = position_taken old aged small.cursor c.args.slot c.take_position.ensures.taken in
     let small' : Small = record { newest = Some c.args.slot; oldest = c.match-self.self.oldest; len = c.match-self.self.len + 1; cursor = c.next_position-self.result } in
-    let window = window_aged c.args.slot old small mid aged c.requires.whole c.free_position.ensures.older c.set_young_at.ensures in
-    let moved = (λ (n : length c.match-self.links.window.items ≡ length old.window.items) (k : c.match-self.self.cursor ≡ small.cursor).
-    c.next_position-self.ensures ∙ ap (λ z. next_cursor z c.match-self.self.cursor) (c.window.ensures ∙ n) ∙ ap (λ z. next_cursor (length old.window.items) z) k) in
+    let window = window_aged c.args.slot old small mid aged c.requires.whole c.take_position.ensures.older taken in
+    let moved = (λ (n : length c.match-self.links.window.items ≡ length old.window.items).
+    c.next_position-self.ensures ∙ ap (λ z. next_cursor z small.cursor) (c.window.ensures ∙ n)) in
     let pushed : Admits c.args.slot old small.cursor (small_slots old small) c.match-self.links small' =
     elim c.match-self.branch [
       | in-None w ↦
           let e = w.links-is ∙ w.write.ensures in
           let records = ap (λ (z : LinkState). z.records) e in
-          Admits-alone c.args.slot old small mid aged c.requires.whole c.free_position.ensures.older c.set_young_at.ensures
+          Admits-alone c.args.slot old small mid aged c.requires.whole c.take_position.ensures.older taken
           c.match-self.links small' c.requires.slot_in c.requires.absent c.requires.window (e ∙ ap (λ r. record aged { records = r }) (sym records))
-          refl (ap (λ (m : Small). m.len + 1) w.self-is) (moved (ap (λ (l : LinkState). length l.window.items) e ∙ window) (ap (λ (m : Small). m.cursor) w.self-is))
+          refl (ap (λ (m : Small). m.len + 1) w.self-is) (moved (ap (λ (l : LinkState). length l.window.items) e ∙ window))
           w.in-None.is records (ap (λ (m : Small). m.oldest) w.self-is)
       | in-Some w ↦
           let rest = w.attach.ensures.rest in
-          Admits-attached c.args.slot old small mid aged c.requires.whole c.free_position.ensures.older c.set_young_at.ensures
+          Admits-attached c.args.slot old small mid aged c.requires.whole c.take_position.ensures.older taken
           c.match-self.links small' c.requires.slot_in c.requires.absent c.requires.window (rw w.links-is rest)
           refl (ap (λ (m : Small). m.len + 1) w.self-is)
-          (moved (ap (λ (l : LinkState). length l.window.items) w.links-is ∙ ap (λ (l : LinkState). length l.window.items) rest ∙ window) (ap (λ (m : Small). m.cursor) w.self-is))
+          (moved (ap (λ (l : LinkState). length l.window.items) w.links-is ∙ ap (λ (l : LinkState). length l.window.items) rest ∙ window))
           w.in-Some.newest w.in-Some.is (rw w.links-is w.attach.ensures.attached) (ap (λ (m : Small). m.oldest) w.self-is)
     ] in
     record {
