@@ -8,7 +8,7 @@ use Rattle.clock2q_handles.specs.Homes.{capacity, no_entries}
 use Rattle.clock2q_handles.specs.TableStep.{made_for, fit}
 use Rattle.clock2q_directory.specs.declared.keys.store.Entry.{Entry}
 use Rattle.clock2q_directory.specs.Indexes.{IsIndex}
-use Rattle.clock2q_directory.specs.Index.{IndexState, index_state, index_for, index_room, small_table, middle_table, most_entries, is_shared, slots, places, slots_in, places_in, slot_entries, place_entries}
+use Rattle.clock2q_directory.specs.Index.{IndexState, index_state, emptied, index_for, index_room, small_table, middle_table, most_entries, is_shared, slots, places, slots_in, places_in, slot_entries, place_entries}
 use Rattle.clock2q_directory.proofs.Views.{IsLikeBefore}
 use Rattle.clock2q_directory.proofs.Indexes.{IsIndex-cleared, fits_new}
 
@@ -109,7 +109,7 @@ module _ (s p : ℕ) (least : 0 < s) (slots_few : s < 2 ^ 24) (places_few : p < 
   ]
 
 -- a cleared index has the tables that it had, with as many slots
-pub cleared_like : (v : IndexState) → IsLikeBefore v (index_state (no_entries (length v.shared)) (no_entries (length v.own)))
+pub cleared_like : (v : IndexState) → IsLikeBefore v (emptied v)
 cleared_like v =
     let n : length (no_entries {E = ℕ × ℕ} (length v.own)) ≡ length v.own = length-replicate {A = List (ℕ × ℕ)} (length v.own) [] in
     let m : length (slots_in (no_entries (length v.shared))) ≡ length (slots_in v.shared) =
@@ -122,5 +122,5 @@ cleared_like v =
     ]
 
 -- and no resident's slot
-pub slots-cleared : (v : IndexState) → slots (index_state (no_entries (length v.shared)) (no_entries (length v.own))) ≡ no_entries (length (slots v))
+pub slots-cleared : (v : IndexState) → slots (emptied v) ≡ no_entries (length (slots v))
 slots-cleared v = slots_in-none (length v.shared) ∙ ap (λ n. no_entries n) (sym (length-map v.shared slot_entries))

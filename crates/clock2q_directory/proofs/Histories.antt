@@ -7,7 +7,7 @@ use Rattle.clock2q_queues.specs.Order.{PlaceOrder, IsWholeOrder, unused, used}
 use Rattle.clock2q_directory.specs.Keys.{KeyPlaces, entries_of}
 use Rattle.clock2q_directory.specs.Indexes.{IsIndex, AllDistinct}
 use Rattle.clock2q_directory.specs.Index as known
-use Rattle.clock2q_directory.specs.Index.{IndexState, index_state, index_for, is_shared, HasSlotRoom}
+use Rattle.clock2q_directory.specs.Index.{IndexState, emptied, index_for, is_shared, HasSlotRoom}
 use Rattle.clock2q_directory.specs.History.{Places, Remembered, HasRoom, IsHistory, IsWholeHistory, remembered, places_from, accesses_of}
 use Rattle.clock2q_queues.proofs.Rings.{AllBelow-left}
 use Rattle.clock2q_directory.proofs.Entries.{length-entries}
@@ -61,12 +61,12 @@ module _ {K V : Type 0} (eq : K → K → Bool) where
 
   pub IsHistory-cleared : (index : IndexState) (order order' : PlaceOrder) (keys keys' : KeyPlaces K V) → IsHistory eq index order keys
       → IsWholeOrder order' → order'.places ≡ [] → order'.free ≡ [] → order'.limit ≡ order.limit
-      → keys'.entries ≡ [] → keys'.room ≡ keys.room → IsHistory eq (index_state (no_entries (length index.shared)) (no_entries (length index.own))) order' keys'
+      → keys'.entries ≡ [] → keys'.room ≡ keys.room → IsHistory eq (emptied index) order' keys'
   IsHistory-cleared index order order' keys keys' h w places free limit none room =
       let l = cleared_like index in
       record {
         whole = w;
-        indexed = subst (λ z. IsIndex (known.places (index_state (no_entries (length index.shared)) (no_entries (length index.own)))) keys'.entries z) (sym places)
+        indexed = subst (λ z. IsIndex (known.places (emptied index)) keys'.entries z) (sym places)
             (emptied-places (length index.shared) (length index.own) keys'.entries);
         distinct = subst (λ z. AllDistinct eq (entries_of keys'.entries z)) (sym places) tt;
         as_many = omega (arith, ap (λ (z : List (Entry K V)). length z) none, ap (λ (z : List ℕ). length z) places, ap (λ (z : List ℕ). length z) free);

@@ -12,3 +12,5 @@ pub mod Views
 pub mod Sorted
 mod WorkedPlaces
 pub mod Taking
+pub mod Charging
+pub mod WithHash

@@ -58,6 +58,9 @@ slot_fits v s r = omega (arith, total-both v s, r.room, ap capacity (length-map 
 pub slot_is_few : (v : IndexState) → IsSorted v → HasSlotRoom v → total v.shared + 1 < 2 ^ 24
 slot_is_few v s r = omega (arith, total-both v s, r.few)
 
+pub place_fits : (v : IndexState) → is_shared v ≡ false → HasPlaceRoom v → total v.own < capacity (length v.own)
+place_fits v h r = subst (λ b. total (if b then places_in v.shared else v.own) < capacity (length (if b then places_in v.shared else v.own))) h (r.room h)
+
 pub place_is_few : (v : IndexState) → is_shared v ≡ false → HasPlaceRoom v → total v.own + 1 < 2 ^ 24
 place_is_few v h r = subst (λ b. total (if b then places_in v.shared else v.own) + 1 < 2 ^ 24) h (r.few h)
 

@@ -12,7 +12,8 @@ use Rattle.clock2q_directory.specs.declared.keys.store.Entry.{Entry}
 use Rattle.clock2q_queues.specs.Rings.{has, AllApart}
 use Rattle.clock2q_directory.specs.Keys.{hash_at}
 use Rattle.clock2q_directory.specs.Indexes.{IsIndex}
-use Rattle.clock2q_directory.specs.Index.{IndexState, index_state, first_remembered, is_shared, slots, places, entered, left, remembered_at, forgotten_at, slots_among, places_among, slot_entries, place_entries, slots_in, places_in}
+use Rattle.clock2q_directory.specs.Accesses.{most_changed}
+use Rattle.clock2q_directory.specs.Index.{IndexState, first_remembered, is_shared, slots, places, entered, left, remembered_at, forgotten_at, slots_among, places_among, slot_entries, place_entries, slots_in, places_in}
 use Rattle.clock2q_queues.proofs.Booleans.{and_parts}
 use Rattle.clock2q_queues.proofs.Rings.{has-append, AllApart-append, AllApart-left, AllApart-right, AllApart-turned, apart_from}
 use Rattle.clock2q_directory.proofs.Indexes.{any-candidate, named-length, length-put, length-taken, total-put, IsIndex-put}
@@ -440,12 +441,12 @@ left-like v x s = like v (left x s v) (length-taken v.shared x s) refl
 pub remembered-like : (v : IndexState) (x s p : ℕ) → IsLikeBefore v (remembered_at x s p v)
 remembered-like v x s p = elim (cases_Bool (is_shared v)) [
   | inl h ↦
-      let w = record v { shared = relabelled eqb v.shared x s (first_remembered + p) } in
+      let w = record v { shared = relabelled eqb v.shared x s (first_remembered + p); accesses = v.accesses + most_changed v.shared x } in
       let is : remembered_at x s p v ≡ w = rw h refl in
       subst (λ z. IsLikeBefore v z) (sym is)
       (like v w (length-with_list v.shared x (with_first (is_entry_of eqb x s) (top x, first_remembered + p) (listed v.shared x))) refl)
   | inr h ↦
-      let w = index_state (removed eqb v.shared x s) (with_handle v.own x p) in
+      let w = record v { shared = removed eqb v.shared x s; own = with_handle v.own x p; accesses = v.accesses + most_changed v.shared x + most_changed v.own x } in
       let is : remembered_at x s p v ≡ w = rw h refl in
       subst (λ z. IsLikeBefore v z) (sym is) (like v w (length-taken v.shared x s) (length-put v.own x p))
 ]
@@ -453,11 +454,11 @@ remembered-like v x s p = elim (cases_Bool (is_shared v)) [
 pub forgotten-like : (v : IndexState) (x p : ℕ) → IsLikeBefore v (forgotten_at x p v)
 forgotten-like v x p = elim (cases_Bool (is_shared v)) [
   | inl h ↦
-      let w = record v { shared = removed eqb v.shared x (first_remembered + p) } in
+      let w = record v { shared = removed eqb v.shared x (first_remembered + p); accesses = v.accesses + most_changed v.shared x } in
       let is : forgotten_at x p v ≡ w = rw h refl in
       subst (λ z. IsLikeBefore v z) (sym is) (like v w (length-taken v.shared x (first_remembered + p)) refl)
   | inr h ↦
-      let w = record v { own = removed eqb v.own x p } in
+      let w = record v { own = removed eqb v.own x p; accesses = v.accesses + most_changed v.own x } in
       let is : forgotten_at x p v ≡ w = rw h refl in
       subst (λ z. IsLikeBefore v z) (sym is) (like v w refl (length-taken v.own x p))
 ]

@@ -1,7 +1,8 @@
 -- The places of a history for two keys, worked out by hand: a discarded key's place is taken first, and then the oldest key's.
 use Rattle.std.proofs.Common.{◌≡◌, ℕ, eqb, [], ◌∷◌, map, Some, refl}
 use Rattle.clock2q_handles.specs.Homes.{no_entries, candidates}
-use Rattle.clock2q_directory.specs.Index.{index_state, slots, places, entered}
+use Rattle.clock2q_handles.specs.Layout.{spill, layout}
+use Rattle.clock2q_directory.specs.Index.{IndexState, index_state, slots, places, entered}
 use Rattle.clock2q_directory.specs.History.{Places, places_with, pushed_places, freed_place, place_of}
 
 -- no key yet, and 16 slots
@@ -46,3 +47,14 @@ anew = out 8 0 none
 
 anew_pushed : (anew.taken ≡ 0 ∷ []) × (candidates (places anew.index) 8 ≡ 0 ∷ []) × (candidates (slots anew.index) 8 ≡ [])
 anew_pushed = (refl, refl, refl)
+
+-- keys of one hash make each other dear: the first reads its home, and then reads and writes it; the others walk past the
+-- keys before them, and those are in their run
+colliding : map (λ (v : IndexState). v.accesses) (entered 1 0 none.index ∷ entered 1 1 (entered 1 0 none.index) ∷ entered 1 2 (entered 1 1 (entered 1 0 none.index)) ∷ []) ≡ 3 ∷ 9 ∷ 18 ∷ []
+unfolding spill layout
+colliding = refl
+
+-- keys with homes of their own, apart from each other, don't
+apart : (entered 9 2 (entered 5 1 (entered 1 0 none.index))).accesses ≡ 9
+unfolding spill layout
+apart = refl

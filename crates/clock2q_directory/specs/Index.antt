@@ -2,9 +2,10 @@
 use Rattle.std.specs.Prelude.{◌≡◌, ℕ, ◌+◌, ◌-◌, ◌*◌, ◌^◌, ◌<◌, nat_eq, nat_lt, nat_le, Bool, false, not, ◌==◌, if◌then◌else◌, List, [], map, length}
 use Rattle.std.specs.List.{filter}
 use Rattle.std.specs.Coded.{Coded, code_by, coded×, coded_ℕ, coded_list}
-use Rattle.clock2q_handles.specs.Homes.{total, capacity, with_handle, removed}
+use Rattle.clock2q_handles.specs.Homes.{total, capacity, no_entries, with_handle, removed}
 use Rattle.clock2q_handles.specs.Positions.{relabelled}
 use Rattle.clock2q_handles.specs.TableStep.{made_for}
+use Rattle.clock2q_directory.specs.Accesses.{CountedTable, most_changed}
 use mathlib.Core.Path.{refl}
 
 -- a resident's handle is its slot, and a remembered key's handle is this plus its place
@@ -36,19 +37,26 @@ abbrev pub places_in : List (List (ℕ × ℕ)) → List (List (ℕ × ℕ))
 places_in homes = map place_entries homes
 
 -- the lists by home of the table that has the slots, and of the places' own, which is used if one table would have too
--- many entries
+-- many entries, and the number of slots of both that changes read and wrote
 pub record IndexState : Type 0 where
   pub shared : List (List (ℕ × ℕ))
   pub own : List (List (ℕ × ℕ))
+  pub accesses : ℕ
 
+-- with these lists, and no slot was read or written
 abbrev pub index_state : List (List (ℕ × ℕ)) → List (List (ℕ × ℕ)) → IndexState
-index_state shared own = record { shared = shared; own = own }
+index_state shared own = record { shared = shared; own = own; accesses = 0 }
+
+-- an index of two tables
+abbrev pub index_of : CountedTable → CountedTable → IndexState
+index_of shared own = record { shared = shared.homes; own = own.homes; accesses = shared.accesses + own.accesses }
 
 abbrev pub homes_code : Coded (List (List (ℕ × ℕ)))
 homes_code = coded_list (coded_list (coded× coded_ℕ coded_ℕ))
 
 abbrev pub index_code : Coded IndexState
-index_code = code_by (List (List (ℕ × ℕ)) × List (List (ℕ × ℕ))) (coded× homes_code homes_code) (λ v. (v.shared, v.own)) (λ p. index_state p.0 p.1) (λ _. refl)
+index_code = code_by (List (List (ℕ × ℕ)) × (List (List (ℕ × ℕ)) × ℕ)) (coded× homes_code (coded× homes_code coded_ℕ)) (λ v. (v.shared, (v.own, v.accesses)))
+    (λ p. record { shared = p.0; own = p.1.0; accesses = p.1.1 }) (λ _. refl)
 
 -- whether slots and places share a table: the places' own then has no slots
 abbrev pub is_shared : IndexState → Bool
@@ -68,23 +76,35 @@ beside v = if is_shared v then total (places v) else 0
 
 -- a key with this hash becomes resident at a slot
 abbrev pub entered : (hash slot : ℕ) → IndexState → IndexState
-entered hash slot v = record v { shared = with_handle v.shared hash slot }
+entered hash slot v = record v { shared = with_handle v.shared hash slot; accesses = v.accesses + most_changed v.shared hash }
 
 -- the resident at a slot leaves
 abbrev pub left : (hash slot : ℕ) → IndexState → IndexState
-left hash slot v = record v { shared = removed nat_eq v.shared hash slot }
+left hash slot v = record v { shared = removed nat_eq v.shared hash slot; accesses = v.accesses + most_changed v.shared hash }
 
 -- the resident at a slot leaves, and is remembered at a place
 abbrev pub remembered_at : (hash slot place : ℕ) → IndexState → IndexState
 remembered_at hash slot place v =
-    if is_shared v then record v { shared = relabelled nat_eq v.shared hash slot (first_remembered + place) }
-    else index_state (removed nat_eq v.shared hash slot) (with_handle v.own hash place)
+    if is_shared v then record v { shared = relabelled nat_eq v.shared hash slot (first_remembered + place); accesses = v.accesses + most_changed v.shared hash }
+    else record {
+      shared = removed nat_eq v.shared hash slot;
+      own = with_handle v.own hash place;
+      accesses = v.accesses + most_changed v.shared hash + most_changed v.own hash;
+    }
 
 -- the key at a place is forgotten
 abbrev pub forgotten_at : (hash place : ℕ) → IndexState → IndexState
 forgotten_at hash place v =
-    if is_shared v then record v { shared = removed nat_eq v.shared hash (first_remembered + place) }
-    else record v { own = removed nat_eq v.own hash place }
+    if is_shared v then record v { shared = removed nat_eq v.shared hash (first_remembered + place); accesses = v.accesses + most_changed v.shared hash }
+    else record v { own = removed nat_eq v.own hash place; accesses = v.accesses + most_changed v.own hash }
+
+-- no key is known
+abbrev pub emptied : IndexState → IndexState
+emptied v = record {
+  shared = no_entries (length v.shared);
+  own = no_entries (length v.own);
+  accesses = v.accesses + length v.shared + length v.own;
+}
 
 -- the most entries for which a table gets three times the room
 abbrev pub small_table : ℕ

@@ -1,3 +1,4 @@
+pub mod Hashed
 pub mod Keys
 pub mod KeysLends
 pub mod Indexes
@@ -5,3 +6,4 @@ pub mod Index
 pub mod History
 pub mod Directory
 pub mod DirectoryLends
+pub mod Accesses

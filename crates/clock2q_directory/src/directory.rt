@@ -12,6 +12,7 @@ ghost use Rattle.clock2q_directory.specs.Directory.{nothing_known};
 ghost use Rattle.clock2q_directory.specs.DirectoryLends.{LendsValueOf};
 
 mod changes;
+mod hashed;
 
 use crate::history::{Found, History};
 use crate::keys::Keys;

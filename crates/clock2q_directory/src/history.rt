@@ -8,7 +8,7 @@ ghost use Rattle.clock2q_queues.specs.Order.{IsWholeOrder, used};
 ghost use Rattle.clock2q_directory.specs.Keys.{is_key_at};
 ghost use Rattle.clock2q_directory.specs.Indexes.{IsIndex, HasHash};
 ghost use Rattle.clock2q_directory.specs.Index as known;
-ghost use Rattle.clock2q_directory.specs.Index.{index_state, index_for, is_shared, entered, left, slots_among, places_among};
+ghost use Rattle.clock2q_directory.specs.Index.{emptied, index_for, is_shared, entered, left, slots_among, places_among};
 ghost use Rattle.clock2q_directory.specs.History.{IsWholeHistory, MakesPlace, HasRoom, places_with, pushed_places, freed_place, place_of, oldest_hash, remembered, is_remembered, forgotten, found_slot, found_place, first_known};
 
 use crate::index::{Index, REMEMBERED};
@@ -243,7 +243,7 @@ impl<K: Eq, A: Allocator> History<K, A> {
     pub fn clear(&mut self)
     where
         K: Drop,
-        ensures cleared { self.new ≡ record self.old { entries = []; places = places_with (index_state (no_entries (length self.old.places.index.shared)) (no_entries (length self.old.places.index.own))) [] [] } }
+        ensures cleared { self.new ≡ record self.old { entries = []; places = places_with (emptied self.old.places.index) [] [] } }
     {
         self.index.clear();
         self.order.clear();

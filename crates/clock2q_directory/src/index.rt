@@ -1,10 +1,13 @@
 //! The index of a cache: where each known key is, under the key's hash.
-ghost use Rattle.std.specs.Prelude.{◌≡◌, ◌+◌, ◌^◌, ◌<◌, true, length, IfOk};
-ghost use Rattle.clock2q_handles.specs.Homes.{candidates, no_entries};
+ghost use Rattle.std.specs.Prelude.{◌≡◌, ◌+◌, ◌^◌, ◌<◌, true, IfOk};
+ghost use Rattle.clock2q_handles.specs.Homes.{candidates};
 ghost use Rattle.clock2q_queues.specs.Rings.{has};
-ghost use Rattle.clock2q_directory.specs.Index.{index_state, index_for, index_room, is_shared, slots, places, entered, left, remembered_at, forgotten_at, HasSlotRoom, HasPlaceRoom};
+ghost use Rattle.clock2q_directory.specs.Index.{emptied, index_for, index_room, is_shared, slots, places, entered, left, remembered_at, forgotten_at, HasSlotRoom, HasPlaceRoom};
 
-use clock2q_handles::{Candidates, Table};
+mod counted_table;
+
+use crate::index::counted_table::CountedTable;
+use clock2q_handles::Candidates;
 use std::alloc::{AllocError, Allocator, Global};
 use std::marker::Model;
 
@@ -54,18 +57,18 @@ pub fn index_room(most: usize) -> usize
 /// ```
 #[derive(Drop)]
 pub struct Index<A: Allocator = Global> {
-    shared: Table<u32, A>,
-    own: Table<u32, A>,
+    shared: CountedTable<A>,
+    own: CountedTable<A>,
 }
 
 impl<A: Allocator> Model for Index<A> {
-    ghost use Rattle.clock2q_directory.specs.Index.{IndexState, IsSorted, index_code, index_state};
+    ghost use Rattle.clock2q_directory.specs.Index.{IndexState, IsSorted, index_code, index_of, index_state};
 
     ghost Value = { IndexState };
 
     ghost coded = { index_code };
 
-    ghost view = { λ i. index_state i.shared.homes i.own.homes };
+    ghost view = { λ i. index_of i.shared i.own };
 
     ghost invariant = { λ i. IsSorted (index_state i.shared.homes i.own.homes) };
 }
@@ -84,13 +87,9 @@ impl<A: Allocator + Copy> Index<A> {
     {
         let is_shared = slots + places <= MOST_ENTRIES;
         let most = if is_shared { slots + places } else { slots };
-        let Ok(shared) = Table::with_capacity(alloc, index_room(most)) else {
-            return Err(AllocError);
-        };
+        let shared = CountedTable::with_capacity(alloc, index_room(most))?;
         let beside = if is_shared { 0 } else { places };
-        let Ok(own) = Table::with_capacity(alloc, index_room(beside)) else {
-            return Err(AllocError);
-        };
+        let own = CountedTable::with_capacity(alloc, index_room(beside))?;
         Ok(Index { shared, own })
     }
 }
@@ -127,7 +126,7 @@ impl<A: Allocator> Index<A> {
         requires room { HasSlotRoom self.old }
         ensures entered { self.new ≡ entered hash slot self.old }
     {
-        self.shared.insert_among_few(hash, slot);
+        self.shared.insert(hash, slot);
     }
 
     /// Removes the slot of a resident that leaves.
@@ -153,7 +152,7 @@ impl<A: Allocator> Index<A> {
             self.shared.relabel(hash, slot, REMEMBERED + place);
         } else {
             self.shared.remove_held(hash, slot);
-            let _ = self.own.insert_within_capacity(hash, place);
+            self.own.insert(hash, place);
         }
     }
 
@@ -173,7 +172,7 @@ impl<A: Allocator> Index<A> {
 
     /// Removes every slot and place.
     pub fn clear(&mut self)
-        ensures cleared { self.new ≡ index_state (no_entries (length self.old.shared)) (no_entries (length self.old.own)) }
+        ensures cleared { self.new ≡ emptied self.old }
     {
         self.shared.clear();
         self.own.clear();

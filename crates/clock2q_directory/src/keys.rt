@@ -3,6 +3,7 @@ ghost use Rattle.std.specs.Prelude.{◌≡◌, ◌+◌, ◌^◌, ◌<◌, ◌≤
 ghost use Rattle.std.specs.List.{find, AllByRecursion};
 ghost use Rattle.clock2q_directory.specs.Index.{slots_among, places_among};
 
+mod hashed;
 mod store;
 
 use crate::index::REMEMBERED;

@@ -8,7 +8,7 @@ impl<K: Eq, V, A: Allocator> Directory<K, V, A> {
     ghost use Rattle.clock2q_queues.specs.Cells.{Rises};
     ghost use Rattle.clock2q_directory.specs.Keys.{entry};
     ghost use Rattle.clock2q_directory.specs.Indexes.{HasHash};
-    ghost use Rattle.clock2q_directory.specs.Index.{index_state};
+    ghost use Rattle.clock2q_directory.specs.Index.{emptied};
     ghost use Rattle.clock2q_directory.specs.History.{places_with, place_of, freed_place, is_remembered, forgotten};
     ghost use Rattle.clock2q_directory.specs.Directory.{IsResident, Leaves};
 
@@ -54,7 +54,7 @@ impl<K: Eq, V, A: Allocator> Directory<K, V, A> {
     where
         K: Drop,
         V: Drop,
-        ensures history { self.new.history ≡ record self.old.history { entries = []; places = places_with (index_state (no_entries (length self.old.history.places.index.shared)) (no_entries (length self.old.history.places.index.own))) [] [] } }
+        ensures history { self.new.history ≡ record self.old.history { entries = []; places = places_with (emptied self.old.history.places.index) [] [] } }
         ensures residents { self.new.residents ≡ record self.old.residents { entries = [] } }
     {
         self.residents.clear();

@@ -1,12 +1,13 @@
-use Rattle.std.proofs.Common.{ℕ, sym, ap, subst}
-use Rattle.clock2q_handles.specs.TableStep.{TableValue, made_for}
+use Rattle.std.proofs.Common.{sym, ap, subst}
+use Rattle.clock2q_handles.specs.TableStep.{made_for}
+use Rattle.clock2q_directory.specs.Accesses.{CountedTable}
 use Rattle.clock2q_directory.specs.Index.{index_state, IsSorted}
 use Rattle.clock2q_directory.proofs.Sorted.{sorted-made}
 use Rattle.clock2q_directory.proofs.index.Index.new.Goals as goal
 
 pub invariant_of-result : goal.invariant_of-result
 invariant_of-result g c =
-    let shared = ap (λ (z : TableValue ℕ). z.homes) c.in-Ok.ensures.made in
-    let own = ap (λ (z : TableValue ℕ). z.homes) c.in-Ok-with_capacity.ensures.made in
-    subst (λ z. IsSorted (index_state z c.in-Ok-with_capacity.own.homes)) (sym shared)
+    let shared = ap (λ (z : CountedTable). z.homes) c.in_ok-shared.ensures.made in
+    let own = ap (λ (z : CountedTable). z.homes) c.in_ok-own.ensures.made in
+    subst (λ z. IsSorted (index_state z c.in_ok-own.own.homes)) (sym shared)
     (subst (λ z. IsSorted (index_state (made_for c.index_room.result) z)) (sym own) (sorted-made c.index_room.result c.index_room-2.result))

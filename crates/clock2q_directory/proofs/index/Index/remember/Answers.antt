@@ -1,9 +1,13 @@
-use Rattle.std.proofs.Common.{◌≡◌, true, false, sym, ap, ◌∙◌, subst, rules}
-use Rattle.clock2q_handles.specs.Homes.{candidates}
+use Rattle.std.proofs.Common.{◌≡◌, true, false, refl, sym, ap, ◌∙◌, subst}
+use Rattle.std.specs.Prelude.{nat_eq, ◌+◌}
+use Rattle.clock2q_handles.specs.Homes.{candidates, removed, with_handle}
+use Rattle.clock2q_handles.specs.Positions.{relabelled}
 use Rattle.clock2q_queues.specs.Rings.{has}
-use Rattle.clock2q_directory.specs.Index.{index_state, is_shared, slots, HasPlaceRoom}
+use Rattle.clock2q_directory.specs.Accesses.{CountedTable, most_changed}
+use Rattle.clock2q_directory.specs.Index.{index_state, index_of, is_shared, slots, remembered_at, first_remembered, HasPlaceRoom}
+use Rattle.clock2q_directory.proofs.Charging.{cost_first, cost_both}
 use Rattle.clock2q_directory.proofs.Views.{held_entry}
-use Rattle.clock2q_directory.proofs.Sorted.{place_is_few, put_done, sorted-remembered}
+use Rattle.clock2q_directory.proofs.Sorted.{place_fits, place_is_few, sorted-remembered}
 use Rattle.clock2q_directory.proofs.index.Index.remember.Goals as goal
 
 pub relabel-requires : goal.relabel-requires
@@ -18,15 +22,53 @@ remove_held-requires g c =
     let held = subst (λ z. has c.args.slot (candidates (slots z) c.args.hash) ≡ true) (sym c.self.view_is) c.requires.held in
     record { held = held_entry (index_state i.shared.homes i.own.homes) c.args.hash c.args.slot held }
 
-pub invariant_of-self-else-is_shared : goal.invariant_of-self-else-is_shared
-invariant_of-self-else-is_shared g c =
+pub insert-requires-clause-few : goal.insert-requires-clause-few
+insert-requires-clause-few g c =
     let i = c.self.inside in
     let v = index_state i.shared.homes i.own.homes in
     let own : is_shared v ≡ false = ap is_shared c.self.view_is ∙ sym c.is_shared.ensures.shared ∙ c.if-is_shared.false in
-    let put =
-    put_done i.own.homes c.insert_within_capacity.new.self.homes c.args.hash c.args.place c.insert_within_capacity.result c.insert_within_capacity.ensures.put
-    c.insert_within_capacity.ensures.few (place_is_few v own (subst (λ z. HasPlaceRoom z) (sym c.self.view_is) c.requires.room)) in
-    sorted-remembered v c.remove_held.new.self.homes c.insert_within_capacity.new.self.homes c.args.hash c.args.slot c.args.place c.requires.below c.self.invariant c.remove_held.ensures.removed put
+    let room = subst (λ z. HasPlaceRoom z) (sym c.self.view_is) c.requires.room in
+    place_is_few v own (record { room = room.room; few = room.few })
+
+pub insert-requires-clause-room : goal.insert-requires-clause-room
+insert-requires-clause-room g c =
+    let i = c.self.inside in
+    let v = index_state i.shared.homes i.own.homes in
+    let own : is_shared v ≡ false = ap is_shared c.self.view_is ∙ sym c.is_shared.ensures.shared ∙ c.if-is_shared.false in
+    let room = subst (λ z. HasPlaceRoom z) (sym c.self.view_is) c.requires.room in
+    place_fits v own (record { room = room.room; few = room.few })
+
+pub invariant_of-self-else-is_shared : goal.invariant_of-self-else-is_shared
+invariant_of-self-else-is_shared g c =
+    let i = c.self.inside in
+    sorted-remembered (index_state i.shared.homes i.own.homes) c.remove_held.new.self.homes c.insert.new.self.homes c.args.hash c.args.slot c.args.place
+    c.requires.below c.self.invariant (ap (λ (t : CountedTable). t.homes) c.remove_held.ensures.removed) (ap (λ (t : CountedTable). t.homes) c.insert.ensures.put)
 
 pub returns-then-is_shared : goal.returns-then-is_shared
-returns-then-is_shared g c = search rules
+returns-then-is_shared g c =
+    let i = c.self.inside in
+    let shared : is_shared (index_of i.shared i.own) ≡ true = ap is_shared c.self.view_is ∙ sym c.is_shared.ensures.shared ∙ c.if-is_shared.true in
+    let is : remembered_at c.args.hash c.args.slot c.args.place (index_of i.shared i.own)
+    ≡ record (index_of i.shared i.own) { shared = relabelled nat_eq i.shared.homes c.args.hash c.args.slot (first_remembered + c.args.place); accesses = i.shared.accesses + i.own.accesses + most_changed i.shared.homes c.args.hash } = rw shared refl in
+    record {
+      remembered = ap (λ t. index_of t i.own) c.relabel.ensures.relabelled
+          ∙ ap (λ n. record { shared = relabelled nat_eq i.shared.homes c.args.hash c.args.slot (first_remembered + c.args.place); own = i.own.homes; accesses = n })
+          (cost_first i.shared.accesses (most_changed i.shared.homes c.args.hash) i.own.accesses)
+          ∙ sym is ∙ ap (λ z. remembered_at c.args.hash c.args.slot c.args.place z) c.self.view_is;
+    }
+
+pub returns-else-is_shared : goal.returns-else-is_shared
+returns-else-is_shared g c =
+    let i = c.self.inside in
+    let own : is_shared (index_of i.shared i.own) ≡ false = ap is_shared c.self.view_is ∙ sym c.is_shared.ensures.shared ∙ c.if-is_shared.false in
+    let m = most_changed i.shared.homes c.args.hash in
+    let n = most_changed i.own.homes c.args.hash in
+    let homes = removed nat_eq i.shared.homes c.args.hash c.args.slot in
+    let others = with_handle i.own.homes c.args.hash c.args.place in
+    let is : remembered_at c.args.hash c.args.slot c.args.place (index_of i.shared i.own) ≡ record { shared = homes; own = others; accesses = i.shared.accesses + i.own.accesses + m + n } = rw own refl in
+    record {
+      remembered = ap (λ t. index_of t c.insert.new.self) c.remove_held.ensures.removed
+          ∙ ap (λ t. record { shared = homes; own = t.homes; accesses = i.shared.accesses + m + t.accesses }) c.insert.ensures.put
+          ∙ ap (λ k. record { shared = homes; own = others; accesses = k }) (cost_both i.shared.accesses m i.own.accesses n)
+          ∙ sym is ∙ ap (λ z. remembered_at c.args.hash c.args.slot c.args.place z) c.self.view_is;
+    }

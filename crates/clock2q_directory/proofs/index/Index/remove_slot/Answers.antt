@@ -1,7 +1,10 @@
-use Rattle.std.proofs.Common.{◌≡◌, true, sym, subst}
-use Rattle.clock2q_handles.specs.Homes.{candidates}
+use Rattle.std.proofs.Common.{◌≡◌, true, sym, ap, ◌∙◌, subst}
+use Rattle.std.specs.Prelude.{nat_eq}
+use Rattle.clock2q_handles.specs.Homes.{candidates, removed}
 use Rattle.clock2q_queues.specs.Rings.{has}
-use Rattle.clock2q_directory.specs.Index.{index_state, slots}
+use Rattle.clock2q_directory.specs.Accesses.{CountedTable, most_changed}
+use Rattle.clock2q_directory.specs.Index.{index_state, index_of, slots, left}
+use Rattle.clock2q_directory.proofs.Charging.{cost_first}
 use Rattle.clock2q_directory.proofs.Views.{held_entry}
 use Rattle.clock2q_directory.proofs.Sorted.{sorted-left}
 use Rattle.clock2q_directory.proofs.index.Index.remove_slot.Goals as goal
@@ -15,4 +18,12 @@ remove_held-requires g c =
 pub invariant_of-self : goal.invariant_of-self
 invariant_of-self g c =
     let i = c.self.inside in
-    sorted-left (index_state i.shared.homes i.own.homes) c.remove_held.new.self.homes c.args.hash c.args.slot c.requires.below c.self.invariant c.remove_held.ensures.removed
+    sorted-left (index_state i.shared.homes i.own.homes) c.remove_held.new.self.homes c.args.hash c.args.slot c.requires.below c.self.invariant (ap (λ (t : CountedTable). t.homes) c.remove_held.ensures.removed)
+
+pub returns : goal.returns
+returns g c =
+    let i = c.self.inside in
+    record {
+      left = ap (λ t. index_of t i.own) c.remove_held.ensures.removed ∙ ap (λ n. record { shared = removed nat_eq i.shared.homes c.args.hash c.args.slot; own = i.own.homes; accesses = n })
+          (cost_first i.shared.accesses (most_changed i.shared.homes c.args.hash) i.own.accesses) ∙ ap (λ z. left c.args.hash c.args.slot z) c.self.view_is;
+    }

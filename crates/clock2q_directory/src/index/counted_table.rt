@@ -1,0 +1,133 @@
+//! A table of handles whose accesses to slots are stated exactly, as a bound that each call reaches.
+ghost use Rattle.std.specs.List.{list_any};
+ghost use Rattle.std.specs.Prelude.{◌≡◌, ℕ, ◌+◌, ◌^◌, ◌<◌, nat_eq, true, length, IfOk};
+ghost use Rattle.clock2q_handles.specs.Homes.{candidates, capacity, is_entry_of, listed, no_entries, removed, total, with_handle};
+ghost use Rattle.clock2q_handles.specs.Positions.{relabelled};
+ghost use Rattle.clock2q_handles.specs.TableStep.{IsBelowCapacity, made_for};
+ghost use Rattle.clock2q_directory.specs.Accesses.{CountedTable as Counted, counted, most_changed};
+
+use clock2q_count::{Count, Told};
+use clock2q_handles::{Candidates, Table};
+use std::alloc::{AllocError, Allocator, Global};
+use std::marker::Model;
+
+/// A [`Table`] of numbers, and the number of its slots that were read and written by changes.
+///
+/// Each change raises that number to its bound: the walk of the hash, and its run twice, each with
+/// the slot of one more entry. A change therefore seems to take what it takes at most.
+#[derive(Drop)]
+pub(super) struct CountedTable<A: Allocator = Global> {
+    table: Table<u32, A>,
+    charged: Count,
+}
+
+impl<A: Allocator> Model for CountedTable<A> {
+    ghost use Rattle.std.specs.Prelude.{◌≡◌, ◌+◌};
+    ghost use Rattle.clock2q_handles.specs.Layout.{layout};
+    ghost use Rattle.clock2q_directory.specs.Accesses.{CountedTable as Counted, counted, counted_code};
+
+    ghost Value = { Counted };
+
+    ghost coded = { counted_code };
+
+    ghost view = { λ t. counted t.table.homes (t.table.reads + t.table.writes + t.charged.total) };
+
+    ghost invariant = { λ t. t.table.slots ≡ layout t.table.homes };
+}
+
+impl<A: Allocator + Copy> CountedTable<A> {
+    /// Returns an empty table that holds `entries` entries, of whose slots none was accessed.
+    ///
+    /// # Errors
+    ///
+    /// `AllocError` if there is no memory for the slots, or if they are too many to count.
+    pub(super) fn with_capacity(alloc: A, entries: usize) -> Result<Self, AllocError>
+        ensures made { IfOk result (λ t. t ≡ counted (made_for entries) 0) }
+    {
+        let Ok(table) = Table::with_capacity(alloc, entries) else {
+            return Err(AllocError);
+        };
+        Ok(CountedTable {
+            table,
+            charged: Count::new(),
+        })
+    }
+}
+
+impl<A: Allocator> CountedTable<A> {
+    /// Returns the number of entries that the table may hold.
+    pub(super) fn capacity(&self) -> usize
+        ensures capacity { result ≡ capacity (length self.now.homes) }
+    {
+        self.table.capacity()
+    }
+
+    /// Returns the handles under a hash.
+    #[inline(always)]
+    pub(super) fn get(&self, hash: u64) -> Candidates<'_, u32>
+        ensures handles { result.left ≡ candidates self.now.homes hash }
+    {
+        self.table.get(hash)
+    }
+
+    /// Inserts a handle under a hash.
+    #[inline(always)]
+    pub(super) fn insert(&mut self, hash: u64, handle: u32)
+        requires room { IsBelowCapacity self.old.homes }
+        requires few { total self.old.homes + 1 < 2 ^ 24 }
+        ensures put { self.new ≡ counted (with_handle self.old.homes hash handle) (self.old.accesses + most_changed self.old.homes hash) }
+    {
+        let most = self.most(hash);
+        self.table.insert_among_few(hash, handle);
+        self.charge(&most);
+    }
+
+    /// Removes a handle that is there under a hash.
+    #[inline(always)]
+    pub(super) fn remove_held(&mut self, hash: u64, handle: u32)
+        requires held { list_any (is_entry_of nat_eq hash handle) (listed self.old.homes hash) ≡ true }
+        ensures removed { self.new ≡ counted (removed nat_eq self.old.homes hash handle) (self.old.accesses + most_changed self.old.homes hash) }
+    {
+        let most = self.most(hash);
+        self.table.remove_held(hash, handle);
+        self.charge(&most);
+    }
+
+    /// Replaces a handle that is there under a hash.
+    #[inline(always)]
+    pub(super) fn relabel(&mut self, hash: u64, handle: u32, new: u32)
+        requires held { list_any (is_entry_of nat_eq hash handle) (listed self.old.homes hash) ≡ true }
+        ensures relabelled { self.new ≡ counted (relabelled nat_eq self.old.homes hash handle new) (self.old.accesses + most_changed self.old.homes hash) }
+    {
+        let most = self.most(hash);
+        self.table.relabel(hash, handle, new);
+        self.charge(&most);
+    }
+
+    /// Removes every entry: one access to each slot.
+    pub(super) fn clear(&mut self)
+        ensures cleared { self.new ≡ counted (no_entries (length self.old.homes)) (self.old.accesses + length self.old.homes) }
+    {
+        self.table.clear();
+    }
+
+    /// Returns a number only for contracts. The proof of the call picks it, and it may depend on
+    /// the table and the hash.
+    fn most(&self, hash: u64) -> Told<usize>
+        ghost picked: { ℕ }
+        ensures picked { result.value ≡ picked }
+    {
+        let _ = hash;
+        Told::new(&())
+    }
+
+    /// Raises the number of accesses by an amount that the proof of the call picks, which may
+    /// depend on `most`.
+    fn charge(&mut self, most: &Told<usize>)
+        ghost more: { ℕ }
+        ensures charged { self.new ≡ counted self.old.homes (self.old.accesses + more) }
+    {
+        let _ = most;
+        self.charged.raise(&());
+    }
+}
