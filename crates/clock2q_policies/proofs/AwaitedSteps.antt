@@ -1,10 +1,10 @@
 -- The steps of the code of the optimum.
-use Rattle.std.proofs.Common.{◌≡◌, ◌≢◌, inl, inr, ℕ, zero, suc, ◌+◌, ◌<◌, ◌≤◌, Bool, true, false, List, [], ◌∷◌, length, get_or, set, get_or-set_same, get_or-set_other, drop, drop-cons, refl, sym, ap, ◌∙◌, subst, arith}
+use Rattle.std.proofs.Common.{◌≡◌, ◌≢◌, inl, inr, ℕ, zero, suc, ◌+◌, ◌<◌, ◌≤◌, Bool, true, false, List, [], ◌∷◌, ◌++◌, length, get_or, set, get_or-set_same, get_or-set_other, drop, drop-cons, refl, sym, ap, ◌∙◌, subst, arith}
 use Rattle.std.specs.Prelude.{nat_lt, if◌then◌else◌}
 use Rattle.std.proofs.lemmas.Bool.{cases_Bool, cases_eq, eq-eqb, ne_eqb, ltb-false, le-ltb, true≢false}
-use Rattle.std.proofs.lemmas.List.{get_or_default}
+use Rattle.std.proofs.lemmas.List.{append_assoc, get_or_default}
 use Rattle.clock2q_policies.specs.Policies.{is_in, without}
-use Rattle.clock2q_policies.specs.Optimum.{farthest, without_farthest, optimal_after, optimal_hits_from}
+use Rattle.clock2q_policies.specs.Optimum.{farthest, without_farthest, optimal_after, optimal_hits_from, optimal_outcomes_from}
 use Rattle.clock2q_policies.specs.Awaited.{optimal_at, use_from, IsWaiting}
 use Rattle.clock2q_policies.proofs.Stamping.{without-absent}
 use Rattle.clock2q_policies.proofs.Sharing.{AreDifferent, absent_without, left_without}
@@ -157,3 +157,12 @@ hits_on capacity trace at before now total within told more =
     let rest : optimal_hits_from capacity (drop at trace) (optimal_at capacity trace at) ≡ (if is_in (get_or trace at 0) (optimal_at capacity trace at) then 1 else 0) + optimal_hits_from capacity (drop (suc at) trace) (optimal_at capacity trace (suc at)) =
     ap (λ keys. optimal_hits_from capacity keys (optimal_at capacity trace at)) (drop-cons trace at 0 within) in
     omega (arith, rest, told, more)
+
+pub outcomes_on : (capacity : ℕ) (trace : List ℕ) (at : ℕ) (before now total : List Bool) → at < length trace → before ++ optimal_outcomes_from capacity (drop at trace) (optimal_at capacity trace at) ≡ total
+    → now ≡ before ++ is_in (get_or trace at 0) (optimal_at capacity trace at) ∷ [] → now ++ optimal_outcomes_from capacity (drop (suc at) trace) (optimal_at capacity trace (suc at)) ≡ total
+outcomes_on capacity trace at before now total within told more =
+    let key : ℕ = get_or trace at 0 in
+    let ahead : List Bool = optimal_outcomes_from capacity (drop (suc at) trace) (optimal_at capacity trace (suc at)) in
+    let rest : optimal_outcomes_from capacity (drop at trace) (optimal_at capacity trace at) ≡ is_in key (optimal_at capacity trace at) ∷ ahead =
+    ap (λ keys. optimal_outcomes_from capacity keys (optimal_at capacity trace at)) (drop-cons trace at 0 within) in
+    ap (λ seen. seen ++ ahead) more ∙ append_assoc before (is_in key (optimal_at capacity trace at) ∷ []) ahead ∙ sym (ap (λ coming. before ++ coming) rest) ∙ told

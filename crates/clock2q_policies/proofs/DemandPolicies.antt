@@ -6,12 +6,12 @@ use Rattle.std.proofs.lemmas.Bool.{cases_Bool, eqb-true, eq-eqb, ltb-true, ltb-f
 use Rattle.std.proofs.lemmas.List.{length-map}
 use Rattle.clock2q_policies.specs.declared.plain.PlainPolicy.{PlainPolicy}
 use Rattle.clock2q_policies.specs.declared.plain.PlainPolicy.TheVariants.{LeastRecentlyUsed, FirstInFirstOut}
-use Rattle.clock2q_policies.specs.Policies.{hits, is_in, without, after_hit, plain_after, plain_hits}
+use Rattle.clock2q_policies.specs.Policies.{hits, hit_count, is_in, without, after_hit, plain_after, plain_hits}
 use Rattle.clock2q_policies.specs.SecondChance.{Ring, is_on, marked, moved_on, joined, clock_after, clock_hits}
-use Rattle.clock2q_policies.specs.Optimum.{next_use, later, farthest, without_farthest, optimal_after, optimal_hits_from, optimal_hits, IsDemandPolicy}
+use Rattle.clock2q_policies.specs.Optimum.{next_use, later, farthest, without_farthest, optimal_after, optimal_hits_from, optimal_hits, optimal_outcomes_from, optimal_outcomes, IsDemandPolicy}
 use Rattle.clock2q_policies.proofs.Flushing.{turned}
 use Rattle.clock2q_policies.proofs.Sharing.{left_without}
-use Rattle.clock2q_policies.proofs.Optimum.{optimum, optimal_comes}
+use Rattle.clock2q_policies.proofs.Optimum.{optimum, optimum_first, optimal_comes}
 
 -- removing a key makes a list no longer, and shorter if the key was in it
 without_no_longer : (key : ℕ) (held : List ℕ) → length (without key held) ≤ length held
@@ -108,6 +108,18 @@ module _ (capacity : ℕ) (some : 0 < capacity) where
   pub attained : (trace held : List ℕ) → hits has foreseeing trace (trace, held) ≡ optimal_hits_from capacity trace held
   attained [] held = refl
   attained (key ∷ rest) held = ap (λ n. (if is_in key held then 1 else 0) + n) (attained rest (optimal_after capacity key rest held))
+
+  seen : (m : ℕ) (trace held : List ℕ) → hits has foreseeing (take m trace) (trace, held) ≡ hit_count (take m (optimal_outcomes_from capacity trace held))
+  seen zero trace held = refl
+  seen (suc m) [] held = refl
+  seen (suc m) (key ∷ rest) held = ap (λ n. (if is_in key held then 1 else 0) + n) (seen m rest (optimal_after capacity key rest held))
+
+  -- and of the first keys of a trace it hits as many as if the trace ended after them
+  pub first_optimal_hits : (m : ℕ) (trace : List ℕ) → hit_count (take m (optimal_outcomes capacity trace)) ≡ optimal_hits capacity (take m trace)
+  first_optimal_hits m trace =
+      let most = optimum (fits capacity) has foreseeing capacity optimum_is_demand (take m trace) (trace, []) (omega arith) (λ key. refl) in
+      let least = optimum_first (fits capacity) has foreseeing capacity optimum_is_demand m trace (take m trace, []) (omega arith) (λ key. refl) in
+      omega (arith, seen m trace [], attained (take m trace) [], most, least)
 
 -- a demand policy of a capacity is also one of every larger capacity
 pub with_more_room : {Cache : Type 0} (IsCache : Cache → Type 0) (holds : ℕ → Cache → Bool) (after : ℕ → Cache → Cache) (less more : ℕ) → less ≤ more

@@ -1,6 +1,7 @@
 pub mod Stamping
 pub mod Holding
 pub mod Counting
+pub mod Outcomes
 pub mod Flushing
 pub mod WithoutSmall
 pub mod Sharing

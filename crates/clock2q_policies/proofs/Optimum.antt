@@ -2,8 +2,8 @@
 use Rattle.std.proofs.Common.{◌≡◌, ◌⊎◌, inl, inr, ℕ, zero, suc, ◌+◌, ◌-◌, ◌≤◌, ◌==◌, Bool, true, false, List, [], ◌∷◌, length, take, refl, sym, ap, ◌∙◌, arith}
 use Rattle.std.specs.Prelude.{nat_lt, if◌then◌else◌}
 use Rattle.std.proofs.lemmas.Bool.{cases_Bool, eqb-true, eq-eqb, ltb-true, ltb-false, or_cases, or_left, or_right, true≢false}
-use Rattle.clock2q_policies.specs.Policies.{hits, is_in, without}
-use Rattle.clock2q_policies.specs.Optimum.{next_use, later, farthest, without_farthest, optimal_after, optimal_hits_from, optimal_hits, IsDemandPolicy}
+use Rattle.clock2q_policies.specs.Policies.{hits, hit_count, is_in, without}
+use Rattle.clock2q_policies.specs.Optimum.{next_use, later, farthest, without_farthest, optimal_after, optimal_hits_from, optimal_hits, optimal_outcomes_from, optimal_outcomes, IsDemandPolicy}
 use Rattle.clock2q_policies.proofs.Sharing.{AreDifferent, different, shared, absent_without, left_without, others_without, different_without, length_without, different_are, in_different, shared_more, shared_all, shared_within, shared_without, shared_turned}
 
 -- The farthest next use.
@@ -220,9 +220,33 @@ module _ {Cache : Type 0} (IsCache : Cache → Type 0) (holds : ℕ → Cache �
         (λ n. still_ahead key rest cache is_cache n best lead differ ahead),
   )
 
+  -- and so are those among the first keys, of the optimum that knows the whole trace
+  hits_behind_first : (m : ℕ) (trace : List ℕ) (cache : Cache) (best : List ℕ) (lead : ℕ) → IsCache cache → AreDifferent best → IsAhead lead trace best (held cache)
+      → hits holds after (take m trace) cache ≤ hit_count (take m (optimal_outcomes_from capacity trace best)) + lead
+  hits_behind_first zero trace cache best lead is_cache differ ahead = omega arith
+  hits_behind_first (suc m) [] cache best lead is_cache differ ahead = omega arith
+  hits_behind_first (suc m) (key ∷ rest) cache best lead is_cache differ ahead = omega (
+    arith,
+    ahead 1,
+    ap {B = ℕ} (λ b. if b then 1 else 0) (demand.listed key cache is_cache),
+    hits_behind_first m rest (after key cache) (optimal_after capacity key rest best) (lead_after lead (is_in key best) (is_in key (held cache)))
+        (demand.goes_on key cache is_cache)
+        (optimal_differ capacity key rest best differ)
+        (λ n. still_ahead key rest cache is_cache n best lead differ ahead),
+  )
+
+  -- an empty cache shares no more than the optimum's, which is empty too
+  level : (trace : List ℕ) (cache : Cache) → IsCache cache → ((key : ℕ) → holds key cache ≡ false) → IsAhead 0 trace [] (held cache)
+  level trace cache is_cache empty =
+      let none : (key : ℕ) → is_in key (held cache) ≡ false = λ key. sym (demand.listed key cache is_cache) ∙ empty key in
+      λ n. omega (arith, shared_more (coming n trace) (held cache) [] (λ key there is. sym (none key) ∙ is))
+
   -- from an empty cache, no demand policy hits more keys of a trace than the optimum
   pub optimum : (trace : List ℕ) (cache : Cache) → IsCache cache → ((key : ℕ) → holds key cache ≡ false) → hits holds after trace cache ≤ optimal_hits capacity trace
   optimum trace cache is_cache empty =
-      let none : (key : ℕ) → is_in key (held cache) ≡ false = λ key. sym (demand.listed key cache is_cache) ∙ empty key in
-      let nothing : IsAhead 0 trace [] (held cache) = λ n. omega (arith, shared_more (coming n trace) (held cache) [] (λ key there is. sym (none key) ∙ is)) in
-      omega (arith, hits_behind trace cache [] 0 is_cache tt nothing)
+      omega (arith, hits_behind trace cache [] 0 is_cache tt (level trace cache is_cache empty))
+
+  -- nor more of the first keys than the optimum that knows the whole trace
+  pub optimum_first : (m : ℕ) (trace : List ℕ) (cache : Cache) → IsCache cache → ((key : ℕ) → holds key cache ≡ false) → hits holds after (take m trace) cache ≤ hit_count (take m (optimal_outcomes capacity trace))
+  optimum_first m trace cache is_cache empty =
+      omega (arith, hits_behind_first m trace cache [] 0 is_cache tt (level trace cache is_cache empty))

@@ -17,8 +17,8 @@ use Rattle.clock2q_machine.proofs.Weights.{length-from_victim}
 use Rattle.clock2q_machine.proofs.Residents.{slot_in_main, slot_among}
 use Rattle.clock2q_machine.proofs.MachineInvariant.{lasting-after, lasting-empty, resident_made}
 use Rattle.clock2q_machine.proofs.Standing.{get-within}
-use Rattle.clock2q_policies.specs.Policies.{hits}
-use Rattle.clock2q_policies.specs.SecondChance.{Ring, is_on, marked, moved_on, joined, clock_after, clock_hits}
+use Rattle.clock2q_policies.specs.Policies.{hits, outcomes}
+use Rattle.clock2q_policies.specs.SecondChance.{Ring, is_on, marked, moved_on, joined, clock_after, clock_hits, clock_outcomes}
 
 -- Main as a ring.
 
@@ -206,3 +206,19 @@ module _ (capacity : ℕ) where
 
   pub clock_without_small : 0 < capacity → (trace : List ℕ) → hits machine_holds machine_after trace (empty without_small) ≡ clock_hits capacity trace
   clock_without_small some trace = hits_alike trace [] [] (lasting-empty eqb nat_eq_equiv without_small some)
+
+  -- one after another
+  outcomes_alike : (trace : List ℕ) (main : List (MainEntry ℕ)) (values : List (Unit {0})) → IsWhole eqb (cache_of main values)
+      → outcomes machine_holds machine_after trace (cache_of main values) ≡ outcomes is_on (clock_after capacity) trace (ring_of main)
+  outcomes_alike [] main values h = refl
+  outcomes_alike (key ∷ trace) main values h =
+      let m = cache_of main values in
+      let step = goes_on key main values h (slot_of (λ held. key == held) m) refl in
+      let whole : IsWhole eqb (cache_of step.now step.stored_values) = subst (IsWhole eqb) step.is_cache (lasting-after eqb nat_eq_equiv (Put key tt) m h) in
+      ap (λ b. b ∷ outcomes machine_holds machine_after trace (machine_after key m)) (holds_alike key main values h)
+      ∙ ap (λ n. is_on key (ring_of main) ∷ outcomes machine_holds machine_after trace n) step.is_cache
+      ∙ ap (λ more. is_on key (ring_of main) ∷ more) (outcomes_alike trace step.now step.stored_values whole)
+      ∙ ap (λ ring. is_on key (ring_of main) ∷ outcomes is_on (clock_after capacity) trace ring) step.is_ring
+
+  pub clock_outcomes_without_small : 0 < capacity → (trace : List ℕ) → outcomes machine_holds machine_after trace (empty without_small) ≡ clock_outcomes capacity trace
+  clock_outcomes_without_small some trace = outcomes_alike trace [] [] (lasting-empty eqb nat_eq_equiv without_small some)

@@ -35,6 +35,14 @@ optimal_hits_from capacity (key ∷ rest) held = (if is_in key held then 1 else 
 abbrev pub optimal_hits : ℕ → List ℕ → ℕ
 optimal_hits capacity trace = optimal_hits_from capacity trace []
 
+-- whether each access hits
+abbrev pub optimal_outcomes_from : ℕ → List ℕ → List ℕ → List Bool
+optimal_outcomes_from capacity [] held = []
+optimal_outcomes_from capacity (key ∷ rest) held = is_in key held ∷ optimal_outcomes_from capacity rest (optimal_after capacity key rest held)
+
+abbrev pub optimal_outcomes : ℕ → List ℕ → List Bool
+optimal_outcomes capacity trace = optimal_outcomes_from capacity trace []
+
 -- a demand policy: after an access a cache holds the key, otherwise only keys it held before, and never more than its
 -- capacity. `IsCache` is an invariant of the caches of the policy, and `held` lists the keys of one
 pub record IsDemandPolicy {Cache : Type 0} (IsCache : Cache → Type 0) (holds : ℕ → Cache → Bool) (after : ℕ → Cache → Cache) (capacity : ℕ) : Type 0 where

@@ -9,6 +9,16 @@ module _ {Cache : Type 0} (holds : ℕ → Cache → Bool) (after : ℕ → Cach
   hits [] cache = 0
   hits (key ∷ trace) cache = (if holds key cache then 1 else 0) + hits trace (after key cache)
 
+  -- and for each access whether it hits
+  abbrev pub outcomes : List ℕ → Cache → List Bool
+  outcomes [] cache = []
+  outcomes (key ∷ trace) cache = holds key cache ∷ outcomes trace (after key cache)
+
+-- the number of outcomes that are hits
+abbrev pub hit_count : List Bool → ℕ
+hit_count [] = 0
+hit_count (hit ∷ outcomes) = (if hit then 1 else 0) + hit_count outcomes
+
 -- the plain policies are lists of keys, of which the last is evicted
 abbrev pub is_in : ℕ → List ℕ → Bool
 is_in key [] = false
@@ -37,6 +47,10 @@ AreBelow keys trace = (index : ℕ) → index < length trace → get_or trace in
 -- how many keys hit in a new cache
 abbrev pub plain_hits : PlainPolicy → ℕ → List ℕ → ℕ
 plain_hits policy capacity trace = hits is_in (plain_after policy capacity) trace []
+
+-- and which ones
+abbrev pub plain_outcomes : PlainPolicy → ℕ → List ℕ → List Bool
+plain_outcomes policy capacity trace = outcomes is_in (plain_after policy capacity) trace []
 
 -- what a cache of a plain policy holds after a trace
 abbrev pub plain_after_all : PlainPolicy → ℕ → List ℕ → List ℕ → List ℕ

@@ -2,7 +2,7 @@
 -- mark; the first one without a mark is evicted.
 use Rattle.std.specs.Prelude.{ℕ, zero, suc, Bool, true, false, ◌==◌, nat_lt, if◌then◌else◌, List, [], ◌∷◌, ◌++◌, map, length, drop}
 use Rattle.std.specs.List.{list_any}
-use Rattle.clock2q_policies.specs.Policies.{hits}
+use Rattle.clock2q_policies.specs.Policies.{hits, outcomes}
 
 -- the keys from the hand on, each with its mark
 abbrev pub Ring : Type 0
@@ -32,3 +32,7 @@ clock_after capacity key ring = if is_on key ring then marked key ring else join
 -- the number of accesses of a trace that hit in a new cache
 abbrev pub clock_hits : ℕ → List ℕ → ℕ
 clock_hits capacity trace = hits is_on (clock_after capacity) trace []
+
+-- and which ones
+abbrev pub clock_outcomes : ℕ → List ℕ → List Bool
+clock_outcomes capacity trace = outcomes is_on (clock_after capacity) trace []

@@ -1,5 +1,5 @@
-//! Policies of caches, replayed over keys that are numbers: the number of accesses of a trace that
-//! hit. The hits of LRU and FIFO are proved to be those of a list, for LRU also at many capacities
+//! Policies of caches, replayed over keys that are numbers: which accesses of a trace hit, and how
+//! many. The hits of LRU and FIFO are proved to be those of a list, for LRU also at many capacities
 //! at once, and those of Belady's optimum are proved too; those of the policies in [`tested`] are
 //! tested.
 #![tactic(auto)]
@@ -13,5 +13,5 @@ mod plain;
 pub mod tested;
 
 pub use lru_curve::lru_hits_at;
-pub use optimal::optimal_hits;
-pub use plain::{PlainPolicy, plain_hits};
+pub use optimal::{optimal_hits, optimal_outcomes};
+pub use plain::{PlainPolicy, plain_hits, plain_outcomes};

@@ -2,7 +2,7 @@
 ghost use Rattle.std.specs.Prelude.{◌≡◌, ◌+◌, ◌<◌, IfOk, length, slice_index};
 ghost use Rattle.std.specs.NonZero.{non_zero_usize_get};
 ghost use Rattle.clock2q_policies.specs.Policies.{is_in, without, AreBelow};
-ghost use Rattle.clock2q_policies.specs.Optimum.{optimal_hits};
+ghost use Rattle.clock2q_policies.specs.Optimum.{optimal_hits, optimal_outcomes};
 ghost use Rattle.clock2q_policies.specs.Awaited.{optimal_at, AreNextUses, IsAwaiting};
 
 use crate::index_tree::IndexTree;
@@ -125,4 +125,44 @@ pub fn optimal_hits<A: Allocator + Copy>(
         }
     }
     Ok(hits)
+}
+
+/// Returns whether each access of a trace hits in a new cache with Belady's optimum, in order, as
+/// [`optimal_hits`] counts them. Of the first accesses as many hit as if the trace ended after
+/// them. The keys are numbers below `keys`.
+///
+/// # Errors
+///
+/// `AllocError` if a request for memory is refused.
+///
+/// # Cost
+///
+/// That of [`optimal_hits`], and a byte an access.
+///
+/// # Example
+///
+/// ```
+/// let trace = [0, 1, 0]; // two different keys, in a cache for two
+/// let outcomes = optimal_outcomes(rt.alloc(), two, &trace, 2)?;
+/// assert_eq!(rt; outcomes.as_slice(), [false, false, true].as_slice());
+/// ```
+pub fn optimal_outcomes<A: Allocator + Copy>(
+    alloc: A,
+    capacity: NonZeroUsize,
+    trace: &[u32],
+    keys: u32,
+) -> Result<Vec<bool, A>, AllocError>
+    requires below { AreBelow keys trace.now }
+    ensures outcomes { IfOk result (λ outcomes. outcomes.items ≡ optimal_outcomes (non_zero_usize_get capacity) trace.now) }
+{
+    let mut awaited = Awaited {
+        next: next_uses(alloc, trace, keys)?,
+        waiting: IndexTree::new(alloc, trace.len())?,
+        count: 0,
+    };
+    let mut outcomes = Vec::with_capacity(alloc, trace.len())?;
+    for at in 0..trace.len() {
+        outcomes.push_reserved(awaited.access(capacity, trace, at));
+    }
+    Ok(outcomes)
 }

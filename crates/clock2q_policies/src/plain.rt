@@ -1,7 +1,7 @@
 //! The plain policies that Clock2Q+ is compared with.
 ghost use Rattle.std.specs.Prelude.{◌≡◌, ◌+◌, ◌-◌, ◌<◌, ◌≤◌, IfOk, false, true, length, take, slice_index};
 ghost use Rattle.std.specs.NonZero.{non_zero_usize_get};
-ghost use Rattle.clock2q_policies.specs.Policies.{is_in, after_hit, brought, plain_after, plain_hits, AreBelow};
+ghost use Rattle.clock2q_policies.specs.Policies.{is_in, after_hit, brought, plain_after, plain_hits, plain_outcomes, AreBelow};
 ghost use Rattle.clock2q_policies.specs.Stamps.{held_at, AreKnown};
 ghost use Rattle.clock2q_policies.specs.Residents.{held_by, IsHolding};
 
@@ -147,4 +147,45 @@ pub fn plain_hits<A: Allocator>(
         }
     }
     Ok(hits)
+}
+
+/// Returns whether each access of a trace hits in a new cache with a plain policy, in order. The
+/// keys are numbers below `keys`.
+///
+/// # Errors
+///
+/// `AllocError` if a request for memory is refused.
+///
+/// # Cost
+///
+/// That of [`plain_hits`], and a byte an access.
+///
+/// # Example
+///
+/// ```
+/// let trace = [0, 1, 0]; // two different keys, in a cache for two
+/// let policy = PlainPolicy::FirstInFirstOut;
+/// let outcomes = plain_outcomes(rt.alloc(), policy, two, &trace, 2)?;
+/// assert_eq!(rt; outcomes.as_slice(), [false, false, true].as_slice());
+/// ```
+pub fn plain_outcomes<A: Allocator + Copy>(
+    alloc: A,
+    policy: PlainPolicy,
+    capacity: NonZeroUsize,
+    trace: &[u32],
+    keys: u32,
+) -> Result<Vec<bool, A>, AllocError>
+    requires below { AreBelow keys trace.now }
+    ensures outcomes { IfOk result (λ outcomes. outcomes.items ≡ plain_outcomes policy (non_zero_usize_get capacity) trace.now) }
+{
+    let mut residents = Residents {
+        stamps: vec![in alloc; 0; keys as usize]?,
+        left: 0,
+        count: 0,
+    };
+    let mut outcomes = Vec::with_capacity(alloc, trace.len())?;
+    for at in 0..trace.len() {
+        outcomes.push_reserved(residents.access(policy, capacity, trace, at));
+    }
+    Ok(outcomes)
 }

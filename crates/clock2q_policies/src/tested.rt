@@ -1,5 +1,5 @@
-//! Policies whose hits are tested, against lists, and not proved. Each call is proved to be safe and
-//! to return.
+//! Policies whose hits are tested, against lists, and not proved. Each call is proved to be safe, to
+//! return, and to have an outcome for each access.
 
 mod arc;
 mod index_set;
@@ -14,5 +14,8 @@ mod sketch;
 mod two_q;
 mod w_tiny_lfu;
 
-pub use lru_2::lru_2_hits;
-pub use replayed::{arc_hits, lirs_hits, s3_fifo_hits, sieve_hits, two_q_hits, w_tiny_lfu_hits};
+pub use lru_2::lru_2_outcomes;
+pub use replayed::{
+    arc_outcomes, lirs_outcomes, s3_fifo_outcomes, sieve_outcomes, two_q_outcomes,
+    w_tiny_lfu_outcomes,
+};

@@ -4,7 +4,7 @@ mod KeyBytes
 mod KnownKeys
 mod Numbering
 mod RecordByRecord
-mod Skipping
+mod Replaying
 mod WindowByWindow
 mod WorkedAmounts
 mod WorkedFormats

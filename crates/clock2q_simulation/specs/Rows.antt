@@ -1,11 +1,11 @@
 -- The result of a trace in a new cache of each policy.
-use Rattle.std.specs.Prelude.{◌≡◌, ℕ, ◌-◌, List, Option, length, map, take}
+use Rattle.std.specs.Prelude.{◌≡◌, ℕ, ◌-◌, Bool, List, Option, length, map, take}
 use Rattle.std.specs.List.{All}
 use Rattle.std.specs.NonZero.{non_zero_usize_get}
 use Rattle.clock2q_policies.specs.declared.plain.PlainPolicy.TheVariants as plain
-use Rattle.clock2q_policies.specs.Policies.{plain_hits}
-use Rattle.clock2q_policies.specs.SecondChance.{clock_hits}
-use Rattle.clock2q_policies.specs.Optimum.{optimal_hits}
+use Rattle.clock2q_policies.specs.Policies.{plain_hits, plain_outcomes}
+use Rattle.clock2q_policies.specs.SecondChance.{clock_hits, clock_outcomes}
+use Rattle.clock2q_policies.specs.Optimum.{optimal_hits, optimal_outcomes}
 use Rattle.clock2q_simulation.specs.declared.policy.Policy.{Policy}
 use Rattle.clock2q_simulation.specs.declared.policy.Policy.TheVariants.{Clock2Q, Sieve, S3Fifo, LeastRecentlyUsed, Optimal, FirstInFirstOut, Clock, Arc, TwoQ, Lirs, Lru2, WTinyLfu}
 use Rattle.clock2q_simulation.specs.declared.row.Row.{Row}
@@ -14,7 +14,7 @@ use Rattle.clock2q_simulation.specs.declared.amount.Amount.{Amount}
 use Rattle.clock2q_simulation.specs.Amounts.{keys_of}
 use Rattle.clock2q_simulation.specs.ChosenShares.{shares_for}
 use Rattle.clock2q_simulation.specs.Trace.{Numbered}
-use Rattle.clock2q_simulation.specs.MachineHits.{machine_hits}
+use Rattle.clock2q_simulation.specs.MachineHits.{machine_hits, machine_outcomes}
 
 module _ (shares : Option ChosenShares) (numbers : List ℕ) (room : ℕ) where
   -- hits are those of the policy's definition; a policy that has none is only tested
@@ -31,6 +31,26 @@ module _ (shares : Option ChosenShares) (numbers : List ℕ) (room : ℕ) where
   AreHits Lirs hits = Unit {0}
   AreHits Lru2 hits = Unit {0}
   AreHits WTinyLfu hits = Unit {0}
+
+  -- and so are outcomes: for each access whether it hits
+  abbrev pub AreOutcomes : Policy → List Bool → Type 0
+  AreOutcomes Clock2Q outcomes = outcomes ≡ machine_outcomes (shares_for shares room) numbers
+  AreOutcomes LeastRecentlyUsed outcomes = outcomes ≡ plain_outcomes plain.LeastRecentlyUsed room numbers
+  AreOutcomes FirstInFirstOut outcomes = outcomes ≡ plain_outcomes plain.FirstInFirstOut room numbers
+  AreOutcomes Sieve outcomes = Unit {0}
+  AreOutcomes S3Fifo outcomes = Unit {0}
+  AreOutcomes Optimal outcomes = outcomes ≡ optimal_outcomes room numbers
+  AreOutcomes Clock outcomes = outcomes ≡ clock_outcomes room numbers
+  AreOutcomes Arc outcomes = Unit {0}
+  AreOutcomes TwoQ outcomes = Unit {0}
+  AreOutcomes Lirs outcomes = Unit {0}
+  AreOutcomes Lru2 outcomes = Unit {0}
+  AreOutcomes WTinyLfu outcomes = Unit {0}
+
+  -- there is an outcome for each access
+  pub record IsReplay (policy : Policy) (outcomes : List Bool) : Type 0 where
+    pub long : length outcomes ≡ length numbers
+    pub are : AreOutcomes policy outcomes
 
 -- hits are those after the first accesses: all hits minus those of a cache that sees only the first accesses
 pub record AreHitsAfter (skipped : ℕ) (shares : Option ChosenShares) (numbers : List ℕ) (room : ℕ) (policy : Policy) (hits : ℕ) : Type 0 where

@@ -1,21 +1,33 @@
 -- The hits of a trace in windows: consecutive accesses, as many as asked for, but fewer in the last one.
-use Rattle.std.specs.Prelude.{◌≡◌, ℕ, ◌+◌, ◌<◌, min, List, [], ◌∷◌, Option, None, Some, length, map, take}
+use Rattle.std.specs.Prelude.{◌≡◌, ℕ, ◌+◌, ◌-◌, ◌<◌, min, List, [], ◌∷◌, Option, None, Some, length, map, take}
 use Rattle.std.specs.List.{All}
 use Rattle.std.specs.NonZero.{non_zero_usize_get}
 use Rattle.std.specs.declared.num.NonZeroUsize.{NonZeroUsize}
 use Rattle.clock2q_simulation.specs.declared.policy.Policy.{Policy}
+use Rattle.clock2q_policies.specs.Policies.{hit_count}
+use Rattle.clock2q_simulation.specs.declared.row.Hits.{Hits}
 use Rattle.clock2q_simulation.specs.declared.row.Row.{Row}
 use Rattle.clock2q_simulation.specs.declared.shares.ChosenShares.{ChosenShares}
+use Rattle.clock2q_simulation.specs.declared.row.Replayed.{Replayed}
 use Rattle.clock2q_simulation.specs.declared.window.Window.{Window}
 use Rattle.clock2q_simulation.specs.declared.window.Windows.{Windows}
-use Rattle.clock2q_simulation.specs.Rows.{IsRow}
+use Rattle.clock2q_simulation.specs.Rows.{IsReplay, IsRow}
 
 -- windows follow one another from an access up to another
 abbrev pub AreInTurn : {A : Type 0} → ℕ → List (Window A) → ℕ → Type 0
 AreInTurn first [] last = first ≡ last
 AreInTurn first (window ∷ windows) last = (window.first ≡ first) × AreInTurn (first + window.row.accesses) windows last
 
+-- the hits of a replay from one access up to another
+abbrev pub counted : {A : Type 0} → ℕ → ℕ → Replayed A → Hits
+counted first last replay = record { policy = replay.policy; hits = hit_count (take last replay.outcomes.items) - hit_count (take first replay.outcomes.items) }
+
 module _ {A : Type 0} (compared : List Policy) (shares : Option ChosenShares) (numbers : List ℕ) where
+  -- there is a replay for each policy, in order
+  pub record AreReplays (room : ℕ) (replays : List (Replayed A)) : Type 0 where
+    pub policies : map (λ replay. replay.policy) replays ≡ compared
+    pub each : All (λ replay. IsReplay shares numbers room replay.policy replay.outcomes.items) replays
+
   -- a window is the row of the trace up to its end that skips the accesses before it
   pub record IsWindow (room size : ℕ) (window : Window A) : Type 0 where
     pub some : window.first < length numbers

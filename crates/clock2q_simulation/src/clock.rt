@@ -1,20 +1,20 @@
 //! Clock2Q+ on a trace, and CLOCK, which is Clock2Q+ without Small.
-ghost use Rattle.std.specs.Prelude.{◌≡◌, ◌≢◌, ◌<◌, ◌≤◌, ◌↔◌, Err, IfOk, IsErrOf};
+ghost use Rattle.std.specs.Prelude.{◌≡◌, ◌≢◌, ◌<◌, ◌≤◌, ◌↔◌, Err, IfErr, IfOk, IsErrOf};
 ghost use Rattle.std.specs.NonZero.{non_zero_usize_get};
 ghost use Rattle.clock2q_machine.specs.Machine.{empty};
 ghost use Rattle.clock2q_machine.specs.Policies.{IsPolicy};
-ghost use Rattle.clock2q_policies.specs.Policies.{hits};
-ghost use Rattle.clock2q_policies.specs.SecondChance.{clock_hits};
+ghost use Rattle.clock2q_policies.specs.Policies.{outcomes};
+ghost use Rattle.clock2q_policies.specs.SecondChance.{clock_outcomes};
 ghost use Rattle.clock2q_simulation.specs.ChosenShares.{shares_for};
-ghost use Rattle.clock2q_simulation.specs.MachineHits.{machine_after, machine_hits, machine_holds};
+ghost use Rattle.clock2q_simulation.specs.MachineHits.{machine_after, machine_holds, machine_outcomes};
 
 use crate::shares::ChosenShares;
 use clock2q_cache::{Cache, CacheError, DefaultHashBuilder, MAX_CAPACITY};
 use std::alloc::Allocator;
 use std::num::NonZeroUsize;
 
-/// Returns the number of accesses of a trace that hit in a new cache with chosen shares, or with
-/// the usual ones.
+/// Returns whether each access of a trace hits in a new cache with chosen shares, or with the usual
+/// ones, in order.
 ///
 /// # Errors
 ///
@@ -24,22 +24,23 @@ use std::num::NonZeroUsize;
 /// # Cost
 ///
 /// That of [`Cache::new`](clock2q_cache::Cache::new), and that of
-/// [`Cache::put`](clock2q_cache::Cache::put) for each key.
-pub fn clock2q_hits<A: Allocator + Copy>(
+/// [`Cache::put`](clock2q_cache::Cache::put) for each key; a byte an access.
+pub fn clock2q_outcomes<A: Allocator + Copy>(
     alloc: A,
     capacity: NonZeroUsize,
     shares: Option<ChosenShares>,
     trace: &[u32],
-) -> Result<usize, CacheError>
-    ensures hits { IfOk result (λ hits. hits ≡ machine_hits (shares_for shares (non_zero_usize_get capacity)) trace.now) }
+) -> Result<Vec<bool, A>, CacheError>
+    ensures outcomes { IfOk result (λ outcomes. outcomes.items ≡ machine_outcomes (shares_for shares (non_zero_usize_get capacity)) trace.now) }
     ensures capacity { IsErrOf result CacheError.Capacity ↔ (MAX_CAPACITY < non_zero_usize_get capacity) }
     ensures policy { IsErrOf result CacheError.Policy → ¬ IsPolicy (shares_for shares (non_zero_usize_get capacity)) }
 {
-    Ok(hits_in(&mut new_cache(alloc, capacity, shares)?, trace))
+    let mut cache = new_cache(alloc, capacity, shares)?;
+    outcomes_in(alloc, &mut cache, trace)
 }
 
-/// Returns the number of accesses of a trace that hit in a new CLOCK cache, of 'A Paging Experiment
-/// with the Multics System' (1968).
+/// Returns whether each access of a trace hits in a new CLOCK cache, of 'A Paging Experiment with
+/// the Multics System' (1968), in order.
 ///
 /// # Errors
 ///
@@ -47,34 +48,37 @@ pub fn clock2q_hits<A: Allocator + Copy>(
 ///
 /// # Cost
 ///
-/// That of [`clock2q_hits`].
-pub fn clock_hits<A: Allocator + Copy>(
+/// That of [`clock2q_outcomes`].
+pub fn clock_outcomes<A: Allocator + Copy>(
     alloc: A,
     capacity: NonZeroUsize,
     trace: &[u32],
-) -> Result<usize, CacheError>
-    ensures hits { IfOk result (λ hits. hits ≡ clock_hits (non_zero_usize_get capacity) trace.now) }
+) -> Result<Vec<bool, A>, CacheError>
+    ensures outcomes { IfOk result (λ outcomes. outcomes.items ≡ clock_outcomes (non_zero_usize_get capacity) trace.now) }
     ensures capacity { IsErrOf result CacheError.Capacity ↔ (MAX_CAPACITY < non_zero_usize_get capacity) }
     ensures policy { result ≢ Err CacheError.Policy }
 {
     let hasher = DefaultHashBuilder::new();
-    Ok(hits_in(
-        &mut Cache::with_policy(alloc, capacity, 0, 0, hasher)?,
-        trace,
-    ))
+    let mut cache = Cache::with_policy(alloc, capacity, 0, 0, hasher)?;
+    outcomes_in(alloc, &mut cache, trace)
 }
 
-/// Puts each key of a trace, and returns how many were already resident.
-fn hits_in<A: Allocator>(cache: &mut Cache<u32, (), DefaultHashBuilder, A>, trace: &[u32]) -> usize
-    ensures hits { result ≡ hits machine_holds machine_after trace.now cache.old.machine }
+/// Puts each key of a trace, and returns for each whether it was already resident.
+fn outcomes_in<A: Allocator + Copy>(
+    alloc: A,
+    cache: &mut Cache<u32, (), DefaultHashBuilder, A>,
+    trace: &[u32],
+) -> Result<Vec<bool, A>, CacheError>
+    ensures outcomes { IfOk result (λ seen. seen.items ≡ outcomes machine_holds machine_after trace.now cache.old.machine) }
+    ensures memory { IfErr result (λ refusal. refusal ≡ CacheError.Memory) }
 {
-    let mut hits = 0;
+    let Ok(mut outcomes) = Vec::with_capacity(alloc, trace.len()) else {
+        return Err(CacheError::Memory);
+    };
     for key in trace {
-        if cache.put(*key, ()).is_some() {
-            hits += 1;
-        }
+        outcomes.push_reserved(cache.put(*key, ()).is_some());
     }
-    hits
+    Ok(outcomes)
 }
 
 /// Returns an empty cache with chosen shares, or with the usual ones.

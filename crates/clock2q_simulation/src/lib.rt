@@ -32,13 +32,13 @@ mod trace;
 mod window;
 
 pub use amount::{Amount, Unit};
-pub use clock::{clock_hits, clock2q_hits};
+pub use clock::{clock_outcomes, clock2q_outcomes};
 pub use error::{ArgumentError, ErrorReport, SimulationError};
 pub use format::TraceFormat;
 pub use help::{FORMATS_HELP, HELP, POLICIES_HELP, help_for};
 pub use options::{Format, Options, parse_options};
 pub use outcome::{Outcome, replay_source};
-pub use policy::{Policy, policy_hits};
+pub use policy::{Policy, policy_outcomes};
 pub use progress::Progress;
 pub use reading::read_trace;
 pub use row::{Hits, Row, replay};

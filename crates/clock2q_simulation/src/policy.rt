@@ -2,16 +2,17 @@
 ghost use Rattle.std.specs.Prelude.{◌≤◌, ◌^◌, IfErr, IfOk};
 ghost use Rattle.std.specs.NonZero.{non_zero_usize_get};
 ghost use Rattle.clock2q_policies.specs.Policies.{AreBelow};
-ghost use Rattle.clock2q_simulation.specs.Rows.{AreHits};
+ghost use Rattle.clock2q_simulation.specs.Rows.{IsReplay};
 ghost use Rattle.clock2q_simulation.specs.SimulationError.{IsOfNoDevice};
 
-use crate::clock::{clock_hits, clock2q_hits};
+use crate::clock::{clock_outcomes, clock2q_outcomes};
 use crate::error::SimulationError;
 use crate::shares::ChosenShares;
 use clock2q_policies::tested::{
-    arc_hits, lirs_hits, lru_2_hits, s3_fifo_hits, sieve_hits, two_q_hits, w_tiny_lfu_hits,
+    arc_outcomes, lirs_outcomes, lru_2_outcomes, s3_fifo_outcomes, sieve_outcomes, two_q_outcomes,
+    w_tiny_lfu_outcomes,
 };
-use clock2q_policies::{PlainPolicy, optimal_hits, plain_hits};
+use clock2q_policies::{PlainPolicy, optimal_outcomes, plain_outcomes};
 use std::alloc::Allocator;
 use std::num::NonZeroUsize;
 
@@ -122,7 +123,7 @@ impl Policy {
     }
 }
 
-/// Returns the number of accesses of a trace that hit in a new cache with a policy. The keys are
+/// Returns whether each access of a trace hits in a new cache with a policy, in order. The keys are
 /// numbers below `key_count`. Clock2Q+ has the chosen shares, or the usual ones.
 ///
 /// # Errors
@@ -133,32 +134,32 @@ impl Policy {
 ///
 /// # Cost
 ///
-/// That of the policy's function in `clock2q_policies`, or of [`clock2q_hits`]. The memory is freed
-/// before the call returns.
-pub fn policy_hits<A: Allocator + Copy>(
+/// That of the policy's function in `clock2q_policies`, or of [`clock2q_outcomes`]. All memory but
+/// the outcomes is freed before the call returns.
+pub fn policy_outcomes<A: Allocator + Copy>(
     alloc: A,
     policy: Policy,
     capacity: NonZeroUsize,
     shares: Option<ChosenShares>,
     numbers: &[u32],
     key_count: usize,
-) -> Result<usize, SimulationError>
+) -> Result<Vec<bool, A>, SimulationError>
     requires below { AreBelow key_count numbers.now }
-    ensures hits { IfOk result (AreHits shares numbers.now (non_zero_usize_get capacity) policy) }
+    ensures outcomes { IfOk result (λ outcomes. IsReplay shares numbers.now (non_zero_usize_get capacity) policy outcomes.items) }
     ensures devices { IfErr result IsOfNoDevice }
 {
     let Ok(keys) = u32::try_from(key_count) else {
         return Err(SimulationError::Memory);
     };
-    let hits = match policy {
-        Policy::Clock2Q => match clock2q_hits(alloc, capacity, shares, numbers) {
-            Ok(hits) => hits,
+    let outcomes = match policy {
+        Policy::Clock2Q => match clock2q_outcomes(alloc, capacity, shares, numbers) {
+            Ok(outcomes) => outcomes,
             Err(error) => return Err(SimulationError::of_cache(error, capacity.get())),
         },
-        Policy::Sieve => sieve_hits(alloc, capacity, numbers, keys)?,
-        Policy::S3Fifo => s3_fifo_hits(alloc, capacity, numbers, keys)?,
+        Policy::Sieve => sieve_outcomes(alloc, capacity, numbers, keys)?,
+        Policy::S3Fifo => s3_fifo_outcomes(alloc, capacity, numbers, keys)?,
         Policy::LeastRecentlyUsed => {
-            plain_hits(
+            plain_outcomes(
                 alloc,
                 PlainPolicy::LeastRecentlyUsed,
                 capacity,
@@ -166,19 +167,19 @@ pub fn policy_hits<A: Allocator + Copy>(
                 keys,
             )?
         }
-        Policy::Optimal => optimal_hits(alloc, capacity, numbers, keys)?,
+        Policy::Optimal => optimal_outcomes(alloc, capacity, numbers, keys)?,
         Policy::FirstInFirstOut => {
-            plain_hits(alloc, PlainPolicy::FirstInFirstOut, capacity, numbers, keys)?
+            plain_outcomes(alloc, PlainPolicy::FirstInFirstOut, capacity, numbers, keys)?
         }
-        Policy::Clock => match clock_hits(alloc, capacity, numbers) {
-            Ok(hits) => hits,
+        Policy::Clock => match clock_outcomes(alloc, capacity, numbers) {
+            Ok(outcomes) => outcomes,
             Err(error) => return Err(SimulationError::of_cache(error, capacity.get())),
         },
-        Policy::Arc => arc_hits(alloc, capacity, numbers, keys)?,
-        Policy::TwoQ => two_q_hits(alloc, capacity, numbers, keys)?,
-        Policy::Lirs => lirs_hits(alloc, capacity, numbers, keys)?,
-        Policy::Lru2 => lru_2_hits(alloc, capacity, numbers, keys)?,
-        Policy::WTinyLfu => w_tiny_lfu_hits(alloc, capacity, numbers, keys)?,
+        Policy::Arc => arc_outcomes(alloc, capacity, numbers, keys)?,
+        Policy::TwoQ => two_q_outcomes(alloc, capacity, numbers, keys)?,
+        Policy::Lirs => lirs_outcomes(alloc, capacity, numbers, keys)?,
+        Policy::Lru2 => lru_2_outcomes(alloc, capacity, numbers, keys)?,
+        Policy::WTinyLfu => w_tiny_lfu_outcomes(alloc, capacity, numbers, keys)?,
     };
-    Ok(hits)
+    Ok(outcomes)
 }

@@ -1,12 +1,12 @@
 //! The result at one capacity.
-ghost use Rattle.std.specs.Prelude.{◌≡◌, IfErr, IfOk, take};
+ghost use Rattle.std.specs.Prelude.{◌≡◌, ◌-◌, ◌≤◌, IfErr, IfOk, length, take};
 ghost use Rattle.std.specs.NonZero.{non_zero_usize_get};
-ghost use Rattle.clock2q_policies.specs.Policies.{AreBelow};
-ghost use Rattle.clock2q_simulation.specs.Rows.{AreHitsAfter, IsRow};
+ghost use Rattle.clock2q_policies.specs.Policies.{hit_count};
+ghost use Rattle.clock2q_simulation.specs.Rows.{AreHitsAfter, IsReplay, IsRow};
 ghost use Rattle.clock2q_simulation.specs.SimulationError.{IsOfNoDevice};
 
 use crate::error::SimulationError;
-use crate::policy::{Policy, policy_hits};
+use crate::policy::{Policy, policy_outcomes};
 use crate::shares::ChosenShares;
 use crate::trace::Trace;
 use std::alloc::{AllocError, Allocator};
@@ -65,11 +65,11 @@ impl<A: Allocator> Row<A> {
 ///
 /// # Errors
 ///
-/// Those of [`policy_hits`]; `Memory` also if there is no memory for the row.
+/// Those of [`policy_outcomes`]; `Memory` also if there is no memory for the row.
 ///
 /// # Cost
 ///
-/// That of [`policy_hits`] for each policy, and again for the skipped accesses.
+/// That of [`policy_outcomes`] for each policy. The outcomes of one policy at a time are in memory.
 pub fn replay<A: Allocator + Copy>(
     alloc: A,
     capacity: NonZeroUsize,
@@ -93,7 +93,7 @@ pub fn replay<A: Allocator + Copy>(
     })
 }
 
-/// Replays a trace with one policy.
+/// Counts the hits with one policy after the skipped accesses.
 fn hits_with<A: Allocator + Copy>(
     alloc: A,
     policy: Policy,
@@ -106,21 +106,49 @@ fn hits_with<A: Allocator + Copy>(
     ensures hits { IfOk result (λ h. AreHitsAfter skipped shares trace.now.numbers (non_zero_usize_get capacity) h.policy h.hits) }
     ensures devices { IfErr result IsOfNoDevice }
 {
-    let (numbers, keys) = (trace.numbers(), trace.key_count());
-    let all = policy_hits(alloc, policy, capacity, shares, numbers, keys)?;
-    let first = first_of(trace, skipped);
-    let before = policy_hits(alloc, policy, capacity, shares, first, keys)?;
-    Ok(Hits {
-        policy,
-        hits: all.saturating_sub(before),
-    })
+    let accesses = trace.numbers().len();
+    let replay = replay_with(alloc, policy, capacity, shares, trace)?;
+    let first = skipped.min(accesses);
+    let hits = hits_between(&replay.outcomes, first, accesses);
+    let policy = replay.policy;
+    Ok(Hits { policy, hits })
 }
 
-/// Returns the numbers of the first keys, at most `count` of them.
-pub(crate) fn first_of<A: Allocator + Copy>(trace: &Trace<A>, count: usize) -> &[u32]
-    ensures first { result.now ≡ take count trace.now.numbers }
-    ensures below { AreBelow trace.now.different result.now }
+/// Whether each access of a trace hits with a policy, in order.
+#[derive(Drop)]
+pub(crate) struct Replayed<A: Allocator> {
+    pub(crate) policy: Policy,
+    pub(crate) outcomes: Vec<bool, A>,
+}
+
+/// Replays a trace with one policy.
+pub(crate) fn replay_with<A: Allocator + Copy>(
+    alloc: A,
+    policy: Policy,
+    capacity: NonZeroUsize,
+    shares: Option<ChosenShares>,
+    trace: &Trace<A>,
+) -> Result<Replayed<A>, SimulationError>
+    ensures policy { IfOk result (λ replay. replay.policy ≡ policy) }
+    ensures replay { IfOk result (λ replay. IsReplay shares trace.now.numbers (non_zero_usize_get capacity) replay.policy replay.outcomes.items) }
+    ensures devices { IfErr result IsOfNoDevice }
 {
     let numbers = trace.numbers();
-    &numbers[..count.min(numbers.len())]
+    let outcomes = policy_outcomes(alloc, policy, capacity, shares, numbers, trace.key_count())?;
+    Ok(Replayed { policy, outcomes })
+}
+
+/// Counts the hits among the accesses from one up to another.
+pub(crate) fn hits_between(outcomes: &[bool], first: usize, last: usize) -> usize
+    requires order { first ≤ last }
+    requires within { last ≤ length outcomes.now }
+    ensures hits { result ≡ hit_count (take last outcomes.now) - hit_count (take first outcomes.now) }
+{
+    let mut hits = 0;
+    for index in first..last {
+        if outcomes[index] {
+            hits += 1;
+        }
+    }
+    hits
 }

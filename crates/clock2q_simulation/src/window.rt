@@ -1,16 +1,16 @@
 //! The hits of a trace in windows of consecutive accesses.
-ghost use Rattle.std.specs.Prelude.{◌≡◌, ◌≤◌, IfErr, IfOk, length, take};
+ghost use Rattle.std.specs.Prelude.{◌≡◌, ◌-◌, ◌≤◌, IfErr, IfOk, length, map};
 ghost use Rattle.std.specs.NonZero.{non_zero_usize_get};
-ghost use Rattle.clock2q_simulation.specs.Rows.{AreHitsAfter, IsRow};
+ghost use Rattle.std.specs.List.{All};
 ghost use Rattle.clock2q_simulation.specs.SimulationError.{IsOfNoDevice};
-ghost use Rattle.clock2q_simulation.specs.Windows.{AreAllWindows, AreWindows};
+ghost use Rattle.clock2q_simulation.specs.Windows.{counted, AreAllWindows, AreReplays, AreWindows};
 
 use crate::error::SimulationError;
-use crate::policy::{Policy, policy_hits};
-use crate::row::{Hits, Row, first_of};
+use crate::policy::Policy;
+use crate::row::{Hits, Replayed, Row, hits_between, replay_with};
 use crate::shares::ChosenShares;
 use crate::trace::Trace;
-use std::alloc::{AllocError, Allocator};
+use std::alloc::Allocator;
 use std::num::NonZeroUsize;
 
 /// The hits of consecutive accesses of a trace in a cache of each policy, which saw the accesses
@@ -87,12 +87,12 @@ pub fn all_windows_of<A: Allocator + Copy>(
 ///
 /// # Errors
 ///
-/// Those of [`policy_hits`]; `Memory` also if there is no memory for the windows.
+/// Those of [`policy_outcomes`](crate::policy_outcomes); `Memory` also if there is no memory for the windows.
 ///
 /// # Cost
 ///
-/// That of [`policy_hits`] for each policy, twice for each window, on the trace up to its end and
-/// on the trace up to its beginning.
+/// That of [`policy_outcomes`](crate::policy_outcomes) for each policy. The outcomes of all policies are in memory until
+/// the call returns.
 pub fn windows_of<A: Allocator + Copy>(
     alloc: A,
     capacity: NonZeroUsize,
@@ -106,13 +106,14 @@ pub fn windows_of<A: Allocator + Copy>(
         (non_zero_usize_get capacity) (non_zero_usize_get size) windows.items) }
     ensures devices { IfErr result IsOfNoDevice }
 {
+    let replays = replays_of(alloc, capacity, policies, shares, trace)?;
     let accesses = trace.numbers().len();
     let mut windows = Vec::new(alloc);
     let mut first = skipped.min(accesses);
     while first < accesses {
         let count = size.get().min(accesses - first);
         let last = first + count;
-        let row = row_between(alloc, capacity, policies, shares, first, last, trace)?;
+        let row = row_between(alloc, capacity, &replays, first, last)?;
         match windows.push(Window { first, row }) {
             Ok(()) => {}
             Err(_) => return Err(SimulationError::Memory),
@@ -122,53 +123,58 @@ pub fn windows_of<A: Allocator + Copy>(
     Ok(windows)
 }
 
-/// Replays the accesses of a trace from one up to another, in caches that saw those before them.
-fn row_between<A: Allocator + Copy>(
+/// Replays a trace with each policy, in order.
+fn replays_of<A: Allocator + Copy>(
     alloc: A,
     capacity: NonZeroUsize,
     policies: &[Policy],
     shares: Option<ChosenShares>,
+    trace: &Trace<A>,
+) -> Result<Vec<Replayed<A>, A>, SimulationError>
+    ensures replays { IfOk result (λ replays. AreReplays policies.now shares trace.now.numbers (non_zero_usize_get capacity) replays.items) }
+    ensures devices { IfErr result IsOfNoDevice }
+{
+    let mut replays = Vec::new(alloc);
+    for policy in policies {
+        let replay = replay_with(alloc, *policy, capacity, shares, trace)?;
+        match replays.push(replay) {
+            Ok(()) => {}
+            Err(_) => return Err(SimulationError::Memory),
+        }
+    }
+    Ok(replays)
+}
+
+/// Counts the hits of each replay from one access up to another.
+fn row_between<A: Allocator + Copy>(
+    alloc: A,
+    capacity: NonZeroUsize,
+    replays: &[Replayed<A>],
     first: usize,
     last: usize,
-    trace: &Trace<A>,
 ) -> Result<Row<A>, SimulationError>
     requires order { first ≤ last }
-    requires within { last ≤ length trace.now.numbers }
-    ensures row { IfOk result (IsRow policies.now shares first (take last trace.now.numbers) (non_zero_usize_get capacity)) }
+    requires within { All (λ replay. last ≤ length replay.outcomes.items) replays.now }
+    ensures hits { IfOk result (λ row. row.hits.items ≡ map (counted first last) replays.now) }
+    ensures capacity { IfOk result (λ row. row.capacity ≡ capacity) }
+    ensures accesses { IfOk result (λ row. row.accesses ≡ last - first) }
     ensures devices { IfErr result IsOfNoDevice }
 {
     let mut hits = Vec::new(alloc);
-    for policy in policies {
-        let counted = hits_between(alloc, *policy, capacity, shares, first, last, trace)?;
-        hits.push(counted).map_err(AllocError::from)?;
+    for replay in replays {
+        let policy = replay.policy;
+        let count = hits_between(&replay.outcomes, first, last);
+        match hits.push(Hits {
+            policy,
+            hits: count,
+        }) {
+            Ok(()) => {}
+            Err(_) => return Err(SimulationError::Memory),
+        }
     }
     Ok(Row {
         capacity,
         accesses: last - first,
         hits,
     })
-}
-
-/// Counts the hits with one policy from one access up to another.
-fn hits_between<A: Allocator + Copy>(
-    alloc: A,
-    policy: Policy,
-    capacity: NonZeroUsize,
-    shares: Option<ChosenShares>,
-    first: usize,
-    last: usize,
-    trace: &Trace<A>,
-) -> Result<Hits, SimulationError>
-    requires order { first ≤ last }
-    ensures policy { IfOk result (λ h. h.policy ≡ policy) }
-    ensures hits { IfOk result (λ h. AreHitsAfter first shares (take last trace.now.numbers) (non_zero_usize_get capacity) h.policy h.hits) }
-    ensures devices { IfErr result IsOfNoDevice }
-{
-    let keys = trace.key_count();
-    let upto = first_of(trace, last);
-    let all = policy_hits(alloc, policy, capacity, shares, upto, keys)?;
-    let earlier = first_of(trace, first);
-    let before = policy_hits(alloc, policy, capacity, shares, earlier, keys)?;
-    let hits = all.saturating_sub(before);
-    Ok(Hits { policy, hits })
 }

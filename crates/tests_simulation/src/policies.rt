@@ -8,9 +8,11 @@ use crate::s3_fifo::s3_fifo_model;
 use crate::two_q::two_q_model;
 use crate::w_tiny_lfu::w_tiny_lfu_model;
 use clock2q_policies::tested::{
-    arc_hits, lirs_hits, lru_2_hits, s3_fifo_hits, sieve_hits, two_q_hits, w_tiny_lfu_hits,
+    arc_outcomes, lirs_outcomes, lru_2_outcomes, s3_fifo_outcomes, sieve_outcomes, two_q_outcomes,
+    w_tiny_lfu_outcomes,
 };
-use clock2q_simulation::{GrowingTrace, Policy, Trace, clock_hits, replay};
+use clock2q_policies::{PlainPolicy, optimal_hits, optimal_outcomes, plain_hits, plain_outcomes};
+use clock2q_simulation::{GrowingTrace, Policy, Trace, clock_outcomes, replay};
 use std::alloc::{AllocError, Global};
 use std::collections::VecDeque;
 use std::num::NonZeroUsize;
@@ -105,17 +107,22 @@ fn optimal_model(alloc: Global, room: usize, trace: &[u32]) -> Result<usize, All
     Ok(hits)
 }
 
+/// Returns how many accesses hit.
+fn count(outcomes: &[bool]) -> usize {
+    outcomes.iter().filter(|hit| **hit).count()
+}
+
 /// Checks that each policy's hits are those of its lists, in a cache of some capacity.
 fn hits_are_same(alloc: Global, capacity: NonZeroUsize, trace: &[u32]) -> Result<(), Fail> {
     let room = capacity.get();
-    let clock = clock_hits(alloc, capacity, trace)?;
+    let clock = count(&clock_outcomes(alloc, capacity, trace)?);
     same_at(clock, clock_model(alloc, room, trace)?, ("CLOCK", room))?;
-    let sieve = sieve_hits(alloc, capacity, trace, KEYS)?;
+    let sieve = count(&sieve_outcomes(alloc, capacity, trace, KEYS)?);
     same_at(sieve, sieve_model(alloc, room, trace)?, ("SIEVE", room))?;
-    let s3_fifo = s3_fifo_hits(alloc, capacity, trace, KEYS)?;
+    let s3_fifo = count(&s3_fifo_outcomes(alloc, capacity, trace, KEYS)?);
     let model = s3_fifo_model(alloc, room, trace)?;
     same_at(s3_fifo, model, ("S3-FIFO", room))?;
-    let arc = arc_hits(alloc, capacity, trace, KEYS)?;
+    let arc = count(&arc_outcomes(alloc, capacity, trace, KEYS)?);
     same_at(arc, arc_model(alloc, room, trace)?, ("ARC", room))?;
     let optimal = optimal_is_same(alloc, capacity, trace)?;
     let most = hits_of_more_are_same(alloc, capacity, trace, KEYS)?;
@@ -132,14 +139,14 @@ fn hits_of_more_are_same(
     keys: u32,
 ) -> Result<usize, Fail> {
     let room = capacity.get();
-    let two_q = two_q_hits(alloc, capacity, trace, keys)?;
+    let two_q = count(&two_q_outcomes(alloc, capacity, trace, keys)?);
     same_at(two_q, two_q_model(alloc, room, trace)?, ("2Q", room))?;
-    let lirs = lirs_hits(alloc, capacity, trace, keys)?;
+    let lirs = count(&lirs_outcomes(alloc, capacity, trace, keys)?);
     same_at(lirs, lirs_model(alloc, room, trace)?, ("LIRS", room))?;
-    let lru_2 = lru_2_hits(alloc, capacity, trace, keys)?;
+    let lru_2 = count(&lru_2_outcomes(alloc, capacity, trace, keys)?);
     let model = lru_2_model(alloc, room, trace, keys)?;
     same_at(lru_2, model, ("LRU-2", room))?;
-    let w_tiny_lfu = w_tiny_lfu_hits(alloc, capacity, trace, keys)?;
+    let w_tiny_lfu = count(&w_tiny_lfu_outcomes(alloc, capacity, trace, keys)?);
     let model = w_tiny_lfu_model(alloc, room, trace)?;
     same_at(w_tiny_lfu, model, ("W-TinyLFU", room))?;
     Ok(two_q.max(lirs).max(lru_2).max(w_tiny_lfu))
@@ -196,13 +203,45 @@ fn optimal_hits_of_a_long_trace(rt: HostRuntime) -> Result<(), Fail> {
     all_optimal_hits_are_same(rt.alloc(), &trace_of(rt.alloc(), 4, 9000, KEYS)?)
 }
 
+/// Worked out by hand: LRU keeps 0, FIFO evicts it for 2, and OPT evicts 1, which isn't accessed
+/// again.
+#[test]
+fn outcomes_are_those_counted(rt: HostRuntime) -> Result<(), Fail> {
+    let room = NonZeroUsize::new(2).ok_or("not zero")?;
+    let trace = [0, 1, 0, 2, 0, 2];
+    for (policy, wanted) in [
+        (
+            PlainPolicy::LeastRecentlyUsed,
+            [false, false, true, false, true, true],
+        ),
+        (
+            PlainPolicy::FirstInFirstOut,
+            [false, false, true, false, false, true],
+        ),
+    ] {
+        let outcomes = plain_outcomes(rt.alloc(), policy, room, &trace, 3)?;
+        same(outcomes.as_slice(), wanted.as_slice())?;
+        same(
+            plain_hits(rt.alloc(), policy, room, &trace, 3)?,
+            count(&outcomes),
+        )?;
+    }
+    let outcomes = optimal_outcomes(rt.alloc(), room, &trace, 3)?;
+    same(
+        outcomes.as_slice(),
+        [false, false, true, false, true, true].as_slice(),
+    )?;
+    same(optimal_hits(rt.alloc(), room, &trace, 3)?, count(&outcomes))?;
+    Ok(())
+}
+
 /// Worked out by hand: 0 and 1 are accessed again, so a scan of 2, 3, 4 takes the room of keys
 /// accessed once; 2 is accessed again after its eviction.
 #[test]
 fn arc_keeps_what_came_again(rt: HostRuntime) -> Result<(), Fail> {
     let capacity = NonZeroUsize::new(3).ok_or("not zero")?;
     let trace = [0, 1, 0, 1, 2, 3, 4, 0, 1, 2, 2];
-    same(arc_hits(rt.alloc(), capacity, &trace, 5)?, 5)?;
+    same(count(&arc_outcomes(rt.alloc(), capacity, &trace, 5)?), 5)?;
     Ok(())
 }
 
@@ -223,7 +262,7 @@ fn hits_in_large_caches_are_those_of_lists(rt: HostRuntime) -> Result<(), Fail> 
 fn two_q_keeps_what_came_after_it_left(rt: HostRuntime) -> Result<(), Fail> {
     let capacity = NonZeroUsize::new(4).ok_or("not zero")?;
     let trace = [0, 1, 2, 3, 4, 0, 0, 2, 5, 2, 2];
-    same(two_q_hits(rt.alloc(), capacity, &trace, 6)?, 3)?;
+    same(count(&two_q_outcomes(rt.alloc(), capacity, &trace, 6)?), 3)?;
     Ok(())
 }
 
@@ -233,7 +272,7 @@ fn two_q_keeps_what_came_after_it_left(rt: HostRuntime) -> Result<(), Fail> {
 fn lirs_keeps_what_came_again_soon(rt: HostRuntime) -> Result<(), Fail> {
     let capacity = NonZeroUsize::new(3).ok_or("not zero")?;
     let trace = [0, 1, 2, 3, 2, 0, 1, 3, 0, 2];
-    same(lirs_hits(rt.alloc(), capacity, &trace, 4)?, 3)?;
+    same(count(&lirs_outcomes(rt.alloc(), capacity, &trace, 4)?), 3)?;
     Ok(())
 }
 
@@ -243,7 +282,7 @@ fn lirs_keeps_what_came_again_soon(rt: HostRuntime) -> Result<(), Fail> {
 fn lru_2_keeps_what_came_twice(rt: HostRuntime) -> Result<(), Fail> {
     let capacity = NonZeroUsize::new(2).ok_or("not zero")?;
     let trace = [0, 0, 1, 2, 0, 1, 2, 1, 0];
-    same(lru_2_hits(rt.alloc(), capacity, &trace, 3)?, 3)?;
+    same(count(&lru_2_outcomes(rt.alloc(), capacity, &trace, 3)?), 3)?;
     Ok(())
 }
 
@@ -252,6 +291,9 @@ fn lru_2_keeps_what_came_twice(rt: HostRuntime) -> Result<(), Fail> {
 fn w_tiny_lfu_keeps_what_came_more_often(rt: HostRuntime) -> Result<(), Fail> {
     let capacity = NonZeroUsize::new(3).ok_or("not zero")?;
     let trace = [0, 0, 1, 2, 3, 0, 1];
-    same(w_tiny_lfu_hits(rt.alloc(), capacity, &trace, 4)?, 3)?;
+    same(
+        count(&w_tiny_lfu_outcomes(rt.alloc(), capacity, &trace, 4)?),
+        3,
+    )?;
     Ok(())
 }

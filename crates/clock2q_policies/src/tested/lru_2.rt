@@ -1,4 +1,5 @@
 //! LRU-2.
+ghost use Rattle.std.specs.Prelude.{◌≡◌, IfOk, length};
 
 use crate::tested::index_set::IndexSet;
 use crate::tested::lists::Lists;
@@ -111,7 +112,7 @@ fn entry(accesses: &[usize], key: u32) -> usize {
     accesses.get(key as usize).copied().unwrap_or(0)
 }
 
-/// Returns how many accesses of a trace hit in a new LRU-2 cache, of 'The LRU-K Page Replacement
+/// Returns whether each access of a trace hits in a new LRU-2 cache, of 'The LRU-K Page Replacement
 /// Algorithm for Database Disk Buffering' (1993). The keys are numbers below `keys`.
 ///
 /// # Errors
@@ -120,20 +121,20 @@ fn entry(accesses: &[usize], key: u32) -> usize {
 ///
 /// # Cost
 ///
-/// Time in proportion to the trace and to `keys`, whatever the capacity; a bit an access and 26
+/// Time in proportion to the trace and to `keys`, whatever the capacity; 9 bits an access and 26
 /// bytes a key.
-pub fn lru_2_hits<A: Allocator + Copy>(
+pub fn lru_2_outcomes<A: Allocator + Copy>(
     alloc: A,
     capacity: NonZeroUsize,
     trace: &[u32],
     keys: u32,
-) -> Result<usize, AllocError> {
+) -> Result<Vec<bool, A>, AllocError>
+    ensures long { IfOk result (λ outcomes. length outcomes.items ≡ length trace.now) }
+{
     let mut cache = Lru2::new(alloc, capacity.get(), trace, keys)?;
-    let mut hits = 0usize;
+    let mut outcomes = Vec::with_capacity(alloc, trace.len())?;
     for at in 0..trace.len() {
-        if cache.access(trace, at) {
-            hits = hits.saturating_add(1);
-        }
+        outcomes.push_reserved(cache.access(trace, at));
     }
-    Ok(hits)
+    Ok(outcomes)
 }

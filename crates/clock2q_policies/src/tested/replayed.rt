@@ -1,4 +1,5 @@
 //! Policies that go through a trace key by key.
+ghost use Rattle.std.specs.Prelude.{◌≡◌, IfOk, length};
 
 use crate::tested::arc::Arc;
 use crate::tested::lirs::Lirs;
@@ -15,20 +16,24 @@ pub(crate) trait Replayed {
     fn access(&mut self, key: u32) -> bool;
 }
 
-fn hits_of<R: Replayed>(mut cache: R, trace: &[u32]) -> usize
+/// Returns whether each access of a trace hits in a cache.
+fn outcomes_of<R: Replayed, A: Allocator>(
+    alloc: A,
+    mut cache: R,
+    trace: &[u32],
+) -> Result<Vec<bool, A>, AllocError>
 where
     R: Drop,
+    ensures long { IfOk result (λ outcomes. length outcomes.items ≡ length trace.now) }
 {
-    let mut hits = 0usize;
+    let mut outcomes = Vec::with_capacity(alloc, trace.len())?;
     for key in trace {
-        if cache.access(*key) {
-            hits = hits.saturating_add(1);
-        }
+        outcomes.push_reserved(cache.access(*key));
     }
-    hits
+    Ok(outcomes)
 }
 
-/// Returns how many accesses of a trace hit in a new SIEVE cache, of 'SIEVE is Simpler than LRU: an
+/// Returns whether each access of a trace hits in a new SIEVE cache, of 'SIEVE is Simpler than LRU: an
 /// Efficient Turn-Key Eviction Algorithm for Web Caches' (2024). The keys are numbers below `keys`.
 ///
 /// # Errors
@@ -37,17 +42,20 @@ where
 ///
 /// # Cost
 ///
-/// Time in proportion to the trace and to `keys`, and 10 bytes a key, whatever the capacity.
-pub fn sieve_hits<A: Allocator + Copy>(
+/// Time in proportion to the trace and to `keys`, whatever the capacity; a byte an access and 10
+/// bytes a key.
+pub fn sieve_outcomes<A: Allocator + Copy>(
     alloc: A,
     capacity: NonZeroUsize,
     trace: &[u32],
     keys: u32,
-) -> Result<usize, AllocError> {
-    Ok(hits_of(Sieve::new(alloc, capacity.get(), keys)?, trace))
+) -> Result<Vec<bool, A>, AllocError>
+    ensures long { IfOk result (λ outcomes. length outcomes.items ≡ length trace.now) }
+{
+    outcomes_of(alloc, Sieve::new(alloc, capacity.get(), keys)?, trace)
 }
 
-/// Returns how many accesses of a trace hit in a new S3-FIFO cache, of 'FIFO Queues are All You
+/// Returns whether each access of a trace hits in a new S3-FIFO cache, of 'FIFO Queues are All You
 /// Need for Cache Eviction' (2023). A full main queue evicts a key before the oldest key of the
 /// small queue moves into it. The keys are numbers below `keys`.
 ///
@@ -57,17 +65,20 @@ pub fn sieve_hits<A: Allocator + Copy>(
 ///
 /// # Cost
 ///
-/// Time in proportion to the trace and to `keys`, and 10 bytes a key, whatever the capacity.
-pub fn s3_fifo_hits<A: Allocator + Copy>(
+/// Time in proportion to the trace and to `keys`, whatever the capacity; a byte an access and 10
+/// bytes a key.
+pub fn s3_fifo_outcomes<A: Allocator + Copy>(
     alloc: A,
     capacity: NonZeroUsize,
     trace: &[u32],
     keys: u32,
-) -> Result<usize, AllocError> {
-    Ok(hits_of(S3Fifo::new(alloc, capacity.get(), keys)?, trace))
+) -> Result<Vec<bool, A>, AllocError>
+    ensures long { IfOk result (λ outcomes. length outcomes.items ≡ length trace.now) }
+{
+    outcomes_of(alloc, S3Fifo::new(alloc, capacity.get(), keys)?, trace)
 }
 
-/// Returns how many accesses of a trace hit in a new ARC cache, of 'ARC: A Self-Tuning, Low
+/// Returns whether each access of a trace hits in a new ARC cache, of 'ARC: A Self-Tuning, Low
 /// Overhead Replacement Cache' (2003). The keys are numbers below `keys`.
 ///
 /// # Errors
@@ -76,17 +87,20 @@ pub fn s3_fifo_hits<A: Allocator + Copy>(
 ///
 /// # Cost
 ///
-/// Time in proportion to the trace and to `keys`, and 9 bytes a key, whatever the capacity.
-pub fn arc_hits<A: Allocator + Copy>(
+/// Time in proportion to the trace and to `keys`, whatever the capacity; a byte an access and 9
+/// bytes a key.
+pub fn arc_outcomes<A: Allocator + Copy>(
     alloc: A,
     capacity: NonZeroUsize,
     trace: &[u32],
     keys: u32,
-) -> Result<usize, AllocError> {
-    Ok(hits_of(Arc::new(alloc, capacity.get(), keys)?, trace))
+) -> Result<Vec<bool, A>, AllocError>
+    ensures long { IfOk result (λ outcomes. length outcomes.items ≡ length trace.now) }
+{
+    outcomes_of(alloc, Arc::new(alloc, capacity.get(), keys)?, trace)
 }
 
-/// Returns how many accesses of a trace hit in a new 2Q cache, of '2Q: A Low Overhead High
+/// Returns whether each access of a trace hits in a new 2Q cache, of '2Q: A Low Overhead High
 /// Performance Buffer Management Replacement Algorithm' (1994), in the full version: a quarter of
 /// the room for the queue of new keys, and half as many keys remembered as there is room for. The
 /// keys are numbers below `keys`.
@@ -97,17 +111,20 @@ pub fn arc_hits<A: Allocator + Copy>(
 ///
 /// # Cost
 ///
-/// Time in proportion to the trace and to `keys`, and 9 bytes a key, whatever the capacity.
-pub fn two_q_hits<A: Allocator + Copy>(
+/// Time in proportion to the trace and to `keys`, whatever the capacity; a byte an access and 9
+/// bytes a key.
+pub fn two_q_outcomes<A: Allocator + Copy>(
     alloc: A,
     capacity: NonZeroUsize,
     trace: &[u32],
     keys: u32,
-) -> Result<usize, AllocError> {
-    Ok(hits_of(TwoQ::new(alloc, capacity.get(), keys)?, trace))
+) -> Result<Vec<bool, A>, AllocError>
+    ensures long { IfOk result (λ outcomes. length outcomes.items ≡ length trace.now) }
+{
+    outcomes_of(alloc, TwoQ::new(alloc, capacity.get(), keys)?, trace)
 }
 
-/// Returns how many accesses of a trace hit in a new LIRS cache, of 'LIRS: An Efficient Low
+/// Returns whether each access of a trace hits in a new LIRS cache, of 'LIRS: An Efficient Low
 /// Inter-reference Recency Set Replacement Policy to Improve Buffer Cache Performance' (2002), with
 /// a hundredth of the room for its queue and no bound on its stack. The keys are numbers below
 /// `keys`.
@@ -118,17 +135,20 @@ pub fn two_q_hits<A: Allocator + Copy>(
 ///
 /// # Cost
 ///
-/// Time in proportion to the trace and to `keys`, and 19 bytes a key, whatever the capacity.
-pub fn lirs_hits<A: Allocator + Copy>(
+/// Time in proportion to the trace and to `keys`, whatever the capacity; a byte an access and 19
+/// bytes a key.
+pub fn lirs_outcomes<A: Allocator + Copy>(
     alloc: A,
     capacity: NonZeroUsize,
     trace: &[u32],
     keys: u32,
-) -> Result<usize, AllocError> {
-    Ok(hits_of(Lirs::new(alloc, capacity.get(), keys)?, trace))
+) -> Result<Vec<bool, A>, AllocError>
+    ensures long { IfOk result (λ outcomes. length outcomes.items ≡ length trace.now) }
+{
+    outcomes_of(alloc, Lirs::new(alloc, capacity.get(), keys)?, trace)
 }
 
-/// Returns how many accesses of a trace hit in a new W-TinyLFU cache, of 'TinyLFU: A Highly
+/// Returns whether each access of a trace hits in a new W-TinyLFU cache, of 'TinyLFU: A Highly
 /// Efficient Cache Admission Policy' (2017), with a window of a hundredth of the room and segmented
 /// LRU for the rest, four fifths of it protected. The keys are numbers below `keys`.
 ///
@@ -141,13 +161,15 @@ pub fn lirs_hits<A: Allocator + Copy>(
 ///
 /// # Cost
 ///
-/// Time in proportion to the trace and to `keys`; 9 bytes a key, and 4 to 8 bytes a key of the
-/// capacity.
-pub fn w_tiny_lfu_hits<A: Allocator + Copy>(
+/// Time in proportion to the trace and to `keys`; a byte an access, 9 bytes a key, and 4 to 8 bytes
+/// a key of the capacity.
+pub fn w_tiny_lfu_outcomes<A: Allocator + Copy>(
     alloc: A,
     capacity: NonZeroUsize,
     trace: &[u32],
     keys: u32,
-) -> Result<usize, AllocError> {
-    Ok(hits_of(WTinyLfu::new(alloc, capacity.get(), keys)?, trace))
+) -> Result<Vec<bool, A>, AllocError>
+    ensures long { IfOk result (λ outcomes. length outcomes.items ≡ length trace.now) }
+{
+    outcomes_of(alloc, WTinyLfu::new(alloc, capacity.get(), keys)?, trace)
 }

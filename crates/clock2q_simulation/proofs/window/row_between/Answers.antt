@@ -1,11 +1,19 @@
-use Rattle.std.proofs.Common.{◌-◌, ◌∙◌, ap, sym, refl}
-use Rattle.std.proofs.lemmas.List.{length-take-le, take_all}
+use Rattle.std.proofs.Common.{◌≡◌, ◌-◌, ◌≤◌, ◌∙◌, ◌++◌, ◌∷◌, [], ap, sym, subst, arith, length, take}
+use Rattle.clock2q_policies.specs.Policies.{hit_count}
+use Rattle.clock2q_simulation.specs.Windows.{counted}
+use Rattle.clock2q_simulation.proofs.Replaying.{mapped-more, hits_of}
 use Rattle.clock2q_simulation.proofs.window.row_between.Goals as goal
 
-pub returns-clause-row : goal.returns-clause-row
-returns-clause-row g c = record {
-  capacity = refl;
-  accesses = ap (λ n. n - c.args.first) (sym (length-take-le c.args.last c.args.trace.now.numbers c.requires.within));
-  policies = c.loop-policy.invariant.policies ∙ take_all c.loop-policy.policy-index c.args.policies.now c.loop-policy-test.false;
-  hits = c.loop-policy.invariant.hits;
-}
+pub hits_between-count-requires-clause-within : goal.hits_between-count-requires-clause-within
+hits_between-count-requires-clause-within g c =
+    let within : c.args.last ≤ length c.replay-item.result.outcomes.items =
+    subst (λ replay. c.args.last ≤ length replay.outcomes.items) (sym c.replay-item.is) (c.requires.within c.loop-replay.replay-index c.replay-item.result c.loop-replay-test.true) in
+    omega (arith, ap length c.deref.ensures.value, within)
+
+pub loop-replay-preserved : goal.loop-replay-preserved
+loop-replay-preserved g c =
+    let count : c.hits_between-count.result ≡ hit_count (take c.args.last c.replay-item.result.outcomes.items) - hit_count (take c.args.first c.replay-item.result.outcomes.items) =
+    c.hits_between-count.ensures.hits ∙ ap (λ seen. hit_count (take c.args.last seen) - hit_count (take c.args.first seen)) c.deref.ensures.value in
+    mapped-more (counted c.args.first c.args.last) c.args.replays.now c.loop-replay.replay-index c.replay-item.result c.loop-replay.hits.items c.push.new.self.items
+    c.loop-replay-test.true c.replay-item.is c.loop-replay.invariant
+    (c.in-Ok.ensures.items ∙ ap (λ n. c.loop-replay.hits.items ++ hits_of c.replay-item.result.policy n ∷ []) count)

@@ -1,12 +1,7 @@
--- The hits so far are those of their policies, in order.
+-- The hits so far are those of their replays, in order.
 use Rattle.std.proofs.Common.{◌≡◌, map, take}
-use Rattle.std.specs.List.{All}
-use Rattle.std.specs.NonZero.{non_zero_usize_get}
-use Rattle.clock2q_simulation.specs.Rows.{AreHitsAfter}
+use Rattle.clock2q_simulation.specs.Windows.{counted}
 use Rattle.clock2q_simulation.proofs.window.row_between.Given as goal
 
-abbrev pub invariant-loop-policy : goal.invariant-loop-policy
-invariant-loop-policy g l = record {
-  policies : map (λ h. h.policy) l.hits.items ≡ take l.policy-index l.policies;
-  hits : All (λ h. AreHitsAfter l.fn.first l.fn.shares (take l.fn.last l.fn.trace.numbers) (non_zero_usize_get l.fn.capacity) h.policy h.hits) l.hits.items;
-}
+abbrev pub invariant-loop-replay : goal.invariant-loop-replay
+invariant-loop-replay g l = l.hits.items ≡ map (counted l.fn.first l.fn.last) (take l.replay-index l.replays)
