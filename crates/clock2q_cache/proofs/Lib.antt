@@ -25,3 +25,6 @@ pub mod Vacated
 pub mod Walks
 pub mod WithKeys
 pub mod WorkedCosts
+pub mod WithHash
+pub mod HitSlot
+pub mod BySlot

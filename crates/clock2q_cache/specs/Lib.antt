@@ -11,3 +11,4 @@ pub mod Closures
 pub mod Insertions
 pub mod Makers
 pub mod Iteration
+pub mod SlotsByHash

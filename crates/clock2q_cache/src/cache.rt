@@ -9,6 +9,7 @@ mod filling;
 mod insertion;
 mod iteration;
 mod removal;
+mod slots;
 
 use crate::hashes::hash_of;
 use crate::shares::Shares;
@@ -348,6 +349,7 @@ impl<K: Hash + Eq + Drop, V: Drop, S: BuildHasher, A: Allocator> Cache<K, V, S, 
     ghost use Rattle.std.specs.Prelude.{◌≡◌, ◌<◌, length, slice_get, Some};
     ghost use Rattle.clock2q_machine.specs.Calls.{Put};
     ghost use Rattle.clock2q_cache.specs.Costs.{Costs};
+    ghost use Rattle.clock2q_cache.specs.Places.{known_with};
     ghost use Rattle.clock2q_machine.specs.Machine.{value_of, stored};
     ghost use Rattle.clock2q_machine.specs.Steps.{put};
 
@@ -366,6 +368,7 @@ impl<K: Hash + Eq + Drop, V: Drop, S: BuildHasher, A: Allocator> Cache<K, V, S, 
         ensures value { result ≡ value_of (K.eq key) self.old.machine }
         ensures machine { self.new.machine ≡ put (K.eq key) key value self.old.machine }
         ensures resident { value_of (K.eq key) self.new.machine ≡ Some value }
+        ensures known { self.new.known ≡ known_with K.Hash S.BuildHasher S.Hasher.Hasher key self.old }
         ensures hasher { self.new.hasher ≡ self.old.hasher }
         ensures costs { Costs K.Hash S.BuildHasher S.Hasher.Hasher (Put key value) self.old self.new }
     {

@@ -64,7 +64,10 @@ pub fn find<S: BuildHasher>(
 ) -> Option<usize>
     ensures frame { result ≡ resident_frame pages.old.machine page }
     ensures machine { pages.new.machine ≡ hit (eqb page) pages.old.machine }
+    ensures stay { (other : ℕ) → resident_frame pages.new.machine other ≡ resident_frame pages.old.machine other }
+    ensures values { pages.new.machine.values ≡ pages.old.machine.values }
     ensures costs { Costs ⟦<usize as Hash>⟧ S.BuildHasher S.Hasher.Hasher (Get page) pages.old pages.new }
 {
+    let _ = pages.len(); // whose contract says that the cache is whole
     pages.slot(&page)
 }

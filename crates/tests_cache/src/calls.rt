@@ -62,7 +62,8 @@ impl Call {
     pub(crate) fn drawn(draws: &mut Draws, model: &Model, number: u64) -> Call {
         let key = draws.below(model.keys());
         match draws.below(400) {
-            0..=79 => Call::Put(key, number),
+            0..=59 => Call::Put(key, number),
+            60..=79 => Call::Evict(key, number),
             80..=99 => Call::Slot(key, number),
             100..=199 => Call::Get(key),
             200..=229 => Call::With(key, number),

@@ -5,6 +5,8 @@
 #[cfg(test)]
 mod accesses;
 #[cfg(test)]
+mod by_slot;
+#[cfg(test)]
 mod called;
 #[cfg(test)]
 mod calls;

@@ -61,6 +61,8 @@ pub(crate) struct Model {
     free: Vec<usize>,
     /// A value for each slot that was made.
     values: Vec<u64>,
+    /// The key that the last insertion evicted.
+    evicted: Option<u64>,
 }
 
 impl Model {
@@ -73,6 +75,7 @@ impl Model {
             history: Vec::new(alloc),
             free: Vec::new(alloc),
             values: Vec::new(alloc),
+            evicted: None,
         }
     }
 
@@ -234,24 +237,15 @@ impl Model {
         Ok(None)
     }
 
-    /// Returns what the value replaces, or else the resident that is gone afterwards.
+    /// Returns what the value replaces, or else the resident that is evicted.
     fn put_evicting(&mut self, key: u64, value: u64) -> Result<Option<(u64, u64)>, AllocError> {
         if self.find(key).is_some() {
             return Ok(self.replace(key, value).map(|before| (key, before)));
         }
-        let residents = self.residents()?;
-        self.insert(key, value)?;
-        Ok(self.first_gone(&residents))
-    }
-
-    /// Returns the first of these that isn't resident.
-    fn first_gone(&self, residents: &[(u64, u64)]) -> Option<(u64, u64)> {
-        for (key, value) in residents {
-            if self.find(*key).is_none() {
-                return Some((*key, *value));
-            }
-        }
-        None
+        let slot = self.enter(key)?;
+        let before = self.value(slot);
+        self.store(slot, value);
+        Ok(self.evicted.map(|evicted| (evicted, before)))
     }
 
     fn fetch(&mut self, key: u64, value: u64) -> Result<u64, AllocError> {
@@ -380,6 +374,7 @@ impl Model {
 
     /// Inserts a key that isn't resident, and returns its slot.
     fn enter(&mut self, key: u64) -> Result<usize, AllocError> {
+        self.evicted = None;
         if self.enters_main(key) {
             self.enter_main(key)
         } else {
@@ -440,6 +435,7 @@ impl Model {
             self.main.push(Entry::new(oldest.key, oldest.slot))?;
             return Ok(slot);
         }
+        self.evicted = Some(oldest.key);
         self.history.insert(0, oldest.key)?;
         self.history.truncate(self.shares.capacity / 2);
         Ok(oldest.slot)
@@ -454,6 +450,7 @@ impl Model {
             }
             let first = self.main.remove(0);
             if !first.hit {
+                self.evicted = Some(first.key);
                 return Ok(first.slot);
             }
             self.main.push(Entry::new(first.key, first.slot))?;

@@ -114,8 +114,8 @@ impl<K: Hash + Eq + Drop, V: Drop, S: BuildHasher + Drop, A: Allocator + Copy> C
     {
         let slots = shares.capacity();
         let queues = Queues::new(alloc, slots as u32, shares.window() as u32)?;
-        let directory = Directory::new(alloc, slots, shares.history())?;
         let free = Vec::with_capacity(alloc, slots)?;
+        let directory = Directory::new(alloc, slots, shares.history())?;
         Ok(Cache {
             shares,
             queues,

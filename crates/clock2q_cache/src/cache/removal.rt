@@ -88,7 +88,7 @@ impl<K: Hash + Eq, V, S: BuildHasher, A: Allocator> Cache<K, V, S, A> {
     }
 
     /// Removes the resident at a slot, and frees the slot.
-    fn vacate(&mut self, slot: u32)
+    pub(super) fn vacate(&mut self, slot: u32)
         requires { IsSome (resident_at self.old.machine slot) }
         ensures machine { self.new.machine ≡ vacated slot self.old.machine }
         ensures hasher { self.new.hasher ≡ self.old.hasher }

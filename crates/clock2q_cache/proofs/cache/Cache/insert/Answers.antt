@@ -1,7 +1,7 @@
 -- A key that is not resident is not known once its history is erased.
 use Rattle.std.proofs.Common.{ap, ◌∙◌}
 use Rattle.clock2q_cache.proofs.Names.{known_count, Placement, placement, stored, unknown_once_forgotten}
-use Rattle.clock2q_cache.proofs.Insertions.{IsSent, placed-inspections, forgotten-spends}
+use Rattle.clock2q_cache.proofs.Insertions.{IsSent, goes-there, placed-inspections, forgotten-spends}
 use Rattle.clock2q_cache.proofs.Making.{small-unknown, placed-there}
 use Rattle.clock2q_cache.proofs.cache.Cache.insert.Given.{Over}
 use Rattle.clock2q_cache.proofs.cache.Cache.insert.Goals.{After-admits_to_main-main}
@@ -27,6 +27,11 @@ returns-clause-machine g c =
     let s = sent g (goal.at.returns-clause-machine g c).After-admits_to_main-main in
     c.insert_unknown.ensures.machine.becomes ∙ ap (λ (p : Placement _ _). stored p.slot c.insert_unknown.ensures.machine.held p.machine) (placed-there g.K.PartialEq.eq c.args.key s)
     ∙ ap (λ v. let p = placement (g.K.PartialEq.eq c.args.key) c.args.key c.args.self.now.machine in stored p.slot v p.machine) c.insert_unknown.ensures.machine.is
+
+pub returns-clause-known : goal.returns-clause-known
+returns-clause-known g c =
+    let goes = goes-there (sent g (goal.at.returns-clause-known g c).After-admits_to_main-main) in
+    rw (c.forget-known.ensures.hasher, c.forget-known.ensures.machine, goes, c.forget-known.ensures.places) at c.insert_unknown.ensures.indexes
 
 pub returns-clause-counts : goal.returns-clause-counts
 returns-clause-counts g c =

@@ -39,3 +39,13 @@ returns-in_default-clause-machine g c = search rules
 
 pub returns-clause-machine : goal.returns-clause-machine
 returns-clause-machine g c = search rules
+
+pub returns-in_default-clause-known : goal.returns-in_default-clause-known
+returns-in_default-clause-known g c =
+    let absent = no-slot c.lookup-found.result c.in_default.not-Resident ∙ c.lookup-found.ensures.slot in
+    rw (← absent) (rw (c.insert.ensures.slot, c.lookup-found.ensures.kept, c.hash-hash.ensures) at c.insert.ensures.known)
+
+pub returns-clause-known : goal.returns-clause-known
+returns-clause-known g c =
+    rw (← c.in-Resident.ensures.slot) (ap (λ (z : CacheState _ _ _). z.known) c.replace.ensures.kept ∙ ap (λ (z : CacheState _ _ _). z.known) c.record_hit.ensures.kept
+    ∙ ap (λ (z : CacheState _ _ _). z.known) c.lookup-found.ensures.kept)

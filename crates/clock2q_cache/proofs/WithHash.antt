@@ -1,0 +1,167 @@
+-- The slots whose keys have one hash are those of the residents whose keys have it, each once.
+use Rattle.std.proofs.Common.{◌≡◌, ℕ, zero, suc, ◌<◌, ◌/◌, ◌%◌, ◌^◌, Bool, true, false, ◌==◌, ◌&&◌, eqb, eqb-true, Option, Some, None, slice_get, List, [], ◌∷◌, length, inl, inr, refl, sym, ap, ◌∙◌, subst, arith}
+use Rattle.clock2q_cache.proofs.Names.{and_false, IfNone, IfSome, length-values, IsEquivalence, AllApart, AllByRecursion, both_ways, is_alike, is_named, eqb_self, find, is_key_at, slot_of, filter, cases_Bool, candidates, Entry, KeyPlaces, has, has_first, hash_at, below_of, candidate_there, key_at, slice_get_some, some_is, QueueState, Remembered, Shares, Machine, resident_at, machine_of, places_of, IsKept}
+use Rattle.std.proofs.lemmas.Bool.{eq-eqb}
+use Rattle.clock2q_queues.proofs.Rings.{has_later}
+use Rattle.clock2q_directory.specs.Hashed.{has_hash}
+use Rattle.clock2q_cache.specs.SlotsByHash.{has_hash_at}
+use Rattle.clock2q_cache.proofs.Places.{resident-there, resident-none}
+use Rattle.clock2q_cache.proofs.Finding.{found, candidates-there}
+
+-- two tests that agree on a list keep the same of it
+filter-like : (p q : ℕ → Bool) (cs : List ℕ) → ((t : ℕ) → has t cs ≡ true → p t ≡ q t) → filter p cs ≡ filter q cs
+filter-like p q [] same = refl
+filter-like p q (c ∷ cs) same =
+    let first = same c (has_first c cs) in
+    let rest = filter-like p q cs (λ t h. same t (has_later t c cs h)) in
+    elim (cases_Bool (q c)) [ inl y ↦ rw (first, y) (ap (λ zs. c ∷ zs) rest) | inr n ↦ rw (first, n) rest ]
+
+hash-there : {K V : Type 0} (hash : K → ℕ) (es : List (Entry K V)) (t : ℕ) (e : Entry K V) → slice_get es t ≡ Some e → AllByRecursion (λ x. x.hash ≡ hash x.key) es → e.hash ≡ hash e.key
+hash-there hash [] t e at all = absurd (cc)
+hash-there hash (x ∷ xs) zero e at all = subst (λ z. z.hash ≡ hash z.key) (some_is x e at) all.0
+hash-there hash (x ∷ xs) (suc t) e at all = hash-there hash xs t e at all.1
+
+module _ {K V : Type 0} {eq : K → K → Bool} {hash : K → ℕ} {shares : Shares} {q : QueueState} {h : Remembered K} {index : List (List (ℕ × ℕ))} {keys : KeyPlaces K V} {free : List ℕ} {room : ℕ}
+    (laws : IsEquivalence eq) (kept : IsKept eq hash shares q h index keys free room) where
+  abbrev m : Machine K V
+  m = machine_of shares q keys.entries h.entries free
+
+  same-hash : (x t : ℕ) → has t (candidates index x) ≡ true → has_hash keys.entries x t ≡ has_hash_at hash x m t
+  same-hash x t there =
+      let stands = (candidate_there index keys.entries (places_of q) x t kept.stored.indexed there).0 in
+      let e = slice_get_some keys.entries t (below_of (length keys.entries) (places_of q) kept.stored.made t stands) in
+      let resident = resident-there laws kept t e.0.key stands (ap (λ (z : Option (Entry K V)). elim z [ None ↦ None | Some e ↦ Some e.key ]) e.1) in
+      ap (λ (z : Option (Entry K V)). elim z [ None ↦ false | Some e ↦ e.hash == x ]) e.1
+      ∙ ap (λ (z : ℕ). z == x) (hash-there hash keys.entries t e.0 e.1 kept.stored.hashed)
+      ∙ sym (ap (λ (z : Option (K × ℕ)). elim z [ None ↦ false | Some r ↦ hash r.0 == x ]) resident)
+
+  pub with-hash : (x : ℕ) → filter (has_hash keys.entries x) (candidates index x) ≡ filter (has_hash_at hash x m) (candidates index x)
+  with-hash x = filter-like (has_hash keys.entries x) (has_hash_at hash x m) (candidates index x) (same-hash x)
+
+-- where nothing is kept, nothing is found that would be kept
+none-kept : (p q : ℕ → Bool) (cs : List ℕ) → None ≡ slice_get (filter p cs) 0 → ((t : ℕ) → has t cs ≡ true → q t ≡ true → p t ≡ true) → find q cs ≡ None
+none-kept p q [] none kept = refl
+none-kept p q (c ∷ cs) none kept = elim (cases_Bool (p c)) [
+  | inl y ↦ absurd (some_none c (none ∙ rw y refl))
+  | inr n ↦ elim (cases_Bool (q c)) [
+    | inl it ↦ absurd (both_ways (p c) n (kept c (has_first c cs) it))
+    | inr other ↦ rw other (none-kept p q cs (none ∙ rw n refl) (λ t h it. kept t (has_later t c cs h) it))
+  ]
+]
+  where
+    some_none : (x : ℕ) → None ≡ Some x → ⊥
+    some_none x e = cc
+
+module _ {K V : Type 0} {eq : K → K → Bool} {hash : K → ℕ} {shares : Shares} {q : QueueState} {h : Remembered K} {index : List (List (ℕ × ℕ))} {keys : KeyPlaces K V} {free : List ℕ} {room : ℕ}
+    (laws : IsEquivalence eq) (kept : IsKept eq hash shares q h index keys free room) where
+  abbrev n : Machine K V
+  n = machine_of shares q keys.entries h.entries free
+
+  -- where no resident has a key's hash, the key has no slot
+  pub none-with-hash : (key : K) → ((x y : K) → eq x y ≡ true → hash x ≡ hash y) → (x : ℕ) → x ≡ hash key → None ≡ slice_get (filter (has_hash keys.entries x) (candidates index x)) 0 → slot_of (eq key) n ≡ None
+  none-with-hash key respects x is none =
+      sym (found laws kept key respects x is)
+      ∙ none-kept (has_hash keys.entries x) (is_key_at eq key keys.entries) (candidates index x) none alike
+    where
+      alike : (t : ℕ) → has t (candidates index x) ≡ true → is_key_at eq key keys.entries t ≡ true → has_hash keys.entries x t ≡ true
+      alike t there it =
+          let stands = (candidate_there index keys.entries (places_of q) x t kept.stored.indexed there).0 in
+          let e = slice_get_some keys.entries t (below_of (length keys.entries) (places_of q) kept.stored.made t stands) in
+          let equal : eq key e.0.key ≡ true = sym (ap (λ (z : Option (Entry K V)). elim z [ None ↦ false | Some e ↦ eq key e.key ]) e.1) ∙ it in
+          ap (λ (z : Option (Entry K V)). elim z [ None ↦ false | Some e ↦ e.hash == x ]) e.1
+          ∙ eq-eqb e.0.hash x (hash-there hash keys.entries t e.0 e.1 kept.stored.hashed ∙ sym (respects key e.0.key equal) ∙ sym is)
+
+  -- of what the walk finds
+  pub told-absent : (key : K) → ((x y : K) → eq x y ≡ true → hash x ≡ hash y) → (x : ℕ) → x ≡ hash key → (o : Option ℕ)
+      → o ≡ slice_get (filter (has_hash keys.entries x) (candidates index x)) 0 → IfNone o (slot_of (eq key) n ≡ None)
+  told-absent key respects x is None found = none-with-hash key respects x is found
+  told-absent key respects x is (Some s) found = tt
+
+-- what is in a list and passes is what is kept of it
+has-kept : (p : ℕ → Bool) (cs : List ℕ) (t : ℕ) → has t (filter p cs) ≡ (has t cs && p t)
+has-kept p [] t = refl
+has-kept p (c ∷ cs) t = elim (cases_Bool (p c)) [
+  | inl y ↦ rw y (elim (cases_Bool (eqb t c)) [
+    | inl is ↦ rw is (sym (subst (λ z. p z ≡ true) (sym (eqb-true t c is)) y))
+    | inr differ ↦ rw differ (has-kept p cs t)
+  ])
+  | inr n ↦ rw n (elim (cases_Bool (eqb t c)) [
+    | inl is ↦ let no = subst (λ z. p z ≡ false) (sym (eqb-true t c is)) n in rw (is, no) (has-kept p cs t ∙ ap (λ b. has t cs && b) no ∙ and_false (has t cs))
+    | inr differ ↦ rw differ (has-kept p cs t)
+  ])
+]
+
+-- no slot is kept twice
+apart-kept : (p : ℕ → Bool) (cs : List ℕ) → AllApart cs → AllApart (filter p cs)
+apart-kept p [] apart = tt
+apart-kept p (c ∷ cs) apart = elim (cases_Bool (p c)) [
+  | inl y ↦ rw y (has-kept p cs c ∙ ap (λ b. b && p c) apart.0, apart-kept p cs apart.1)
+  | inr n ↦ rw n (apart-kept p cs apart.1)
+]
+
+module _ {K V : Type 0} {eq : K → K → Bool} {hash : K → ℕ} {shares : Shares} {q : QueueState} {h : Remembered K} {index : List (List (ℕ × ℕ))} {keys : KeyPlaces K V} {free : List ℕ} {room : ℕ}
+    (laws : IsEquivalence eq) (kept : IsKept eq hash shares q h index keys free room) where
+  abbrev l : Machine K V
+  l = machine_of shares q keys.entries h.entries free
+
+  -- a resident with the hash is among the candidates
+  is-candidate : (x t : ℕ) → has_hash_at hash x l t ≡ true → has t (candidates index x) ≡ true
+  is-candidate x t it = elim (cases_Bool (has t (places_of q))) [
+    | inl stands ↦
+        let e = slice_get_some keys.entries t (below_of (length keys.entries) (places_of q) kept.stored.made t stands) in
+        let resident = resident-there laws kept t e.0.key stands (ap (λ (z : Option (Entry K V)). elim z [ None ↦ None | Some e ↦ Some e.key ]) e.1) in
+        let same : hash e.0.key ≡ x = eqb-true (hash e.0.key) x (sym (ap (λ (z : Option (K × ℕ)). elim z [ None ↦ false | Some r ↦ hash r.0 == x ]) resident) ∙ it) in
+        let own = hash-there hash keys.entries t e.0 e.1 kept.stored.hashed ∙ same in
+        let hashed : hash_at keys.entries t ≡ Some x = ap (λ (z : Option (Entry K V)). elim z [ None ↦ None | Some e ↦ Some e.hash ]) e.1 ∙ ap (λ (z : ℕ). Some z) own in
+        let named : is_named index keys.entries x t ≡ true = ap (λ (z : Option ℕ). elim z [ None ↦ false | Some y ↦ is_alike index x y ]) hashed ∙ alike-itself index x in
+        let both : (has t (places_of q) && is_named index keys.entries x t) ≡ true = rw (stands, named) refl in
+        kept.stored.indexed.listed x t ∙ both
+    | inr gone ↦ absurd (both_ways false refl (sym (ap (λ (z : Option (K × ℕ)). elim z [ None ↦ false | Some r ↦ hash r.0 == x ]) (resident-none laws kept t gone)) ∙ it))
+  ]
+    where
+      alike-itself : (index : List (List (ℕ × ℕ))) (x : ℕ) → is_alike index x x ≡ true
+      alike-itself index x = rw (eqb_self (x % length index), eqb_self (x / 2 ^ 56)) refl
+
+  -- each resident with the hash is listed, and nothing else
+  pub lists-each : (x t : ℕ) → has t (filter (has_hash_at hash x l) (candidates index x)) ≡ has_hash_at hash x l t
+  lists-each x t = has-kept (has_hash_at hash x l) (candidates index x) t ∙ passes (has_hash_at hash x l t) refl
+    where
+      passes : (b : Bool) → has_hash_at hash x l t ≡ b → (has t (candidates index x) && b) ≡ b
+      passes true it = rw (is-candidate x t it) refl
+      passes false it = and_false (has t (candidates index x))
+
+  -- and none twice
+  pub lists-once : (x : ℕ) → AllApart (filter (has_hash_at hash x l) (candidates index x))
+  lists-once x = apart-kept (has_hash_at hash x l) (candidates index x) (kept.stored.indexed.once x)
+
+-- a result that isn't a slot is none
+pub none-of : (o : Option ℕ) → ((x : ℕ) → o ≡ Some x → ⊥) → o ≡ None
+none-of None other = refl
+none-of (Some x) other = absurd (other x refl)
+
+pub told-none : (o : Option ℕ) → ((x : ℕ) → o ≡ Some x → ⊥) → {P : Type 0} → IfNone o P → P
+told-none None other it = it
+told-none (Some x) other it = absurd (other x refl)
+
+-- what is kept of a list is below what all of it is
+kept-below : (p : ℕ → Bool) (bound : ℕ) (cs : List ℕ) (n : ℕ) (o : Option ℕ) → AllByRecursion (λ t. t < bound) cs → o ≡ slice_get (filter p cs) n → IfSome o (λ t. t < bound)
+kept-below p bound cs n None all is = tt
+kept-below p bound [] n (Some t) all is = absurd (cc)
+kept-below p bound (c ∷ cs) n (Some t) all is = elim (cases_Bool (p c)) [
+  | inl y ↦ at (λ m same. kept-below p bound cs m (Some t) all.1 same) n (is ∙ rw y refl)
+  | inr not ↦ kept-below p bound cs n (Some t) all.1 (is ∙ rw not refl)
+]
+  where
+    at : ((m : ℕ) → Some t ≡ slice_get (filter p cs) m → t < bound) → (n : ℕ) → Some t ≡ slice_get (c ∷ filter p cs) n → t < bound
+    at later zero is = subst (λ z. z < bound) (sym (some_is t c is)) all.0
+    at later (suc n) is = later n is
+
+module _ {K V : Type 0} {eq : K → K → Bool} {hash : K → ℕ} {shares : Shares} {q : QueueState} {h : Remembered K} {index : List (List (ℕ × ℕ))} {keys : KeyPlaces K V} {free : List ℕ} {room : ℕ}
+    (laws : IsEquivalence eq) (kept : IsKept eq hash shares q h index keys free room) where
+  -- the slot that is found is below the capacity
+  pub found-within : (x n : ℕ) (o : Option ℕ) → o ≡ slice_get (filter (has_hash keys.entries x) (candidates index x)) n → IfSome o (λ slot. slot < shares.capacity)
+  found-within x n o is = of o (kept-below (has_hash keys.entries x) (length keys.entries) (candidates index x) n o (candidates-there laws kept x) is)
+    where
+      of : (o : Option ℕ) → IfSome o (λ slot. slot < length keys.entries) → IfSome o (λ slot. slot < shares.capacity)
+      of None below = tt
+      of (Some slot) below = omega (arith, below, length-values keys.entries, kept.whole.made_within)

@@ -1,0 +1,24 @@
+-- What the walk finds first, and that the key isn't resident if it finds nothing.
+use Rattle.std.proofs.Common.{slice_get, ap, ◌∙◌}
+use Rattle.clock2q_cache.proofs.Names.{hash_of, CacheState}
+use Rattle.clock2q_cache.specs.SlotsByHash.{slots_with_hash}
+use Rattle.clock2q_cache.proofs.Finding.{candidates-there}
+use Rattle.clock2q_cache.proofs.WithHash.{found-within, with-hash, told-absent}
+use Rattle.clock2q_cache.proofs.cache.Cache.first_alike.Goals as goal
+
+pub slot_with_hash-requires : goal.slot_with_hash-requires
+slot_with_hash-requires g c = record { made = candidates-there g.met.K.Eq.laws c.self.invariant c.args.hash }
+
+pub returns-clause-slot : goal.returns-clause-slot
+returns-clause-slot g c =
+    c.slot_with_hash.ensures.slot ∙ ap (λ z. slice_get z 0) (with-hash g.met.K.Eq.laws c.self.invariant c.args.hash)
+    ∙ ap (λ (z : CacheState _ _ _). slice_get (slots_with_hash (record { eq = g.K.PartialEq.eq; hash_input = g.K.Hash.hash_input }) g.S.BuildHasher g.S.Hasher.Hasher c.args.hash z) 0) c.self.view_is
+
+pub returns-clause-absent : goal.returns-clause-absent
+returns-clause-absent g c =
+    let same = rw (← c.self.view_is) at c.requires in
+    rw (← c.self.view_is) (told-absent g.met.K.Eq.laws c.self.invariant c.args.key.now (λ x y e. ap (λ z. hash_of g.S.BuildHasher g.S.Hasher.Hasher c.self.inside.hasher z) (g.met.K.Hash.respects_eq x y e)) c.args.hash same
+    c.slot_with_hash.result c.slot_with_hash.ensures.slot)
+
+pub returns-clause-within : goal.returns-clause-within
+returns-clause-within g c = rw (← c.self.view_is) (found-within g.met.K.Eq.laws c.self.invariant c.args.hash 0 c.slot_with_hash.result c.slot_with_hash.ensures.slot)

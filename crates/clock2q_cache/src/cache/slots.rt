@@ -1,0 +1,162 @@
+//! Calls by slot or by hash, for a caller that compares its keys itself, between two calls.
+use crate::cache::Cache;
+use std::alloc::Allocator;
+use std::hash::{BuildHasher, Hash};
+
+impl<K: Hash + Eq, V, S: BuildHasher, A: Allocator> Cache<K, V, S, A> {
+    ghost use Rattle.std.specs.Prelude.{◌≡◌, ◌<◌, ◌^◌, ◌↔◌, IsTrue, IsSome, IfSome, IfNone, None, Some, is_some, slice_get};
+    ghost use Rattle.clock2q_machine.specs.Calls.{Get, Remove};
+    ghost use Rattle.clock2q_machine.specs.Machine.{hit, removed, resident_at, slot_of};
+    ghost use Rattle.clock2q_cache.specs.Costs.{Costs, Spends};
+    ghost use Rattle.clock2q_cache.specs.Hashes.{hash_of};
+    ghost use Rattle.clock2q_cache.specs.SlotsByHash.{ListsOnce, slots_with_hash};
+
+    /// Returns the slot of a resident key, or `None`. It records no hit, and so changes no later
+    /// eviction.
+    ///
+    /// # Cost
+    ///
+    /// That of [`contains`](Cache::contains).
+    pub fn peek_slot(&self, key: &K) -> Option<usize>
+        ensures slot { result ≡ slot_of (K.eq key.now) self.now.machine }
+    {
+        Some(self.slot_of(key)? as usize)
+    }
+
+    /// Returns the slot that comes after `nth` others among those of the residents whose keys have
+    /// this hash, or `None` if there are no more. It compares no key and records no hit. The order
+    /// is the same until a key enters or leaves.
+    ///
+    /// # Cost
+    ///
+    /// No hash and no question. It reads each candidate up to the one that it returns.
+    pub fn slot_with_hash(&self, hash: u64, nth: usize) -> Option<usize>
+        ensures slot { result ≡ slice_get (slots_with_hash K.Hash S.BuildHasher S.Hasher.Hasher hash self.now) nth }
+        ensures listed { ListsOnce K.Hash S.BuildHasher S.Hasher.Hasher hash self.now }
+        ensures within { IfSome result (λ slot. slot < self.now.machine.shares.capacity) }
+    {
+        Some(self.with_hash(hash, nth)? as usize)
+    }
+
+    /// Records a hit on the resident at this slot and returns true. Returns false and changes
+    /// nothing if there is none, whatever the number.
+    ///
+    /// # Cost
+    ///
+    /// No hash, no question, and no access to a link.
+    pub fn hit_slot(&mut self, slot: usize) -> bool
+        ensures found { IsTrue result ↔ IsSome (resident_at self.old.machine slot) }
+        ensures machine { IfSome (resident_at self.old.machine slot) (λ r. self.new.machine ≡ hit (K.eq r.0) self.old.machine) }
+        ensures missed { IfNone (resident_at self.old.machine slot) (self.new ≡ self.old) }
+        ensures kept { self.new ≡ record self.old { machine = self.new.machine } }
+        ensures costs { IfSome (resident_at self.old.machine slot) (λ r. Costs K.Hash S.BuildHasher S.Hasher.Hasher (Get r.0) self.old self.new) }
+    {
+        if !self.has_resident(slot) {
+            return false;
+        }
+        self.hit_resident(slot as u32);
+        true
+    }
+
+    /// Removes the key that is resident at this slot, as [`remove`](Cache::remove) does, and
+    /// returns true. Returns false and changes nothing if there is none, whatever the number.
+    ///
+    /// # Cost
+    ///
+    /// No hash and no question. At most eight accesses to links.
+    pub fn remove_slot(&mut self, slot: usize) -> bool
+        ensures found { IsTrue result ↔ IsSome (resident_at self.old.machine slot) }
+        ensures machine { IfSome (resident_at self.old.machine slot) (λ r. self.new.machine ≡ removed (K.eq r.0) self.old.machine) }
+        ensures missed { IfNone (resident_at self.old.machine slot) (self.new ≡ self.old) }
+        ensures hasher { self.new.hasher ≡ self.old.hasher }
+        ensures counts { Spends 0 8 0 self.old.counts self.new.counts }
+        ensures costs { IfSome (resident_at self.old.machine slot) (λ r. Costs K.Hash S.BuildHasher S.Hasher.Hasher (Remove r.0) self.old self.new) }
+    {
+        if !self.has_resident(slot) {
+            return false;
+        }
+        self.vacate(slot as u32);
+        true
+    }
+
+    /// Returns true if there is a resident at a slot.
+    fn has_resident(&self, slot: usize) -> bool
+        ensures resident { result ≡ is_some (resident_at self.now.machine slot) }
+        ensures own { IfSome (resident_at self.now.machine slot) (λ r. slot_of (K.eq r.0) self.now.machine ≡ Some slot) }
+        ensures small { IsTrue result → slot < 2 ^ 32 }
+    {
+        if slot >= self.directory.made() {
+            return false;
+        }
+        self.is_resident(slot as u32)
+    }
+
+    /// Records a hit on the resident at a slot.
+    fn hit_resident(&mut self, slot: u32)
+        requires { IsSome (resident_at self.old.machine slot) }
+        ensures machine { IfSome (resident_at self.old.machine slot) (λ r. self.new.machine ≡ hit (K.eq r.0) self.old.machine) }
+        ensures kept { self.new ≡ record self.old { machine = self.new.machine } }
+    {
+        self.queues.hit(slot);
+    }
+
+    /// Returns slot number `nth` of those of the residents whose keys have a hash.
+    #[inline(always)]
+    fn with_hash(&self, hash: u64, nth: usize) -> Option<u32>
+        ensures slot { result ≡ slice_get (slots_with_hash K.Hash S.BuildHasher S.Hasher.Hasher hash self.now) nth }
+        ensures listed { ListsOnce K.Hash S.BuildHasher S.Hasher.Hasher hash self.now }
+        ensures within { IfSome result (λ slot. slot < self.now.machine.shares.capacity) }
+    {
+        self.directory.slot_with_hash(hash, nth)
+    }
+
+    /// Returns the first slot of those of the residents whose keys have the hash of this key.
+    #[inline(always)]
+    fn first_alike(&self, hash: u64, key: &K) -> Option<u32>
+        requires { hash ≡ hash_of S.BuildHasher S.Hasher.Hasher self.now.hasher (K.hash_input key.now) }
+        ensures slot { result ≡ slice_get (slots_with_hash K.Hash S.BuildHasher S.Hasher.Hasher hash self.now) 0 }
+        ensures absent { IfNone result (slot_of (K.eq key.now) self.now.machine ≡ None) }
+        ensures within { IfSome result (λ slot. slot < self.now.machine.shares.capacity) }
+    {
+        let _ = key;
+        self.directory.slot_with_hash(hash, 0)
+    }
+}
+
+impl<K: Hash + Eq + Drop, V: Drop, S: BuildHasher, A: Allocator> Cache<K, V, S, A> {
+    ghost use Rattle.std.specs.Prelude.{◌≡◌, ◌<◌, true, false, None, Some, [], slice_get};
+    ghost use Rattle.clock2q_machine.specs.Calls.{Put};
+    ghost use Rattle.clock2q_machine.specs.Machine.{slot_of};
+    ghost use Rattle.clock2q_machine.specs.Steps.{put};
+    ghost use Rattle.clock2q_cache.specs.Costs.{Costs};
+    ghost use Rattle.clock2q_cache.specs.Hashes.{hash_of};
+    ghost use Rattle.clock2q_cache.specs.SlotsByHash.{slots_with_hash};
+
+    /// Inserts a key with a value if no resident's key has its hash, and returns its slot and true.
+    /// Otherwise returns the slot that [`slot_with_hash`](Cache::slot_with_hash) returns first, and
+    /// false; nothing changes, and `key` and `value` are dropped.
+    ///
+    /// # Cost
+    ///
+    /// One hash of the key, and at most one question to each candidate in the history. If the key
+    /// is inserted, that of [`put`](Cache::put).
+    pub fn slot_with_hash_or_insert(&mut self, key: K, value: V) -> (usize, bool)
+        ensures first { result.1 ≡ false → slice_get (slots_with_hash K.Hash S.BuildHasher S.Hasher.Hasher (hash_of S.BuildHasher S.Hasher.Hasher self.old.hasher (K.hash_input key)) self.old) 0 ≡ Some result.0 }
+        ensures same { result.1 ≡ false → self.new ≡ self.old }
+        ensures alone { result.1 ≡ true → slots_with_hash K.Hash S.BuildHasher S.Hasher.Hasher (hash_of S.BuildHasher S.Hasher.Hasher self.old.hasher (K.hash_input key)) self.old ≡ [] }
+        ensures absent { result.1 ≡ true → slot_of (K.eq key) self.old.machine ≡ None }
+        ensures resident { result.1 ≡ true → slot_of (K.eq key) self.new.machine ≡ Some result.0 }
+        ensures within { result.0 < self.new.machine.shares.capacity }
+        ensures machine { result.1 ≡ true → self.new.machine ≡ put (K.eq key) key value self.old.machine }
+        ensures hasher { self.new.hasher ≡ self.old.hasher }
+        ensures costs { result.1 ≡ true → Costs K.Hash S.BuildHasher S.Hasher.Hasher (Put key value) self.old self.new }
+    {
+        let hash = self.hash(&key);
+        if let Some(slot) = self.first_alike(hash, &key) {
+            return (slot as usize, false);
+        }
+        let _ = self.len(); // whose contract says that the cache is whole
+        let place = self.find_place(hash, &key);
+        (self.insert(hash, key, value, place) as usize, true)
+    }
+}
