@@ -65,6 +65,7 @@ typedef struct {
     size_t slot;   /* below the capacity */
     uint64_t last; /* 0 if no key did */
     bool has_last;
+    bool evicted; /* whether `last` had the slot until this call, and lost it */
 } clock2q_place;
 
 /* The slot of a key, if it has one. */
@@ -130,6 +131,78 @@ size_t clock2q_capacity(clock2q *cache);
 /* Frees a cache that nobody uses from then on. Needs a cache. clock2q_free is easier to call. */
 void clock2q_release(clock2q cache);
 
+/* Tokens: a cache of keys of your own type. It is given a key's hash in place of the key, and you
+ * compare your keys, at the slots of that hash:
+ *
+ *     clock2q_found found;
+ *     for (size_t nth = 0; (found = clock2q_tokens_seek(&cache, hash, nth)).is_found; nth++) {
+ *         if (same_key(keys[found.slot], key)) break;
+ *     }
+ *     if (found.is_found) clock2q_tokens_hit(&cache, found.slot);
+ *     else found.slot = clock2q_tokens_enter(&cache, hash, nth == 0 ? 0 : ++number);
+ *     keys[found.slot] = key;
+ *
+ * A token is a hash and a number. Each token has a slot of its own, so keys of one hash do too. What
+ * you owe besides the above:
+ * - The number is 0 if no token with this hash has a slot, and one that was never used before if one
+ *   has. So a key that comes back is known by its hash, and keys of one hash don't share a slot.
+ * - A key that enters takes the place of the key that you kept at its slot, if there is one: it has
+ *   left the cache.
+ * - Hashes are well spread, in their low bits and in the highest eight: clock2q_spread makes them so.
+ *   They choose where a key is looked for, never what is found. If strangers choose keys, hash them
+ *   with a secret.
+ * - Few keys of one hash: a walk over them takes time in proportion to the square of their number.
+ *   From sixteen on remove one before the next enters.
+ * - Between a walk and the call that it leads to, no other call is made on the cache. If a comparison
+ *   may make one, begin the walk again. */
+typedef struct {
+    void *at;
+} clock2q_tokens;
+
+#define CLOCK2Q_TOKENS_NONE {0}
+
+/* A slot, and whether a token has just entered it. */
+typedef struct {
+    size_t slot; /* below the capacity */
+    bool has_entered;
+} clock2q_admitted;
+
+/* Makes a cache for `capacity` tokens, as clock2q_new and clock2q_with_policy do. */
+uint32_t clock2q_tokens_new(clock2q_tokens *cache, size_t capacity);
+uint32_t clock2q_tokens_with_policy(clock2q_tokens *cache, size_t capacity, size_t small, size_t window);
+
+/* Finds the slot that comes after `nth` others among those of the tokens with this hash. Each of them
+ * is found for one `nth`, and nothing else; their order is the same until a token enters or leaves.
+ * Records nothing. Needs a cache. */
+clock2q_found clock2q_tokens_seek(clock2q_tokens *cache, uint64_t hash, size_t nth);
+
+/* Records a hit on the token at this slot and returns true, if there is one; any number will do.
+ * Needs a cache. */
+bool clock2q_tokens_hit(clock2q_tokens *cache, size_t slot);
+
+/* Gives the token of this hash and the number 0 a slot, which another token may lose, if no token with
+ * this hash has one. Otherwise returns the slot that clock2q_tokens_seek finds first, and records
+ * nothing. Needs a cache. Costs what clock2q_enter_key does. */
+clock2q_admitted clock2q_tokens_admit(clock2q_tokens *cache, uint64_t hash);
+
+/* Gives the token of this hash and this number a slot, which another token may lose, and returns it.
+ * Needs a cache. Costs what clock2q_enter_key does. */
+size_t clock2q_tokens_enter(clock2q_tokens *cache, uint64_t hash, uint64_t number);
+
+/* Takes the slot away from its token and returns true, if it has one; any number will do. Needs a
+ * cache. Costs at most 8 accesses to the queues. */
+bool clock2q_tokens_remove(clock2q_tokens *cache, size_t slot);
+
+/* Forgets the token of this hash and this number, if it was remembered. If it has a slot, takes the slot
+ * away and returns true. Needs a cache. Costs at most 8 accesses to the queues. */
+bool clock2q_tokens_forget(clock2q_tokens *cache, uint64_t hash, uint64_t number);
+
+/* The same as clock2q_clear, clock2q_len, clock2q_capacity and clock2q_release. They need a cache. */
+void clock2q_tokens_clear(clock2q_tokens *cache);
+size_t clock2q_tokens_len(clock2q_tokens *cache);
+size_t clock2q_tokens_capacity(clock2q_tokens *cache);
+void clock2q_tokens_release(clock2q_tokens cache);
+
 /* With assertions each call asserts what it needs. A thread sanitizer sees no more of the library than
  * the writes here, which leave the handle as it is. */
 #if defined __SANITIZE_THREAD__
@@ -155,6 +228,20 @@ static inline clock2q clock2q_checked_value(clock2q cache) {
     return cache;
 }
 
+static inline clock2q_tokens *clock2q_tokens_checked(clock2q_tokens *cache, bool needs_one) {
+    assert(cache != NULL && (cache->at != NULL) == needs_one);
+    (void)needs_one;
+#ifdef CLOCK2Q_THREADS_ARE_SEEN
+    *(void *volatile *)&cache->at = cache->at;
+#endif
+    return cache;
+}
+
+static inline clock2q_tokens clock2q_tokens_checked_value(clock2q_tokens cache) {
+    assert(cache.at != NULL);
+    return cache;
+}
+
 #define clock2q_new(cache, capacity) clock2q_new(clock2q_checked(cache, false), capacity)
 #define clock2q_with_policy(cache, capacity, small, window) \
     clock2q_with_policy(clock2q_checked(cache, false), capacity, small, window)
@@ -167,6 +254,21 @@ static inline clock2q clock2q_checked_value(clock2q cache) {
 #define clock2q_len(cache) clock2q_len(clock2q_checked(cache, true))
 #define clock2q_capacity(cache) clock2q_capacity(clock2q_checked(cache, true))
 #define clock2q_release(cache) clock2q_release(clock2q_checked_value(cache))
+#define clock2q_tokens_new(cache, capacity) clock2q_tokens_new(clock2q_tokens_checked(cache, false), capacity)
+#define clock2q_tokens_with_policy(cache, capacity, small, window) \
+    clock2q_tokens_with_policy(clock2q_tokens_checked(cache, false), capacity, small, window)
+#define clock2q_tokens_seek(cache, hash, nth) clock2q_tokens_seek(clock2q_tokens_checked(cache, true), hash, nth)
+#define clock2q_tokens_hit(cache, slot) clock2q_tokens_hit(clock2q_tokens_checked(cache, true), slot)
+#define clock2q_tokens_admit(cache, hash) clock2q_tokens_admit(clock2q_tokens_checked(cache, true), hash)
+#define clock2q_tokens_enter(cache, hash, number) \
+    clock2q_tokens_enter(clock2q_tokens_checked(cache, true), hash, number)
+#define clock2q_tokens_remove(cache, slot) clock2q_tokens_remove(clock2q_tokens_checked(cache, true), slot)
+#define clock2q_tokens_forget(cache, hash, number) \
+    clock2q_tokens_forget(clock2q_tokens_checked(cache, true), hash, number)
+#define clock2q_tokens_clear(cache) clock2q_tokens_clear(clock2q_tokens_checked(cache, true))
+#define clock2q_tokens_len(cache) clock2q_tokens_len(clock2q_tokens_checked(cache, true))
+#define clock2q_tokens_capacity(cache) clock2q_tokens_capacity(clock2q_tokens_checked(cache, true))
+#define clock2q_tokens_release(cache) clock2q_tokens_release(clock2q_tokens_checked_value(cache))
 #endif
 
 /* clock2q_enter_key, which writes to `place`. */
@@ -190,6 +292,20 @@ static inline void clock2q_free(clock2q *cache) {
         clock2q_release(*cache);
         cache->at = NULL;
     }
+}
+
+/* The same for a cache of tokens. */
+static inline void clock2q_tokens_free(clock2q_tokens *cache) {
+    if (cache->at != NULL) {
+        clock2q_tokens_release(*cache);
+        cache->at = NULL;
+    }
+}
+
+/* Spreads the bits of a hash. Different hashes stay different. */
+static inline uint64_t clock2q_spread(uint64_t hash) {
+    uint64_t product = hash * UINT64_C(0x9E3779B97F4A7C15);
+    return product ^ product >> 32;
 }
 
 /* Returns true if no other key entered the slot since this one did, so that what you keep for the

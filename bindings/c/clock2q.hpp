@@ -32,15 +32,31 @@ struct policy {
     std::size_t window;
 };
 
+namespace detail {
+
+inline void check(std::uint32_t answer) {
+    switch (answer) {
+    case CLOCK2Q_DONE: return;
+    case CLOCK2Q_NO_MEMORY: throw std::bad_alloc();
+    case CLOCK2Q_BAD_CAPACITY: throw std::invalid_argument("clock2q: no cache has this capacity");
+    default: throw std::invalid_argument("clock2q: the shares of the policy don't fit together");
+    }
+}
+
+// The most keys of one hash in a cache.
+constexpr std::size_t most_alike = 16;
+
+} // namespace detail
+
 // A clock2q that is freed with its owner. Its calls are those of clock2q.h, which says what they cost; none
 // throws but the constructors: std::bad_alloc if there is no memory, std::invalid_argument if the capacity
 // or the policy is refused. One that was moved from may only be destroyed, assigned to and asked for its
 // capacity, which is 0. No call is const that asks the library, since no two calls may overlap.
 class page_cache {
   public:
-    explicit page_cache(std::size_t capacity) : capacity_(capacity) { check(clock2q_new(&handle_, capacity)); }
+    explicit page_cache(std::size_t capacity) : capacity_(capacity) { detail::check(clock2q_new(&handle_, capacity)); }
     page_cache(std::size_t capacity, policy shares) : capacity_(capacity) {
-        check(clock2q_with_policy(&handle_, capacity, shares.small, shares.window));
+        detail::check(clock2q_with_policy(&handle_, capacity, shares.small, shares.window));
     }
     page_cache(page_cache &&other) noexcept { swap(other); }
     page_cache &operator=(page_cache &&other) noexcept {
@@ -73,17 +89,56 @@ class page_cache {
     friend void swap(page_cache &one, page_cache &other) noexcept { one.swap(other); }
 
   private:
-    static void check(std::uint32_t answer) {
-        switch (answer) {
-        case CLOCK2Q_DONE: return;
-        case CLOCK2Q_NO_MEMORY: throw std::bad_alloc();
-        case CLOCK2Q_BAD_CAPACITY: throw std::invalid_argument("clock2q: no cache has this capacity");
-        default: throw std::invalid_argument("clock2q: the shares of the policy don't fit together");
-        }
-    }
-
     clock2q handle_ = CLOCK2Q_NONE;
     std::size_t capacity_ = 0;
+};
+
+// A clock2q_tokens that is freed with its owner, with the numbers of its tokens. It throws what page_cache does,
+// and is moved as that is.
+class token_cache {
+  public:
+    explicit token_cache(std::size_t capacity) : capacity_(capacity) {
+        detail::check(clock2q_tokens_new(&handle_, capacity));
+    }
+    token_cache(std::size_t capacity, policy shares) : capacity_(capacity) {
+        detail::check(clock2q_tokens_with_policy(&handle_, capacity, shares.small, shares.window));
+    }
+    token_cache(token_cache &&other) noexcept { swap(other); }
+    token_cache &operator=(token_cache &&other) noexcept {
+        token_cache taken(std::move(other));
+        swap(taken);
+        return *this;
+    }
+    ~token_cache() { clock2q_tokens_free(&handle_); }
+
+    // Gives a key of this hash a slot, which another key may lose, if no key of this hash has one. Otherwise changes
+    // nothing, and returns a slot of that hash.
+    clock2q_admitted admit(std::uint64_t hash) noexcept { return clock2q_tokens_admit(&handle_, clock2q_spread(hash)); }
+    // Gives a key a slot beside those of its hash, and returns it. Another key may lose its own.
+    std::size_t enter_beside(std::uint64_t hash) noexcept {
+        return clock2q_tokens_enter(&handle_, clock2q_spread(hash), ++number_);
+    }
+    // Records a hit on the key at this slot, and returns true if there is one.
+    bool hit(std::size_t slot) noexcept { return clock2q_tokens_hit(&handle_, slot); }
+    // Takes the slot away from its key, and returns true if it has one.
+    bool erase(std::size_t slot) noexcept { return clock2q_tokens_remove(&handle_, slot); }
+    // Takes all slots away, and forgets all keys.
+    void clear() noexcept { clock2q_tokens_clear(&handle_); }
+    // Returns how many keys have a slot.
+    std::size_t size() noexcept { return clock2q_tokens_len(&handle_); }
+    // Returns how many keys can have a slot.
+    std::size_t capacity() const noexcept { return capacity_; }
+    void swap(token_cache &other) noexcept {
+        std::swap(handle_, other.handle_);
+        std::swap(capacity_, other.capacity_);
+        std::swap(number_, other.number_);
+    }
+    friend void swap(token_cache &one, token_cache &other) noexcept { one.swap(other); }
+
+  private:
+    clock2q_tokens handle_ = CLOCK2Q_TOKENS_NONE;
+    std::size_t capacity_ = 0;
+    std::uint64_t number_ = 0; // the last that was used
 };
 
 namespace detail {
@@ -101,14 +156,21 @@ template <class Node> class nodes {
     std::size_t size() const noexcept { return size_; }
     Node *at(std::size_t slot) const noexcept { return by_slot_[slot]; }
 
-    // Returns the node of a hash, or null.
-    Node *find(std::uint64_t hash) const noexcept {
-        Node *node = chains_[home(hash)];
-        while (node != nullptr && node->hash != hash) node = node->next;
-        return node;
+    // Returns the newest node of a hash, or null.
+    Node *find(std::uint64_t hash) const noexcept { return first_of(chains_[home(hash)], hash); }
+
+    // Returns the next older node of a node's hash, or null.
+    Node *after(const Node *node) const noexcept { return first_of(node->next, node->hash); }
+
+    // Returns the oldest node of a hash, if there are so many of it, else null.
+    Node *last_of_many(std::uint64_t hash, std::size_t many) const noexcept {
+        Node *last = nullptr;
+        std::size_t count = 0;
+        for (Node *node = find(hash); node != nullptr; node = after(node)) last = node, count++;
+        return count < many ? nullptr : last;
     }
 
-    // Puts a node at a slot, and returns the one that was there or null. No other slot has a node of its hash.
+    // Puts a node at a slot, and returns the one that was there or null.
     Node *exchange(std::size_t slot, Node *node) noexcept {
         Node *left = std::exchange(by_slot_[slot], node);
         node->slot = static_cast<std::uint32_t>(slot);
@@ -137,6 +199,10 @@ template <class Node> class nodes {
     }
 
   private:
+    static Node *first_of(Node *node, std::uint64_t hash) noexcept {
+        while (node != nullptr && node->hash != hash) node = node->next;
+        return node;
+    }
     std::size_t home(std::uint64_t hash) const noexcept {
         return static_cast<std::size_t>((hash * UINT64_C(0x9E3779B97F4A7C15)) >> (64 - bits_));
     }
@@ -169,8 +235,8 @@ template <> struct argument<false> {
 
 // A cache of at most `capacity` keys with their values, in the manner of std::unordered_map.
 //
-// - The library knows a key by its 64-bit hash alone: of keys with one hash the last that came is kept, and
-//   the one before it leaves. So let Hash tell keys apart.
+// - Each key has a slot of its own. There are at most sixteen keys of one 64-bit hash, and then one leaves for
+//   the next. So let Hash tell keys apart.
 // - `get`, `at`, `find`, `[]` and all that inserts record a hit. `peek`, `contains`, `count`, iterators and const
 //   members don't.
 // - A pointer or reference to a value holds until its key leaves; iterators until an entry comes or leaves.
@@ -279,9 +345,9 @@ template <class Key, class Value, class Hash = std::hash<Key>, class Equal = std
     // std::invalid_argument unless the capacity is from 1 to CLOCK2Q_MAX_CAPACITY and the policy has
     // small < capacity, window <= small, and both or neither of them 0.
     explicit cache(size_type capacity, const Hash &hash = Hash(), const Equal &equal = Equal())
-        : state_(new state(page_cache(capacity), hash, equal)) {}
+        : state_(new state(token_cache(capacity), hash, equal)) {}
     cache(size_type capacity, policy shares, const Hash &hash = Hash(), const Equal &equal = Equal())
-        : state_(new state(page_cache(capacity, shares), hash, equal)) {}
+        : state_(new state(token_cache(capacity, shares), hash, equal)) {}
     cache(cache &&) noexcept = default;
     cache &operator=(cache &&) noexcept = default;
     ~cache() {
@@ -353,7 +419,7 @@ template <class Key, class Value, class Hash = std::hash<Key>, class Equal = std
         return assigned(std::move(key), std::forward<Other>(value));
     }
 
-    // Inserts a key, in place of its entry if it has one. Calls no Equal.
+    // Inserts a key, in place of its entry if it has one, after a hit.
     template <class Other = Value> void put(const Key &key, Other &&value) {
         node *left = pushed(key, std::forward<Other>(value));
         state_->drop(left);
@@ -433,7 +499,7 @@ template <class Key, class Value, class Hash = std::hash<Key>, class Equal = std
 
   private:
     struct state {
-        state(page_cache made, const Hash &own_hash, const Equal &own_equal)
+        state(token_cache made, const Hash &own_hash, const Equal &own_equal)
             : slots(std::move(made)), nodes(slots.capacity()), hash(own_hash), equal(own_equal) {}
         ~state() {
             clear();
@@ -444,10 +510,9 @@ template <class Key, class Value, class Hash = std::hash<Key>, class Equal = std
 
         // The node of a key, after a hit, or null.
         template <class K> node *hit(const K &key, std::uint64_t wanted) {
-            return equal_one(key, [this, wanted]() noexcept {
-                clock2q_found found = slots.find(wanted);
-                return found.is_found ? nodes.at(found.slot) : nullptr;
-            });
+            node *found = find(key, wanted);
+            if (found != nullptr) slots.hit(found->slot);
+            return found;
         }
 
         // The same, counted.
@@ -459,32 +524,59 @@ template <class Key, class Value, class Hash = std::hash<Key>, class Equal = std
 
         // The node of a key, or null.
         template <class K> node *find(const K &key, std::uint64_t wanted) const {
-            return equal_one(key, [this, wanted]() noexcept { return nodes.find(wanted); });
-        }
-
-        // The node that `find_alike` returns, if its key is equal, else null.
-        template <class K, class Find> node *equal_one(const K &key, Find find_alike) const {
             for (int tries = 0; tries < 8; tries++) {
-                node *alike = find_alike();
-                if (alike == nullptr) return nullptr;
                 std::uint64_t before = version;
-                bool is_same = equal(std::as_const(alike->entry.first), key);
-                if (version == before) return is_same ? alike : nullptr;
+                node *found = equal_one(key, wanted);
+                if (version == before) return found;
             }
             throw std::logic_error("clock2q: Equal changes the cache");
         }
 
-        // Gives a new node its slot, and returns the node that left for it or null.
+        // The node of a key, or null, of those of its hash. If Equal changes the cache, any.
+        template <class K> node *equal_one(const K &key, std::uint64_t wanted) const {
+            std::uint64_t before = version;
+            for (node *alike = nodes.find(wanted); alike != nullptr; alike = nodes.after(alike)) {
+                bool is_same = equal(std::as_const(alike->entry.first), key);
+                if (is_same || version != before) return alike;
+            }
+            return nullptr;
+        }
+
+        // Gives a new node, whose key isn't in, its slot, and returns the node that left for it or null.
         node *link(node *fresh) noexcept {
             version++;
-            return nodes.exchange(slots.enter(fresh->hash).slot, fresh);
+            clock2q_admitted admitted = slots.admit(fresh->hash);
+            if (admitted.has_entered) return nodes.exchange(admitted.slot, fresh);
+            node *gave_way = nodes.last_of_many(fresh->hash, detail::most_alike);
+            if (gave_way != nullptr) unlink(gave_way);
+            node *left = nodes.exchange(slots.enter_beside(fresh->hash), fresh);
+            if (left == nullptr) return gave_way;
+            drop(gave_way);
+            return left;
         }
+
+        // The same in place of the node of its key, if there is one. Drops the new node if Equal throws.
+        node *link_or_replace(node *fresh) {
+            node *found;
+            try {
+                found = hit(std::as_const(fresh->entry.first), fresh->hash);
+            } catch (...) {
+                drop(fresh);
+                throw;
+            }
+            if (found == nullptr) return link(fresh);
+            version++;
+            return nodes.exchange(found->slot, fresh);
+        }
+
+        // The same for a node whose key wasn't in at this version.
+        node *link_since(std::uint64_t seen, node *fresh) { return version == seen ? link(fresh) : link_or_replace(fresh); }
 
         // Takes a node out, which is in.
         void unlink(node *gone) noexcept {
             version++;
             nodes.remove(gone);
-            slots.erase(gone->hash);
+            slots.erase(gone->slot);
         }
 
         void clear() noexcept {
@@ -516,7 +608,7 @@ template <class Key, class Value, class Hash = std::hash<Key>, class Equal = std
             if (other != nullptr) std::allocator<node>().deallocate(other, 1);
         }
 
-        page_cache slots;
+        token_cache slots;
         detail::nodes<node> nodes;
         node *spare = nullptr;
         std::uint64_t version = 0; // how often entries have come or left
@@ -536,7 +628,7 @@ template <class Key, class Value, class Hash = std::hash<Key>, class Equal = std
 
     template <class K, class Other> node *pushed(K &&key, Other &&value) {
         std::uint64_t hash = hash_to_insert(key);
-        return state_->link(state_->make(hash, std::forward<K>(key), std::forward<Other>(value)));
+        return state_->link_or_replace(state_->make(hash, std::forward<K>(key), std::forward<Other>(value)));
     }
 
     // The value of a key and false, after a hit, or that of the node that `make` makes and true.
@@ -545,9 +637,11 @@ template <class Key, class Value, class Hash = std::hash<Key>, class Equal = std
             state_->hits++;
             return {value_of(found), false};
         }
+        std::uint64_t seen = state_->version;
         node *fresh = make();
+        node *left = state_->link_since(seen, fresh);
         state_->misses++;
-        state_->drop(state_->link(fresh));
+        state_->drop(left);
         return {value_of(fresh), true};
     }
 
@@ -570,8 +664,9 @@ template <class Key, class Value, class Hash = std::hash<Key>, class Equal = std
             found->entry.second = std::forward<Other>(value);
             return {value_of(found), false};
         }
+        std::uint64_t seen = state_->version;
         node *fresh = state_->make(hash, std::forward<K>(key), std::forward<Other>(value));
-        state_->drop(state_->link(fresh));
+        state_->drop(state_->link_since(seen, fresh));
         return {value_of(fresh), true};
     }
 

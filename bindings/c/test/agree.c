@@ -25,9 +25,13 @@ static uint64_t draw(void) {
 static bool enters(struct run *run, uint64_t key) {
     clock2q_place place;
     memset(&place, 0xa5, sizeof place); /* no place, as memory that was never written may be none */
+    bool is_new = model_slot(&run->model, key) == NOWHERE;
+    size_t count = run->model.small.count + run->model.main.count;
     clock2q_enter(&run->cache, key, &place);
     long slot = model_enter(&run->model, key);
-    bool agrees = (long)place.slot == slot && place.has_last == run->has_last[slot] && place.last == run->last[slot];
+    bool evicted = is_new && run->model.small.count + run->model.main.count == count;
+    bool agrees = (long)place.slot == slot && place.has_last == run->has_last[slot] && place.last == run->last[slot]
+        && place.evicted == evicted;
     run->has_last[slot] = true;
     run->last[slot] = key;
     return agrees;

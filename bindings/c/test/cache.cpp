@@ -15,6 +15,7 @@
 
 using clock2q_cpp::cache;
 using clock2q_cpp::page_cache;
+using clock2q_cpp::token_cache;
 
 static int failed = 0;
 
@@ -90,32 +91,60 @@ struct constant {
     std::size_t operator()(const counted &) const { return 42; }
 };
 
-// What has to be there: the library says which hash has which slot, and the rest is a map.
+// What has to be there: the library says which key has which slot, and the rest is a map.
 template <class Hash> struct model {
-    page_cache slots;
+    token_cache slots;
     std::vector<std::optional<std::uint64_t>> key_at;
-    std::unordered_map<std::uint64_t, std::uint64_t> map;
+    std::unordered_map<std::uint64_t, std::uint64_t> map, slot_of;
+    std::unordered_map<std::uint64_t, std::vector<std::uint64_t>> alike; // by hash, the newest last
     explicit model(std::size_t capacity) : slots(capacity), key_at(capacity) {}
 
-    void hit(std::uint64_t key) { slots.find(Hash()(key)); }
+    void hit(std::uint64_t key) {
+        if (map.count(key)) slots.hit(slot_of[key]);
+    }
 
     // Returns the key that leaves.
     std::optional<std::uint64_t> insert(std::uint64_t key, std::uint64_t value) {
-        std::optional<std::uint64_t> left = std::exchange(key_at[slots.enter(Hash()(key)).slot], key);
-        if (left) map.erase(*left);
+        std::optional<std::uint64_t> left;
+        std::uint64_t hash = Hash()(key);
+        if (map.count(key)) {
+            hit(key);
+            forget(left = key);
+        } else {
+            clock2q_admitted admitted = slots.admit(hash);
+            if (!admitted.has_entered) {
+                if (alike[hash].size() == 16) {
+                    left = alike[hash].front();
+                    erase(*left);
+                }
+                admitted.slot = slots.enter_beside(hash);
+            }
+            slot_of[key] = admitted.slot;
+            if (key_at[admitted.slot]) forget(left = key_at[admitted.slot]);
+        }
+        key_at[slot_of[key]] = key;
+        alike[hash].push_back(key);
         map[key] = value;
         return left;
     }
 
+    void forget(std::optional<std::uint64_t> key) {
+        auto &same = alike[Hash()(*key)];
+        same.erase(std::find(same.begin(), same.end(), *key));
+        map.erase(*key);
+    }
+
     bool erase(std::uint64_t key) {
-        if (map.erase(key) == 0) return false;
-        key_at[slots.find(Hash()(key)).slot].reset();
-        return slots.erase(Hash()(key));
+        if (!map.count(key)) return false;
+        forget(key);
+        key_at[slot_of[key]].reset();
+        return slots.erase(slot_of[key]);
     }
 
     void clear() {
         slots.clear();
         map.clear();
+        alike.clear();
         for (auto &key : key_at) key.reset();
     }
 };

@@ -1,1 +1,3 @@
 pub mod Words
+pub mod TokenHash
+pub mod Entered

@@ -2,11 +2,12 @@
 ghost use Rattle.clock2q_c.specs.Handle.{machine_in};
 ghost use Rattle.clock2q_cache.specs.Costs.{Costs};
 ghost use Rattle.clock2q_machine.specs.Calls.{Clear, Get, GetAt, Put, Remove};
+ghost use Rattle.clock2q_machine.specs.Leaving.{leaver};
 ghost use Rattle.clock2q_machine.specs.Machine.{cleared, hit, removed};
 ghost use Rattle.clock2q_machine.specs.Steps.{hit_at, put};
 ghost use Rattle.clock2q_pages.specs.Pages.{last_in, resident_frame};
 ghost use Rattle.std.specs.Option.{option_map, unwrap_or};
-ghost use Rattle.std.specs.Prelude.{◌≡◌, ◌<◌, ◌↔◌, eqb, Some, IsSome, IsTrue, IfSome, is_some};
+ghost use Rattle.std.specs.Prelude.{◌≡◌, ◌<◌, ◌↔◌, ◌&&◌, not, eqb, if◌then◌else◌, None, Some, IsSome, IsTrue, IfSome, is_some};
 
 use crate::handle::Handle;
 use clock2q_cache::DefaultHashBuilder;
@@ -23,6 +24,8 @@ pub struct Place {
     pub last: usize,
     /// Whether there was one.
     pub has_last: bool,
+    /// Whether it had the slot until now, and lost it.
+    pub evicted: bool,
 }
 
 /// The slot of a key, if it has one.
@@ -47,31 +50,39 @@ pub extern "C" fn clock2q_enter_key(handle: &mut Handle, key: usize) -> Place
     ensures resident { IfSome (machine_in handle.new.cache) (λ m. resident_frame m key ≡ Some result.slot) }
     ensures last { IfSome (machine_in handle.old.cache) (λ m. result.has_last ≡ is_some (last_in m result.slot)) }
     ensures which { IfSome (machine_in handle.old.cache) (λ m. result.last ≡ unwrap_or (last_in m result.slot) 0) }
+    ensures evicted { IfSome (machine_in handle.old.cache) (λ m. leaver eqb (Put key (Some key)) m ≡ (if result.evicted then Some (result.last, result.slot) else None)) }
     ensures within { IfSome (machine_in handle.old.cache) (λ m. result.slot < m.shares.capacity) }
     ensures machine { machine_in handle.new.cache ≡ option_map (put (eqb key) key (Some key)) (machine_in handle.old.cache) }
     ensures costs { IfSome handle.old.cache (λ o. IfSome handle.new.cache (λ n. Costs ⟦<usize as Hash>⟧ ⟦<DefaultHashBuilder as BuildHasher>⟧ ⟦<FoldHasher as Hasher>⟧ (Put key (Some key)) o.cache n.cache)) }
     ensures holds { IsSome handle.new.cache }
 {
-    let (slot, last) = frame_of(&mut handle.held().cache, key);
-    place_of(slot, last)
+    let held = handle.held();
+    let count = held.cache.len();
+    let (slot, last) = frame_of(&mut held.cache, key);
+    let as_many = held.cache.len() == count;
+    place_of(slot, last, key, as_many)
 }
 
-/// Returns a slot and the last key that entered it before, in C's form.
-fn place_of(slot: usize, last: Option<usize>) -> Place
+/// Returns the slot of a key and the last key that entered it before, in C's form. That one was
+/// evicted if it is another key and there are as many keys as before.
+fn place_of(slot: usize, last: Option<usize>, key: usize, as_many: bool) -> Place
     ensures slot { result.slot ≡ slot }
     ensures last { result.has_last ≡ is_some last }
     ensures which { result.last ≡ unwrap_or last 0 }
+    ensures evicted { result.evicted ≡ (as_many && not (eqb (unwrap_or last key) key)) }
 {
     match last {
         Some(last) => Place {
             slot,
             last,
             has_last: true,
+            evicted: as_many && last != key,
         },
         None => Place {
             slot,
             last: 0,
             has_last: false,
+            evicted: false,
         },
     }
 }
@@ -132,7 +143,9 @@ pub extern "C" fn clock2q_remove(handle: &mut Handle, key: usize) -> bool
     ensures costs { IfSome handle.old.cache (λ o. IfSome handle.new.cache (λ n. Costs ⟦<usize as Hash>⟧ ⟦<DefaultHashBuilder as BuildHasher>⟧ ⟦<FoldHasher as Hasher>⟧ (Remove key) o.cache n.cache)) }
     ensures holds { IsSome handle.new.cache }
 {
-    handle.held().cache.remove(&key)
+    let held = handle.held();
+    let _ = held.cache.len(); // whose contract says that the cache is whole
+    held.cache.remove(&key)
 }
 
 /// Frees all slots, and forgets all keys.

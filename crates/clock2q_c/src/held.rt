@@ -1,4 +1,6 @@
 //! What a handle points to.
+ghost use Rattle.clock2q_pages.specs.Pages.{AreLast};
+
 use clock2q_cache::{Cache, DefaultHashBuilder};
 use std::alloc::Allocator;
 
@@ -7,4 +9,5 @@ use std::alloc::Allocator;
 #[derive(Drop)]
 pub(crate) struct Held<A: Allocator> {
     pub(crate) cache: Cache<usize, Option<usize>, DefaultHashBuilder, A>,
+    ghost last: { AreLast cache.machine },
 }

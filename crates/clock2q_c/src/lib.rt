@@ -17,6 +17,7 @@ mod making;
 mod status;
 #[cfg(test)]
 mod tested;
+mod tokens;
 mod unboxed;
 mod version;
 
@@ -27,4 +28,10 @@ pub use crate::calls::{
 pub use crate::handle::Handle;
 pub use crate::making::{clock2q_new, clock2q_release, clock2q_with_policy};
 pub use crate::status::{BAD_CAPACITY, BAD_POLICY, DONE, NO_MEMORY};
+pub use crate::tokens::{
+    Admitted, TokensHandle, clock2q_tokens_admit, clock2q_tokens_capacity, clock2q_tokens_clear,
+    clock2q_tokens_enter, clock2q_tokens_forget, clock2q_tokens_hit, clock2q_tokens_len,
+    clock2q_tokens_new, clock2q_tokens_release, clock2q_tokens_remove, clock2q_tokens_seek,
+    clock2q_tokens_with_policy,
+};
 pub use crate::version::{VERSION, clock2q_version};

@@ -11,8 +11,8 @@ use crate::{
 use std::alloc::Global;
 use std::test::Fail;
 
-fn told(place: Place) -> (usize, usize, bool) {
-    (place.slot, place.last, place.has_last)
+fn parts(place: Place) -> (usize, usize, bool, bool) {
+    (place.slot, place.last, place.has_last, place.evicted)
 }
 
 fn found(found: Found) -> (usize, bool) {
@@ -27,9 +27,18 @@ fn keys_in_two_slots(rt: HostRuntime) -> Result<(), Fail> {
         handle.discard();
         return Err("no memory".into());
     }
-    assert_eq!(rt; told(clock2q_enter_key(&mut handle, 70)), (0, 0, false));
-    assert_eq!(rt; told(clock2q_enter_key(&mut handle, 80)), (1, 0, false));
-    assert_eq!(rt; told(clock2q_enter_key(&mut handle, 90)), (0, 70, true));
+    assert_eq!(rt;
+        parts(clock2q_enter_key(&mut handle, 70)),
+        (0, 0, false, false)
+    );
+    assert_eq!(rt;
+        parts(clock2q_enter_key(&mut handle, 80)),
+        (1, 0, false, false)
+    );
+    assert_eq!(rt;
+        parts(clock2q_enter_key(&mut handle, 90)),
+        (0, 70, true, true)
+    );
     assert_eq!(rt; found(clock2q_find_key(&mut handle, 70)), (0, false));
     assert_eq!(rt; found(clock2q_find_key(&mut handle, 80)), (1, true));
     assert!(rt; clock2q_at(&mut handle, 0, 90));
@@ -38,6 +47,10 @@ fn keys_in_two_slots(rt: HostRuntime) -> Result<(), Fail> {
     assert!(rt; clock2q_remove(&mut handle, 90));
     assert!(rt; !clock2q_contains(&mut handle, 90));
     assert_eq!(rt; clock2q_len(&mut handle), 1);
+    assert_eq!(rt;
+        parts(clock2q_enter_key(&mut handle, 60)),
+        (0, 90, true, false)
+    );
     clock2q_clear(&mut handle);
     assert_eq!(rt; clock2q_len(&mut handle), 0);
     assert_eq!(rt; clock2q_capacity(&mut handle), 2);

@@ -1,0 +1,19 @@
+//! The calls for tokens, by which a caller in C has keys of its own types: the library is given the
+//! hash of a key, and the caller compares its keys at the slots of that hash.
+
+mod asking;
+mod calls;
+mod entering;
+mod handle;
+mod held;
+mod making;
+#[cfg(test)]
+mod tested;
+
+pub use asking::{clock2q_tokens_capacity, clock2q_tokens_len, clock2q_tokens_seek};
+pub use calls::{
+    Admitted, clock2q_tokens_admit, clock2q_tokens_clear, clock2q_tokens_enter,
+    clock2q_tokens_forget, clock2q_tokens_hit, clock2q_tokens_remove,
+};
+pub use handle::TokensHandle;
+pub use making::{clock2q_tokens_new, clock2q_tokens_release, clock2q_tokens_with_policy};
