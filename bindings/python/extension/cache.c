@@ -14,7 +14,8 @@ static int cache_init(Cache *self, PyObject *args, PyObject *keywords) {
     static char *names[] = {"maxsize", NULL};
     Py_ssize_t maxsize;
     if (!PyArg_ParseTupleAndKeywords(args, keywords, "n:Cache", names, &maxsize)) return -1;
-    if (make_slots(&self->slots, maxsize, "maxsize") < 0) return -1;
+    if (may_make_slots(self->slots.at != NULL, maxsize, "maxsize") < 0) return -1;
+    if (made_slots(clock2q_tokens_new(&self->slots, (size_t)maxsize)) < 0) return -1;
     self->maxsize = (size_t)maxsize;
     PyObject *method = missing_of_type(self);
     if (method == NULL && !PyErr_ExceptionMatches(PyExc_AttributeError)) return -1;
@@ -42,7 +43,7 @@ static void cache_dealloc(Cache *self) {
     PyObject_GC_UnTrack(self);
     Py_TRASHCAN_BEGIN(self, cache_dealloc)
     if (self->weak_references != NULL) PyObject_ClearWeakRefs((PyObject *)self);
-    clock2q_free(&self->slots);
+    clock2q_tokens_free(&self->slots);
     clear_pairs(self);
     PyTypeObject *type = Py_TYPE(self);
     type->tp_free(self);
@@ -51,7 +52,7 @@ static void cache_dealloc(Cache *self) {
 }
 
 static Py_ssize_t cache_length(Cache *self) {
-    return self->pairs == NULL ? 0 : (Py_ssize_t)clock2q_len(&self->slots);
+    return self->pairs == NULL ? 0 : (Py_ssize_t)clock2q_tokens_len(&self->slots);
 }
 
 /* Finds a key, and writes its hash and slot. */
@@ -95,7 +96,7 @@ static int cache_ass_subscript(Cache *self, PyObject *key, PyObject *value) {
     outcome found = find_key(self, key, &hash, &slot);
     if (found == ABSENT) set_key_error(key);
     if (found != PRESENT) return -1;
-    pair left = take_pair(self, slot, hash);
+    pair left = take_pair(self, slot);
     Py_DECREF(left.key);
     Py_DECREF(left.value);
     return 0;
@@ -165,7 +166,7 @@ static PyObject *cache_pop(Cache *self, PyObject *const *args, Py_ssize_t count,
     if (key == NULL) return NULL;
     outcome found = find_key(self, key, &hash, &slot);
     if (found == PRESENT) {
-        pair left = take_pair(self, slot, hash);
+        pair left = take_pair(self, slot);
         Py_DECREF(left.key);
         return left.value;
     }
@@ -196,7 +197,7 @@ static PyObject *nothing_to_pop(void) {
 
 static PyObject *cache_popitem(Cache *self, PyObject *unused) {
     (void)unused;
-    size_t slot, found_slot;
+    size_t slot;
     for (int tries = 0; tries < MOST_TRIES; tries++) {
         PyObject *item = PyTuple_New(2); /* first, since the collector may run other code here */
         if (item == NULL) return NULL;
@@ -208,8 +209,8 @@ static PyObject *cache_popitem(Cache *self, PyObject *unused) {
         uint64_t hash, version = self->version;
         int failed = hash_of(key, &hash);
         if (failed == 0 && version == self->version) {
-            if (clock2q_find(&self->slots, hash, &found_slot) && found_slot == slot) {
-                pair left = take_pair(self, slot, hash);
+            if (is_slot_of(self, hash, slot)) {
+                pair left = take_pair(self, slot);
                 PyTuple_SET_ITEM(item, 0, left.key);
                 PyTuple_SET_ITEM(item, 1, left.value);
                 Py_DECREF(key);

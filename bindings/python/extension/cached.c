@@ -156,7 +156,7 @@ static PyObject *cached_get(PyObject *self, PyObject *object, PyObject *type) {
 
 static Py_ssize_t cached_length(Cached *self) {
     if (self->results != NULL) return PyDict_GET_SIZE(self->results);
-    return self->cache == NULL || self->cache->pairs == NULL ? 0 : (Py_ssize_t)clock2q_len(&self->cache->slots);
+    return self->cache == NULL || self->cache->pairs == NULL ? 0 : (Py_ssize_t)clock2q_tokens_len(&self->cache->slots);
 }
 
 static PyObject *cached_info(Cached *self, PyObject *unused) {

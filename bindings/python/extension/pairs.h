@@ -1,9 +1,10 @@
 /* The pairs of a cache, by slot.
  *
- * The library sees a key's 64-bit hash() and gives it a slot; the key and its value are kept here. Keys
- * are compared between two calls of the library, while slots and pairs agree. So an __eq__ that raises
- * or uses the cache finds a whole one; `version` shows what it changed, and the look-up is repeated. A
- * pair that leaves is dropped after everything else, since that may run a __del__. */
+ * The library sees a token for each key, of its 64-bit hash() and a number, and gives it a slot; the key
+ * and its value are kept here. Keys are compared between two calls of the library, while slots and pairs
+ * agree. So an __eq__ that raises or uses the cache finds a whole one; `version` shows what it changed,
+ * and the look-up is repeated. A pair that leaves is dropped after everything else, since that may run
+ * a __del__. */
 #ifndef CLOCK2Q_PAIRS_H
 #define CLOCK2Q_PAIRS_H
 
@@ -19,8 +20,9 @@ typedef struct {
 
 typedef struct {
     PyObject_HEAD
-    clock2q slots;    /* none before __init__ */
-    pair *pairs;      /* `maxsize` of them, each at the slot of its key's hash; NULL until one is stored */
+    clock2q_tokens slots; /* none before __init__ */
+    uint64_t number;  /* the last of a token, of those that aren't 0 */
+    pair *pairs;      /* `maxsize` of them, each at the slot of its key; NULL until one is stored */
     size_t maxsize;   /* 0 before __init__ */
     size_t reached;   /* above the highest slot that has had a pair */
     size_t popped;    /* where popitem looks first */
@@ -33,8 +35,8 @@ typedef struct {
 /* What a look-up or a comparison finds. FAILED comes with an exception, CHANGED if the cache's pairs did. */
 typedef enum { FAILED = -1, ABSENT = 0, PRESENT = 1, CHANGED = 2 } outcome;
 
-/* How often a look-up is repeated before it fails. */
-enum { MOST_TRIES = 8 };
+/* How often a look-up is repeated before it fails, and the most keys of one hash. */
+enum { MOST_TRIES = 8, MOST_ALIKE = 16 };
 
 /* Sets the exception after the last try, and returns FAILED. */
 outcome too_many_tries(void);
@@ -58,28 +60,47 @@ static inline int hash_of(PyObject *key, uint64_t *hash) {
     return value == -1 ? -1 : 0;
 }
 
-/* Finds the slot of a key, and records a hit in the library if its hash has one. If PRESENT, the slot's
- * pair stays until other code runs. */
+/* Finds the slot of a key, if no comparison changes the cache. */
+static inline outcome look_at_pairs(Cache *cache, PyObject *key, uint64_t hash, size_t *slot) {
+    if (cache->pairs == NULL) return ABSENT;
+    for (size_t nth = 0;; nth++) {
+        clock2q_found alike = clock2q_tokens_seek(&cache->slots, clock2q_spread(hash), nth);
+        if (!alike.is_found) return ABSENT;
+        outcome found = compare(cache, cache->pairs[alike.slot].key, key);
+        *slot = alike.slot;
+        if (found != ABSENT) return found;
+    }
+}
+
+/* Finds the slot of a key, and records a hit in the library if it has one. If PRESENT, the slot's pair
+ * stays until other code runs. */
 static inline outcome find_pair(Cache *cache, PyObject *key, uint64_t hash, size_t *slot) {
     for (int tries = 0; tries < MOST_TRIES; tries++) {
-        if (cache->pairs == NULL || !clock2q_find(&cache->slots, hash, slot)) return ABSENT;
-        outcome found = compare(cache, cache->pairs[*slot].key, key);
+        outcome found = look_at_pairs(cache, key, hash, slot);
+        if (found == PRESENT) clock2q_tokens_hit(&cache->slots, *slot);
         if (found != CHANGED) return found;
     }
     return too_many_tries();
 }
 
+/* Whether a slot is that of a key with this hash. */
+int is_slot_of(Cache *cache, uint64_t hash, size_t slot);
+
 /* Stores a value for a key. Returns -1 with an exception, and the cache as it was, if that fails. */
 int store_pair(Cache *cache, PyObject *key, uint64_t hash, PyObject *value);
 
-/* Takes out the pair at the slot of this hash. The caller drops it. */
-pair take_pair(Cache *cache, size_t slot, uint64_t hash);
+/* Takes out the pair at a slot. The caller drops it. */
+pair take_pair(Cache *cache, size_t slot);
 
 /* Removes all pairs, and has the library forget their hashes. */
 void clear_pairs(Cache *cache);
 
-/* Makes the library's cache. Returns -1 with an exception if there is one, or can't be. */
-int make_slots(clock2q *slots, Py_ssize_t capacity, const char *name);
+/* Returns 0 if the library's cache can be made: there is none, and the capacity isn't refused. Returns -1
+ * with an exception otherwise. */
+int may_make_slots(int has_slots, Py_ssize_t capacity, const char *name);
+
+/* Returns 0 if the library made a cache, or -1 with an exception. */
+int made_slots(uint32_t status);
 
 /* Raises a KeyError. */
 void set_key_error(PyObject *key);

@@ -221,21 +221,29 @@ class ModelTest(unittest.TestCase):
             for maxsize in (1, 2, 10):
                 self.check(maxsize, [kind(number) for number in range(30)], 10_000, random.Random(maxsize))
 
-    def test_keys_of_one_hash_share_a_slot(self):
+    def test_keys_of_one_hash_have_slots_of_their_own(self):
         cache = Cache(10)
-        for number in range(5):
+        for number in range(10):
             cache[SameHash(number)] = number
-            self.assertEqual((list(cache.items()), len(cache)), ([(SameHash(number), number)], 1))
-        self.assertIsNone(cache.get(SameHash(3)))
+            self.assertEqual(dict(cache.items()), {SameHash(it): it for it in range(number + 1)})
+        del cache[SameHash(9)]
         with self.assertRaises(KeyError):
-            del cache[SameHash(3)]
-        self.assertEqual(cache.pop(SameHash(4)), 4)
+            del cache[SameHash(9)]
+        self.assertEqual(len(cache), 9)
+
+    def test_minus_one_and_minus_two(self):
+        cache = Cache(10)
+        cache[-1], cache[-2] = "one", "two"
+        self.assertEqual((cache.get(-1), cache.get(-2)), ("one", "two"))
+        self.assertEqual(cache.pop(-1), "one")
+        self.assertEqual(cache.get(-2), "two")
 
     def test_thousands_of_one_hash(self):
         cache = Cache(1000)
         for number in range(20_000):
             cache[SameHash(number)] = number
-        self.assertEqual(len(cache), 1)
+            self.assertEqual(cache.peek(SameHash(number)), number)
+        self.assertEqual(len(cache), 16)
 
 
 if __name__ == "__main__":

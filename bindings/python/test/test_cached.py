@@ -123,7 +123,7 @@ class CachedTest(unittest.TestCase):
         number_of = cached(10)(lambda key: key.number)
         for number in random.Random(1).choices(range(20), k=1000):
             self.assertEqual(number_of(SameHash(number)), number)
-        self.assertEqual(number_of.cache_info().currsize, 1)
+        self.assertEqual(number_of.cache_info().currsize, 10)
 
     def test_exceptions_are_not_kept(self):
         @cached(10)

@@ -8,8 +8,8 @@
     def square(number):
         return number * number
 
-The library that chooses which key leaves is proved; this module is plain code over it. Keys of one hash()
-share a slot, so of two such keys the one that was stored last is there, and the other is a miss.
+The library that chooses which key leaves is proved; this module is plain code over it. Each key has a
+slot of its own; at most sixteen keys of one hash() are here at a time, and then one leaves for the next.
 """
 
 from collections import abc

@@ -11,9 +11,10 @@ use std::hash::{BuildHasher, Hash};
 
 /// A map of fixed capacity: if it is full, a new key takes the place of another one.
 ///
-/// The library is given the 64-bit hash of a key in place of the key. So of two keys with the same hash
-/// only one can be in the cache, and the later one takes the place of the other. Whoever can choose keys
-/// of the same hash makes it useless, which [`RandomState`] prevents.
+/// The library is given the 64-bit hash of a key in place of the key, and a number if keys of the same
+/// hash are here: each key has a slot of its own. There are at most sixteen keys of one hash, and then one
+/// of them leaves for the next. Whoever can choose such keys makes the cache useless, which
+/// [`RandomState`] prevents.
 ///
 /// `Eq`, `Hash`, closures and `Drop` run only while the cache is whole: if one of them panics, it is as it
 /// was before or after the call. Keys and values that leave are dropped last, unless they are returned.
@@ -321,8 +322,7 @@ impl<K: Hash + Eq, V, S: BuildHasher> Cache<K, V, S> {
         for slot in 0..self.store.entries.bound() {
             if let Some((key, value)) = self.store.entries.pair_mut(slot) {
                 if !keep(key, value) {
-                    let hash = hash_of(&self.hasher, key);
-                    drop(self.store.remove_at(slot, hash));
+                    drop(self.store.remove_at(slot));
                 }
             }
         }

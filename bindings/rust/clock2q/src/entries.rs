@@ -22,7 +22,7 @@ pub(crate) struct Entry<K, V> {
 }
 
 /// Pairs of keys and values by their slots, and chains of slots by the hashes of their keys, by which a
-/// key is found without the library, which would record a hit. No two pairs have the same hash.
+/// key is found without the library. No two pairs have equal keys.
 pub(crate) struct Entries<K, V> {
     entries: Vec<Option<Entry<K, V>>>,
     /// The first slot of each chain.
@@ -73,6 +73,22 @@ impl<K, V> Entries<K, V> {
             at = entry.next as usize;
         }
         None
+    }
+
+    /// Returns the last slot of those whose keys have a mark as this hash, if there are so many.
+    #[cold]
+    pub(crate) fn last_of_many(&self, hash: u64, many: usize) -> Option<usize> {
+        let mark = mark(hash);
+        let mut at = self.heads[self.chain(mark)] as usize;
+        let (mut count, mut last) = (0, None);
+        while let Some(Some(entry)) = self.entries.get(at) {
+            if entry.mark == mark {
+                count += 1;
+                last = Some(at);
+            }
+            at = entry.next as usize;
+        }
+        last.filter(|_| count >= many)
     }
 
     /// Returns the pair at a slot.

@@ -28,7 +28,6 @@ pub enum Entry<'a, K, V> {
 pub struct OccupiedEntry<'a, K, V> {
     store: &'a mut Store<K, V>,
     slot: usize,
-    hash: u64,
 }
 
 /// A key that isn't here. Dropped, it leaves the cache as it was.
@@ -43,7 +42,7 @@ impl<'a, K: Eq, V> Entry<'a, K, V> {
     #[inline]
     pub(crate) fn new(store: &'a mut Store<K, V>, hash: u64, key: K) -> Entry<'a, K, V> {
         match store.find(hash, &key) {
-            Some(slot) => Entry::Occupied(OccupiedEntry { store, slot, hash }),
+            Some(slot) => Entry::Occupied(OccupiedEntry { store, slot }),
             None => Entry::Vacant(VacantEntry { store, hash, key }),
         }
     }
@@ -132,7 +131,7 @@ impl<'a, K, V> OccupiedEntry<'a, K, V> {
 
     /// Removes the key, and returns it with its value.
     pub fn remove_entry(self) -> (K, V) {
-        let pair = self.store.remove_at(self.slot, self.hash);
+        let pair = self.store.remove_at(self.slot);
         pair.expect("a pair is at its slot")
     }
 

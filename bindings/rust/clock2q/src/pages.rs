@@ -14,6 +14,8 @@ pub struct Place {
     pub slot: usize,
     /// The key that entered the slot last before, if any did.
     pub last: Option<u64>,
+    /// The key that had the slot until now, and lost it.
+    pub evicted: Option<u64>,
 }
 
 impl Place {
@@ -84,15 +86,11 @@ impl PageCache {
         let handle = UnsafeCell::new(sys::clock2q {
             at: ptr::null_mut(),
         });
-        match make(handle.get()) {
-            sys::CLOCK2Q_DONE => Ok(PageCache {
-                handle,
-                stays: PhantomData,
-            }),
-            sys::CLOCK2Q_NO_MEMORY => Err(Refused::Memory),
-            sys::CLOCK2Q_BAD_CAPACITY => Err(Refused::Capacity),
-            _ => Err(Refused::Policy),
-        }
+        Refused::check(make(handle.get()))?;
+        Ok(PageCache {
+            handle,
+            stays: PhantomData,
+        })
     }
 
     /// Returns the handle, in which there is a cache. No two calls use it at once: it is not `Sync`,
@@ -110,6 +108,7 @@ impl PageCache {
         Place {
             slot: place.slot,
             last: place.has_last.then_some(place.last),
+            evicted: place.evicted.then_some(place.last),
         }
     }
 

@@ -1,5 +1,6 @@
 //! Why there is no cache.
 
+use crate::sys;
 use std::error::Error;
 use std::fmt;
 
@@ -12,6 +13,18 @@ pub enum Refused {
     Capacity,
     /// The shares leave Main no slot, or don't fit together.
     Policy,
+}
+
+impl Refused {
+    /// Returns why a constructor of the library made no cache, if it made none.
+    pub(crate) fn check(status: u32) -> Result<(), Refused> {
+        match status {
+            sys::CLOCK2Q_DONE => Ok(()),
+            sys::CLOCK2Q_NO_MEMORY => Err(Refused::Memory),
+            sys::CLOCK2Q_BAD_CAPACITY => Err(Refused::Capacity),
+            _ => Err(Refused::Policy),
+        }
+    }
 }
 
 impl fmt::Display for Refused {

@@ -1,13 +1,18 @@
-//! The library's cache, which may go from thread to thread.
+//! The library's cache of tokens, which may go from thread to thread.
 
-use crate::{PageCache, Place, Refused};
+use crate::entries::SPREAD;
+use crate::{sys, Refused};
+use std::ptr;
 
-/// Gives the hashes of keys their slots.
+/// Gives keys slots, of each of which the library knows the hash and a number. The number is 0 unless a
+/// key of the same hash has a slot already: then it is one that was never used.
 pub(crate) struct Slots {
-    pages: PageCache,
+    cache: sys::clock2q_tokens,
     capacity: usize,
     /// How many slots are for new keys, and how many admissions they are young for, if not the usual.
     shares: Option<(usize, usize)>,
+    /// The last number that was used.
+    number: u64,
 }
 
 // SAFETY: "What you owe" in bindings/c/clock2q.h allows to hand a cache to another thread by a lock, a
@@ -19,12 +24,18 @@ unsafe impl Send for Slots {}
 // overlap, not even two that only ask.
 unsafe impl Sync for Slots {}
 
+/// Spreads the bits of a hash, as the library wants them. Different hashes stay different.
+#[inline]
+fn spread(hash: u64) -> u64 {
+    let product = hash.wrapping_mul(SPREAD);
+    product ^ product >> 32
+}
+
 impl Slots {
     pub(crate) fn new(capacity: usize) -> Result<Slots, Refused> {
-        Ok(Slots {
-            pages: PageCache::new(capacity)?,
-            capacity,
-            shares: None,
+        // SAFETY: there is no cache at the pointer yet.
+        Slots::made(capacity, None, |cache| unsafe {
+            sys::clock2q_tokens_new(cache, capacity)
         })
     }
 
@@ -33,14 +44,30 @@ impl Slots {
         small: usize,
         window: usize,
     ) -> Result<Slots, Refused> {
-        Ok(Slots {
-            pages: PageCache::with_policy(capacity, small, window)?,
-            capacity,
-            shares: Some((small, window)),
+        // SAFETY: there is no cache at the pointer yet.
+        Slots::made(capacity, Some((small, window)), |cache| unsafe {
+            sys::clock2q_tokens_with_policy(cache, capacity, small, window)
         })
     }
 
-    /// Makes one of this capacity and these shares, in which no hash has a slot.
+    fn made(
+        capacity: usize,
+        shares: Option<(usize, usize)>,
+        make: impl FnOnce(*mut sys::clock2q_tokens) -> u32,
+    ) -> Result<Slots, Refused> {
+        let mut cache = sys::clock2q_tokens {
+            at: ptr::null_mut(),
+        };
+        Refused::check(make(&mut cache))?;
+        Ok(Slots {
+            cache,
+            capacity,
+            shares,
+            number: 0,
+        })
+    }
+
+    /// Makes one of this capacity and these shares, in which no key has a slot.
     pub(crate) fn empty_one(&self) -> Result<Slots, Refused> {
         match self.shares {
             Some((small, window)) => Slots::with_policy(self.capacity, small, window),
@@ -48,35 +75,62 @@ impl Slots {
         }
     }
 
-    /// Returns the slot of a hash, after a hit or after giving it one that another may lose.
+    /// Gives a key of this hash a slot that another may lose, and returns it. If a key of this hash has
+    /// a slot, returns `None`, and nothing changes.
     #[inline]
-    pub(crate) fn enter(&mut self, hash: u64) -> Place {
-        self.pages.enter(hash)
+    pub(crate) fn admit(&mut self, hash: u64) -> Option<usize> {
+        // SAFETY: there is a cache, and `&mut` is the only reference to it.
+        let admitted = unsafe { sys::clock2q_tokens_admit(&mut self.cache, spread(hash)) };
+        admitted.has_entered.then_some(admitted.slot)
     }
 
-    /// Records a hit of the hash at this slot.
+    /// Gives a key a slot that another may lose, beside those of this hash, and returns it.
+    #[cold]
+    pub(crate) fn enter_beside(&mut self, hash: u64) -> usize {
+        self.number += 1;
+        // SAFETY: as above.
+        unsafe { sys::clock2q_tokens_enter(&mut self.cache, spread(hash), self.number) }
+    }
+
+    /// Records a hit of the key at this slot.
     #[inline]
-    pub(crate) fn hit(&mut self, slot: usize, hash: u64) {
-        self.pages.is_at(slot, hash);
+    pub(crate) fn hit(&mut self, slot: usize) {
+        // SAFETY: as above.
+        unsafe { sys::clock2q_tokens_hit(&mut self.cache, slot) };
     }
 
-    /// Returns true if the hash has a slot, and records nothing. It calls the library.
-    pub(crate) fn contains(&mut self, hash: u64) -> bool {
-        self.pages.contains(hash)
+    /// Takes the slot away from its key.
+    pub(crate) fn remove(&mut self, slot: usize) {
+        // SAFETY: as above.
+        unsafe { sys::clock2q_tokens_remove(&mut self.cache, slot) };
     }
 
-    /// Takes the slot of a hash away, or forgets a hash that has none.
-    pub(crate) fn remove(&mut self, hash: u64) {
-        self.pages.remove(hash);
+    /// Forgets a key that has no slot, unless one of its hash has.
+    pub(crate) fn forget(&mut self, hash: u64) {
+        // SAFETY: as above.
+        unsafe {
+            if !sys::clock2q_tokens_seek(&mut self.cache, spread(hash), 0).is_found {
+                sys::clock2q_tokens_forget(&mut self.cache, spread(hash), 0);
+            }
+        }
     }
 
-    /// Takes all slots away, and forgets all hashes.
+    /// Takes all slots away, and forgets all keys.
     pub(crate) fn clear(&mut self) {
-        self.pages.clear();
+        // SAFETY: as above.
+        unsafe { sys::clock2q_tokens_clear(&mut self.cache) };
     }
 
     #[inline]
     pub(crate) fn capacity(&self) -> usize {
         self.capacity
+    }
+}
+
+impl Drop for Slots {
+    fn drop(&mut self) {
+        let at = self.cache.at;
+        // SAFETY: there is a cache, which nobody uses from now on.
+        unsafe { sys::clock2q_tokens_release(sys::clock2q_tokens { at }) };
     }
 }

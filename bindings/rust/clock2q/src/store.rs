@@ -26,7 +26,7 @@ pub(crate) enum Before<K, V> {
     Nothing,
     /// This key: here is its old value, and the new one of the equal keys.
     Replaced(K, V),
-    /// Another key.
+    /// Another key, or one that left for this one.
     Evicted(K, V),
 }
 
@@ -48,8 +48,11 @@ impl<K, V> Before<K, V> {
     }
 }
 
-/// Pairs at the slots that the library gives the hashes of their keys. A pair is at a slot if and only
-/// if the hash of its key has it: so it is whenever a key is compared, or a key or value dropped.
+/// The most keys of one hash: to compare a key with more of them would take too long.
+const MOST_ALIKE: usize = 16;
+
+/// Pairs at the slots that the library gives their keys. There is a pair at a slot if and only if the
+/// library gave it to a key: so it is whenever a key is compared, or a key or value dropped.
 pub(crate) struct Store<K, V> {
     slots: Slots,
     pub(crate) entries: Entries<K, V>,
@@ -91,16 +94,28 @@ impl<K, V> Store<K, V> {
         self.entries.drain()
     }
 
-    /// Stores a pair whose key isn't here, and returns its slot and the pair that had it.
+    /// Stores a pair whose key isn't here, and returns its slot and the pair that left for it.
     #[inline]
     pub(crate) fn admit(&mut self, hash: u64, key: K, value: V) -> (usize, Option<(K, V)>) {
-        let slot = self.slots.enter(hash).slot;
-        (slot, self.entries.put(slot, hash, key, value))
+        match self.slots.admit(hash) {
+            Some(slot) => (slot, self.entries.put(slot, hash, key, value)),
+            None => self.admit_beside(hash, key, value),
+        }
     }
 
-    /// Removes the pair at a slot, whose key has this hash.
-    pub(crate) fn remove_at(&mut self, slot: usize, hash: u64) -> Option<(K, V)> {
-        self.slots.remove(hash);
+    /// Does so beside keys of the same hash, of which one gives way if there are [`MOST_ALIKE`].
+    #[cold]
+    fn admit_beside(&mut self, hash: u64, key: K, value: V) -> (usize, Option<(K, V)>) {
+        let crowded = self.entries.last_of_many(hash, MOST_ALIKE);
+        let gave_way = crowded.and_then(|slot| self.remove_at(slot));
+        let slot = self.slots.enter_beside(hash);
+        let left = self.entries.put(slot, hash, key, value);
+        (slot, left.or(gave_way))
+    }
+
+    /// Removes the pair at a slot.
+    pub(crate) fn remove_at(&mut self, slot: usize) -> Option<(K, V)> {
+        self.slots.remove(slot);
         self.entries.take(slot)
     }
 }
@@ -116,7 +131,7 @@ impl<K: Eq, V> Store<K, V> {
         let slot = self.entries.slot(hash, key);
         match slot {
             Some(slot) => {
-                self.slots.hit(slot, hash);
+                self.slots.hit(slot);
                 self.hits += 1;
             }
             None => self.misses += 1,
@@ -124,22 +139,16 @@ impl<K: Eq, V> Store<K, V> {
         slot
     }
 
-    /// Stores a pair, and returns its slot and what was there. If the library gives the hash a slot of
-    /// another one, that pair is exchanged before anything else happens.
+    /// Stores a pair, after a hit if its key is here, and returns its slot and what was replaced or left.
     pub(crate) fn push(&mut self, hash: u64, key: K, value: V) -> (usize, Before<K, V>) {
-        let place = self.slots.enter(hash);
-        let slot = place.slot;
-        if place.has(hash) {
-            match self.entries.pair_mut(slot) {
-                Some((held, before)) if *held == key => {
-                    return (slot, Before::Replaced(key, mem::replace(before, value)));
-                }
-                _ => {}
-            }
+        if let Some(slot) = self.entries.slot(hash, &key) {
+            self.slots.hit(slot);
+            let (_, before) = self.entries.pair_mut(slot).expect("a pair is at its slot");
+            return (slot, Before::Replaced(key, mem::replace(before, value)));
         }
-        match self.entries.put(slot, hash, key, value) {
-            Some((key, value)) => (slot, Before::Evicted(key, value)),
-            None => (slot, Before::Nothing),
+        match self.admit(hash, key, value) {
+            (slot, Some((key, value))) => (slot, Before::Evicted(key, value)),
+            (slot, None) => (slot, Before::Nothing),
         }
     }
 
@@ -150,12 +159,9 @@ impl<K: Eq, V> Store<K, V> {
         Q: Eq + ?Sized,
     {
         match self.entries.slot(hash, key) {
-            Some(slot) => self.remove_at(slot, hash),
+            Some(slot) => self.remove_at(slot),
             None => {
-                // The slot of a hash that is here is another key's.
-                if !self.slots.contains(hash) {
-                    self.slots.remove(hash);
-                }
+                self.slots.forget(hash);
                 None
             }
         }

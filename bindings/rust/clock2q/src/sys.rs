@@ -23,6 +23,20 @@ pub struct clock2q {
     pub at: *mut c_void,
 }
 
+/// A cache of tokens, or none if the pointer is null.
+#[repr(C)]
+pub struct clock2q_tokens {
+    pub at: *mut c_void,
+}
+
+/// A slot, and whether a token has just entered it.
+#[repr(C)]
+#[derive(Clone, Copy, Debug, Default, PartialEq, Eq)]
+pub struct clock2q_admitted {
+    pub slot: usize,
+    pub has_entered: bool,
+}
+
 /// Where a key is, and which key entered that slot last before.
 #[repr(C)]
 #[derive(Clone, Copy, Debug, Default, PartialEq, Eq)]
@@ -30,6 +44,8 @@ pub struct clock2q_place {
     pub slot: usize,
     pub last: u64,
     pub has_last: bool,
+    /// Whether `last` had the slot until this call, and lost it.
+    pub evicted: bool,
 }
 
 /// The slot of a key, if it has one.
@@ -67,4 +83,21 @@ extern "C" {
     pub fn clock2q_len(cache: *mut clock2q) -> usize;
     pub fn clock2q_capacity(cache: *mut clock2q) -> usize;
     pub fn clock2q_release(cache: clock2q);
+    pub fn clock2q_tokens_new(cache: *mut clock2q_tokens, capacity: usize) -> u32;
+    pub fn clock2q_tokens_with_policy(
+        cache: *mut clock2q_tokens,
+        capacity: usize,
+        small: usize,
+        window: usize,
+    ) -> u32;
+    pub fn clock2q_tokens_seek(cache: *mut clock2q_tokens, hash: u64, nth: usize) -> clock2q_found;
+    pub fn clock2q_tokens_hit(cache: *mut clock2q_tokens, slot: usize) -> bool;
+    pub fn clock2q_tokens_admit(cache: *mut clock2q_tokens, hash: u64) -> clock2q_admitted;
+    pub fn clock2q_tokens_enter(cache: *mut clock2q_tokens, hash: u64, number: u64) -> usize;
+    pub fn clock2q_tokens_remove(cache: *mut clock2q_tokens, slot: usize) -> bool;
+    pub fn clock2q_tokens_forget(cache: *mut clock2q_tokens, hash: u64, number: u64) -> bool;
+    pub fn clock2q_tokens_clear(cache: *mut clock2q_tokens);
+    pub fn clock2q_tokens_len(cache: *mut clock2q_tokens) -> usize;
+    pub fn clock2q_tokens_capacity(cache: *mut clock2q_tokens) -> usize;
+    pub fn clock2q_tokens_release(cache: clock2q_tokens);
 }

@@ -9,6 +9,9 @@ use std::hash::BuildHasher;
 
 const CAPACITIES: [usize; 6] = [1, 2, 3, 10, 100, 1000];
 
+/// The most keys of one hash.
+const MOST_ALIKE: usize = 16;
+
 /// A cache, the value stored last of each key that may be in it, and what was counted.
 struct Beside<S> {
     cache: Cache<String, u64, S>,
@@ -162,7 +165,7 @@ fn agrees<S: BuildHasher + Default>(most: usize) {
         let mut draws = Draws(88_172_645_463_325_252);
         for number in 0..CALLS / CAPACITIES.len() {
             beside.call(&mut draws, number as u64);
-            assert!(beside.cache.len() <= most);
+            assert!(beside.cache.len() <= most.min(capacity));
         }
         beside.lists_all();
     }
@@ -175,12 +178,31 @@ fn agrees_with_a_good_hasher() {
 
 #[test]
 fn agrees_with_four_hashes() {
-    agrees::<TwoBits>(4);
+    agrees::<TwoBits>(4 * MOST_ALIKE);
 }
 
 #[test]
 fn agrees_with_one_hash() {
-    agrees::<Constant>(1);
+    agrees::<Constant>(MOST_ALIKE);
+}
+
+/// Each of the keys of one hash has a slot of its own, up to the most, and the next takes the place of one.
+#[test]
+fn keys_of_one_hash_are_beside_one_another() {
+    let mut cache: Cache<usize, usize, Constant> =
+        Cache::with_hasher(100, Constant::default()).expect("a cache");
+    for key in 0..MOST_ALIKE {
+        assert_eq!(cache.push(key, key), None);
+    }
+    assert!((0..MOST_ALIKE).all(|key| cache.get(&key) == Some(&key)));
+    for key in MOST_ALIKE..10_000 {
+        let (left, value) = cache.push(key, key).expect("one gives way");
+        assert!(left == value && left < key);
+        assert!(!cache.contains_key(&left) && cache.contains_key(&key));
+        assert_eq!(cache.len(), MOST_ALIKE);
+    }
+    assert_eq!(cache.remove(&9_999), Some(9_999));
+    assert_eq!(cache.insert(0, 1), None);
 }
 
 /// The keys that are here are those that have a slot in a cache of their hashes.

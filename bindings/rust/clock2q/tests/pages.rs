@@ -25,9 +25,13 @@ fn slots_are_shared_out() {
                 assert_eq!(pages.remove(key), found.is_some());
                 continue;
             }
-            let Place { slot, last } = pages.enter(key);
+            let count = pages.len();
+            let Place { slot, last, evicted } = pages.enter(key);
             assert!(found.is_none() || found == Some(slot));
             assert_eq!(last, entered[slot]);
+            let is_full = found.is_none() && pages.len() == count;
+            assert_eq!(evicted, last.filter(|_| is_full));
+            assert!(evicted.map_or(true, |key| !pages.contains(key)));
             entered[slot] = Some(key);
             assert!(pages.is_at(slot, key));
             assert!(pages.len() <= capacity);
