@@ -1,5 +1,6 @@
 //! The callers in `clock2q_uses`, run.
-ghost use Rattle.std.specs.Prelude.{◌≡◌};
+ghost use Rattle.std.specs.Prelude.{◌≡◌, ℕ, Bool, List};
+ghost use Rattle.clock2q_uses.specs.WriteBack.{IsInStep};
 
 use clock2q::{Cache, CacheError, MAX_CAPACITY, Memo};
 use clock2q_uses::checksums::{adler32, checksums, is_unchanged};
@@ -10,6 +11,7 @@ use clock2q_uses::replay::replay;
 use clock2q_uses::scans::put_all;
 use clock2q_uses::split::SplitIndex;
 use clock2q_uses::squares::square_of;
+use clock2q_uses::write_back::{flush, read_block, write_block};
 use std::alloc::{AllocError, Global};
 use std::num::NonZeroUsize;
 use std::test::Fail;
@@ -190,4 +192,31 @@ fn main_outlives_a_scan(cache: &mut Cache<u64, u64>) -> Result<(), Fail> {
 fn a_scan_leaves_main(rt: HostRuntime) -> Result<(), Fail> {
     let capacity = NonZeroUsize::new(20).ok_or("not zero")?;
     main_outlives_a_scan(&mut Cache::new(rt.alloc(), capacity)?)
+}
+
+/// Three blocks through one slot: what is written goes to the device when its slot is needed, or at
+/// the flush.
+fn blocks_are_written_back(cache: &mut Cache<usize, u8>) -> Result<(), Fail>
+    requires fresh { (dirty : List Bool) (device : List ℕ) → IsInStep cache.old.machine dirty device }
+{
+    let mut dirty = [false; 3];
+    let mut device = *b"abc";
+    write_block(cache, &mut dirty, &mut device, 0, b'A');
+    same(device, *b"abc")?;
+    same(read_block(cache, &mut dirty, &mut device, 1), b'b')?;
+    same(device, *b"Abc")?;
+    same(read_block(cache, &mut dirty, &mut device, 0), b'A')?;
+    write_block(cache, &mut dirty, &mut device, 0, b'Z');
+    write_block(cache, &mut dirty, &mut device, 2, b'C');
+    same(device, *b"Zbc")?;
+    flush(cache, &mut dirty, &mut device);
+    same(device, *b"ZbC")?;
+    same(dirty, [false; 3])?;
+    same(read_block(cache, &mut dirty, &mut device, 2), b'C')
+}
+
+#[test]
+fn blocks_through_one_slot(rt: HostRuntime) -> Result<(), Fail> {
+    let capacity = NonZeroUsize::new(1).ok_or("not zero")?;
+    blocks_are_written_back(&mut Cache::new(rt.alloc(), capacity)?)
 }
