@@ -27,6 +27,8 @@ pub use Rattle.clock2q_handles.proofs.rebuild.HashOfHandle
 pub use Rattle.clock2q_handles.proofs.rebuild.Hashes
 pub use Rattle.clock2q_handles.proofs.rebuild.Held
 pub use Rattle.clock2q_handles.proofs.walks.Lookups
+pub use Rattle.clock2q_handles.proofs.shifts.Removals
+pub use Rattle.clock2q_handles.proofs.walks.Runs
 pub use Rattle.clock2q_handles.proofs.offers.Offering
 pub use Rattle.clock2q_handles.proofs.layout.Periods
 pub use Rattle.clock2q_handles.proofs.layout.Reading

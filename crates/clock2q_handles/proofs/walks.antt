@@ -6,3 +6,4 @@ pub mod Cursors
 pub mod Positions
 pub mod Lookups
 pub mod Reads
+pub mod Runs

@@ -1,0 +1,159 @@
+-- Runs of occupied slots: fewer entries in the homes lengthen none, and as many in each home change none. The same of walks.
+use Rattle.std.proofs.Common.{◌≡◌, ℕ, zero, suc, ◌+◌, ◌*◌, ◌%◌, ◌<◌, ◌≤◌, inl, inr, refl, ap, sym, ◌∙◌, arith, Bool, true, false, cond, List, [], ◌∷◌, length, get_or, Option, Some, None}
+use Rattle.std.proofs.lemmas.Bool.{cases_lt, cases_eq}
+use Rattle.clock2q_handles.specs.Homes.{top, capacity, listed, count, total, with_list, without_first, is_entry_of, removed}
+use Rattle.clock2q_handles.specs.Layout.{Placed, window, spill, spill_of, slot_at, layout, walk, occupied, run}
+use Rattle.clock2q_handles.specs.Positions.{with_first, relabelled}
+use Rattle.clock2q_handles.proofs.layout.Spill.{Roomy, window-le, spill-lt}
+use Rattle.clock2q_handles.proofs.layout.Tiles.{IsGap}
+use Rattle.clock2q_handles.proofs.layout.Laid.{none-gap}
+use Rattle.clock2q_handles.proofs.layout.Reading.{length-layout, layout-laid}
+use Rattle.clock2q_handles.proofs.layout.TidyLayout.{capacity-lt, sum-window, roomy-of}
+use Rattle.clock2q_handles.proofs.layout.FewerEntries.{spill-fewer, walk-is, count-with_list}
+use Rattle.clock2q_handles.proofs.shifts.Changes.{length-with_list, listed-with_same, listed-with_other, slots_again}
+use Rattle.clock2q_handles.proofs.shifts.Removals.{length-without_first}
+
+module _ {E : Type 0} where
+  at_slot : (a b : Option (Placed E)) (m n : ℕ) → (a ≡ None → b ≡ None) → n ≤ m
+      → elim b [ None ↦ 0 | Some _ ↦ suc n ] ≤ elim a [ None ↦ 0 | Some _ ↦ suc m ]
+  at_slot None None m n still l = omega arith
+  at_slot None (Some t) m n still l = absurd (some_none t (still refl))
+    where
+      some_none : (t : Placed E) → Some t ≡ None → ⊥
+      some_none t e = cc
+  at_slot (Some s) None m n still l = omega arith
+  at_slot (Some s) (Some t) m n still l = omega (arith, l)
+
+  -- if each slot that was empty still is, no run is longer
+  occupied-fewer : (A B : ℕ → Option (Placed E)) → ((n : ℕ) → A n ≡ None → B n ≡ None) → (n k : ℕ) → occupied B n k ≤ occupied A n k
+  occupied-fewer A B still n zero = omega arith
+  occupied-fewer A B still n (suc k) = at_slot (A n) (B n) (occupied A (suc n) k) (occupied B (suc n) k) (still n) (occupied-fewer A B still (suc n) k)
+
+  no_walk : (homes : List (List E)) (y : ℕ) → length homes ≤ 0 → walk homes y ≡ 0
+  no_walk [] y none = refl
+  no_walk (es ∷ homes) y none = absurd (omega arith)
+
+  -- as many homes, none of which has more entries
+  module _ (homes fewer : List (List E)) (room : total homes ≤ capacity (length homes)) (as_many : length fewer ≡ length homes)
+      (below : 0 < length homes → (n : ℕ) → count fewer n ≤ count homes n) where
+    pub total-fewer : total fewer ≤ total homes
+    total-fewer = omega (
+      arith,
+      sum-window length homes,
+      sum-window length fewer,
+      ap (window (count fewer) 0) as_many,
+      window-le (count fewer) (count homes) 0 (length homes) (λ j l. below (omega (arith, l)) (0 + j)),
+    )
+
+    pub room-fewer : total fewer ≤ capacity (length fewer)
+    room-fewer = omega (arith, room, total-fewer, ap capacity as_many)
+
+    module _ (some : 0 < length homes) where
+      roomy : Roomy (count homes) (length homes)
+      roomy = roomy-of homes (omega (arith, room, capacity-lt (length homes) some))
+
+      roomy_fewer : Roomy (count fewer) (length fewer)
+      roomy_fewer = roomy-of fewer (omega (arith, room, total-fewer, as_many, capacity-lt (length homes) some))
+
+      spills : (n : ℕ) → spill_of fewer n ≤ spill_of homes n
+      spills n =
+          let m : ℕ = length homes in
+          let one : 1 * m ≡ m = omega arith in
+          omega (
+            arith,
+            ap (λ w. spill (count fewer) w n) as_many,
+            ap (λ w. spill (count fewer) w n) one,
+            spill-fewer (count homes) (count fewer) m 1 roomy (omega (arith, some)) (below some) n,
+          )
+
+      still_empty : (n : ℕ) → slot_at (layout homes) n ≡ None → slot_at (layout fewer) n ≡ None
+      still_empty n none =
+          let m : ℕ = length homes in
+          let g = none-gap m (listed homes) (slot_at (layout homes)) roomy (layout-laid homes roomy) (n + m)
+          (omega (arith, spill-lt (count homes) m roomy 0)) (slots_again (layout homes) m (length-layout homes) n ∙ none) in
+          let here : IsGap (count fewer) (length fewer) (n + m) = record {
+            spilled = omega (arith, spills (n + m), g.spilled);
+            counted = omega (arith, below some (n + m), g.counted);
+          } in
+          sym (slots_again (layout fewer) m (length-layout fewer ∙ as_many) n) ∙ (layout-laid fewer roomy_fewer).rest (n + m) here
+
+    -- no run is longer
+    pub run-fewer : (y : ℕ) → run (layout fewer) y ≤ run (layout homes) y
+    run-fewer y = elim (cases_lt 0 (length homes)) [
+      | inl some ↦ omega (
+        arith,
+        ap (occupied (slot_at (layout fewer)) y) (length-layout fewer ∙ as_many),
+        ap (occupied (slot_at (layout homes)) y) (length-layout homes),
+        occupied-fewer (slot_at (layout homes)) (slot_at (layout fewer)) (still_empty some) y (length homes),
+      )
+      | inr none ↦
+          let z : length (layout fewer) ≡ 0 = omega (arith, none, length-layout fewer, as_many) in
+          omega (arith, ap (occupied (slot_at (layout fewer)) y) z)
+    ]
+
+    -- nor any walk
+    pub walk-fewer : (y : ℕ) → walk fewer y ≤ walk homes y
+    walk-fewer y = elim (cases_lt 0 (length homes)) [
+      | inl some ↦ omega (arith, walk-is homes y some, walk-is fewer y (omega (arith, some, as_many)), spills some y, below some y)
+      | inr none ↦ omega (arith, no_walk fewer y (omega (arith, none, as_many)))
+    ]
+
+  count-with_same : (homes : List (List E)) (x n : ℕ) (es : List E) → 0 < length homes → length es ≡ count homes x → count (with_list homes x es) n ≡ count homes n
+  count-with_same homes x n es some l = elim (cases_eq (n % length homes) (x % length homes)) [
+    | inl same ↦ ap length (listed-with_same homes x n es some same) ∙ l ∙ ap (λ y. length (get_or homes y [])) (sym same)
+    | inr other ↦ ap length (listed-with_other homes x n es other)
+  ]
+
+  as_long_at : (test : E → Bool) (e y : E) (ys : List E) (b : Bool) → length (with_first test e ys) ≡ length ys → length (cond b (e ∷ ys) (y ∷ with_first test e ys)) ≡ suc (length ys)
+  as_long_at test e y ys true l = refl
+  as_long_at test e y ys false l = ap suc l
+
+  pub length-with_first : (test : E → Bool) (e : E) (es : List E) → length (with_first test e es) ≡ length es
+  length-with_first test e [] = refl
+  length-with_first test e (y ∷ ys) = as_long_at test e y ys (test y) (length-with_first test e ys)
+
+module _ {H : Type 0} (eq : H → H → Bool) (homes : List (List (ℕ × H))) (x : ℕ) (v : H) (room : total homes ≤ capacity (length homes)) where
+  abbrev less : List (ℕ × H)
+  less = without_first (is_entry_of eq x v) (listed homes x)
+
+  removed_count : 0 < length homes → (n : ℕ) → count (removed eq homes x v) n ≤ count homes n
+  removed_count some n = count-with_list homes x n less some (length-without_first (is_entry_of eq x v) (listed homes x))
+
+  -- removing an entry leaves room
+  pub removed-room : total (removed eq homes x v) ≤ capacity (length (removed eq homes x v))
+  removed-room = room-fewer homes (removed eq homes x v) room (length-with_list homes x less) removed_count
+
+  -- and lengthens no run
+  pub removed-run : (y : ℕ) → run (layout (removed eq homes x v)) y ≤ run (layout homes) y
+  removed-run = run-fewer homes (removed eq homes x v) room (length-with_list homes x less) removed_count
+
+  -- relabelling an entry
+  module _ (w : H) where
+    abbrev as_long : List (ℕ × H)
+    as_long = with_first (is_entry_of eq x v) (top x, w) (listed homes x)
+
+    abbrev others : List (List (ℕ × H))
+    others = relabelled eq homes x v w
+
+    as_many : length others ≡ length homes
+    as_many = length-with_list homes x as_long
+
+    same_count : 0 < length homes → (n : ℕ) → count others n ≡ count homes n
+    same_count some n = count-with_same homes x n as_long some (length-with_first (is_entry_of eq x v) (top x, w) (listed homes x))
+
+    no_more : 0 < length homes → (n : ℕ) → count others n ≤ count homes n
+    no_more some n = omega (arith, same_count some n)
+
+    no_fewer : 0 < length others → (n : ℕ) → count homes n ≤ count others n
+    no_fewer some n = omega (arith, same_count (omega (arith, some, as_many)) n)
+
+    pub relabelled-room : total others ≤ capacity (length others)
+    relabelled-room = room-fewer homes others room as_many no_more
+
+    -- changes no run
+    pub relabelled-run : (y : ℕ) → run (layout others) y ≡ run (layout homes) y
+    relabelled-run y = omega (arith, run-fewer homes others room as_many no_more y, run-fewer others homes relabelled-room (sym as_many) no_fewer y)
+
+    -- nor a walk
+    pub relabelled-walk : (y : ℕ) → walk others y ≡ walk homes y
+    relabelled-walk y = omega (arith, walk-fewer homes others room as_many no_more y, walk-fewer others homes relabelled-room (sym as_many) no_fewer y)
