@@ -7,6 +7,7 @@ pub mod Indexes
 pub mod Looking
 pub mod Lookups
 pub mod MakingPlaces
+pub mod Prices
 pub mod Remembering
 pub mod Views
 pub mod Sorted

@@ -1,5 +1,5 @@
 -- The index of a cache: where each known key is, under the key's hash.
-use Rattle.std.specs.Prelude.{◌≡◌, ℕ, ◌+◌, ◌-◌, ◌*◌, ◌^◌, ◌<◌, nat_eq, nat_lt, nat_le, Bool, false, not, ◌==◌, if◌then◌else◌, List, [], map, length}
+use Rattle.std.specs.Prelude.{◌≡◌, ℕ, ◌+◌, ◌-◌, ◌*◌, ◌^◌, ◌<◌, ◌≤◌, nat_eq, nat_lt, nat_le, Bool, false, not, ◌==◌, if◌then◌else◌, List, [], map, length}
 use Rattle.std.specs.List.{filter}
 use Rattle.std.specs.Coded.{Coded, code_by, coded×, coded_ℕ, coded_list}
 use Rattle.clock2q_handles.specs.Homes.{total, capacity, no_entries, with_handle, removed}
@@ -105,6 +105,15 @@ emptied v = record {
   own = no_entries (length v.own);
   accesses = v.accesses + length v.shared + length v.own;
 }
+
+-- the most slots of both tables that one change under a hash reads and writes
+abbrev pub most_reached : IndexState → ℕ → ℕ
+most_reached v x = most_changed v.shared x + most_changed v.own x
+
+-- neither table has more entries than three quarters of its slots
+pub record IsWithinCapacity (v : IndexState) : Type 0 where
+  pub shared : total v.shared ≤ capacity (length v.shared)
+  pub own : total v.own ≤ capacity (length v.own)
 
 -- the most entries for which a table gets three times the room
 abbrev pub small_table : ℕ

@@ -6,7 +6,7 @@ ghost use Rattle.clock2q_handles.specs.Homes.{candidates};
 ghost use Rattle.clock2q_queues.specs.Cells.{Rises};
 ghost use Rattle.clock2q_directory.specs.Keys.{hash_at, key_at, value_at, with_value, is_key_at, questions_of};
 ghost use Rattle.clock2q_directory.specs.Indexes.{HasHash};
-ghost use Rattle.clock2q_directory.specs.Index.{slots, places};
+ghost use Rattle.clock2q_directory.specs.Index.{slots, places, IsWithinCapacity};
 ghost use Rattle.clock2q_directory.specs.History.{IsWholeHistory, place_of, found_slot, found_place};
 ghost use Rattle.clock2q_directory.specs.Directory.{nothing_known};
 ghost use Rattle.clock2q_directory.specs.DirectoryLends.{LendsValueOf};
@@ -82,6 +82,7 @@ impl<K: Eq, V, A: Allocator> Directory<K, V, A> {
     pub fn remembered_len(&self) -> usize
         ensures len { result ≡ length self.now.history.entries }
         ensures whole { IsWholeHistory K.eq self.now.history }
+        ensures within { IsWithinCapacity self.now.history.places.index }
     {
         self.history.len()
     }

@@ -8,7 +8,7 @@ ghost use Rattle.clock2q_queues.specs.Order.{IsWholeOrder, used};
 ghost use Rattle.clock2q_directory.specs.Keys.{is_key_at};
 ghost use Rattle.clock2q_directory.specs.Indexes.{IsIndex, HasHash};
 ghost use Rattle.clock2q_directory.specs.Index as known;
-ghost use Rattle.clock2q_directory.specs.Index.{emptied, index_for, is_shared, entered, left, slots_among, places_among};
+ghost use Rattle.clock2q_directory.specs.Index.{emptied, index_for, is_shared, entered, left, slots_among, places_among, IsWithinCapacity};
 ghost use Rattle.clock2q_directory.specs.History.{IsWholeHistory, MakesPlace, HasRoom, places_with, pushed_places, freed_place, place_of, oldest_hash, remembered, is_remembered, forgotten, found_slot, found_place, first_known};
 
 use crate::index::{Index, REMEMBERED};
@@ -107,7 +107,9 @@ impl<K: Eq, A: Allocator> History<K, A> {
     pub fn len(&self) -> usize
         ensures len { result ≡ length self.now.entries }
         ensures whole { IsWholeHistory K.eq self.now }
+        ensures within { IsWithinCapacity self.now.places.index }
     {
+        let _ = self.index.is_shared(); // whose contract says that the entries fit
         self.order.len() as usize
     }
 

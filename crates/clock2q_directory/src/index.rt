@@ -2,7 +2,7 @@
 ghost use Rattle.std.specs.Prelude.{◌≡◌, ◌+◌, ◌^◌, ◌<◌, true, IfOk};
 ghost use Rattle.clock2q_handles.specs.Homes.{candidates};
 ghost use Rattle.clock2q_queues.specs.Rings.{has};
-ghost use Rattle.clock2q_directory.specs.Index.{emptied, index_for, index_room, is_shared, slots, places, entered, left, remembered_at, forgotten_at, HasSlotRoom, HasPlaceRoom};
+ghost use Rattle.clock2q_directory.specs.Index.{emptied, index_for, index_room, is_shared, slots, places, entered, left, remembered_at, forgotten_at, HasSlotRoom, HasPlaceRoom, IsWithinCapacity};
 
 mod counted_table;
 
@@ -99,7 +99,9 @@ impl<A: Allocator> Index<A> {
     #[inline(always)]
     pub fn is_shared(&self) -> bool
         ensures shared { result ≡ is_shared self.now }
+        ensures within { IsWithinCapacity self.now }
     {
+        let _ = self.shared.capacity(); // whose contract says that its entries fit
         self.own.capacity() == 0
     }
 

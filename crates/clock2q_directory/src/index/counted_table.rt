@@ -1,6 +1,6 @@
 //! A table of handles whose accesses to slots are stated exactly, as a bound that each call reaches.
 ghost use Rattle.std.specs.List.{list_any};
-ghost use Rattle.std.specs.Prelude.{◌≡◌, ℕ, ◌+◌, ◌^◌, ◌<◌, nat_eq, true, length, IfOk};
+ghost use Rattle.std.specs.Prelude.{◌≡◌, ℕ, ◌+◌, ◌^◌, ◌<◌, ◌≤◌, nat_eq, true, length, IfOk};
 ghost use Rattle.clock2q_handles.specs.Homes.{candidates, capacity, is_entry_of, listed, no_entries, removed, total, with_handle};
 ghost use Rattle.clock2q_handles.specs.Positions.{relabelled};
 ghost use Rattle.clock2q_handles.specs.TableStep.{IsBelowCapacity, made_for};
@@ -58,7 +58,9 @@ impl<A: Allocator> CountedTable<A> {
     /// Returns the number of entries that the table may hold.
     pub(super) fn capacity(&self) -> usize
         ensures capacity { result ≡ capacity (length self.now.homes) }
+        ensures within { total self.now.homes ≤ capacity (length self.now.homes) }
     {
+        let _ = self.table.len(); // whose contract says that its entries fit
         self.table.capacity()
     }
 

@@ -7,5 +7,6 @@ pub returns : goal.returns
 returns g c =
     let i = c.self.inside in
     record {
-      shared = tells_shared (index_state i.shared.homes i.own.homes) c.capacity.result c.self.invariant c.capacity.ensures.capacity ∙ ap is_shared c.self.view_is;
+      shared = tells_shared (index_state i.shared.homes i.own.homes) c.capacity-2.result c.self.invariant c.capacity-2.ensures.capacity ∙ ap is_shared c.self.view_is;
+      within = rw (← c.self.view_is) (record { shared = c.capacity.ensures.within; own = c.capacity-2.ensures.within });
     }

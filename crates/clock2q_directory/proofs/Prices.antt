@@ -1,0 +1,117 @@
+-- What the changes of an index cost at most, in the state before the first of them.
+use Rattle.std.proofs.Common.{ℕ, ◌+◌, ◌≤◌, eqb, ltb, Option, Some, None, List, length, inl, inr, arith}
+use Rattle.std.specs.List.{last_or}
+use Rattle.std.proofs.lemmas.Bool.{cases_Bool}
+use Rattle.clock2q_handles.specs.Homes.{total, capacity, removed}
+use Rattle.clock2q_handles.specs.Positions.{relabelled}
+use Rattle.clock2q_handles.proofs.Removals.{removed-walk}
+use Rattle.clock2q_handles.proofs.Runs.{removed-room, removed-run, relabelled-run, relabelled-walk}
+use Rattle.clock2q_queues.specs.Order.{place_for}
+use Rattle.clock2q_directory.specs.Accesses.{most_changed}
+use Rattle.clock2q_directory.specs.Index.{IndexState, IsWithinCapacity, is_shared, first_remembered, left, remembered_at, forgotten_at, most_reached}
+use Rattle.clock2q_directory.specs.History.{Places, pushed_places, freed_place, taking_free, taking_oldest}
+
+module _ (homes : List (List (ℕ × ℕ))) (room : total homes ≤ capacity (length homes)) (x h : ℕ) where
+  -- once an entry has left a table, no change reads and writes more slots than before
+  pub removed-changed : (y : ℕ) → most_changed (removed eqb homes x h) y ≤ most_changed homes y
+  removed-changed y = omega (arith, removed-walk eqb homes x h room y, removed-run eqb homes x h room y)
+
+  -- nor does one once an entry has another handle
+  pub relabelled-changed : (w y : ℕ) → most_changed (relabelled eqb homes x h w) y ≤ most_changed homes y
+  relabelled-changed w y = omega (arith, relabelled-walk eqb homes x h room w y, relabelled-run eqb homes x h room w y)
+
+-- no change of either table reads and writes more slots than before, and the entries fit
+pub record IsNoDearer (v w : IndexState) : Type 0 where
+  pub shared : (y : ℕ) → most_changed w.shared y ≤ most_changed v.shared y
+  pub own : (y : ℕ) → most_changed w.own y ≤ most_changed v.own y
+  pub within : IsWithinCapacity w
+
+module _ (v : IndexState) (within : IsWithinCapacity v) where
+  pub same-dear : IsNoDearer v v
+  same-dear = record { shared = λ y. omega arith; own = λ y. omega arith; within = within }
+
+  -- the resident at a slot leaves
+  pub left-dear : (x s : ℕ) → IsNoDearer v (left x s v)
+  left-dear x s = record {
+    shared = removed-changed v.shared within.shared x s;
+    own = λ y. omega arith;
+    within = record { shared = removed-room eqb v.shared x s within.shared; own = within.own };
+  }
+
+  pub left-accesses : (x s : ℕ) → (left x s v).accesses ≤ v.accesses + most_reached v x
+  left-accesses x s = omega arith
+
+  -- the key at a place is forgotten
+  pub forgotten-dear : (x p : ℕ) → IsNoDearer v (forgotten_at x p v)
+  forgotten-dear x p = elim (cases_Bool (is_shared v)) [
+    | inl h ↦ rw h (record {
+      shared = removed-changed v.shared within.shared x (first_remembered + p);
+      own = λ y. omega arith;
+      within = record { shared = removed-room eqb v.shared x (first_remembered + p) within.shared; own = within.own };
+    })
+    | inr h ↦ rw h (record {
+      shared = λ y. omega arith;
+      own = removed-changed v.own within.own x p;
+      within = record { shared = within.shared; own = removed-room eqb v.own x p within.own };
+    })
+  ]
+
+  pub forgotten-accesses : (x p : ℕ) → (forgotten_at x p v).accesses ≤ v.accesses + most_reached v x
+  forgotten-accesses x p = elim (cases_Bool (is_shared v)) [ inl h ↦ rw h (omega arith) | inr h ↦ rw h (omega arith) ]
+
+  -- the resident at a slot is remembered at a place: the places' own table may then cost more
+  pub remembered-shared : (x s p y : ℕ) → most_changed (remembered_at x s p v).shared y ≤ most_changed v.shared y
+  remembered-shared x s p y = elim (cases_Bool (is_shared v)) [
+    | inl h ↦ rw h (relabelled-changed v.shared within.shared x s (first_remembered + p) y)
+    | inr h ↦ rw h (removed-changed v.shared within.shared x s y)
+  ]
+
+  pub remembered-accesses : (x s p : ℕ) → (remembered_at x s p v).accesses ≤ v.accesses + most_reached v x
+  remembered-accesses x s p = elim (cases_Bool (is_shared v)) [ inl h ↦ rw h (omega arith) | inr h ↦ rw h (omega arith) ]
+
+-- the most slots that forgetting the oldest place reads and writes, if there is one
+abbrev pub reached_oldest : IndexState → ℕ → Option ℕ → ℕ
+reached_oldest v oldest None = 0
+reached_oldest v oldest (Some place) = most_reached v oldest
+
+module _ (p : Places) (within : IsWithinCapacity p.index) where
+  -- a key that may have a place is forgotten
+  pub freed-dear : (hash : ℕ) (o : Option ℕ) → IsNoDearer p.index (freed_place hash o p).index
+  freed-dear hash None = same-dear p.index within
+  freed-dear hash (Some place) = forgotten-dear p.index within hash place
+
+  pub freed-accesses : (hash : ℕ) (o : Option ℕ) → (freed_place hash o p).index.accesses ≤ p.index.accesses + most_reached p.index hash
+  freed-accesses hash None = omega arith
+  freed-accesses hash (Some place) = forgotten-accesses p.index within hash place
+
+  -- the resident at a slot leaves for the history, whose oldest key may be forgotten for it
+  module _ (limit hash slot oldest : ℕ) where
+    oldest_shared : (o : Option ℕ) (y : ℕ) → most_changed (taking_oldest hash slot oldest o p).index.shared y ≤ most_changed p.index.shared y
+    oldest_shared None y = (left-dear p.index within hash slot).shared y
+    oldest_shared (Some place) y =
+        let d = forgotten-dear p.index within oldest place in
+        omega (arith, remembered-shared (forgotten_at oldest place p.index) d.within hash slot place y, d.shared y)
+
+    pub pushed-shared : (y : ℕ) → most_changed (pushed_places limit hash slot oldest p).index.shared y ≤ most_changed p.index.shared y
+    pushed-shared y = elim (cases_Bool (ltb (length p.taken) limit)) [
+      | inl few ↦ rw few (remembered-shared p.index within hash slot (place_for (length p.taken) p.free) y)
+      | inr full ↦ rw full (oldest_shared (last_or None p.taken) y)
+    ]
+
+    oldest_accesses : (o : Option ℕ) → (taking_oldest hash slot oldest o p).index.accesses ≤ p.index.accesses + most_reached p.index hash + reached_oldest p.index oldest o
+    oldest_accesses None = omega arith
+    oldest_accesses (Some place) =
+        let d = forgotten-dear p.index within oldest place in
+        omega (
+          arith,
+          forgotten-accesses p.index within oldest place,
+          remembered-accesses (forgotten_at oldest place p.index) d.within hash slot place,
+          d.shared hash,
+          d.own hash,
+        )
+
+    pub pushed-accesses : (pushed_places limit hash slot oldest p).index.accesses ≤ p.index.accesses + most_reached p.index hash + reached_oldest p.index oldest (last_or None p.taken)
+    pushed-accesses = elim (cases_Bool (ltb (length p.taken) limit)) [
+      | inl few ↦ rw few (omega (arith, remembered-accesses p.index within hash slot (place_for (length p.taken) p.free)))
+      | inr full ↦ rw full (oldest_accesses (last_or None p.taken))
+    ]
