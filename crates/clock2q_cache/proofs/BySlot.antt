@@ -1,10 +1,11 @@
 -- What a hit and a removal by slot leave, and what they cost.
-use Rattle.std.proofs.Common.{◌≡◌, ℕ, ◌+◌, ◌≤◌, Option, Some, None, refl, ap, sym, ◌∙◌, arith}
-use Rattle.clock2q_cache.proofs.Names.{HashMembers, IfSome, CacheState, Counts, Spends, Costs, Get, Remove, removed_at, vacated, hit, slot_of}
+use Rattle.std.proofs.Common.{◌≡◌, ℕ, Option, Some, None, refl, ap, sym, ◌∙◌, arith}
+use Rattle.clock2q_cache.proofs.Names.{HashMembers, IfSome, CacheState, Counts, Spends, Costs, Get, Remove, removed_at, hash_in, left_by, vacated, hit, slot_of}
 use Rattle.std.specs.declared.hash.Hasher as hasher
 use Rattle.std.specs.declared.hash.BuildHasher as builder
 use Rattle.clock2q_machine.specs.Machine.{removed}
-use Rattle.clock2q_cache.proofs.Spent.{costs-of, remove-costs}
+use Rattle.clock2q_cache.proofs.Reaching.{reaches-own}
+use Rattle.clock2q_cache.proofs.Spent.{costs-of, reaches-none, remove-costs}
 
 -- nothing was spent
 nothing-spent : {a b : Counts} (links keys : ℕ) → b ≡ a → Spends 0 links keys a b
@@ -12,10 +13,10 @@ nothing-spent links keys same = rw same (record { inspections = omega arith; acc
 
 module _ {K V S H : Type 0} (key : HashMembers K) (build : builder.Ghosts S H) (hash : hasher.Ghosts H) (old new : CacheState K V S) where
   -- the resident was hit
-  pub hit-slot-costs : (resident : Option (K × ℕ)) → IfSome resident (λ r. new.machine ≡ hit (key.eq r.0) old.machine) → new.counts ≡ old.counts
+  pub hit-slot-costs : (resident : Option (K × ℕ)) → IfSome resident (λ r. new.machine ≡ hit (key.eq r.0) old.machine) → new.counts ≡ old.counts → new.known ≡ old.known
       → IfSome resident (λ r. Costs key build hash (Get r.0) old new)
-  hit-slot-costs None is same = tt
-  hit-slot-costs (Some r) is same = costs-of is (nothing-spent 0 _ same)
+  hit-slot-costs None is same kept = tt
+  hit-slot-costs (Some r) is same kept = costs-of is (reaches-none kept) (nothing-spent 0 _ same)
 
   module _ (slot : ℕ) where
     -- the resident left
@@ -25,6 +26,6 @@ module _ {K V S H : Type 0} (key : HashMembers K) (build : builder.Ghosts S H) (
     removed-slot (Some r) own is = is ∙ ap (λ o. removed_at (key.eq r.0) o old.machine) (sym own)
 
     pub removed-slot-costs : (resident : Option (K × ℕ)) → IfSome resident (λ r. slot_of (key.eq r.0) old.machine ≡ Some slot) → new.machine ≡ vacated slot old.machine
-        → Spends 0 8 0 old.counts new.counts → IfSome resident (λ r. Costs key build hash (Remove r.0) old new)
-    removed-slot-costs None own is spent = tt
-    removed-slot-costs (Some r) own is spent = remove-costs (sym own) refl (nothing-spent 0 _ refl) is spent
+        → Spends 0 8 0 old.counts new.counts → new.known ≡ left_by (hash_in key build hash old) resident slot old.known → IfSome resident (λ r. Costs key build hash (Remove r.0) old new)
+    removed-slot-costs None own is spent left = tt
+    removed-slot-costs (Some r) own is spent left = remove-costs (sym own) refl (nothing-spent 0 _ refl) (reaches-own key build hash r slot left) is spent

@@ -1,8 +1,10 @@
 -- A cache whose counts are raised to their bounds before a value of it is lent.
-use Rattle.std.proofs.Common.{◌≡◌, ℕ, ◌+◌, ◌-◌, Bool, refl, sym, ◌∙◌, arith}
-use Rattle.clock2q_cache.proofs.Names.{HashMembers, inspections_for, CacheState, cache_state, Put, most_links, most_keys, with_slot, Takes, Costs, Spends, accesses_for, alike, Machine, stored, known_with, put, slotted, stored_same}
+use Rattle.std.proofs.Common.{◌≡◌, ℕ, ◌+◌, ◌-◌, Bool, true, length, refl, sym, ◌∙◌, arith}
+use Rattle.clock2q_cache.proofs.Names.{HashMembers, IsEquivalence, inspections_for, CacheState, cache_state, Put, most_links, most_keys, with_slot, Takes, Costs, Spends, accesses_for, alike, IsWhole, Machine, stored, known_with, put, slotted, stored_same}
 use Rattle.std.specs.declared.hash.Hasher as hasher
 use Rattle.std.specs.declared.hash.BuildHasher as builder
+use Rattle.clock2q_directory.specs.Index.{IsWithinCapacity}
+use Rattle.clock2q_cache.proofs.Reaching.{reaches-with}
 use Rattle.clock2q_cache.proofs.Spent.{costs-of}
 
 module _ {K V S H : Type 0} (key : HashMembers K) (build : builder.Ghosts S H) (hash : hasher.Ghosts H) {k : K} {made : V → Type 0} {slot : ℕ} (old new : CacheState K V S)
@@ -20,8 +22,9 @@ module _ {K V S H : Type 0} (key : HashMembers K) (build : builder.Ghosts S H) (
 
 -- counts at their bounds are within the cost of a put
 pub charged-costs : {K V S H : Type 0} {key : HashMembers K} {build : builder.Ghosts S H} {hash : hasher.Ghosts H} {k : K} (w : V) (old : CacheState K V S)
-    → Costs key build hash (Put k w) old (with_slot key build hash k w old)
-charged-costs w old = costs-of refl (record { inspections = refl; accesses = (omega arith, omega arith); questions = (omega arith, omega arith) })
+    → IsEquivalence key.eq → ((x y : K) → key.eq x y ≡ true → key.hash_input x ≡ key.hash_input y) → IsWhole key.eq old.machine
+    → length old.known.taken ≡ length old.machine.history → IsWithinCapacity old.known.index → Costs key build hash (Put k w) old (with_slot key build hash k w old)
+charged-costs {key = key} {build} {hash} {k} w old laws respects whole as_many within = costs-of refl (reaches-with key build hash k laws respects whole as_many within refl) (record { inspections = refl; accesses = (omega arith, omega arith); questions = (omega arith, omega arith) })
 
 -- a value that was taken and is not written to stays as it was taken
 pub unwritten : {K V : Type 0} {is : K → Bool} {key : K} {made : V → Type 0} {old new : Machine K V} {slot : ℕ} (t : Takes is key made old slot new)

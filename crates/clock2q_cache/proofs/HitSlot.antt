@@ -1,6 +1,6 @@
 -- The key of the resident at a slot, and that it is found there.
-use Rattle.std.proofs.Common.{◌≡◌, ℕ, ◌<◌, ◌≤◌, Bool, true, false, ◌&&◌, Option, Some, None, List, length, inl, inr, refl, sym, ap, ◌∙◌, arith}
-use Rattle.clock2q_cache.proofs.Names.{IfSome, IsSome, is_some, some_is, IsEquivalence, KeyPlaces, Entry, has, key_at, is_key_at, QueueState, Remembered, Shares, Machine, resident_at, slot_of, machine_of, places_of, IsKept, below_of, cases_Bool}
+use Rattle.std.proofs.Common.{◌≡◌, ℕ, ◌≤◌, Bool, true, false, Option, Some, None, List, length, inl, inr, refl, sym, ap, ◌∙◌, arith}
+use Rattle.clock2q_cache.proofs.Names.{IfSome, IsSome, is_some, some_is, IsEquivalence, KeyPlaces, has, key_at, is_key_at, QueueState, Remembered, Shares, Machine, resident_at, slot_of, machine_of, places_of, IsKept, below_of, cases_Bool}
 use Rattle.clock2q_cache.proofs.Finding.{key-tells, at-slot, slot-at}
 use Rattle.clock2q_cache.proofs.Places.{resident-none}
 use Rattle.clock2q_cache.proofs.Stored.{have_keys}

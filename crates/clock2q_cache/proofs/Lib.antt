@@ -6,6 +6,7 @@ pub mod Fetched
 pub mod Filled
 pub mod Finding
 pub mod Indexed
+pub mod IndexPrices
 pub mod Insertions
 pub mod Iteration
 pub mod Listed
@@ -14,6 +15,7 @@ pub mod LinearAccesses
 pub mod Making
 pub mod Names
 pub mod Places
+pub mod Reaching
 pub mod Renewed
 pub mod Retained
 pub mod Shared

@@ -67,7 +67,7 @@ module _ {X : Type 0} (f : ℕ → Option X) where
 
 module _ {K V : Type 0} (eq : K → K → Bool) (laws : IsEquivalence eq) (m : Machine K V) (whole : IsWhole eq m) where
   -- a resident that is found at a slot is found there by its key
-  at_its_slot : (slot : ℕ) (r : K × ℕ) → resident_at m slot ≡ Some r → (r.1 ≡ slot) × (slot_of (eq r.0) m ≡ Some slot)
+  pub at_its_slot : (slot : ℕ) (r : K × ℕ) → resident_at m slot ≡ Some r → (r.1 ≡ slot) × (slot_of (eq r.0) m ≡ Some slot)
   at_its_slot slot r there =
       let at = eqb-true r.1 slot (found_passes (λ (x : K × ℕ). x.1 == slot) (λ x. true) (residents m) r there) in
       let is : K → ℕ → Bool = λ k s. eq r.0 k && s == slot in
@@ -76,6 +76,13 @@ module _ {K V : Type 0} (eq : K → K → Bool) (laws : IsEquivalence eq) (m : M
         found_at (eq r.0) m (resident_once eq m whole r.0) slot
             (omega (arith, counted_residents is m, found_counted (λ (x : K × ℕ). x.1 == slot) (λ x. is x.0 x.1) (residents m) r there passes)),
       )
+
+  -- a key that is found at a slot is equal to that of the resident there
+  pub same-key : (key : K) (slot : ℕ) (r : K × ℕ) → slot_of (eq key) m ≡ Some slot → resident_at m slot ≡ Some r → eq key r.0 ≡ true
+  same-key key slot r found there = elim (cases_Bool (eq key r.0)) [
+    | inl passes ↦ passes
+    | inr other ↦ absurd (slots_apart eq laws m whole key r.0 other slot slot (at_its_slot slot r there).1 found refl)
+  ]
 
   entry_is : (slot : ℕ) (o : Option (K × ℕ)) → resident_at m slot ≡ o → (v : Option V) → slice_get m.values slot ≡ v → (e : K × ℕ × V)
       → option_and_then {U = K × ℕ × V} (λ (r : K × ℕ). option_map (λ value. (r.0, r.1, value)) v) o ≡ Some e → value_of (eq e.0) m ≡ Some e.2
@@ -100,11 +107,7 @@ module _ {K V : Type 0} (eq : K → K → Bool) (laws : IsEquivalence eq) (m : M
           let value = get-within m.values slot made in
           let is : entry_at m slot ≡ Some (r.0, r.1, value.0) =
           ap (option_and_then {U = K × ℕ × V} (λ (r : K × ℕ). option_map (λ value. (r.0, r.1, value)) (slice_get m.values slot))) there ∙ ap (option_map {U = K × ℕ × V} (λ value. (r.0, r.1, value))) value.1 in
-          let same : eq key r.0 ≡ true = elim (cases_Bool (eq key r.0)) [
-            | inl passes ↦ passes
-            | inr other ↦ absurd (slots_apart eq laws m whole key r.0 other slot slot (at_its_slot slot r there).1 found refl)
-          ] in
-          any_kept (entry_at m) (λ (e : K × ℕ × V). eq key e.0) slot (r.0, r.1, value.0) is same 0 (length m.values - 0) (omega arith) (omega (arith, made))
+          any_kept (entry_at m) (λ (e : K × ℕ × V). eq key e.0) slot (r.0, r.1, value.0) is (same-key key slot r found there) 0 (length m.values - 0) (omega arith) (omega (arith, made))
 
       by_slot : (o : Option ℕ) → slot_of (eq key) m ≡ o → list_any (λ (e : K × ℕ × V). eq key e.0) (entries m) ≡ true
       by_slot None absent = absurd (none_is v (sym (ap (option_and_then (slice_get m.values)) absent) ∙ had))

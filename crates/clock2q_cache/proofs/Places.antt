@@ -54,6 +54,14 @@ module _ {K V : Type 0} {eq : K → K → Bool} {hash : K → ℕ} {shares : Sha
   pub resident-none : (slot : ℕ) → has slot (places_of q) ≡ false → resident_at m slot ≡ None
   resident-none slot absent = resident-here slot ∙ rw absent refl
 
+  -- the resident at a slot leaves
+  pub left-resident : (p : Places) (slot : ℕ) {old : ℕ} {p' : Places} → has slot (places_of q) ≡ true → hash_at keys.entries slot ≡ Some old
+      → p' ≡ record p { index = known.left old slot p.index } → p' ≡ left_by hash (resident_at m slot) slot p
+  left-resident p slot {old} there at indexed =
+      let k = have slot there in
+      indexed ∙ ap (λ x. record p { index = known.left x slot p.index }) (hash-of-key hash keys.entries slot old k.0 kept.stored.hashed at k.1)
+      ∙ sym (ap (λ z. left_by hash z slot p) (resident-there slot k.0 there k.1))
+
   module _ (p : Places) (key : K) (slot : ℕ) {hsh : ℕ} {p' : Places} (is : hsh ≡ hash key) where
     -- a key enters at a slot that has no resident
     pub entered-vacant : has slot (places_of q) ≡ false → p' ≡ record p { index = known.entered hsh slot p.index } → p' ≡ entered hash key slot None m p

@@ -84,18 +84,19 @@ module _ {F K V : Type 0} (g : Mut F (Bor K × (Bor V × Unit {0})) Bool) where
     pub retained_by : (f : F) (new : Machine K V) → I f → Retains g f m new → new ≡ retained (map test (by_slot m)) m
     retained_by f new i r = r.becomes ∙ ap (λ bits. retained bits m) (bits_of r.bits (by_slot m) f r.last r.as_many i r.asked)
 
-module _ {F K V : Type 0} (g : Mut F (Bor K × (Bor V × Unit {0})) Bool) (f : F) (old : Machine K V) where
+module _ {K V : Type 0} (old : Machine K V) where
   -- the residents at the slots below
   abbrev pub below : ℕ → List (K × ℕ)
   below n = filter_map (resident_at old) (range_with_len 0 n)
 
-  below-more : (n : ℕ) (o : Option (K × ℕ)) → resident_at old n ≡ o → below (n + 1) ≡ below n ++ cons_option o []
+  pub below-more : (n : ℕ) (o : Option (K × ℕ)) → resident_at old n ≡ o → below (n + 1) ≡ below n ++ cons_option o []
   below-more n o at =
       let e : n + 1 ≡ suc n = omega arith in
       let start : 0 + n ≡ n = omega arith in
       ap (λ z. below z) e ∙ ap (λ z. filter_map (resident_at old) z) (range-last 0 n ∙ ap (λ z. range_with_len 0 n ++ z ∷ []) start) ∙ filter_map-append (resident_at old) (range_with_len 0 n) (n ∷ [])
       ∙ ap (λ z. below n ++ cons_option z []) at
 
+module _ {F K V : Type 0} (g : Mut F (Bor K × (Bor V × Unit {0})) Bool) (f : F) (old : Machine K V) where
   -- the residents at this slot and above
   abbrev pub above : ℕ → List (K × ℕ)
   above n = filter_map (resident_at old) (range_with_len n (length old.values - n))
@@ -130,7 +131,7 @@ module _ {F K V : Type 0} (g : Mut F (Bor K × (Bor V × Unit {0})) Bool) (f : F
 
   -- the closure was called for the residents below, and nothing else changed
   pub record RetainsBelow (n : ℕ) (f' : F) (now : Machine K V) : Type 0 where
-    pub over : RetainsOver (below n) f' now
+    pub over : RetainsOver (below old n) f' now
     pub later : (t : ℕ) → n ≤ t → resident_at now t ≡ resident_at old t
     pub values : now.values ≡ old.values
     pub callable : TakesInTurn g old.values f' (above n)
@@ -148,7 +149,7 @@ module _ {F K V : Type 0} (g : Mut F (Bor K × (Bor V × Unit {0})) Bool) (f : F
     pub retains-past : resident_at now n ≡ None → RetainsBelow (n + 1) f' now
     retains-past none = record {
       callable = subst (λ rs. TakesInTurn g old.values f' rs) (above-more n None made (sym (h.later n (omega arith)) ∙ none)) h.callable;
-      over = subst (λ z. RetainsOver z f' now) (sym (below-more n None (sym (h.later n (omega arith)) ∙ none) ∙ append-nil (below n))) h.over;
+      over = subst (λ z. RetainsOver z f' now) (sym (below-more old n None (sym (h.later n (omega arith)) ∙ none) ∙ append-nil (below old n))) h.over;
       later = λ t le. h.later t (omega (arith, le));
       values = h.values;
     }
@@ -168,14 +169,14 @@ module _ {F K V : Type 0} (g : Mut F (Bor K × (Bor V × Unit {0})) Bool) (f : F
         asks : (b : Bool) → Called g f' (key, (value, tt)) b last → AsksResident g old.values f' (key.now, n) b last
         asks b called = record { key = key; value = value; shows = (refl, there); called = called }
 
-        among : below (n + 1) ≡ below n ++ (key.now, n) ∷ []
-        among = below-more n (Some (key.now, n)) (sym (h.later n (omega arith)) ∙ here)
+        among : below old (n + 1) ≡ below old n ++ (key.now, n) ∷ []
+        among = below-more old n (Some (key.now, n)) (sym (h.later n (omega arith)) ∙ here)
 
         -- the resident stays
         pub retains-kept : Called g f' (key, (value, tt)) true last → RetainsBelow (n + 1) last now
         retains-kept called = record {
           callable = (turn key value refl there).1 true last called;
-          over = subst (λ z. RetainsOver z last now) (sym among) (over-more (below n) f' now (key.now, n) true last h.over (asks true called));
+          over = subst (λ z. RetainsOver z last now) (sym among) (over-more (below old n) f' now (key.now, n) true last h.over (asks true called));
           later = λ t le. h.later t (omega (arith, le));
           values = h.values;
         }
@@ -184,7 +185,7 @@ module _ {F K V : Type 0} (g : Mut F (Bor K × (Bor V × Unit {0})) Bool) (f : F
         pub retains-refused : Called g f' (key, (value, tt)) false last → RetainsBelow (n + 1) last (vacated n now)
         retains-refused called = record {
           callable = (turn key value refl there).1 false last called;
-          over = subst (λ z. RetainsOver z last (vacated n now)) (sym among) (over-more (below n) f' now (key.now, n) false last h.over (asks false called));
+          over = subst (λ z. RetainsOver z last (vacated n now)) (sym among) (over-more (below old n) f' now (key.now, n) false last h.over (asks false called));
           later = λ t le. resident-other now n t (ne_eqb n t (λ e. omega (arith, e, le))) ∙ h.later t (omega (arith, le));
           values = h.values;
         }
@@ -192,5 +193,5 @@ module _ {F K V : Type 0} (g : Mut F (Bor K × (Bor V × Unit {0})) Bool) (f : F
   -- the closure was called for all
   pub retains-all : (n : ℕ) (f' : F) (now : Machine K V) → n ≡ length old.values → RetainsBelow n f' now → Retains g f old now
   retains-all n f' now all h =
-      let o : RetainsOver (below (length old.values)) f' now = subst (λ z. RetainsOver (below z) f' now) all h.over in
+      let o : RetainsOver (below old (length old.values)) f' now = subst (λ z. RetainsOver (below old z) f' now) all h.over in
       record { bits = o.bits; last = f'; as_many = o.as_many; asked = o.asked; becomes = o.becomes }

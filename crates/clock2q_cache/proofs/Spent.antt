@@ -1,6 +1,6 @@
 -- What the parts of a call cost.
 use Rattle.std.proofs.Common.{◌≡◌, ℕ, ◌+◌, ◌*◌, ◌≤◌, Bool, true, false, List, length, Some, None, refl, ap, sym, ◌∙◌, subst, arith}
-use Rattle.clock2q_cache.proofs.Names.{HashMembers, candidates, KeyPlaces, questions_of, Remembered, QueueState, questions-most, set_bits, inspections_of, Call, Get, GetAt, Set, Remove, Retain, Prefill, counts_of, CacheState, Counts, residents_in, Spends, Costs, Becomes, most_accesses, most_questions, hash_of, slot_of, hit, stored, prefilled, vacated, removed_at, then_some, is_at, after, hit_at, retained, replaced, replaced_at, hit-absent}
+use Rattle.clock2q_cache.proofs.Names.{HashMembers, candidates, KeyPlaces, questions_of, Remembered, QueueState, questions-most, set_bits, inspections_of, Call, Get, GetAt, Set, Remove, Retain, Prefill, counts_of, Places, CacheState, Counts, residents_in, Spends, Reaches, Costs, Becomes, most_accesses, most_questions, most_slots, reached, hash_of, slot_of, hit, stored, prefilled, vacated, removed_at, then_some, is_at, after, hit_at, retained, replaced, replaced_at, hit-absent}
 use Rattle.std.specs.declared.hash.Hasher as hasher
 use Rattle.std.specs.declared.hash.BuildHasher as builder
 use Rattle.clock2q_machine.proofs.Clock.{clock_bounded}
@@ -49,21 +49,27 @@ slot-stays slot before = spends-more before (omega arith) (omega arith)
 pub slot-leaves : (slot : ℕ) {a b c : Counts} → Spends 0 (8 * slot) 0 a b → Spends 0 8 0 b c → Spends 0 (8 * (slot + 1)) 0 a c
 slot-leaves slot before left = spends-both before left (omega arith) (omega arith) (omega arith)
 
+module _ {K V S : Type 0} {n : ℕ} {old new : CacheState K V S} where
+  -- the index is as it was
+  pub reaches-none : new.known ≡ old.known → Reaches n old new
+  reaches-none same = record { accesses = omega (arith, ap (λ (p : Places). p.index.accesses) same) }
+
 module _ {K V S H : Type 0} {key : HashMembers K} {build : builder.Ghosts S H} {hash : hasher.Ghosts H} where
   -- a call that leaves the machine's next state has paid for its inspections
   pub costs-of : {call : Call K V} {old new : CacheState K V S} → new.machine ≡ after key.eq call old.machine
+      → Reaches (most_slots key build hash call old) old new
       → Spends (inspections_of key.eq call old.machine) (most_accesses key.eq call old.machine) (most_questions key build hash call old) old.counts new.counts
       → Costs key build hash call old new
-  costs-of {call} {old} {new} is spent = record { counts = spent; clock = omega (arith, spent.inspections, clock_bounded key.eq call old.machine, ap set_bits is) }
+  costs-of {call} {old} {new} is reached spent = record { counts = spent; index = reached; clock = omega (arith, spent.inspections, clock_bounded key.eq call old.machine, ap set_bits is) }
 
   -- a call in which the hand inspects nothing, and no bit is set
   pub prefill-costs : {values : List V} (made : List V) {old new : CacheState K V S} → new.machine ≡ prefilled made old.machine
-      → Spends 0 0 0 old.counts new.counts → Costs key build hash (Prefill values) old new
-  prefill-costs made is spent = record { counts = spent; clock = omega (arith, spent.inspections, ap set_bits is) }
+      → new.known ≡ old.known → Spends 0 0 0 old.counts new.counts → Costs key build hash (Prefill values) old new
+  prefill-costs made is kept spent = record { counts = spent; index = reaches-none kept; clock = omega (arith, spent.inspections, ap set_bits is) }
 
   pub retain-costs : {bits : List Bool} (asked : List Bool) {old new : CacheState K V S} → new.machine ≡ retained asked old.machine
-      → Spends 0 (8 * length old.machine.values) 0 old.counts new.counts → Costs key build hash (Retain bits) old new
-  retain-costs asked {old} is spent = record { counts = spent; clock = omega (arith, spent.inspections, ap set_bits is, clock_bounded key.eq (Retain asked) old.machine) }
+      → Reaches (most_slots key build hash (Retain bits) old) old new → Spends 0 (8 * length old.machine.values) 0 old.counts new.counts → Costs key build hash (Retain bits) old new
+  retain-costs asked {old} is reached spent = record { counts = spent; index = reached; clock = omega (arith, spent.inspections, ap set_bits is, clock_bounded key.eq (Retain asked) old.machine) }
 
   -- a lookup that finds no resident
   pub missed-becomes : {k : K} {x : ℕ} {old new : CacheState K V S} → x ≡ hash_of build hash old.hasher (key.hash_input k) → slot_of (key.eq k) old.machine ≡ None
@@ -72,7 +78,7 @@ module _ {K V S H : Type 0} {key : HashMembers K} {build : builder.Ghosts S H} {
   missed-becomes {k} {old = old} same absent kept spent =
       let m = ap (λ (z : CacheState K V S). z.machine) kept ∙ sym (hit-absent (key.eq k) old.machine absent) in
       let asked = ap (λ y. length (candidates (residents_in old.known) y)) same in
-      (m, ap (λ (z : CacheState K V S). z.hasher) kept, costs-of m (spends-more spent (omega arith) (omega (arith, asked))))
+      (m, ap (λ (z : CacheState K V S). z.hasher) kept, costs-of m (reaches-none (ap (λ (z : CacheState K V S). z.known) kept)) (spends-more spent (omega arith) (omega (arith, asked))))
 
   pub unhit-becomes : {k : K} {old new : CacheState K V S} → slot_of (key.eq k) old.machine ≡ None
       → Becomes key build hash (Get k) (hit (key.eq k) old.machine) old new → Becomes key build hash (Get k) old.machine old new
@@ -87,23 +93,24 @@ module _ {K V S H : Type 0} {key : HashMembers K} {build : builder.Ghosts S H} {
       let m = is ∙ ap (λ (z : CacheState K V S). hit (key.eq k) z.machine) kept in
       let c = ap (λ (z : CacheState K V S). z.counts) after_hit in
       let asked = ap (λ y. length (candidates (residents_in old.known) y)) same in
-      (m, ap (λ (z : CacheState K V S). z.hasher) after_hit ∙ ap (λ (z : CacheState K V S). z.hasher) kept, costs-of m (rw c (spends-more spent (omega arith) (omega (arith, asked)))))
+      let index = ap (λ (z : CacheState K V S). z.known) after_hit ∙ ap (λ (z : CacheState K V S). z.known) kept in
+      (m, ap (λ (z : CacheState K V S). z.hasher) after_hit ∙ ap (λ (z : CacheState K V S). z.hasher) kept, costs-of m (reaches-none index) (rw c (spends-more spent (omega arith) (omega (arith, asked)))))
 
   -- a lookup that finds a resident, which leaves
   pub remove-costs : {k : K} {slot : ℕ} {old found new : CacheState K V S} → Some slot ≡ slot_of (key.eq k) old.machine
       → found ≡ record old { counts = found.counts } → Spends 0 0 (most_questions key build hash (Remove k) old) old.counts found.counts
-      → new.machine ≡ vacated slot found.machine → Spends 0 8 0 found.counts new.counts
+      → Reaches (reached key build hash old k) old new → new.machine ≡ vacated slot found.machine → Spends 0 8 0 found.counts new.counts
       → Costs key build hash (Remove k) old new
-  remove-costs {k} {slot} {old} there kept asked is left = costs-of
+  remove-costs {k} {slot} {old} there kept asked reached is left = costs-of
       (is ∙ ap (λ (z : CacheState K V S). vacated slot z.machine) kept ∙ ap (λ o. removed_at (key.eq k) o old.machine) there)
-      (spends-both asked left (omega arith) (omega arith) (omega arith))
+      reached (spends-both asked left (omega arith) (omega arith) (omega arith))
 
   -- the value of the key that is hit is lent, and this value is left behind the reference
   pub lent-becomes : {k : K} {slot : ℕ} {value : V} {old new : CacheState K V S} → Some slot ≡ slot_of (key.eq k) old.machine
       → Becomes key build hash (Get k) (hit (key.eq k) old.machine) old new
       → Becomes key build hash (Set k value) (replaced (key.eq k) value old.machine) old (record new { machine = stored slot value new.machine })
   lent-becomes {k} {slot} {value} {old} there found =
-      let m = ap (λ z. stored slot value z) found.0 ∙ ap (λ o. replaced_at (key.eq k) value o old.machine) there in (m, found.1, costs-of m found.2.counts)
+      let m = ap (λ z. stored slot value z) found.0 ∙ ap (λ o. replaced_at (key.eq k) value o old.machine) there in (m, found.1, costs-of m (record { accesses = found.2.index.accesses }) found.2.counts)
 
   -- none is lent
   pub unlent-becomes : {k : K} {value : V} {old new : CacheState K V S} → slot_of (key.eq k) old.machine ≡ None
@@ -111,7 +118,7 @@ module _ {K V S H : Type 0} {key : HashMembers K} {build : builder.Ghosts S H} {
       → Becomes key build hash (Set k value) (replaced (key.eq k) value old.machine) old new
   unlent-becomes {k} {value} {old} absent missed =
       let m = missed.0 ∙ hit-absent (key.eq k) old.machine absent ∙ ap (λ o. replaced_at (key.eq k) value o old.machine) (sym absent) in
-      (m, missed.1, costs-of m missed.2.counts)
+      (m, missed.1, costs-of m missed.2.index missed.2.counts)
 
   -- the same at a slot
   pub missed_at-becomes : {slot : ℕ} {k : K} {old new : CacheState K V S} → None ≡ then_some (is_at slot (slot_of (key.eq k) old.machine)) slot
@@ -120,7 +127,7 @@ module _ {K V S H : Type 0} {key : HashMembers K} {build : builder.Ghosts S H} {
   missed_at-becomes {slot} {k} {old} {new} absent kept spent =
       let m : new.machine ≡ hit_at slot (key.eq k) old.machine =
       rw (none-some (is_at slot (slot_of (key.eq k) old.machine)) slot absent) (ap (λ (z : CacheState K V S). z.machine) kept) in
-      (m, ap (λ (z : CacheState K V S). z.hasher) kept, costs-of m spent)
+      (m, ap (λ (z : CacheState K V S). z.hasher) kept, costs-of m (reaches-none (ap (λ (z : CacheState K V S). z.known) kept)) spent)
 
   pub hit_at-becomes : {slot resident : ℕ} {k : K} {old found new : CacheState K V S} → Some resident ≡ then_some (is_at slot (slot_of (key.eq k) old.machine)) slot
       → found ≡ record old { counts = found.counts } → Spends 0 0 1 old.counts found.counts
@@ -130,4 +137,5 @@ module _ {K V S H : Type 0} {key : HashMembers K} {build : builder.Ghosts S H} {
       let m : new.machine ≡ hit_at slot (key.eq k) old.machine =
       rw (some-some (is_at slot (slot_of (key.eq k) old.machine)) slot resident at) (is ∙ ap (λ (z : CacheState K V S). hit (key.eq k) z.machine) kept) in
       let c = ap (λ (z : CacheState K V S). z.counts) after_hit in
-      (m, ap (λ (z : CacheState K V S). z.hasher) after_hit ∙ ap (λ (z : CacheState K V S). z.hasher) kept, costs-of m (rw c spent))
+      let index = ap (λ (z : CacheState K V S). z.known) after_hit ∙ ap (λ (z : CacheState K V S). z.known) kept in
+      (m, ap (λ (z : CacheState K V S). z.hasher) after_hit ∙ ap (λ (z : CacheState K V S). z.hasher) kept, costs-of m (reaches-none index) (rw c spent))

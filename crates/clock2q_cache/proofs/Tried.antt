@@ -6,9 +6,9 @@ use Rattle.std.specs.declared.alloc.Allocator as alloc
 use Rattle.std.specs.declared.hash.Hasher as hasher
 use Rattle.std.specs.declared.hash.BuildHasher as builder
 use Rattle.clock2q_machine.specs.Bounds.{inspections_for}
-use Rattle.clock2q_cache.proofs.Names.{HashMembers, slice_get, UnwrapsOrElse, CacheState, Spends, Fetches, hit-absent, slot_of, value_of, some_is}
+use Rattle.clock2q_cache.proofs.Names.{HashMembers, slice_get, UnwrapsOrElse, CacheState, Reaches, Spends, Fetches, hit-absent, slot_of, value_of, some_is}
 use Rattle.clock2q_cache.proofs.Spent.{costs-of}
-use Rattle.clock2q_cache.specs.Costs.{accesses_for, alike}
+use Rattle.clock2q_cache.specs.Costs.{accesses_for, alike, slots_for}
 use Rattle.clock2q_cache.specs.CacheLends.{Tries}
 
 module _ (K V S A H : RattleType) (key : HashMembers K.Denot) (build : builder.Ghosts S.Denot H.Denot) (hash : hasher.Ghosts H.Denot) (heap : alloc.Ghosts A.Denot)
@@ -33,6 +33,9 @@ module _ (K V S A H : RattleType) (key : HashMembers K.Denot) (build : builder.G
   Slot-counts found =
       OnOk found (Spends (inspections_for (key.eq k) old.machine) (accesses_for (key.eq k) old.machine) (alike key build hash k old) old.counts new.counts)
 
+  abbrev pub Slot-index : Result ℕ E → Type 0
+  Slot-index found = MatchResult found (λ _. Reaches (slots_for key build hash k old) old new) (λ _. Reaches 0 old new)
+
   abbrev pub Slot-asked : Result ℕ E → Type 0
   Slot-asked found = OnErr found (Spends 0 0 (alike key build hash k old) old.counts new.counts)
 
@@ -44,6 +47,7 @@ module _ (K V S A H : RattleType) (key : HashMembers K.Denot) (build : builder.G
     pub machine : Slot-machine found
     pub hasher : new.hasher ≡ old.hasher
     pub counts : Slot-counts found
+    pub index : Slot-index found
     pub asked : Slot-asked found
 
   -- what the loan of the slot's value ensures
@@ -70,8 +74,8 @@ module _ (K V S A H : RattleType) (key : HashMembers K.Denot) (build : builder.G
   fetches (Ok slot) (Ok value) s lent =
       let f = s.fetched in let same = some_is f.value value.now (sym f.there ∙ lent) in
       let becomes = rw same at f.becomes in
-      record { tries = (becomes, s.hasher, costs-of becomes s.counts); value = rw same at f.had; err = tt; absent = tt }
+      record { tries = (becomes, s.hasher, costs-of becomes s.index s.counts); value = rw same at f.had; err = tt; absent = tt }
   fetches (Ok slot) (Err e) s lent = absurd lent
   fetches (Err e) result s lent =
       let is = s.machine ∙ sym (hit-absent (key.eq k) old.machine s.absent) in
-      subst Fetched (sym lent) (record { tries = (s.machine, s.hasher, costs-of is s.asked); value = tt; err = s.err; absent = s.absent })
+      subst Fetched (sym lent) (record { tries = (s.machine, s.hasher, costs-of is s.index s.asked); value = tt; err = s.err; absent = s.absent })

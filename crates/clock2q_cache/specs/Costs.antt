@@ -1,13 +1,17 @@
--- What a call costs a cache: inspections by the hand, accesses to links, questions to keys.
-use Rattle.std.specs.Prelude.{◌≡◌, ℕ, ◌+◌, ◌*◌, ◌≤◌, Bool, if◌then◌else◌, Some, None, is_some, length}
+-- What a call costs a cache: inspections by the hand, accesses to links, questions to keys, slots of the index.
+use Rattle.std.specs.Prelude.{◌≡◌, ℕ, ◌+◌, ◌*◌, ◌≤◌, Bool, if◌then◌else◌, Option, Some, None, is_some, length, sum_by}
+use Rattle.std.specs.List.{list_any, last_or}
+use Rattle.std.specs.Option.{option_map}
 use Rattle.std.specs.declared.hash.Hasher as hasher
 use Rattle.std.specs.declared.hash.BuildHasher as builder
 use Rattle.std.specs.HashMap.Lent.{HashMembers}
 use Rattle.clock2q_handles.specs.Homes.{candidates}
 use Rattle.clock2q_queues.specs.Cells.{Rises}
+use Rattle.clock2q_directory.specs.Index.{most_reached}
 use Rattle.clock2q_machine.specs.Calls.{Call, Put, Get, Peek, Contains, GetAt, Set, With, Try, SlotFor, Remove, Retain, Clear, Prefill, Len, IsEmpty, Capacity}
-use Rattle.clock2q_machine.specs.Machine.{Machine, slot_of}
+use Rattle.clock2q_machine.specs.Machine.{Machine, slot_of, by_slot}
 use Rattle.clock2q_machine.specs.Bounds.{set_bits, inspections_for, inspections_of, main_victims, settings}
+use Rattle.clock2q_machine.specs.Leaving.{leaves_for}
 use Rattle.clock2q_cache.specs.CacheState.{CacheState, Counts, residents_in, remembered_in}
 use Rattle.clock2q_cache.specs.Hashes.{hash_of}
 
@@ -16,6 +20,10 @@ pub record Spends (inspected links keys : ℕ) (old new : Counts) : Type 0 where
   pub inspections : new.inspections ≡ old.inspections + inspected
   pub accesses : Rises 0 links old.accesses new.accesses
   pub questions : Rises 0 keys old.questions new.questions
+
+-- at most this many slots of the index were read and written
+pub record Reaches {K V S : Type 0} (slots : ℕ) (old new : CacheState K V S) : Type 0 where
+  pub accesses : new.known.index.accesses ≤ old.known.index.accesses + slots
 
 -- the bound on accesses to links to fetch or insert a key: 0 if it is resident, otherwise 36 plus the hand's
 -- inspections
@@ -67,10 +75,46 @@ module _ {K V S H : Type 0} (key : HashMembers K) (build : builder.Ghosts S H) (
   most_questions IsEmpty c = 0
   most_questions Capacity c = 0
 
+  -- the most slots of the index that one change under the hash of a key reads and writes, or 0 if there is no key
+  abbrev pub reached : CacheState K V S → K → ℕ
+  reached c k = most_reached c.known.index (hash_of build hash c.hasher (key.hash_input k))
+
+  abbrev pub reached_if : CacheState K V S → Option K → ℕ
+  reached_if c None = 0
+  reached_if c (Some k) = reached c k
+
+  -- the bound on the slots of the index to fetch or insert a key: 0 if it is resident, otherwise those of two changes
+  -- under its hash, of one under that of the resident that leaves, and of one under that of the oldest remembered key
+  abbrev pub slots_for : K → CacheState K V S → ℕ
+  slots_for k c = if is_some (slot_of (key.eq k) c.machine) then 0 else
+      2 * reached c k + reached_if c (option_map (λ r. r.0) (leaves_for (list_any (key.eq k) c.machine.history) c.machine)) + reached_if c (last_or None c.machine.history)
+
+  -- the bound on the slots of the index that a call reads and writes: the above for a key that it may insert, those of
+  -- one change for a key that it removes, or for each resident if it may remove them all, and each slot if it clears
+  abbrev pub most_slots : Call K V → CacheState K V S → ℕ
+  most_slots (Put k value) c = slots_for k c
+  most_slots (With k value) c = slots_for k c
+  most_slots (Try k (Some value)) c = slots_for k c
+  most_slots (SlotFor k value) c = slots_for k c
+  most_slots (Remove k) c = reached c k
+  most_slots (Retain bits) c = sum_by (λ r. reached c r.0) (by_slot c.machine)
+  most_slots Clear c = length c.known.index.shared + length c.known.index.own
+  most_slots (Try k None) c = 0
+  most_slots (Get k) c = 0
+  most_slots (Peek k) c = 0
+  most_slots (Contains k) c = 0
+  most_slots (GetAt slot k) c = 0
+  most_slots (Set k value) c = 0
+  most_slots (Prefill values) c = 0
+  most_slots Len c = 0
+  most_slots IsEmpty c = 0
+  most_slots Capacity c = 0
+
   -- the call spent no more than its bounds, and each inspection was paid for: by Main's victim, or by a bit of Main
   -- that was set before or by the call
   pub record Costs (call : Call K V) (old new : CacheState K V S) : Type 0 where
     pub counts : Spends (inspections_of key.eq call old.machine) (most_accesses key.eq call old.machine) (most_questions call old) old.counts new.counts
+    pub index : Reaches (most_slots call old) old new
     pub clock : new.counts.inspections + set_bits new.machine ≤ old.counts.inspections + main_victims key.eq call old.machine + settings key.eq call old.machine + set_bits old.machine
 
   -- the machine becomes this one at the cost of the call, and the hasher stays

@@ -41,7 +41,9 @@ pub type DefaultHashBuilder = BuildHasherDefault<FoldHasher>;
 /// A call that takes a key, except [`get_at`](Cache::get_at), hashes it once and compares it only
 /// with its candidates: the resident and remembered keys whose hashes have the same home and
 /// fingerprint. Each inspection by the hand is paid for: since the cache was made, there have been
-/// no more of them than keys that Main evicted and bits of Main that hits set.
+/// no more of them than keys that Main evicted and bits of Main that hits set. A call that changes
+/// the index reads and writes few of its slots if hashes are well spread; keys whose hashes collide
+/// cost more, by the length of their runs.
 ///
 /// # Example
 ///
@@ -83,6 +85,7 @@ impl<K: Hash + Eq, V, S: BuildHasher, A: Allocator> Cache<K, V, S, A> {
     ghost use Rattle.clock2q_machine.specs.Whole.{IsWhole};
     ghost use Rattle.clock2q_handles.specs.Homes.{candidates};
     ghost use Rattle.clock2q_directory.specs.History.{found_slot, found_place, place_of};
+    ghost use Rattle.clock2q_directory.specs.Index.{IsWithinCapacity};
     ghost use Rattle.clock2q_cache.specs.CacheState.{residents_in, remembered_in};
     ghost use Rattle.clock2q_machine.specs.Calls.{Get, GetAt};
     ghost use Rattle.clock2q_cache.specs.CacheLends.{LeavesMachine, LendsHit, LendsSlot};
@@ -108,6 +111,7 @@ impl<K: Hash + Eq, V, S: BuildHasher, A: Allocator> Cache<K, V, S, A> {
         ensures whole { IsWhole K.eq self.now.machine }
         ensures indexed { IsIndexed K.Hash S.BuildHasher S.Hasher.Hasher self.now }
         ensures spacious { IsSpacious self.now }
+        ensures within { IsWithinCapacity self.now.known.index }
     {
         let _ = self.directory.remembered_len();
         self.queues.small_len() + self.queues.main_len()
@@ -287,7 +291,10 @@ impl<K: Hash + Eq, V, S: BuildHasher, A: Allocator> Cache<K, V, S, A> {
         ensures hasher { self.new.hasher ≡ self.old.hasher }
         ensures kept { self.new ≡ record self.old { counts = self.new.counts } }
         ensures counts { Spends 0 0 (alike K.Hash S.BuildHasher S.Hasher.Hasher key.now self.old) self.old.counts self.new.counts }
+        ensures as_many { length self.old.known.taken ≡ length self.old.machine.history }
+        ensures within { IsWithinCapacity self.old.known.index }
     {
+        let _ = self.directory.remembered_len(); // whose contract says that the index is whole
         self.directory.lookup(hash, key)
     }
 
@@ -363,7 +370,10 @@ impl<K: Hash + Eq + Drop, V: Drop, S: BuildHasher, A: Allocator> Cache<K, V, S, 
     ///
     /// One hash of the key, and at most one question to each candidate among the residents and in
     /// the history. No link is accessed if the key is resident; otherwise there are at most 36 more
-    /// accesses to links than inspections by the hand.
+    /// accesses to links than inspections by the hand, and at most four changes of the index: two
+    /// under the key's hash, one under that of the key that leaves, and one under that of the
+    /// oldest remembered key. Each reads and writes at most the walk of its hash, and twice its
+    /// run with one more slot.
     pub fn put(&mut self, key: K, value: V) -> Option<V>
         ensures value { result ≡ value_of (K.eq key) self.old.machine }
         ensures machine { self.new.machine ≡ put (K.eq key) key value self.old.machine }

@@ -14,7 +14,7 @@ impl<K: Hash + Eq + Drop, V: Drop, S: BuildHasher, A: Allocator> Cache<K, V, S, 
     ///
     /// # Cost
     ///
-    /// Time in proportion to the capacity. No key is hashed.
+    /// Time in proportion to the capacity: one access to each slot of the index. No key is hashed.
     pub fn clear(&mut self)
         ensures machine { self.new.machine ≡ cleared self.old.machine }
         ensures hasher { self.new.hasher ≡ self.old.hasher }

@@ -15,7 +15,7 @@ impl<K: Hash + Eq + Drop, V: Drop, S: BuildHasher, A: Allocator> Cache<K, V, S, 
     ghost use Rattle.clock2q_cache.specs.CacheLends.{LeavesMachine, LeavesTried, LendsPut, LendsTaken};
     ghost use Rattle.clock2q_cache.specs.Hashes.{hash_of};
     ghost use Rattle.clock2q_cache.specs.Closures.{Fetches, Takes};
-    ghost use Rattle.clock2q_cache.specs.Costs.{Costs, Spends, accesses_for, alike};
+    ghost use Rattle.clock2q_cache.specs.Costs.{Costs, Reaches, Spends, accesses_for, alike, slots_for};
     ghost use Rattle.clock2q_cache.specs.Places.{known_with};
     ghost use Rattle.clock2q_machine.specs.Machine.{slot_of, value_of};
     ghost use Rattle.clock2q_machine.specs.Steps.{put, fetched, slotted, slotted_at};
@@ -108,6 +108,7 @@ impl<K: Hash + Eq + Drop, V: Drop, S: BuildHasher, A: Allocator> Cache<K, V, S, 
         ensures unwritten { put (K.eq key) key result.1.now self.old.machine ≡ slotted (K.eq key) key result.1.now self.old.machine }
         ensures costs { (value : V) → Costs K.Hash S.BuildHasher S.Hasher.Hasher (Put key value) self.old (with_slot K.Hash S.BuildHasher S.Hasher.Hasher key value self.old) }
     {
+        let _ = self.len(); // whose contract says that the cache is whole
         let hash = self.hash(&key);
         let most = self.most(&key);
         let slot = self.find_or_reuse(hash, key, make);
@@ -142,6 +143,7 @@ impl<K: Hash + Eq + Drop, V: Drop, S: BuildHasher, A: Allocator> Cache<K, V, S, 
         ensures fetched { Fetches (K.eq key) key (F.post f) self.old.machine result self.new.machine }
         ensures made { result < length self.new.machine.values }
         ensures hasher { self.new.hasher ≡ self.old.hasher }
+        ensures index { Reaches (slots_for K.Hash S.BuildHasher S.Hasher.Hasher key self.old) self.old self.new }
         ensures counts { Spends (inspections_for (K.eq key) self.old.machine) (accesses_for (K.eq key) self.old.machine) (alike K.Hash S.BuildHasher S.Hasher.Hasher key self.old) self.old.counts self.new.counts }
     {
         let hash = self.hash(&key);
@@ -193,6 +195,7 @@ impl<K: Hash + Eq + Drop, V: Drop, S: BuildHasher, A: Allocator> Cache<K, V, S, 
         ensures machine { OnErr result (self.new.machine ≡ self.old.machine) }
         ensures hasher { self.new.hasher ≡ self.old.hasher }
         ensures counts { OnOk result (Spends (inspections_for (K.eq key) self.old.machine) (accesses_for (K.eq key) self.old.machine) (alike K.Hash S.BuildHasher S.Hasher.Hasher key self.old) self.old.counts self.new.counts) }
+        ensures index { MatchResult result (λ _. Reaches (slots_for K.Hash S.BuildHasher S.Hasher.Hasher key self.old) self.old self.new) (λ _. Reaches 0 self.old self.new) }
         ensures asked { OnErr result (Spends 0 0 (alike K.Hash S.BuildHasher S.Hasher.Hasher key self.old) self.old.counts self.new.counts) }
     {
         let hash = self.hash(&key);

@@ -11,6 +11,7 @@ impl<K: Hash + Eq, V, S: BuildHasher, A: Allocator> Cache<K, V, S, A> {
     ghost use Rattle.clock2q_cache.specs.Closures.{MayBeAsked, Retains};
     ghost use Rattle.clock2q_cache.specs.Costs.{Spends, Costs};
     ghost use Rattle.clock2q_cache.specs.Hashes.{hash_of};
+    ghost use Rattle.clock2q_cache.specs.Places.{left_by};
     ghost use Rattle.clock2q_machine.specs.Machine.{slot_of, resident_at, resident_count, vacated, removed};
 
     /// Removes a key, and returns true if it was resident.
@@ -22,7 +23,7 @@ impl<K: Hash + Eq, V, S: BuildHasher, A: Allocator> Cache<K, V, S, A> {
     /// # Cost
     ///
     /// One hash of the key, and at most one question to each candidate. At most eight accesses
-    /// to links, and no inspection by the hand.
+    /// to links, one change of the index, under the key's hash, and no inspection by the hand.
     pub fn remove(&mut self, key: &K) -> bool
         ensures found { IsTrue result ↔ IsSome (slot_of (K.eq key.now) self.old.machine) }
         ensures machine { self.new.machine ≡ removed (K.eq key.now) self.old.machine }
@@ -46,7 +47,8 @@ impl<K: Hash + Eq, V, S: BuildHasher, A: Allocator> Cache<K, V, S, A> {
     ///
     /// # Cost
     ///
-    /// At most eight accesses to links for each resident that is removed. No key is hashed.
+    /// At most eight accesses to links and one change of the index for each resident that is
+    /// removed. No key is hashed.
     pub fn retain<F: FnMut(&K, &V) -> bool>(&mut self, mut keep: F)
         requires callable { MayBeAsked F.FnMut keep self.old.machine }
         ensures retained { Retains F.FnMut keep self.old.machine self.new.machine }
@@ -54,6 +56,7 @@ impl<K: Hash + Eq, V, S: BuildHasher, A: Allocator> Cache<K, V, S, A> {
         ensures costs { (bits : List Bool) → Costs K.Hash S.BuildHasher S.Hasher.Hasher (Retain bits) self.old self.new }
         ensures removals { self.new.counts.accesses + 8 * resident_count self.new.machine ≤ self.old.counts.accesses + 8 * resident_count self.old.machine }
     {
+        let _ = self.len(); // whose contract says that the index's entries fit
         for slot in 0..self.made() {
             if self.is_resident(slot) {
                 let stays = keep(self.key(slot), self.value(slot));
@@ -91,6 +94,7 @@ impl<K: Hash + Eq, V, S: BuildHasher, A: Allocator> Cache<K, V, S, A> {
     pub(super) fn vacate(&mut self, slot: u32)
         requires { IsSome (resident_at self.old.machine slot) }
         ensures machine { self.new.machine ≡ vacated slot self.old.machine }
+        ensures known { self.new.known ≡ left_by (λ k. hash_of S.BuildHasher S.Hasher.Hasher self.old.hasher (K.hash_input k)) (resident_at self.old.machine slot) slot self.old.known }
         ensures hasher { self.new.hasher ≡ self.old.hasher }
         ensures counts { Spends 0 8 0 self.old.counts self.new.counts }
     {

@@ -63,7 +63,7 @@ impl<K: Hash + Eq, V, S: BuildHasher, A: Allocator> Cache<K, V, S, A> {
     ///
     /// # Cost
     ///
-    /// No hash and no question. At most eight accesses to links.
+    /// No hash and no question. At most eight accesses to links, and one change of the index.
     pub fn remove_slot(&mut self, slot: usize) -> bool
         ensures found { IsTrue result ↔ IsSome (resident_at self.old.machine slot) }
         ensures machine { IfSome (resident_at self.old.machine slot) (λ r. self.new.machine ≡ removed (K.eq r.0) self.old.machine) }

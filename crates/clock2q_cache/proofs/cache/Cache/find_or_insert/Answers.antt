@@ -4,6 +4,8 @@ use Rattle.clock2q_cache.proofs.Names.{slice_get_within, hit, inserted, CacheSta
 use Rattle.clock2q_cache.proofs.Finding.{no-slot}
 use Rattle.clock2q_cache.proofs.Fetched.{hit-fetches, new-fetches}
 use Rattle.clock2q_cache.proofs.Insertions.{hit-spends, insert-spends}
+use Rattle.clock2q_cache.proofs.Reaching.{reaches-with}
+use Rattle.clock2q_cache.proofs.Spent.{reaches-none}
 use Rattle.clock2q_cache.proofs.cache.Cache.find_or_insert.Goals as goal
 
 pub returns-in-Resident-clause-fetched : goal.returns-in-Resident-clause-fetched
@@ -26,6 +28,14 @@ pub returns-in-Resident-clause-counts : goal.returns-in-Resident-clause-counts
 returns-in-Resident-clause-counts g c =
     hit-spends (g.K.PartialEq.eq c.args.key) c.args.self.now.machine c.lookup-found.ensures.counts c.in-Resident.ensures.slot
     (ap (λ (z : CacheState _ _ _). z.counts) c.record_hit.ensures.kept) (omega arith)
+
+pub returns-in-Resident-clause-index : goal.returns-in-Resident-clause-index
+returns-in-Resident-clause-index g c = reaches-none (ap (λ (z : CacheState _ _ _). z.known) c.record_hit.ensures.kept ∙ ap (λ (z : CacheState _ _ _). z.known) c.lookup-found.ensures.kept)
+
+pub returns-clause-index : goal.returns-clause-index
+returns-clause-index g c =
+    let absent = no-slot c.lookup-found.result c.in_default.not-Resident ∙ c.lookup-found.ensures.slot in
+    reaches-with (record { eq = g.K.PartialEq.eq; hash_input = g.K.Hash.hash_input }) g.S.BuildHasher g.S.Hasher.Hasher c.args.key g.met.K.Eq.laws g.met.K.Hash.respects_eq c.lookup-found.ensures.whole c.lookup-found.ensures.as_many c.lookup-found.ensures.within (rw (← absent) (rw (c.insert.ensures.slot, c.lookup-found.ensures.kept, c.hash-hash.ensures) at c.insert.ensures.known))
 
 pub returns-clause-counts : goal.returns-clause-counts
 returns-clause-counts g c =

@@ -1,6 +1,6 @@
 -- A hit on a slot is one on the key that is resident there.
-use Rattle.std.proofs.Common.{ap, ◌∙◌, subst, sym}
-use Rattle.clock2q_cache.proofs.Names.{QueueState, CacheState, hit}
+use Rattle.std.proofs.Common.{ap}
+use Rattle.clock2q_cache.proofs.Names.{QueueState}
 use Rattle.clock2q_cache.proofs.Finding.{either-queue, hit-machine, kept-hit}
 use Rattle.clock2q_cache.proofs.HitSlot.{in-queues, own-key, own-slot, own-resident}
 use Rattle.clock2q_cache.proofs.cache.Cache.hit_resident.Goals as goal

@@ -1,7 +1,7 @@
 -- A key that takes the slot of another: the other comes back with the value of the slot.
 use Rattle.std.proofs.Common.{Some, None, false, sym, ap, ◌∙◌, rules}
 use Rattle.clock2q_cache.proofs.Names.{ltb-true, known_count, Placement, CacheState, placement, stored, unknown_once_forgotten}
-use Rattle.clock2q_cache.proofs.Insertions.{IsSent, placed-inspections, forgotten-spends}
+use Rattle.clock2q_cache.proofs.Insertions.{IsSent, goes-there, placed-inspections, forgotten-spends}
 use Rattle.clock2q_cache.proofs.Making.{small-unknown, placed-there, makes-here}
 use Rattle.clock2q_cache.proofs.Evicting.{leaver-there, maker-leaves, hands-none, hands-over, slot-made, slot-had, slot-stored}
 use Rattle.clock2q_cache.proofs.cache.Cache.insert_evicting.Given.{Over}
@@ -30,6 +30,12 @@ returns-then-makes_slot-clause-machine g c =
     c.insert_unknown.ensures.machine.becomes ∙ ap (λ (p : Placement _ _). stored p.slot c.insert_unknown.ensures.machine.held p.machine) (placed-there g.K.PartialEq.eq c.args.key s)
     ∙ ap (λ v. let p = placement (g.K.PartialEq.eq c.args.key) c.args.key c.args.self.now.machine in stored p.slot v p.machine) c.insert_unknown.ensures.machine.is
 
+pub returns-then-makes_slot-clause-known : goal.returns-then-makes_slot-clause-known
+returns-then-makes_slot-clause-known g c =
+    let s = sent g (goal.at.returns-then-makes_slot-clause-known g c).After-admits_to_main-main in
+    let at = c.insert_unknown.ensures.slot ∙ ap (λ (p : Placement _ _). p.slot) (placed-there g.K.PartialEq.eq c.args.key s) in
+    (rw (at, c.forget-known.ensures.hasher, c.forget-known.ensures.machine, goes-there s, c.forget-known.ensures.places) at c.insert_unknown.ensures.indexes)
+
 pub returns-then-makes_slot-clause-counts : goal.returns-then-makes_slot-clause-counts
 returns-then-makes_slot-clause-counts g c =
     let s = sent g (goal.at.returns-then-makes_slot-clause-counts g c).After-admits_to_main-main in
@@ -57,6 +63,12 @@ returns-clause-machine g c =
     let s = sent g (goal.at.returns-clause-machine g c).After-admits_to_main-main in
     c.replace-before.ensures.machine ∙ slot-stored g.K.PartialEq.eq c.args.key s c.makes_slot.ensures.whole c.insert_unknown-slot.ensures.slot c.insert_unknown-slot.ensures.machine c.args.value
 
+pub returns-clause-known : goal.returns-clause-known
+returns-clause-known g c =
+    let s = sent g (goal.at.returns-clause-known g c).After-admits_to_main-main in
+    let at = c.insert_unknown-slot.ensures.slot ∙ ap (λ (p : Placement _ _). p.slot) (placed-there g.K.PartialEq.eq c.args.key s) in
+    ap (λ (z : CacheState _ _ _). z.known) c.replace-before.ensures.kept ∙ (rw (at, c.forget-known.ensures.hasher, c.forget-known.ensures.machine, goes-there s, c.forget-known.ensures.places) at c.insert_unknown-slot.ensures.indexes)
+
 pub returns-clause-counts : goal.returns-clause-counts
 returns-clause-counts g c =
     let s = sent g (goal.at.returns-clause-counts g c).After-admits_to_main-main in
@@ -73,6 +85,12 @@ pub returns-in_err-evicted-clause-machine : goal.returns-in_err-evicted-clause-m
 returns-in_err-evicted-clause-machine g c =
     let s = sent g (goal.at.returns-in_err-evicted-clause-machine g c).After-admits_to_main-main in
     c.replace-before.ensures.machine ∙ slot-stored g.K.PartialEq.eq c.args.key s c.makes_slot.ensures.whole c.insert_unknown-slot.ensures.slot c.insert_unknown-slot.ensures.machine c.args.value
+
+pub returns-in_err-evicted-clause-known : goal.returns-in_err-evicted-clause-known
+returns-in_err-evicted-clause-known g c =
+    let s = sent g (goal.at.returns-in_err-evicted-clause-known g c).After-admits_to_main-main in
+    let at = c.insert_unknown-slot.ensures.slot ∙ ap (λ (p : Placement _ _). p.slot) (placed-there g.K.PartialEq.eq c.args.key s) in
+    ap (λ (z : CacheState _ _ _). z.known) c.replace-before.ensures.kept ∙ (rw (at, c.forget-known.ensures.hasher, c.forget-known.ensures.machine, goes-there s, c.forget-known.ensures.places) at c.insert_unknown-slot.ensures.indexes)
 
 pub returns-in_err-evicted-clause-counts : goal.returns-in_err-evicted-clause-counts
 returns-in_err-evicted-clause-counts g c =

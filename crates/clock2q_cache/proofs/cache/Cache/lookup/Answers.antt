@@ -3,6 +3,7 @@ use Rattle.std.proofs.Common.{ap, ◌∙◌}
 use Rattle.clock2q_cache.proofs.Names.{found_slot, hash_of, CacheState, slot_of}
 use Rattle.clock2q_cache.proofs.Changed.{discard-hash}
 use Rattle.clock2q_cache.proofs.Finding.{candidates-there, found-made, looked}
+use Rattle.clock2q_cache.proofs.Indexed.{remembers}
 use Rattle.clock2q_cache.proofs.cache.Cache.lookup.Goals as goal
 
 pub lookup-requires : goal.lookup-requires
@@ -22,3 +23,6 @@ returns-clause-slot g c =
 
 pub returns-clause-made : goal.returns-clause-made
 returns-clause-made g c = rw (← c.self.view_is) (found-made g.met.K.Eq.laws c.self.invariant c.args.key.now (found_slot c.lookup.result) (rw (← c.self.view_is) at (returns-clause-slot g c)))
+
+pub returns-clause-as_many : goal.returns-clause-as_many
+returns-clause-as_many g c = rw (← c.self.view_is) (remembers g.met.K.Eq.laws c.self.invariant c.remembered_len.ensures.whole).as_many

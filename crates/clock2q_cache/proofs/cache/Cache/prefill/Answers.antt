@@ -1,5 +1,5 @@
 -- The slots that were never made are made, and are free.
-use Rattle.std.proofs.Common.{◌≡◌, ◌-◌, ◌++◌, length, map, reverse, ◌∙◌}
+use Rattle.std.proofs.Common.{◌≡◌, ◌-◌, ◌++◌, length, map, refl, reverse, ◌∙◌}
 use Rattle.clock2q_cache.proofs.Names.{length-values, range_with_len}
 use Rattle.clock2q_cache.proofs.Filled.{made-count, machine-prefilled, kept-prefilled}
 use Rattle.clock2q_cache.proofs.Spent.{made-spends, prefill-costs}
@@ -38,4 +38,4 @@ returns-clause-costs g c values =
     let filled = c.fill.ensures.filled.1 in
     let machine = machine-prefilled g.met.K.Eq.laws c.self.invariant filled.added c.fill.new.directory.residents c.free_down.new.free.items 0 filled.is (filled.as_many ∙ c.capacity-capacity.ensures)
     (freed g (goal.at.returns-clause-costs g c).After-free_down) in
-    rw (← c.self.view_is, c.fill.ensures.history) (prefill-costs _ machine (made-spends c.self.inside.queues c.self.inside.directory.history c.self.inside.directory.residents c.fill.new.directory.residents c.fill.ensures.questions))
+    rw (← c.self.view_is, c.fill.ensures.history) (prefill-costs _ machine refl (made-spends c.self.inside.queues c.self.inside.directory.history c.self.inside.directory.residents c.fill.new.directory.residents c.fill.ensures.questions))

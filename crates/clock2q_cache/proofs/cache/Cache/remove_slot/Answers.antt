@@ -11,4 +11,4 @@ returns-clause-machine g c =
 pub returns-clause-costs : goal.returns-clause-costs
 returns-clause-costs g c =
     removed-slot-costs (record { eq = g.K.PartialEq.eq; hash_input = g.K.Hash.hash_input }) g.S.BuildHasher g.S.Hasher.Hasher c.args.self.now c.vacate.new.self c.args.slot
-    (resident_at c.args.self.now.machine c.args.slot) c.if-not-has_resident.ensures.own c.vacate.ensures.machine c.vacate.ensures.counts
+    (resident_at c.args.self.now.machine c.args.slot) c.if-not-has_resident.ensures.own c.vacate.ensures.machine c.vacate.ensures.counts c.vacate.ensures.known

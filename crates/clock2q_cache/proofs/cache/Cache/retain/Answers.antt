@@ -1,7 +1,9 @@
 -- The closure is called for each resident, which leaves if it is refused.
-use Rattle.std.proofs.Common.{◌≡◌, ◌*◌, ◌<◌, false, Option, None, Some, arith, List, length, refl, ap, sym, ◌∙◌, subst}
-use Rattle.clock2q_cache.proofs.Names.{is_some, Spends, resident_at}
-use Rattle.clock2q_cache.proofs.Retained.{retains-none, retains-past, retains-asks, retains-kept, retains-refused, retains-all}
+use Rattle.std.proofs.Common.{◌≡◌, ◌+◌, ◌*◌, ◌<◌, ◌≤◌, false, Option, None, Some, arith, List, length, refl, ap, sym, ◌∙◌, subst}
+use Rattle.clock2q_cache.proofs.Names.{is_some, Spends, reached, resident_at}
+use Rattle.std.specs.Prelude.{sum_by}
+use Rattle.clock2q_cache.proofs.Retained.{below, retains-none, retains-past, retains-asks, retains-kept, retains-refused, retains-all}
+use Rattle.clock2q_cache.proofs.Reaching.{left-none, left-stays, left-more}
 use Rattle.clock2q_cache.proofs.Vacated.{fewer-residents}
 use Rattle.clock2q_cache.proofs.Spent.{slot-stays, slot-leaves, retain-costs}
 use Rattle.clock2q_cache.proofs.cache.Cache.retain.Goals.{then-is_resident+then-not-stays, then-is_resident+else-not-stays, else-is_resident}
@@ -13,6 +15,7 @@ loop-slot-init g c = (
   refl,
   record { inspections = omega arith; accesses = (omega arith, omega arith); questions = (omega arith, omega arith) },
   omega arith,
+  left-none c.len.ensures.within,
 )
 
 pub is_resident-requires : goal.is_resident-requires
@@ -43,6 +46,7 @@ loop-slot-preserved g c =
           w.vacate.ensures.counts.accesses.1,
           fewer-residents c.loop-slot.self.machine c.loop-slot.slot (sym c.is_resident.ensures ∙ w.if-is_resident.true),
         )),
+        left-more c.loop-slot.invariant.4 c.loop-slot.self w.vacate.new.self refl c.loop-slot.invariant.1 (h.later c.loop-slot.slot (omega arith)) w.vacate.ensures.known,
       )
       | then-is_resident+else-not-stays w ↦ rw (w.keep-is, w.self-is) (
         retains-kept g.F.FnMut c.args.keep c.args.self.now.machine c.loop-slot.slot c.loop-slot.keep c.loop-slot.self.machine h made
@@ -50,6 +54,7 @@ loop-slot-preserved g c =
         c.loop-slot.invariant.1,
         slot-stays c.loop-slot.slot c.loop-slot.invariant.2,
         c.loop-slot.invariant.3,
+        left-stays c.loop-slot.invariant.4,
       )
       | else-is_resident w ↦ rw (w.keep-is, w.self-is) (
         retains-past g.F.FnMut c.args.keep c.args.self.now.machine c.loop-slot.slot c.loop-slot.keep c.loop-slot.self.machine h made
@@ -57,6 +62,7 @@ loop-slot-preserved g c =
         c.loop-slot.invariant.1,
         slot-stays c.loop-slot.slot c.loop-slot.invariant.2,
         c.loop-slot.invariant.3,
+        left-stays c.loop-slot.invariant.4,
       )
     ]
   where
@@ -72,6 +78,7 @@ returns g c =
     record {
       retained = r;
       hasher = c.loop-slot.invariant.1;
-      costs = λ bits. retain-costs r.bits r.becomes (subst (λ n. Spends 0 (8 * n) 0 c.args.self.now.counts c.loop-slot.self.counts) all c.loop-slot.invariant.2);
+      costs = λ bits. retain-costs r.bits r.becomes (record { accesses = subst (λ n. c.loop-slot.self.known.index.accesses ≤ c.args.self.now.known.index.accesses + sum_by (λ r. reached (record { eq = g.K.PartialEq.eq; hash_input = g.K.Hash.hash_input }) g.S.BuildHasher g.S.Hasher.Hasher c.args.self.now r.0) (below c.args.self.now.machine n)) all c.loop-slot.invariant.4.spent })
+          (subst (λ n. Spends 0 (8 * n) 0 c.args.self.now.counts c.loop-slot.self.counts) all c.loop-slot.invariant.2);
       removals = c.loop-slot.invariant.3;
     }

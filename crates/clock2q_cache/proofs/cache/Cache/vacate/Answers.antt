@@ -1,7 +1,8 @@
 -- The resident's slot leaves the index and its queue, and is free.
 use Rattle.std.proofs.Common.{refl, ap, ◌∙◌, arith}
-use Rattle.clock2q_cache.proofs.Names.{QueueState, slots, Remembered, slots-left, CacheState, machine_of, vacated}
+use Rattle.clock2q_cache.proofs.Names.{QueueState, slots, Remembered, slots-left, CacheState, resident_at, hash_of, left_by, machine_of, vacated}
 use Rattle.clock2q_cache.proofs.CacheInvariant.{kept-reindexed, reindexed, now-slots}
+use Rattle.clock2q_cache.proofs.Places.{left-resident}
 use Rattle.clock2q_cache.proofs.Renewed.{slot-below, is-resident}
 use Rattle.clock2q_cache.proofs.Vacated.{stands, slot-in, vacated-machine, kept-vacated}
 use Rattle.clock2q_cache.proofs.cache.Cache.vacate.Goals as goal
@@ -29,6 +30,14 @@ returns-clause-machine g c =
     ∙ vacated-machine g.met.K.Eq.laws c.self.invariant c.args.slot there c.leave-2.new.self (slots c.leave.new.self.history.places.index) c.free_slot.new.free.items 0 0
     (ap (λ (z : QueueState). z.small) c.leave-2.ensures.queues) (ap (λ (z : QueueState). z.main) c.leave-2.ensures.queues) c.free_slot.ensures.top
     ∙ ap (λ (z : CacheState _ _ _). vacated c.args.slot z.machine) c.self.view_is)
+
+pub returns-clause-known : goal.returns-clause-known
+returns-clause-known g c =
+    let laws = g.met.K.Eq.laws in
+    let h = c.self.inside.directory.history in
+    left-resident laws c.self.invariant h.places c.args.slot (stands laws c.self.invariant c.args.slot (rw (← c.self.view_is) at c.requires)) c.leave.ensures.left.had
+    (ap (λ (z : Remembered _). z.places) c.leave.ensures.left.becomes)
+    ∙ ap (λ (z : CacheState _ _ _). left_by (λ k. hash_of g.S.BuildHasher g.S.Hasher.Hasher z.hasher (g.K.Hash.hash_input k)) (resident_at z.machine c.args.slot) c.args.slot z.known) c.self.view_is
 
 pub returns-clause-counts : goal.returns-clause-counts
 returns-clause-counts g c =

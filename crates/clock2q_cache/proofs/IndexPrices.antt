@@ -1,0 +1,181 @@
+-- What a call that may insert a key costs the index at most.
+use Rattle.std.proofs.Common.{◌≡◌, ℕ, ◌+◌, ◌*◌, ◌≤◌, ◌==◌, ◌||◌, ◌&&◌, Bool, true, false, not, Option, Some, None, List, [], ◌∷◌, length, inl, inr, refl, sym, ap, ◌∙◌, subst, arith}
+use Rattle.std.specs.declared.hash.Hasher as hasher
+use Rattle.std.specs.declared.hash.BuildHasher as builder
+use Rattle.clock2q_cache.proofs.Names.{cases_Bool, or_parts, filter, list_any, last_or, last_some, option_map, is_some, none_is, if◌then◌else◌, nat_le, IfSome, IsEquivalence, HashMembers, Places, place_of, oldest_hash, pushed_places, is_promoted, SmallEntry, MainEntry, Machine, placement, inserted, forgotten, slot_of, resident_at, resident_made, vacancy, goes_to_main, history_share, get-within, replaced, after, Put, IsWhole, CacheState, hash_of, key_out, left_by, entered, discarded, known_with}
+use Rattle.clock2q_machine.specs.Entries.{from_victim}
+use Rattle.clock2q_machine.specs.Leaving.{first_of, leaves_for, leaves_for_main, leaves_for_small, leaver}
+use Rattle.clock2q_machine.proofs.MachineInvariant.{lasting-inserted}
+use Rattle.clock2q_machine.proofs.Entering.{slots_apart, differs, entered_there}
+use Rattle.clock2q_machine.proofs.Victims.{others_stay}
+use Rattle.clock2q_directory.specs.Accesses.{most_changed}
+use Rattle.clock2q_directory.specs.Index.{IsWithinCapacity, most_reached}
+use Rattle.clock2q_directory.specs.History.{freed_place}
+use Rattle.clock2q_directory.proofs.Prices.{reached_oldest, left-dear, freed-dear, freed-accesses, pushed-shared, pushed-accesses}
+use Rattle.clock2q_cache.specs.Costs.{reached, reached_if, slots_for}
+use Rattle.clock2q_cache.specs.Places.{vacated_for, out_of}
+use Rattle.clock2q_cache.proofs.Listed.{at_its_slot}
+
+module _ {K V : Type 0} (eq : K → K → Bool) (laws : IsEquivalence eq) (m : Machine K V) (whole : IsWhole eq m) (key : K) (absent : slot_of (eq key) m ≡ None) where
+  -- the slot that the key takes, and the resident that leaves
+  abbrev at : ℕ
+  at = (placement (eq key) key m).slot
+
+  abbrev out : Option (K × ℕ)
+  out = leaves_for (list_any (eq key) m.history) m
+
+  stays_there : (r : K × ℕ) → slot_of (eq r.0) m ≡ Some at → V → IfSome out (λ l. eq r.0 l.0 ≡ false) → ⊥
+  stays_there r found value other =
+      let n : Machine K V = inserted (eq key) key value m in
+      let lasting = lasting-inserted eq laws key m whole absent value in
+      let put_is : after eq (Put key value) m ≡ n = ap (λ o. if is_some o then replaced (eq key) value m else n) absent in
+      let out_is : leaver eq (Put key value) m ≡ out = ap (λ o. if is_some o then None else out) absent in
+      let still = others_stay eq m whole laws (Put key value) refl r.0 at found (subst (λ o. IfSome o (λ l. eq r.0 l.0 ≡ false)) (sym out_is) other) in
+      slots_apart eq laws n lasting r.0 key (differs eq laws m r.0 key at absent found) at at
+      (entered_there eq laws m whole key absent value false lasting) (ap (slot_of (eq r.0)) (sym put_is) ∙ still) refl
+
+  -- a resident at that slot is the one that leaves
+  pub leaves-there : (r : K × ℕ) → resident_at m at ≡ Some r → (l : K × ℕ) × (out ≡ Some l) × (eq r.0 l.0 ≡ true)
+  leaves-there r there =
+      let found = (at_its_slot eq laws m whole at r there).1 in
+      by_leaver found (get-within m.values at (resident_made eq laws (eq r.0) m whole at found)).0 out refl
+    where
+      by_leaver : slot_of (eq r.0) m ≡ Some at → V → (o : Option (K × ℕ)) → out ≡ o → (l : K × ℕ) × (out ≡ Some l) × (eq r.0 l.0 ≡ true)
+      by_leaver found value None is = absurd (stays_there r found value (subst (λ o. IfSome o (λ l. eq r.0 l.0 ≡ false)) (sym is) tt))
+      by_leaver found value (Some l) is = elim (cases_Bool (eq r.0 l.0)) [
+        | inl same ↦ (l, is, same)
+        | inr other ↦ absurd (stays_there r found value (subst (λ o. IfSome o (λ x. eq r.0 x.0 ≡ false)) (sym is) other))
+      ]
+
+-- a key that isn't remembered has no place, and leaves the history as it is
+place-none : {K : Type 0} (is : K → Bool) (ks : List K) (ps : List ℕ) → list_any is ks ≡ false → place_of is ks ps ≡ None
+place-none is [] ps none = refl
+place-none is (k ∷ ks) [] none = refl
+place-none is (k ∷ ks) (p ∷ ps) none =
+    let parts = or_parts (is k) (list_any is ks) none in
+    rw parts.0 (place-none is ks ps parts.1)
+
+none-forgotten : {K : Type 0} (is : K → Bool) (ks : List K) → list_any is ks ≡ false → filter (λ k. not (is k)) ks ≡ ks
+none-forgotten is [] none = refl
+none-forgotten is (k ∷ ks) none =
+    let parts = or_parts (is k) (list_any is ks) none in
+    rw parts.0 (ap (λ xs. k ∷ xs) (none-forgotten is ks parts.1))
+
+-- a key that goes into the history is Small's tail, which leaves for a key that isn't remembered
+tail_leaves : {K : Type 0} (known a b : Bool) (v : Option ℕ) (t : Option (SmallEntry K)) (main : List (MainEntry K)) (other : Option (K × ℕ)) (tail : K)
+    → (if (known || a || b) then None else (if is_some v then None else key_out t)) ≡ Some tail
+    → (known ≡ false) × (option_map (λ (r : K × ℕ). r.0) (if (known || a || b) then other else leaves_for_small v t main) ≡ Some tail)
+tail_leaves true a b v t main other tail e = absurd (none_is tail e)
+tail_leaves false true b v t main other tail e = absurd (none_is tail e)
+tail_leaves false false true v t main other tail e = absurd (none_is tail e)
+tail_leaves false false false (Some slot) t main other tail e = absurd (none_is tail e)
+tail_leaves false false false None None main other tail e = absurd (none_is tail e)
+tail_leaves {K} false false false None (Some entry) main other tail e = (refl, by_age (is_promoted entry.age) e)
+  where
+    by_age : (promoted : Bool) → (if promoted then None else Some entry.key) ≡ Some tail
+        → option_map (λ (r : K × ℕ). r.0) (if promoted then first_of (from_victim main) else Some (entry.key, entry.slot)) ≡ Some tail
+    by_age true e = absurd (none_is tail e)
+    by_age false e = e
+
+module _ {K V S H : Type 0} (key : HashMembers K) (build : builder.Ghosts S H) (hash : hasher.Ghosts H) (laws : IsEquivalence key.eq)
+    (respects : (x y : K) → key.eq x y ≡ true → key.hash_input x ≡ key.hash_input y) (c : CacheState K V S) (whole : IsWhole key.eq c.machine)
+    (as_many : length c.known.taken ≡ length c.machine.history) (within : IsWithinCapacity c.known.index) (k : K) where
+  abbrev hashed : K → ℕ
+  hashed x = hash_of build hash c.hasher (key.hash_input x)
+
+  abbrev slot : ℕ
+  slot = (placement (key.eq k) k c.machine).slot
+
+  abbrev rest : Machine K V
+  rest = forgotten (key.eq k) c.machine
+
+  abbrev known : Bool
+  known = list_any (key.eq k) c.machine.history
+
+  abbrev leaving : Option K
+  leaving = option_map (λ r. r.0) (leaves_for known c.machine)
+
+  abbrev before : Places
+  before = discarded (key.eq k) (hashed k) c
+
+  -- the places once the slot is vacated
+  record IsVacated (q : Places) : Type 0 where
+    pub accesses : q.index.accesses ≤ c.known.index.accesses + reached key build hash c k + reached_if key build hash c leaving + reached_if key build hash c (last_or None c.machine.history)
+    pub shared : (y : ℕ) → most_changed q.index.shared y ≤ most_changed c.known.index.shared y
+
+  oldest_reached : (ks : List K) (ps : List ℕ) → length ps ≡ length ks
+      → reached_oldest c.known.index (oldest_hash hashed ks) (last_or None ps) ≤ reached_if key build hash c (last_or None ks)
+  oldest_reached ks [] e = omega arith
+  oldest_reached [] (p ∷ ps) e = absurd (omega (arith, e))
+  oldest_reached (x ∷ ks) (p ∷ ps) e =
+      let oldest = last_some ks x in
+      omega (
+        arith,
+        ap (reached_oldest c.known.index (oldest_hash hashed (x ∷ ks))) (last_some ps p).1,
+        ap (λ (o : Option K). most_reached c.known.index (elim o [ None ↦ 0 | Some y ↦ hashed y ])) oldest.1,
+        ap (reached_if key build hash c) oldest.1,
+      )
+
+  -- by the resident that is there
+  vacated_there : slot_of (key.eq k) c.machine ≡ None → (o : Option (K × ℕ)) → resident_at c.machine slot ≡ o → IsVacated (left_by hashed o slot before)
+  vacated_there absent None is =
+      let place = place_of (key.eq k) c.machine.history c.known.taken in
+      record {
+        accesses = omega (arith, freed-accesses c.known within (hashed k) place);
+        shared = (freed-dear c.known within (hashed k) place).shared;
+      }
+  vacated_there absent (Some r) is =
+      let place = place_of (key.eq k) c.machine.history c.known.taken in
+      let d = freed-dear c.known within (hashed k) place in
+      let l = leaves-there key.eq laws c.machine whole k absent r is in
+      let same : reached key build hash c r.0 ≡ reached_if key build hash c leaving =
+      ap (λ x. most_reached c.known.index (hash_of build hash c.hasher x)) (respects r.0 l.0.0 l.2) ∙ sym (ap (λ o. reached_if key build hash c (option_map (λ x. x.0) o)) l.1) in
+      record {
+        accesses = omega (arith, freed-accesses c.known within (hashed k) place, d.shared (hashed r.0), same);
+        shared = λ y. omega (arith, (left-dear before.index d.within (hashed r.0) slot).shared y, d.shared y);
+      }
+
+  -- by that resident, or by Small's tail, which is remembered
+  vacated_by : slot_of (key.eq k) c.machine ≡ None → (o : Option K) → out_of (goes_to_main known c.machine) rest ≡ o → IsVacated (vacated_for hashed o slot rest before)
+  vacated_by absent None is = vacated_there absent (resident_at c.machine slot) refl
+  vacated_by absent (Some tail) is =
+      let share = history_share c.machine.shares in
+      let oldest = oldest_hash hashed c.machine.history in
+      let t = tail_leaves known (c.machine.shares.small == 0) (is_some (vacancy c.machine) && nat_le c.machine.shares.small (length c.machine.small)) (vacancy c.machine)
+      (last_or None c.machine.small) c.machine.main (leaves_for_main c.machine) tail is in
+      let forgets : rest.history ≡ c.machine.history = none-forgotten (key.eq k) c.machine.history t.0 in
+      let frees : before ≡ c.known = ap (λ o. freed_place (hashed k) o c.known) (place-none (key.eq k) c.machine.history c.known.taken t.0) in
+      let becomes : vacated_for hashed (Some tail) slot rest before ≡ pushed_places share (hashed tail) slot oldest c.known =
+      ap (λ ks. pushed_places share (hashed tail) slot (oldest_hash hashed ks) before) forgets ∙ ap (pushed_places share (hashed tail) slot oldest) frees in
+      subst IsVacated (sym becomes) (record {
+        accesses = omega (
+          arith,
+          pushed-accesses c.known within share (hashed tail) slot oldest,
+          oldest_reached c.machine.history c.known.taken as_many,
+          ap (reached_if key build hash c) t.1,
+        );
+        shared = pushed-shared c.known within share (hashed tail) slot oldest;
+      })
+
+  known_price : (known_with key build hash k c).index.accesses ≤ c.known.index.accesses + slots_for key build hash k c
+  known_price = by_slot (slot_of (key.eq k) c.machine) refl
+    where
+      new_price : slot_of (key.eq k) c.machine ≡ None → (entered hashed k slot (out_of (goes_to_main known c.machine) rest) rest before).index.accesses
+          ≤ c.known.index.accesses + (2 * reached key build hash c k + reached_if key build hash c leaving + reached_if key build hash c (last_or None c.machine.history))
+      new_price absent =
+          let q = vacated_by absent (out_of (goes_to_main known c.machine) rest) refl in
+          omega (arith, q.accesses, q.shared (hashed k))
+
+      by_slot : (o : Option ℕ) → slot_of (key.eq k) c.machine ≡ o
+          → (if is_some o then c.known else entered hashed k slot (out_of (goes_to_main known c.machine) rest) rest before).index.accesses
+          ≤ c.known.index.accesses
+          + (if is_some o then 0 else 2 * reached key build hash c k + reached_if key build hash c leaving + reached_if key build hash c (last_or None c.machine.history))
+      by_slot (Some s) found = omega arith
+      by_slot None absent = new_price absent
+
+module _ {K V S H : Type 0} (key : HashMembers K) (build : builder.Ghosts S H) (hash : hasher.Ghosts H) where
+  -- the slots of the index that are read and written until a key has its slot are within the bound on them
+  pub known_with-reaches : (k : K) (old : CacheState K V S) → IsEquivalence key.eq → ((x y : K) → key.eq x y ≡ true → key.hash_input x ≡ key.hash_input y)
+      → IsWhole key.eq old.machine → length old.known.taken ≡ length old.machine.history → IsWithinCapacity old.known.index
+      → (known_with key build hash k old).index.accesses ≤ old.known.index.accesses + slots_for key build hash k old
+  known_with-reaches k old laws respects whole as_many within = known_price key build hash laws respects old whole as_many within k

@@ -1,0 +1,93 @@
+-- How many slots of the index the parts of a call read and write.
+use Rattle.std.proofs.Common.{◌≡◌, ℕ, ◌+◌, ◌≤◌, true, [], length, Option, Some, None, refl, sym, ap, ◌∙◌, subst, arith}
+use Rattle.std.specs.Prelude.{sum_by}
+use Rattle.std.specs.declared.hash.Hasher as hasher
+use Rattle.std.specs.declared.hash.BuildHasher as builder
+use Rattle.clock2q_directory.specs.Accesses.{most_changed}
+use Rattle.clock2q_directory.specs.Index as known
+use Rattle.clock2q_directory.specs.Index.{most_reached, IsWithinCapacity}
+use Rattle.clock2q_directory.proofs.Prices.{left-dear, freed-accesses}
+use Rattle.clock2q_cache.proofs.Names.{HashMembers, IfSome, IsEquivalence, cons_option, sum_by-cons, sum_by-append, IndexState, Places, place_of, resident_at, slot_of, IsWhole, CacheState, Reaches, reached, slots_for, hash_of, hash_in, known_with, discarded, left_by}
+use Rattle.clock2q_cache.proofs.IndexPrices.{known_with-reaches}
+use Rattle.clock2q_cache.proofs.Listed.{same-key}
+use Rattle.clock2q_cache.proofs.Retained.{below, below-more}
+
+-- the resident at a slot leaves
+left-reaches : {K : Type 0} (hash : K → ℕ) (x : ℕ) (o : Option (K × ℕ)) (slot : ℕ) (p : Places) → IfSome o (λ r. hash r.0 ≡ x)
+    → (left_by hash o slot p).index.accesses ≤ p.index.accesses + most_reached p.index x
+left-reaches hash x None slot p same = omega arith
+left-reaches hash x (Some r) slot p same = omega (arith, ap (λ z. most_changed p.index.shared z) same)
+
+module _ {K V S H : Type 0} (key : HashMembers K) (build : builder.Ghosts S H) (hash : hasher.Ghosts H) where
+  module _ (k : K) {old new : CacheState K V S} where
+    -- a key has its slot
+    pub reaches-with : IsEquivalence key.eq → ((x y : K) → key.eq x y ≡ true → key.hash_input x ≡ key.hash_input y) → IsWhole key.eq old.machine
+        → length old.known.taken ≡ length old.machine.history → IsWithinCapacity old.known.index → new.known ≡ known_with key build hash k old → Reaches (slots_for key build hash k old) old new
+    reaches-with laws respects whole as_many within is =
+        record { accesses = omega (arith, ap (λ (p : Places). p.index.accesses) is, known_with-reaches key build hash k old laws respects whole as_many within) }
+
+    -- a key's history is erased
+    pub reaches-discarded : IsWithinCapacity old.known.index → (x : ℕ) → x ≡ hash_of build hash old.hasher (key.hash_input k) → new.known ≡ discarded (key.eq k) x old → Reaches (reached key build hash old k) old new
+    reaches-discarded within x same is =
+        record { accesses = omega (arith, ap (λ (p : Places). p.index.accesses) is, freed-accesses old.known within x (place_of (key.eq k) old.machine.history old.known.taken), ap (λ z. most_reached old.known.index z) same) }
+
+    -- the resident that was found leaves
+    pub reaches-left : IsEquivalence key.eq → IsWhole key.eq old.machine → ((x y : K) → key.eq x y ≡ true → key.hash_input x ≡ key.hash_input y)
+        → (slot : ℕ) → slot_of (key.eq k) old.machine ≡ Some slot → new.known ≡ left_by (hash_in key build hash old) (resident_at old.machine slot) slot old.known
+        → Reaches (reached key build hash old k) old new
+    reaches-left laws whole respects slot found is = record {
+      accesses = omega (
+        arith,
+        ap (λ (p : Places). p.index.accesses) is,
+        left-reaches (hash_in key build hash old) (hash_in key build hash old k) (resident_at old.machine slot) slot old.known (alike (resident_at old.machine slot) refl),
+      );
+    }
+      where
+        alike : (o : Option (K × ℕ)) → resident_at old.machine slot ≡ o → IfSome o (λ r. hash_in key build hash old r.0 ≡ hash_in key build hash old k)
+        alike None there = tt
+        alike (Some r) there = ap (λ z. hash_of build hash old.hasher z) (sym (respects k r.0 (same-key key.eq laws old.machine whole k slot r found there)))
+
+  -- the resident at a slot leaves, whose key is this one
+  pub reaches-own : (r : K × ℕ) (slot : ℕ) {old new : CacheState K V S} → new.known ≡ left_by (hash_in key build hash old) (Some r) slot old.known → Reaches (reached key build hash old r.0) old new
+  reaches-own r slot {old} is = record {
+    accesses = omega (arith, ap (λ (p : Places). p.index.accesses) is, left-reaches (hash_in key build hash old) (hash_in key build hash old r.0) (Some r) slot old.known refl);
+  }
+
+module _ {K V S H : Type 0} (key : HashMembers K) (build : builder.Ghosts S H) (hash : hasher.Ghosts H) where
+  -- the index once some of the residents at the slots below left
+  pub record LeftBelow (n : ℕ) (old : CacheState K V S) (now : IndexState) : Type 0 where
+    pub within : IsWithinCapacity now
+    pub less : (x : ℕ) → most_reached now x ≤ most_reached old.known.index x
+    pub spent : now.accesses ≤ old.known.index.accesses + sum_by (λ r. reached key build hash old r.0) (below old.machine n)
+
+module _ {K V S H : Type 0} {key : HashMembers K} {build : builder.Ghosts S H} {hash : hasher.Ghosts H} where
+  pub left-none : {old : CacheState K V S} → IsWithinCapacity old.known.index → LeftBelow key build hash 0 old old.known.index
+  left-none within = record { within = within; less = λ x. omega arith; spent = omega arith }
+
+  module _ {n : ℕ} {old : CacheState K V S} {now : IndexState} (h : LeftBelow key build hash n old now) where
+    sum-more : (o : Option (K × ℕ)) → resident_at old.machine n ≡ o
+        → sum_by (λ r. reached key build hash old r.0) (below old.machine (n + 1)) ≡ sum_by (λ r. reached key build hash old r.0) (below old.machine n) + sum_by (λ r. reached key build hash old r.0) (cons_option o [])
+    sum-more o at = ap (sum_by (λ r. reached key build hash old r.0)) (below-more old.machine n o at) ∙ sum_by-append (λ r. reached key build hash old r.0) (below old.machine n) (cons_option o [])
+
+    -- none leaves the next slot
+    pub left-stays : LeftBelow key build hash (n + 1) old now
+    left-stays = record { within = h.within; less = h.less; spent = omega (arith, h.spent, sum-more (resident_at old.machine n) refl) }
+
+    left-one : (r : K × ℕ) → resident_at old.machine n ≡ Some r → LeftBelow key build hash (n + 1) old (known.left (hash_in key build hash old r.0) n now)
+    left-one r at =
+        let d = left-dear now h.within (hash_in key build hash old r.0) n in
+        record {
+          within = d.within;
+          less = λ y. omega (arith, d.shared y, d.own y, h.less y);
+          spent = omega (arith, h.spent, h.less (hash_in key build hash old r.0), sum-more (Some r) at, sum_by-cons (λ r. reached key build hash old r.0) r []);
+        }
+
+    -- the resident leaves the next slot
+    pub left-more : (cache new : CacheState K V S) → cache.known.index ≡ now → cache.hasher ≡ old.hasher → resident_at cache.machine n ≡ resident_at old.machine n
+        → new.known ≡ left_by (hash_in key build hash cache) (resident_at cache.machine n) n cache.known → LeftBelow key build hash (n + 1) old new.known.index
+    left-more cache new here same later is = subst (LeftBelow key build hash (n + 1) old) (sym (ap (λ (p : Places). p.index) is)) (by (resident_at cache.machine n) (sym later)) where
+      by : (o : Option (K × ℕ)) → resident_at old.machine n ≡ o → LeftBelow key build hash (n + 1) old (left_by (hash_in key build hash cache) o n cache.known).index
+      by None at = subst (LeftBelow key build hash (n + 1) old) (sym here) left-stays
+      by (Some r) at =
+          let hashed : hash_in key build hash cache r.0 ≡ hash_in key build hash old r.0 = ap (λ z. hash_of build hash z (key.hash_input r.0)) same in
+          subst (LeftBelow key build hash (n + 1) old) (sym (ap (λ x. known.left x n cache.known.index) hashed ∙ ap (λ v. known.left (hash_in key build hash old r.0) n v) here)) (left-one r at)
