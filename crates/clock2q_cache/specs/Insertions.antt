@@ -1,15 +1,22 @@
 -- Where a key that is not known is inserted: the number of inspections by the hand, and the value that its slot then
 -- has. No public clause cites this file.
-use Rattle.std.specs.Prelude.{◌≡◌, ℕ, Bool, not, ◌&&◌, ◌==◌, if◌then◌else◌, nat_lt, length, Option, Some, None, MatchOption, is_some}
+use Rattle.std.specs.Prelude.{◌≡◌, ℕ, ◌+◌, Bool, not, ◌&&◌, ◌==◌, if◌then◌else◌, nat_lt, length, Option, Some, None, MatchOption, is_some}
 use Rattle.std.specs.Borrow.{Bor}
 use Rattle.std.specs.Fn.{Once, FnOnceReturnsAt}
 use Rattle.std.specs.List.{last_or}
+use Rattle.std.specs.declared.hash.Hasher as hasher
+use Rattle.std.specs.declared.hash.BuildHasher as builder
+use Rattle.std.specs.HashMap.Lent.{HashMembers}
 use Rattle.clock2q_machine.specs.Shares.{main_share}
 use Rattle.clock2q_machine.specs.Entries.{inspections}
 use Rattle.clock2q_directory.specs.Keys.{IsValueFor}
-use Rattle.clock2q_machine.specs.Machine.{Machine, Placement, vacancy, into_main, into_small, stored}
+use Rattle.clock2q_machine.specs.Machine.{Machine, Placement, vacancy, into_main, into_small, slot_of, stored}
+use Rattle.clock2q_machine.specs.Whole.{known_count}
 use Rattle.clock2q_machine.specs.Bounds.{goes_on}
 use Rattle.clock2q_machine.specs.Leaving.{leaves_for_main, leaves_for_small}
+use Rattle.clock2q_cache.specs.CacheState.{CacheState}
+use Rattle.clock2q_cache.specs.Costs.{Spends}
+use Rattle.clock2q_cache.specs.Places.{Reindexes, hash_in, out_of}
 
 module _ {K V : Type 0} where
   -- for a key that enters Main
@@ -51,3 +58,35 @@ module _ {F K R : Type 0} (g : Once F (Bor K × Unit {0}) R) (f : F) where
   -- the closure was called with the key that left this slot, and returned the note; without a note none left
   pub record Notes (leaver : Option (K × ℕ)) (slot : ℕ) (note : Option R) : Type 0 where
     pub noted : MatchOption note (leaver ≡ None) (λ n. (key : K) × (leaver ≡ Some (key, slot)) × FnOnceReturnsAt g f key n)
+
+module _ {K V S H : Type 0} (key : HashMembers K) (build : builder.Ghosts S H) (hash : hasher.Ghosts H) where
+  -- a key that is not resident, with its hash
+  pub record IsAbsent (k : K) (x : ℕ) (c : CacheState K V S) : Type 0 where
+    pub hashed : x ≡ hash_in key build hash c k
+    pub absent : slot_of (key.eq k) c.machine ≡ None
+
+  -- a key that is neither resident nor in the history, with its hash
+  pub record IsUnknown (k : K) (x : ℕ) (c : CacheState K V S) : Type 0 where
+    pub hashed : x ≡ hash_in key build hash c k
+    pub absent : known_count (key.eq k) c.machine ≡ 0
+
+  -- a key was placed with its value, while another left for the history, if it did; the hand made `looks` inspections,
+  -- and at most `links` more links were accessed
+  pub record Enters (k : K) (value : Option V) (p : Placement K V) (out : Option K) (looks links at : ℕ) (old new : CacheState K V S) : Type 0 where
+    pub slot : at ≡ p.slot
+    pub machine : Fills value p old.machine new.machine
+    pub indexes : Reindexes (hash_in key build hash old) k at out old new
+    pub hasher : new.hasher ≡ old.hasher
+    pub counts : Spends looks (looks + links) 0 old.counts new.counts
+
+  -- the key went into Main, or into Small
+  abbrev pub EntersMain : K → Option V → (looks slot : ℕ) → CacheState K V S → CacheState K V S → Type 0
+  EntersMain k value looks slot old new = Enters k value (into_main k old.machine) None looks 28 slot old new
+
+  abbrev pub EntersSmall : K → Option V → Option K → (looks links slot : ℕ) → CacheState K V S → CacheState K V S → Type 0
+  EntersSmall k value out looks links slot old new = Enters k value (into_small k old.machine) out looks links slot old new
+
+  -- or into that of the two that was chosen
+  abbrev pub EntersQueue : (main : Bool) → K → Option V → (slot : ℕ) → CacheState K V S → CacheState K V S → Type 0
+  EntersQueue main k value slot old new =
+      let m = old.machine in Enters k value (placed main k m) (out_of main m) (placed_inspections main m) 29 slot old new

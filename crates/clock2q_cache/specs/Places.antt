@@ -60,8 +60,13 @@ module _ {K V S H : Type 0} (key : HashMembers K) (build : builder.Ghosts S H) (
   abbrev pub hash_in : CacheState K V S → K → ℕ
   hash_in c k = hash_of build hash c.hasher (key.hash_input k)
 
+  -- the index once a key that wasn't resident has this slot
+  abbrev pub known_at : K → ℕ → CacheState K V S → Places
+  known_at k slot c =
+      let m = forgotten (key.eq k) c.machine in
+      let main = goes_to_main (list_any (key.eq k) c.machine.history) c.machine in
+      entered (hash_in c) k slot (out_of main m) m (discarded (key.eq k) (hash_in c k) c)
+
   -- the index once a key has its slot: unchanged if the key was resident
   abbrev pub known_with : K → CacheState K V S → Places
-  known_with k c = if is_some (slot_of (key.eq k) c.machine) then c.known else
-      (let m = forgotten (key.eq k) c.machine in
-      entered (hash_in c) k (placement (key.eq k) k c.machine).slot (out_of (goes_to_main (list_any (key.eq k) c.machine.history) c.machine) m) m (discarded (key.eq k) (hash_in c k) c))
+  known_with k c = if is_some (slot_of (key.eq k) c.machine) then c.known else known_at k (placement (key.eq k) k c.machine).slot c

@@ -11,12 +11,12 @@ impl<K: Hash + Eq + Copy, V: Drop, S: BuildHasher, A: Allocator> Cache<K, V, S, 
     ghost use Rattle.clock2q_machine.specs.Bounds.{inspections_for};
     ghost use Rattle.clock2q_machine.specs.Calls.{Put};
     ghost use Rattle.clock2q_machine.specs.Leaving.{leaves_for, victim_of, with_value};
-    ghost use Rattle.clock2q_machine.specs.Machine.{forgotten, goes_to_main, inserted, placement, slot_of, value_of};
+    ghost use Rattle.clock2q_machine.specs.Machine.{inserted, placement, slot_of, value_of};
     ghost use Rattle.clock2q_machine.specs.Steps.{put};
     ghost use Rattle.clock2q_directory.specs.History.{place_of};
     ghost use Rattle.clock2q_cache.specs.Costs.{Costs, Spends};
-    ghost use Rattle.clock2q_cache.specs.Hashes.{hash_of};
-    ghost use Rattle.clock2q_cache.specs.Places.{discarded, entered, known_with, out_of};
+    ghost use Rattle.clock2q_cache.specs.Insertions.{IsAbsent};
+    ghost use Rattle.clock2q_cache.specs.Places.{known_at, known_with};
 
     /// Stores a value for a key as [`put`](Cache::put) does, and hands over what it replaces or
     /// evicts: `key` with the value that it had, or the resident that leaves, with its value.
@@ -49,11 +49,10 @@ impl<K: Hash + Eq + Copy, V: Drop, S: BuildHasher, A: Allocator> Cache<K, V, S, 
     /// has the key, it is there at `place`.
     fn insert_evicting(&mut self, hash: u64, key: K, value: V, place: Option<u32>) -> Option<(K, V)>
         requires place { place ≡ place_of (K.eq key) self.old.machine.history self.old.known.taken }
-        requires hash { hash ≡ hash_of S.BuildHasher S.Hasher.Hasher self.old.hasher (K.hash_input key) }
-        requires absent { slot_of (K.eq key) self.old.machine ≡ None }
+        requires absent { IsAbsent K.Hash S.BuildHasher S.Hasher.Hasher key hash self.old }
         ensures evicted { result ≡ option_map (λ v. (v.0, v.1.1)) (with_value self.old.machine (leaves_for (list_any (K.eq key) self.old.machine.history) self.old.machine)) }
         ensures machine { self.new.machine ≡ inserted (K.eq key) key value self.old.machine }
-        ensures known { let m = forgotten (K.eq key) self.old.machine in self.new.known ≡ entered (λ k. hash_of S.BuildHasher S.Hasher.Hasher self.old.hasher (K.hash_input k)) key (placement (K.eq key) key self.old.machine).slot (out_of (goes_to_main (list_any (K.eq key) self.old.machine.history) self.old.machine) m) m (discarded (K.eq key) hash self.old) }
+        ensures known { self.new.known ≡ known_at K.Hash S.BuildHasher S.Hasher.Hasher key (placement (K.eq key) key self.old.machine).slot self.old }
         ensures hasher { self.new.hasher ≡ self.old.hasher }
         ensures counts { Spends (inspections_for (K.eq key) self.old.machine) (inspections_for (K.eq key) self.old.machine + 36) 0 self.old.counts self.new.counts }
     {

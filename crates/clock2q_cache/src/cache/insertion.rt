@@ -5,33 +5,31 @@ use std::alloc::Allocator;
 use std::hash::{BuildHasher, Hash};
 
 impl<K: Hash + Eq + Drop, V: Drop, S: BuildHasher, A: Allocator> Cache<K, V, S, A> {
-    ghost use Rattle.std.specs.Prelude.{◌≡◌, ◌==◌, ◌+◌, ◌<◌, ◌≤◌, length, true, false, None, IfSome, IfNone, is_some, slice_get};
-    ghost use Rattle.std.specs.List.{last_or, list_any};
+    ghost use Rattle.std.specs.Prelude.{◌≡◌, ◌==◌, ◌+◌, ◌<◌, length, true, false, None, IfSome, IfNone, is_some, slice_get};
+    ghost use Rattle.std.specs.List.{last_or};
     ghost use Rattle.std.specs.Option.{option_map};
     ghost use Rattle.clock2q_machine.specs.Shares.{main_share};
     ghost use Rattle.clock2q_machine.specs.Ages.{is_promoted};
-    ghost use Rattle.clock2q_machine.specs.Whole.{IsWhole, known_count};
+    ghost use Rattle.clock2q_machine.specs.Whole.{IsWhole};
     ghost use Rattle.clock2q_handles.specs.Homes.{candidates};
     ghost use Rattle.clock2q_directory.specs.History.{place_of};
     ghost use Rattle.clock2q_machine.specs.Bounds.{inspections_for};
     ghost use Rattle.clock2q_cache.specs.Costs.{Spends};
     ghost use Rattle.clock2q_cache.specs.CacheState.{remembered_in};
     ghost use Rattle.clock2q_machine.specs.Entries.{inspections};
-    ghost use Rattle.clock2q_cache.specs.Hashes.{hash_of};
     ghost use Rattle.clock2q_cache.specs.Closures.{Reuses};
-    ghost use Rattle.clock2q_cache.specs.Places.{Reindexes, entered, out_of, out_of_small, discarded};
-    ghost use Rattle.clock2q_cache.specs.Insertions.{Fills, Notes, placed, placed_inspections, makes_slot, next_is_vacant, main_inspections, small_inspections, leaves_placed};
+    ghost use Rattle.clock2q_cache.specs.Places.{known_at, out_of_small};
+    ghost use Rattle.clock2q_cache.specs.Insertions.{EntersMain, EntersQueue, EntersSmall, IsAbsent, IsUnknown, Notes, placed, makes_slot, next_is_vacant, main_inspections, small_inspections, leaves_placed};
     ghost use Rattle.clock2q_machine.specs.Leaving.{leaves_for_main};
-    ghost use Rattle.clock2q_machine.specs.Machine.{slot_of, vacancy, goes_to_main, into_main, into_small, forgotten, placement, inserted};
+    ghost use Rattle.clock2q_machine.specs.Machine.{vacancy, goes_to_main, into_main, into_small, placement, inserted};
 
     /// Inserts a key that is not resident. If the history has it, it is there at `place`.
     pub(crate) fn insert(&mut self, hash: u64, key: K, value: V, place: Option<u32>) -> u32
         requires place { place ≡ place_of (K.eq key) self.old.machine.history self.old.known.taken }
-        requires hash { hash ≡ hash_of S.BuildHasher S.Hasher.Hasher self.old.hasher (K.hash_input key) }
-        requires absent { slot_of (K.eq key) self.old.machine ≡ None }
+        requires absent { IsAbsent K.Hash S.BuildHasher S.Hasher.Hasher key hash self.old }
         ensures slot { result ≡ (placement (K.eq key) key self.old.machine).slot }
         ensures machine { self.new.machine ≡ inserted (K.eq key) key value self.old.machine }
-        ensures known { let m = forgotten (K.eq key) self.old.machine in self.new.known ≡ entered (λ k. hash_of S.BuildHasher S.Hasher.Hasher self.old.hasher (K.hash_input k)) key result (out_of (goes_to_main (list_any (K.eq key) self.old.machine.history) self.old.machine) m) m (discarded (K.eq key) hash self.old) }
+        ensures known { self.new.known ≡ known_at K.Hash S.BuildHasher S.Hasher.Hasher key result self.old }
         ensures hasher { self.new.hasher ≡ self.old.hasher }
         ensures counts { Spends (inspections_for (K.eq key) self.old.machine) (inspections_for (K.eq key) self.old.machine + 36) 0 self.old.counts self.new.counts }
     {
@@ -46,12 +44,11 @@ impl<K: Hash + Eq + Drop, V: Drop, S: BuildHasher, A: Allocator> Cache<K, V, S, 
     #[cold]
     #[inline(never)]
     pub(crate) fn insert_reusing<F: FnOnce() -> V>(&mut self, hash: u64, key: K, make: F) -> u32
-        requires hash { hash ≡ hash_of S.BuildHasher S.Hasher.Hasher self.old.hasher (K.hash_input key) }
-        requires absent { slot_of (K.eq key) self.old.machine ≡ None }
+        requires absent { IsAbsent K.Hash S.BuildHasher S.Hasher.Hasher key hash self.old }
         requires make { slice_get self.old.machine.values (placement (K.eq key) key self.old.machine).slot ≡ None → F.pre make }
         ensures slot { result ≡ (placement (K.eq key) key self.old.machine).slot }
         ensures machine { Reuses (K.eq key) key (F.post make) self.old.machine self.new.machine }
-        ensures known { let m = forgotten (K.eq key) self.old.machine in self.new.known ≡ entered (λ k. hash_of S.BuildHasher S.Hasher.Hasher self.old.hasher (K.hash_input k)) key result (out_of (goes_to_main (list_any (K.eq key) self.old.machine.history) self.old.machine) m) m (discarded (K.eq key) hash self.old) }
+        ensures known { self.new.known ≡ known_at K.Hash S.BuildHasher S.Hasher.Hasher key result self.old }
         ensures hasher { self.new.hasher ≡ self.old.hasher }
         ensures counts { Spends (inspections_for (K.eq key) self.old.machine) (inspections_for (K.eq key) self.old.machine + 36) (length (candidates (remembered_in self.old.known) hash)) self.old.counts self.new.counts }
     {
@@ -73,16 +70,11 @@ impl<K: Hash + Eq + Drop, V: Drop, S: BuildHasher, A: Allocator> Cache<K, V, S, 
         leaves: F,
     ) -> (u32, Option<R>)
         requires callable { F.IsAlwaysCallable leaves }
-        requires hash { hash ≡ hash_of S.BuildHasher S.Hasher.Hasher self.old.hasher (K.hash_input key) }
-        requires absent { known_count (K.eq key) self.old.machine ≡ 0 }
+        requires unknown { IsUnknown K.Hash S.BuildHasher S.Hasher.Hasher key hash self.old }
         requires small { main ≡ false → goes_to_main false self.old.machine ≡ false }
         requires had { IfNone value ((placed main key self.old.machine).slot < length self.old.machine.values) }
-        ensures slot { result.0 ≡ (placed main key self.old.machine).slot }
-        ensures machine { Fills value (placed main key self.old.machine) self.old.machine self.new.machine }
-        ensures indexes { Reindexes (λ k. hash_of S.BuildHasher S.Hasher.Hasher self.old.hasher (K.hash_input k)) key result.0 (out_of main self.old.machine) self.old self.new }
-        ensures hasher { self.new.hasher ≡ self.old.hasher }
+        ensures entered { EntersQueue K.Hash S.BuildHasher S.Hasher.Hasher main key value result.0 self.old self.new }
         ensures left { Notes F.FnOnce leaves (leaves_placed main self.old.machine) result.0 result.1 }
-        ensures counts { Spends (placed_inspections main self.old.machine) (placed_inspections main self.old.machine + 29) 0 self.old.counts self.new.counts }
     {
         if main {
             self.insert_into_main(hash, key, value, leaves)
@@ -147,15 +139,10 @@ impl<K: Hash + Eq + Drop, V: Drop, S: BuildHasher, A: Allocator> Cache<K, V, S, 
         leaves: F,
     ) -> (u32, Option<R>)
         requires callable { F.IsAlwaysCallable leaves }
-        requires hash { hash ≡ hash_of S.BuildHasher S.Hasher.Hasher self.old.hasher (K.hash_input key) }
-        requires absent { known_count (K.eq key) self.old.machine ≡ 0 }
+        requires unknown { IsUnknown K.Hash S.BuildHasher S.Hasher.Hasher key hash self.old }
         requires had { IfNone value ((into_main key self.old.machine).slot < length self.old.machine.values) }
-        ensures slot { result.0 ≡ (into_main key self.old.machine).slot }
-        ensures machine { Fills value (into_main key self.old.machine) self.old.machine self.new.machine }
-        ensures indexes { Reindexes (λ k. hash_of S.BuildHasher S.Hasher.Hasher self.old.hasher (K.hash_input k)) key result.0 None self.old self.new }
-        ensures hasher { self.new.hasher ≡ self.old.hasher }
+        ensures entered { EntersMain K.Hash S.BuildHasher S.Hasher.Hasher key value (main_inspections self.old.machine) result.0 self.old self.new }
         ensures left { Notes F.FnOnce leaves (leaves_for_main self.old.machine) result.0 result.1 }
-        ensures counts { Spends (main_inspections self.old.machine) (main_inspections self.old.machine + 28) 0 self.old.counts self.new.counts }
     {
         if self.queues.main_len() == self.shares.main() {
             self.replace_victim(hash, key, value, leaves)
@@ -173,15 +160,10 @@ impl<K: Hash + Eq + Drop, V: Drop, S: BuildHasher, A: Allocator> Cache<K, V, S, 
         leaves: F,
     ) -> (u32, Option<R>)
         requires callable { F.IsAlwaysCallable leaves }
-        requires hash { hash ≡ hash_of S.BuildHasher S.Hasher.Hasher self.old.hasher (K.hash_input key) }
-        requires absent { known_count (K.eq key) self.old.machine ≡ 0 }
+        requires unknown { IsUnknown K.Hash S.BuildHasher S.Hasher.Hasher key hash self.old }
         requires full { length self.old.machine.main ≡ main_share self.old.machine.shares }
-        ensures slot { result.0 ≡ (into_main key self.old.machine).slot }
-        ensures machine { Fills value (into_main key self.old.machine) self.old.machine self.new.machine }
-        ensures indexes { Reindexes (λ k. hash_of S.BuildHasher S.Hasher.Hasher self.old.hasher (K.hash_input k)) key result.0 None self.old self.new }
-        ensures hasher { self.new.hasher ≡ self.old.hasher }
+        ensures entered { EntersMain K.Hash S.BuildHasher S.Hasher.Hasher key value (inspections self.old.machine.main) result.0 self.old self.new }
         ensures left { Notes F.FnOnce leaves (leaves_for_main self.old.machine) result.0 result.1 }
-        ensures counts { Spends (inspections self.old.machine.main) (inspections self.old.machine.main + 28) 0 self.old.counts self.new.counts }
     {
         let victim = self.queues.reuse_victim();
         let old = self.directory.renew(victim, hash, key, value);
@@ -190,15 +172,10 @@ impl<K: Hash + Eq + Drop, V: Drop, S: BuildHasher, A: Allocator> Cache<K, V, S, 
 
     /// Inserts a key into Main, which has room, at a vacancy.
     fn join_main(&mut self, hash: u64, key: K, value: Option<V>) -> u32
-        requires hash { hash ≡ hash_of S.BuildHasher S.Hasher.Hasher self.old.hasher (K.hash_input key) }
-        requires absent { known_count (K.eq key) self.old.machine ≡ 0 }
+        requires unknown { IsUnknown K.Hash S.BuildHasher S.Hasher.Hasher key hash self.old }
         requires room { length self.old.machine.main < main_share self.old.machine.shares }
         requires had { IfNone value ((into_main key self.old.machine).slot < length self.old.machine.values) }
-        ensures slot { result ≡ (into_main key self.old.machine).slot }
-        ensures machine { Fills value (into_main key self.old.machine) self.old.machine self.new.machine }
-        ensures indexes { Reindexes (λ k. hash_of S.BuildHasher S.Hasher.Hasher self.old.hasher (K.hash_input k)) key result None self.old self.new }
-        ensures hasher { self.new.hasher ≡ self.old.hasher }
-        ensures counts { Spends 0 28 0 self.old.counts self.new.counts }
+        ensures entered { EntersMain K.Hash S.BuildHasher S.Hasher.Hasher key value 0 result self.old self.new }
     {
         let slot = take_vacancy(&mut self.free, self.directory.made());
         self.directory.enter(slot, hash, key, value);
@@ -216,16 +193,11 @@ impl<K: Hash + Eq + Drop, V: Drop, S: BuildHasher, A: Allocator> Cache<K, V, S, 
         leaves: F,
     ) -> (u32, Option<R>)
         requires callable { F.IsAlwaysCallable leaves }
-        requires hash { hash ≡ hash_of S.BuildHasher S.Hasher.Hasher self.old.hasher (K.hash_input key) }
-        requires absent { known_count (K.eq key) self.old.machine ≡ 0 }
+        requires unknown { IsUnknown K.Hash S.BuildHasher S.Hasher.Hasher key hash self.old }
         requires small { goes_to_main false self.old.machine ≡ false }
         requires had { IfNone value ((into_small key self.old.machine).slot < length self.old.machine.values) }
-        ensures slot { result.0 ≡ (into_small key self.old.machine).slot }
-        ensures machine { Fills value (into_small key self.old.machine) self.old.machine self.new.machine }
-        ensures indexes { Reindexes (λ k. hash_of S.BuildHasher S.Hasher.Hasher self.old.hasher (K.hash_input k)) key result.0 (out_of_small self.old.machine) self.old self.new }
-        ensures hasher { self.new.hasher ≡ self.old.hasher }
+        ensures entered { EntersSmall K.Hash S.BuildHasher S.Hasher.Hasher key value (out_of_small self.old.machine) (small_inspections self.old.machine) 29 result.0 self.old self.new }
         ensures left { Notes F.FnOnce leaves (leaves_placed false self.old.machine) result.0 result.1 }
-        ensures counts { Spends (small_inspections self.old.machine) (small_inspections self.old.machine + 29) 0 self.old.counts self.new.counts }
     {
         if self.has_vacancy() {
             (self.join_small(hash, key, value), None)
@@ -238,16 +210,11 @@ impl<K: Hash + Eq + Drop, V: Drop, S: BuildHasher, A: Allocator> Cache<K, V, S, 
 
     /// Inserts a key into Small, which has room, at a vacancy.
     fn join_small(&mut self, hash: u64, key: K, value: Option<V>) -> u32
-        requires hash { hash ≡ hash_of S.BuildHasher S.Hasher.Hasher self.old.hasher (K.hash_input key) }
-        requires absent { known_count (K.eq key) self.old.machine ≡ 0 }
+        requires unknown { IsUnknown K.Hash S.BuildHasher S.Hasher.Hasher key hash self.old }
         requires room { length self.old.machine.small < self.old.machine.shares.small }
         requires vacant { is_some (vacancy self.old.machine) ≡ true }
         requires had { IfNone value ((into_small key self.old.machine).slot < length self.old.machine.values) }
-        ensures slot { result ≡ (into_small key self.old.machine).slot }
-        ensures machine { Fills value (into_small key self.old.machine) self.old.machine self.new.machine }
-        ensures indexes { Reindexes (λ k. hash_of S.BuildHasher S.Hasher.Hasher self.old.hasher (K.hash_input k)) key result None self.old self.new }
-        ensures hasher { self.new.hasher ≡ self.old.hasher }
-        ensures counts { Spends 0 28 0 self.old.counts self.new.counts }
+        ensures entered { EntersSmall K.Hash S.BuildHasher S.Hasher.Hasher key value None 0 28 result self.old self.new }
     {
         let slot = take_vacancy(&mut self.free, self.directory.made());
         self.directory.enter(slot, hash, key, value);
@@ -275,17 +242,12 @@ impl<K: Hash + Eq + Drop, V: Drop, S: BuildHasher, A: Allocator> Cache<K, V, S, 
         leaves: F,
     ) -> (u32, Option<R>)
         requires callable { F.IsAlwaysCallable leaves }
-        requires hash { hash ≡ hash_of S.BuildHasher S.Hasher.Hasher self.old.hasher (K.hash_input key) }
-        requires absent { known_count (K.eq key) self.old.machine ≡ 0 }
+        requires unknown { IsUnknown K.Hash S.BuildHasher S.Hasher.Hasher key hash self.old }
         requires some { 0 < length self.old.machine.small }
         requires full { vacancy self.old.machine ≡ None }
         requires out { IfSome (last_or None self.old.machine.small) (λ tail. is_promoted tail.age ≡ false) }
-        ensures slot { result.0 ≡ (into_small key self.old.machine).slot }
-        ensures machine { Fills value (into_small key self.old.machine) self.old.machine self.new.machine }
-        ensures indexes { Reindexes (λ k. hash_of S.BuildHasher S.Hasher.Hasher self.old.hasher (K.hash_input k)) key result.0 (option_map (λ tail. tail.key) (last_or None self.old.machine.small)) self.old self.new }
-        ensures hasher { self.new.hasher ≡ self.old.hasher }
+        ensures entered { EntersSmall K.Hash S.BuildHasher S.Hasher.Hasher key value (option_map (λ tail. tail.key) (last_or None self.old.machine.small)) 0 28 result.0 self.old self.new }
         ensures left { Notes F.FnOnce leaves (leaves_placed false self.old.machine) result.0 result.1 }
-        ensures counts { Spends 0 28 0 self.old.counts self.new.counts }
     {
         let tail = self.queues.reuse_tail();
         let left = leaves(self.directory.key(tail));
@@ -302,17 +264,12 @@ impl<K: Hash + Eq + Drop, V: Drop, S: BuildHasher, A: Allocator> Cache<K, V, S, 
         leaves: F,
     ) -> (u32, Option<R>)
         requires callable { F.IsAlwaysCallable leaves }
-        requires hash { hash ≡ hash_of S.BuildHasher S.Hasher.Hasher self.old.hasher (K.hash_input key) }
-        requires absent { known_count (K.eq key) self.old.machine ≡ 0 }
+        requires unknown { IsUnknown K.Hash S.BuildHasher S.Hasher.Hasher key hash self.old }
         requires some { 0 < length self.old.machine.small }
         requires full { vacancy self.old.machine ≡ None }
         requires on { IfSome (last_or None self.old.machine.small) (λ tail. is_promoted tail.age ≡ true) }
-        ensures slot { result.0 ≡ (into_small key self.old.machine).slot }
-        ensures machine { Fills value (into_small key self.old.machine) self.old.machine self.new.machine }
-        ensures indexes { Reindexes (λ k. hash_of S.BuildHasher S.Hasher.Hasher self.old.hasher (K.hash_input k)) key result.0 None self.old self.new }
-        ensures hasher { self.new.hasher ≡ self.old.hasher }
+        ensures entered { EntersSmall K.Hash S.BuildHasher S.Hasher.Hasher key value None (inspections self.old.machine.main) 28 result.0 self.old self.new }
         ensures left { Notes F.FnOnce leaves (leaves_placed false self.old.machine) result.0 result.1 }
-        ensures counts { Spends (inspections self.old.machine.main) (inspections self.old.machine.main + 28) 0 self.old.counts self.new.counts }
     {
         let slot = self.queues.take_victim();
         // the caller has seen that Small isn't empty

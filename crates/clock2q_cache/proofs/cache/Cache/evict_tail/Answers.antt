@@ -41,7 +41,7 @@ done g c =
     let beside : most_beside c.remember.new.self.history ≡ most_beside h =
     ap (λ (z : Remembered _). most_beside z) r.becomes
     ∙ ap (λ b. if b then h.limit else 0) (ap (λ (z : Places). is_shared z.index) r.places ∙ shared-pushed h.limit r.old_hash c.reuse_tail-tail.result oldest h.places (omega (arith, below))) in
-    evicted-done g.met.K.Eq.laws c.self.invariant (rw (← c.self.view_is) at c.requires.hash) (rw (← c.self.view_is) at c.requires.absent) there r.had_hash indexed
+    evicted-done g.met.K.Eq.laws c.self.invariant (rw (← c.self.view_is) at c.requires.unknown.hashed) (rw (← c.self.view_is) at c.requires.unknown.absent) there r.had_hash indexed
     c.remember.ensures.entries c.remember.ensures.kept last r.had_key (rw (← c.self.view_is) at c.requires.full) (rw (← c.self.view_is) at c.requires.out)
     c.reuse_tail-tail.ensures.queues r.becomes beside
 
@@ -57,11 +57,13 @@ returns g c =
     tail-leaves g.met.K.Eq.laws c.self.invariant c.reuse_tail-tail.result c.reuse_tail-tail.ensures.tail c.key.result.now c.key.ensures.key
     (rw (← c.self.view_is) at c.requires.full) (rw (← c.self.view_is) at c.requires.out) in
     rw (← c.self.view_is) (record {
-      slot = d.at;
-      machine = d.fills;
-      indexes = entered-evicting g.met.K.Eq.laws c.self.invariant i.directory.history.places c.args.key c.reuse_tail-tail.result
-          (rw (← c.self.view_is) at c.requires.hash) c.reuse_tail-tail.ensures.tail r.had_key r.had_hash r.places;
-      hasher = refl;
+      entered = record {
+        slot = d.at;
+        machine = d.fills;
+        indexes = entered-evicting g.met.K.Eq.laws c.self.invariant i.directory.history.places c.args.key c.reuse_tail-tail.result
+            (rw (← c.self.view_is) at c.requires.unknown.hashed) c.reuse_tail-tail.ensures.tail r.had_key r.had_hash r.places;
+        hasher = refl;
+        counts = evicted-spends i.queues i.directory.history i.directory.residents c.reuse_tail-tail.ensures.queues c.reuse_tail-tail.ensures.accesses r.becomes r.accesses c.remember.ensures.kept;
+      };
       left = noted g.F.FnOnce leaver c.leaves-left.ensures;
-      counts = evicted-spends i.queues i.directory.history i.directory.residents c.reuse_tail-tail.ensures.queues c.reuse_tail-tail.ensures.accesses r.becomes r.accesses c.remember.ensures.kept;
     })

@@ -37,4 +37,4 @@ returns-in-Some-clause-known g c =
 
 pub returns-clause-known : goal.returns-clause-known
 returns-clause-known g c =
-    rw (← c.in_default.ensures.slot) (rw (c.insert_reusing.ensures.slot, c.find.ensures.kept, c.requires.hash) at c.insert_reusing.ensures.known)
+    rw (← c.in_default.ensures.slot) (rw (c.insert_reusing.ensures.slot, c.find.ensures.kept) at c.insert_reusing.ensures.known)

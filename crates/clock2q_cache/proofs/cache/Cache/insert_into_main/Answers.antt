@@ -12,17 +12,17 @@ replace_victim-requires-clause-full g c = rw (← c.self.view_is) (omega (arith,
 pub join_main-requires-clause-room : goal.join_main-requires-clause-room
 join_main-requires-clause-room g c = rw (← c.self.view_is) (omega (arith, length_in_main g.met.K.Eq.laws c.self.invariant, c.self.invariant.whole.main_within))
 
-pub returns-then-main_len-main-clause-counts : goal.returns-then-main_len-main-clause-counts
-returns-then-main_len-main-clause-counts g c =
+pub returns-then-main_len-main-clause-entered : goal.returns-then-main_len-main-clause-entered
+returns-then-main_len-main-clause-entered g c =
     let m = c.args.self.now.machine in
     let full : length m.main ≡ main_share m.shares = rw (← c.self.view_is) (omega (arith, length_in_main g.met.K.Eq.laws c.self.invariant)) in
-    rw (full-inspections m full) c.replace_victim.ensures.counts
+    rw (full-inspections m full) c.replace_victim.ensures.entered
 
-pub returns-else-main_len-main-clause-counts : goal.returns-else-main_len-main-clause-counts
-returns-else-main_len-main-clause-counts g c =
+pub returns-else-main_len-main-clause-entered : goal.returns-else-main_len-main-clause-entered
+returns-else-main_len-main-clause-entered g c =
     let m = c.args.self.now.machine in
     let room : length m.main < main_share m.shares = rw (← c.self.view_is) (omega (arith, length_in_main g.met.K.Eq.laws c.self.invariant, c.self.invariant.whole.main_within)) in
-    rw (room-inspections m room) c.join_main.ensures.counts
+    rw (room-inspections m room) c.join_main.ensures.entered
 
 pub returns-else-main_len-main-clause-left : goal.returns-else-main_len-main-clause-left
 returns-else-main_len-main-clause-left g c =

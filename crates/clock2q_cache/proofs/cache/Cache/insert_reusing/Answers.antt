@@ -25,10 +25,14 @@ then-value-requires g c made =
     let there = makes-there g.K.PartialEq.eq c.args.key s c.makes_slot.ensures.whole c.makes_slot.result c.makes_slot.ensures.makes ∙ ap not made in
     c.requires.make (slice_get_past c.args.self.now.machine.values _ (ltb-false _ _ there))
 
-pub insert_unknown-requires-clause-absent : goal.insert_unknown-requires-clause-absent
-insert_unknown-requires-clause-absent g c =
-    let erased = c.forget-known.ensures.machine ∙ ap (λ (z : CacheState _ _ _). forgotten (g.K.PartialEq.eq c.args.key) z.machine) c.find_place-place.ensures.kept in
-    ap (known_count (g.K.PartialEq.eq c.args.key)) erased ∙ unknown_once_forgotten (g.K.PartialEq.eq c.args.key) c.args.self.now.machine c.requires.absent
+pub insert_unknown-requires-clause-unknown : goal.insert_unknown-requires-clause-unknown
+insert_unknown-requires-clause-unknown g c =
+    let is = g.K.PartialEq.eq c.args.key in
+    let erased = c.forget-known.ensures.machine ∙ ap (λ (z : CacheState _ _ _). forgotten is z.machine) c.find_place-place.ensures.kept in
+    record {
+      hashed = rw (c.forget-known.ensures.hasher, c.find_place-place.ensures.kept) c.requires.absent.hashed;
+      absent = ap (known_count is) erased ∙ unknown_once_forgotten is c.args.self.now.machine c.requires.absent.absent;
+    }
 
 pub insert_unknown-requires-clause-small : goal.insert_unknown-requires-clause-small
 insert_unknown-requires-clause-small g c = small-unknown g.K.PartialEq.eq c.args.key (sent g (goal.at.insert_unknown-requires-clause-small g c).After-admits_to_main-main)
@@ -41,7 +45,7 @@ insert_unknown-requires-clause-had g c =
 
 pub returns-clause-slot : goal.returns-clause-slot
 returns-clause-slot g c =
-    c.insert_unknown.ensures.slot ∙ ap (λ (p : Placement _ _). p.slot) (placed-there g.K.PartialEq.eq c.args.key (sent g (goal.at.returns-clause-slot g c).After-admits_to_main-main))
+    c.insert_unknown.ensures.entered.slot ∙ ap (λ (p : Placement _ _). p.slot) (placed-there g.K.PartialEq.eq c.args.key (sent g (goal.at.returns-clause-slot g c).After-admits_to_main-main))
 
 pub returns-clause-machine : goal.returns-clause-machine
 returns-clause-machine g c =
@@ -50,14 +54,14 @@ returns-clause-machine g c =
     let values = values-there g.K.PartialEq.eq c.args.key s c.makes_slot.ensures.whole c.makes_slot.result c.makes_slot.ensures.makes in
     reuses (g.K.PartialEq.eq c.args.key) c.args.key (goal.F-post g c.args.make) c.args.self.now.machine values c.then-value.result c.insert_unknown.new.self.machine
     (there ∙ ap not (sym c.then-value.ensures.variant)) c.then-value.ensures.some
-    (fills-there g.K.PartialEq.eq c.args.key s c.then-value.result c.insert_unknown.new.self.machine c.insert_unknown.ensures.machine)
+    (fills-there g.K.PartialEq.eq c.args.key s c.then-value.result c.insert_unknown.new.self.machine c.insert_unknown.ensures.entered.machine)
 
 pub returns-clause-known : goal.returns-clause-known
 returns-clause-known g c =
     let goes = goes-there (sent g (goal.at.returns-clause-known g c).After-admits_to_main-main) in
-    rw (c.forget-known.ensures.hasher, c.forget-known.ensures.machine, goes, c.forget-known.ensures.places, c.find_place-place.ensures.kept) at c.insert_unknown.ensures.indexes
+    rw (c.forget-known.ensures.hasher, c.forget-known.ensures.machine, goes, c.forget-known.ensures.places, c.find_place-place.ensures.kept, c.requires.absent.hashed) at c.insert_unknown.ensures.entered.indexes
 
 pub returns-clause-counts : goal.returns-clause-counts
 returns-clause-counts g c =
-    rw (← placed-inspections (sent g (goal.at.returns-clause-counts g c).After-admits_to_main-main) c.requires.absent)
-    (spends-both c.find_place-place.ensures.counts (forgotten-spends c.forget-known.ensures.counts c.insert_unknown.ensures.counts) (omega arith) (omega arith) (omega arith))
+    rw (← placed-inspections (sent g (goal.at.returns-clause-counts g c).After-admits_to_main-main) c.requires.absent.absent)
+    (spends-both c.find_place-place.ensures.counts (forgotten-spends c.forget-known.ensures.counts c.insert_unknown.ensures.entered.counts) (omega arith) (omega arith) (omega arith))

@@ -37,7 +37,7 @@ done : (g : Over) (c : After-append g) → IsFree g.met.K.Eq.laws c.self.invaria
     c.append.new.self c.enter.new.self.history (slots c.enter.new.self.history.places.index) c.enter.new.self.residents c.take_vacancy-slot.new.free.items (vec_capacity c.take_vacancy-slot.new.free)
 done g c f =
     done-reindexed g.met.K.Eq.laws c.self.invariant (reindexed c.self.inside.directory.history c.enter.ensures.index refl)
-    (main-done g.met.K.Eq.laws c.self.invariant f (rw (← c.self.view_is) at c.requires.hash) (rw (← c.self.view_is) at c.requires.absent)
+    (main-done g.met.K.Eq.laws c.self.invariant f (rw (← c.self.view_is) at c.requires.unknown.hashed) (rw (← c.self.view_is) at c.requires.unknown.absent)
     (now-slots c.self.inside.directory.history c.enter.ensures.index (slots-entered c.self.inside.directory.history.places.index c.args.hash c.take_vacancy-slot.result (omega (arith, f.short))))
     c.enter.ensures.entries c.enter.ensures.kept (rw (← c.self.view_is) at c.requires.room)
     c.append.ensures.queues c.take_vacancy-slot.ensures.others c.take_vacancy-slot.ensures.capacity)
@@ -53,11 +53,13 @@ returns g c =
     let f = free g at.After-take_vacancy-slot in
     let d = done g at.After-append f in
     rw (← c.self.view_is) (record {
-      slot = d.at;
-      machine = d.fills;
-      indexes = entered-vacant g.met.K.Eq.laws c.self.invariant c.self.inside.directory.history.places c.args.key c.take_vacancy-slot.result
-          (rw (← c.self.view_is) at c.requires.hash) f.absent (ap (λ (z : Remembered _). z.places) c.enter.ensures.index);
-      hasher = refl;
-      counts = joined-spends c.self.inside.queues c.self.inside.directory.history c.self.inside.directory.residents 1 6 c.append.ensures.queues c.append.ensures.accesses
-          (omega arith) c.enter.ensures.index c.enter.ensures.kept;
+      entered = record {
+        slot = d.at;
+        machine = d.fills;
+        indexes = entered-vacant g.met.K.Eq.laws c.self.invariant c.self.inside.directory.history.places c.args.key c.take_vacancy-slot.result
+            (rw (← c.self.view_is) at c.requires.unknown.hashed) f.absent (ap (λ (z : Remembered _). z.places) c.enter.ensures.index);
+        hasher = refl;
+        counts = joined-spends c.self.inside.queues c.self.inside.directory.history c.self.inside.directory.residents 1 6 c.append.ensures.queues c.append.ensures.accesses
+            (omega arith) c.enter.ensures.index c.enter.ensures.kept;
+      };
     })

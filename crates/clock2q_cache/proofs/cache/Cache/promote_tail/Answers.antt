@@ -56,7 +56,7 @@ done g c tail =
     let r = c.renew-old.ensures in
     let below = (slot-below g.met.K.Eq.laws c.self.invariant c.take_victim-slot.result (victim-in g.met.K.Eq.laws c.self.invariant c.take_victim-slot.result victim)).2 in
     done-reindexed g.met.K.Eq.laws c.self.invariant (reindexed c.self.inside.directory.history r.index refl)
-    (promoted-done g.met.K.Eq.laws c.self.invariant (rw (← c.self.view_is) at c.requires.hash) (rw (← c.self.view_is) at c.requires.absent)
+    (promoted-done g.met.K.Eq.laws c.self.invariant (rw (← c.self.view_is) at c.requires.unknown.hashed) (rw (← c.self.view_is) at c.requires.unknown.absent)
     (victim-in g.met.K.Eq.laws c.self.invariant c.take_victim-slot.result victim) r.hash
     (slots-renewed c.self.inside.directory.history c.renew-old.result.0 c.args.hash r.index below) r.entries r.kept tail victim (rw (← c.self.view_is) at c.requires.full) (rw (← c.self.view_is) at c.requires.on)
     (rw (c.append.ensures.queues, c.in-Some.ensures.queues, c.take_victim-slot.ensures.queues) at c.admit.ensures.queues))
@@ -75,13 +75,15 @@ returns g c =
     let moves = tail-goes_on g.met.K.Eq.laws c.self.invariant c.in-Some.tail (last g at.In-Some) (rw (← c.self.view_is) at c.requires.full) (rw (← c.self.view_is) at c.requires.on) in
     let leaver = victim-leaves g.met.K.Eq.laws c.self.invariant c.take_victim-slot.result c.take_victim-slot.ensures.victim c.renew-old.result.1 r.key in
     rw (← c.self.view_is) (record {
-      slot = d.at;
-      machine = d.fills;
-      indexes = entered-renewed g.met.K.Eq.laws c.self.invariant c.self.inside.directory.history.places c.args.key c.take_victim-slot.result (rw (← c.self.view_is) at c.requires.hash)
-          (victim-in g.met.K.Eq.laws c.self.invariant c.take_victim-slot.result c.take_victim-slot.ensures.victim) r.hash (ap (λ (z : Remembered _). z.places) r.index);
-      hasher = refl;
+      entered = record {
+        slot = d.at;
+        machine = d.fills;
+        indexes = entered-renewed g.met.K.Eq.laws c.self.invariant c.self.inside.directory.history.places c.args.key c.take_victim-slot.result (rw (← c.self.view_is) at c.requires.unknown.hashed)
+            (victim-in g.met.K.Eq.laws c.self.invariant c.take_victim-slot.result c.take_victim-slot.ensures.victim) r.hash (ap (λ (z : Remembered _). z.places) r.index);
+        hasher = refl;
+        counts = victim-spends g.met.K.Eq.laws c.self.invariant c.take_victim-slot.ensures.inspections
+            (omega (arith, taken, c.in-Some.ensures.accesses.0, appended.0, admitted.0), omega (arith, taken, c.in-Some.ensures.accesses.1, appended.1, admitted.1))
+            (rw (c.append.ensures.queues, c.in-Some.ensures.queues, c.take_victim-slot.ensures.queues) at c.admit.ensures.queues) r.index r.kept;
+      };
       left = noted g.F.FnOnce (moves ∙ leaver) c.leaves.ensures;
-      counts = victim-spends g.met.K.Eq.laws c.self.invariant c.take_victim-slot.ensures.inspections
-          (omega (arith, taken, c.in-Some.ensures.accesses.0, appended.0, admitted.0), omega (arith, taken, c.in-Some.ensures.accesses.1, appended.1, admitted.1))
-          (rw (c.append.ensures.queues, c.in-Some.ensures.queues, c.take_victim-slot.ensures.queues) at c.admit.ensures.queues) r.index r.kept;
     })

@@ -22,7 +22,7 @@ returns-clause-resident g c =
 pub returns-in_default-clause-known : goal.returns-in_default-clause-known
 returns-in_default-clause-known g c =
     let absent = no-slot c.lookup-found.result c.in_default.not-Resident ∙ c.lookup-found.ensures.slot in
-    rw (← absent) (rw (c.insert.ensures.slot, c.lookup-found.ensures.kept, c.hash-hash.ensures) at c.insert.ensures.known)
+    rw (← absent) (rw (c.insert.ensures.slot, c.lookup-found.ensures.kept) at c.insert.ensures.known)
 
 pub returns-clause-known : goal.returns-clause-known
 returns-clause-known g c =

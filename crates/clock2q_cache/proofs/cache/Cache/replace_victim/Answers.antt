@@ -22,7 +22,7 @@ done g c =
     let victim = c.reuse_victim-victim.ensures.victim in
     let below = (slot-below g.met.K.Eq.laws c.self.invariant c.reuse_victim-victim.result (victim-in g.met.K.Eq.laws c.self.invariant c.reuse_victim-victim.result victim)).2 in
     done-reindexed g.met.K.Eq.laws c.self.invariant (reindexed c.self.inside.directory.history c.renew-old.ensures.index refl)
-    (replaced-done g.met.K.Eq.laws c.self.invariant (rw (← c.self.view_is) at c.requires.hash) (rw (← c.self.view_is) at c.requires.absent)
+    (replaced-done g.met.K.Eq.laws c.self.invariant (rw (← c.self.view_is) at c.requires.unknown.hashed) (rw (← c.self.view_is) at c.requires.unknown.absent)
     (victim-in g.met.K.Eq.laws c.self.invariant c.reuse_victim-victim.result victim) c.renew-old.ensures.hash
     (slots-renewed c.self.inside.directory.history c.renew-old.result.0 c.args.hash c.renew-old.ensures.index below) c.renew-old.ensures.entries c.renew-old.ensures.kept victim (rw (← c.self.view_is) at c.requires.full) c.reuse_victim-victim.ensures.queues)
 
@@ -37,12 +37,14 @@ returns g c =
     let machine = m g.met.K.Eq.laws c.self.invariant in
     let leaver = victim-leaves g.met.K.Eq.laws c.self.invariant c.reuse_victim-victim.result c.reuse_victim-victim.ensures.victim c.renew-old.result.1 c.renew-old.ensures.key in
     rw (← c.self.view_is) (record {
-      slot = d.at;
-      machine = d.fills;
-      indexes = entered-renewed g.met.K.Eq.laws c.self.invariant c.self.inside.directory.history.places c.args.key c.reuse_victim-victim.result
-          (rw (← c.self.view_is) at c.requires.hash) there c.renew-old.ensures.hash (ap (λ (z : Remembered _). z.places) c.renew-old.ensures.index);
-      hasher = refl;
+      entered = record {
+        slot = d.at;
+        machine = d.fills;
+        indexes = entered-renewed g.met.K.Eq.laws c.self.invariant c.self.inside.directory.history.places c.args.key c.reuse_victim-victim.result
+            (rw (← c.self.view_is) at c.requires.unknown.hashed) there c.renew-old.ensures.hash (ap (λ (z : Remembered _). z.places) c.renew-old.ensures.index);
+        hasher = refl;
+        counts = victim-spends g.met.K.Eq.laws c.self.invariant c.reuse_victim-victim.ensures.inspections (omega (arith, looked), omega (arith, looked))
+            c.reuse_victim-victim.ensures.queues c.renew-old.ensures.index c.renew-old.ensures.kept;
+      };
       left = noted g.F.FnOnce (full-leaver machine (rw (← c.self.view_is) at c.requires.full) ∙ leaver) c.leaves.ensures;
-      counts = victim-spends g.met.K.Eq.laws c.self.invariant c.reuse_victim-victim.ensures.inspections (omega (arith, looked), omega (arith, looked))
-          c.reuse_victim-victim.ensures.queues c.renew-old.ensures.index c.renew-old.ensures.kept;
     })
