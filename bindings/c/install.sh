@@ -1,6 +1,6 @@
 #!/bin/sh
 # install.sh [PREFIX]: proves and builds the library, and installs it below PREFIX (/usr/local):
-#   include/clock2q.h, include/clock2q.hpp, include/pcache_clock2q.h
+#   include/clock2q.h, include/clock2q_bytes.h, include/clock2q.hpp, include/pcache_clock2q.h
 #   lib/libclock2q.a, lib/libclock2q.so, lib/pkgconfig/clock2q.pc, lib/cmake/clock2q
 #   lib/libclock2q_sqlite.so, if SQLite's header and library are there; else an earlier one is removed
 #   share/clock2q/pcache_clock2q.c
@@ -111,15 +111,15 @@ stop() {
     kill -"$1" $$
 }
 
-# Makes one object of the two archives and of memory.c, which takes the kit's calls of malloc, realloc and
-# free. Its other names are local then, so that none meets one of the caller's or of another library.
+# Makes one object of the two archives, of bytes.c and of memory.c, which takes the kit's calls of malloc,
+# realloc and free. Its other names are local then, so that none meets one of the caller's or of another library.
 make_libraries() {
     printf '%s\n' 'malloc memory_taken' 'realloc memory_resized' 'free memory_given_back' >renamed
     objcopy --redefine-syms=renamed "$proved" proved.a
     objcopy --redefine-syms=renamed "$kit" kit.a
     # shellcheck disable=SC2086 # CC may have options
-    $CC -std=c11 -O2 -Wall -Wextra -Werror -fPIC -I"$here" -c "$here/memory.c" -o memory.o
-    ld -r -o clock2q.o --whole-archive proved.a --no-whole-archive memory.o kit.a
+    $CC -std=c11 -O2 -DNDEBUG -Wall -Wextra -Werror -fPIC -I"$here" -c "$here/memory.c" "$here/bytes.c"
+    ld -r -o clock2q.o --whole-archive proved.a --no-whole-archive bytes.o memory.o kit.a
     objcopy --wildcard --keep-global-symbol='clock2q_*' clock2q.o
     ar rcs libclock2q.a clock2q.o
     echo "CLOCK2Q_${soname##*.} { global: clock2q_*; local: *; };" >exports
@@ -135,7 +135,7 @@ make_libraries() {
 
 install_all() {
     install -d "$to/include" "$to/lib/pkgconfig" "$to/lib/cmake/clock2q" "$to/share/clock2q"
-    install -m 644 "$here/clock2q.h" "$here/clock2q.hpp" "$bindings/sqlite/pcache_clock2q.h" "$to/include"
+    install -m 644 "$here/clock2q.h" "$here/clock2q_bytes.h" "$here/clock2q.hpp" "$bindings/sqlite/pcache_clock2q.h" "$to/include"
     install -m 644 libclock2q.a "$to/lib"
     install -m 755 "$soname" "$to/lib"
     ln -sf "$soname" "$to/lib/libclock2q.so"

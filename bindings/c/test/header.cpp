@@ -1,5 +1,15 @@
-// The header under C++.
-#include "clock2q.h"
+// The headers under C++.
+#include "clock2q_bytes.h"
+
+static bool has_bytes() {
+    clock2q_bytes cache = CLOCK2Q_BYTES_NONE;
+    if (clock2q_bytes_new(&cache, 2) != CLOCK2Q_DONE) return false;
+    clock2q_bytes_place place;
+    bool is_new = clock2q_bytes_enter(&cache, "seven", 5, &place) == CLOCK2Q_DONE && place.has_entered;
+    bool is_known = clock2q_bytes_find(&cache, "seven", 5).is_found && clock2q_bytes_len(&cache) == 1;
+    clock2q_bytes_free(&cache);
+    return is_new && is_known;
+}
 
 int main() {
     clock2q cache = CLOCK2Q_NONE;
@@ -10,5 +20,5 @@ int main() {
     clock2q_enter(&cache, 7, &place);
     bool is_known = clock2q_has(&place, 7) && clock2q_len(&cache) == 1;
     clock2q_free(&cache);
-    return is_new && is_known ? 0 : 1;
+    return is_new && is_known && has_bytes() ? 0 : 1;
 }

@@ -1,7 +1,7 @@
 /* Calls that need a cache when there is none, and one that makes a cache when there is one: the
  * header's assertions stop each, in a process of its own. */
 #define _POSIX_C_SOURCE 200809L
-#include "clock2q.h"
+#include "clock2q_bytes.h"
 
 #include <signal.h>
 #include <stdio.h>
@@ -10,6 +10,7 @@
 #include <unistd.h>
 
 static clock2q none, made;
+static clock2q_bytes no_bytes;
 static clock2q_place place;
 static size_t slot;
 
@@ -28,6 +29,8 @@ static void enter_nowhere(void) { clock2q_enter(&made, 7, NULL); }
 static void enter_key(void) { clock2q_enter_key(&none, 7); }
 static void find_key(void) { clock2q_find_key(&none, 7); }
 static void find_nowhere(void) { clock2q_find(&made, 7, NULL); }
+static void find_bytes(void) { clock2q_bytes_find(&no_bytes, "seven", 5); }
+static void release_bytes(void) { clock2q_bytes_release(no_bytes); }
 
 /* Whether the call ends its process by an assertion. */
 static bool is_stopped(void (*call)(void)) {
@@ -42,7 +45,7 @@ static bool is_stopped(void (*call)(void)) {
 }
 
 int main(void) {
-    static void (*const calls[])(void) = {make, make_with_policy, enter, find, at, contains, take_away, clear, len, capacity, release, enter_nowhere, enter_key, find_key, find_nowhere};
+    static void (*const calls[])(void) = {make, make_with_policy, enter, find, at, contains, take_away, clear, len, capacity, release, enter_nowhere, enter_key, find_key, find_nowhere, find_bytes, release_bytes};
     if (clock2q_new(&made, 2) != CLOCK2Q_DONE) return 1;
     int failed = 0;
     for (size_t i = 0; i < sizeof calls / sizeof *calls; i++) {
