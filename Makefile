@@ -19,10 +19,10 @@ export PREFIX INTO
 
 all: crates/clock2q_program/out/made crates/clock2q_simulator/out/made
 
-crates/clock2q_program/out/made: needs = some 26 minutes of processor time, 8 on a fast machine and up to 34 on a \
-	busy one, 2.8 GB of disk and 6 GB of memory
-crates/clock2q_simulator/out/made: needs = some 28 minutes of processor time and 3.8 GB of disk, or 8 minutes and \
-	1.9 GB once clock2q is built, less on a fast machine, and 6 GB of memory
+crates/clock2q_program/out/made: needs = some 36 minutes of processor time, 14 of the clock on four cores, \
+	3 GB of disk and 6 GB of memory
+crates/clock2q_simulator/out/made: needs = up to 44 minutes of processor time and 5 GB of disk, or 8 minutes and \
+	2 GB once clock2q is built, and 6 GB of memory
 
 crates/%/out/made: always
 	{ .bin/sources $* && cksum crates/$*/out/$*; } 2>/dev/null | cmp -s - $@ || \
