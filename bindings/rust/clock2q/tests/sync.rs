@@ -15,6 +15,18 @@ use std::time::{Duration, Instant};
 
 const THREADS: u64 = 4;
 
+/// Runs a closure in threads, and joins each: a thread sanitizer sees that, and not how a scope ends.
+fn in_threads(count: u64, work: impl Fn(u64) + Sync) {
+    thread::scope(|scope| {
+        let work = &work;
+        let start = |thread| scope.spawn(move || work(thread));
+        let started: Vec<_> = (0..count).map(start).collect();
+        for thread in started {
+            thread.join().expect("no panic");
+        }
+    });
+}
+
 /// Each thread has keys of its own, of which it knows the values stored last.
 fn calls_of_a_thread<S: BuildHasher>(cache: &Cache<u64, Arc<u64>, S>, thread: u64, calls: usize) {
     let mut draws = Draws(thread + 1);
@@ -61,13 +73,8 @@ fn agrees<S: BuildHasher + Default + Sync>() {
     let made: [(usize, usize); 5] = [(1, 1), (3, 2), (10, 16), (100, 7), (1000, 16)];
     for (capacity, shards) in made {
         let cache = Cache::with_shards_and_hasher(capacity, shards, S::default()).expect("a cache");
-        thread::scope(|scope| {
-            for thread in 0..THREADS {
-                let cache = &cache;
-                let calls = CALLS / (made.len() * THREADS as usize);
-                scope.spawn(move || calls_of_a_thread(cache, thread, calls));
-            }
-        });
+        let calls = CALLS / (made.len() * THREADS as usize);
+        in_threads(THREADS, |thread| calls_of_a_thread(&cache, thread, calls));
         assert!(cache.len() <= capacity);
     }
 }
@@ -119,7 +126,7 @@ fn one_thread_makes_a_value() {
         let cache = Cache::new(capacity).expect("a cache");
         let made = AtomicUsize::new(0);
         for round in 0..50 {
-            let ask = || {
+            let ask = |_| {
                 let value = cache.get_or_insert_with(round, || {
                     made.fetch_add(1, Ordering::Relaxed);
                     let begun = Instant::now();
@@ -132,11 +139,7 @@ fn one_thread_makes_a_value() {
                 assert_eq!(value, round * 10);
                 cache.insert(1_000_000, 0);
             };
-            thread::scope(|scope| {
-                for _ in 0..THREADS {
-                    scope.spawn(ask);
-                }
-            });
+            in_threads(THREADS, ask);
             assert_eq!(cache.contains_key(&round), capacity > 1);
         }
         assert_eq!(made.into_inner(), 50);
@@ -150,26 +153,22 @@ fn another_thread_makes_what_failed() {
     let cache = Cache::new(10).expect("a cache");
     let tries = AtomicUsize::new(0);
     let start = Barrier::new(8);
-    thread::scope(|scope| {
-        for _ in 0..8 {
-            scope.spawn(|| {
-                start.wait();
-                let made = catch_unwind(AssertUnwindSafe(|| {
-                    cache.try_get_or_insert_with("key", || {
-                        thread::sleep(Duration::from_millis(5));
-                        match tries.fetch_add(1, Ordering::Relaxed) {
-                            0 | 1 => Err("no value"),
-                            2 => std::panic::resume_unwind(Box::new("a panic")),
-                            number => Ok(number),
-                        }
-                    })
-                }));
-                match made {
-                    Ok(Ok(number)) => assert_eq!(number, 3),
-                    Ok(Err(error)) => assert_eq!(error, "no value"),
-                    Err(_) => {}
+    in_threads(8, |_| {
+        start.wait();
+        let made = catch_unwind(AssertUnwindSafe(|| {
+            cache.try_get_or_insert_with("key", || {
+                thread::sleep(Duration::from_millis(5));
+                match tries.fetch_add(1, Ordering::Relaxed) {
+                    0 | 1 => Err("no value"),
+                    2 => std::panic::resume_unwind(Box::new("a panic")),
+                    number => Ok(number),
                 }
-            });
+            })
+        }));
+        match made {
+            Ok(Ok(number)) => assert_eq!(number, 3),
+            Ok(Err(error)) => assert_eq!(error, "no value"),
+            Err(_) => {}
         }
     });
     assert_eq!(tries.into_inner(), 4);
