@@ -59,15 +59,21 @@ static double processor_time() {
     return static_cast<double>(time.tv_sec) * 1e9 + static_cast<double>(time.tv_nsec);
 }
 
-template <class Cache, class K> static void measure(std::size_t capacity, const std::vector<K> &keys) {
-    Cache cache(capacity);
+// Returns how many accesses hit. Its instructions are counted.
+template <class Cache, class K> [[gnu::noinline]] static std::size_t accesses(Cache &cache, const std::vector<K> &keys) {
     std::size_t hits = 0, number = 0;
-    double begun = processor_time();
     for (const K &key : keys) {
         number++;
         if (cache.get(key) != nullptr) hits++;
         else cache.put(key, number);
     }
+    return hits;
+}
+
+template <class Cache, class K> static void measure(std::size_t capacity, const std::vector<K> &keys) {
+    Cache cache(capacity);
+    double begun = processor_time();
+    std::size_t hits = accesses(cache, keys);
     double count = static_cast<double>(keys.size());
     std::printf("%.2f %.4f\n", (processor_time() - begun) / count, static_cast<double>(hits) / count);
 }

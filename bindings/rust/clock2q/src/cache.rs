@@ -206,8 +206,8 @@ impl<K: Hash + Eq, V, S: BuildHasher> Cache<K, V, S> {
         K: Borrow<Q>,
         Q: Hash + Eq + ?Sized,
     {
-        let slot = self.store.find(hash_of(&self.hasher, key), key)?;
-        self.store.entries.pair_mut(slot).map(|(_, value)| value)
+        let (_, (_, value)) = self.store.find_pair(hash_of(&self.hasher, key), key)?;
+        Some(value)
     }
 
     /// Returns the key that is here and its value, after a hit.
@@ -216,8 +216,8 @@ impl<K: Hash + Eq, V, S: BuildHasher> Cache<K, V, S> {
         K: Borrow<Q>,
         Q: Hash + Eq + ?Sized,
     {
-        let slot = self.store.find(hash_of(&self.hasher, key), key)?;
-        self.store.entries.pair(slot)
+        let (_, (key, value)) = self.store.find_pair(hash_of(&self.hasher, key), key)?;
+        Some((key, value))
     }
 
     /// Returns the value of a key. It records no hit.

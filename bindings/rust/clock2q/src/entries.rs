@@ -75,6 +75,17 @@ impl<K, V> Entries<K, V> {
         None
     }
 
+    /// Returns the slot of a key and its pair.
+    #[inline]
+    pub(crate) fn slot_and_pair<Q>(&mut self, hash: u64, key: &Q) -> Option<(usize, &mut (K, V))>
+    where
+        K: Borrow<Q>,
+        Q: Eq + ?Sized,
+    {
+        let slot = self.slot(hash, key)?;
+        Some((slot, &mut self.entries.get_mut(slot)?.as_mut()?.pair))
+    }
+
     /// Returns the last slot of those whose keys have a mark as this hash, if there are so many.
     #[cold]
     pub(crate) fn last_of_many(&self, hash: u64, many: usize) -> Option<usize> {
@@ -106,20 +117,26 @@ impl<K, V> Entries<K, V> {
     }
 
     /// Stores a pair at a slot, and returns the one that was there.
+    #[inline(always)]
     pub(crate) fn put(&mut self, slot: usize, hash: u64, key: K, value: V) -> Option<(K, V)> {
-        let before = self.take(slot);
         while self.entries.len() <= slot {
             self.entries.push(None);
         }
+        if let Some(left) = &self.entries[slot] {
+            let (mark, next) = (left.mark, left.next);
+            self.unlink(slot, mark, next);
+            self.len -= 1;
+        }
         let mark = mark(hash);
         let chain = self.chain(mark);
-        self.entries[slot] = Some(Entry {
+        let entry = Entry {
             mark,
             next: mem::replace(&mut self.heads[chain], slot as u32),
             pair: (key, value),
-        });
+        };
         self.len += 1;
-        before
+        let left = self.entries[slot].replace(entry)?;
+        Some(left.pair)
     }
 
     /// Removes the pair at a slot, and returns it.

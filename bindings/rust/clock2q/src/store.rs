@@ -128,15 +128,26 @@ impl<K: Eq, V> Store<K, V> {
         K: Borrow<Q>,
         Q: Eq + ?Sized,
     {
-        let slot = self.entries.slot(hash, key);
-        match slot {
-            Some(slot) => {
-                self.slots.hit(slot);
+        self.find_pair(hash, key).map(|(slot, _)| slot)
+    }
+
+    /// Returns the slot of a key and its pair, after a hit, and counts.
+    #[inline]
+    pub(crate) fn find_pair<Q>(&mut self, hash: u64, key: &Q) -> Option<(usize, &mut (K, V))>
+    where
+        K: Borrow<Q>,
+        Q: Eq + ?Sized,
+    {
+        // The pair is read before the library is called, since it is known then that there is one.
+        let found = self.entries.slot_and_pair(hash, key);
+        match found {
+            Some((slot, _)) => {
                 self.hits += 1;
+                self.slots.hit(slot);
             }
             None => self.misses += 1,
         }
-        slot
+        found
     }
 
     /// Stores a pair, after a hit if its key is here, and returns its slot and what was replaced or left.
