@@ -40,7 +40,8 @@ fn mark(hash: u64) -> NonZeroU32 {
 impl<K, V> Entries<K, V> {
     /// Makes room for a pair at each slot below the capacity.
     pub(crate) fn new(capacity: usize) -> Result<Entries<K, V>, Refused> {
-        let chains = capacity.next_power_of_two();
+        // Five for four pairs at least, so that few chains are longer than one.
+        let chains = (capacity + capacity / 4).next_power_of_two();
         let mut entries = Vec::new();
         let mut heads = Vec::new();
         entries
