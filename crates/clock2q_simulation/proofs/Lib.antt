@@ -2,6 +2,7 @@ mod Amounts
 mod FieldByField
 mod KeyBytes
 mod KnownKeys
+mod LruCurve
 mod Numbering
 mod RecordByRecord
 mod Replaying

@@ -3,6 +3,7 @@ pub mod ChosenShares
 pub mod Fields
 pub mod Formats
 pub mod KnownKeys
+pub mod LruCurve
 pub mod MachineHits
 pub mod Reading
 pub mod Rows

@@ -15,6 +15,7 @@ mod help;
 mod json_text;
 mod key_bytes;
 mod known_keys;
+mod lru_curve;
 mod options;
 mod outcome;
 mod pen;

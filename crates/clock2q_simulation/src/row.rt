@@ -1,7 +1,8 @@
 //! The result at one capacity.
-ghost use Rattle.std.specs.Prelude.{◌≡◌, ◌-◌, ◌≤◌, IfErr, IfOk, length, take};
+ghost use Rattle.std.specs.Prelude.{◌≡◌, ◌-◌, ◌≤◌, IfErr, IfOk, IfSome, length, take};
 ghost use Rattle.std.specs.NonZero.{non_zero_usize_get};
 ghost use Rattle.clock2q_policies.specs.Policies.{hit_count};
+ghost use Rattle.clock2q_simulation.specs.LruCurve.{lru_hits_after};
 ghost use Rattle.clock2q_simulation.specs.Rows.{AreHitsAfter, IsReplay, IsRow};
 ghost use Rattle.clock2q_simulation.specs.SimulationError.{IsOfNoDevice};
 
@@ -81,9 +82,27 @@ pub fn replay<A: Allocator + Copy>(
     ensures row { IfOk result (IsRow policies.now shares skipped trace.now.numbers (non_zero_usize_get capacity)) }
     ensures devices { IfErr result IsOfNoDevice }
 {
+    replay_with_lru(alloc, capacity, policies, shares, skipped, trace, None)
+}
+
+/// Does what [`replay`] does, without a replay in LRU if its hits after the skipped accesses are
+/// given.
+pub(crate) fn replay_with_lru<A: Allocator + Copy>(
+    alloc: A,
+    capacity: NonZeroUsize,
+    policies: &[Policy],
+    shares: Option<ChosenShares>,
+    skipped: usize,
+    trace: &Trace<A>,
+    lru: Option<usize>,
+) -> Result<Row<A>, SimulationError>
+    requires lru { IfSome lru (λ hits. hits ≡ lru_hits_after skipped trace.now.numbers (non_zero_usize_get capacity)) }
+    ensures row { IfOk result (IsRow policies.now shares skipped trace.now.numbers (non_zero_usize_get capacity)) }
+    ensures devices { IfErr result IsOfNoDevice }
+{
     let mut hits = Vec::new(alloc);
     for policy in policies {
-        hits.push(hits_with(alloc, *policy, capacity, shares, skipped, trace)?)
+        hits.push(hits_with(alloc, *policy, capacity, shares, skipped, trace, lru)?)
             .map_err(AllocError::from)?;
     }
     Ok(Row {
@@ -93,7 +112,7 @@ pub fn replay<A: Allocator + Copy>(
     })
 }
 
-/// Counts the hits with one policy after the skipped accesses.
+/// Counts the hits with one policy after the skipped accesses, unless it is LRU and they are given.
 fn hits_with<A: Allocator + Copy>(
     alloc: A,
     policy: Policy,
@@ -101,11 +120,16 @@ fn hits_with<A: Allocator + Copy>(
     shares: Option<ChosenShares>,
     skipped: usize,
     trace: &Trace<A>,
+    lru: Option<usize>,
 ) -> Result<Hits, SimulationError>
+    requires lru { IfSome lru (λ hits. hits ≡ lru_hits_after skipped trace.now.numbers (non_zero_usize_get capacity)) }
     ensures policy { IfOk result (λ h. h.policy ≡ policy) }
     ensures hits { IfOk result (λ h. AreHitsAfter skipped shares trace.now.numbers (non_zero_usize_get capacity) h.policy h.hits) }
     ensures devices { IfErr result IsOfNoDevice }
 {
+    if let (Policy::LeastRecentlyUsed, Some(hits)) = (policy, lru) {
+        return Ok(Hits { policy, hits });
+    }
     let accesses = trace.numbers().len();
     let replay = replay_with(alloc, policy, capacity, shares, trace)?;
     let first = skipped.min(accesses);

@@ -1,5 +1,5 @@
 //! The program's whole work: from traces to a text.
-ghost use Rattle.std.specs.Prelude.{◌≡◌, ◌≢◌, ◌<◌, ◌↔◌, IfOk, IfErr, IsErrOf, OnOk};
+ghost use Rattle.std.specs.Prelude.{◌≡◌, ◌≢◌, ◌<◌, ◌↔◌, IfOk, IfErr, IsErrOf, OnOk, map};
 ghost use Rattle.std.specs.NonZero.{non_zero_usize_get};
 ghost use Rattle.clock2q_simulation.specs.Amounts.{IsFor, keys_of};
 ghost use Rattle.clock2q_simulation.specs.Rows.{AreRows};
@@ -10,12 +10,13 @@ use crate::amount::Amount;
 use crate::csv_text::csv_text;
 use crate::error::SimulationError;
 use crate::json_text::json_text;
+use crate::lru_curve::lru_curve;
 use crate::options::{Format, Options};
 use crate::outcome::{Outcome, replay_source};
 use crate::picture::picture;
 use crate::policy::Policy;
 use crate::progress::Progress;
-use crate::row::{Row, replay};
+use crate::row::{Row, replay_with_lru};
 use crate::shares::ChosenShares;
 use crate::table_text::table_text;
 use crate::trace::Trace;
@@ -91,12 +92,13 @@ pub fn write_outcomes<W: Sink, A: Allocator + Copy>(
 ///
 /// # Errors
 ///
-/// Those of [`replay`]; `Capacity` also if a percentage of the different keys is more than
-/// `MAX_CAPACITY`; `Memory` also if there is no memory for the rows.
+/// Those of [`replay`](crate::replay); `Capacity` also if a percentage of the different keys is more
+/// than `MAX_CAPACITY`; `Memory` also if there is no memory for the rows.
 ///
 /// # Cost
 ///
-/// That of [`replay`] for each capacity.
+/// That of [`replay`](crate::replay) for each capacity; but LRU takes one pass for all capacities, by
+/// [`lru_hits_at`](clock2q_policies::lru_hits_at), if there are at least four.
 pub fn rows_of<P: Write, A: Allocator + Copy>(
     alloc: A,
     trace: &Trace<A>,
@@ -109,17 +111,40 @@ pub fn rows_of<P: Write, A: Allocator + Copy>(
     ensures rows { IfOk result (λ rows. AreRows policies.now shares skipped trace.now capacities.now rows.items) }
     ensures devices { IfErr result IsOfNoDevice }
 {
+    let rooms = rooms_of(alloc, trace, capacities)?;
+    let curve = lru_curve(alloc, policies, &rooms, skipped, trace)?;
     let mut rows = Vec::new(alloc);
-    for asked in capacities {
-        let capacity = keys_in(*asked, trace)?;
+    for index in 0..rooms.len() {
+        let capacity = rooms[index];
         progress.replay(trace.numbers().len(), capacity.get());
-        let row = replay(alloc, capacity, policies, shares, skipped, trace)?;
+        let lru = curve.get(index).copied();
+        let row = replay_with_lru(alloc, capacity, policies, shares, skipped, trace, lru)?;
         match rows.push(row) {
             Ok(()) => {}
             Err(_) => return Err(SimulationError::Memory),
         }
     }
     Ok(rows)
+}
+
+/// Returns the number of keys that each capacity is for a trace.
+fn rooms_of<A: Allocator + Copy>(
+    alloc: A,
+    trace: &Trace<A>,
+    capacities: &[Amount],
+) -> Result<Vec<NonZeroUsize, A>, SimulationError>
+    ensures keys { IfOk result (λ rooms. map non_zero_usize_get rooms.items ≡ map (λ amount. keys_of amount trace.now.different) capacities.now) }
+    ensures devices { IfErr result IsOfNoDevice }
+{
+    let mut rooms = Vec::new(alloc);
+    for asked in capacities {
+        let keys = keys_in(*asked, trace)?;
+        match rooms.push(keys) {
+            Ok(()) => {}
+            Err(_) => return Err(SimulationError::Memory),
+        }
+    }
+    Ok(rooms)
 }
 
 /// Returns the number of keys that a capacity is for a trace.

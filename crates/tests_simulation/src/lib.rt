@@ -17,6 +17,8 @@ mod lirs;
 #[cfg(test)]
 mod lru_2;
 #[cfg(test)]
+mod lru_curve;
+#[cfg(test)]
 mod numbers;
 #[cfg(test)]
 mod pictures;

@@ -2,12 +2,11 @@
 use Rattle.std.proofs.Common.{◌≡◌, map, take}
 use Rattle.std.specs.List.{All}
 use Rattle.std.specs.NonZero.{non_zero_usize_get}
-use Rattle.clock2q_simulation.specs.Amounts.{keys_of}
 use Rattle.clock2q_simulation.specs.Rows.{IsRow}
 use Rattle.clock2q_simulation.proofs.simulation.rows_of.Given as goal
 
-abbrev pub invariant-loop-asked : goal.invariant-loop-asked
-invariant-loop-asked g l = record {
-  capacities : map (λ row. non_zero_usize_get row.capacity) l.rows.items ≡ map (λ amount. keys_of amount l.fn.trace.different) (take l.asked-index l.capacities);
+abbrev pub invariant-loop-index : goal.invariant-loop-index
+invariant-loop-index g l = record {
+  capacities : map (λ row. non_zero_usize_get row.capacity) l.rows.items ≡ map non_zero_usize_get (take l.index l.rooms.items);
   each : All (λ row. IsRow l.fn.policies l.fn.shares l.fn.skipped l.fn.trace.numbers (non_zero_usize_get row.capacity) row) l.rows.items;
 }

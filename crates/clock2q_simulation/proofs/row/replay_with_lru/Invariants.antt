@@ -3,7 +3,7 @@ use Rattle.std.proofs.Common.{◌≡◌, map, take}
 use Rattle.std.specs.List.{All}
 use Rattle.std.specs.NonZero.{non_zero_usize_get}
 use Rattle.clock2q_simulation.specs.Rows.{AreHitsAfter}
-use Rattle.clock2q_simulation.proofs.row.replay.Given as goal
+use Rattle.clock2q_simulation.proofs.row.replay_with_lru.Given as goal
 
 abbrev pub invariant-loop-policy : goal.invariant-loop-policy
 invariant-loop-policy g l = record {
