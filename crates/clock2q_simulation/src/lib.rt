@@ -6,6 +6,7 @@ mod amount;
 mod axis;
 mod capacities;
 mod chart;
+mod chosen;
 mod clock;
 mod csv;
 mod csv_text;

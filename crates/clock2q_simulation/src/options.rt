@@ -6,12 +6,12 @@ ghost use Rattle.clock2q_simulation.specs.Amounts.{IsCapacity, asked_from, asked
 
 use crate::amount::Amount;
 use crate::capacities::capacities_of;
+use crate::chosen::{Chosen, Valued};
 use crate::error::{ArgumentError, SimulationError};
-use crate::format::{AskedFormat, TraceFormat};
+use crate::format::TraceFormat;
 use crate::policy::Policy;
 use crate::shares::ChosenShares;
-use clock2q_cache::MAX_CAPACITY;
-use std::alloc::{AllocError, Allocator};
+use std::alloc::Allocator;
 use std::num::NonZeroUsize;
 
 /// The form of the result.
@@ -115,40 +115,6 @@ fn is_capacity(argument: &str) -> bool
     0 < bytes.len() && bytes[0].is_ascii_digit()
 }
 
-/// An option that takes a value.
-#[derive(Clone, Copy, Debug, PartialEq, Eq)]
-enum Valued {
-    Policies,
-    Shares,
-    Skip,
-    Window,
-    Format,
-    Column,
-}
-
-impl Valued {
-    /// Returns the option with a name. The shares also have their former name.
-    fn named(name: &str) -> Option<Valued>
-        ensures named { is_some result ≡ takes_value name.now }
-    {
-        if name == "--policies" {
-            Some(Valued::Policies)
-        } else if name == "--shares" || name == "--policy" {
-            Some(Valued::Shares)
-        } else if name == "--skip" {
-            Some(Valued::Skip)
-        } else if name == "--window" {
-            Some(Valued::Window)
-        } else if name == "--format" {
-            Some(Valued::Format)
-        } else if name == "--column" {
-            Some(Valued::Column)
-        } else {
-            None
-        }
-    }
-}
-
 /// What the arguments so far ask for.
 #[derive(Drop)]
 struct Asked<A: Allocator> {
@@ -159,70 +125,6 @@ struct Asked<A: Allocator> {
     awaited: Option<Valued>,
 }
 
-/// What the options so far choose.
-#[derive(Drop)]
-struct Chosen<A: Allocator> {
-    format: Option<Format>,
-    policies: Option<Vec<Policy, A>>,
-    shares: Option<ChosenShares>,
-    skipped: Option<usize>,
-    window: Option<NonZeroUsize>,
-    trace_format: AskedFormat,
-}
-
-impl<A: Allocator> Chosen<A> {
-    /// Refuses an option that was given before.
-    fn refuse_second(&self, option: Valued, index: usize) -> Result<(), SimulationError> {
-        let is_repeated = match option {
-            Valued::Policies => self.policies.is_some(),
-            Valued::Shares => self.shares.is_some(),
-            Valued::Skip => self.skipped.is_some(),
-            Valued::Window => self.window.is_some(),
-            Valued::Format => self.trace_format.has_name(),
-            Valued::Column => self.trace_format.has_column(),
-        };
-        if is_repeated {
-            return Err(SimulationError::Argument(ArgumentError::RepeatedOption, index));
-        }
-        Ok(())
-    }
-}
-
-impl<A: Allocator + Copy> Chosen<A> {
-    /// Takes the value of an option.
-    fn take_value(
-        &mut self,
-        alloc: A,
-        option: Valued,
-        value: &str,
-        index: usize,
-    ) -> Result<(), SimulationError> {
-        match option {
-            Valued::Policies => self.policies = Some(policies_of(alloc, value, index)?),
-            Valued::Shares => self.shares = Some(shares_of(value, index)?),
-            Valued::Skip => self.skipped = Some(count_of(value, index)?),
-            Valued::Window => self.window = Some(length_of(value, index)?),
-            Valued::Format => self.trace_format.take_name(value, index)?,
-            Valued::Column => self.trace_format.take_column(value, index)?,
-        }
-        Ok(())
-    }
-
-    /// Takes an option that has no value.
-    fn take_flag(&mut self, option: &str, index: usize) -> Result<(), SimulationError> {
-        let Some(format) = format_of(option) else {
-            return Err(SimulationError::Argument(ArgumentError::UnknownOption, index));
-        };
-        match self.format.replace(format) {
-            None => Ok(()),
-            Some(earlier) if earlier == format => {
-                Err(SimulationError::Argument(ArgumentError::RepeatedOption, index))
-            }
-            Some(_) => Err(SimulationError::Argument(ArgumentError::SecondForm, index)),
-        }
-    }
-}
-
 impl<A: Allocator + Copy> Asked<A> {
     fn new(alloc: A) -> Asked<A>
         ensures capacities { result.capacities.items ≡ [] }
@@ -231,14 +133,7 @@ impl<A: Allocator + Copy> Asked<A> {
         Asked {
             capacities: Vec::new(alloc),
             traces: Vec::new(alloc),
-            chosen: Chosen {
-                format: None,
-                policies: None,
-                shares: None,
-                skipped: None,
-                window: None,
-                trace_format: AskedFormat::NONE,
-            },
+            chosen: Chosen::none(),
             awaited: None,
         }
     }
@@ -357,62 +252,5 @@ impl<A: Allocator + Copy> Asked<A> {
             window,
             trace_format,
         })
-    }
-}
-
-/// Returns the number of accesses that a value spells.
-fn count_of(value: &str, index: usize) -> Result<usize, SimulationError> {
-    match Amount::written(value).and_then(Amount::count) {
-        Some(count) => Ok(count),
-        None => Err(SimulationError::Argument(ArgumentError::NotCount, index)),
-    }
-}
-
-/// Returns the number of accesses, at least one, that a value spells.
-fn length_of(value: &str, index: usize) -> Result<NonZeroUsize, SimulationError> {
-    let count = Amount::written(value).and_then(Amount::count);
-    match count.and_then(NonZeroUsize::new) {
-        Some(length) => Ok(length),
-        None => Err(SimulationError::Argument(ArgumentError::NotLength, index)),
-    }
-}
-
-/// Returns the shares that a value spells.
-fn shares_of(value: &str, index: usize) -> Result<ChosenShares, SimulationError> {
-    let Some(shares) = ChosenShares::written(value) else {
-        return Err(SimulationError::Argument(ArgumentError::NotShares, index));
-    };
-    if !shares.fit(MAX_CAPACITY) {
-        return Err(SimulationError::Argument(ArgumentError::UnfitShares, index));
-    }
-    Ok(shares)
-}
-
-/// Returns the policies that a comma-separated list names.
-fn policies_of<A: Allocator>(
-    alloc: A,
-    names: &str,
-    index: usize,
-) -> Result<Vec<Policy, A>, SimulationError> {
-    let mut policies = Vec::new(alloc);
-    for name in names.split(',') {
-        let Some(policy) = Policy::named(name) else {
-            return Err(SimulationError::Argument(ArgumentError::UnknownPolicy, index));
-        };
-        if policies.contains(&policy) {
-            return Err(SimulationError::Argument(ArgumentError::RepeatedPolicy, index));
-        }
-        policies.push(policy).map_err(AllocError::from)?;
-    }
-    Ok(policies)
-}
-
-/// Returns the form that an option asks for.
-fn format_of(option: &str) -> Option<Format> {
-    match option {
-        "--csv" => Some(Format::Csv),
-        "--svg" => Some(Format::Svg),
-        "--json" => Some(Format::Json),
-        _ => None,
     }
 }
