@@ -1,4 +1,5 @@
 pub mod Amounts
+pub mod BestShares
 pub mod ChosenShares
 pub mod Fields
 pub mod Formats

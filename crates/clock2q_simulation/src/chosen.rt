@@ -55,6 +55,8 @@ pub(crate) struct Chosen<A: Allocator> {
     pub(crate) skipped: Option<usize>,
     pub(crate) window: Option<NonZeroUsize>,
     pub(crate) trace_format: AskedFormat,
+    /// The index of the argument that asks for the best shares.
+    pub(crate) best_shares: Option<usize>,
 }
 
 impl<A: Allocator> Chosen<A> {
@@ -67,6 +69,7 @@ impl<A: Allocator> Chosen<A> {
             skipped: None,
             window: None,
             trace_format: AskedFormat::NONE,
+            best_shares: None,
         }
     }
 
@@ -113,6 +116,9 @@ impl<A: Allocator + Copy> Chosen<A> {
 
     /// Takes an option that has no value.
     pub(crate) fn take_flag(&mut self, option: &str, index: usize) -> Result<(), SimulationError> {
+        if option == "--best-shares" {
+            return self.take_best_shares(index);
+        }
         let Some(format) = format_of(option) else {
             return Err(SimulationError::Argument(ArgumentError::UnknownOption, index));
         };
@@ -122,6 +128,31 @@ impl<A: Allocator + Copy> Chosen<A> {
                 Err(SimulationError::Argument(ArgumentError::RepeatedOption, index))
             }
             Some(_) => Err(SimulationError::Argument(ArgumentError::SecondForm, index)),
+        }
+    }
+
+    /// Takes the option that asks for the best shares.
+    fn take_best_shares(&mut self, index: usize) -> Result<(), SimulationError> {
+        match self.best_shares.replace(index) {
+            None => Ok(()),
+            Some(_) => Err(SimulationError::Argument(ArgumentError::RepeatedOption, index)),
+        }
+    }
+
+    /// Refuses the best shares beside an option that leaves them no room.
+    pub(crate) fn check_best_shares(&self) -> Result<(), SimulationError> {
+        let Some(index) = self.best_shares else {
+            return Ok(());
+        };
+        let is_svg = self.format == Some(Format::Svg);
+        if is_svg || self.shares.is_some() || self.window.is_some() {
+            return Err(SimulationError::Argument(ArgumentError::CrowdedShares, index));
+        }
+        match &self.policies {
+            Some(policies) if !policies.contains(&Policy::Clock2Q) => {
+                Err(SimulationError::Argument(ArgumentError::BestOfNone, index))
+            }
+            _ => Ok(()),
         }
     }
 }

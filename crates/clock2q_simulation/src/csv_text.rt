@@ -1,5 +1,6 @@
 //! The results of traces as CSV.
 
+use crate::best_shares::BestShares;
 use crate::options::Options;
 use crate::outcome::Outcome;
 use crate::row::Row;
@@ -37,6 +38,9 @@ fn write_names<A: Allocator>(
         let name = policy.name();
         write!(text, ",{name}_hits,{name}_ratio")?;
     }
+    if options.best_shares {
+        text.push_str(",best_hits,best_ratio,best_shares")?;
+    }
     if has_names {
         text.push_str(",trace")?;
     }
@@ -53,8 +57,8 @@ fn write_rows<A: Allocator>(
     if !outcome.windows.is_empty() {
         return write_all_windows(text, &outcome.windows, name);
     }
-    for row in outcome.rows.iter() {
-        write_row(text, row, None, name)?;
+    for (index, row) in outcome.rows.iter().enumerate() {
+        write_row(text, row, None, outcome.best_shares.get(index), name)?;
     }
     Ok(())
 }
@@ -76,16 +80,18 @@ fn write_windows<A: Allocator>(
     name: Option<&str>,
 ) -> Result<(), AllocError> {
     for window in windows.windows.iter() {
-        write_row(text, &window.row, Some(window.first), name)?;
+        write_row(text, &window.row, Some(window.first), None, name)?;
     }
     Ok(())
 }
 
-/// Writes a row, with the first access of its window and the name of its trace if they are given.
+/// Writes a row, with the first access of its window, the best shares and the name of its trace if
+/// they are given.
 fn write_row<A: Allocator>(
     text: &mut String<A>,
     row: &Row<A>,
     first: Option<usize>,
+    best: Option<&BestShares>,
     name: Option<&str>,
 ) -> Result<(), AllocError> {
     let capacity = row.capacity.get();
@@ -94,6 +100,12 @@ fn write_row<A: Allocator>(
         write!(text, ",{first}")?;
     }
     write_ratios(text, row)?;
+    if let Some(best) = best {
+        let ratio = row.ratio(best.hits);
+        write!(text, ",{},{ratio:.4},\"", best.hits)?;
+        best.write(text)?;
+        text.push('"')?;
+    }
     if let Some(name) = name {
         write_quoted(text, name)?;
     }

@@ -72,6 +72,12 @@ pub enum ArgumentError {
     /// It asks for a column, and no argument for the format csv.
     #[error("a column of keys, which only --format=csv has")]
     UnusedColumn,
+    /// It asks for the best shares, and another argument for shares, windows or a picture.
+    #[error("not with --shares, --window or --svg")]
+    CrowdedShares,
+    /// It asks for the best shares of Clock2Q+, which isn't among the policies.
+    #[error("shares of clock2q, which --policies leaves out")]
+    BestOfNone,
     /// It needs an argument after it.
     #[error("nothing after it")]
     NoValue,

@@ -20,6 +20,7 @@ range such as 10..1k or 0.1%..50% adds 20, 50, 100 and so on between its ends.
   --column=N        takes the keys of csv from this column, 1 for the first
   --shares=SHARES   gives Clock2Q+ other shares than small=10%,window=50%: the
                     small queue's of the capacity and the window's of the queue
+  --best-shares     prints the shares that hit most of 18 tried, and their gain
   --skip=COUNT      counts no hits in this many accesses at a trace's beginning
   --window=COUNT    counts the hits of each COUNT accesses, in rows or a picture
   -h, --help        prints this text

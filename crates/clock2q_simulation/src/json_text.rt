@@ -1,5 +1,6 @@
 //! The results of traces as JSON.
 
+use crate::best_shares::BestShares;
 use crate::options::Options;
 use crate::outcome::Outcome;
 use crate::row::{Hits, Row};
@@ -45,6 +46,9 @@ fn write_outcome<A: Allocator>(
         let capacity = row.capacity.get();
         write!(text, "    {{\"capacity\": {capacity}, ")?;
         write_policies(text, row)?;
+        if let Some(best) = outcome.best_shares.get(index) {
+            write_best_shares(text, row, best)?;
+        }
         if let Some(windows) = outcome.windows.get(index) {
             write_windows(text, windows)?;
         }
@@ -61,6 +65,18 @@ fn write_policies<A: Allocator>(text: &mut String<A>, row: &Row<A>) -> Result<()
         write_hits(text, *hits, row.ratio(hits.hits))?;
     }
     text.push('}')
+}
+
+/// Writes the best shares of a row, with their hits and hit ratio.
+fn write_best_shares<A: Allocator>(
+    text: &mut String<A>,
+    row: &Row<A>,
+    best: &BestShares,
+) -> Result<(), AllocError> {
+    text.push_str(", \"best_shares\": {\"shares\": \"")?;
+    best.write(text)?;
+    let ratio = row.ratio(best.hits);
+    write!(text, "\", \"hits\": {}, \"ratio\": {ratio:.4}}}", best.hits)
 }
 
 /// Writes the windows of a row.

@@ -4,6 +4,7 @@
 
 mod amount;
 mod axis;
+mod best_shares;
 mod capacities;
 mod chart;
 mod chosen;
@@ -34,6 +35,7 @@ mod trace;
 mod window;
 
 pub use amount::{Amount, Unit};
+pub use best_shares::{BestShares, TRIED_SHARES, all_best_shares_of, best_shares_of};
 pub use clock::{clock_outcomes, clock2q_outcomes};
 pub use error::{ArgumentError, ErrorReport, SimulationError};
 pub use format::TraceFormat;

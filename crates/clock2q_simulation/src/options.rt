@@ -62,6 +62,8 @@ pub struct Options<A: Allocator> {
     pub window: Option<NonZeroUsize>,
     /// How the traces are written.
     pub trace_format: TraceFormat,
+    /// True if the shares that hit most are asked for.
+    pub best_shares: bool,
 }
 
 /// Parses arguments: capacities and ranges of them, names of traces, at most one option that asks
@@ -217,6 +219,7 @@ impl<A: Allocator + Copy> Asked<A> {
             chosen,
             awaited: _,
         } = self;
+        chosen.check_best_shares()?;
         let Chosen {
             format,
             policies,
@@ -224,6 +227,7 @@ impl<A: Allocator + Copy> Asked<A> {
             skipped,
             window,
             trace_format,
+            best_shares,
         } = chosen;
         let trace_format = trace_format.finish()?;
         if capacities.is_empty() {
@@ -251,6 +255,7 @@ impl<A: Allocator + Copy> Asked<A> {
             skipped: skipped.unwrap_or(0),
             window,
             trace_format,
+            best_shares: best_shares.is_some(),
         })
     }
 }

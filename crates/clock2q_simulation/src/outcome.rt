@@ -1,7 +1,10 @@
 //! The result of one trace.
 ghost use Rattle.std.specs.Prelude.{◌<◌, ◌↔◌, ◌≢◌, IfErr, IfOk, IsErrOf};
+ghost use Rattle.clock2q_simulation.specs.BestShares.{AreAskedBest};
 ghost use Rattle.clock2q_simulation.specs.Simulated.{IsReplayed};
+ghost use Rattle.clock2q_simulation.specs.SimulationError.{IsOfNoDevice};
 
+use crate::best_shares::{BestShares, TRIED_SHARES, all_best_shares_of};
 use crate::error::SimulationError;
 use crate::options::Options;
 use crate::progress::Progress;
@@ -9,6 +12,7 @@ use crate::reading::read_trace;
 use crate::row::Row;
 use crate::simulation::rows_of;
 use crate::summary::{Summary, summary_of};
+use crate::trace::Trace;
 use crate::window::{Windows, all_windows_of};
 use clock2q_ports::Source;
 use std::alloc::Allocator;
@@ -33,6 +37,8 @@ pub struct Outcome<'a, A: Allocator> {
     pub rows: Vec<Row<A>, A>,
     /// The windows at each capacity, if they are asked for.
     pub windows: Vec<Windows<A>, A>,
+    /// The best shares at each capacity, if they are asked for.
+    pub best_shares: Vec<BestShares, A>,
 }
 
 /// Reads a trace and replays it in caches of each capacity. The result doesn't depend on the
@@ -40,11 +46,13 @@ pub struct Outcome<'a, A: Allocator> {
 ///
 /// # Errors
 ///
-/// Those of [`read_trace`], then those of [`rows_of`] and of [`all_windows_of`].
+/// Those of [`read_trace`], then those of [`rows_of`], of [`all_windows_of`] and of
+/// [`all_best_shares_of`].
 ///
 /// # Cost
 ///
-/// That of [`read_trace`], [`rows_of`] and [`all_windows_of`]. The trace stays in memory until the call returns.
+/// That of [`read_trace`], [`rows_of`], [`all_windows_of`] and [`all_best_shares_of`]. The trace
+/// stays in memory until the call returns.
 pub fn replay_source<'a, R: Source, P: Write, S: BuildHasher + Drop, A: Allocator + Copy>(
     alloc: A,
     options: &Options<A>,
@@ -54,7 +62,8 @@ pub fn replay_source<'a, R: Source, P: Write, S: BuildHasher + Drop, A: Allocato
     progress: &mut Progress<P>,
 ) -> Result<Outcome<'a, A>, SimulationError>
     ensures ok { IfOk result (λ outcome. IsReplayed (R.given reader.old) (R.given reader.new) (R.remaining reader.old) (R.remaining reader.new) options.now.trace_format
-        options.now.policies.items options.now.shares options.now.skipped options.now.window options.now.capacities.items outcome.rows.items outcome.windows.items) }
+        options.now.policies.items options.now.shares options.now.skipped options.now.window options.now.best_shares TRIED_SHARES options.now.capacities.items
+        outcome.rows.items outcome.windows.items outcome.best_shares.items) }
 
     // A failed source is always reported as `Read`, and nothing else is.
     ensures read { ((R.given reader.old).failures < (R.given reader.new).failures) ↔ IsErrOf result SimulationError.Read }
@@ -86,10 +95,28 @@ pub fn replay_source<'a, R: Source, P: Write, S: BuildHasher + Drop, A: Allocato
         }
         None => Vec::new(alloc),
     };
+    let best_shares = asked_best_shares(alloc, options, &rows, &trace)?;
     Ok(Outcome {
         name,
         summary,
         rows,
         windows,
+        best_shares,
     })
+}
+
+/// Returns the best shares at the capacity of each row, if they are asked for.
+fn asked_best_shares<A: Allocator + Copy>(
+    alloc: A,
+    options: &Options<A>,
+    rows: &[Row<A>],
+    trace: &Trace<A>,
+) -> Result<Vec<BestShares, A>, SimulationError>
+    ensures best { IfOk result (λ all. AreAskedBest TRIED_SHARES options.now.skipped trace.now.numbers options.now.best_shares rows.now all.items) }
+    ensures devices { IfErr result IsOfNoDevice }
+{
+    if !options.best_shares {
+        return Ok(Vec::new(alloc));
+    }
+    all_best_shares_of(alloc, rows, &TRIED_SHARES, options.skipped, trace)
 }

@@ -113,7 +113,7 @@ pub(crate) fn replay_with_lru<A: Allocator + Copy>(
 }
 
 /// Counts the hits with one policy after the skipped accesses, unless it is LRU and they are given.
-fn hits_with<A: Allocator + Copy>(
+pub(crate) fn hits_with<A: Allocator + Copy>(
     alloc: A,
     policy: Policy,
     capacity: NonZeroUsize,

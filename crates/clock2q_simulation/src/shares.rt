@@ -7,6 +7,7 @@ ghost use Rattle.clock2q_simulation.specs.ChosenShares.{Fits, shares_for, small_
 
 use crate::amount::{Amount, Unit};
 use crate::error::SimulationError;
+use std::fmt;
 
 /// Shares for caches of any capacity: how large Small is, and how long a key is young.
 ///
@@ -88,6 +89,12 @@ impl ChosenShares {
             }
         }
         Ok(())
+    }
+}
+
+impl fmt::Display for ChosenShares {
+    fn fmt<W: fmt::Write>(&self, f: &mut fmt::Formatter<W>) -> fmt::Result {
+        write!(f, "small={},window={}", self.small, self.window)
     }
 }
 

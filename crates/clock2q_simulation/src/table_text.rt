@@ -1,5 +1,6 @@
 //! The results of traces as a table.
 
+use crate::best_shares::BestShares;
 use crate::options::Options;
 use crate::outcome::Outcome;
 use crate::policy::Policy;
@@ -72,6 +73,12 @@ fn write_headings<A: Allocator>(
     for policy in options.policies.iter() {
         write!(text, "{:>9}", policy.heading())?;
     }
+    if options.best_shares {
+        write!(text, "{:>9}{:>9}  shares", "best", "gain")?;
+    }
+    if options.best_shares && has_names {
+        write!(text, "{:15}", "")?;
+    }
     if has_names {
         text.push_str("  trace")?;
     }
@@ -88,8 +95,8 @@ fn write_rows<A: Allocator>(
     if !outcome.windows.is_empty() {
         return write_all_windows(text, &outcome.windows, name);
     }
-    for row in outcome.rows.iter() {
-        write_row(text, row, None, name)?;
+    for (index, row) in outcome.rows.iter().enumerate() {
+        write_row(text, row, None, outcome.best_shares.get(index), name)?;
     }
     Ok(())
 }
@@ -111,16 +118,18 @@ fn write_windows<A: Allocator>(
     name: Option<&str>,
 ) -> Result<(), AllocError> {
     for window in windows.windows.iter() {
-        write_row(text, &window.row, Some(window.first), name)?;
+        write_row(text, &window.row, Some(window.first), None, name)?;
     }
     Ok(())
 }
 
-/// Writes a row, with the first access of its window and the name of its trace if they are given.
+/// Writes a row, with the first access of its window, the best shares and the name of its trace if
+/// they are given.
 fn write_row<A: Allocator>(
     text: &mut String<A>,
     row: &Row<A>,
     first: Option<usize>,
+    best: Option<&BestShares>,
     name: Option<&str>,
 ) -> Result<(), AllocError> {
     let capacity = row.capacity.get();
@@ -129,6 +138,10 @@ fn write_row<A: Allocator>(
         write!(text, "{first:>11}")?;
     }
     write_percents(text, row)?;
+    if let Some(best) = best {
+        let width = if name.is_some() { 21 } else { 0 };
+        write_best_shares(text, row, best, width)?;
+    }
     if let Some(name) = name {
         write!(text, "  {name}")?;
     }
@@ -158,6 +171,24 @@ fn write_best<A: Allocator>(text: &mut String<A>, percent: f64) -> Result<(), Al
         "    "
     };
     write!(text, "{spaces}*{percent:.2}")
+}
+
+/// Writes the most hits of Clock2Q+, what they gain, and their shares in a column of some width.
+fn write_best_shares<A: Allocator>(
+    text: &mut String<A>,
+    row: &Row<A>,
+    best: &BestShares,
+    width: usize,
+) -> Result<(), AllocError> {
+    let percent = row.ratio(best.hits) * 100.0;
+    let gain = row.ratio(best.hits.saturating_sub(best.usual)) * 100.0;
+    write!(text, "{percent:>9.2}{gain:>9.2}  ")?;
+    let start = text.len();
+    best.write(text)?;
+    for _ in text.len().saturating_sub(start)..width {
+        text.push(' ')?;
+    }
+    Ok(())
 }
 
 /// Returns the most hits of the policies other than the optimum, if there are several of them and

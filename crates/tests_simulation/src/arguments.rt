@@ -110,7 +110,7 @@ fn refused_capacities(rt: HostRuntime) -> Result<(), Fail> {
 }
 
 /// Arguments with an option that is refused, and the message.
-const REFUSED_OPTIONS: [(&str, &str); 33] = [
+const REFUSED_OPTIONS: [(&str, &str); 39] = [
     ("", "no capacity (see --help)"),
     ("--csv", "no capacity (see --help)"),
     ("--csv --svg 5", "--svg: a second form beside another one"),
@@ -138,6 +138,27 @@ const REFUSED_OPTIONS: [(&str, &str); 33] = [
     (
         "5 --skip 1.5k",
         "1.5k: not a number of accesses (as 100000, 100k or 1M)",
+    ),
+    (
+        "5 --best-shares --best-shares",
+        "--best-shares: option given twice",
+    ),
+    ("5 --best-shares=18", "--best-shares=18: unknown option"),
+    (
+        "--best-shares 5 --window 2",
+        "--best-shares: not with --shares, --window or --svg",
+    ),
+    (
+        "5 --svg --best-shares",
+        "--best-shares: not with --shares, --window or --svg",
+    ),
+    (
+        "5 --shares small=1,window=1 --best-shares",
+        "--best-shares: not with --shares, --window or --svg",
+    ),
+    (
+        "5 --best-shares --policies lru,opt",
+        "--best-shares: shares of clock2q, which --policies leaves out",
     ),
     ("5 --format", "--format: nothing after it"),
     (

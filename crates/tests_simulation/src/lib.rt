@@ -7,6 +7,8 @@ mod arc;
 #[cfg(test)]
 mod arguments;
 #[cfg(test)]
+mod best_shares;
+#[cfg(test)]
 mod devices;
 #[cfg(test)]
 mod formats;

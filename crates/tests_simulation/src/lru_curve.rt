@@ -11,7 +11,7 @@ const KEYS: u32 = 40;
 const ACCESSES: u32 = 900;
 
 /// Returns a trace with a key for each number.
-fn trace_with(alloc: Global, numbers: &[u32]) -> Result<Trace<Global>, Fail> {
+pub(crate) fn trace_with(alloc: Global, numbers: &[u32]) -> Result<Trace<Global>, Fail> {
     let mut growing = GrowingTrace::new(alloc);
     for number in numbers {
         growing.push(&number.to_le_bytes())?;

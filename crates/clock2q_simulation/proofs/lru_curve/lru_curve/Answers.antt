@@ -1,4 +1,4 @@
-use Rattle.std.proofs.Common.{◌≡◌, ◌∙◌, ap, map, take, min, length, sym}
+use Rattle.std.proofs.Common.{◌≡◌, ◌∙◌, ap, map, take}
 use Rattle.std.specs.NonZero.{non_zero_usize_get}
 use Rattle.std.proofs.lemmas.List.{take_min}
 use Rattle.clock2q_policies.specs.declared.plain.PlainPolicy.TheVariants.{LeastRecentlyUsed}
