@@ -52,20 +52,27 @@ before anything is printed.
 
 /// The help text on the policies.
 pub const POLICIES_HELP: &str = "\
-The policies, for --policies. The first five are the default.
+The policies, for --policies, with the titles and years of their papers. The
+first five are the default.
 
   clock2q    Clock2Q+: a small queue, a main ring, and a history of evicted keys
-  sieve      SIEVE (2024)
-  s3fifo     S3-FIFO (2023)
+  sieve      SIEVE is Simpler than LRU: an Efficient Turn-Key Eviction Algorithm
+             for Web Caches (2024)
+  s3fifo     FIFO Queues are All You Need for Cache Eviction (2023); a full main
+             queue evicts before a key moves there
   lru        LRU: evicts the key that was used least recently
   opt        the most hits of any policy that keeps each key that it misses
   fifo       FIFO: evicts the key that was admitted first
-  clock      CLOCK (1968)
-  arc        ARC (2003)
-  2q         2Q (1994), the full version
-  lirs       LIRS (2002)
-  lru2       LRU-2 (1993)
-  wtinylfu   W-TinyLFU (2017)
+  clock      A Paging Experiment with the Multics System (1968)
+  arc        ARC: A Self-Tuning, Low Overhead Replacement Cache (2003)
+  2q         2Q: A Low Overhead High Performance Buffer Management Replacement
+             Algorithm (1994), the full version
+  lirs       LIRS: An Efficient Low Inter-reference Recency Set Replacement
+             Policy to Improve Buffer Cache Performance (2002)
+  lru2       The LRU-K Page Replacement Algorithm for Database Disk Buffering
+             (1993), with K = 2
+  wtinylfu   TinyLFU: A Highly Efficient Cache Admission Policy (2017), with a
+             window of a hundredth
 
     ./clock2q-simulate --policies=clock2q,lru 1%..50% trace
 ";
