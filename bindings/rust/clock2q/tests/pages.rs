@@ -26,7 +26,11 @@ fn slots_are_shared_out() {
                 continue;
             }
             let count = pages.len();
-            let Place { slot, last, evicted } = pages.enter(key);
+            let Place {
+                slot,
+                last,
+                evicted,
+            } = pages.enter(key);
             assert!(found.is_none() || found == Some(slot));
             assert_eq!(last, entered[slot]);
             let is_full = found.is_none() && pages.len() == count;
