@@ -3,6 +3,7 @@
 use crate::lru_curve::trace_with;
 use crate::queues::trace_of;
 use crate::texts::written;
+use clock2q_cache::MAX_CAPACITY;
 use clock2q_simulation::{ChosenShares, Policy, TRIED_SHARES, Trace, best_shares_of, replay};
 use std::alloc::Global;
 use std::num::NonZeroUsize;
@@ -30,7 +31,7 @@ fn most_of(
 ) -> Result<usize, Fail> {
     let mut most = 0;
     for shares in TRIED_SHARES {
-        if shares.fit(capacity.get()) {
+        if capacity.get() <= MAX_CAPACITY && shares.fit(capacity.get()) {
             most = most.max(hits_of(alloc, capacity, Some(shares), skipped, trace)?);
         }
     }
