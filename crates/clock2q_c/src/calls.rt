@@ -1,7 +1,7 @@
 //! The calls that find, give and free a key's slot.
 ghost use Rattle.clock2q_c.specs.Handle.{machine_in};
 ghost use Rattle.clock2q_cache.specs.Costs.{Costs};
-ghost use Rattle.clock2q_machine.specs.Calls.{Clear, Get, GetAt, Put, Remove};
+ghost use Rattle.clock2q_machine.specs.Calls.{Clear, Get, GetAt, Put, Remove, SlotFor};
 ghost use Rattle.clock2q_machine.specs.Leaving.{leaver};
 ghost use Rattle.clock2q_machine.specs.Machine.{cleared, hit, removed};
 ghost use Rattle.clock2q_machine.specs.Steps.{hit_at, put};
@@ -43,7 +43,7 @@ pub struct Found {
 ///
 /// # Cost
 ///
-/// That of `Cache::put`.
+/// That of `Cache::get_or_insert_mut`.
 #[unsafe(no_mangle)]
 pub extern "C" fn clock2q_enter_key(handle: &mut Handle, key: usize) -> Place
     requires { IsSome handle.old.cache }
@@ -53,7 +53,7 @@ pub extern "C" fn clock2q_enter_key(handle: &mut Handle, key: usize) -> Place
     ensures evicted { IfSome (machine_in handle.old.cache) (λ m. leaver eqb (Put key (Some key)) m ≡ (if result.evicted then Some (result.last, result.slot) else None)) }
     ensures within { IfSome (machine_in handle.old.cache) (λ m. result.slot < m.shares.capacity) }
     ensures machine { machine_in handle.new.cache ≡ option_map (put (eqb key) key (Some key)) (machine_in handle.old.cache) }
-    ensures costs { IfSome handle.old.cache (λ o. IfSome handle.new.cache (λ n. Costs ⟦<usize as Hash>⟧ ⟦<DefaultHashBuilder as BuildHasher>⟧ ⟦<FoldHasher as Hasher>⟧ (Put key (Some key)) o.cache n.cache)) }
+    ensures costs { IfSome handle.old.cache (λ o. IfSome handle.new.cache (λ n. Costs ⟦<usize as Hash>⟧ ⟦<DefaultHashBuilder as BuildHasher>⟧ ⟦<FoldHasher as Hasher>⟧ (SlotFor key (Some key)) o.cache n.cache)) }
     ensures holds { IsSome handle.new.cache }
 {
     let held = handle.held();

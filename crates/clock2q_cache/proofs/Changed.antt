@@ -4,7 +4,7 @@ use Rattle.std.proofs.Common.{◌≡◌, ℕ, zero, suc, ◌<◌, ◌==◌, Bool
 use Rattle.clock2q_cache.proofs.Names.{nat_le, is_some, slice_set, IsEquivalence, filter, list_any, AllByRecursion, cases_Bool, both_ways, Entry, below-more, KeyPlaces, entry, written, hash_at, key_at, with_value, IsIndex, HasHash, no_entries, QueueState, slots_of, Remembered, most_beside, slice_get-written, slice_get-written_other, length-written, set-written, all-written, values-written, length-values, IsIndex-cleared, length-cleared, IsIndex-kept, Shares, Machine, stored, empty, vacancy, goes_to_main, IsWhole, machine_of, places_of, IsStored, IsSized, IsKept, some_is, whole-forgotten, all_resident, small_share, whole-changed, lasting-empty, All-from_recursion, recursion_from_All, All-filter, slice_get_some}
 use Rattle.std.proofs.lemmas.Bool.{le-leb}
 use Rattle.clock2q_queues.proofs.Booleans.{or_false}
-use Rattle.clock2q_directory.specs.History.{forgotten}
+use Rattle.clock2q_directory.specs.History.{forgotten, places_looked_up}
 use Rattle.clock2q_machine.specs.Machine as cache
 use Rattle.clock2q_cache.proofs.WithKeys.{small_with, main_with, keys-agree}
 use Rattle.clock2q_cache.proofs.CacheInvariant.{sized-same}
@@ -78,6 +78,18 @@ module _ {K V : Type 0} {eq : K → K → Bool} {hash : K → ℕ} {shares : Sha
     hashed = kept.hashed;
     sized = sized-same kept.sized refl refl refl refl refl keys_room refl;
   }
+
+  -- a hash was looked up, and keys were compared
+  pub kept-looked : (x : ℕ) (h' : Remembered K) (keys' : KeyPlaces K V) → h' ≡ record h { places = places_looked_up x h.places; questions = h'.questions } → keys'.entries ≡ keys.entries
+      → keys'.room ≡ keys.room → IsKept eq hash shares q h' index keys' free room
+  kept-looked x h' keys' same entries keys_room =
+      let remembered = ap (λ (z : Remembered K). z.entries) same in
+      record {
+        whole = subst (λ z. IsWhole eq (machine_of shares q z h'.entries free)) (sym entries) (subst (λ z. IsWhole eq (machine_of shares q keys.entries z free)) (sym remembered) kept.whole);
+        stored = subst (λ z. IsStored hash index z (places_of q)) (sym entries) kept.stored;
+        hashed = subst (λ z. AllByRecursion (λ e. e.0 ≡ hash e.1) z) (sym remembered) kept.hashed;
+        sized = sized-same kept.sized refl refl (ap (λ (z : Remembered K). z.limit) same) (ap (λ (z : Remembered K). most_beside z) same) refl keys_room refl;
+      }
 
   -- the key's history is erased
   module _ (key : K) (h' : Remembered K) (entries : h'.entries ≡ forgotten eq key h.entries) where

@@ -2,17 +2,17 @@
 use Rattle.std.proofs.Common.{◌≡◌, ℕ, ◌+◌, ◌*◌, ◌≤◌, ◌==◌, ◌||◌, ◌&&◌, Bool, true, false, not, Option, Some, None, List, [], ◌∷◌, length, inl, inr, refl, sym, ap, ◌∙◌, subst, arith}
 use Rattle.std.specs.declared.hash.Hasher as hasher
 use Rattle.std.specs.declared.hash.BuildHasher as builder
-use Rattle.clock2q_cache.proofs.Names.{cases_Bool, or_parts, filter, list_any, last_or, last_some, option_map, is_some, none_is, if◌then◌else◌, nat_le, IfSome, IsEquivalence, HashMembers, Places, place_of, oldest_hash, pushed_places, is_promoted, SmallEntry, MainEntry, Machine, placement, inserted, forgotten, slot_of, resident_at, resident_made, vacancy, goes_to_main, history_share, get-within, replaced, after, Put, IsWhole, CacheState, hash_of, key_out, left_by, entered, discarded, known_with}
+use Rattle.clock2q_cache.proofs.Names.{cases_Bool, or_parts, filter, list_any, last_or, last_some, option_map, is_some, none_is, if◌then◌else◌, nat_le, IfSome, IsEquivalence, HashMembers, Places, place_of, oldest_hash, pushed_places, is_promoted, SmallEntry, MainEntry, Machine, placement, inserted, forgotten, slot_of, resident_at, resident_made, vacancy, goes_to_main, history_share, get-within, replaced, after, Put, IsWhole, CacheState, hash_of, key_out, left_by, discarded, hash_in, looked_for, known_at, known_with, known_taken}
 use Rattle.clock2q_machine.specs.Entries.{from_victim}
 use Rattle.clock2q_machine.specs.Leaving.{first_of, leaves_for, leaves_for_main, leaves_for_small, leaver}
 use Rattle.clock2q_machine.proofs.MachineInvariant.{lasting-inserted}
 use Rattle.clock2q_machine.proofs.Entering.{slots_apart, differs, entered_there}
 use Rattle.clock2q_machine.proofs.Victims.{others_stay}
 use Rattle.clock2q_directory.specs.Accesses.{most_changed}
-use Rattle.clock2q_directory.specs.Index.{IsWithinCapacity, most_reached}
+use Rattle.clock2q_directory.specs.Index.{IndexState, IsWithinCapacity, looked_up, most_reached}
 use Rattle.clock2q_directory.specs.History.{freed_place}
 use Rattle.clock2q_directory.proofs.Prices.{reached_oldest, left-dear, freed-dear, freed-accesses, pushed-shared, pushed-accesses}
-use Rattle.clock2q_cache.specs.Costs.{reached, reached_if, slots_for}
+use Rattle.clock2q_cache.specs.Costs.{reached, reached_if, walked, slots_for, slots_to_take}
 use Rattle.clock2q_cache.specs.Places.{vacated_for, out_of}
 use Rattle.clock2q_cache.proofs.Listed.{at_its_slot}
 
@@ -157,25 +157,49 @@ module _ {K V S H : Type 0} (key : HashMembers K) (build : builder.Ghosts S H) (
         shared = pushed-shared c.known within share (hashed tail) slot oldest;
       })
 
-  known_price : (known_with key build hash k c).index.accesses ≤ c.known.index.accesses + slots_for key build hash k c
-  known_price = by_slot (slot_of (key.eq k) c.machine) refl
-    where
-      new_price : slot_of (key.eq k) c.machine ≡ None → (entered hashed k slot (out_of (goes_to_main known c.machine) rest) rest before).index.accesses
-          ≤ c.known.index.accesses + (2 * reached key build hash c k + reached_if key build hash c leaving + reached_if key build hash c (last_or None c.machine.history))
-      new_price absent =
-          let q = vacated_by absent (out_of (goes_to_main known c.machine) rest) refl in
-          omega (arith, q.accesses, q.shared (hashed k))
+  -- once the key has its slot
+  known_price : slot_of (key.eq k) c.machine ≡ None → (known_at key build hash k slot c).index.accesses
+      ≤ c.known.index.accesses + (2 * reached key build hash c k + reached_if key build hash c leaving + reached_if key build hash c (last_or None c.machine.history))
+  known_price absent =
+      let q = vacated_by absent (out_of (goes_to_main known c.machine) rest) refl in
+      omega (arith, q.accesses, q.shared (hashed k))
 
-      by_slot : (o : Option ℕ) → slot_of (key.eq k) c.machine ≡ o
-          → (if is_some o then c.known else entered hashed k slot (out_of (goes_to_main known c.machine) rest) rest before).index.accesses
-          ≤ c.known.index.accesses
-          + (if is_some o then 0 else 2 * reached key build hash c k + reached_if key build hash c leaving + reached_if key build hash c (last_or None c.machine.history))
-      by_slot (Some s) found = omega arith
-      by_slot None absent = new_price absent
+-- a lookup changes no entry
+pub within-looked : {v : IndexState} (x : ℕ) → IsWithinCapacity v → IsWithinCapacity (looked_up x v)
+within-looked x within = record { shared = within.shared; own = within.own }
 
-module _ {K V S H : Type 0} (key : HashMembers K) (build : builder.Ghosts S H) (hash : hasher.Ghosts H) where
+module _ {K V S H : Type 0} (key : HashMembers K) (build : builder.Ghosts S H) (hash : hasher.Ghosts H) (k : K) (old : CacheState K V S) (laws : IsEquivalence key.eq)
+    (respects : (x y : K) → key.eq x y ≡ true → key.hash_input x ≡ key.hash_input y) (whole : IsWhole key.eq old.machine)
+    (as_many : length old.known.taken ≡ length old.machine.history) (within : IsWithinCapacity old.known.index) where
+  abbrev key_hash : ℕ
+  key_hash = hash_in key build hash old k
+
+  abbrev its_slot : ℕ
+  its_slot = (placement (key.eq k) k old.machine).slot
+
+  abbrev once : CacheState K V S
+  once = looked_for key build hash k old
+
+  abbrev twice : CacheState K V S
+  twice = looked_for key build hash k once
+
+  abbrev changes : ℕ
+  changes = 2 * reached key build hash old k + reached_if key build hash old (option_map (λ r. r.0) (leaves_for (list_any (key.eq k) old.machine.history) old.machine)) + reached_if key build hash old (last_or None old.machine.history)
+
   -- the slots of the index that are read and written until a key has its slot are within the bound on them
-  pub known_with-reaches : (k : K) (old : CacheState K V S) → IsEquivalence key.eq → ((x y : K) → key.eq x y ≡ true → key.hash_input x ≡ key.hash_input y)
-      → IsWhole key.eq old.machine → length old.known.taken ≡ length old.machine.history → IsWithinCapacity old.known.index
-      → (known_with key build hash k old).index.accesses ≤ old.known.index.accesses + slots_for key build hash k old
-  known_with-reaches k old laws respects whole as_many within = known_price key build hash laws respects old whole as_many within k
+  pub known_with-reaches : (known_with key build hash k old).index.accesses ≤ old.known.index.accesses + slots_for key build hash k old
+  known_with-reaches = by_slot (slot_of (key.eq k) old.machine) refl
+    where
+      by_slot : (o : Option ℕ) → slot_of (key.eq k) old.machine ≡ o
+          → (if is_some o then once.known else known_at key build hash k its_slot once).index.accesses ≤ old.known.index.accesses + (walked key build hash old k + (if is_some o then 0 else changes))
+      by_slot (Some s) found = omega arith
+      by_slot None absent = omega (arith, known_price key build hash laws respects once whole as_many (within-looked key_hash within) k absent)
+
+  -- also if it is looked up twice
+  pub known_taken-reaches : (known_taken key build hash k old).index.accesses ≤ old.known.index.accesses + slots_to_take key build hash k old
+  known_taken-reaches = by_slot (slot_of (key.eq k) old.machine) refl
+    where
+      by_slot : (o : Option ℕ) → slot_of (key.eq k) old.machine ≡ o → (if is_some o then once.known else known_at key build hash k its_slot twice).index.accesses
+          ≤ old.known.index.accesses + (walked key build hash old k + (if is_some o then 0 else changes) + (if is_some o then 0 else walked key build hash old k))
+      by_slot (Some s) found = omega arith
+      by_slot None absent = omega (arith, known_price key build hash laws respects twice whole as_many (within-looked key_hash (within-looked key_hash within)) k absent)

@@ -51,9 +51,9 @@ pub use Rattle.clock2q_cache.specs.CacheFields.{machine_of, places_of, with_keys
 pub use Rattle.clock2q_cache.specs.CacheState.{CacheState, cache_state, Counts, residents_in, remembered_in}
 pub use Rattle.clock2q_cache.specs.Charged.{most_links, most_keys, with_slot}
 pub use Rattle.clock2q_cache.specs.Closures.{Takes, Fetches, FillsUp, Reuses, AsksResident, MayBeAsked, Retains, TakesInTurn}
-pub use Rattle.clock2q_cache.specs.Costs.{Costs, Reaches, Spends, accesses_for, alike, Becomes, most_accesses, most_questions, most_slots, reached, slots_for}
+pub use Rattle.clock2q_cache.specs.Costs.{Costs, Reaches, Spends, accesses_for, alike, Becomes, most_accesses, most_questions, most_slots, reached, walked, slots_for, slots_to_take}
 pub use Rattle.clock2q_cache.specs.Hashes.{hash_of}
 pub use Rattle.clock2q_cache.specs.Indexed.{HasPlaces, IsIndexed, IsSpacious}
 pub use Rattle.clock2q_cache.specs.Insertions.{Fills, placed_inspections, main_inspections, small_inspections, placed, next_is_vacant, makes_slot}
 pub use Rattle.clock2q_cache.specs.Makers.{TakesTimes, MayMake}
-pub use Rattle.clock2q_cache.specs.Places.{hash_in, known_with, remembering, left_by, entered, key_out, discarded}
+pub use Rattle.clock2q_cache.specs.Places.{hash_in, looked_for, known_at, known_with, known_taken, remembering, left_by, entered, key_out, discarded}

@@ -5,10 +5,10 @@ use Rattle.std.specs.declared.hash.Hasher as hasher
 use Rattle.std.specs.declared.hash.BuildHasher as builder
 use Rattle.clock2q_directory.specs.Accesses.{most_changed}
 use Rattle.clock2q_directory.specs.Index as known
-use Rattle.clock2q_directory.specs.Index.{most_reached, IsWithinCapacity}
+use Rattle.clock2q_directory.specs.Index.{most_reached, looked_up, IsWithinCapacity}
 use Rattle.clock2q_directory.proofs.Prices.{left-dear, freed-accesses}
-use Rattle.clock2q_cache.proofs.Names.{HashMembers, IfSome, IsEquivalence, cons_option, sum_by-cons, sum_by-append, IndexState, Places, place_of, resident_at, slot_of, IsWhole, CacheState, Reaches, reached, slots_for, hash_of, hash_in, known_with, discarded, left_by}
-use Rattle.clock2q_cache.proofs.IndexPrices.{known_with-reaches}
+use Rattle.clock2q_cache.proofs.Names.{HashMembers, IfSome, IsEquivalence, cons_option, sum_by-cons, sum_by-append, IndexState, Places, place_of, resident_at, slot_of, IsWhole, CacheState, Reaches, reached, walked, slots_for, slots_to_take, hash_of, hash_in, looked_for, known_with, known_taken, discarded, left_by}
+use Rattle.clock2q_cache.proofs.IndexPrices.{within-looked, known_with-reaches, known_taken-reaches}
 use Rattle.clock2q_cache.proofs.Listed.{same-key}
 use Rattle.clock2q_cache.proofs.Retained.{below, below-more}
 
@@ -26,20 +26,35 @@ module _ {K V S H : Type 0} (key : HashMembers K) (build : builder.Ghosts S H) (
     reaches-with laws respects whole as_many within is =
         record { accesses = omega (arith, ap (λ (p : Places). p.index.accesses) is, known_with-reaches key build hash k old laws respects whole as_many within) }
 
-    -- a key's history is erased
-    pub reaches-discarded : IsWithinCapacity old.known.index → (x : ℕ) → x ≡ hash_of build hash old.hasher (key.hash_input k) → new.known ≡ discarded (key.eq k) x old → Reaches (reached key build hash old k) old new
-    reaches-discarded within x same is =
-        record { accesses = omega (arith, ap (λ (p : Places). p.index.accesses) is, freed-accesses old.known within x (place_of (key.eq k) old.machine.history old.known.taken), ap (λ z. most_reached old.known.index z) same) }
+    -- a key that was looked up first among the residents has its slot
+    pub reaches-taken : IsEquivalence key.eq → ((x y : K) → key.eq x y ≡ true → key.hash_input x ≡ key.hash_input y) → IsWhole key.eq old.machine
+        → length old.known.taken ≡ length old.machine.history → IsWithinCapacity old.known.index → new.known ≡ known_taken key build hash k old → Reaches (slots_to_take key build hash k old) old new
+    reaches-taken laws respects whole as_many within is =
+        record { accesses = omega (arith, ap (λ (p : Places). p.index.accesses) is, known_taken-reaches key build hash k old laws respects whole as_many within) }
 
-    -- the resident that was found leaves
+    -- a key was looked up, and its history is erased
+    pub reaches-discarded : IsWithinCapacity old.known.index → (x : ℕ) → x ≡ hash_of build hash old.hasher (key.hash_input k) → new.known ≡ discarded (key.eq k) x (looked_for key build hash k old)
+        → Reaches (walked key build hash old k + reached key build hash old k) old new
+    reaches-discarded within x same is =
+        let looked = looked_for key build hash k old in
+        record {
+          accesses = omega (
+            arith,
+            ap (λ (p : Places). p.index.accesses) is,
+            freed-accesses looked.known (within-looked (hash_in key build hash old k) within) x (place_of (key.eq k) old.machine.history old.known.taken),
+            ap (λ z. most_reached old.known.index z) same,
+          );
+        }
+
+    -- a key was looked up, and the resident that was found leaves
     pub reaches-left : IsEquivalence key.eq → IsWhole key.eq old.machine → ((x y : K) → key.eq x y ≡ true → key.hash_input x ≡ key.hash_input y)
-        → (slot : ℕ) → slot_of (key.eq k) old.machine ≡ Some slot → new.known ≡ left_by (hash_in key build hash old) (resident_at old.machine slot) slot old.known
-        → Reaches (reached key build hash old k) old new
+        → (slot : ℕ) → slot_of (key.eq k) old.machine ≡ Some slot → new.known ≡ left_by (hash_in key build hash old) (resident_at old.machine slot) slot (looked_for key build hash k old).known
+        → Reaches (walked key build hash old k + reached key build hash old k) old new
     reaches-left laws whole respects slot found is = record {
       accesses = omega (
         arith,
         ap (λ (p : Places). p.index.accesses) is,
-        left-reaches (hash_in key build hash old) (hash_in key build hash old k) (resident_at old.machine slot) slot old.known (alike (resident_at old.machine slot) refl),
+        left-reaches (hash_in key build hash old) (hash_in key build hash old k) (resident_at old.machine slot) slot (looked_for key build hash k old).known (alike (resident_at old.machine slot) refl),
       );
     }
       where
@@ -48,7 +63,7 @@ module _ {K V S H : Type 0} (key : HashMembers K) (build : builder.Ghosts S H) (
         alike (Some r) there = ap (λ z. hash_of build hash old.hasher z) (sym (respects k r.0 (same-key key.eq laws old.machine whole k slot r found there)))
 
   -- the resident at a slot leaves, whose key is this one
-  pub reaches-own : (r : K × ℕ) (slot : ℕ) {old new : CacheState K V S} → new.known ≡ left_by (hash_in key build hash old) (Some r) slot old.known → Reaches (reached key build hash old r.0) old new
+  pub reaches-own : (r : K × ℕ) (slot : ℕ) {old new : CacheState K V S} → new.known ≡ left_by (hash_in key build hash old) (Some r) slot old.known → Reaches (walked key build hash old r.0 + reached key build hash old r.0) old new
   reaches-own r slot {old} is = record {
     accesses = omega (arith, ap (λ (p : Places). p.index.accesses) is, left-reaches (hash_in key build hash old) (hash_in key build hash old r.0) (Some r) slot old.known refl);
   }

@@ -1,6 +1,6 @@
 -- What the parts of a call cost.
 use Rattle.std.proofs.Common.{◌≡◌, ℕ, ◌+◌, ◌*◌, ◌≤◌, Bool, true, false, List, length, Some, None, refl, ap, sym, ◌∙◌, subst, arith}
-use Rattle.clock2q_cache.proofs.Names.{HashMembers, candidates, KeyPlaces, questions_of, Remembered, QueueState, questions-most, set_bits, inspections_of, Call, Get, GetAt, Set, Remove, Retain, Prefill, counts_of, Places, CacheState, Counts, residents_in, Spends, Reaches, Costs, Becomes, most_accesses, most_questions, most_slots, reached, hash_of, slot_of, hit, stored, prefilled, vacated, removed_at, then_some, is_at, after, hit_at, retained, replaced, replaced_at, hit-absent}
+use Rattle.clock2q_cache.proofs.Names.{HashMembers, candidates, KeyPlaces, questions_of, Remembered, QueueState, questions-most, set_bits, inspections_of, Call, Get, GetAt, Set, Remove, Retain, Prefill, counts_of, Places, CacheState, Counts, residents_in, Spends, Reaches, Costs, Becomes, most_accesses, most_questions, most_slots, walked, hash_of, looked_for, slot_of, hit, stored, prefilled, vacated, removed_at, then_some, is_at, after, hit_at, retained, replaced, replaced_at, hit-absent}
 use Rattle.std.specs.declared.hash.Hasher as hasher
 use Rattle.std.specs.declared.hash.BuildHasher as builder
 use Rattle.clock2q_machine.proofs.Clock.{clock_bounded}
@@ -54,6 +54,11 @@ module _ {K V S : Type 0} {n : ℕ} {old new : CacheState K V S} where
   pub reaches-none : new.known ≡ old.known → Reaches n old new
   reaches-none same = record { accesses = omega (arith, ap (λ (p : Places). p.index.accesses) same) }
 
+module _ {K V S H : Type 0} (key : HashMembers K) (build : builder.Ghosts S H) (hash : hasher.Ghosts H) (k : K) where
+  -- a key was looked up
+  pub reaches-looked : {n : ℕ} {old new : CacheState K V S} → new.known ≡ (looked_for key build hash k old).known → walked key build hash old k ≤ n → Reaches n old new
+  reaches-looked same most = record { accesses = omega (arith, ap (λ (p : Places). p.index.accesses) same, most) }
+
 module _ {K V S H : Type 0} {key : HashMembers K} {build : builder.Ghosts S H} {hash : hasher.Ghosts H} where
   -- a call that leaves the machine's next state has paid for its inspections
   pub costs-of : {call : Call K V} {old new : CacheState K V S} → new.machine ≡ after key.eq call old.machine
@@ -73,12 +78,12 @@ module _ {K V S H : Type 0} {key : HashMembers K} {build : builder.Ghosts S H} {
 
   -- a lookup that finds no resident
   pub missed-becomes : {k : K} {x : ℕ} {old new : CacheState K V S} → x ≡ hash_of build hash old.hasher (key.hash_input k) → slot_of (key.eq k) old.machine ≡ None
-      → new ≡ record old { counts = new.counts } → Spends 0 0 (length (candidates (residents_in old.known) x)) old.counts new.counts
+      → new ≡ record (looked_for key build hash k old) { counts = new.counts } → Spends 0 0 (length (candidates (residents_in old.known) x)) old.counts new.counts
       → Becomes key build hash (Get k) (hit (key.eq k) old.machine) old new
   missed-becomes {k} {old = old} same absent kept spent =
       let m = ap (λ (z : CacheState K V S). z.machine) kept ∙ sym (hit-absent (key.eq k) old.machine absent) in
       let asked = ap (λ y. length (candidates (residents_in old.known) y)) same in
-      (m, ap (λ (z : CacheState K V S). z.hasher) kept, costs-of m (reaches-none (ap (λ (z : CacheState K V S). z.known) kept)) (spends-more spent (omega arith) (omega (arith, asked))))
+      (m, ap (λ (z : CacheState K V S). z.hasher) kept, costs-of m (reaches-looked key build hash k (ap (λ (z : CacheState K V S). z.known) kept) (omega arith)) (spends-more spent (omega arith) (omega (arith, asked))))
 
   pub unhit-becomes : {k : K} {old new : CacheState K V S} → slot_of (key.eq k) old.machine ≡ None
       → Becomes key build hash (Get k) (hit (key.eq k) old.machine) old new → Becomes key build hash (Get k) old.machine old new
@@ -86,7 +91,7 @@ module _ {K V S H : Type 0} {key : HashMembers K} {build : builder.Ghosts S H} {
 
   -- a lookup that finds a resident, which is hit
   pub hit-becomes : {k : K} {x : ℕ} {old found new : CacheState K V S} → x ≡ hash_of build hash old.hasher (key.hash_input k)
-      → found ≡ record old { counts = found.counts } → Spends 0 0 (length (candidates (residents_in old.known) x)) old.counts found.counts
+      → found ≡ record (looked_for key build hash k old) { counts = found.counts } → Spends 0 0 (length (candidates (residents_in old.known) x)) old.counts found.counts
       → new ≡ record found { machine = new.machine } → new.machine ≡ hit (key.eq k) found.machine
       → Becomes key build hash (Get k) (hit (key.eq k) old.machine) old new
   hit-becomes {k} {old = old} same kept spent after_hit is =
@@ -94,12 +99,12 @@ module _ {K V S H : Type 0} {key : HashMembers K} {build : builder.Ghosts S H} {
       let c = ap (λ (z : CacheState K V S). z.counts) after_hit in
       let asked = ap (λ y. length (candidates (residents_in old.known) y)) same in
       let index = ap (λ (z : CacheState K V S). z.known) after_hit ∙ ap (λ (z : CacheState K V S). z.known) kept in
-      (m, ap (λ (z : CacheState K V S). z.hasher) after_hit ∙ ap (λ (z : CacheState K V S). z.hasher) kept, costs-of m (reaches-none index) (rw c (spends-more spent (omega arith) (omega (arith, asked)))))
+      (m, ap (λ (z : CacheState K V S). z.hasher) after_hit ∙ ap (λ (z : CacheState K V S). z.hasher) kept, costs-of m (reaches-looked key build hash k index (omega arith)) (rw c (spends-more spent (omega arith) (omega (arith, asked)))))
 
   -- a lookup that finds a resident, which leaves
   pub remove-costs : {k : K} {slot : ℕ} {old found new : CacheState K V S} → Some slot ≡ slot_of (key.eq k) old.machine
-      → found ≡ record old { counts = found.counts } → Spends 0 0 (most_questions key build hash (Remove k) old) old.counts found.counts
-      → Reaches (reached key build hash old k) old new → new.machine ≡ vacated slot found.machine → Spends 0 8 0 found.counts new.counts
+      → found ≡ record (looked_for key build hash k old) { counts = found.counts } → Spends 0 0 (most_questions key build hash (Remove k) old) old.counts found.counts
+      → Reaches (most_slots key build hash (Remove k) old) old new → new.machine ≡ vacated slot found.machine → Spends 0 8 0 found.counts new.counts
       → Costs key build hash (Remove k) old new
   remove-costs {k} {slot} {old} there kept asked reached is left = costs-of
       (is ∙ ap (λ (z : CacheState K V S). vacated slot z.machine) kept ∙ ap (λ o. removed_at (key.eq k) o old.machine) there)

@@ -8,7 +8,7 @@ use Rattle.std.specs.declared.hash.BuildHasher as builder
 use Rattle.clock2q_machine.specs.Bounds.{inspections_for}
 use Rattle.clock2q_cache.proofs.Names.{HashMembers, slice_get, UnwrapsOrElse, CacheState, Reaches, Spends, Fetches, hit-absent, slot_of, value_of, some_is}
 use Rattle.clock2q_cache.proofs.Spent.{costs-of}
-use Rattle.clock2q_cache.specs.Costs.{accesses_for, alike, slots_for}
+use Rattle.clock2q_cache.specs.Costs.{accesses_for, alike, slots_for, walked}
 use Rattle.clock2q_cache.specs.CacheLends.{Tries}
 
 module _ (K V S A H : RattleType) (key : HashMembers K.Denot) (build : builder.Ghosts S.Denot H.Denot) (hash : hasher.Ghosts H.Denot) (heap : alloc.Ghosts A.Denot)
@@ -34,7 +34,7 @@ module _ (K V S A H : RattleType) (key : HashMembers K.Denot) (build : builder.G
       OnOk found (Spends (inspections_for (key.eq k) old.machine) (accesses_for (key.eq k) old.machine) (alike key build hash k old) old.counts new.counts)
 
   abbrev pub Slot-index : Result ℕ E → Type 0
-  Slot-index found = MatchResult found (λ _. Reaches (slots_for key build hash k old) old new) (λ _. Reaches 0 old new)
+  Slot-index found = MatchResult found (λ _. Reaches (slots_for key build hash k old) old new) (λ _. Reaches (walked key build hash old k) old new)
 
   abbrev pub Slot-asked : Result ℕ E → Type 0
   Slot-asked found = OnErr found (Spends 0 0 (alike key build hash k old) old.counts new.counts)

@@ -1,9 +1,47 @@
--- The bounds on link accesses of some calls, worked out by hand.
-use Rattle.std.proofs.Common.{◌≡◌, false, eqb, None, [], ◌∷◌, ◌++◌, refl}
-use Rattle.clock2q_cache.proofs.Names.{Put, Get, GetAt, Try, Retain, Clear, most_accesses}
+-- The bounds on link accesses and on slots of the index of some calls, worked out by hand.
+use Rattle.std.proofs.Common.{◌≡◌, ℕ, false, eqb, None, get_or, List, [], ◌∷◌, ◌++◌, map, refl}
+use Rattle.std.specs.declared.hash.Hasher as hasher
+use Rattle.std.specs.declared.hash.BuildHasher as builder
+use Rattle.clock2q_handles.specs.Homes.{no_entries}
+use Rattle.clock2q_handles.specs.Layout.{spill, layout}
+use Rattle.clock2q_directory.specs.Index.{index_state, entered}
+use Rattle.clock2q_directory.specs.History.{places_with}
+use Rattle.clock2q_machine.specs.Calls.{Call, SlotFor}
 use Rattle.clock2q_machine.proofs.WorkedRuns.{puts, gets, state}
+use Rattle.clock2q_cache.specs.CacheState.{uncounted}
+use Rattle.clock2q_cache.specs.Hashes.{hash_of}
+use Rattle.clock2q_cache.proofs.Names.{HashMembers, Put, Get, GetAt, Try, Remove, Retain, Clear, CacheState, cache_state, most_accesses, most_slots}
 
 links_of_a_whole_round : let m = state 20 (puts 1 20 ++ gets 3 18 ++ Get 1 ∷ []) in
     (most_accesses eqb (Put 21 21) m ≡ 55) × (most_accesses eqb (Put 20 20) m ≡ 0) × (most_accesses eqb (Try 21 None) m ≡ 0)
     × (most_accesses eqb (Get 1) m ≡ 0) × (most_accesses eqb (GetAt 0 1) m ≡ 0) × (most_accesses eqb (Retain (false ∷ [])) m ≡ 160) × (most_accesses eqb Clear m ≡ 21)
 links_of_a_whole_round = (refl, refl, refl, refl, refl, refl, refl)
+
+-- each key is its own hash
+abbrev key : HashMembers ℕ
+key = record { eq = eqb; hash_input = λ k. (k ∷ []) ∷ [] }
+
+abbrev build : builder.Ghosts ℕ ℕ
+build = record { build_hasher = λ s. s }
+
+abbrev hash : hasher.Ghosts ℕ
+hash = record { write = λ h bytes. get_or bytes 0 h; finish = λ h. h }
+
+-- two keys fill a cache whose index has 16 slots: both are in Small, or the first of them is in Main
+abbrev full : ℕ → ℕ → CacheState ℕ ℕ ℕ
+full a b = cache_state (state 2 (Put a a ∷ Put b b ∷ [])) (places_with (entered b 1 (entered a 0 (index_state (no_entries 16) []))) [] []) 0 uncounted
+
+-- the bounds for calls on it
+abbrev bounds : List (Call ℕ ℕ) → CacheState ℕ ℕ ℕ → List ℕ
+bounds calls c = map (λ call. most_slots key build hash call c) calls
+
+-- with homes of their own, a key that is there is found in its home, and the next slot ends the walk
+index_of_two : bounds (Get 1 ∷ Get 5 ∷ Get 9 ∷ GetAt 0 1 ∷ Put 1 1 ∷ Put 9 9 ∷ Try 9 None ∷ SlotFor 9 9 ∷ Remove 1 ∷ Retain [] ∷ Clear ∷ []) (full 1 5)
+    ≡ 2 ∷ 2 ∷ 1 ∷ 0 ∷ 2 ∷ 19 ∷ 1 ∷ 20 ∷ 10 ∷ 16 ∷ 16 ∷ []
+unfolding hash_of spill layout
+index_of_two = refl
+
+-- with one home, each is dearer by those before it
+index_of_two_alike : bounds (Get 1 ∷ Get 17 ∷ Get 33 ∷ Get 9 ∷ Put 33 33 ∷ []) (full 1 17) ≡ 3 ∷ 3 ∷ 3 ∷ 1 ∷ 36 ∷ []
+unfolding hash_of spill layout
+index_of_two_alike = refl

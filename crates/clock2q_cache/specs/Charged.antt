@@ -6,7 +6,7 @@ use Rattle.std.specs.HashMap.Lent.{HashMembers}
 use Rattle.clock2q_machine.specs.Bounds.{inspections_for}
 use Rattle.clock2q_cache.specs.CacheState.{CacheState, Counts, cache_state}
 use Rattle.clock2q_cache.specs.Costs.{accesses_for, alike}
-use Rattle.clock2q_cache.specs.Places.{known_with}
+use Rattle.clock2q_cache.specs.Places.{known_taken}
 use Rattle.clock2q_machine.specs.Steps.{put}
 
 module _ {K V S H : Type 0} (key : HashMembers K) (build : builder.Ghosts S H) (hash : hasher.Ghosts H) where
@@ -22,4 +22,4 @@ module _ {K V S H : Type 0} (key : HashMembers K) (build : builder.Ghosts S H) (
 
   -- the key has its slot with this value, and the counts are at their bounds
   abbrev pub with_slot : K → V → CacheState K V S → CacheState K V S
-  with_slot k w c = cache_state (put (key.eq k) k w c.machine) (known_with key build hash k c) c.hasher (charged k c)
+  with_slot k w c = cache_state (put (key.eq k) k w c.machine) (known_taken key build hash k c) c.hasher (charged k c)

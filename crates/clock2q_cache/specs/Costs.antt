@@ -7,7 +7,7 @@ use Rattle.std.specs.declared.hash.BuildHasher as builder
 use Rattle.std.specs.HashMap.Lent.{HashMembers}
 use Rattle.clock2q_handles.specs.Homes.{candidates}
 use Rattle.clock2q_queues.specs.Cells.{Rises}
-use Rattle.clock2q_directory.specs.Index.{most_reached}
+use Rattle.clock2q_directory.specs.Index.{most_reached, most_read}
 use Rattle.clock2q_machine.specs.Calls.{Call, Put, Get, Peek, Contains, GetAt, Set, With, Try, SlotFor, Remove, Retain, Clear, Prefill, Len, IsEmpty, Capacity}
 use Rattle.clock2q_machine.specs.Machine.{Machine, slot_of, by_slot}
 use Rattle.clock2q_machine.specs.Bounds.{set_bits, inspections_for, inspections_of, main_victims, settings}
@@ -21,7 +21,7 @@ pub record Spends (inspected links keys : ℕ) (old new : Counts) : Type 0 where
   pub accesses : Rises 0 links old.accesses new.accesses
   pub questions : Rises 0 keys old.questions new.questions
 
--- at most this many slots of the index were read and written
+-- at most this many slots of the index were read and written, as they are charged
 pub record Reaches {K V S : Type 0} (slots : ℕ) (old new : CacheState K V S) : Type 0 where
   pub accesses : new.known.index.accesses ≤ old.known.index.accesses + slots
 
@@ -83,28 +83,38 @@ module _ {K V S H : Type 0} (key : HashMembers K) (build : builder.Ghosts S H) (
   reached_if c None = 0
   reached_if c (Some k) = reached c k
 
-  -- the bound on the slots of the index to fetch or insert a key: 0 if it is resident, otherwise those of two changes
-  -- under its hash, of one under that of the resident that leaves, and of one under that of the oldest remembered key
-  abbrev pub slots_for : K → CacheState K V S → ℕ
-  slots_for k c = if is_some (slot_of (key.eq k) c.machine) then 0 else
-      2 * reached c k + reached_if c (option_map (λ r. r.0) (leaves_for (list_any (key.eq k) c.machine.history) c.machine)) + reached_if c (last_or None c.machine.history)
+  -- the most slots of the index that one lookup of a key reads
+  abbrev pub walked : CacheState K V S → K → ℕ
+  walked c k = most_read c.known.index (hash_of build hash c.hasher (key.hash_input k))
 
-  -- the bound on the slots of the index that a call reads and writes: the above for a key that it may insert, those of
-  -- one change for a key that it removes, or for each resident if it may remove them all, and each slot if it clears
+  -- the bound on the slots of the index to fetch or insert a key: those of a lookup and, if it isn't resident, those of
+  -- two changes under its hash, of one under that of the resident that leaves, and of one under that of the oldest
+  -- remembered key
+  abbrev pub slots_for : K → CacheState K V S → ℕ
+  slots_for k c = walked c k + (if is_some (slot_of (key.eq k) c.machine) then 0 else
+      2 * reached c k + reached_if c (option_map (λ r. r.0) (leaves_for (list_any (key.eq k) c.machine.history) c.machine)) + reached_if c (last_or None c.machine.history))
+
+  -- the same for a call that looks for residents first and, if it finds none, for a place in the history
+  abbrev pub slots_to_take : K → CacheState K V S → ℕ
+  slots_to_take k c = slots_for k c + (if is_some (slot_of (key.eq k) c.machine) then 0 else walked c k)
+
+  -- the bound on the slots of the index that a call that may change the cache reads and writes: the above for a key that
+  -- it may insert, those of a lookup for a key that it looks up, and of a change if it removes it, those of a change for
+  -- each resident if it may remove them all, and each slot if it clears
   abbrev pub most_slots : Call K V → CacheState K V S → ℕ
   most_slots (Put k value) c = slots_for k c
   most_slots (With k value) c = slots_for k c
   most_slots (Try k (Some value)) c = slots_for k c
-  most_slots (SlotFor k value) c = slots_for k c
-  most_slots (Remove k) c = reached c k
+  most_slots (SlotFor k value) c = slots_to_take k c
+  most_slots (Remove k) c = walked c k + reached c k
   most_slots (Retain bits) c = sum_by (λ r. reached c r.0) (by_slot c.machine)
   most_slots Clear c = length c.known.index.shared + length c.known.index.own
-  most_slots (Try k None) c = 0
-  most_slots (Get k) c = 0
+  most_slots (Try k None) c = walked c k
+  most_slots (Get k) c = walked c k
   most_slots (Peek k) c = 0
   most_slots (Contains k) c = 0
   most_slots (GetAt slot k) c = 0
-  most_slots (Set k value) c = 0
+  most_slots (Set k value) c = walked c k
   most_slots (Prefill values) c = 0
   most_slots Len c = 0
   most_slots IsEmpty c = 0

@@ -8,7 +8,7 @@ use Rattle.clock2q_machine.specs.Ages.{is_promoted}
 use Rattle.clock2q_machine.specs.Entries.{SmallEntry}
 use Rattle.clock2q_cache.specs.Hashes.{hash_of}
 use Rattle.clock2q_directory.specs.Index as known
-use Rattle.clock2q_directory.specs.History.{Places, place_of, freed_place, pushed_places, oldest_hash}
+use Rattle.clock2q_directory.specs.History.{Places, place_of, places_looked_up, freed_place, pushed_places, oldest_hash}
 use Rattle.clock2q_machine.specs.Shares.{history_share}
 use Rattle.clock2q_machine.specs.Machine.{Machine, resident_at, slot_of, vacancy, goes_to_main, forgotten, placement}
 use Rattle.clock2q_cache.specs.CacheState.{CacheState}
@@ -60,6 +60,10 @@ module _ {K V S H : Type 0} (key : HashMembers K) (build : builder.Ghosts S H) (
   abbrev pub hash_in : CacheState K V S → K → ℕ
   hash_in c k = hash_of build hash c.hasher (key.hash_input k)
 
+  -- a cache once a key was looked up
+  abbrev pub looked_for : K → CacheState K V S → CacheState K V S
+  looked_for k c = record c { known = places_looked_up (hash_in c k) c.known }
+
   -- the index once a key that wasn't resident has this slot
   abbrev pub known_at : K → ℕ → CacheState K V S → Places
   known_at k slot c =
@@ -67,6 +71,10 @@ module _ {K V S H : Type 0} (key : HashMembers K) (build : builder.Ghosts S H) (
       let main = goes_to_main (list_any (key.eq k) c.machine.history) c.machine in
       entered (hash_in c) k slot (out_of main m) m (discarded (key.eq k) (hash_in c k) c)
 
-  -- the index once a key has its slot: unchanged if the key was resident
+  -- the index once a key was looked up and has its slot: otherwise unchanged if the key was resident
   abbrev pub known_with : K → CacheState K V S → Places
-  known_with k c = if is_some (slot_of (key.eq k) c.machine) then c.known else known_at k (placement (key.eq k) k c.machine).slot c
+  known_with k c = let l = looked_for k c in if is_some (slot_of (key.eq k) c.machine) then l.known else known_at k (placement (key.eq k) k c.machine).slot l
+
+  -- the same if a key that wasn't resident was looked up once more, in the history
+  abbrev pub known_taken : K → CacheState K V S → Places
+  known_taken k c = let l = looked_for k c in if is_some (slot_of (key.eq k) c.machine) then l.known else known_at k (placement (key.eq k) k c.machine).slot (looked_for k l)

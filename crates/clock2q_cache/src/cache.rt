@@ -41,9 +41,10 @@ pub type DefaultHashBuilder = BuildHasherDefault<FoldHasher>;
 /// A call that takes a key, except [`get_at`](Cache::get_at), hashes it once and compares it only
 /// with its candidates: the resident and remembered keys whose hashes have the same home and
 /// fingerprint. Each inspection by the hand is paid for: since the cache was made, there have been
-/// no more of them than keys that Main evicted and bits of Main that hits set. A call that changes
-/// the index reads and writes few of its slots if hashes are well spread; keys whose hashes collide
-/// cost more, by the length of their runs.
+/// no more of them than keys that Main evicted and bits of Main that hits set. A call reads and
+/// writes few slots of the index if hashes are well spread; keys whose hashes collide cost more, by
+/// the length of their walks and runs. A call that may change the cache is charged at most for
+/// them, which its contract bounds in the state before it.
 ///
 /// # Example
 ///
@@ -95,7 +96,7 @@ impl<K: Hash + Eq, V, S: BuildHasher, A: Allocator> Cache<K, V, S, A> {
     ghost use Rattle.std.specs.Bool.{then_some};
     ghost use Rattle.std.specs.List.{list_any};
     ghost use Rattle.clock2q_machine.specs.Machine.{resident_count, slot_of, value_of, hit, forgotten};
-    ghost use Rattle.clock2q_cache.specs.Places.{discarded};
+    ghost use Rattle.clock2q_cache.specs.Places.{discarded, looked_for};
     ghost use Rattle.clock2q_machine.specs.Steps.{is_at, hit_at, value_at};
 
     /// Returns the capacity that the cache was made with, in keys.
@@ -128,7 +129,8 @@ impl<K: Hash + Eq, V, S: BuildHasher, A: Allocator> Cache<K, V, S, A> {
     ///
     /// # Cost
     ///
-    /// One hash of the key, and at most one question to each candidate among the residents.
+    /// One hash of the key, one walk of the index, and at most one question to each candidate among
+    /// the residents.
     pub fn contains(&self, key: &K) -> bool
         ensures resident { IsTrue result ↔ IsSome (slot_of (K.eq key.now) self.now.machine) }
     {
@@ -273,7 +275,7 @@ impl<K: Hash + Eq, V, S: BuildHasher, A: Allocator> Cache<K, V, S, A> {
         ensures machine { self.new.machine ≡ self.old.machine }
         ensures whole { IsWhole K.eq self.old.machine }
         ensures hasher { self.new.hasher ≡ self.old.hasher }
-        ensures kept { self.new ≡ record self.old { counts = self.new.counts } }
+        ensures kept { self.new ≡ record (looked_for K.Hash S.BuildHasher S.Hasher.Hasher key.now self.old) { counts = self.new.counts } }
         ensures counts { Spends 0 0 (length (candidates (residents_in self.old.known) hash)) self.old.counts self.new.counts }
     {
         self.directory.find_resident(hash, key)
@@ -289,7 +291,7 @@ impl<K: Hash + Eq, V, S: BuildHasher, A: Allocator> Cache<K, V, S, A> {
         ensures machine { self.new.machine ≡ self.old.machine }
         ensures whole { IsWhole K.eq self.old.machine }
         ensures hasher { self.new.hasher ≡ self.old.hasher }
-        ensures kept { self.new ≡ record self.old { counts = self.new.counts } }
+        ensures kept { self.new ≡ record (looked_for K.Hash S.BuildHasher S.Hasher.Hasher key.now self.old) { counts = self.new.counts } }
         ensures counts { Spends 0 0 (alike K.Hash S.BuildHasher S.Hasher.Hasher key.now self.old) self.old.counts self.new.counts }
         ensures as_many { length self.old.known.taken ≡ length self.old.machine.history }
         ensures within { IsWithinCapacity self.old.known.index }
@@ -302,7 +304,7 @@ impl<K: Hash + Eq, V, S: BuildHasher, A: Allocator> Cache<K, V, S, A> {
     pub(crate) fn find_place(&mut self, hash: u64, key: &K) -> Option<u32>
         requires { hash ≡ hash_of S.BuildHasher S.Hasher.Hasher self.old.hasher (K.hash_input key.now) }
         ensures place { result ≡ place_of (K.eq key.now) self.old.machine.history self.old.known.taken }
-        ensures kept { self.new ≡ record self.old { counts = self.new.counts } }
+        ensures kept { self.new ≡ record (looked_for K.Hash S.BuildHasher S.Hasher.Hasher key.now self.old) { counts = self.new.counts } }
         ensures counts { Spends 0 0 (length (candidates (remembered_in self.old.known) hash)) self.old.counts self.new.counts }
     {
         self.directory.find_remembered(hash, key)
@@ -368,12 +370,12 @@ impl<K: Hash + Eq + Drop, V: Drop, S: BuildHasher, A: Allocator> Cache<K, V, S, 
     ///
     /// # Cost
     ///
-    /// One hash of the key, and at most one question to each candidate among the residents and in
-    /// the history. No link is accessed if the key is resident; otherwise there are at most 36 more
-    /// accesses to links than inspections by the hand, and at most four changes of the index: two
-    /// under the key's hash, one under that of the key that leaves, and one under that of the
-    /// oldest remembered key. Each reads and writes at most the walk of its hash, and twice its
-    /// run with one more slot.
+    /// One hash of the key, one lookup in the index, and at most one question to each candidate
+    /// among the residents and in the history. No link is accessed if the key is resident;
+    /// otherwise there are at most 36 more accesses to links than inspections by the hand, and at
+    /// most four changes of the index: two under the key's hash, one under that of the key that
+    /// leaves, and one under that of the oldest remembered key. A lookup reads at most the walk of
+    /// its hash, and a change reads and writes at most that and twice its run with one more slot.
     pub fn put(&mut self, key: K, value: V) -> Option<V>
         ensures value { result ≡ value_of (K.eq key) self.old.machine }
         ensures machine { self.new.machine ≡ put (K.eq key) key value self.old.machine }

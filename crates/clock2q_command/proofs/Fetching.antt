@@ -8,7 +8,7 @@ use Rattle.std.specs.HashMap.Lent.{HashMembers}
 use Rattle.std.specs.declared.hash.Hasher as hasher
 use Rattle.std.specs.declared.hash.BuildHasher as builder
 use Rattle.clock2q_cache.specs.CacheState.{CacheState}
-use Rattle.clock2q_cache.specs.Costs.{Costs, accesses_for, slots_for}
+use Rattle.clock2q_cache.specs.Costs.{Costs, accesses_for, slots_for, walked}
 use Rattle.clock2q_machine.specs.Bounds.{takes_victim, inspections_for, victims_for}
 use Rattle.clock2q_machine.specs.Calls.{Put, Try}
 use Rattle.clock2q_machine.specs.Entries.{inspections}
@@ -68,7 +68,7 @@ module _ {K V S H : Type 0} (key : HashMembers K) (build : builder.Ghosts S H) (
       let looks : inspections_for (key.eq k) old.machine ≡ 0 = ap (λ z. if is_some z then 0 else (if takes_victim (key.eq k) old.machine then inspections old.machine.main else 0)) e in
       let links : accesses_for (key.eq k) old.machine ≡ 0 = ap (λ z. if is_some z then 0 else inspections_for (key.eq k) old.machine + 36) e in
       let victims : victims_for (key.eq k) old.machine ≡ 0 = ap (λ z. if is_some z then 0 else (if takes_victim (key.eq k) old.machine then 1 else 0)) e in
-      let slots : slots_for key build hash k old ≡ 0 = rw e refl in
+      let slots : slots_for key build hash k old ≡ walked key build hash old k = rw e (omega arith) in
       record {
         index = record { accesses = omega (arith, spent.index.accesses, slots) };
         counts = record { inspections = omega (arith, spent.counts.inspections, looks); accesses = (spent.counts.accesses.0, omega (arith, spent.counts.accesses.1, links)); questions = spent.counts.questions };

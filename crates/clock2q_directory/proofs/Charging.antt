@@ -24,3 +24,6 @@ cost_second a b m = omega arith
 
 pub cost_both : (a m b n : ℕ) → a + m + (b + n) ≡ a + b + m + n
 cost_both a m b n = omega arith
+
+pub cost_reads : (a m b n : ℕ) → a + m + (b + n) ≡ a + b + (m + n)
+cost_reads a m b n = omega arith

@@ -1,7 +1,7 @@
 -- A new history, one that was cleared, and what callers see of one.
 use Rattle.std.proofs.Common.{◌≡◌, ℕ, ◌^◌, ◌<◌, ◌≤◌, Bool, true, false, List, [], length, refl, sym, ap, ◌∙◌, subst, arith}
 use Rattle.std.specs.Prelude.{if◌then◌else◌}
-use Rattle.clock2q_handles.specs.Homes.{no_entries, total}
+use Rattle.clock2q_handles.specs.Homes.{total}
 use Rattle.clock2q_directory.specs.declared.keys.store.Entry.{Entry}
 use Rattle.clock2q_queues.specs.Order.{PlaceOrder, IsWholeOrder, unused, used}
 use Rattle.clock2q_directory.specs.Keys.{KeyPlaces, entries_of}

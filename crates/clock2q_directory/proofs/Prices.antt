@@ -9,7 +9,7 @@ use Rattle.clock2q_handles.proofs.Runs.{removed-room, removed-run, relabelled-ru
 use Rattle.clock2q_queues.specs.Order.{place_for}
 use Rattle.clock2q_directory.specs.Accesses.{most_changed}
 use Rattle.clock2q_directory.specs.Index.{IndexState, IsWithinCapacity, is_shared, first_remembered, left, remembered_at, forgotten_at, most_reached}
-use Rattle.clock2q_directory.specs.History.{Places, pushed_places, freed_place, taking_free, taking_oldest}
+use Rattle.clock2q_directory.specs.History.{Places, pushed_places, freed_place, taking_oldest}
 
 module _ (homes : List (List (ℕ × ℕ))) (room : total homes ≤ capacity (length homes)) (x h : ℕ) where
   -- once an entry has left a table, no change reads and writes more slots than before

@@ -1,5 +1,5 @@
 -- How many slots of a table a change reads and writes at most.
-use Rattle.std.specs.Prelude.{◌≡◌, ℕ, ◌+◌, ◌*◌, List}
+use Rattle.std.specs.Prelude.{ℕ, ◌+◌, ◌*◌, List}
 use Rattle.std.specs.Coded.{Coded, code_by, coded×, coded_ℕ, coded_list}
 use Rattle.clock2q_handles.specs.Layout.{layout, walk, run}
 use mathlib.Core.Path.{refl}

@@ -6,7 +6,7 @@ use Rattle.std.specs.Coded.{Coded, code_by, coded×, coded_ℕ, coded_list}
 use Rattle.clock2q_handles.specs.Homes.{total, capacity}
 use Rattle.clock2q_queues.specs.Rings.{has, without}
 use Rattle.clock2q_directory.specs.Index as known
-use Rattle.clock2q_directory.specs.Index.{IndexState, index_code, first_remembered, is_shared, left, remembered_at, forgotten_at}
+use Rattle.clock2q_directory.specs.Index.{IndexState, index_code, first_remembered, is_shared, left, looked_up, remembered_at, forgotten_at}
 use Rattle.clock2q_directory.specs.declared.history.Found.{Found}
 use Rattle.clock2q_queues.specs.Cells.{Rises}
 use Rattle.clock2q_directory.specs.declared.keys.store.Entry.{Entry}
@@ -28,6 +28,10 @@ abbrev pub places_code : Coded Places
 places_code =
     code_by (IndexState × (List ℕ × List ℕ)) (coded× index_code (coded× (coded_list coded_ℕ) (coded_list coded_ℕ)))
     (λ p. (p.index, (p.taken, p.free))) (λ q. places_with q.0 q.1.0 q.1.1) (λ _. refl)
+
+-- a hash is looked up
+abbrev pub places_looked_up : (hash : ℕ) → Places → Places
+places_looked_up hash p = record p { index = looked_up hash p.index }
 
 -- the resident at a slot leaves, and is remembered at a free place, or at one that no key had yet
 abbrev pub taking_free : (hash slot : ℕ) → Places → Places

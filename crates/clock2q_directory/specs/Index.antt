@@ -3,6 +3,7 @@ use Rattle.std.specs.Prelude.{◌≡◌, ℕ, ◌+◌, ◌-◌, ◌*◌, ◌^◌
 use Rattle.std.specs.List.{filter}
 use Rattle.std.specs.Coded.{Coded, code_by, coded×, coded_ℕ, coded_list}
 use Rattle.clock2q_handles.specs.Homes.{total, capacity, no_entries, with_handle, removed}
+use Rattle.clock2q_handles.specs.Layout.{walk}
 use Rattle.clock2q_handles.specs.Positions.{relabelled}
 use Rattle.clock2q_handles.specs.TableStep.{made_for}
 use Rattle.clock2q_directory.specs.Accesses.{CountedTable, most_changed}
@@ -37,7 +38,7 @@ abbrev pub places_in : List (List (ℕ × ℕ)) → List (List (ℕ × ℕ))
 places_in homes = map place_entries homes
 
 -- the lists by home of the table that has the slots, and of the places' own, which is used if one table would have too
--- many entries, and the number of slots of both that changes read and wrote
+-- many entries, and the number of slots of both that changes read and wrote and lookups read
 pub record IndexState : Type 0 where
   pub shared : List (List (ℕ × ℕ))
   pub own : List (List (ℕ × ℕ))
@@ -109,6 +110,14 @@ emptied v = record {
 -- the most slots of both tables that one change under a hash reads and writes
 abbrev pub most_reached : IndexState → ℕ → ℕ
 most_reached v x = most_changed v.shared x + most_changed v.own x
+
+-- the most slots of both tables that a lookup of a hash reads: one walk in each
+abbrev pub most_read : IndexState → ℕ → ℕ
+most_read v x = walk v.shared x + walk v.own x
+
+-- a hash is looked up
+abbrev pub looked_up : (hash : ℕ) → IndexState → IndexState
+looked_up hash v = record v { accesses = v.accesses + most_read v hash }
 
 -- neither table has more entries than three quarters of its slots
 pub record IsWithinCapacity (v : IndexState) : Type 0 where

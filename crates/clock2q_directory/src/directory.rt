@@ -7,7 +7,7 @@ ghost use Rattle.clock2q_queues.specs.Cells.{Rises};
 ghost use Rattle.clock2q_directory.specs.Keys.{hash_at, key_at, value_at, with_value, is_key_at, questions_of};
 ghost use Rattle.clock2q_directory.specs.Indexes.{HasHash};
 ghost use Rattle.clock2q_directory.specs.Index.{slots, places, IsWithinCapacity};
-ghost use Rattle.clock2q_directory.specs.History.{IsWholeHistory, place_of, found_slot, found_place};
+ghost use Rattle.clock2q_directory.specs.History.{IsWholeHistory, place_of, places_looked_up, found_slot, found_place};
 ghost use Rattle.clock2q_directory.specs.Directory.{nothing_known};
 ghost use Rattle.clock2q_directory.specs.DirectoryLends.{LendsValueOf};
 
@@ -139,7 +139,7 @@ impl<K: Eq, V, A: Allocator> Directory<K, V, A> {
         self.residents.key_equals(slot, key)
     }
 
-    /// Returns the slot of a resident key, and counts no comparison.
+    /// Returns the slot of a resident key. It counts no comparison, and charges the index nothing.
     pub fn slot_of(&self, hash: u64, key: &K) -> Option<u32>
         requires made { AllByRecursion (λ slot. slot < length self.now.residents.entries) (candidates (slots self.now.history.places.index) hash) }
         ensures slot { result ≡ find (is_key_at K.eq key.now self.now.residents.entries) (candidates (slots self.now.history.places.index) hash) }
@@ -149,28 +149,30 @@ impl<K: Eq, V, A: Allocator> Directory<K, V, A> {
             .find_counting_in(self.history.handles(hash), key, &mut compared)
     }
 
-    /// Returns the slot of a resident key, and counts each comparison. Places are skipped.
+    /// Returns the slot of a resident key, and counts each comparison. Places are skipped. The index
+    /// is charged one lookup.
     pub fn find_resident(&mut self, hash: u64, key: &K) -> Option<u32>
         requires made { AllByRecursion (λ slot. slot < length self.old.residents.entries) (candidates (slots self.old.history.places.index) hash) }
         ensures slot { result ≡ find (is_key_at K.eq key.now self.old.residents.entries) (candidates (slots self.old.history.places.index) hash) }
         ensures counted { self.new.residents ≡ record self.old.residents { questions = self.old.residents.questions + questions_of (is_key_at K.eq key.now self.old.residents.entries) (candidates (slots self.old.history.places.index) hash) } }
-        ensures kept { self.new.history ≡ self.old.history }
+        ensures kept { self.new.history ≡ record self.old.history { places = places_looked_up hash self.old.history.places } }
     {
-        self.residents.find(self.history.handles(hash), key)
+        self.history.find_resident(hash, key, &mut self.residents)
     }
 
-    /// Returns the place of a remembered key, and counts each comparison. Slots are skipped.
+    /// Returns the place of a remembered key, and counts each comparison. Slots are skipped. The
+    /// index is charged one lookup.
     pub fn find_remembered(&mut self, hash: u64, key: &K) -> Option<u32>
         requires hash { HasHash K.eq hash key.now self.old.history.entries }
         ensures place { result ≡ place_of (K.eq key.now) (map (λ e. e.1) self.old.history.entries) self.old.history.places.taken }
-        ensures kept { self.new.history ≡ record self.old.history { questions = self.new.history.questions } }
+        ensures kept { self.new.history ≡ record self.old.history { places = places_looked_up hash self.old.history.places; questions = self.new.history.questions } }
         ensures residents { self.new.residents ≡ self.old.residents }
         ensures questions { Rises 0 (length (candidates (places self.old.history.places.index) hash)) self.old.history.questions self.new.history.questions }
     {
         self.history.find(hash, key)
     }
 
-    /// Looks a key up among the residents and the remembered keys.
+    /// Looks a key up among the residents and the remembered keys. The index is charged one lookup.
     #[inline(always)]
     pub fn lookup(&mut self, hash: u64, key: &K) -> Found
         requires hash { HasHash K.eq hash key.now self.old.history.entries }
@@ -179,7 +181,7 @@ impl<K: Eq, V, A: Allocator> Directory<K, V, A> {
         ensures place { found_slot result ≡ None → found_place result ≡ place_of (K.eq key.now) (map (λ e. e.1) self.old.history.entries) self.old.history.places.taken }
         ensures absent { found_slot result ≡ None → found_place result ≡ None → find (is_key_at K.eq key.now self.old.residents.entries) (candidates (slots self.old.history.places.index) hash) ≡ None }
         ensures residents { self.new.residents ≡ record self.old.residents { questions = self.new.residents.questions } }
-        ensures kept { self.new.history ≡ record self.old.history { questions = self.new.history.questions } }
+        ensures kept { self.new.history ≡ record self.old.history { places = places_looked_up hash self.old.history.places; questions = self.new.history.questions } }
         ensures asked { Rises 0 (length (candidates (slots self.old.history.places.index) hash)) self.old.residents.questions self.new.residents.questions }
         ensures questions { Rises 0 (length (candidates (places self.old.history.places.index) hash)) self.old.history.questions self.new.history.questions }
     {

@@ -2,14 +2,15 @@
 ghost use Rattle.std.specs.Prelude.{◌≡◌, ℕ, ◌+◌, ◌^◌, ◌<◌, ◌≤◌, true, false, None, [], ◌∷◌, map, take, length, IfOk, IfSome};
 ghost use Rattle.std.specs.List.{find, AllByRecursion};
 ghost use Rattle.clock2q_handles.specs.Homes.{candidates, removed, no_entries};
+ghost use Rattle.clock2q_handles.specs.Layout.{walk};
 ghost use Rattle.clock2q_queues.specs.Cells.{Rises};
 ghost use Rattle.clock2q_queues.specs.Rings.{has};
 ghost use Rattle.clock2q_queues.specs.Order.{IsWholeOrder, used};
-ghost use Rattle.clock2q_directory.specs.Keys.{is_key_at};
+ghost use Rattle.clock2q_directory.specs.Keys.{is_key_at, questions_of};
 ghost use Rattle.clock2q_directory.specs.Indexes.{IsIndex, HasHash};
 ghost use Rattle.clock2q_directory.specs.Index as known;
 ghost use Rattle.clock2q_directory.specs.Index.{emptied, index_for, is_shared, entered, left, slots_among, places_among, IsWithinCapacity};
-ghost use Rattle.clock2q_directory.specs.History.{IsWholeHistory, MakesPlace, HasRoom, places_with, pushed_places, freed_place, place_of, oldest_hash, remembered, is_remembered, forgotten, found_slot, found_place, first_known};
+ghost use Rattle.clock2q_directory.specs.History.{IsWholeHistory, MakesPlace, HasRoom, places_with, places_looked_up, pushed_places, freed_place, place_of, oldest_hash, remembered, is_remembered, forgotten, found_slot, found_place, first_known};
 
 use crate::index::{Index, REMEMBERED};
 use crate::keys::Keys;
@@ -118,13 +119,65 @@ impl<K: Eq, A: Allocator> History<K, A> {
     #[inline(always)]
     pub fn handles(&self, hash: u64) -> Candidates<'_, u32>
         ensures slots { slots_among result.left ≡ candidates (known.slots self.now.places.index) hash }
+        ensures reads { result.reads + result.unread ≡ walk self.now.places.index.shared hash }
     {
         self.index.handles(hash)
     }
 
-    /// Looks a key up among the residents, whose keys are in `residents`, and in the history.
+    /// Looks a key up among the residents, whose keys are in `residents`, and in the history. The
+    /// index is charged one lookup.
     #[inline(always)]
     pub fn lookup<V>(&mut self, hash: u64, key: &K, residents: &mut Keys<K, V, A>) -> Found
+        requires hash { HasHash K.eq hash key.now self.old.entries }
+        requires used { AllByRecursion (λ slot. slot < length residents.old.entries) (candidates (known.slots self.old.places.index) hash) }
+        ensures slot { IfSome (found_slot result) (λ slot. find (is_key_at K.eq key.now residents.old.entries) (candidates (known.slots self.old.places.index) hash) ≡ Some slot) }
+        ensures place { found_slot result ≡ None → found_place result ≡ place_of (K.eq key.now) (map (λ e. e.1) self.old.entries) self.old.places.taken }
+        ensures absent { found_slot result ≡ None → found_place result ≡ None → find (is_key_at K.eq key.now residents.old.entries) (candidates (known.slots self.old.places.index) hash) ≡ None }
+        ensures residents { residents.new ≡ record residents.old { questions = residents.new.questions } }
+        ensures kept { self.new ≡ record self.old { places = places_looked_up hash self.old.places; questions = self.new.questions } }
+        ensures asked { Rises 0 (length (candidates (known.slots self.old.places.index) hash)) residents.old.questions residents.new.questions }
+        ensures questions { Rises 0 (length (candidates (known.places self.old.places.index) hash)) self.old.questions self.new.questions }
+    {
+        let found = self.search(hash, key, residents);
+        self.index.charge_lookup(hash);
+        found
+    }
+
+    /// Returns the slot of a resident, whose keys are in `residents`. Places are skipped. The index
+    /// is charged one lookup.
+    #[inline(always)]
+    pub fn find_resident<V>(
+        &mut self,
+        hash: u64,
+        key: &K,
+        residents: &mut Keys<K, V, A>,
+    ) -> Option<u32>
+        requires used { AllByRecursion (λ slot. slot < length residents.old.entries) (candidates (known.slots self.old.places.index) hash) }
+        ensures slot { result ≡ find (is_key_at K.eq key.now residents.old.entries) (candidates (known.slots self.old.places.index) hash) }
+        ensures counted { residents.new ≡ record residents.old { questions = residents.old.questions + questions_of (is_key_at K.eq key.now residents.old.entries) (candidates (known.slots self.old.places.index) hash) } }
+        ensures kept { self.new ≡ record self.old { places = places_looked_up hash self.old.places } }
+    {
+        let found = residents.find(self.index.handles(hash), key);
+        self.index.charge_lookup(hash);
+        found
+    }
+
+    /// Returns the place of a remembered key. Slots of residents are skipped. The index is charged
+    /// one lookup.
+    pub fn find(&mut self, hash: u64, key: &K) -> Option<u32>
+        requires hash { HasHash K.eq hash key.now self.old.entries }
+        ensures place { result ≡ place_of (K.eq key.now) (map (λ e. e.1) self.old.entries) self.old.places.taken }
+        ensures kept { self.new ≡ record self.old { places = places_looked_up hash self.old.places; questions = self.new.questions } }
+        ensures questions { Rises 0 (length (candidates (known.places self.old.places.index) hash)) self.old.questions self.new.questions }
+    {
+        let found = self.search_places(hash, key);
+        self.index.charge_lookup(hash);
+        found
+    }
+
+    /// Looks a key up as `lookup` does. The index is not charged.
+    #[inline(always)]
+    fn search<V>(&mut self, hash: u64, key: &K, residents: &mut Keys<K, V, A>) -> Found
         requires hash { HasHash K.eq hash key.now self.old.entries }
         requires used { AllByRecursion (λ slot. slot < length residents.old.entries) (candidates (known.slots self.old.places.index) hash) }
         ensures slot { IfSome (found_slot result) (λ slot. find (is_key_at K.eq key.now residents.old.entries) (candidates (known.slots self.old.places.index) hash) ≡ Some slot) }
@@ -141,8 +194,9 @@ impl<K: Eq, A: Allocator> History<K, A> {
         self.lookup_split(hash, key, residents)
     }
 
-    /// Returns the place of a remembered key. Slots of residents are skipped.
-    pub fn find(&mut self, hash: u64, key: &K) -> Option<u32>
+    /// Returns the place of a remembered key. The index is not charged.
+    #[inline(always)]
+    fn search_places(&mut self, hash: u64, key: &K) -> Option<u32>
         requires hash { HasHash K.eq hash key.now self.old.entries }
         ensures place { result ≡ place_of (K.eq key.now) (map (λ e. e.1) self.old.entries) self.old.places.taken }
         ensures kept { self.new ≡ record self.old { questions = self.new.questions } }
@@ -154,7 +208,7 @@ impl<K: Eq, A: Allocator> History<K, A> {
         self.keys.find(self.index.own_places(hash), key)
     }
 
-    /// Looks a key up as `lookup` does, if the places have a table of their own.
+    /// Looks a key up as `search` does, if the places have a table of their own.
     fn lookup_split<V>(&mut self, hash: u64, key: &K, residents: &mut Keys<K, V, A>) -> Found
         requires apart { is_shared self.old.places.index ≡ false }
         requires hash { HasHash K.eq hash key.now self.old.entries }
@@ -170,7 +224,7 @@ impl<K: Eq, A: Allocator> History<K, A> {
         if let Some(slot) = residents.find(self.index.handles(hash), key) {
             return Found::Resident(slot);
         }
-        let Some(place) = self.find(hash, key) else {
+        let Some(place) = self.search_places(hash, key) else {
             return Found::Absent;
         };
         Found::Remembered(place)

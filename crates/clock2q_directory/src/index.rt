@@ -2,7 +2,8 @@
 ghost use Rattle.std.specs.Prelude.{◌≡◌, ◌+◌, ◌^◌, ◌<◌, true, IfOk};
 ghost use Rattle.clock2q_handles.specs.Homes.{candidates};
 ghost use Rattle.clock2q_queues.specs.Rings.{has};
-ghost use Rattle.clock2q_directory.specs.Index.{emptied, index_for, index_room, is_shared, slots, places, entered, left, remembered_at, forgotten_at, HasSlotRoom, HasPlaceRoom, IsWithinCapacity};
+ghost use Rattle.clock2q_handles.specs.Layout.{walk};
+ghost use Rattle.clock2q_directory.specs.Index.{emptied, index_for, index_room, is_shared, slots, places, entered, left, looked_up, remembered_at, forgotten_at, HasSlotRoom, HasPlaceRoom, IsWithinCapacity};
 
 mod counted_table;
 
@@ -110,6 +111,7 @@ impl<A: Allocator> Index<A> {
     #[inline(always)]
     pub fn handles(&self, hash: u64) -> Candidates<'_, u32>
         ensures handles { result.left ≡ candidates self.now.shared hash }
+        ensures reads { result.reads + result.unread ≡ walk self.now.shared hash }
     {
         self.shared.get(hash)
     }
@@ -117,8 +119,18 @@ impl<A: Allocator> Index<A> {
     /// Returns the places under a hash, if they have a table of their own.
     pub fn own_places(&self, hash: u64) -> Candidates<'_, u32>
         ensures places { result.left ≡ candidates self.now.own hash }
+        ensures reads { result.reads + result.unread ≡ walk self.now.own hash }
     {
         self.own.get(hash)
+    }
+
+    /// Charges one lookup of a hash: the most slots of both tables that the handles under it read.
+    /// Whoever looks a key up in an index that it may change calls this once.
+    pub fn charge_lookup(&mut self, hash: u64)
+        ensures looked { self.new ≡ looked_up hash self.old }
+    {
+        self.shared.charge_lookup(hash);
+        self.own.charge_lookup(hash);
     }
 
     /// Adds the slot of a key that becomes resident.

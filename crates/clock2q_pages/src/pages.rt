@@ -1,6 +1,6 @@
 //! The frames of a page cache.
 ghost use Rattle.clock2q_cache.specs.Costs.{Costs};
-ghost use Rattle.clock2q_machine.specs.Calls.{Get, GetAt, Put};
+ghost use Rattle.clock2q_machine.specs.Calls.{Get, GetAt, SlotFor};
 ghost use Rattle.clock2q_machine.specs.Machine.{hit};
 ghost use Rattle.clock2q_machine.specs.Steps.{hit_at, put};
 ghost use Rattle.clock2q_pages.specs.Pages.{IsLoaded, last_in, resident_frame};
@@ -29,7 +29,7 @@ pub fn frame_of<S: BuildHasher>(
     ensures keeps { (other frame : ℕ) → frame ≢ result.0 → IsLoaded pages.new.machine other frame → IsLoaded pages.old.machine other frame }
     ensures machine { pages.new.machine ≡ put (eqb page) page (Some page) pages.old.machine }
     ensures shares { pages.new.machine.shares ≡ pages.old.machine.shares }
-    ensures costs { Costs ⟦<usize as Hash>⟧ S.BuildHasher S.Hasher.Hasher (Put page (Some page)) pages.old pages.new }
+    ensures costs { Costs ⟦<usize as Hash>⟧ S.BuildHasher S.Hasher.Hasher (SlotFor page (Some page)) pages.old pages.new }
 {
     let _ = pages.len(); // whose contract says that the cache is whole
     let (frame, held) = pages.get_or_insert_mut(page, || None);

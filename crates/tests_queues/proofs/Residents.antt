@@ -9,7 +9,7 @@ use Rattle.clock2q_directory.specs.Index.{emptied, index_for, is_shared, slots, 
 use Rattle.clock2q_directory.specs.Indexes.{IsIndex}
 use Rattle.clock2q_directory.specs.Keys.{KeyPlaces, key_places, entry, written, hash_at, key_at, Writes}
 use Rattle.clock2q_directory.specs.Directory.{Known, IsResident, IsWithinRoom, Remembers}
-use Rattle.clock2q_directory.specs.History.{Remembered, Places, HasRoom, remembered, places_with, most_beside, pushed_places, oldest_hash}
+use Rattle.clock2q_directory.specs.History.{Remembered, Places, HasRoom, remembered, places_with, most_beside, pushed_places, oldest_hash, places_looked_up}
 use Rattle.clock2q_queues.specs.Rings.{has}
 use Rattle.clock2q_directory.proofs.Emptied.{for-new, new-none, emptied-slots, cleared_like}
 use Rattle.clock2q_directory.proofs.Entries.{length-written, slice_get-written}
@@ -84,22 +84,34 @@ module _ {hashes : ℕ} {h : Remembered ℕ} {r : KeyPlaces ℕ (Unit {0})} (k :
       is = ap (λ (z : List (Entry ℕ (Unit {0}))). key_at z 0) wrote ∙ ap (λ z. elim z [ None ↦ None | Some e ↦ Some e.key ]) (slice_get-written 0 (entry hash key tt) r.entries (omega arith));
     }
 
--- a lookup changes nothing but the count of comparisons
-pub kept_resident : {key hashes : ℕ} {h h' : Remembered ℕ} {r r' : KeyPlaces ℕ (Unit {0})} → HasResident key hashes h r
-    → h' ≡ record h { questions = h'.questions } → r' ≡ record r { questions = r'.questions } → HasResident key hashes h' r'
-kept_resident {key} {hashes} {h} {h'} {r} {r'} k same keys =
+-- the remembered keys, the slots and the residents are the same
+same_resident : {key hashes : ℕ} {h h' : Remembered ℕ} {r r' : KeyPlaces ℕ (Unit {0})} → HasResident key hashes h r
+    → h'.entries ≡ h.entries → slots h'.places.index ≡ slots h.places.index → most_beside h' ≡ most_beside h → r' ≡ record r { questions = r'.questions } → HasResident key hashes h' r'
+same_resident {key} {hashes} {h} {h'} {r} {r'} k same there beside keys =
     let entries = ap (λ (z : KeyPlaces ℕ (Unit {0})). z.entries) keys in
     record {
-      taken = kept k.taken (rw (ap (λ (z : Remembered ℕ). z.entries) same) k.taken.hashed) (ap (λ (z : Remembered ℕ). slots z.places.index) same)
-          (ap (λ (z : Remembered ℕ). most_beside z) same) entries (ap (λ (z : KeyPlaces ℕ (Unit {0})). z.room) keys);
+      taken = kept k.taken (rw same k.taken.hashed) there beside entries (ap (λ (z : KeyPlaces ℕ (Unit {0})). z.room) keys);
       at = ap (λ (z : List (Entry ℕ (Unit {0}))). hash_at z 0) entries ∙ k.at;
       is = ap (λ (z : List (Entry ℕ (Unit {0}))). key_at z 0) entries ∙ k.is;
     }
 
+-- a lookup changes nothing but the count of comparisons and what the index read
+pub kept_resident : {key hashes x : ℕ} {h h' : Remembered ℕ} {r r' : KeyPlaces ℕ (Unit {0})} → HasResident key hashes h r
+    → h' ≡ record h { places = places_looked_up x h.places; questions = h'.questions } → r' ≡ record r { questions = r'.questions } → HasResident key hashes h' r'
+kept_resident {h = h} {h' = h'} {r = r} {r' = r'} k same keys =
+    same_resident {h = h} {h' = h'} {r = r} {r' = r'} k (ap (λ (z : Remembered ℕ). z.entries) same) (ap (λ (z : Remembered ℕ). slots z.places.index) same) (ap (λ (z : Remembered ℕ). most_beside z) same) keys
+
+-- a lookup among the residents alone
+pub looked_resident : {key hashes x questions : ℕ} {h h' : Remembered ℕ} {r r' : KeyPlaces ℕ (Unit {0})} → HasResident key hashes h r
+    → h' ≡ record h { places = places_looked_up x h.places } → r' ≡ record r { questions = questions } → HasResident key hashes h' r'
+looked_resident {h = h} {h' = h'} {r = r} {r' = r'} k same asked =
+    same_resident {h = h} {h' = h'} {r = r} {r' = r'} k (ap (λ (z : Remembered ℕ). z.entries) same) (ap (λ (z : Remembered ℕ). slots z.places.index) same) (ap (λ (z : Remembered ℕ). most_beside z) same)
+    (rw asked refl)
+
 -- a comparison of a resident's key changes nothing but what was asked
 pub asked_resident : {key hashes questions : ℕ} {h h' : Remembered ℕ} {r r' : KeyPlaces ℕ (Unit {0})} → HasResident key hashes h r
     → h' ≡ h → r' ≡ record r { questions = questions } → HasResident key hashes h' r'
-asked_resident {h = h} {h' = h'} {r = r} {r' = r'} k same asked = kept_resident {h = h} {h' = h'} {r = r} {r' = r'} k (rw same refl) (rw asked refl)
+asked_resident {h = h} {h' = h'} {r = r} {r' = r'} k same asked = same_resident {h = h} {h' = h'} {r = r} {r' = r'} k (rw same refl) (rw same refl) (rw same refl) (rw asked refl)
 
 -- a slot with a hash was made
 was_made : (es : List (Entry ℕ (Unit {0}))) (hash : ℕ) → hash_at es 0 ≡ Some hash → 0 < length es

@@ -10,13 +10,13 @@ impl<K: Hash + Eq + Drop, V: Drop, S: BuildHasher, A: Allocator> Cache<K, V, S, 
     ghost use Rattle.std.specs.Option.{UnwrapsOrElse};
     ghost use Rattle.std.specs.Borrow.{sem};
     ghost use Rattle.clock2q_machine.specs.Bounds.{inspections_for};
-    ghost use Rattle.clock2q_machine.specs.Calls.{Put, With};
+    ghost use Rattle.clock2q_machine.specs.Calls.{SlotFor, With};
     ghost use Rattle.clock2q_cache.specs.Charged.{with_slot};
     ghost use Rattle.clock2q_cache.specs.CacheLends.{LeavesMachine, LeavesTried, LendsPut, LendsTaken};
     ghost use Rattle.clock2q_cache.specs.Hashes.{hash_of};
     ghost use Rattle.clock2q_cache.specs.Closures.{Fetches, Takes};
-    ghost use Rattle.clock2q_cache.specs.Costs.{Costs, Reaches, Spends, accesses_for, alike, slots_for};
-    ghost use Rattle.clock2q_cache.specs.Places.{known_with};
+    ghost use Rattle.clock2q_cache.specs.Costs.{Costs, Reaches, Spends, accesses_for, alike, slots_for, walked};
+    ghost use Rattle.clock2q_cache.specs.Places.{known_taken};
     ghost use Rattle.clock2q_machine.specs.Machine.{slot_of, value_of};
     ghost use Rattle.clock2q_machine.specs.Steps.{put, fetched, slotted, slotted_at};
 
@@ -98,15 +98,16 @@ impl<K: Hash + Eq + Drop, V: Drop, S: BuildHasher, A: Allocator> Cache<K, V, S, 
     ///
     /// # Cost
     ///
-    /// That of [`put`](Cache::put), and that of `make` if it is called. Contracts don't see what
-    /// the call spent: its counts of questions and of accesses to links are raised to the bounds.
+    /// That of [`put`](Cache::put), and that of `make` if it is called. If the key isn't resident,
+    /// it is looked up twice. Contracts don't see what the call spent: its counts of questions and
+    /// of accesses to links are raised to the bounds.
     pub fn get_or_insert_mut<F: FnOnce() -> V>(&mut self, key: K, make: F) -> (usize, &mut V)
         requires { slice_get self.old.machine.values (slotted_at (slot_of (K.eq key) self.old.machine) (K.eq key) key self.old.machine) ≡ None → F.pre make }
         ensures* writes_back { sem 𝓛 (LendsTaken K.row V.row S.row A.row S.Hasher.row K.Hash S.BuildHasher S.Hasher.Hasher A.Allocator self.entry key result.1) }
         ensures slot { result.0 ≡ slotted_at (slot_of (K.eq key) self.old.machine) (K.eq key) key self.old.machine }
         ensures value { UnwrapsOrElse (slice_get self.old.machine.values result.0) (F.post make) result.1.now }
         ensures unwritten { put (K.eq key) key result.1.now self.old.machine ≡ slotted (K.eq key) key result.1.now self.old.machine }
-        ensures costs { (value : V) → Costs K.Hash S.BuildHasher S.Hasher.Hasher (Put key value) self.old (with_slot K.Hash S.BuildHasher S.Hasher.Hasher key value self.old) }
+        ensures costs { (value : V) → Costs K.Hash S.BuildHasher S.Hasher.Hasher (SlotFor key value) self.old (with_slot K.Hash S.BuildHasher S.Hasher.Hasher key value self.old) }
     {
         let _ = self.len(); // whose contract says that the cache is whole
         let hash = self.hash(&key);
@@ -163,7 +164,7 @@ impl<K: Hash + Eq + Drop, V: Drop, S: BuildHasher, A: Allocator> Cache<K, V, S, 
         requires make { slice_get self.old.machine.values (slotted_at (slot_of (K.eq key) self.old.machine) (K.eq key) key self.old.machine) ≡ None → F.pre make }
         ensures taken { Takes (K.eq key) key (F.post make) self.old.machine result self.new.machine }
         ensures made { result < length self.new.machine.values }
-        ensures known { self.new.known ≡ known_with K.Hash S.BuildHasher S.Hasher.Hasher key self.old }
+        ensures known { self.new.known ≡ known_taken K.Hash S.BuildHasher S.Hasher.Hasher key self.old }
         ensures hasher { self.new.hasher ≡ self.old.hasher }
         ensures counts { Spends (inspections_for (K.eq key) self.old.machine) (accesses_for (K.eq key) self.old.machine) (alike K.Hash S.BuildHasher S.Hasher.Hasher key self.old) self.old.counts self.new.counts }
     {
@@ -195,7 +196,7 @@ impl<K: Hash + Eq + Drop, V: Drop, S: BuildHasher, A: Allocator> Cache<K, V, S, 
         ensures machine { OnErr result (self.new.machine ≡ self.old.machine) }
         ensures hasher { self.new.hasher ≡ self.old.hasher }
         ensures counts { OnOk result (Spends (inspections_for (K.eq key) self.old.machine) (accesses_for (K.eq key) self.old.machine) (alike K.Hash S.BuildHasher S.Hasher.Hasher key self.old) self.old.counts self.new.counts) }
-        ensures index { MatchResult result (λ _. Reaches (slots_for K.Hash S.BuildHasher S.Hasher.Hasher key self.old) self.old self.new) (λ _. Reaches 0 self.old self.new) }
+        ensures index { MatchResult result (λ _. Reaches (slots_for K.Hash S.BuildHasher S.Hasher.Hasher key self.old) self.old self.new) (λ _. Reaches (walked K.Hash S.BuildHasher S.Hasher.Hasher self.old key) self.old self.new) }
         ensures asked { OnErr result (Spends 0 0 (alike K.Hash S.BuildHasher S.Hasher.Hasher key self.old) self.old.counts self.new.counts) }
     {
         let hash = self.hash(&key);

@@ -18,7 +18,7 @@ impl<K: Hash + Eq + Drop, V: Drop, S: BuildHasher, A: Allocator> Cache<K, V, S, 
     ghost use Rattle.clock2q_cache.specs.CacheState.{remembered_in};
     ghost use Rattle.clock2q_machine.specs.Entries.{inspections};
     ghost use Rattle.clock2q_cache.specs.Closures.{Reuses};
-    ghost use Rattle.clock2q_cache.specs.Places.{known_at, out_of_small};
+    ghost use Rattle.clock2q_cache.specs.Places.{known_at, looked_for, out_of_small};
     ghost use Rattle.clock2q_cache.specs.Insertions.{EntersMain, EntersQueue, EntersSmall, IsAbsent, IsUnknown, Notes, placed, makes_slot, next_is_vacant, main_inspections, small_inspections, leaves_placed};
     ghost use Rattle.clock2q_machine.specs.Leaving.{leaves_for_main};
     ghost use Rattle.clock2q_machine.specs.Machine.{vacancy, goes_to_main, into_main, into_small, placement, inserted};
@@ -48,7 +48,7 @@ impl<K: Hash + Eq + Drop, V: Drop, S: BuildHasher, A: Allocator> Cache<K, V, S, 
         requires make { slice_get self.old.machine.values (placement (K.eq key) key self.old.machine).slot ≡ None → F.pre make }
         ensures slot { result ≡ (placement (K.eq key) key self.old.machine).slot }
         ensures machine { Reuses (K.eq key) key (F.post make) self.old.machine self.new.machine }
-        ensures known { self.new.known ≡ known_at K.Hash S.BuildHasher S.Hasher.Hasher key result self.old }
+        ensures known { self.new.known ≡ known_at K.Hash S.BuildHasher S.Hasher.Hasher key result (looked_for K.Hash S.BuildHasher S.Hasher.Hasher key self.old) }
         ensures hasher { self.new.hasher ≡ self.old.hasher }
         ensures counts { Spends (inspections_for (K.eq key) self.old.machine) (inspections_for (K.eq key) self.old.machine + 36) (length (candidates (remembered_in self.old.known) hash)) self.old.counts self.new.counts }
     {

@@ -22,8 +22,9 @@ impl<K: Hash + Eq, V, S: BuildHasher, A: Allocator> Cache<K, V, S, A> {
     ///
     /// # Cost
     ///
-    /// One hash of the key, and at most one question to each candidate. At most eight accesses
-    /// to links, one change of the index, under the key's hash, and no inspection by the hand.
+    /// One hash of the key, and at most one question to each candidate. At most eight accesses to
+    /// links, one lookup in the index and one change of it, both under the key's hash, and no
+    /// inspection by the hand.
     pub fn remove(&mut self, key: &K) -> bool
         ensures found { IsTrue result ↔ IsSome (slot_of (K.eq key.now) self.old.machine) }
         ensures machine { self.new.machine ≡ removed (K.eq key.now) self.old.machine }

@@ -139,7 +139,8 @@ impl<K: Hash + Eq + Drop, V: Drop, S: BuildHasher, A: Allocator> Cache<K, V, S, 
     /// # Cost
     ///
     /// One hash of the key, and at most one question to each candidate in the history. If the key
-    /// is inserted, that of [`put`](Cache::put).
+    /// is inserted, that of [`put`](Cache::put), and one more walk of the index, the first, which
+    /// `costs` leaves out.
     pub fn slot_with_hash_or_insert(&mut self, key: K, value: V) -> (usize, bool)
         ensures first { result.1 ≡ false → slice_get (slots_with_hash K.Hash S.BuildHasher S.Hasher.Hasher (hash_of S.BuildHasher S.Hasher.Hasher self.old.hasher (K.hash_input key)) self.old) 0 ≡ Some result.0 }
         ensures same { result.1 ≡ false → self.new ≡ self.old }

@@ -3,6 +3,7 @@ ghost use Rattle.std.specs.List.{list_any};
 ghost use Rattle.std.specs.Prelude.{◌≡◌, ℕ, ◌+◌, ◌^◌, ◌<◌, ◌≤◌, nat_eq, true, length, IfOk};
 ghost use Rattle.clock2q_handles.specs.Homes.{candidates, capacity, is_entry_of, listed, no_entries, removed, total, with_handle};
 ghost use Rattle.clock2q_handles.specs.Positions.{relabelled};
+ghost use Rattle.clock2q_handles.specs.Layout.{walk};
 ghost use Rattle.clock2q_handles.specs.TableStep.{IsBelowCapacity, made_for};
 ghost use Rattle.clock2q_directory.specs.Accesses.{CountedTable as Counted, counted, most_changed};
 
@@ -11,10 +12,13 @@ use clock2q_handles::{Candidates, Table};
 use std::alloc::{AllocError, Allocator, Global};
 use std::marker::Model;
 
-/// A [`Table`] of numbers, and the number of its slots that were read and written by changes.
+/// A [`Table`] of numbers, and the number of its slots that were read and written by changes, and
+/// read by the lookups that are charged.
 ///
 /// Each change raises that number to its bound: the walk of the hash, and its run twice, each with
-/// the slot of one more entry. A change therefore seems to take what it takes at most.
+/// the slot of one more entry. A change therefore seems to take what it takes at most. A lookup
+/// borrows the table, so its reads are counted in the [`Candidates`] that it returns; whoever can
+/// change the table charges it the most that these may read.
 #[derive(Drop)]
 pub(super) struct CountedTable<A: Allocator = Global> {
     table: Table<u32, A>,
@@ -64,12 +68,23 @@ impl<A: Allocator> CountedTable<A> {
         self.table.capacity()
     }
 
-    /// Returns the handles under a hash.
+    /// Returns the handles under a hash. The number of accesses stays: the handles have yet to be
+    /// read.
     #[inline(always)]
     pub(super) fn get(&self, hash: u64) -> Candidates<'_, u32>
         ensures handles { result.left ≡ candidates self.now.homes hash }
+        ensures reads { result.reads + result.unread ≡ walk self.now.homes hash }
     {
         self.table.get(hash)
+    }
+
+    /// Raises the number of accesses by the walk of a hash: the most slots that the handles of one
+    /// [`get`](CountedTable::get) read.
+    pub(super) fn charge_lookup(&mut self, hash: u64)
+        ensures charged { self.new ≡ counted self.old.homes (self.old.accesses + walk self.old.homes hash) }
+    {
+        let most = self.most(hash);
+        self.charge(&most);
     }
 
     /// Inserts a handle under a hash.

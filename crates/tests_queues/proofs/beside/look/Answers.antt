@@ -1,7 +1,7 @@
 use Rattle.std.proofs.Common.{◌≡◌, ℕ, ◌%◌}
 use Rattle.clock2q_directory.specs.Index.{slots}
 use Rattle.clock2q_directory.proofs.Indexes.{candidates_there}
-use Rattle.tests_queues.proofs.Residents.{asked_resident, is-resident}
+use Rattle.tests_queues.proofs.Residents.{asked_resident, looked_resident, is-resident}
 use Rattle.tests_queues.proofs.beside.look.Goals as goal
 
 pub slot_of-slot-requires : goal.slot_of-slot-requires
@@ -17,10 +17,10 @@ find_resident-again-requires g c =
 pub key_equals-requires : goal.key_equals-requires
 key_equals-requires g c =
     let e = c.find_resident-again.ensures in
-    record { made = (is-resident (asked_resident c.requires.resident e.kept e.counted)).made }
+    record { made = (is-resident (looked_resident c.requires.resident e.kept e.counted)).made }
 
 pub returns : goal.returns
 returns g c =
     let e = c.find_resident-again.ensures in
     let n = c.key_equals.ensures in
-    record { resident = asked_resident (asked_resident c.requires.resident e.kept e.counted) n.kept n.counted }
+    record { resident = asked_resident (looked_resident c.requires.resident e.kept e.counted) n.kept n.counted }

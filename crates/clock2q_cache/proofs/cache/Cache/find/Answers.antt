@@ -1,7 +1,7 @@
 -- The lookup through the index finds the slot of the resident.
 use Rattle.std.proofs.Common.{refl, ap, ◌∙◌}
 use Rattle.clock2q_cache.proofs.Names.{hash_of, CacheState, slot_of}
-use Rattle.clock2q_cache.proofs.Changed.{kept-asked}
+use Rattle.clock2q_cache.proofs.Changed.{kept-looked}
 use Rattle.clock2q_cache.proofs.Finding.{candidates-there, found, found-made}
 use Rattle.clock2q_cache.proofs.Spent.{asked-spends}
 use Rattle.clock2q_cache.proofs.cache.Cache.find.Goals as goal
@@ -10,7 +10,7 @@ pub find_resident-requires : goal.find_resident-requires
 find_resident-requires g c = record { made = candidates-there g.met.K.Eq.laws c.self.invariant c.args.hash }
 
 pub invariant_of-self : goal.invariant_of-self
-invariant_of-self g c = rw (c.find_resident.ensures.kept, c.find_resident.ensures.counted) (kept-asked g.met.K.Eq.laws c.self.invariant _ refl refl)
+invariant_of-self g c = rw (c.find_resident.ensures.kept, c.find_resident.ensures.counted) (kept-looked g.met.K.Eq.laws c.self.invariant c.args.hash _ _ refl refl refl)
 
 pub returns-clause-slot : goal.returns-clause-slot
 returns-clause-slot g c =

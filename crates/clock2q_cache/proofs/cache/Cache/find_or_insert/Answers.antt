@@ -5,7 +5,7 @@ use Rattle.clock2q_cache.proofs.Finding.{no-slot}
 use Rattle.clock2q_cache.proofs.Fetched.{hit-fetches, new-fetches}
 use Rattle.clock2q_cache.proofs.Insertions.{hit-spends, insert-spends}
 use Rattle.clock2q_cache.proofs.Reaching.{reaches-with}
-use Rattle.clock2q_cache.proofs.Spent.{reaches-none}
+use Rattle.clock2q_cache.proofs.Spent.{reaches-looked}
 use Rattle.clock2q_cache.proofs.cache.Cache.find_or_insert.Goals as goal
 
 pub returns-in-Resident-clause-fetched : goal.returns-in-Resident-clause-fetched
@@ -30,7 +30,8 @@ returns-in-Resident-clause-counts g c =
     (ap (λ (z : CacheState _ _ _). z.counts) c.record_hit.ensures.kept) (omega arith)
 
 pub returns-in-Resident-clause-index : goal.returns-in-Resident-clause-index
-returns-in-Resident-clause-index g c = reaches-none (ap (λ (z : CacheState _ _ _). z.known) c.record_hit.ensures.kept ∙ ap (λ (z : CacheState _ _ _). z.known) c.lookup-found.ensures.kept)
+returns-in-Resident-clause-index g c = reaches-looked (record { eq = g.K.PartialEq.eq; hash_input = g.K.Hash.hash_input }) g.S.BuildHasher g.S.Hasher.Hasher c.args.key
+    (ap (λ (z : CacheState _ _ _). z.known) c.record_hit.ensures.kept ∙ ap (λ (z : CacheState _ _ _). z.known) c.lookup-found.ensures.kept) (omega arith)
 
 pub returns-clause-index : goal.returns-clause-index
 returns-clause-index g c =

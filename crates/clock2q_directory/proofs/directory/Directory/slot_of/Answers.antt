@@ -1,6 +1,5 @@
-use Rattle.std.proofs.Common.{◌<◌, length, ap, sym, ◌∙◌, subst}
-use Rattle.std.specs.List.{find, AllByRecursion}
-use Rattle.clock2q_directory.specs.Keys.{is_key_at}
+use Rattle.std.proofs.Common.{◌<◌, length, sym, subst}
+use Rattle.std.specs.List.{AllByRecursion}
 use Rattle.clock2q_directory.proofs.directory.Directory.slot_of.Goals as goal
 
 pub find_counting_in-requires : goal.find_counting_in-requires

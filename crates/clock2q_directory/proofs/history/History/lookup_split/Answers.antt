@@ -28,14 +28,14 @@ returns-in-Some-clause-asked g c =
     let asked = ap (λ (z : KeyPlaces _ _). z.questions) c.find.ensures.counted in
     (omega (arith, asked), omega (arith, asked, most))
 
-pub returns-in_default-find-clause-absent : goal.returns-in_default-find-clause-absent
-returns-in_default-find-clause-absent g c =
+pub returns-in_default-search_places-clause-absent : goal.returns-in_default-search_places-clause-absent
+returns-in_default-search_places-clause-absent g c =
     let i = c.self.inside in
     λ none nowhere. sym (c.in_default.ensures.found
     ∙ ap (λ z. find (is_key_at g.K.PartialEq.eq c.args.key.now c.args.residents.now.entries) z) (slots-shown i.index i.order i.keys c.self.view_is c.args.hash c.handles.ensures.handles))
 
-pub returns-in_default-find-clause-asked : goal.returns-in_default-find-clause-asked
-returns-in_default-find-clause-asked g c =
+pub returns-in_default-search_places-clause-asked : goal.returns-in_default-search_places-clause-asked
+returns-in_default-search_places-clause-asked g c =
     let i = c.self.inside in
     let most =
     questions-within (is_key_at g.K.PartialEq.eq c.args.key.now c.args.residents.now.entries) _

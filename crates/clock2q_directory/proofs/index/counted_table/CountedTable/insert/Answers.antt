@@ -1,6 +1,4 @@
-use Rattle.std.proofs.Common.{◌≡◌, ◌+◌, ◌^◌, ◌<◌, true, sym, ap, ◌∙◌, subst, arith}
-use Rattle.std.specs.Prelude.{nat_eq}
-use Rattle.std.specs.List.{list_any}
+use Rattle.std.proofs.Common.{◌+◌, ◌^◌, ◌<◌, sym, ap, ◌∙◌, subst, arith}
 use Rattle.clock2q_handles.specs.Homes.{with_handle, total}
 use Rattle.clock2q_handles.specs.TableStep.{IsBelowCapacity}
 use Rattle.clock2q_directory.specs.Accesses.{CountedTable, counted, most_changed}

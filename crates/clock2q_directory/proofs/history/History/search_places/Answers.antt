@@ -5,7 +5,7 @@ use Rattle.clock2q_directory.specs.Keys.{KeyPlaces, is_key_at}
 use Rattle.clock2q_directory.proofs.Lookups.{questions-within}
 use Rattle.clock2q_directory.proofs.Looking.{shared-places, own-places, own-there, places-shown, questions-shown, place-shown}
 use Rattle.clock2q_directory.proofs.Views.{candidates-places}
-use Rattle.clock2q_directory.proofs.history.History.find.Goals as goal
+use Rattle.clock2q_directory.proofs.history.History.search_places.Goals as goal
 
 pub find_remembered-requires : goal.find_remembered-requires
 find_remembered-requires g c =

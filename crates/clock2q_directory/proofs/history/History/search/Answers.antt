@@ -6,9 +6,9 @@ use Rattle.clock2q_directory.specs.Index.{is_shared, places_among}
 use Rattle.clock2q_directory.specs.Keys.{is_key_at}
 use Rattle.clock2q_directory.proofs.Looking.{IsFirst, first-known, shared-places, slots-shown, places-shown, questions-shown, place-shown}
 use Rattle.clock2q_directory.proofs.Views.{candidates-places}
-use Rattle.clock2q_directory.proofs.history.History.lookup.Given.{Over}
-use Rattle.clock2q_directory.proofs.history.History.lookup.Goals.{After-look_among}
-use Rattle.clock2q_directory.proofs.history.History.lookup.Goals as goal
+use Rattle.clock2q_directory.proofs.history.History.search.Given.{Over}
+use Rattle.clock2q_directory.proofs.history.History.search.Goals.{After-look_among}
+use Rattle.clock2q_directory.proofs.history.History.search.Goals as goal
 
 pub look_among-requires-clause-slots : goal.look_among-requires-clause-slots
 look_among-requires-clause-slots g c =
