@@ -114,9 +114,20 @@ bool clock2q_at(clock2q *cache, size_t slot, uint64_t key);
 /* Returns true if the key has a slot, and records nothing. Needs a cache. Costs one hash. */
 bool clock2q_contains(clock2q *cache, uint64_t key);
 
+/* Finds the slot of a key, if it has one, and records nothing; clock2q_peek below writes the slot instead.
+ * So the key that you keep for a slot has it still if its slot is this one. Needs a cache. Costs one hash. */
+clock2q_found clock2q_peek_key(clock2q *cache, uint64_t key);
+
 /* Takes the slot of a key away and returns true. A key that has none is forgotten, if it was
  * remembered. Needs a cache. Costs one hash and at most 8 accesses to the queues. */
 bool clock2q_remove(clock2q *cache, uint64_t key);
+
+/* Takes the slot away from the key that leaves next, and returns its place: `slot` was its slot, `last`
+ * is the key, `has_last` and `evicted` are true. If no key has a slot, all of them are 0 or false.
+ * clock2q_evict below writes that instead. In a full cache it is the key that a new one would make leave;
+ * the next key that enters takes its slot. Needs a cache. Costs no hash, at most 21 accesses to the
+ * queues, and one for each key that the hand passes over. */
+clock2q_place clock2q_evict_key(clock2q *cache);
 
 /* Takes all slots away, and forgets all keys. Needs a cache. Takes time in proportion to the
  * capacity. */
@@ -197,6 +208,10 @@ bool clock2q_tokens_remove(clock2q_tokens *cache, size_t slot);
  * away and returns true. Needs a cache. Costs at most 8 accesses to the queues. */
 bool clock2q_tokens_forget(clock2q_tokens *cache, uint64_t hash, uint64_t number);
 
+/* Takes the slot away from the token that leaves next, and finds the slot, as clock2q_evict_key does.
+ * Finds none if no token has a slot. Needs a cache. */
+clock2q_found clock2q_tokens_evict(clock2q_tokens *cache);
+
 /* The same as clock2q_clear, clock2q_len, clock2q_capacity and clock2q_release. They need a cache. */
 void clock2q_tokens_clear(clock2q_tokens *cache);
 size_t clock2q_tokens_len(clock2q_tokens *cache);
@@ -249,7 +264,9 @@ static inline clock2q_tokens clock2q_tokens_checked_value(clock2q_tokens cache) 
 #define clock2q_find_key(cache, key) clock2q_find_key(clock2q_checked(cache, true), key)
 #define clock2q_at(cache, slot, key) clock2q_at(clock2q_checked(cache, true), slot, key)
 #define clock2q_contains(cache, key) clock2q_contains(clock2q_checked(cache, true), key)
+#define clock2q_peek_key(cache, key) clock2q_peek_key(clock2q_checked(cache, true), key)
 #define clock2q_remove(cache, key) clock2q_remove(clock2q_checked(cache, true), key)
+#define clock2q_evict_key(cache) clock2q_evict_key(clock2q_checked(cache, true))
 #define clock2q_clear(cache) clock2q_clear(clock2q_checked(cache, true))
 #define clock2q_len(cache) clock2q_len(clock2q_checked(cache, true))
 #define clock2q_capacity(cache) clock2q_capacity(clock2q_checked(cache, true))
@@ -265,6 +282,7 @@ static inline clock2q_tokens clock2q_tokens_checked_value(clock2q_tokens cache) 
 #define clock2q_tokens_remove(cache, slot) clock2q_tokens_remove(clock2q_tokens_checked(cache, true), slot)
 #define clock2q_tokens_forget(cache, hash, number) \
     clock2q_tokens_forget(clock2q_tokens_checked(cache, true), hash, number)
+#define clock2q_tokens_evict(cache) clock2q_tokens_evict(clock2q_tokens_checked(cache, true))
 #define clock2q_tokens_clear(cache) clock2q_tokens_clear(clock2q_tokens_checked(cache, true))
 #define clock2q_tokens_len(cache) clock2q_tokens_len(clock2q_tokens_checked(cache, true))
 #define clock2q_tokens_capacity(cache) clock2q_tokens_capacity(clock2q_tokens_checked(cache, true))
@@ -282,6 +300,23 @@ static inline void clock2q_enter(clock2q *cache, uint64_t key, clock2q_place *pl
 static inline bool clock2q_find(clock2q *cache, uint64_t key, size_t *slot) {
     assert(slot != NULL);
     clock2q_found found = clock2q_find_key(cache, key);
+    if (found.is_found) *slot = found.slot;
+    return found.is_found;
+}
+
+/* clock2q_evict_key, which writes to `place` and returns true. Returns false, with `place` as it was, if
+ * no key has a slot. */
+static inline bool clock2q_evict(clock2q *cache, clock2q_place *place) {
+    assert(place != NULL);
+    clock2q_place left = clock2q_evict_key(cache);
+    if (left.evicted) *place = left;
+    return left.evicted;
+}
+
+/* clock2q_peek_key, as clock2q_find is clock2q_find_key. */
+static inline bool clock2q_peek(clock2q *cache, uint64_t key, size_t *slot) {
+    assert(slot != NULL);
+    clock2q_found found = clock2q_peek_key(cache, key);
     if (found.is_found) *slot = found.slot;
     return found.is_found;
 }

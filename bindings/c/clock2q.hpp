@@ -74,6 +74,8 @@ class page_cache {
     bool at(std::size_t slot, std::uint64_t key) noexcept { return clock2q_at(&handle_, slot, key); }
     // Returns true if the key has a slot, and records nothing.
     bool contains(std::uint64_t key) noexcept { return clock2q_contains(&handle_, key); }
+    // Finds the slot of a key, if the key has one, and records nothing.
+    clock2q_found peek(std::uint64_t key) noexcept { return clock2q_peek_key(&handle_, key); }
     // Takes the slot of a key away, or forgets the key, and returns true if it had one.
     bool erase(std::uint64_t key) noexcept { return clock2q_remove(&handle_, key); }
     // Takes all slots away, and forgets all keys.

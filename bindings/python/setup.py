@@ -41,6 +41,7 @@ class BuildOverLibrary(build_ext):
 setup(
     cmdclass={"build_ext": BuildOverLibrary},
     ext_modules=[
+        # Not for the limited API: calls of `cached` are vectorcalls, which it has from Python 3.12 on.
         Extension(
             "clock2q._extension",
             sources=[f"extension/{name}.c" for name in ("module", "pairs", "cache", "cached", "pages")],

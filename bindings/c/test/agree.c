@@ -45,11 +45,27 @@ static bool finds(struct run *run, uint64_t key) {
     return found == (expected != NOWHERE) && slot == (found ? (size_t)expected : 77);
 }
 
+static bool peeks(struct run *run, uint64_t key) {
+    size_t slot = 77;
+    bool found = clock2q_peek(&run->cache, key, &slot);
+    long expected = model_slot(&run->model, key);
+    return found == (expected != NOWHERE) && slot == (found ? (size_t)expected : 77);
+}
+
 static bool is_at(struct run *run, uint64_t key) {
     size_t slot = (size_t)(draw() % (run->model.capacity + 1));
     bool expected = model_slot(&run->model, key) == (long)slot;
     if (expected) model_hit(&run->model, key);
     return clock2q_at(&run->cache, slot, key) == expected;
+}
+
+static bool evicts(struct run *run) {
+    clock2q_place place = {77, 77, false, false};
+    uint64_t key = 77;
+    long slot = 77;
+    bool expected = model_evict(&run->model, &key, &slot);
+    return clock2q_evict(&run->cache, &place) == expected && (long)place.slot == slot && place.last == key
+        && place.has_last == expected && place.evicted == expected;
 }
 
 static bool counts(struct run *run) {
@@ -70,7 +86,9 @@ static bool call_agrees(struct run *run) {
     if (kind < 16) return enters(run, key);
     if (kind < 24) return finds(run, key);
     if (kind < 27) return is_at(run, key);
-    if (kind < 30) return clock2q_contains(&run->cache, key) == (model_slot(&run->model, key) != NOWHERE);
+    if (kind < 28) return peeks(run, key);
+    if (kind < 29) return clock2q_contains(&run->cache, key) == (model_slot(&run->model, key) != NOWHERE);
+    if (kind < 30) return evicts(run);
     if (kind < 31) return clock2q_remove(&run->cache, key) == model_remove(&run->model, key);
     return counts(run);
 }

@@ -534,7 +534,7 @@ static void pages() {
     page_cache two = std::move(one);
     one = page_cache(3);
     swap(one, two);
-    must(one.contains(7) && one.size() == 1 && one.capacity() == 2 && two.capacity() == 3, "it goes along");
+    must(one.contains(7) && one.peek(7).slot == place.slot && !one.peek(8).is_found && one.size() == 1 && one.capacity() == 2 && two.capacity() == 3, "it goes along");
     must(one.erase(7) && !one.erase(7) && one.size() == 0, "it is erased");
     one.enter(8);
     one.clear();

@@ -20,7 +20,11 @@ static void enter(void) { clock2q_enter(&none, 7, &place); }
 static void find(void) { clock2q_find(&none, 7, &slot); }
 static void at(void) { clock2q_at(&none, 0, 7); }
 static void contains(void) { clock2q_contains(&none, 7); }
+static void peek(void) { clock2q_peek(&none, 7, &slot); }
+static void peek_nowhere(void) { clock2q_peek(&made, 7, NULL); }
 static void take_away(void) { clock2q_remove(&none, 7); }
+static void evict(void) { clock2q_evict(&none, &place); }
+static void evict_nowhere(void) { clock2q_evict(&made, NULL); }
 static void clear(void) { clock2q_clear(&none); }
 static void len(void) { clock2q_len(&none); }
 static void capacity(void) { clock2q_capacity(&none); }
@@ -45,7 +49,7 @@ static bool is_stopped(void (*call)(void)) {
 }
 
 int main(void) {
-    static void (*const calls[])(void) = {make, make_with_policy, enter, find, at, contains, take_away, clear, len, capacity, release, enter_nowhere, enter_key, find_key, find_nowhere, find_bytes, release_bytes};
+    static void (*const calls[])(void) = {make, make_with_policy, enter, find, at, contains, peek, peek_nowhere, take_away, evict, evict_nowhere, clear, len, capacity, release, enter_nowhere, enter_key, find_key, find_nowhere, find_bytes, release_bytes};
     if (clock2q_new(&made, 2) != CLOCK2Q_DONE) return 1;
     int failed = 0;
     for (size_t i = 0; i < sizeof calls / sizeof *calls; i++) {

@@ -105,13 +105,17 @@ static long take_vacancy(struct model *model) {
 }
 
 /* The hand gives each key of Main that was hit another round. */
-static long main_victim(struct model *model) {
+static struct entry taken_victim(struct model *model) {
     while (model->main.entries[0].bit) {
         struct entry entry = taken_out(&model->main, 0);
         entry.bit = false;
         put_last(&model->main, entry);
     }
-    return taken_out(&model->main, 0).slot;
+    return taken_out(&model->main, 0);
+}
+
+static long main_victim(struct model *model) {
+    return taken_victim(model).slot;
 }
 
 static void join_main(struct model *model, uint64_t key, long slot) {
@@ -180,6 +184,22 @@ static bool model_remove(struct model *model, uint64_t key) {
     }
     struct entry gone = small != NOWHERE ? taken_out(&model->small, (size_t)small) : taken_out(&model->main, (size_t)main);
     model->vacant[model->vacant_count++] = gone.slot;
+    return true;
+}
+
+/* Evicts a key though none comes, and writes it and its slot, if there is one. */
+static bool model_evict(struct model *model, uint64_t *key, long *slot) {
+    bool has_tail = model->small.count > 0, takes_victim = model->main.count > 0;
+    if (!has_tail && !takes_victim) return false;
+    struct entry tail = {.age = OLD, .bit = true};
+    if (has_tail) tail = taken_out(&model->small, model->small.count - 1);
+    takes_victim = takes_victim && tail.age == OLD && tail.bit;
+    struct entry left = takes_victim ? taken_victim(model) : tail;
+    if (!takes_victim) remember(model, left.key);
+    else if (has_tail) join_main(model, tail.key, tail.slot);
+    *key = left.key;
+    *slot = left.slot;
+    model->vacant[model->vacant_count++] = left.slot;
     return true;
 }
 

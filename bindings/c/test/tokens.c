@@ -69,6 +69,18 @@ static bool removes(struct run *run, size_t slot) {
     return clock2q_tokens_remove(&run->cache, slot) == expected;
 }
 
+static bool evicts(struct run *run) {
+    uint64_t code = 0;
+    long slot = 0;
+    bool expected = model_evict(&run->model, &code, &slot);
+    clock2q_found found = clock2q_tokens_evict(&run->cache);
+    if (found.is_found != expected || (long)found.slot != slot) return false;
+    if (!expected) return true;
+    bool is_its = run->is_used[slot] && run->codes[slot] == code;
+    run->is_used[slot] = false;
+    return is_its;
+}
+
 static bool enters(struct run *run, uint64_t key) {
     uint64_t hash = hash_of(run, key);
     size_t nth;
@@ -111,6 +123,7 @@ static bool call_agrees(struct run *run) {
         if (run->is_used[slot]) model_hit(&run->model, run->codes[slot]);
         return clock2q_tokens_hit(&run->cache, slot) == run->is_used[slot];
     }
+    if (kind < 53) return evicts(run);
     if (kind < 56) return removes(run, (size_t)(draw() % run->model.capacity));
     if (kind < 63) return lists_are_right(run, key);
     return draw() % 64 != 0 || clears(run);

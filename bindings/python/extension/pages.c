@@ -77,6 +77,14 @@ static PyObject *pages_find(Pages *self, PyObject *key) {
     Py_RETURN_NONE;
 }
 
+static PyObject *pages_peek(Pages *self, PyObject *key) {
+    uint64_t number;
+    size_t slot;
+    if (!read_key(self, key, &number)) return NULL;
+    if (clock2q_peek(&self->slots, number, &slot)) return PyLong_FromSize_t(slot);
+    Py_RETURN_NONE;
+}
+
 static PyObject *pages_is_at(Pages *self, PyObject *const *args, Py_ssize_t count) {
     uint64_t key;
     if (count != 2) return PyErr_Format(PyExc_TypeError, "is_at() takes a slot and a key");
@@ -119,6 +127,8 @@ static PyMethodDef pages_methods[] = {
      "enter($self, key, /)\n--\n\nReturn the Place of a key, after a hit or after giving it a slot."},
     {"find", (PyCFunction)pages_find, METH_O,
      "find($self, key, /)\n--\n\nReturn the slot of a key, after a hit, or None."},
+    {"peek", (PyCFunction)pages_peek, METH_O,
+     "peek($self, key, /)\n--\n\nReturn what find returns, without a hit."},
     {"is_at", (PyCFunction)(void (*)(void))pages_is_at, METH_FASTCALL,
      "is_at($self, slot, key, /)\n--\n\nReturn True, after a hit, if the key is at this slot."},
     {"remove", (PyCFunction)pages_remove, METH_O,

@@ -17,7 +17,7 @@ class PageCacheTest(unittest.TestCase):
         place = pages.enter(90)
         self.assertEqual((type(place), place.slot, place.last), (Place, 0, 90))
         self.assertEqual((pages.find(90), pages.find(70)), (0, None))
-        self.assertEqual((90 in pages, 70 in pages), (True, False))
+        self.assertEqual((pages.peek(90), pages.peek(70), 90 in pages, 70 in pages), (0, None, True, False))
         self.assertEqual([pages.is_at(slot, 80) for slot in (1, 0, -1, 2**70)], [True, False, False, False])
         self.assertEqual((pages.remove(80), pages.remove(80)), (True, False))
         self.assertEqual((len(pages), pages.capacity), (1, 2))
@@ -46,7 +46,7 @@ class PageCacheTest(unittest.TestCase):
             with self.assertRaises(ValueError):
                 PageCache(capacity)
         pages = PageCache(capacity=1)
-        for call in (pages.enter, pages.find, pages.remove, lambda key: pages.is_at(0, key)):
+        for call in (pages.enter, pages.find, pages.peek, pages.remove, lambda key: pages.is_at(0, key)):
             for key in (-1, 2**64):
                 with self.assertRaises(ValueError):
                     call(key)

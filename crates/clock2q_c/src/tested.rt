@@ -5,8 +5,8 @@ use crate::calls::{Found, Place};
 use crate::handle::Handle;
 use crate::{
     BAD_CAPACITY, BAD_POLICY, DONE, clock2q_at, clock2q_capacity, clock2q_clear, clock2q_contains,
-    clock2q_enter_key, clock2q_find_key, clock2q_len, clock2q_new, clock2q_release, clock2q_remove,
-    clock2q_with_policy,
+    clock2q_enter_key, clock2q_find_key, clock2q_len, clock2q_new, clock2q_peek_key,
+    clock2q_release, clock2q_remove, clock2q_with_policy,
 };
 use std::alloc::Global;
 use std::test::Fail;
@@ -44,6 +44,8 @@ fn keys_in_two_slots(rt: HostRuntime) -> Result<(), Fail> {
     assert!(rt; clock2q_at(&mut handle, 0, 90));
     assert!(rt; !clock2q_at(&mut handle, 1, 90));
     assert!(rt; clock2q_contains(&mut handle, 90));
+    assert_eq!(rt; found(clock2q_peek_key(&mut handle, 90)), (0, true));
+    assert_eq!(rt; found(clock2q_peek_key(&mut handle, 70)), (0, false));
     assert!(rt; clock2q_remove(&mut handle, 90));
     assert!(rt; !clock2q_contains(&mut handle, 90));
     assert_eq!(rt; clock2q_len(&mut handle), 1);

@@ -4,6 +4,7 @@
 mod asking;
 mod calls;
 mod entering;
+mod evicting;
 mod handle;
 mod held;
 mod making;
@@ -15,5 +16,6 @@ pub use calls::{
     Admitted, clock2q_tokens_admit, clock2q_tokens_clear, clock2q_tokens_enter,
     clock2q_tokens_forget, clock2q_tokens_hit, clock2q_tokens_remove,
 };
+pub use evicting::clock2q_tokens_evict;
 pub use handle::TokensHandle;
 pub use making::{clock2q_tokens_new, clock2q_tokens_release, clock2q_tokens_with_policy};

@@ -5,8 +5,8 @@ use Rattle.std.specs.Prelude.{IfSome, MatchOption}
 use Rattle.std.specs.Fn.{Once, FnOnceReturnsAt}
 use Rattle.clock2q_cache.proofs.Names.{if◌then◌else◌, is_some, slice_get, nat_lt, list_any, option_and_then, option_map, slice_get_within, last_or, main_share, Machine, Placement, slot_of, value_of, vacancy, vacant_slot, stored, inserted, IsWhole, Fills, placed, next_is_vacant, makes_slot, stored_same}
 use Rattle.clock2q_machine.specs.Calls.{Put}
-use Rattle.clock2q_machine.specs.Entries.{from_victim}
-use Rattle.clock2q_machine.specs.Leaving.{first_of, leaves_for, leaves_for_main, leaves_for_small, victim_of, with_value}
+use Rattle.clock2q_machine.specs.Entries.{first_of, from_victim}
+use Rattle.clock2q_machine.specs.Leaving.{leaves_for, leaves_for_main, leaves_for_small, victim_of, with_value}
 use Rattle.clock2q_cache.specs.Insertions.{leaves_placed, Notes}
 use Rattle.clock2q_cache.proofs.Insertions.{IsSent, goes-there}
 use Rattle.clock2q_cache.proofs.Making.{small-unknown, placed-there, placed-values}

@@ -3,8 +3,8 @@ use Rattle.std.proofs.Common.{◌≡◌, ℕ, ◌+◌, ◌*◌, ◌≤◌, ◌==
 use Rattle.std.specs.declared.hash.Hasher as hasher
 use Rattle.std.specs.declared.hash.BuildHasher as builder
 use Rattle.clock2q_cache.proofs.Names.{cases_Bool, or_parts, filter, list_any, last_or, last_some, option_map, is_some, none_is, if◌then◌else◌, nat_le, IfSome, IsEquivalence, HashMembers, Places, place_of, oldest_hash, pushed_places, is_promoted, SmallEntry, MainEntry, Machine, placement, inserted, forgotten, slot_of, resident_at, resident_made, vacancy, goes_to_main, history_share, get-within, replaced, after, Put, IsWhole, CacheState, hash_of, key_out, left_by, discarded, hash_in, looked_for, known_at, known_with, known_taken}
-use Rattle.clock2q_machine.specs.Entries.{from_victim}
-use Rattle.clock2q_machine.specs.Leaving.{first_of, leaves_for, leaves_for_main, leaves_for_small, leaver}
+use Rattle.clock2q_machine.specs.Entries.{first_of, from_victim}
+use Rattle.clock2q_machine.specs.Leaving.{leaves_for, leaves_for_main, leaves_for_small, leaver}
 use Rattle.clock2q_machine.proofs.MachineInvariant.{lasting-inserted}
 use Rattle.clock2q_machine.proofs.Entering.{slots_apart, differs, entered_there}
 use Rattle.clock2q_machine.proofs.Victims.{others_stay}
@@ -103,7 +103,7 @@ module _ {K V S H : Type 0} (key : HashMembers K) (build : builder.Ghosts S H) (
     pub accesses : q.index.accesses ≤ c.known.index.accesses + reached key build hash c k + reached_if key build hash c leaving + reached_if key build hash c (last_or None c.machine.history)
     pub shared : (y : ℕ) → most_changed q.index.shared y ≤ most_changed c.known.index.shared y
 
-  oldest_reached : (ks : List K) (ps : List ℕ) → length ps ≡ length ks
+  pub oldest_reached : (ks : List K) (ps : List ℕ) → length ps ≡ length ks
       → reached_oldest c.known.index (oldest_hash hashed ks) (last_or None ps) ≤ reached_if key build hash c (last_or None ks)
   oldest_reached ks [] e = omega arith
   oldest_reached [] (p ∷ ps) e = absurd (omega (arith, e))

@@ -13,11 +13,13 @@ pub mod Listed
 pub mod Makers
 pub mod LinearAccesses
 pub mod Making
+pub mod MakingRoom
 pub mod Names
 pub mod Places
 pub mod Reaching
 pub mod Renewed
 pub mod Retained
+pub mod RoomCosts
 pub mod Shared
 pub mod Slots
 pub mod Spent

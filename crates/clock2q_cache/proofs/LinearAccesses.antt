@@ -3,7 +3,7 @@ use Rattle.std.proofs.Common.{◌≡◌, ◌+◌, ◌*◌, ◌≤◌, Bool, true
 use Rattle.std.specs.Prelude.{if◌then◌else◌, is_some}
 use Rattle.std.specs.Cmp.{IsEquivalence}
 use Rattle.std.specs.List.{AllByRecursion}
-use Rattle.clock2q_machine.specs.Calls.{Call, Put, Get, Peek, Contains, GetAt, Set, With, Try, SlotFor, Remove, Retain, Clear, Prefill, Len, IsEmpty, Capacity}
+use Rattle.clock2q_machine.specs.Calls.{Call, Put, Get, Peek, Contains, GetAt, Set, With, Try, SlotFor, Remove, Retain, Clear, Evict, Prefill, Len, IsEmpty, Capacity}
 use Rattle.clock2q_machine.specs.Machine.{Machine, slot_of}
 use Rattle.clock2q_machine.specs.Steps.{after, after_all}
 use Rattle.clock2q_machine.specs.Bounds.{set_bits, inspections_for, inspections_of, summed}
@@ -25,6 +25,7 @@ visits_all (With key value) = false
 visits_all (Try key value) = false
 visits_all (SlotFor key value) = false
 visits_all (Remove key) = false
+visits_all Evict = false
 visits_all (Prefill values) = false
 visits_all Len = false
 visits_all IsEmpty = false
@@ -50,6 +51,7 @@ module _ {K V : Type 0} (eq : K → K → Bool) where
   call_accesses (Remove key) m some = omega arith
   call_accesses (Retain bits) m some = cc
   call_accesses Clear m some = cc
+  call_accesses Evict m some = omega arith
   call_accesses (Prefill values) m some = omega arith
   call_accesses Len m some = omega arith
   call_accesses IsEmpty m some = omega arith

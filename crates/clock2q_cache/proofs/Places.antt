@@ -29,7 +29,7 @@ key-out false None at = refl
 key-out b (Some tail) at = ap (λ z. if z then None else Some tail.key) (sym at)
 
 -- the hash stored with the oldest key is that of the key
-oldest-hashed : {K : Type 0} (hash : K → ℕ) (o : Option (ℕ × K)) (p : Option K) (es : List (ℕ × K))
+pub oldest-hashed : {K : Type 0} (hash : K → ℕ) (o : Option (ℕ × K)) (p : Option K) (es : List (ℕ × K))
     → ◌≡◌ {A = ℕ} (elim o [ None ↦ 0 | Some e ↦ e.0 ]) (elim p [ None ↦ 0 | Some k ↦ hash k ]) → AllByRecursion (λ (e : ℕ × K). e.0 ≡ hash e.1) es
     → ◌≡◌ {A = ℕ} (elim (last_or o es) [ None ↦ 0 | Some e ↦ e.0 ]) (elim (last_or p (map (λ (e : ℕ × K). e.1) es)) [ None ↦ 0 | Some k ↦ hash k ])
 oldest-hashed hash o p [] same all = same

@@ -63,10 +63,14 @@ module _ {K V S H : Type 0} (key : HashMembers K) (build : builder.Ghosts S H) (
         alike (Some r) there = ap (λ z. hash_of build hash old.hasher z) (sym (respects k r.0 (same-key key.eq laws old.machine whole k slot r found there)))
 
   -- the resident at a slot leaves, whose key is this one
-  pub reaches-own : (r : K × ℕ) (slot : ℕ) {old new : CacheState K V S} → new.known ≡ left_by (hash_in key build hash old) (Some r) slot old.known → Reaches (walked key build hash old r.0 + reached key build hash old r.0) old new
-  reaches-own r slot {old} is = record {
+  pub reaches-gone : (r : K × ℕ) (slot : ℕ) {old new : CacheState K V S} → new.known ≡ left_by (hash_in key build hash old) (Some r) slot old.known → Reaches (reached key build hash old r.0) old new
+  reaches-gone r slot {old} is = record {
     accesses = omega (arith, ap (λ (p : Places). p.index.accesses) is, left-reaches (hash_in key build hash old) (hash_in key build hash old r.0) (Some r) slot old.known refl);
   }
+
+  -- so it is within the bound of a removal by the key, which looks it up first
+  pub reaches-own : (r : K × ℕ) (slot : ℕ) {old new : CacheState K V S} → new.known ≡ left_by (hash_in key build hash old) (Some r) slot old.known → Reaches (walked key build hash old r.0 + reached key build hash old r.0) old new
+  reaches-own r slot {old} {new} is = record { accesses = omega (arith, (reaches-gone r slot {old = old} {new = new} is).accesses) }
 
 module _ {K V S H : Type 0} (key : HashMembers K) (build : builder.Ghosts S H) (hash : hasher.Ghosts H) where
   -- the index once some of the residents at the slots below left

@@ -6,7 +6,8 @@ use Rattle.clock2q_cache.proofs.Changed.{known-any}
 use Rattle.clock2q_cache.proofs.Finding.{none-has, counted-map}
 use Rattle.clock2q_cache.proofs.Insertions.{no_last}
 use Rattle.clock2q_machine.specs.Entries as machine
-use Rattle.clock2q_machine.specs.Leaving.{first_of, leaves_for_small}
+use Rattle.clock2q_machine.specs.Entries.{first_of}
+use Rattle.clock2q_machine.specs.Leaving.{leaves_for_small}
 use Rattle.clock2q_cache.specs.Insertions.{leaves_placed}
 use Rattle.clock2q_cache.proofs.WithKeys.{keys-cons, small-admitted, main-behind, small_with, main_with, keys-agree, small-take, small-last, main-from_victim}
 use Rattle.clock2q_cache.proofs.Stored.{stored-renewed, hash-of-key}
@@ -27,7 +28,7 @@ last-slot o p (y ∷ xs) t first h = last-slot (Some y) (Some y.0) xs t (λ e. (
 pub tail-there : {X : Type 0} (xs : List (ℕ × X)) (t : ℕ) → last_or None (slots_of xs) ≡ Some t → (x : X) × (last_or None xs ≡ Some (t, x))
 tail-there xs t h = last-slot None None xs t (λ e. absurd (cc)) h
 
-times-split : (t n : ℕ) (main : List (ℕ × Bool)) → times t (slots_of (drop n main ++ map {B = ℕ × Bool} (λ (e : ℕ × Bool). (e.0, false)) (take n main))) ≡ times t (slots_of main)
+pub times-split : (t n : ℕ) (main : List (ℕ × Bool)) → times t (slots_of (drop n main ++ map {B = ℕ × Bool} (λ (e : ℕ × Bool). (e.0, false)) (take n main))) ≡ times t (slots_of main)
 times-split t n main =
     let front = map {B = ℕ × Bool} (λ (e : ℕ × Bool). (e.0, false)) (take n main) in
     omega (
@@ -82,7 +83,7 @@ module _ {K V : Type 0} {eq : K → K → Bool} {hash : K → ℕ} {shares : Sha
     victim_times : times victim (slots_of q.main) ≡ 1 + times victim (slots_of rest)
     victim_times = omega (arith, rest_times victim, ap {B = ℕ} (λ b. cond b 1 0) (eqb_self victim))
 
-    victim-there : has victim (slots_of q.main) ≡ true
+    pub victim-there : has victim (slots_of q.main) ≡ true
     victim-there = has-times victim (slots_of q.main) (victim ∷ slots_of rest) (rest_times victim ∙ sym (times-cons victim victim (slots_of rest))) ∙ has_first victim (slots_of rest)
 
     pub victim-not_in_rest : has victim (slots_of rest) ≡ false
@@ -122,7 +123,7 @@ module _ {K V : Type 0} {eq : K → K → Bool} {hash : K → ℕ} {shares : Sha
     abbrev pub front : List (ℕ × Age)
     front = take (length q.small - 1) q.small
 
-    front_times : (t : ℕ) → times t (slots_of q.small) ≡ times t (slots_of front) + cond (tail == t) 1 0
+    pub front_times : (t : ℕ) → times t (slots_of q.small) ≡ times t (slots_of front) + cond (tail == t) 1 0
     front_times t = omega (
       arith,
       (weight-last (λ (e : ℕ × Age). cond (e.0 == t) 1 0) None q.small (tail, tail_at.0) (some-last q.small (tail, tail_at.0) tail_at.1) tail_at.1).0,
@@ -157,7 +158,7 @@ module _ {K V : Type 0} {eq : K → K → Bool} {hash : K → ℕ} {shares : Sha
       victim-not_behind = times-none victim (slots_of (rest victim first ++ (tail, false) ∷ []))
           (omega (arith, times-pushed victim (rest victim first) (tail, false), front_times victim, victim_times victim first, once_at victim))
 
-    length-front : suc (length front) ≡ length q.small
+    pub length-front : suc (length front) ≡ length q.small
     length-front = omega (arith, (weight-last (λ e. 0) None q.small (tail, tail_at.0) (some-last q.small (tail, tail_at.0) tail_at.1) tail_at.1).1)
 
     pub tail_key : (k : K) × (key_at keys.entries tail ≡ Some k)
@@ -169,10 +170,10 @@ module _ {K V : Type 0} {eq : K → K → Bool} {hash : K → ℕ} {shares : Sha
     pub last_entry : last_or None m.small ≡ Some tail_entry
     last_entry = small-last (key_at keys.entries) q.small (tail, tail_at.0) tail_key.0 (small_have laws kept) tail_at.1 tail_key.1
 
-    small_some : 0 < length m.small
+    pub small_some : 0 < length m.small
     small_some = omega (arith, length_in_small laws kept, length-front)
 
-    front_entries : with_keys_small (key_at keys.entries) front ≡ take (length m.small - 1) m.small
+    pub front_entries : with_keys_small (key_at keys.entries) front ≡ take (length m.small - 1) m.small
     front_entries = small-take (key_at keys.entries) (length q.small - 1) q.small (small_have laws kept)
         ∙ ap (λ n. take (n - 1) m.small) (sym (length_in_small laws kept))
 

@@ -6,7 +6,7 @@ use Rattle.clock2q_handles.specs.Homes.{no_entries}
 use Rattle.clock2q_handles.specs.Layout.{spill, layout}
 use Rattle.clock2q_directory.specs.Index.{index_state, entered}
 use Rattle.clock2q_directory.specs.History.{places_with}
-use Rattle.clock2q_machine.specs.Calls.{Call, SlotFor}
+use Rattle.clock2q_machine.specs.Calls.{Call, Evict, SlotFor}
 use Rattle.clock2q_machine.proofs.WorkedRuns.{puts, gets, state}
 use Rattle.clock2q_cache.specs.CacheState.{uncounted}
 use Rattle.clock2q_cache.specs.Hashes.{hash_of}
@@ -14,8 +14,8 @@ use Rattle.clock2q_cache.proofs.Names.{HashMembers, Put, Get, GetAt, Try, Remove
 
 links_of_a_whole_round : let m = state 20 (puts 1 20 ++ gets 3 18 ++ Get 1 ∷ []) in
     (most_accesses eqb (Put 21 21) m ≡ 55) × (most_accesses eqb (Put 20 20) m ≡ 0) × (most_accesses eqb (Try 21 None) m ≡ 0)
-    × (most_accesses eqb (Get 1) m ≡ 0) × (most_accesses eqb (GetAt 0 1) m ≡ 0) × (most_accesses eqb (Retain (false ∷ [])) m ≡ 160) × (most_accesses eqb Clear m ≡ 21)
-links_of_a_whole_round = (refl, refl, refl, refl, refl, refl, refl)
+    × (most_accesses eqb (Get 1) m ≡ 0) × (most_accesses eqb (GetAt 0 1) m ≡ 0) × (most_accesses eqb (Retain (false ∷ [])) m ≡ 160) × (most_accesses eqb Clear m ≡ 21) × (most_accesses eqb Evict m ≡ 40)
+links_of_a_whole_round = (refl, refl, refl, refl, refl, refl, refl, refl)
 
 -- each key is its own hash
 abbrev key : HashMembers ℕ
@@ -36,8 +36,8 @@ abbrev bounds : List (Call ℕ ℕ) → CacheState ℕ ℕ ℕ → List ℕ
 bounds calls c = map (λ call. most_slots key build hash call c) calls
 
 -- with homes of their own, a key that is there is found in its home, and the next slot ends the walk
-index_of_two : bounds (Get 1 ∷ Get 5 ∷ Get 9 ∷ GetAt 0 1 ∷ Put 1 1 ∷ Put 9 9 ∷ Try 9 None ∷ SlotFor 9 9 ∷ Remove 1 ∷ Retain [] ∷ Clear ∷ []) (full 1 5)
-    ≡ 2 ∷ 2 ∷ 1 ∷ 0 ∷ 2 ∷ 19 ∷ 1 ∷ 20 ∷ 10 ∷ 16 ∷ 16 ∷ []
+index_of_two : bounds (Get 1 ∷ Get 5 ∷ Get 9 ∷ GetAt 0 1 ∷ Put 1 1 ∷ Put 9 9 ∷ Try 9 None ∷ SlotFor 9 9 ∷ Remove 1 ∷ Retain [] ∷ Clear ∷ Evict ∷ []) (full 1 5)
+    ≡ 2 ∷ 2 ∷ 1 ∷ 0 ∷ 2 ∷ 19 ∷ 1 ∷ 20 ∷ 10 ∷ 16 ∷ 16 ∷ 8 ∷ []
 unfolding hash_of spill layout
 index_of_two = refl
 

@@ -8,8 +8,8 @@ use Rattle.std.specs.HashMap.Lent.{HashMembers}
 use Rattle.clock2q_handles.specs.Homes.{candidates}
 use Rattle.clock2q_queues.specs.Cells.{Rises}
 use Rattle.clock2q_directory.specs.Index.{most_reached, most_read}
-use Rattle.clock2q_machine.specs.Calls.{Call, Put, Get, Peek, Contains, GetAt, Set, With, Try, SlotFor, Remove, Retain, Clear, Prefill, Len, IsEmpty, Capacity}
-use Rattle.clock2q_machine.specs.Machine.{Machine, slot_of, by_slot}
+use Rattle.clock2q_machine.specs.Calls.{Call, Put, Get, Peek, Contains, GetAt, Set, With, Try, SlotFor, Remove, Retain, Clear, Evict, Prefill, Len, IsEmpty, Capacity}
+use Rattle.clock2q_machine.specs.Machine.{Machine, slot_of, by_slot, leaves_now}
 use Rattle.clock2q_machine.specs.Bounds.{set_bits, inspections_for, inspections_of, main_victims, settings}
 use Rattle.clock2q_machine.specs.Leaving.{leaves_for}
 use Rattle.clock2q_cache.specs.CacheState.{CacheState, Counts, residents_in, remembered_in}
@@ -30,8 +30,8 @@ pub record Reaches {K V S : Type 0} (slots : ℕ) (old new : CacheState K V S) :
 abbrev pub accesses_for : {K V : Type 0} → (K → Bool) → Machine K V → ℕ
 accesses_for is m = if is_some (slot_of is m) then 0 else inspections_for is m + 36
 
--- the bound on a call's accesses to links: the above for a key that it may insert, or some for each slot if it
--- visits all of them
+-- the bound on a call's accesses to links: the above for a key that it may insert, 21 plus the hand's inspections to
+-- evict a resident, or some for each slot if it visits all of them
 abbrev pub most_accesses : {K V : Type 0} → (K → K → Bool) → Call K V → Machine K V → ℕ
 most_accesses eq (Put key value) m = accesses_for (eq key) m
 most_accesses eq (With key value) m = accesses_for (eq key) m
@@ -40,6 +40,7 @@ most_accesses eq (SlotFor key value) m = accesses_for (eq key) m
 most_accesses eq (Remove key) m = 8
 most_accesses eq (Retain bits) m = 8 * length m.values
 most_accesses eq Clear m = m.shares.capacity + m.shares.window
+most_accesses eq Evict m = inspections_of eq Evict m + 21
 most_accesses eq (Try key None) m = 0
 most_accesses eq (Get key) m = 0
 most_accesses eq (Peek key) m = 0
@@ -70,6 +71,7 @@ module _ {K V S H : Type 0} (key : HashMembers K) (build : builder.Ghosts S H) (
   most_questions (Contains k) c = 0
   most_questions (Retain bits) c = 0
   most_questions Clear c = 0
+  most_questions Evict c = 0
   most_questions (Prefill values) c = 0
   most_questions Len c = 0
   most_questions IsEmpty c = 0
@@ -100,7 +102,8 @@ module _ {K V S H : Type 0} (key : HashMembers K) (build : builder.Ghosts S H) (
 
   -- the bound on the slots of the index that a call that may change the cache reads and writes: the above for a key that
   -- it may insert, those of a lookup for a key that it looks up, and of a change if it removes it, those of a change for
-  -- each resident if it may remove them all, and each slot if it clears
+  -- each resident if it may remove them all, and each slot if it clears; an eviction makes one change for the key that
+  -- leaves, and one for the oldest remembered key
   abbrev pub most_slots : Call K V → CacheState K V S → ℕ
   most_slots (Put k value) c = slots_for k c
   most_slots (With k value) c = slots_for k c
@@ -109,6 +112,7 @@ module _ {K V S H : Type 0} (key : HashMembers K) (build : builder.Ghosts S H) (
   most_slots (Remove k) c = walked c k + reached c k
   most_slots (Retain bits) c = sum_by (λ r. reached c r.0) (by_slot c.machine)
   most_slots Clear c = length c.known.index.shared + length c.known.index.own
+  most_slots Evict c = reached_if c (option_map (λ r. r.0) (leaves_now c.machine)) + reached_if c (last_or None c.machine.history)
   most_slots (Try k None) c = walked c k
   most_slots (Get k) c = walked c k
   most_slots (Peek k) c = 0

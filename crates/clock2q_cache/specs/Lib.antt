@@ -9,6 +9,7 @@ pub mod CacheLends
 pub mod Charged
 pub mod Closures
 pub mod Insertions
+pub mod MakingRoom
 pub mod Makers
 pub mod Iteration
 pub mod SlotsByHash

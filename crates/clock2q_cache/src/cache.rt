@@ -8,6 +8,7 @@ mod fetching;
 mod filling;
 mod insertion;
 mod iteration;
+mod making_room;
 mod removal;
 mod slots;
 

@@ -56,6 +56,19 @@ module _ {K V : Type 0} where
     pub had : hash_at old.residents.entries slot ≡ Some hash
     pub becomes : new ≡ record old.history { places = record old.history.places { index = left hash slot old.history.places.index } }
 
+  -- the resident at a slot left the index, and its key is the newest remembered one, unless the limit is zero
+  pub record Retires (slot : ℕ) (key : K) (old : Known K V) (new : Remembered K) : Type 0 where
+    pub hash : ℕ
+    pub had_hash : hash_at old.residents.entries slot ≡ Some hash
+    pub had_key : key_at old.residents.entries slot ≡ Some key
+    pub becomes : new ≡ record old.history {
+      entries = take old.history.limit ((hash, key) ∷ old.history.entries);
+      places = new.places;
+      accesses = new.accesses;
+    }
+    pub places : new.places ≡ pushed_places old.history.limit hash slot (oldest_hash (λ (e : ℕ × K). e.0) old.history.entries) old.history.places
+    pub accesses : Rises 0 8 old.history.accesses new.accesses
+
   -- a key with this hash is in the index at a slot, whose resident left it and is the newest remembered key, unless the
   -- limit is zero
   pub record Remembers (hash slot : ℕ) (old : Known K V) (new : Remembered K) : Type 0 where

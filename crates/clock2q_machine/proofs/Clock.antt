@@ -6,8 +6,8 @@ use Rattle.std.proofs.lemmas.List.Sums.{sum_by-cons, sum_by-append, sum_by_push,
 use Rattle.clock2q_machine.specs.Ages.{is_promoted}
 use Rattle.clock2q_machine.specs.Shares.{Shares, main_share}
 use Rattle.clock2q_machine.specs.Entries.{SmallEntry, MainEntry, main_hit, set_front, inspections, from_victim, behind_hand, with_bit}
-use Rattle.clock2q_machine.specs.Calls.{Call, Put, Get, Peek, Contains, GetAt, Set, With, Try, SlotFor, Remove, Retain, Clear, Prefill, Len, IsEmpty, Capacity}
-use Rattle.clock2q_machine.specs.Machine.{Machine, empty, hit, forgotten, stored, placement, inserted, reused, goes_to_main, into_main, into_small, into_small_at, evicting_tail, promoting_tail, replacing_victim, joining_main, slot_of, vacancy, vacated, vacated_all, removed_at, by_slot}
+use Rattle.clock2q_machine.specs.Calls.{Call, Put, Get, Peek, Contains, GetAt, Set, With, Try, SlotFor, Remove, Retain, Clear, Evict, Prefill, Len, IsEmpty, Capacity}
+use Rattle.clock2q_machine.specs.Machine.{Machine, empty, hit, forgotten, stored, placement, inserted, reused, goes_to_main, into_main, into_small, into_small_at, evicting_tail, promoting_tail, replacing_victim, joining_main, slot_of, vacancy, vacated, vacated_all, removed_at, by_slot, victim_leaves, victim_evicted, tail_evicted, evicted}
 use Rattle.clock2q_machine.specs.Steps.{refused_slots, is_at, replaced_at, after}
 use Rattle.clock2q_machine.specs.Bounds.{set_bits, settings_of_hit, goes_on, takes_victim, takes_out, inspections_of, main_victims, settings, summed, IsPaid, IsClockBounded, IsRunBounded}
 use Rattle.clock2q_machine.proofs.Weights.{sum_by-filter-le, count_by-not_found, length-from_victim}
@@ -64,18 +64,15 @@ module _ {K : Type 0} where
   pub victim_clear : (es : List (MainEntry K)) (victim : MainEntry K) (others : List (MainEntry K)) → from_victim es ≡ victim ∷ others → victim.bit ≡ false
   victim_clear es victim others choice = first_behind es (map (λ e. with_bit e false) (take (set_front es) es)) (bits-cleared (take (set_front es) es)) victim others choice
 
-  -- the eviction of a victim, and the entry that is added behind the hand
+  -- the eviction of a victim
+  paid_leaving : (es : List (MainEntry K)) (victim : MainEntry K) (others : List (MainEntry K)) → from_victim es ≡ victim ∷ others → inspections es + bits others ≡ 1 + bits es
+  paid_leaving es victim others choice = omega (arith, bits-cons victim others, ap one_if (victim_clear es victim others choice), ap bits choice, bits-from_victim es)
+
+  -- and the entry that is added behind the hand
   paid_victim : (es : List (MainEntry K)) (victim : MainEntry K) (others : List (MainEntry K))
       → from_victim es ≡ victim ∷ others → (key : K) (slot : ℕ) → inspections es + bits (behind_hand key slot others) ≡ 1 + bits es
   paid_victim es victim others choice key slot =
-      omega (
-        arith,
-        sum_by_push (λ e. one_if e.bit) others (record { key = key; slot = slot; bit = false }),
-        bits-cons victim others,
-        ap one_if (victim_clear es victim others choice),
-        ap bits choice,
-        bits-from_victim es,
-      )
+      omega (arith, sum_by_push (λ e. one_if e.bit) others (record { key = key; slot = slot; bit = false }), paid_leaving es victim others choice)
 
   -- if Main has no entry, one inspection is counted
   paid_none : (es : List (MainEntry K)) → from_victim es ≡ [] → inspections es + bits es ≡ 1 + bits es
@@ -150,6 +147,23 @@ module _ {K V : Type 0} where
       ≡ (if (if b then full else goes) then 1 else 0) + set_bits m)
       [ true ↦ paid_main key (forgotten is m) full | false ↦ paid_small key (forgotten is m) (vacancy m) (last_or None m.small) ]
 
+  -- an eviction though no key comes
+  paid_evicting : (m : Machine K V) (t : Option (SmallEntry K)) (es : List (MainEntry K)) → from_victim m.main ≡ es → inspections m.main + set_bits (victim_evicted t es m) ≡ 1 + set_bits m
+  paid_evicting m None [] choice = paid_none m.main choice
+  paid_evicting m (Some tail) [] choice = paid_none m.main choice
+  paid_evicting m None (victim ∷ others) choice = paid_leaving m.main victim others choice
+  paid_evicting m (Some tail) (victim ∷ others) choice = paid_victim m.main victim others choice tail.key tail.slot
+
+  bits-tail_evicted : (m : Machine K V) (t : Option (SmallEntry K)) → set_bits (tail_evicted t m) ≡ set_bits m
+  bits-tail_evicted m None = refl
+  bits-tail_evicted m (Some tail) = refl
+
+  paid_evicted : (m : Machine K V) → (if victim_leaves m then inspections m.main else 0) + set_bits (evicted m) ≡ (if victim_leaves m then 1 else 0) + 0 + set_bits m
+  paid_evicted m =
+      elim (victim_leaves m) as (λ b. (if b then inspections m.main else 0)
+      + set_bits (if b then victim_evicted (last_or None m.small) (from_victim m.main) m else tail_evicted (last_or None m.small) m) ≡ (if b then 1 else 0) + 0 + set_bits m)
+      [ true ↦ omega (arith, paid_evicting m (last_or None m.small) (from_victim m.main) refl) | false ↦ omega (arith, bits-tail_evicted m (last_or None m.small)) ]
+
   -- a hit on a key that is not resident sets no bit
   pub no_settings : (is : K → Bool) (m : Machine K V) → slot_of is m ≡ None → settings_of_hit is m ≡ 0
   no_settings is m absent =
@@ -212,6 +226,7 @@ module _ {K V : Type 0} where
     paid (Remove key) m stays = cc
     paid (Retain keep) m stays = cc
     paid Clear m stays = cc
+    paid Evict m stays = paid_evicted m
     paid (Prefill values) m stays = refl
     paid Len m stays = refl
     paid IsEmpty m stays = refl
@@ -234,6 +249,7 @@ module _ {K V : Type 0} where
     clock_bounded (Remove key) m = omega (arith, fewer_bits-removed (eq key) (slot_of (eq key) m) m)
     clock_bounded (Retain keep) m = omega (arith, fewer_bits-vacated (refused_slots keep (map (λ r. r.1) (by_slot m))) m)
     clock_bounded Clear m = omega arith
+    clock_bounded Evict m = paid_bounded Evict m refl
     clock_bounded (Prefill values) m = paid_bounded (Prefill values) m refl
     clock_bounded Len m = paid_bounded Len m refl
     clock_bounded IsEmpty m = paid_bounded IsEmpty m refl

@@ -6,14 +6,15 @@ use Rattle.std.specs.Option.{option_and_then}
 use Rattle.std.proofs.lemmas.Bool.{cases_lt, lt-ltb, le-ltb}
 use Rattle.std.proofs.lemmas.Option.{slice_get_past}
 use Rattle.clock2q_machine.specs.Shares.{main_share}
-use Rattle.clock2q_machine.specs.Calls.{Call, Put, Get, Peek, Contains, GetAt, Set, With, Try, SlotFor, Remove, Retain, Clear, Prefill, Len, IsEmpty, Capacity}
-use Rattle.clock2q_machine.specs.Machine.{Machine, hit, stored, placement, inserted, reused, resident_count, slot_of, value_of, vacancy, vacated_all, removed_at, by_slot, prefilled}
+use Rattle.clock2q_machine.specs.Calls.{Call, Put, Get, Peek, Contains, GetAt, Set, With, Try, SlotFor, Remove, Retain, Clear, Evict, Prefill, Len, IsEmpty, Capacity}
+use Rattle.clock2q_machine.specs.Machine.{Machine, hit, stored, placement, inserted, reused, resident_count, slot_of, value_of, vacancy, vacated_all, evicted, removed_at, by_slot, prefilled}
 use Rattle.clock2q_machine.specs.Steps.{refused_slots, is_at, supplied, fetched_value, replaced_at, replaced, put, fetched, slotted, slotted_at, hit_at, value_at, after}
-use Rattle.clock2q_machine.specs.Bounds.{takes_out}
+use Rattle.clock2q_machine.specs.Bounds.{makes_room}
 use Rattle.clock2q_machine.specs.Whole.{IsWhole}
 use Rattle.clock2q_machine.proofs.Whole.{one_if, some_is, none_is, weight, all_resident}
 use Rattle.clock2q_machine.proofs.MachineInvariant.{placed-key, lasting-inserted, lasting-reused, resident_made, lasting-after}
 use Rattle.clock2q_machine.proofs.Standing.{stored_there, stored_elsewhere, get-append, get-within}
+use Rattle.clock2q_machine.proofs.Evicted.{weight-evicted, values-evicted}
 use Rattle.clock2q_machine.proofs.Entering.{weight-hit, weight-replaced, weight-vacated, weight-removed, values-vacated, values-removed, joined, narrow, same_slots, StaysOrGoes, stays_or_goes, slots_apart, differs, entered_there, others_entered}
 
 module _ {K V : Type 0} (eq : K → K → Bool) where
@@ -152,6 +153,7 @@ module _ {K V : Type 0} (eq : K → K → Bool) where
         let slots = refused_slots keep (map (λ r. r.1) (by_slot m)) in
         fewer_keeps (vacated_all slots m) k (λ w. weight-vacated w slots m) (values-vacated slots m)
     others_keep Clear k other = inl refl
+    others_keep Evict k other = fewer_keeps (evicted m) k (λ w. omega (arith, weight-evicted m w)) (values-evicted m)
     others_keep (Prefill values) k other =
         stays_or_goes eq k m (prefilled (supplied (m.shares.capacity - length m.values) values) m) (λ t found. found)
         (λ t _ was. get-append m.values (supplied (m.shares.capacity - length m.values) values) t (resident_made eq laws (eq k) m h t was))
@@ -203,6 +205,7 @@ module _ {K V : Type 0} (eq : K → K → Bool) where
     slot_stays (Remove key) k s t had_slot found = stays k s t (after eq (Remove key) m) had_slot found (others_keep (Remove key) k tt)
     slot_stays (Retain keep) k s t had_slot found = stays k s t (after eq (Retain keep) m) had_slot found (others_keep (Retain keep) k tt)
     slot_stays Clear k s t had_slot found = stays k s t (after eq Clear m) had_slot found (others_keep Clear k tt)
+    slot_stays Evict k s t had_slot found = stays k s t (after eq Evict m) had_slot found (others_keep Evict k tt)
     slot_stays (Prefill values) k s t had_slot found = stays k s t (after eq (Prefill values) m) had_slot found (others_keep (Prefill values) k tt)
     slot_stays Len k s t had_slot found = stays k s t m had_slot found (inr (refl, refl))
     slot_stays IsEmpty k s t had_slot found = stays k s t m had_slot found (inr (refl, refl))
@@ -231,7 +234,7 @@ module _ {K V : Type 0} (eq : K → K → Bool) where
           elim (nat_lt p.slot (length m.values)) as (λ b. weight w m ≤ weight w (if b then p.machine else stored p.slot fresh p.machine))
           [ true ↦ joined w (eq key) key m slot vacant room | false ↦ joined w (eq key) key m slot vacant room ]
 
-      weight_kept : (call : Call K V) → takes_out call ≡ false → (w : K → ℕ → ℕ) → weight w m ≤ weight w (after eq call m)
+      weight_kept : (call : Call K V) → makes_room call ≡ false → (w : K → ℕ → ℕ) → weight w m ≤ weight w (after eq call m)
       weight_kept (Put key value) keeps w =
           wanted_weight w (slot_of (eq key) m) (replaced_at (eq key) value (slot_of (eq key) m) m)
           (inserted (eq key) key value m) (weight-replaced w (eq key) value (slot_of (eq key) m) m) (weight_inserted w key value)
@@ -248,12 +251,13 @@ module _ {K V : Type 0} (eq : K → K → Bool) where
       weight_kept (Remove key) keeps w = cc
       weight_kept (Retain keep) keeps w = cc
       weight_kept Clear keeps w = cc
+      weight_kept Evict keeps w = cc
       weight_kept (Prefill values) keeps w = omega arith
       weight_kept Len keeps w = omega arith
       weight_kept IsEmpty keeps w = omega arith
       weight_kept Capacity keeps w = omega arith
 
-    pub room_keeps_all : (call : Call K V) → takes_out call ≡ false → resident_count m < m.shares.capacity → length m.main < main_share m.shares
+    pub room_keeps_all : (call : Call K V) → makes_room call ≡ false → resident_count m < m.shares.capacity → length m.main < main_share m.shares
         → (k : K) (s : ℕ) → slot_of (eq k) m ≡ Some s → slot_of (eq k) (after eq call m) ≡ Some s
     room_keeps_all call keeps not_full room k s found =
         let v = has_vacancy not_full in

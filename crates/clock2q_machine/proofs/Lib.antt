@@ -1,5 +1,6 @@
 pub mod Clock
 pub mod Entering
+pub mod Evicted
 pub mod Laws
 pub mod Lifetimes
 pub mod Linear
@@ -14,6 +15,7 @@ pub mod Victims
 pub mod Weights
 pub mod Whole
 pub mod WorkedCounts
+pub mod WorkedEvictions
 pub mod WorkedLifetimes
 pub mod WorkedRuns
 pub mod WorkedScans

@@ -8,10 +8,10 @@ use Rattle.std.proofs.lemmas.List.{length-map}
 use Rattle.clock2q_machine.specs.Shares.{main_share, history_share}
 use Rattle.clock2q_machine.specs.Ages.{touched, grown, is_promoted}
 use Rattle.clock2q_machine.specs.Entries.{SmallEntry, MainEntry, small_admitted, from_victim, with_age}
-use Rattle.clock2q_machine.specs.Calls.{Call, Put, Get, Peek, Contains, GetAt, Set, With, Try, SlotFor, Remove, Retain, Clear, Prefill, Len, IsEmpty, Capacity}
-use Rattle.clock2q_machine.specs.Machine.{Machine, hit, forgotten, stored, placement, inserted, reused, goes_to_main, into_main, into_small, into_small_at, evicting_tail, promoting_tail, replacing_victim, joining_main, slot_of, vacancy, vacated, vacated_all, removed_at, by_slot}
+use Rattle.clock2q_machine.specs.Calls.{Call, Put, Get, Peek, Contains, GetAt, Set, With, Try, SlotFor, Remove, Retain, Clear, Evict, Prefill, Len, IsEmpty, Capacity}
+use Rattle.clock2q_machine.specs.Machine.{Machine, hit, forgotten, stored, placement, inserted, reused, goes_to_main, into_main, into_small, into_small_at, evicting_tail, promoting_tail, replacing_victim, joining_main, slot_of, vacancy, vacated, vacated_all, victim_leaves, victim_evicted, tail_evicted, removed_at, by_slot}
 use Rattle.clock2q_machine.specs.Steps.{refused_slots, replaced_at, is_at, after, after_all}
-use Rattle.clock2q_machine.specs.Bounds.{goes_on, takes_out, summed}
+use Rattle.clock2q_machine.specs.Bounds.{goes_on, makes_room, summed}
 use Rattle.clock2q_machine.specs.Lifetimes.{older, newer, is_in_small, is_remembered, admissions_of, evictions_of, LetsBe}
 
 or_right : (a b : Bool) → b ≡ true → (a || b) ≡ true
@@ -136,7 +136,7 @@ module _ {K V : Type 0} (is : K → Bool) where
     none_more : (a : ℕ) (m : Machine K V) → Stays (0 + a) m → Stays a m
     none_more a m stays = (stays.0, omega (arith, stays.1))
 
-    pub stays_after : (a : ℕ) (call : Call K V) (m : Machine K V) → takes_out call ≡ false → Stays (admissions_of eq call m + a) m → Stays a (after eq call m)
+    pub stays_after : (a : ℕ) (call : Call K V) (m : Machine K V) → makes_room call ≡ false → Stays (admissions_of eq call m + a) m → Stays a (after eq call m)
     stays_after a (Put key value) m keeps stays =
         stays_wanted a (eq key) (slot_of (eq key) m) m (replaced_at (eq key) value (slot_of (eq key) m) m) (inserted (eq key) key value m)
         (stays_replaced a (eq key) value (slot_of (eq key) m) m) (stays_inserted a (eq key) key m) stays
@@ -157,13 +157,14 @@ module _ {K V : Type 0} (is : K → Bool) where
     stays_after a (Remove key) m keeps stays = cc
     stays_after a (Retain bits) m keeps stays = cc
     stays_after a Clear m keeps stays = cc
+    stays_after a Evict m keeps stays = cc
     stays_after a (Prefill values) m keeps stays = none_more a m stays
     stays_after a Len m keeps stays = none_more a m stays
     stays_after a IsEmpty m keeps stays = none_more a m stays
     stays_after a Capacity m keeps stays = none_more a m stays
 
     -- through a list of calls that remove nothing
-    pub in_small_still : (calls : List (Call K V)) (m : Machine K V) → AllByRecursion (λ call. takes_out call ≡ false) calls
+    pub in_small_still : (calls : List (Call K V)) (m : Machine K V) → AllByRecursion (λ call. makes_room call ≡ false) calls
         → is_in_small is m ≡ true → summed eq (admissions_of eq) calls m ≤ older is m.small → is_in_small is (after_all eq calls m) ≡ true
     in_small_still [] m keeps in_it enough = in_it
     in_small_still (call ∷ calls) m keeps in_it enough =
@@ -172,7 +173,7 @@ module _ {K V : Type 0} (is : K → Bool) where
         in_small_still calls n keeps.1 next.0 next.1
 
     -- so the newest key of Small stays while fewer keys are admitted than Small has
-    pub newest_stays : (calls : List (Call K V)) (m : Machine K V) → AllByRecursion (λ call. takes_out call ≡ false) calls → (e : SmallEntry K) (small : List (SmallEntry K)) → m.small ≡ e ∷ small
+    pub newest_stays : (calls : List (Call K V)) (m : Machine K V) → AllByRecursion (λ call. makes_room call ≡ false) calls → (e : SmallEntry K) (small : List (SmallEntry K)) → m.small ≡ e ∷ small
         → is e.key ≡ true → summed eq (admissions_of eq) calls m < length m.small → is_in_small is (after_all eq calls m) ≡ true
     newest_stays calls m keeps e small is_small passes fewer =
         let all_older : older is m.small ≡ length small = ap (older is) is_small ∙ ap (λ b. if b then length small else older is small) passes in
@@ -277,6 +278,15 @@ module _ {K V : Type 0} (is : K → Bool) where
   remembers_replaced a test value None m was = was
   remembers_replaced a test value (Some slot) m was = was
 
+  remembers_evicted : (a : ℕ) (m : Machine K V) (b : Bool) (t : Option (SmallEntry K)) (es : List (MainEntry K)) → Remembers ((if b || not (is_some t) then 0 else 1) + a) m
+      → Remembers a (if b then victim_evicted t es m else tail_evicted t m)
+  remembers_evicted a m true None [] was = remembers_less 0 a m was
+  remembers_evicted a m true (Some tail) [] was = remembers_less 0 a m was
+  remembers_evicted a m true None (victim ∷ others) was = (was.0, omega (arith, was.1))
+  remembers_evicted a m true (Some tail) (victim ∷ others) was = (was.0, omega (arith, was.1))
+  remembers_evicted a m false None es was = remembers_less 0 a m was
+  remembers_evicted a m false (Some tail) es was = remembers_tail a tail.key tail m es false was
+
   remembers_vacated : (a : ℕ) (slots : List ℕ) (m : Machine K V) → Remembers a m → Remembers a (vacated_all slots m)
   remembers_vacated a [] m was = was
   remembers_vacated a (slot ∷ slots) m was = remembers_vacated a slots (vacated slot m) was
@@ -312,6 +322,7 @@ module _ {K V : Type 0} (eq : K → K → Bool) (laws : IsEquivalence eq) (k : K
   remembers_after a (Remove key) m lets was = remembers_removed (eq k) (eq key) (others_apart eq laws k key lets) a (slot_of (eq key) m) m (remembers_less (eq k) 0 a m was)
   remembers_after a (Retain bits) m lets was = remembers_vacated (eq k) a (refused_slots bits (map (λ r. r.1) (by_slot m))) m (remembers_less (eq k) 0 a m was)
   remembers_after a Clear m lets was = absurd lets
+  remembers_after a Evict m lets was = remembers_evicted (eq k) a m (victim_leaves m) (last_or None m.small) (from_victim m.main) was
   remembers_after a (Prefill values) m lets was = remembers_less (eq k) 0 a m was
   remembers_after a Len m lets was = remembers_less (eq k) 0 a m was
   remembers_after a IsEmpty m lets was = remembers_less (eq k) 0 a m was

@@ -4,8 +4,8 @@ use Rattle.std.specs.Prelude.{if◌then◌else◌, is_some}
 use Rattle.std.specs.Cmp.{IsEquivalence}
 use Rattle.std.proofs.lemmas.List.Sums.{sum_by-le-sum_by}
 use Rattle.clock2q_machine.specs.Entries.{MainEntry}
-use Rattle.clock2q_machine.specs.Calls.{Call, Put, Get, Peek, Contains, GetAt, Set, With, Try, SlotFor, Remove, Retain, Clear, Prefill, Len, IsEmpty, Capacity}
-use Rattle.clock2q_machine.specs.Machine.{Machine, slot_of}
+use Rattle.clock2q_machine.specs.Calls.{Call, Put, Get, Peek, Contains, GetAt, Set, With, Try, SlotFor, Remove, Retain, Clear, Evict, Prefill, Len, IsEmpty, Capacity}
+use Rattle.clock2q_machine.specs.Machine.{Machine, slot_of, victim_leaves}
 use Rattle.clock2q_machine.specs.Steps.{is_at, after, after_all}
 use Rattle.clock2q_machine.specs.Bounds.{set_bits, settings_of_hit, takes_victim, inspections_of, main_victims, settings, summed}
 use Rattle.clock2q_machine.specs.Whole.{IsWhole}
@@ -43,6 +43,7 @@ module _ {K V : Type 0} (eq : K → K → Bool) where
     one_paid (Remove key) = omega arith
     one_paid (Retain bits) = omega arith
     one_paid Clear = omega arith
+    one_paid Evict = elim (victim_leaves m) as (λ b. (if b then 1 else 0) + 0 ≤ 1) [ true ↦ omega arith | false ↦ omega arith ]
     one_paid (Prefill values) = omega arith
     one_paid Len = omega arith
     one_paid IsEmpty = omega arith

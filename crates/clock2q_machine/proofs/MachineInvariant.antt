@@ -9,10 +9,11 @@ use Rattle.std.proofs.lemmas.List.Sums.{sum_by-cons, sum_by-append, sum_by-le-su
 use Rattle.std.proofs.Math.ListN.{length-set}
 use Rattle.clock2q_machine.specs.Shares.{Shares}
 use Rattle.clock2q_machine.specs.Entries.{SmallEntry, MainEntry}
-use Rattle.clock2q_machine.specs.Calls.{Call, Put, Get, Peek, Contains, GetAt, Set, With, Try, SlotFor, Remove, Retain, Clear, Prefill, Len, IsEmpty, Capacity}
+use Rattle.clock2q_machine.specs.Calls.{Call, Put, Get, Peek, Contains, GetAt, Set, With, Try, SlotFor, Remove, Retain, Clear, Evict, Prefill, Len, IsEmpty, Capacity}
 use Rattle.clock2q_machine.specs.Machine.{Machine, Placement, empty, hit, forgotten, stored, placement, inserted, reused, goes_to_main, into_main, into_small, slot_of, vacancy, vacated, vacated_all, removed_at, resident_at, residents, by_slot, prefilled}
 use Rattle.clock2q_machine.specs.Steps.{refused_slots, is_at, supplied, replaced_at, retained, after, after_all}
 use Rattle.clock2q_machine.specs.Whole.{IsWhole, known_count, standings}
+use Rattle.clock2q_machine.proofs.Evicted.{whole-evicted}
 use Rattle.clock2q_machine.proofs.Weights.{sum_by-filter-le}
 use Rattle.clock2q_machine.proofs.Residents.{found_slot}
 use Rattle.clock2q_machine.proofs.Standing.{fewer_second, found_counted}
@@ -354,6 +355,7 @@ module _ {K V : Type 0} where
     lasting-after (Remove key) m h = lasting-removed (eq key) (slot_of (eq key) m) m refl h
     lasting-after (Retain bits) m h = lasting-retained bits m h
     lasting-after Clear m h = lasting-empty m.shares h.small_below
+    lasting-after Evict m h = whole-evicted eq m h
     lasting-after (Prefill values) m h =
         lasting-prefilled (supplied (m.shares.capacity - length m.values) values) m (omega (arith, length-supplied (m.shares.capacity - length m.values) values, h.made_within)) h
     lasting-after Len m h = h

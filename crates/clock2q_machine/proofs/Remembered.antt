@@ -7,8 +7,8 @@ use Rattle.std.proofs.lemmas.List.Sums.{sum_by-cons, sum_by-take-le}
 use Rattle.clock2q_machine.specs.Ages.{is_promoted}
 use Rattle.clock2q_machine.specs.Shares.{main_share, history_share}
 use Rattle.clock2q_machine.specs.Entries.{SmallEntry, MainEntry, from_victim}
-use Rattle.clock2q_machine.specs.Calls.{Call, Put, Get, Peek, Contains, GetAt, Set, With, Try, SlotFor, Remove, Retain, Clear, Prefill, Len, IsEmpty, Capacity}
-use Rattle.clock2q_machine.specs.Machine.{Machine, hit, forgotten, stored, placement, inserted, reused, goes_to_main, into_main, into_small, into_small_at, evicting_tail, promoting_tail, replacing_victim, joining_main, slot_of, vacancy, vacated, vacated_all, removed_at, by_slot}
+use Rattle.clock2q_machine.specs.Calls.{Call, Put, Get, Peek, Contains, GetAt, Set, With, Try, SlotFor, Remove, Retain, Clear, Evict, Prefill, Len, IsEmpty, Capacity}
+use Rattle.clock2q_machine.specs.Machine.{Machine, hit, forgotten, stored, placement, inserted, reused, goes_to_main, into_main, into_small, into_small_at, evicting_tail, promoting_tail, replacing_victim, joining_main, slot_of, vacancy, vacated, vacated_all, removed_at, by_slot, victim_leaves, victim_evicted, tail_evicted}
 use Rattle.clock2q_machine.specs.Steps.{refused_slots, is_at, replaced_at, after}
 use Rattle.clock2q_machine.specs.Whole.{IsWhole}
 use Rattle.clock2q_machine.proofs.Weights.{sum_by-filter-le}
@@ -57,6 +57,15 @@ module _ {K V : Type 0} where
         | false ↦ omega (arith, remembered_small is key (forgotten known m) (vacancy m) (last_or None m.small), remembered_forgotten is known m)
       ]
 
+  remembered_evicted : (is : K → Bool) (m : Machine K V) (b : Bool) (t : Option (SmallEntry K)) (es : List (MainEntry K))
+      → count_by is (if b then victim_evicted t es m else tail_evicted t m).history ≤ count_by is m.history + of_tail is t
+  remembered_evicted is m true None [] = omega arith
+  remembered_evicted is m true (Some tail) [] = omega arith
+  remembered_evicted is m true None (victim ∷ others) = omega arith
+  remembered_evicted is m true (Some tail) (victim ∷ others) = omega arith
+  remembered_evicted is m false None es = omega arith
+  remembered_evicted is m false (Some tail) es = remembered_evicting is tail.key tail m
+
   same_history-vacated : (slots : List ℕ) (m : Machine K V) → (vacated_all slots m).history ≡ m.history
   same_history-vacated [] m = refl
   same_history-vacated (slot ∷ slots) m = same_history-vacated slots (vacated slot m)
@@ -100,6 +109,7 @@ module _ {K V : Type 0} where
     remembered (Remove key) = remembered_removed (eq key) (slot_of (eq key) m)
     remembered (Retain keep) = omega (arith, ap (count_by is) (same_history-vacated (refused_slots keep (map (λ r. r.1) (by_slot m))) m))
     remembered Clear = omega arith
+    remembered Evict = remembered_evicted is m (victim_leaves m) (last_or None m.small) (from_victim m.main)
     remembered (Prefill values) = omega arith
     remembered Len = omega arith
     remembered IsEmpty = omega arith

@@ -8,8 +8,8 @@ use Rattle.std.proofs.lemmas.List.Sums.{sum_by-cons, sum_by-append, sum_by_push,
 use Rattle.clock2q_machine.specs.Ages.{is_promoted}
 use Rattle.clock2q_machine.specs.Shares.{main_share}
 use Rattle.clock2q_machine.specs.Entries.{SmallEntry, MainEntry, set_front, from_victim, with_bit}
-use Rattle.clock2q_machine.specs.Calls.{Call, Put, Get, Peek, Contains, GetAt, Set, With, Try, SlotFor, Remove, Retain, Clear, Prefill, Len, IsEmpty, Capacity}
-use Rattle.clock2q_machine.specs.Machine.{Machine, hit, forgotten, stored, placement, inserted, reused, goes_to_main, into_main, into_small, into_small_at, evicting_tail, promoting_tail, replacing_victim, joining_main, slot_of, vacancy}
+use Rattle.clock2q_machine.specs.Calls.{Call, Put, Get, Peek, Contains, GetAt, Set, With, Try, SlotFor, Remove, Retain, Clear, Evict, Prefill, Len, IsEmpty, Capacity}
+use Rattle.clock2q_machine.specs.Machine.{Machine, hit, forgotten, stored, placement, inserted, reused, goes_to_main, into_main, into_small, into_small_at, evicting_tail, promoting_tail, replacing_victim, joining_main, slot_of, vacancy, victim_leaves, victim_evicted, tail_evicted, evicted}
 use Rattle.clock2q_machine.specs.Steps.{is_at, replaced_at, after}
 use Rattle.clock2q_machine.specs.Bounds.{set_bits, takes_out}
 use Rattle.clock2q_machine.specs.Whole.{IsWhole}
@@ -104,6 +104,24 @@ module _ {K V : Type 0} where
       elim (goes_to_main (list_any known m.history) m) as (λ b. hit_passing is m.main ≤ key_count is (if b then into_main key (forgotten known m) else into_small key (forgotten known m)).machine)
       [ true ↦ spared_main is key (forgotten known m) (length m.main == main_share m.shares) clear | false ↦ spared_small is key (forgotten known m) (vacancy m) (last_or None m.small) clear ]
 
+  -- and if none comes
+  spared_evicting : (is : K → Bool) (m : Machine K V) (t : Option (SmallEntry K)) (es : List (MainEntry K)) → from_victim m.main ≡ es
+      → bits m.main < length m.main → hit_passing is m.main ≤ key_count is (victim_evicted t es m)
+  spared_evicting is m None [] choice clear = omega (arith, hit_fewer is m.main)
+  spared_evicting is m (Some tail) [] choice clear = omega (arith, hit_fewer is m.main)
+  spared_evicting is m None (victim ∷ others) choice clear = omega (arith, spared is m.main clear victim others choice)
+  spared_evicting is m (Some tail) (victim ∷ others) choice clear =
+      omega (arith, spared is m.main clear victim others choice, sum_by_push (λ e. one_if (is e.key)) others (record { key = tail.key; slot = tail.slot; bit = false }))
+
+  spared_by_tail : (is : K → Bool) (m : Machine K V) (t : Option (SmallEntry K)) → hit_passing is m.main ≤ key_count is (tail_evicted t m)
+  spared_by_tail is m None = omega (arith, hit_fewer is m.main)
+  spared_by_tail is m (Some tail) = omega (arith, hit_fewer is m.main)
+
+  spared_evicted : (is : K → Bool) (m : Machine K V) → bits m.main < length m.main → hit_passing is m.main ≤ key_count is (evicted m)
+  spared_evicted is m clear =
+      elim (victim_leaves m) as (λ b. hit_passing is m.main ≤ key_count is (if b then victim_evicted (last_or None m.small) (from_victim m.main) m else tail_evicted (last_or None m.small) m))
+      [ true ↦ spared_evicting is m (last_or None m.small) (from_victim m.main) refl clear | false ↦ spared_by_tail is m (last_or None m.small) ]
+
   module _ (eq : K → K → Bool) (laws : IsEquivalence eq) (m : Machine K V) (h : IsWhole eq m) where
     module _ (k : K) (clear : set_bits m < length m.main) where
       stays_counted : (n : Machine K V) → ((w : K → ℕ → ℕ) → weight w n ≡ weight w m) → hit_passing (eq k) m.main ≤ key_count (eq k) n
@@ -146,6 +164,7 @@ module _ {K V : Type 0} where
       spared_after (Remove key) keeps = cc
       spared_after (Retain keep) keeps = cc
       spared_after Clear keeps = cc
+      spared_after Evict keeps = spared_evicted (eq k) m clear
       spared_after (Prefill values) keeps = hit_fewer_all
       spared_after Len keeps = hit_fewer_all
       spared_after IsEmpty keeps = hit_fewer_all

@@ -3,28 +3,24 @@ use Rattle.std.proofs.Common.{◌≡◌, ℕ, ◌+◌, ◌-◌, ◌<◌, ◌≤�
 use Rattle.std.specs.Prelude.{IfSome, if◌then◌else◌, is_some, nat_lt, nat_le}
 use Rattle.std.specs.Cmp.{IsEquivalence}
 use Rattle.std.specs.List.{sum_by, count_by, list_any, last_or}
-use Rattle.std.proofs.lemmas.Bool.{eqb-false}
+use Rattle.std.proofs.lemmas.Bool.{eqb-false, lt-ltb}
 use Rattle.std.proofs.lemmas.List.Sums.{sum_by-cons, sum_by-append}
 use Rattle.clock2q_machine.specs.Shares.{main_share}
 use Rattle.clock2q_machine.specs.Ages.{is_promoted}
-use Rattle.clock2q_machine.specs.Entries.{SmallEntry, MainEntry, from_victim}
-use Rattle.clock2q_machine.specs.Calls.{Call, Put, Get, Peek, Contains, GetAt, Set, With, Try, SlotFor, Remove, Retain, Clear, Prefill, Len, IsEmpty, Capacity}
-use Rattle.clock2q_machine.specs.Machine.{Machine, Placement, hit, forgotten, stored, placement, inserted, reused, goes_to_main, into_main, into_small, into_small_at, evicting_tail, promoting_tail, replacing_victim, joining_main, slot_of, vacancy}
+use Rattle.clock2q_machine.specs.Entries.{SmallEntry, MainEntry, first_of, from_victim}
+use Rattle.clock2q_machine.specs.Calls.{Call, Put, Get, Peek, Contains, GetAt, Set, With, Try, SlotFor, Remove, Retain, Clear, Evict, Prefill, Len, IsEmpty, Capacity}
+use Rattle.clock2q_machine.specs.Machine.{Machine, Placement, hit, forgotten, stored, placement, inserted, reused, goes_to_main, into_main, into_small, into_small_at, evicting_tail, promoting_tail, replacing_victim, joining_main, slot_of, vacancy, keeps_tail, victim_leaves, leaves_now}
 use Rattle.clock2q_machine.specs.Steps.{replaced_at, is_at, after}
-use Rattle.clock2q_machine.specs.Bounds.{takes_out}
+use Rattle.clock2q_machine.specs.Bounds.{takes_out, makes_room}
 use Rattle.clock2q_machine.specs.Whole.{IsWhole}
-use Rattle.clock2q_machine.specs.Leaving.{first_of, one_with, leaves_for_small, leaves_for, leaves_wanted, comes_wanted, next_victim, resident_with, leaver, comer, OneLeaves}
+use Rattle.clock2q_machine.specs.Leaving.{one_with, leaves_for_small, leaves_for, leaves_wanted, comes_wanted, next_victim, resident_with, leaver, comer, OneLeaves}
 use Rattle.clock2q_machine.proofs.Weights.{sum_by-same, weight-from_victim, weight-behind, weight-admitted, weight-last, length-from_victim}
 use Rattle.clock2q_machine.proofs.Whole.{one_if, some_is, none_is, weight, all_resident, small_share, tail_some, empty_small, whole-forgotten}
 use Rattle.clock2q_machine.proofs.Standing.{none_counted, found_counted, found_at, absent_if, resident_once, counted_as}
 use Rattle.clock2q_machine.proofs.Entering.{weight-hit, weight-replaced}
 use Rattle.clock2q_machine.proofs.MachineInvariant.{lasting-after}
-
--- The weight of a resident by its key and its slot, and of a list of residents.
-
-abbrev resident_weight : {K : Type 0} → (K → ℕ → ℕ) → Option (K × ℕ) → ℕ
-resident_weight w None = 0
-resident_weight w (Some r) = w r.0 r.1
+use Rattle.clock2q_machine.proofs.Evicted.{resident_weight, weight-evicted}
+use Rattle.std.specs.Option.{option_map}
 
 module _ {K V : Type 0} where
   -- at most one resident leaves, and a key enters
@@ -194,6 +190,7 @@ module _ {K V : Type 0} (eq : K → K → Bool) (m : Machine K V) (h : IsWhole e
   weighs (Remove key) keeps = cc
   weighs (Retain bits) keeps = cc
   weighs Clear keeps = cc
+  weighs Evict keeps = λ w. omega (arith, weight-evicted m w)
   weighs (Prefill values) keeps = weighs_same (after eq (Prefill values) m) (λ w. refl)
   weighs Len keeps = weighs_same m (λ w. refl)
   weighs IsEmpty keeps = weighs_same m (λ w. refl)
@@ -240,6 +237,7 @@ module _ {K V : Type 0} (eq : K → K → Bool) (m : Machine K V) (h : IsWhole e
   comer_new (Remove key) r come = absurd (none_is r come)
   comer_new (Retain bits) r come = absurd (none_is r come)
   comer_new Clear r come = absurd (none_is r come)
+  comer_new Evict r come = absurd (none_is r come)
   comer_new (Prefill values) r come = absurd (none_is r come)
   comer_new Len r come = absurd (none_is r come)
   comer_new IsEmpty r come = absurd (none_is r come)
@@ -316,25 +314,32 @@ module _ {K V : Type 0} (eq : K → K → Bool) (m : Machine K V) (h : IsWhole e
       not_wanted key (Some slot) = tt
       not_wanted key None = not_for (list_any (eq key) m.history)
 
-      not_leaver : (call : Call K V) → IfSome (leaver eq call m) (λ r. eq tail.key r.0 ≡ false)
-      not_leaver (Put key value) = not_wanted key (slot_of (eq key) m)
-      not_leaver (Get key) = tt
-      not_leaver (Peek key) = tt
-      not_leaver (Contains key) = tt
-      not_leaver (GetAt slot key) = tt
-      not_leaver (Set key value) = tt
-      not_leaver (With key value) = not_wanted key (slot_of (eq key) m)
-      not_leaver (Try key (Some value)) = not_wanted key (slot_of (eq key) m)
-      not_leaver (Try key None) = tt
-      not_leaver (SlotFor key fresh) = not_wanted key (slot_of (eq key) m)
-      not_leaver (Remove key) = tt
-      not_leaver (Retain bits) = tt
-      not_leaver Clear = tt
-      not_leaver (Prefill values) = tt
-      not_leaver Len = tt
-      not_leaver IsEmpty = tt
-      not_leaver Capacity = tt
+      not_now : 0 < length m.main → IfSome (leaves_now m) (λ r. eq tail.key r.0 ≡ false)
+      not_now some =
+          let goes_now : victim_leaves m ≡ true = ap (λ b. b && keeps_tail (last_or None m.small)) (lt-ltb 0 (length m.main) some) ∙ ap keeps_tail last ∙ goes in
+          subst (λ b. IfSome (if b then first_of (from_victim m.main) else option_map (λ t. (t.key, t.slot)) (last_or None m.small)) (λ r. eq tail.key r.0 ≡ false)) (sym goes_now)
+          (not_first (from_victim m.main) refl)
 
-      -- so no call that removes none evicts it
-      pub hit_tail_stays : (s : ℕ) → slot_of (eq tail.key) m ≡ Some s → slot_of (eq tail.key) (after eq call m) ≡ Some s
-      hit_tail_stays s found = others_stay tail.key s found (not_leaver call)
+      not_leaver : (call : Call K V) → (makes_room call ≡ true → 0 < length m.main) → IfSome (leaver eq call m) (λ r. eq tail.key r.0 ≡ false)
+      not_leaver (Put key value) main = not_wanted key (slot_of (eq key) m)
+      not_leaver (Get key) main = tt
+      not_leaver (Peek key) main = tt
+      not_leaver (Contains key) main = tt
+      not_leaver (GetAt slot key) main = tt
+      not_leaver (Set key value) main = tt
+      not_leaver (With key value) main = not_wanted key (slot_of (eq key) m)
+      not_leaver (Try key (Some value)) main = not_wanted key (slot_of (eq key) m)
+      not_leaver (Try key None) main = tt
+      not_leaver (SlotFor key fresh) main = not_wanted key (slot_of (eq key) m)
+      not_leaver (Remove key) main = tt
+      not_leaver (Retain bits) main = tt
+      not_leaver Clear main = tt
+      not_leaver Evict main = not_now (main refl)
+      not_leaver (Prefill values) main = tt
+      not_leaver Len main = tt
+      not_leaver IsEmpty main = tt
+      not_leaver Capacity main = tt
+
+      -- so no call that removes none evicts it, but for an eviction while Main is empty
+      pub hit_tail_stays : (makes_room call ≡ true → 0 < length m.main) → (s : ℕ) → slot_of (eq tail.key) m ≡ Some s → slot_of (eq tail.key) (after eq call m) ≡ Some s
+      hit_tail_stays main s found = others_stay tail.key s found (not_leaver call main)

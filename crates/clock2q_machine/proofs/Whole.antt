@@ -259,10 +259,10 @@ module _ {K V : Type 0} where
 
     -- Main with another entry in place of its victim
     module _ (victim : MainEntry K) (others : List (MainEntry K)) (choice : from_victim m.main ≡ victim ∷ others) where
-      behind_length : (key : K) (slot : ℕ) → length (behind_hand key slot others) ≡ length m.main
+      pub behind_length : (key : K) (slot : ℕ) → length (behind_hand key slot others) ≡ length m.main
       behind_length key slot = omega (arith, length-append others (record { key = key; slot = slot; bit = false } ∷ []), ap length choice, length-from_victim m.main)
 
-      behind_weight : (key : K) (slot : ℕ) (g : MainEntry K → ℕ) → ((e : MainEntry K) (bit : Bool) → g (with_bit e bit) ≡ g e)
+      pub behind_weight : (key : K) (slot : ℕ) (g : MainEntry K → ℕ) → ((e : MainEntry K) (bit : Bool) → g (with_bit e bit) ≡ g e)
           → sum_by g (behind_hand key slot others) + g victim ≡ sum_by g m.main + g (record { key = key; slot = slot; bit = false })
       behind_weight key slot g bitless = omega (arith, weight-behind g bitless key slot others, sum_by-cons g victim others, ap (sum_by g) choice, weight-from_victim g bitless m.main)
 

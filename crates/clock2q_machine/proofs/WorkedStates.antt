@@ -23,7 +23,7 @@ abbrev twenty : Machine ℕ ℕ
 twenty = state 20 (puts 1 20)
 
 -- the keys of Small, Main and the history
-abbrev keys : Machine ℕ ℕ → List (List ℕ)
+abbrev pub keys : Machine ℕ ℕ → List (List ℕ)
 keys m = map (λ e. e.key) m.small ∷ map (λ e. e.key) m.main ∷ m.history ∷ []
 
 thirty_one_puts : let m = state 20 (puts 0 31) in

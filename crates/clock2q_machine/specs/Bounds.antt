@@ -5,8 +5,8 @@ use Rattle.std.specs.List.{count_by, list_any, last_or}
 use Rattle.clock2q_machine.specs.Ages.{is_promoted}
 use Rattle.clock2q_machine.specs.Shares.{main_share}
 use Rattle.clock2q_machine.specs.Entries.{SmallEntry, inspections}
-use Rattle.clock2q_machine.specs.Calls.{Call, Put, Get, Peek, Contains, GetAt, Set, With, Try, SlotFor, Remove, Retain, Clear, Prefill, Len, IsEmpty, Capacity}
-use Rattle.clock2q_machine.specs.Machine.{Machine, slot_of, vacancy, goes_to_main}
+use Rattle.clock2q_machine.specs.Calls.{Call, Put, Get, Peek, Contains, GetAt, Set, With, Try, SlotFor, Remove, Retain, Clear, Evict, Prefill, Len, IsEmpty, Capacity}
+use Rattle.clock2q_machine.specs.Machine.{Machine, slot_of, vacancy, goes_to_main, victim_leaves}
 use Rattle.clock2q_machine.specs.Steps.{is_at, after, after_all}
 
 -- whether Small has a tail that is promoted to Main
@@ -35,7 +35,7 @@ module _ {K V : Type 0} where
   abbrev pub inspections_for : (K → Bool) → Machine K V → ℕ
   inspections_for is m = if is_some (slot_of is m) then 0 else (if takes_victim is m then inspections m.main else 0)
 
-  -- whether the call removes residents other than Main's victim
+  -- whether the call removes residents other than the one that is evicted next
   abbrev pub takes_out : Call K V → Bool
   takes_out (Put key value) = false
   takes_out (Get key) = false
@@ -49,10 +49,31 @@ module _ {K V : Type 0} where
   takes_out (Remove key) = true
   takes_out (Retain bits) = true
   takes_out Clear = true
+  takes_out Evict = false
   takes_out (Prefill values) = false
   takes_out Len = false
   takes_out IsEmpty = false
   takes_out Capacity = false
+
+  -- whether it makes residents leave though no key comes
+  abbrev pub makes_room : Call K V → Bool
+  makes_room (Put key value) = false
+  makes_room (Get key) = false
+  makes_room (Peek key) = false
+  makes_room (Contains key) = false
+  makes_room (GetAt slot key) = false
+  makes_room (Set key value) = false
+  makes_room (With key value) = false
+  makes_room (Try key value) = false
+  makes_room (SlotFor key value) = false
+  makes_room (Remove key) = true
+  makes_room (Retain bits) = true
+  makes_room Clear = true
+  makes_room Evict = true
+  makes_room (Prefill values) = false
+  makes_room Len = false
+  makes_room IsEmpty = false
+  makes_room Capacity = false
 
   module _ (eq : K → K → Bool) where
     -- the number of inspections by the hand in a call
@@ -70,6 +91,7 @@ module _ {K V : Type 0} where
     inspections_of (Remove key) m = 0
     inspections_of (Retain bits) m = 0
     inspections_of Clear m = 0
+    inspections_of Evict m = if victim_leaves m then inspections m.main else 0
     inspections_of (Prefill values) m = 0
     inspections_of Len m = 0
     inspections_of IsEmpty m = 0
@@ -90,6 +112,7 @@ module _ {K V : Type 0} where
     main_victims (Remove key) m = 0
     main_victims (Retain bits) m = 0
     main_victims Clear m = 0
+    main_victims Evict m = if victim_leaves m then 1 else 0
     main_victims (Prefill values) m = 0
     main_victims Len m = 0
     main_victims IsEmpty m = 0
@@ -109,6 +132,7 @@ module _ {K V : Type 0} where
     settings (Remove key) m = 0
     settings (Retain bits) m = 0
     settings Clear m = 0
+    settings Evict m = 0
     settings (Prefill values) m = 0
     settings Len m = 0
     settings IsEmpty m = 0

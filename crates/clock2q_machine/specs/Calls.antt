@@ -16,6 +16,7 @@ pub data Call (K V : Type 0) : Type 0 where
   Remove : K → Call K V
   Retain : List Bool → Call K V
   Clear : Call K V
+  Evict : Call K V
   Prefill : List V → Call K V
   Len : Call K V
   IsEmpty : Call K V

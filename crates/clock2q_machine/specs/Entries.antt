@@ -1,6 +1,6 @@
 -- The entries of Small and of Main, and the changes of a queue's list: a hit, an admission to Small, the hand's choice
 -- in Main.
-use Rattle.std.specs.Prelude.{ℕ, Bool, true, false, if◌then◌else◌, List, [], ◌∷◌, ◌++◌, map, refl}
+use Rattle.std.specs.Prelude.{ℕ, Bool, true, false, if◌then◌else◌, List, [], ◌∷◌, ◌++◌, map, Option, Some, None, refl}
 use Rattle.clock2q_machine.specs.Hand as hand
 use Rattle.std.specs.Coded.{Coded, code_by, coded×, coded_ℕ, coded_bool}
 use Rattle.clock2q_machine.specs.Ages.{Age, Young, touched, grown, age_code}
@@ -45,6 +45,11 @@ module _ {K : Type 0} where
 
   abbrev pub from_victim : List (MainEntry K) → List (MainEntry K)
   from_victim main = hand.from_victim (λ e. e.bit) (λ e. with_bit e false) main
+
+  -- an entry's key and slot, if there is an entry
+  abbrev pub first_of : List (MainEntry K) → Option (K × ℕ)
+  first_of [] = None
+  first_of (e ∷ main) = Some (e.key, e.slot)
 
   -- a new entry of Main is last, just before the hand, with a clear bit
   abbrev pub behind_hand : K → ℕ → List (MainEntry K) → List (MainEntry K)

@@ -1,18 +1,13 @@
 -- Which resident leaves: the one that a call without removals may evict, and the key that it brings.
-use Rattle.std.specs.Prelude.{◌≡◌, ℕ, ◌+◌, Bool, false, ◌==◌, if◌then◌else◌, List, [], ◌∷◌, length, slice_get, Option, Some, None, is_some}
+use Rattle.std.specs.Prelude.{◌≡◌, ℕ, ◌+◌, Bool, false, ◌==◌, if◌then◌else◌, List, length, slice_get, Option, Some, None, is_some}
 use Rattle.std.specs.List.{count_by, list_any, last_or}
 use Rattle.std.specs.Option.{option_map, option_and_then}
 use Rattle.clock2q_machine.specs.Shares.{main_share}
 use Rattle.clock2q_machine.specs.Ages.{is_promoted}
-use Rattle.clock2q_machine.specs.Entries.{SmallEntry, MainEntry, from_victim}
-use Rattle.clock2q_machine.specs.Calls.{Call, Put, Get, Peek, Contains, GetAt, Set, With, Try, SlotFor, Remove, Retain, Clear, Prefill, Len, IsEmpty, Capacity}
-use Rattle.clock2q_machine.specs.Machine.{Machine, residents, slot_of, vacancy, goes_to_main, placement}
+use Rattle.clock2q_machine.specs.Entries.{SmallEntry, MainEntry, first_of, from_victim}
+use Rattle.clock2q_machine.specs.Calls.{Call, Put, Get, Peek, Contains, GetAt, Set, With, Try, SlotFor, Remove, Retain, Clear, Evict, Prefill, Len, IsEmpty, Capacity}
+use Rattle.clock2q_machine.specs.Machine.{Machine, residents, slot_of, vacancy, goes_to_main, placement, leaves_now}
 use Rattle.clock2q_machine.specs.Steps.{after}
-
--- an entry's key and slot, if there is an entry
-abbrev pub first_of : {K : Type 0} → List (MainEntry K) → Option (K × ℕ)
-first_of [] = None
-first_of (e ∷ main) = Some (e.key, e.slot)
 
 -- for a key that enters Small no resident leaves if there is a vacancy; otherwise Small's tail does, or Main's victim
 -- if the tail is promoted
@@ -55,7 +50,7 @@ module _ {K V : Type 0} where
   resident_with is m = count_by (λ r. is r.0 r.1) (residents m)
 
   module _ (eq : K → K → Bool) where
-    -- the resident that a call without removals evicts
+    -- the resident that a call evicts, if it takes out no others
     abbrev pub leaver : Call K V → Machine K V → Option (K × ℕ)
     leaver (Put key value) m = leaves_wanted (eq key) m
     leaver (Get key) m = None
@@ -70,6 +65,7 @@ module _ {K V : Type 0} where
     leaver (Remove key) m = None
     leaver (Retain bits) m = None
     leaver Clear m = None
+    leaver Evict m = leaves_now m
     leaver (Prefill values) m = None
     leaver Len m = None
     leaver IsEmpty m = None
@@ -90,6 +86,7 @@ module _ {K V : Type 0} where
     comer (Remove key) m = None
     comer (Retain bits) m = None
     comer Clear m = None
+    comer Evict m = None
     comer (Prefill values) m = None
     comer Len m = None
     comer IsEmpty m = None

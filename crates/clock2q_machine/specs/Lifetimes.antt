@@ -1,10 +1,10 @@
 -- The minimum time that a key stays: in Small by the admissions after its own, in the history by the keys that Small
 -- evicts after it.
-use Rattle.std.specs.Prelude.{⊤, ◌≡◌, ℕ, ◌+◌, Bool, false, ◌||◌, if◌then◌else◌, List, [], ◌∷◌, length, Some, None, is_some}
+use Rattle.std.specs.Prelude.{⊤, ◌≡◌, ℕ, ◌+◌, Bool, false, not, ◌||◌, if◌then◌else◌, List, [], ◌∷◌, length, Some, None, is_some}
 use Rattle.std.specs.List.{list_any, last_or}
 use Rattle.clock2q_machine.specs.Entries.{SmallEntry}
-use Rattle.clock2q_machine.specs.Calls.{Call, Put, Get, Peek, Contains, GetAt, Set, With, Try, SlotFor, Remove, Retain, Clear, Prefill, Len, IsEmpty, Capacity}
-use Rattle.clock2q_machine.specs.Machine.{Machine, slot_of, vacancy, goes_to_main}
+use Rattle.clock2q_machine.specs.Calls.{Call, Put, Get, Peek, Contains, GetAt, Set, With, Try, SlotFor, Remove, Retain, Clear, Evict, Prefill, Len, IsEmpty, Capacity}
+use Rattle.clock2q_machine.specs.Machine.{Machine, slot_of, vacancy, goes_to_main, victim_leaves}
 use Rattle.clock2q_machine.specs.Bounds.{goes_on}
 
 -- the number of entries of Small that are older than the key that passes the test
@@ -49,6 +49,7 @@ module _ {K V : Type 0} where
     admissions_of (Remove key) m = 0
     admissions_of (Retain bits) m = 0
     admissions_of Clear m = 0
+    admissions_of Evict m = 0
     admissions_of (Prefill values) m = 0
     admissions_of Len m = 0
     admissions_of IsEmpty m = 0
@@ -69,6 +70,7 @@ module _ {K V : Type 0} where
     evictions_of (Remove key) m = 0
     evictions_of (Retain bits) m = 0
     evictions_of Clear m = 0
+    evictions_of Evict m = if victim_leaves m || not (is_some (last_or None m.small)) then 0 else 1
     evictions_of (Prefill values) m = 0
     evictions_of Len m = 0
     evictions_of IsEmpty m = 0
@@ -82,6 +84,7 @@ module _ {K V : Type 0} where
     LetsBe k (SlotFor key value) = eq k key ≡ false
     LetsBe k (Remove key) = eq k key ≡ false
     LetsBe k Clear = ⊥
+    LetsBe k Evict = ⊤
     LetsBe k (Get key) = ⊤
     LetsBe k (Peek key) = ⊤
     LetsBe k (Contains key) = ⊤

@@ -1,12 +1,12 @@
 -- The state machine of a cache: two queues of residents, the history of keys evicted from Small, a stack of free slots,
 -- and a value for each slot made. It uses no hash.
-use Rattle.std.specs.Prelude.{ℕ, ◌+◌, ◌-◌, Bool, not, ◌&&◌, ◌||◌, ◌==◌, nat_lt, nat_le, if◌then◌else◌, List, [], ◌∷◌, ◌++◌, map, length, take, drop, slice_get, slice_set, Option, Some, None, is_some, refl}
+use Rattle.std.specs.Prelude.{ℕ, ◌+◌, ◌-◌, Bool, true, not, ◌&&◌, ◌||◌, ◌==◌, nat_lt, nat_le, if◌then◌else◌, List, [], ◌∷◌, ◌++◌, map, length, take, drop, slice_get, slice_set, Option, Some, None, is_some, refl}
 use Rattle.std.specs.List.{filter, find, list_any, last_or, filter_map, fold, range_with_len}
 use Rattle.std.specs.Option.{option_map, option_and_then}
 use Rattle.std.specs.Coded.{Coded, code_by, coded×, coded_list, coded_ℕ}
 use Rattle.clock2q_machine.specs.Shares.{Shares, main_share, history_share, shares_code}
 use Rattle.clock2q_machine.specs.Ages.{is_promoted}
-use Rattle.clock2q_machine.specs.Entries.{SmallEntry, MainEntry, small_hit, main_hit, small_admitted, from_victim, behind_hand, small_entry_code, main_entry_code}
+use Rattle.clock2q_machine.specs.Entries.{SmallEntry, MainEntry, small_hit, main_hit, small_admitted, first_of, from_victim, behind_hand, small_entry_code, main_entry_code}
 
 -- Small and the history newest first, Main from the hand, the free slots from the top; slot `s` has the `s`-th value
 pub record Machine (K V : Type 0) : Type 0 where
@@ -26,6 +26,11 @@ pub record Placement (K V : Type 0) : Type 0 where
 abbrev pub vacant_slot : List ℕ → ℕ → ℕ → Option ℕ
 vacant_slot (slot ∷ free) made capacity = Some slot
 vacant_slot [] made capacity = if nat_lt made capacity then Some made else None
+
+-- whether Small has no tail to evict: it is empty, or its tail is promoted
+abbrev pub keeps_tail : {K : Type 0} → Option (SmallEntry K) → Bool
+keeps_tail None = true
+keeps_tail (Some tail) = is_promoted tail.age
 
 module _ {K V : Type 0} where
   -- nothing resident, remembered, free or made
@@ -166,6 +171,37 @@ module _ {K V : Type 0} where
   -- the residents at these slots leave, one after the other
   abbrev pub vacated_all : List ℕ → Machine K V → Machine K V
   vacated_all slots m = fold (λ state slot. vacated slot state) m slots
+
+  -- whether a resident of Main is evicted next, rather than Small's tail
+  abbrev pub victim_leaves : Machine K V → Bool
+  victim_leaves m = nat_lt 0 (length m.main) && keeps_tail (last_or None m.small)
+
+  -- the resident that is evicted next
+  abbrev pub leaves_now : Machine K V → Option (K × ℕ)
+  leaves_now m = if victim_leaves m then first_of (from_victim m.main) else option_map (λ tail. (tail.key, tail.slot)) (last_or None m.small)
+
+  -- Small's tail leaves for the history, and its slot is free
+  abbrev pub tail_evicted : Option (SmallEntry K) → Machine K V → Machine K V
+  tail_evicted None m = m
+  tail_evicted (Some tail) m = record m {
+    small = take (length m.small - 1) m.small;
+    history = take (history_share m.shares) (tail.key ∷ m.history);
+    free = tail.slot ∷ m.free;
+  }
+
+  -- Main's victim leaves without history, and its slot is free; Small's tail, if there is one, is promoted to Main
+  abbrev pub victim_evicted : Option (SmallEntry K) → List (MainEntry K) → Machine K V → Machine K V
+  victim_evicted tail [] m = m
+  victim_evicted None (victim ∷ others) m = record m { main = others; free = victim.slot ∷ m.free }
+  victim_evicted (Some tail) (victim ∷ others) m = record m {
+    small = take (length m.small - 1) m.small;
+    main = behind_hand tail.key tail.slot others;
+    free = victim.slot ∷ m.free;
+  }
+
+  -- a resident is evicted, though no key comes
+  abbrev pub evicted : Machine K V → Machine K V
+  evicted m = if victim_leaves m then victim_evicted (last_or None m.small) (from_victim m.main) m else tail_evicted (last_or None m.small) m
 
   -- only the shares are left
   abbrev pub cleared : Machine K V → Machine K V

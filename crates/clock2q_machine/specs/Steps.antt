@@ -1,7 +1,8 @@
 -- The answer of each call and its effect on the machine, and those of a list of calls.
 use Rattle.std.specs.Prelude.{ℕ, zero, suc, ◌-◌, Bool, true, false, ◌==◌, if◌then◌else◌, List, [], ◌∷◌, map, length, slice_get, Option, Some, None, is_some}
-use Rattle.clock2q_machine.specs.Calls.{Call, Answer, Put, Get, Peek, Contains, GetAt, Set, With, Try, SlotFor, Remove, Retain, Clear, Prefill, Len, IsEmpty, Capacity, Value, Stored, Tried, Slot, Flag, Number, Done}
-use Rattle.clock2q_machine.specs.Machine.{Machine, resident_count, slot_of, value_of, hit, placement, stored, inserted, reused, removed, by_slot, vacated_all, cleared, prefilled}
+use Rattle.std.specs.Option.{option_and_then}
+use Rattle.clock2q_machine.specs.Calls.{Call, Answer, Put, Get, Peek, Contains, GetAt, Set, With, Try, SlotFor, Remove, Retain, Clear, Evict, Prefill, Len, IsEmpty, Capacity, Value, Stored, Tried, Slot, Flag, Number, Done}
+use Rattle.clock2q_machine.specs.Machine.{Machine, resident_count, slot_of, value_of, hit, placement, stored, inserted, reused, removed, by_slot, vacated_all, leaves_now, evicted, cleared, prefilled}
 
 -- the slots whose question was answered with false; past the end every answer is true
 abbrev pub refused_slots : List Bool → List ℕ → List ℕ
@@ -96,6 +97,7 @@ module _ {K V : Type 0} where
     answer (Remove key) m = Flag (is_some (slot_of (eq key) m))
     answer (Retain bits) m = Done
     answer Clear m = Done
+    answer Evict m = Value (option_and_then (λ r. slice_get m.values r.1) (leaves_now m))
     answer (Prefill values) m = Done
     answer Len m = Number (resident_count m)
     answer IsEmpty m = Flag (resident_count m == 0)
@@ -115,6 +117,7 @@ module _ {K V : Type 0} where
     after (Remove key) m = removed (eq key) m
     after (Retain bits) m = retained bits m
     after Clear m = cleared m
+    after Evict m = evicted m
     after (Prefill values) m = prefilled_with values m
     after Len m = m
     after IsEmpty m = m

@@ -8,10 +8,10 @@ use Rattle.std.specs.Option.{option_and_then, unwrap_or}
 use Rattle.std.proofs.lemmas.Bool.{false≢true}
 use Rattle.std.proofs.lemmas.List.Sums.{sum_by-cons}
 use Rattle.clock2q_machine.specs.Ages.{is_promoted}
-use Rattle.clock2q_machine.specs.Calls.{Call, Get, GetAt, Put, Remove}
-use Rattle.clock2q_machine.specs.Entries.{MainEntry, SmallEntry, from_victim}
-use Rattle.clock2q_machine.specs.Leaving.{comer, first_of, leaver, leaves_for, leaves_for_small, one_with, resident_with}
-use Rattle.clock2q_machine.specs.Machine.{Machine, empty, forgotten, hit, into_small_at, goes_to_main, joining_main, placement, promoting_tail, evicting_tail, removed, replacing_victim, resident_count, slot_of, vacancy, value_of}
+use Rattle.clock2q_machine.specs.Calls.{Call, Get, GetAt, Put, Remove, Evict}
+use Rattle.clock2q_machine.specs.Entries.{MainEntry, SmallEntry, first_of, from_victim}
+use Rattle.clock2q_machine.specs.Leaving.{comer, leaver, leaves_for, leaves_for_small, one_with, resident_with}
+use Rattle.clock2q_machine.specs.Machine.{Machine, empty, evicted, forgotten, hit, into_small_at, goes_to_main, joining_main, placement, promoting_tail, evicting_tail, removed, replacing_victim, resident_count, slot_of, vacancy, value_of}
 use Rattle.clock2q_machine.specs.Shares.{Shares, main_share}
 use Rattle.clock2q_machine.specs.Steps.{after, hit_at, put, slotted_at}
 use Rattle.clock2q_machine.specs.Whole.{IsWhole}
@@ -45,6 +45,9 @@ module _ (m : Machine ℕ (Option ℕ)) (h : IsWhole eqb m) (last : AreLast m) w
 
   pub last-removed : (page : ℕ) → AreLast (removed (eqb page) m)
   last-removed page other there = kept (Remove page) other tt there
+
+  pub last-evicted : AreLast (evicted m)
+  last-evicted other there = kept Evict other tt there
 
 pub last-empty : (shares : Shares) → AreLast (empty shares)
 last-empty shares page there = absurd (false≢true there)

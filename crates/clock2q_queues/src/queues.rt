@@ -184,6 +184,28 @@ impl<A: Allocator> Queues<A> {
         self.small.reuse_oldest(&mut self.links)
     }
 
+    /// Moves the hand on to the slot that it chooses, as in [`take_victim`](Queues::take_victim),
+    /// and returns that slot, which stays in Main.
+    ///
+    /// # Cost
+    ///
+    /// Linear in the number of slots that the hand passes.
+    pub fn select(&mut self) -> u32
+        requires some { 0 < length self.old.main }
+        ensures victim { slice_get (from_victim self.old.main) 0 ≡ Some (result, false) }
+        ensures queues { self.new
+            ≡ record self.old {
+              main = from_victim self.old.main;
+              accesses = self.new.accesses;
+              inspections = self.new.inspections;
+            } }
+        ensures inspections { self.new.inspections
+            ≡ self.old.inspections + inspections self.old.main }
+        ensures accesses { self.new.accesses + 1 ≡ self.old.accesses + inspections self.old.main }
+    {
+        self.main.select(&mut self.links)
+    }
+
     /// Removes the slot that the hand chooses from Main, and returns it.
     ///
     /// The hand passes each slot whose bit is set, and clears the bit. It chooses the first slot

@@ -54,6 +54,7 @@ module _ {K V : Type 0} where
   IsSupplied (call.Remove key) = ⊤
   IsSupplied (call.Retain bits) = ⊤
   IsSupplied call.Clear = ⊤
+  IsSupplied call.Evict = ⊤
   IsSupplied call.Len = ⊤
   IsSupplied call.IsEmpty = ⊤
   IsSupplied call.Capacity = ⊤

@@ -31,6 +31,7 @@ impl<S: BuildHasher> Called<S> {
             Call::Remove(key) => Answer::Flag(self.remove(key)),
             Call::Retain(bits, count) => self.retain(bits, count),
             Call::Clear => self.clear(),
+            Call::MakeRoom => Answer::Left(self.evict()),
             Call::Prefill(first, more) => self.prefill(first, more),
             Call::Peek(key) => Answer::Value(self.peek(key)),
             Call::Contains(key) => Answer::Flag(self.contains(key)),
@@ -105,6 +106,10 @@ impl<S: BuildHasher> Called<S> {
             stays
         });
         Answer::Done
+    }
+
+    fn evict(&mut self) -> Option<(u64, usize)> {
+        self.cache.evict()
     }
 
     fn clear(&mut self) -> Answer {

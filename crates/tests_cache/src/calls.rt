@@ -25,6 +25,8 @@ pub(crate) enum Call {
     /// The answers are this many bits of a number, lowest first, and then true.
     Retain(u64, u32),
     Clear,
+    /// Evicts a resident though no key comes.
+    MakeRoom,
     /// The values count up from the first number in this many steps, and then repeat the last.
     Prefill(u64, u64),
     Len,
@@ -40,6 +42,8 @@ pub(crate) enum Answer {
     /// A key and its value.
     Handed(Option<(u64, u64)>),
     Tried(Option<u64>),
+    /// A key that left, and its slot.
+    Left(Option<(u64, usize)>),
     /// A key's slot and the value there.
     Slot(usize, u64),
     Flag(bool),
@@ -73,7 +77,8 @@ impl Call {
             270..=279 => Call::Write(key, None, number),
             280..=309 => Call::Set(key, number),
             310..=349 => Call::GetAt(model.hint(key, draws.below(4)), key),
-            350..=379 => Call::Remove(key),
+            350..=369 => Call::Remove(key),
+            370..=379 => Call::MakeRoom,
             380 => Call::Clear,
             381 | 382 => Call::Prefill(number, draws.below(4)),
             kind => Call::aside(draws, key, kind),

@@ -130,6 +130,7 @@ impl Model {
                 self.clear();
                 Answer::Done
             }
+            Call::MakeRoom => Answer::Left(self.evict()?),
             Call::Prefill(first, more) => {
                 self.prefill(first, more)?;
                 Answer::Done
@@ -323,6 +324,21 @@ impl Model {
         Ok(())
     }
 
+    /// Returns the key that leaves, and its slot.
+    fn evict(&mut self) -> Result<Option<(u64, usize)>, AllocError> {
+        if self.len() == 0 {
+            return Ok(None);
+        }
+        self.evicted = None;
+        let slot = if self.small.is_empty() {
+            self.main_victim()?
+        } else {
+            self.small_leaves()?
+        };
+        self.free.push(slot)?;
+        Ok(self.evicted.map(|key| (key, slot)))
+    }
+
     fn clear(&mut self) {
         self.small.clear();
         self.main.clear();
@@ -430,7 +446,7 @@ impl Model {
         let Some(oldest) = self.small.pop() else {
             return Ok(0);
         };
-        if oldest.hit {
+        if oldest.hit && !self.main.is_empty() {
             let slot = self.main_victim()?;
             self.main.push(Entry::new(oldest.key, oldest.slot))?;
             return Ok(slot);

@@ -415,6 +415,40 @@ const RUNS: &[Run] = &[
             (Call::Len, Answer::Number(2)),
         ],
     },
+    // Small's tail leaves for the history, and its slot is the next to be taken.
+    Run {
+        capacity: 4,
+        puts: (1, 5),
+        hits: (0, 0),
+        calls: &[
+            (Call::MakeRoom, Answer::Left(Some((1, 0)))),
+            (Call::MakeRoom, Answer::Left(Some((2, 1)))),
+            (Call::Len, Answer::Number(2)),
+            (Call::Put(5, 50), Answer::Value(None)),
+            (Call::GetAt(1, 5), Answer::Value(Some(50))),
+            (Call::Put(1, 11), Answer::Value(None)),
+            (Call::MakeRoom, Answer::Left(Some((5, 1)))),
+            (Call::MakeRoom, Answer::Left(Some((3, 2)))),
+            (Call::MakeRoom, Answer::Left(Some((4, 3)))),
+            (Call::MakeRoom, Answer::Left(Some((1, 0)))),
+            (Call::MakeRoom, Answer::Left(None)),
+            (Call::IsEmpty, Answer::Flag(true)),
+        ],
+    },
+    // A tail that was hit moves on to Main, and Main's victim leaves.
+    Run {
+        capacity: 20,
+        puts: (1, 21),
+        hits: (1, 2),
+        calls: &[
+            (Call::MakeRoom, Answer::Left(Some((3, 2)))),
+            (Call::GetAt(0, 1), Answer::Value(Some(1))),
+            (Call::Contains(3), Answer::Flag(false)),
+            (Call::MakeRoom, Answer::Left(Some((2, 1)))),
+            (Call::MakeRoom, Answer::Left(Some((4, 3)))),
+            (Call::Len, Answer::Number(17)),
+        ],
+    },
     // Values written where a fetch lends them.
     Run {
         capacity: 2,

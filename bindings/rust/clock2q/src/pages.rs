@@ -128,6 +128,12 @@ impl PageCache {
         unsafe { sys::clock2q_contains(self.handle(), key) }
     }
 
+    /// Returns the slot of a key that has one, and records nothing.
+    pub fn peek(&self, key: u64) -> Option<usize> {
+        let found = unsafe { sys::clock2q_peek_key(self.handle(), key) };
+        found.is_found.then_some(found.slot)
+    }
+
     /// Takes the slot of a key away and returns true. A key that has none is forgotten.
     pub fn remove(&mut self, key: u64) -> bool {
         unsafe { sys::clock2q_remove(self.handle(), key) }

@@ -78,6 +78,7 @@ extern "C" {
     pub fn clock2q_find_key(cache: *mut clock2q, key: u64) -> clock2q_found;
     pub fn clock2q_at(cache: *mut clock2q, slot: usize, key: u64) -> bool;
     pub fn clock2q_contains(cache: *mut clock2q, key: u64) -> bool;
+    pub fn clock2q_peek_key(cache: *mut clock2q, key: u64) -> clock2q_found;
     pub fn clock2q_remove(cache: *mut clock2q, key: u64) -> bool;
     pub fn clock2q_clear(cache: *mut clock2q);
     pub fn clock2q_len(cache: *mut clock2q) -> usize;

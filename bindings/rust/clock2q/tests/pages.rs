@@ -21,6 +21,7 @@ fn slots_are_shared_out() {
             let key = draws.below(3 * capacity as u64);
             let found = pages.find(key);
             assert_eq!(pages.contains(key), found.is_some());
+            assert_eq!(pages.peek(key), found);
             if draws.below(20) == 0 {
                 assert_eq!(pages.remove(key), found.is_some());
                 continue;

@@ -223,7 +223,7 @@ impl<K: Hash + Eq + Drop, V: Drop, S: BuildHasher, A: Allocator> Cache<K, V, S, 
     }
 
     /// Returns true if Small's tail moves on to Main.
-    fn tail_is_promoted(&mut self) -> bool
+    pub(super) fn tail_is_promoted(&mut self) -> bool
         requires { 0 < length self.old.machine.small }
         ensures value { IfSome (last_or None self.old.machine.small) (λ tail. result ≡ is_promoted tail.age) }
         ensures machine { self.new.machine ≡ self.old.machine }

@@ -3,14 +3,14 @@ use crate::directory::Directory;
 use std::alloc::Allocator;
 
 impl<K: Eq, V, A: Allocator> Directory<K, V, A> {
-    ghost use Rattle.std.specs.Prelude.{◌≡◌, ◌+◌, ◌<◌, ◌++◌, ◌∷◌, [], length, map};
+    ghost use Rattle.std.specs.Prelude.{◌≡◌, ◌+◌, ◌<◌, ◌++◌, ◌∷◌, [], false, Some, length, map};
     ghost use Rattle.clock2q_handles.specs.Homes.{no_entries};
     ghost use Rattle.clock2q_queues.specs.Cells.{Rises};
-    ghost use Rattle.clock2q_directory.specs.Keys.{entry};
+    ghost use Rattle.clock2q_directory.specs.Keys.{entry, key_at};
     ghost use Rattle.clock2q_directory.specs.Indexes.{HasHash};
     ghost use Rattle.clock2q_directory.specs.Index.{emptied};
     ghost use Rattle.clock2q_directory.specs.History.{places_with, place_of, freed_place, is_remembered, forgotten};
-    ghost use Rattle.clock2q_directory.specs.Directory.{IsResident, Leaves};
+    ghost use Rattle.clock2q_directory.specs.Directory.{IsResident, Leaves, Retires};
 
     /// Makes the next slot, with a key and a value. The key is not resident: the slot waits for one
     /// that [enters](Directory::enter).
@@ -30,6 +30,22 @@ impl<K: Eq, V, A: Allocator> Directory<K, V, A> {
         ensures kept { self.new.residents ≡ self.old.residents }
     {
         self.history.leave(self.residents.hash(slot), slot);
+    }
+
+    /// Removes the resident at a slot from the index, remembers its key as the newest, and returns
+    /// it. Its value and a copy of the key stay at the slot until another key enters there. If the
+    /// history is full, the oldest remembered key is forgotten.
+    pub fn retire(&mut self, slot: u32) -> K
+    where
+        K: Copy,
+        requires resident { IsResident slot self.old }
+        requires absent { (old : K) → key_at self.old.residents.entries slot ≡ Some old → is_remembered K.eq old self.old.history.entries ≡ false }
+        ensures retired { Retires slot result self.old self.new.history }
+        ensures kept { self.new.residents ≡ self.old.residents }
+    {
+        let key = *self.residents.key(slot);
+        self.history.remember(self.residents.hash(slot), slot, key);
+        key
     }
 
     /// Forgets a key, which is at `place`, and returns true if it was remembered.
