@@ -1,5 +1,5 @@
 -- What the two vectors of a table say about its slots.
-use Rattle.std.specs.Prelude.{◌≡◌, ℕ, zero, suc, pred, ◌/◌, ◌%◌, ◌^◌, ◌<◌, ◌≤◌, List, [], ◌∷◌, length, Option, Some, None}
+use Rattle.std.specs.Prelude.{◌≡◌, ℕ, zero, suc, pred, ◌+◌, ◌/◌, ◌%◌, ◌^◌, ◌<◌, ◌≤◌, List, [], ◌∷◌, length, Option, Some, None}
 use Rattle.std.specs.Coded.{Coded, code_by, coded×, coded_ℕ, coded_list, coded_option}
 use Rattle.clock2q_handles.specs.Layout.{Placed, placed, placed_code}
 use Rattle.clock2q_handles.specs.declared.metadata.Metadata.{Metadata}
@@ -76,3 +76,9 @@ pub record IsSlotCount (m : ℕ) : Type 0 where
 pub record ArePaired {H : Type 0} (metadata : List Metadata) (handles : List H) : Type 0 where
   pub same : length handles ≡ length metadata
   pub slot_count : IsSlotCount (length metadata)
+
+-- both vectors have the same length, a power of two or 0, and the mask is one less
+pub record AreMasked {H : Type 0} (metadata : List Metadata) (handles : List H) (mask : ℕ) : Type 0 where
+  pub same : length handles ≡ length metadata
+  pub slot_count : IsSlotCount (length metadata)
+  pub mask_of : 0 < length metadata → mask + 1 ≡ length metadata

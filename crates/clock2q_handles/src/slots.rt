@@ -31,8 +31,7 @@ impl<H: Copy + Default, A: Allocator> Slots<H, A> {
         ensures home { 0 < length self.now.slots → result ≡ hash % length self.now.slots }
         ensures within { 0 < length self.now.slots → result < length self.now.slots }
     {
-        let mask = self.count().wrapping_sub(1);
-        hash as usize & mask
+        hash as usize & self.mask()
     }
 
     /// Returns the slot after `slot`: slot 0 after the last.
@@ -41,7 +40,7 @@ impl<H: Copy + Default, A: Allocator> Slots<H, A> {
         ensures after { result ≡ (slot + 1) % length self.now.slots }
         ensures within { result < length self.now.slots }
     {
-        after(slot, self.count())
+        after(slot, self.mask())
     }
 
     /// Returns where a walk for `hash` ends.

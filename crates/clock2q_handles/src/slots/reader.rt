@@ -43,7 +43,7 @@ impl<'a, H: Copy + Default> Reader<'a, H> {
         Reader {
             metadata: CountedSlice::new(view.metadata),
             handles: CountedSlice::new(view.handles),
-            mask: slots.count().wrapping_sub(1),
+            mask: slots.mask(),
         }
     }
 

@@ -13,16 +13,18 @@ use clock2q_count::Count;
 use std::alloc::{AllocError, Allocator};
 use std::marker::Model;
 
-/// The slots: a power of two of them, or none, and the number of writes to them.
+/// The slots: a power of two of them, or none, the number of slots minus one, and the number of
+/// writes to them.
 #[derive(Drop)]
 pub(crate) struct Slots<H, A: Allocator> {
     metadata: Vec<Metadata, A>,
     handles: Vec<H, A>,
+    mask: usize,
     writes: Count,
 }
 
 impl<H, A: Allocator> Model for Slots<H, A> {
-    ghost use Rattle.clock2q_handles.specs.Slots.{SlotsValue, slots_code, slots_value, cells, ArePaired};
+    ghost use Rattle.clock2q_handles.specs.Slots.{SlotsValue, slots_code, slots_value, cells, AreMasked};
 
     ghost Value = { SlotsValue H };
 
@@ -30,7 +32,7 @@ impl<H, A: Allocator> Model for Slots<H, A> {
 
     ghost view = { λ s. slots_value (cells s.metadata.items s.handles.items) s.writes.total };
 
-    ghost invariant = { λ s. ArePaired s.metadata.items s.handles.items };
+    ghost invariant = { λ s. AreMasked s.metadata.items s.handles.items s.mask };
 }
 
 impl<H: Copy + Default, A: Allocator> Slots<H, A> {
@@ -45,6 +47,7 @@ impl<H: Copy + Default, A: Allocator> Slots<H, A> {
         Slots {
             metadata: Vec::new(alloc),
             handles: Vec::new(alloc),
+            mask: 0,
             writes: Count::new(),
         }
     }
@@ -63,6 +66,7 @@ impl<H: Copy + Default, A: Allocator> Slots<H, A> {
         Ok(Slots {
             metadata,
             handles,
+            mask: count.wrapping_sub(1),
             writes: Count::new(),
         })
     }
@@ -98,6 +102,15 @@ impl<H: Copy + Default, A: Allocator> Slots<H, A> {
         ensures small { length self.now.slots < 2 ^ 63 }
     {
         self.metadata.len()
+    }
+
+    /// Returns the number of slots minus one, if there are slots.
+    pub(crate) fn mask(&self) -> usize
+        ensures mask { 0 < length self.now.slots → result + 1 ≡ length self.now.slots }
+        ensures power { IsSlotCount (length self.now.slots) }
+        ensures small { length self.now.slots < 2 ^ 63 }
+    {
+        self.mask
     }
 
     /// Reads the metadata of a slot, and counts the read.
@@ -142,6 +155,7 @@ impl<H: Copy + Default, A: Allocator> Slots<H, A> {
         carry(
             self.metadata.as_mut_slice(),
             self.handles.as_mut_slice(),
+            self.mask,
             &mut self.writes,
             reads,
             gap.slot(),
@@ -163,6 +177,7 @@ impl<H: Copy + Default, A: Allocator> Slots<H, A> {
         close(
             self.metadata.as_mut_slice(),
             self.handles.as_mut_slice(),
+            self.mask,
             &mut self.writes,
             reads,
             slot,
@@ -187,6 +202,7 @@ impl<H: Copy + Default, A: Allocator> Slots<H, A> {
 fn carry<H: Copy>(
     metadata: &mut [Metadata],
     handles: &mut [H],
+    mask: usize,
     writes: &mut Count,
     reads: &mut Count,
     mut slot: usize,
@@ -194,6 +210,7 @@ fn carry<H: Copy>(
     mut handle: H,
 )
     requires pair { ArePaired metadata.old handles.old }
+    requires mask { mask + 1 ≡ length metadata.old }
     requires tidy { IsTidy (cells metadata.old handles.old) }
     requires within { slot < length (cells metadata.old handles.old) }
     requires room { HasRoomAt (cells metadata.old handles.old) (meaning word) slot }
@@ -210,7 +227,7 @@ fn carry<H: Copy>(
         write(metadata, handles, writes, slot, word, handle);
         word = there.one_further();
         handle = held;
-        slot = after(slot, metadata.len());
+        slot = after(slot, mask);
         reads.tick();
         there = metadata[slot];
     }
@@ -223,11 +240,13 @@ fn carry<H: Copy>(
 fn close<H: Copy + Default>(
     metadata: &mut [Metadata],
     handles: &mut [H],
+    mask: usize,
     writes: &mut Count,
     reads: &mut Count,
     slot: usize,
 )
     requires pair { ArePaired metadata.old handles.old }
+    requires mask { mask + 1 ≡ length metadata.old }
     requires tidy { IsTidy (cells metadata.old handles.old) }
     requires within { slot < length (cells metadata.old handles.old) }
     requires occupied { 0 < reach (slot_at (cells metadata.old handles.old) slot) }
@@ -238,7 +257,7 @@ fn close<H: Copy + Default>(
 {
     let mut hole = slot;
     loop {
-        let next = after(hole, metadata.len());
+        let next = after(hole, mask);
         reads.tick();
         let word = metadata[next];
         if !word.can_move_back() {
@@ -279,14 +298,15 @@ fn write<H: Copy>(
     writes.tick();
 }
 
-/// Returns the slot after `slot`, of `count` slots: slot 0 after the last.
-pub(super) fn after(slot: usize, count: usize) -> usize
-    requires count { IsSlotCount count }
-    requires within { slot < count }
-    ensures after { result ≡ (slot + 1) % count }
-    ensures within { result < count }
+/// Returns the slot after `slot`, of `mask + 1` slots: slot 0 after the last.
+pub(super) fn after(slot: usize, mask: usize) -> usize
+    requires count { IsSlotCount (mask + 1) }
+    requires small { mask + 1 < 2 ^ 64 }
+    requires within { slot < mask + 1 }
+    ensures after { result ≡ (slot + 1) % (mask + 1) }
+    ensures within { result < mask + 1 }
 {
-    (slot + 1) & (count - 1)
+    (slot + 1) & mask
 }
 
 /// Writes the same word to each slot, and counts the slots as written.

@@ -1,5 +1,5 @@
 use Rattle.std.proofs.Common.{rules, ◌≡◌, ◌+◌, ◌<◌, ◌%◌, length, arith, ap, sym, ◌∙◌, subst, refl, get_or, length-set}
-use Rattle.clock2q_handles.specs.Slots.{cell, cells, meaning}
+use Rattle.clock2q_handles.specs.Slots.{cell, cells, meaning, IsSlotCount}
 use Rattle.clock2q_handles.proofs.layout.Periods.{lap}
 use Rattle.clock2q_handles.proofs.shifts.Cells.{length-cells, mark_read_or, handle_read_at}
 use Rattle.clock2q_handles.proofs.shifts.Moves.{refused}
@@ -47,7 +47,15 @@ one_further-word-requires-clause-room g c =
     (λ e. refused c.is_empty.result c.is_empty.ensures c.loop-there-test.true e)
 
 pub after-slot-requires-clause-within : goal.after-slot-requires-clause-within
-after-slot-requires-clause-within g c = omega (arith, within g (goal.at.after-slot-requires-clause-within g c).In-loop-there, c.write.ensures.len)
+after-slot-requires-clause-within g c =
+    omega (arith, within g (goal.at.after-slot-requires-clause-within g c).In-loop-there, c.requires.mask, c.loop-there.invariant.len)
+
+pub after-slot-requires-clause-count : goal.after-slot-requires-clause-count
+after-slot-requires-clause-count g c = subst IsSlotCount (sym c.requires.mask) c.requires.pair.slot_count
+
+-- the slot after it is in the slices
+inside : (g : Over) (c : After-after-slot g) → c.after-slot.result < length c.write.new.metadata
+inside g c = omega (arith, c.after-slot.ensures.within, c.requires.mask, c.write.ensures.len, c.loop-there.invariant.len)
 
 -- what the next turn starts from
 more : (g : Over) (c : After-after-slot g) → c.loop-there.slot < length c.loop-there.metadata
@@ -57,13 +65,15 @@ more : (g : Over) (c : After-after-slot g) → c.loop-there.slot < length c.loop
 more g c here =
     let now = cells c.loop-there.metadata c.loop-there.handles in
     let new = cells c.write.new.metadata c.write.new.handles in
-    let on = c.after-slot.ensures.after ∙ ap (λ m. (c.loop-there.slot + 1) % m) (sym (length-cells c.write.new.metadata c.write.new.handles c.write.ensures.pair.same)) in
+    let as_many : c.args.mask + 1 ≡ length new =
+    omega (arith, c.requires.mask, c.loop-there.invariant.len, c.write.ensures.len, length-cells c.write.new.metadata c.write.new.handles c.write.ensures.pair.same) in
+    let on = c.after-slot.ensures.after ∙ ap (λ m. (c.loop-there.slot + 1) % m) as_many in
     carry_goes (cells c.args.metadata.now c.args.handles.now) now c.requires.tidy c.loop-there.invariant.state new c.after-slot.result c.index-handles-slot.result
     (meaning (get_or c.write.new.metadata c.after-slot.result (record { word = 0 }))) (meaning c.one_further-word.result)
     (λ e. refused c.is_empty.result c.is_empty.ensures c.loop-there-test.true e) c.write.ensures.written
     (handle_read_at c.loop-there.metadata c.loop-there.handles c.loop-there.slot c.index-handles-slot.result c.loop-there.invariant.pair.same here c.index-handles-slot.is)
     c.one_further-word.ensures on
-    (mark_read_or c.write.new.metadata c.write.new.handles c.after-slot.result (record { word = 0 }) c.write.ensures.pair.same c.after-slot.ensures.within)
+    (mark_read_or c.write.new.metadata c.write.new.handles c.after-slot.result (record { word = 0 }) c.write.ensures.pair.same (inside g c))
 
 pub loop-there-smaller : goal.loop-there-smaller
 loop-there-smaller g c =

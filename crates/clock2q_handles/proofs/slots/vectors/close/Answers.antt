@@ -1,7 +1,7 @@
 use Rattle.std.proofs.Common.{rules, ◌≡◌, ◌+◌, ◌<◌, ◌%◌, length, arith, ap, sym, ◌∙◌, subst, refl, get_or, length-set, None}
 use Rattle.std.proofs.Math.ListN.{set}
 use Rattle.clock2q_handles.specs.Layout.{slot_at}
-use Rattle.clock2q_handles.specs.Slots.{cell, cells, meaning}
+use Rattle.clock2q_handles.specs.Slots.{cell, cells, meaning, IsSlotCount}
 use Rattle.clock2q_handles.proofs.layout.Periods.{lap}
 use Rattle.clock2q_handles.proofs.shifts.Cells.{length-cells, mark_read_or, handle_read_at}
 use Rattle.clock2q_handles.proofs.shifts.Moves.{near_of_meaning}
@@ -18,46 +18,58 @@ loop-word-init g c = record {
   reads = omega arith;
 }
 
+pub after-next-requires-clause-count : goal.after-next-requires-clause-count
+after-next-requires-clause-count g c = subst IsSlotCount (sym c.requires.mask) c.requires.pair.slot_count
+
 pub after-next-requires-clause-within : goal.after-next-requires-clause-within
 after-next-requires-clause-within g c =
     let at = close_slot (cells c.args.metadata.now c.args.handles.now) (cells c.loop-word.metadata c.loop-word.handles) c.requires.tidy _ _ _ _ c.loop-word.invariant.state in
-    omega (arith, at, length-cells c.loop-word.metadata c.loop-word.handles c.loop-word.invariant.pair.same)
+    omega (arith, at, length-cells c.loop-word.metadata c.loop-word.handles c.loop-word.invariant.pair.same, c.requires.mask, c.loop-word.invariant.len)
+
+-- the slot after it is in the slices
+inside : (g : Over) (c : After-after-next g) → c.after-next.result < length c.loop-word.metadata
+inside g c = omega (arith, c.after-next.ensures.within, c.requires.mask, c.loop-word.invariant.len)
 
 pub offset_bounds-metadata-next : goal.offset_bounds-metadata-next
-offset_bounds-metadata-next g c = let l : c.after-next.result < length c.args.metadata.now = omega (arith, c.after-next.ensures.within, c.loop-word.invariant.len) in search rules
+offset_bounds-metadata-next g c = let l : c.after-next.result < length c.args.metadata.now = omega (arith, c.after-next.ensures.within, c.requires.mask) in search rules
 
 pub offset_bounds-handles-next : goal.offset_bounds-handles-next
 offset_bounds-handles-next g c =
-    let l : c.after-next.result < length c.args.handles.now = omega (arith, c.after-next.ensures.within, c.loop-word.invariant.pair.same, c.loop-word.auto.handles) in search rules
+    let here = inside g (goal.at.offset_bounds-handles-next g c).After-after-next in
+    let l : c.after-next.result < length c.args.handles.now = omega (arith, here, c.loop-word.invariant.pair.same, c.loop-word.auto.handles) in search rules
 
 pub bounds-handles-next : goal.bounds-handles-next
-bounds-handles-next g c = omega (arith, c.after-next.ensures.within, c.loop-word.invariant.pair.same)
+bounds-handles-next g c = omega (arith, inside g (goal.at.bounds-handles-next g c).After-after-next, c.loop-word.invariant.pair.same)
 
 pub write-requires-clause-within : goal.write-requires-clause-within
 write-requires-clause-within g c = close_slot (cells c.args.metadata.now c.args.handles.now) (cells c.loop-word.metadata c.loop-word.handles) c.requires.tidy _ _ _ _ c.loop-word.invariant.state
 
 -- the slot after it, in the slots that contracts see
 next : (g : Over) (c : After-after-next g) → c.after-next.result ≡ (c.loop-word.hole + 1) % length (cells c.loop-word.metadata c.loop-word.handles)
-next g c = c.after-next.ensures.after ∙ ap (λ m. (c.loop-word.hole + 1) % m) (sym (length-cells c.loop-word.metadata c.loop-word.handles c.loop-word.invariant.pair.same))
+next g c =
+    let as_many : c.args.mask + 1 ≡ length (cells c.loop-word.metadata c.loop-word.handles) =
+    omega (arith, c.requires.mask, c.loop-word.invariant.len, length-cells c.loop-word.metadata c.loop-word.handles c.loop-word.invariant.pair.same) in
+    c.after-next.ensures.after ∙ ap (λ m. (c.loop-word.hole + 1) % m) as_many
 
 -- what the next turn starts from
-more : (g : Over) (c : After-write g) → c.after-next.result ≡ (c.loop-word.hole + 1) % length (cells c.loop-word.metadata c.loop-word.handles)
+more : (g : Over) (c : After-write g) → c.after-next.result < length c.loop-word.metadata
+    → c.after-next.result ≡ (c.loop-word.hole + 1) % length (cells c.loop-word.metadata c.loop-word.handles)
     → CloseState (cells c.args.metadata.now c.args.handles.now) (cells c.write.new.metadata c.write.new.handles)
     c.args.slot c.after-next.result c.args.writes.now.total (c.loop-word.writes.total + 1)
-more g c on =
+more g c here on =
     close_goes (cells c.args.metadata.now c.args.handles.now) (cells c.loop-word.metadata c.loop-word.handles)
     c.requires.tidy c.args.slot c.loop-word.hole _ _ c.loop-word.invariant.state c.after-next.result on (cells c.write.new.metadata c.write.new.handles)
     (meaning (get_or c.loop-word.metadata c.after-next.result (record { word = 0 }))) (meaning c.one_nearer.result) c.index-handles-next.result
-    (mark_read_or c.loop-word.metadata c.loop-word.handles c.after-next.result (record { word = 0 }) c.loop-word.invariant.pair.same c.after-next.ensures.within)
+    (mark_read_or c.loop-word.metadata c.loop-word.handles c.after-next.result (record { word = 0 }) c.loop-word.invariant.pair.same here)
     (c.can_move_back.ensures.0 c.if-not-can_move_back.false) c.one_nearer.ensures
-    (handle_read_at c.loop-word.metadata c.loop-word.handles c.after-next.result c.index-handles-next.result c.loop-word.invariant.pair.same c.after-next.ensures.within c.index-handles-next.is)
+    (handle_read_at c.loop-word.metadata c.loop-word.handles c.after-next.result c.index-handles-next.result c.loop-word.invariant.pair.same here c.index-handles-next.is)
     c.write.ensures.written
 
 pub loop-word-smaller : goal.loop-word-smaller
 loop-word-smaller g c =
     let before = goal.at.loop-word-smaller g c in
     let state = c.loop-word.invariant.state in
-    let then = more g before.After-write (next g before.After-after-next) in
+    let then = more g before.After-write (inside g before.After-after-next) (next g before.After-after-next) in
     let old = cells c.args.metadata.now c.args.handles.now in
     let was : lap (length old) c.args.slot c.loop-word.hole ≡ state.steps = close_lap old (cells c.loop-word.metadata c.loop-word.handles) c.requires.tidy _ _ _ _ state in
     let is : lap (length old) c.args.slot c.after-next.result ≡ then.steps = close_lap old (cells c.write.new.metadata c.write.new.handles) c.requires.tidy _ _ _ _ then in
@@ -70,7 +82,7 @@ loop-word-preserved g c =
       pair = c.write.ensures.pair;
       len = c.write.ensures.len ∙ c.loop-word.invariant.len;
       state = subst (λ w. CloseState (cells c.args.metadata.now c.args.handles.now) (cells c.write.new.metadata c.write.new.handles) c.args.slot c.after-next.result c.args.writes.now.total w)
-          (sym c.write.ensures.counted) (more g before.After-write (next g before.After-after-next));
+          (sym c.write.ensures.counted) (more g before.After-write (inside g before.After-after-next) (next g before.After-after-next));
       reads = omega (arith, c.loop-word.invariant.reads, c.tick.ensures.ticked, c.write.ensures.counted);
     }
 
@@ -82,8 +94,9 @@ returns-clause-taken g c =
     let now = cells c.loop-word.metadata c.loop-word.handles in
     let written = c.write-2.ensures.written ∙ ap (λ m. set now c.loop-word.hole (cell m c.default.result)) c.empty.ensures in
     let on = next g (goal.at.returns-clause-taken g c).After-after-next in
+    let here = inside g (goal.at.returns-clause-taken g c).After-after-next in
     let near = near_of_meaning c.can_move_back.result _ (slot_at now c.after-next.result) c.can_move_back.ensures c.if-not-can_move_back.true
-    (mark_read_or c.loop-word.metadata c.loop-word.handles c.after-next.result (record { word = 0 }) c.loop-word.invariant.pair.same c.after-next.ensures.within) in
+    (mark_read_or c.loop-word.metadata c.loop-word.handles c.after-next.result (record { word = 0 }) c.loop-word.invariant.pair.same here) in
     record {
       closes = λ h n e come was.
           let ended =

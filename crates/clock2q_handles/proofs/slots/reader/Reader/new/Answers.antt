@@ -2,7 +2,7 @@ use Rattle.std.proofs.Common.{◌≡◌, length, sym, ap, ◌∙◌, subst, arit
 use Rattle.clock2q_handles.specs.Readers.{reader_value}
 use Rattle.clock2q_handles.specs.Slots.{IsSlotCount}
 use Rattle.clock2q_handles.proofs.shifts.Wrapping.{cells_along}
-use Rattle.clock2q_handles.proofs.slots.reader.Reader.new.Goals.{After-count}
+use Rattle.clock2q_handles.proofs.slots.reader.Reader.new.Goals.{After-mask}
 use Rattle.clock2q_handles.proofs.slots.reader.Reader.new.Goals as goal
 
 pub returns : goal.returns
@@ -17,7 +17,7 @@ invariant_of-result g c =
     sym (ap length c.new.ensures.items ∙ c.view-view.ensures.count) in
     record {
       same = ap length c.new-2.ensures.items ∙ c.view-view.ensures.same ∙ ap length (sym c.new.ensures.items);
-      slot_count = subst IsSlotCount len c.count.ensures.power;
-      small = omega (arith, len, c.count.ensures.small);
-      mask_of = λ some. omega (arith, some, len, c.count.ensures.count, c.count.ensures.small);
+      slot_count = subst IsSlotCount len c.mask.ensures.power;
+      small = omega (arith, len, c.mask.ensures.small);
+      mask_of = λ some. omega (arith, len, c.mask.ensures.mask (omega (arith, some, len)));
     }

@@ -1,12 +1,12 @@
-use Rattle.std.proofs.Common.{◌≡◌, ◌+◌, ◌%◌, length, ◌-◌, bit_and, arith, ap, ◌∙◌}
+use Rattle.std.proofs.Common.{◌≡◌, ◌%◌, length, ◌-◌, bit_and, arith, ap, ◌∙◌}
 use Rattle.std.proofs.lemmas.Nat.{mod_below}
 use Rattle.clock2q_handles.proofs.shifts.Cells.{slot_mask}
 use Rattle.clock2q_handles.proofs.slots.vectors.Slots.home.Goals as goal
 
 pub returns-clause-home : goal.returns-clause-home
 returns-clause-home g c some =
-    let mask : (c.count-mask.result + 18446744073709551615) % 18446744073709551616 ≡ length c.args.self.now.slots - 1 = omega (arith, c.count-mask.ensures.count, c.count-mask.ensures.small) in
-    ap (λ m. bit_and c.args.hash m) mask ∙ slot_mask c.args.hash (length c.args.self.now.slots) c.count-mask.ensures.power some
+    let mask : c.mask.result ≡ length c.args.self.now.slots - 1 = omega (arith, c.mask.ensures.mask some) in
+    ap (λ m. bit_and c.args.hash m) mask ∙ slot_mask c.args.hash (length c.args.self.now.slots) c.mask.ensures.power some
 
 pub returns-clause-within : goal.returns-clause-within
 returns-clause-within g c some =
