@@ -1,15 +1,15 @@
 -- The field in a column of a line, byte by byte.
-use Rattle.std.proofs.Common.{◌≡◌, ℕ, zero, suc, ◌+◌, ◌-◌, ◌<◌, ◌≤◌, List, [], ◌∷◌, ◌++◌, refl, sym, ap, ◌∙◌, arith, append_assoc, append-nil, Bool, true, false, Option, None, Some}
+use Rattle.std.proofs.Common.{◌≡◌, ℕ, zero, suc, ◌-◌, ◌<◌, ◌≤◌, List, [], ◌∷◌, ◌++◌, refl, sym, ap, ◌∙◌, arith, append_assoc, append-nil, Bool, true, false, Option, None, Some}
 use Rattle.std.specs.Bool.{MatchBool}
 use Rattle.std.specs.List.{slice_get}
-use Rattle.std.specs.Option.{option_map, option_and_then}
+use Rattle.std.specs.Option.{option_and_then}
 use Rattle.std.proofs.lemmas.Iterator.Adapters.{option_map_id}
 use Rattle.clock2q_simulation.specs.declared.csv.Place.{Place}
-use Rattle.clock2q_simulation.specs.declared.csv.Place.TheVariants.{Start, Plain, Quoted, Closed}
+use Rattle.clock2q_simulation.specs.declared.csv.Place.TheVariants.{Start, Quoted, Closed}
 use Rattle.clock2q_simulation.specs.declared.csv.Step.{Step}
 use Rattle.clock2q_simulation.specs.declared.csv.Step.TheVariants.{Add, Skip, End}
 use Rattle.clock2q_simulation.specs.Fields.{IsEarly, after_step, found, found_in}
-use Rattle.clock2q_simulation.specs.Formats.{field, fields_from, fields_of, lengthened, with_byte, with_end, without_return}
+use Rattle.clock2q_simulation.specs.Formats.{field, fields_from, fields_of, with_byte, with_end, without_return}
 
 -- nothing of the line was read
 pub found-first : (column : ℕ) (line : List ℕ) → 0 < column → found_in column [] (fields_from Start (without_return line)) ≡ field column line

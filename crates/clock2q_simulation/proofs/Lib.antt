@@ -6,6 +6,7 @@ mod LruCurve
 mod Numbering
 mod RecordByRecord
 mod Replaying
+mod Sampling
 mod TriedShares
 mod WindowByWindow
 mod WorkedAmounts

@@ -1,5 +1,5 @@
 -- What words spell, computed.
-use Rattle.std.specs.Prelude.{◌≡◌, List, [], ◌∷◌, Some, None, codes, refl}
+use Rattle.std.specs.Prelude.{◌≡◌, [], ◌∷◌, Some, None, codes, refl}
 use Rattle.clock2q_simulation.specs.declared.amount.Unit.TheVariants.{Keys, Millionths}
 use Rattle.clock2q_simulation.specs.Amounts.{amount, amount_in, asked_by, keys_of, round_numbers}
 

@@ -1,5 +1,5 @@
 -- The keys of small texts, computed.
-use Rattle.std.specs.Prelude.{◌≡◌, List, [], ◌∷◌, drop, Some, None, codes, refl}
+use Rattle.std.specs.Prelude.{◌≡◌, [], ◌∷◌, drop, Some, None, codes, refl}
 use Rattle.clock2q_ports.specs.Lines.{lines_of}
 use Rattle.clock2q_simulation.specs.declared.format.TraceFormat.TheVariants.{Lines, OracleGeneral}
 use Rattle.clock2q_simulation.specs.Formats.{column_of, field, fields_of, keys_in}

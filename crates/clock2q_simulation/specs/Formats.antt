@@ -1,5 +1,5 @@
 -- The keys of a trace's text, in each format.
-use Rattle.std.specs.Prelude.{ℕ, ◌-◌, ◌/◌, ◌%◌, Bool, ◌&&◌, ◌==◌, nat_lt, if◌then◌else◌, List, [], ◌∷◌, length, take, drop, map, slice_get, Option, Some, None}
+use Rattle.std.specs.Prelude.{ℕ, ◌-◌, ◌/◌, ◌%◌, ◌==◌, if◌then◌else◌, List, [], ◌∷◌, length, take, drop, map, slice_get, Option, Some, None}
 use Rattle.std.specs.NonZero.{non_zero_usize_get}
 use Rattle.std.specs.Option.{option_map, option_and_then}
 use Rattle.std.specs.Simd.{first_chunks}

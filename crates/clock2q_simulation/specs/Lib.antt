@@ -3,11 +3,13 @@ pub mod BestShares
 pub mod ChosenShares
 pub mod Fields
 pub mod Formats
+pub mod Help
 pub mod KnownKeys
 pub mod LruCurve
 pub mod MachineHits
 pub mod Reading
 pub mod Rows
+pub mod Sample
 pub mod Simulated
 pub mod SimulationError
 pub mod Trace

@@ -1,5 +1,5 @@
 -- A trace read, and the text written about it.
-use Rattle.std.specs.Prelude.{ℕ, Bool, List, Option}
+use Rattle.std.specs.Prelude.{◌≡◌, ℕ, Bool, List, Option, map}
 use Rattle.std.specs.declared.num.NonZeroUsize.{NonZeroUsize}
 use Rattle.clock2q_ports.specs.Ports.{Traffic}
 use Rattle.clock2q_ports.specs.Transfer.{IsSent}
@@ -9,10 +9,12 @@ use Rattle.clock2q_simulation.specs.declared.best_shares.BestShares.{BestShares}
 use Rattle.clock2q_simulation.specs.declared.format.TraceFormat.{TraceFormat}
 use Rattle.clock2q_simulation.specs.declared.policy.Policy.{Policy}
 use Rattle.clock2q_simulation.specs.declared.row.Row.{Row}
+use Rattle.clock2q_simulation.specs.declared.sample.Sample.{Sample}
 use Rattle.clock2q_simulation.specs.declared.shares.ChosenShares.{ChosenShares}
 use Rattle.clock2q_simulation.specs.declared.window.Windows.{Windows}
 use Rattle.clock2q_simulation.specs.BestShares.{AreAskedBest}
 use Rattle.clock2q_simulation.specs.Rows.{AreRows}
+use Rattle.clock2q_simulation.specs.Sample.{scaled}
 use Rattle.clock2q_simulation.specs.Trace.{Numbered}
 use Rattle.clock2q_simulation.specs.Windows.{AreAskedWindows}
 
@@ -23,10 +25,11 @@ module _ (given gives : Traffic) (left remain : Option (List ℕ)) (format : Tra
     pub read : AreRead given gives left remain format keys
 
   -- the rows, the windows and the best shares are those of a trace with the keys that were read
-  pub record IsReplayed {A : Type 0} (policies : List Policy) (shares : Option ChosenShares) (skipped : ℕ) (window : Option NonZeroUsize) (is_best : Bool) (tried : List ChosenShares) (capacities : List Amount) (made : List (Row A)) (all : List (Windows A)) (most : List BestShares) : Type 0 where
+  pub record IsReplayed {A : Type 0} (sample : Option Sample) (policies : List Policy) (shares : Option ChosenShares) (skipped : ℕ) (window : Option NonZeroUsize) (is_best : Bool) (tried : List ChosenShares) (capacities : List Amount) (made : List (Row A)) (all : List (Windows A)) (most : List BestShares) : Type 0 where
     pub trace : Numbered
     pub read : AreRead given gives left remain format trace.keys
-    pub rows : AreRows policies shares skipped trace capacities made
+    pub sampled : trace.sample ≡ sample
+    pub rows : AreRows policies shares skipped trace (map (scaled sample) capacities) made
     pub windows : AreAskedWindows policies shares trace.numbers skipped window made all
     pub best : AreAskedBest tried skipped trace.numbers is_best made most
 

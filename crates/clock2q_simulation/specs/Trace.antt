@@ -1,14 +1,22 @@
 -- A trace as contracts see it.
-use Rattle.std.specs.Prelude.{◌≡◌, ℕ, ◌<◌, ◌≤◌, ◌^◌, ◌↔◌, List, [], length, get_or, slice_get, Some}
+use Rattle.std.specs.Prelude.{◌≡◌, ℕ, ◌<◌, ◌≤◌, ◌^◌, ◌↔◌, List, [], length, get_or, slice_get, Option, Some}
 use Rattle.std.specs.List.{Contains}
 use Rattle.clock2q_policies.specs.Policies.{AreBelow}
+use Rattle.clock2q_simulation.specs.declared.sample.Sample.{Sample}
 use Rattle.clock2q_simulation.specs.KnownKeys.{AreApart}
+use Rattle.clock2q_simulation.specs.Sample.{sampled}
 
--- the keys in order, each as its bytes, the number of each, and the number of different ones
+-- the keys in order, each as its bytes; the sample that is taken of them, if one is; the number of each key in it, and
+-- the number of different ones
 pub record Numbered : Type 0 where
   pub keys : List (List ℕ)
+  pub sample : Option Sample
   pub numbers : List ℕ
   pub different : ℕ
+
+-- the keys that have a number
+abbrev pub sampled_keys : Numbered → List (List ℕ)
+sampled_keys trace = sampled trace.sample trace.keys
 
 -- there is a number for each key; equal keys have the same one, and different keys different ones
 pub record AreNumbers (keys : List (List ℕ)) (numbers : List ℕ) : Type 0 where

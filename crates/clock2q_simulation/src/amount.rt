@@ -141,7 +141,7 @@ fn decimals_of(digits: &[u8]) -> Option<usize>
 }
 
 /// Returns the number that digits spell, or the largest of 64 bits if it has more.
-fn number_of(digits: &[u8]) -> Option<usize>
+pub(crate) fn number_of(digits: &[u8]) -> Option<usize>
     ensures number { result ≡ number_in digits.now }
 {
     let mut number = 0usize;

@@ -7,6 +7,7 @@ use crate::error::{ArgumentError, SimulationError};
 use crate::format::AskedFormat;
 use crate::options::Format;
 use crate::policy::Policy;
+use crate::sample::Sample;
 use crate::shares::ChosenShares;
 use clock2q_cache::MAX_CAPACITY;
 use std::alloc::{AllocError, Allocator};
@@ -21,6 +22,7 @@ pub(crate) enum Valued {
     Window,
     Format,
     Column,
+    Sample,
 }
 
 impl Valued {
@@ -40,6 +42,8 @@ impl Valued {
             Some(Valued::Format)
         } else if name == "--column" {
             Some(Valued::Column)
+        } else if name == "--sample" {
+            Some(Valued::Sample)
         } else {
             None
         }
@@ -55,6 +59,7 @@ pub(crate) struct Chosen<A: Allocator> {
     pub(crate) skipped: Option<usize>,
     pub(crate) window: Option<NonZeroUsize>,
     pub(crate) trace_format: AskedFormat,
+    pub(crate) sample: Option<Sample>,
     /// The index of the argument that asks for the best shares.
     pub(crate) best_shares: Option<usize>,
 }
@@ -69,6 +74,7 @@ impl<A: Allocator> Chosen<A> {
             skipped: None,
             window: None,
             trace_format: AskedFormat::NONE,
+            sample: None,
             best_shares: None,
         }
     }
@@ -86,6 +92,7 @@ impl<A: Allocator> Chosen<A> {
             Valued::Window => self.window.is_some(),
             Valued::Format => self.trace_format.has_name(),
             Valued::Column => self.trace_format.has_column(),
+            Valued::Sample => self.sample.is_some(),
         };
         if is_repeated {
             return Err(SimulationError::Argument(ArgumentError::RepeatedOption, index));
@@ -110,6 +117,7 @@ impl<A: Allocator + Copy> Chosen<A> {
             Valued::Window => self.window = Some(length_of(value, index)?),
             Valued::Format => self.trace_format.take_name(value, index)?,
             Valued::Column => self.trace_format.take_column(value, index)?,
+            Valued::Sample => self.sample = Some(sample_of(value, index)?),
         }
         Ok(())
     }
@@ -171,6 +179,14 @@ fn length_of(value: &str, index: usize) -> Result<NonZeroUsize, SimulationError>
     match count.and_then(NonZeroUsize::new) {
         Some(length) => Ok(length),
         None => Err(SimulationError::Argument(ArgumentError::NotLength, index)),
+    }
+}
+
+/// Returns the sample that a value spells.
+fn sample_of(value: &str, index: usize) -> Result<Sample, SimulationError> {
+    match Sample::written(value) {
+        Some(sample) => Ok(sample),
+        None => Err(SimulationError::Argument(ArgumentError::NotSample, index)),
     }
 }
 

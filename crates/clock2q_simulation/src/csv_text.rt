@@ -55,32 +55,37 @@ fn write_rows<A: Allocator>(
 ) -> Result<(), AllocError> {
     let name = has_names.then_some(outcome.name);
     if !outcome.windows.is_empty() {
-        return write_all_windows(text, &outcome.windows, name);
+        return write_all_windows(text, outcome, name);
     }
     for (index, row) in outcome.rows.iter().enumerate() {
-        write_row(text, row, None, outcome.best_shares.get(index), name)?;
+        let capacity = outcome.capacity_of(row.capacity);
+        let best = outcome.best_shares.get(index);
+        write_row(text, capacity, row, None, best, name)?;
     }
     Ok(())
 }
 
 fn write_all_windows<A: Allocator>(
     text: &mut String<A>,
-    all: &[Windows<A>],
+    outcome: &Outcome<'_, A>,
     name: Option<&str>,
 ) -> Result<(), AllocError> {
-    for windows in all {
-        write_windows(text, windows, name)?;
+    for windows in outcome.windows.iter() {
+        let capacity = outcome.capacity_of(windows.capacity);
+        write_windows(text, capacity, windows, name)?;
     }
     Ok(())
 }
 
 fn write_windows<A: Allocator>(
     text: &mut String<A>,
+    capacity: usize,
     windows: &Windows<A>,
     name: Option<&str>,
 ) -> Result<(), AllocError> {
     for window in windows.windows.iter() {
-        write_row(text, &window.row, Some(window.first), None, name)?;
+        let first = Some(window.first);
+        write_row(text, capacity, &window.row, first, None, name)?;
     }
     Ok(())
 }
@@ -89,12 +94,12 @@ fn write_windows<A: Allocator>(
 /// they are given.
 fn write_row<A: Allocator>(
     text: &mut String<A>,
+    capacity: usize,
     row: &Row<A>,
     first: Option<usize>,
     best: Option<&BestShares>,
     name: Option<&str>,
 ) -> Result<(), AllocError> {
-    let capacity = row.capacity.get();
     write!(text, "{capacity}")?;
     if let Some(first) = first {
         write!(text, ",{first}")?;

@@ -72,6 +72,9 @@ pub enum ArgumentError {
     /// It asks for a column, and no argument for the format csv.
     #[error("a column of keys, which only --format=csv has")]
     UnusedColumn,
+    /// It isn't a part of all keys.
+    #[error("not a part of the keys (0.000001 to 0.999999, or 1% to 100%)")]
+    NotSample,
     /// It asks for the best shares, and another argument for shares, windows or a picture.
     #[error("not with --shares, --window or --svg")]
     CrowdedShares,

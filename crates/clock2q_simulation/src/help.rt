@@ -1,4 +1,7 @@
 //! The program's help texts.
+ghost use Rattle.std.specs.Option.{option_map};
+ghost use Rattle.std.specs.Prelude.{◌≡◌, [], get_or, map, string_bytes};
+ghost use Rattle.clock2q_simulation.specs.Help.{asked_help, help_on, is_help};
 
 /// The program's help text, which fits one screen.
 pub const HELP: &str = "\
@@ -21,6 +24,7 @@ range such as 10..1k or 0.1%..50% adds 20, 50, 100 and so on between its ends.
   --shares=SHARES   gives Clock2Q+ other shares than small=10%,window=50%: the
                     small queue's of the capacity and the window's of the queue
   --best-shares     prints the shares that hit most of 18 tried, and their gain
+  --sample=0.01     replays this part of the keys, in caches as much smaller
   --skip=COUNT      counts no hits in this many accesses at a trace's beginning
   --window=COUNT    counts the hits of each COUNT accesses, in rows or a picture
   -h, --help        prints this text
@@ -85,17 +89,43 @@ first five are the default.
 /// ```
 /// assert_eq!(rt; help_for(&arguments), Some(POLICIES_HELP)); // of `--help policies`
 /// ```
-pub fn help_for(arguments: &[String]) -> Option<&'static str> {
-    let asked = arguments
-        .iter()
-        .position(|argument| is_help(argument.as_str()))?;
-    match arguments.get(asked.saturating_add(1)) {
-        Some(subject) if subject.as_str() == "formats" => Some(FORMATS_HELP),
-        Some(subject) if subject.as_str() == "policies" => Some(POLICIES_HELP),
-        _ => Some(HELP),
+pub fn help_for(arguments: &[String]) -> Option<&'static str>
+    ensures help { option_map (λ text. text.now) result ≡ asked_help (map string_bytes arguments.now) }
+{
+    for (index, argument) in arguments.iter().enumerate() {
+        if is_help(argument.as_str()) {
+            return Some(help_on(word_at(arguments, index + 1)));
+        }
+    }
+    None
+}
+
+/// Returns true if a word asks for help.
+fn is_help(word: &str) -> bool
+    ensures help { result ≡ is_help word.now }
+{
+    word == "-h" || word == "--help"
+}
+
+/// Returns the text on a subject, or the general one.
+fn help_on(subject: &str) -> &'static str
+    ensures text { result.now ≡ help_on subject.now }
+{
+    if subject == "formats" {
+        FORMATS_HELP
+    } else if subject == "policies" {
+        POLICIES_HELP
+    } else {
+        HELP
     }
 }
 
-fn is_help(argument: &str) -> bool {
-    argument == "-h" || argument == "--help"
+/// Returns the word at an index, or an empty one past the end.
+fn word_at(arguments: &[String], index: usize) -> &str
+    ensures word { result.now ≡ get_or (map string_bytes arguments.now) index [] }
+{
+    match arguments.get(index) {
+        Some(word) => word.as_str(),
+        None => "",
+    }
 }

@@ -32,18 +32,11 @@ fn write_outcome<A: Allocator>(
 ) -> Result<(), AllocError> {
     text.push_str("  {\"trace\": ")?;
     write_string(text, outcome.name)?;
-    let summary = outcome.summary;
-    write!(
-        text,
-        ", \"accesses\": {}, \"keys\": {}, \"keys_once\": {}, \"skipped\": {}, \"rows\": [",
-        summary.accesses,
-        summary.keys,
-        summary.keys_once,
-        skipped.min(summary.accesses)
-    )?;
+    write_figures(text, outcome, skipped)?;
+    text.push_str(", \"rows\": [")?;
     for (index, row) in outcome.rows.iter().enumerate() {
         text.push_str(if index > 0 { ",\n" } else { "\n" })?;
-        let capacity = row.capacity.get();
+        let capacity = outcome.capacity_of(row.capacity);
         write!(text, "    {{\"capacity\": {capacity}, ")?;
         write_policies(text, row)?;
         if let Some(best) = outcome.best_shares.get(index) {
@@ -55,6 +48,26 @@ fn write_outcome<A: Allocator>(
         text.push('}')?;
     }
     text.push_str("\n  ]}")
+}
+
+/// Writes the figures of a trace, or of the sample that was replayed.
+fn write_figures<A: Allocator>(
+    text: &mut String<A>,
+    outcome: &Outcome<'_, A>,
+    skipped: usize,
+) -> Result<(), AllocError> {
+    let summary = outcome.summary;
+    if let Some(sample) = outcome.sample {
+        write!(text, ", \"sample\": \"{}\"", sample.part())?;
+    }
+    write!(
+        text,
+        ", \"accesses\": {}, \"keys\": {}, \"keys_once\": {}, \"skipped\": {}",
+        summary.accesses,
+        summary.keys,
+        summary.keys_once,
+        skipped.min(summary.accesses)
+    )
 }
 
 /// Writes the hits and the hit ratio of each policy.

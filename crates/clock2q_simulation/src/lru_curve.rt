@@ -11,7 +11,7 @@ use std::alloc::{AllocError, Allocator};
 use std::num::NonZeroUsize;
 
 /// The least number of capacities at which one pass costs less than a replay at each.
-const LEAST_CAPACITIES: usize = 4;
+const LEAST_CAPACITIES: usize = 10;
 
 /// Returns the hits of LRU at each capacity after the skipped accesses. There are none if it isn't
 /// among the policies, or if a replay at each capacity costs less.

@@ -10,6 +10,7 @@ use crate::chosen::{Chosen, Valued};
 use crate::error::{ArgumentError, SimulationError};
 use crate::format::TraceFormat;
 use crate::policy::Policy;
+use crate::sample::Sample;
 use crate::shares::ChosenShares;
 use std::alloc::Allocator;
 use std::num::NonZeroUsize;
@@ -62,6 +63,8 @@ pub struct Options<A: Allocator> {
     pub window: Option<NonZeroUsize>,
     /// How the traces are written.
     pub trace_format: TraceFormat,
+    /// The sample of the keys to replay, unless it is all of them.
+    pub sample: Option<Sample>,
     /// True if the shares that hit most are asked for.
     pub best_shares: bool,
 }
@@ -227,6 +230,7 @@ impl<A: Allocator + Copy> Asked<A> {
             skipped,
             window,
             trace_format,
+            sample,
             best_shares,
         } = chosen;
         let trace_format = trace_format.finish()?;
@@ -255,6 +259,7 @@ impl<A: Allocator + Copy> Asked<A> {
             skipped: skipped.unwrap_or(0),
             window,
             trace_format,
+            sample,
             best_shares: best_shares.is_some(),
         })
     }

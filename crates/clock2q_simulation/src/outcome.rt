@@ -1,6 +1,9 @@
 //! The result of one trace.
-ghost use Rattle.std.specs.Prelude.{◌<◌, ◌↔◌, ◌≢◌, IfErr, IfOk, IsErrOf};
+ghost use Rattle.std.specs.NonZero.{non_zero_usize_get};
+ghost use Rattle.std.specs.Prelude.{◌≡◌, ◌<◌, ◌↔◌, ◌≢◌, IfErr, IfOk, IsErrOf, map};
 ghost use Rattle.clock2q_simulation.specs.BestShares.{AreAskedBest};
+ghost use Rattle.clock2q_simulation.specs.Rows.{AreRows};
+ghost use Rattle.clock2q_simulation.specs.Sample.{scaled, unscaled};
 ghost use Rattle.clock2q_simulation.specs.Simulated.{IsReplayed};
 ghost use Rattle.clock2q_simulation.specs.SimulationError.{IsOfNoDevice};
 
@@ -8,8 +11,9 @@ use crate::best_shares::{BestShares, TRIED_SHARES, all_best_shares_of};
 use crate::error::SimulationError;
 use crate::options::Options;
 use crate::progress::Progress;
-use crate::reading::read_trace;
+use crate::reading::read_sample;
 use crate::row::Row;
+use crate::sample::{Sample, all_scaled};
 use crate::simulation::rows_of;
 use crate::summary::{Summary, summary_of};
 use crate::trace::Trace;
@@ -18,6 +22,7 @@ use clock2q_ports::Source;
 use std::alloc::Allocator;
 use std::hash::BuildHasher;
 use std::io::Write;
+use std::num::NonZeroUsize;
 
 /// The figures of one trace, and its hits at each capacity.
 ///
@@ -33,7 +38,10 @@ pub struct Outcome<'a, A: Allocator> {
     pub name: &'a str,
     /// The numbers of its accesses and keys.
     pub summary: Summary,
-    /// The hits at each capacity, in the order of the capacities.
+    /// The sample of its keys that was replayed, unless it was all of them.
+    pub sample: Option<Sample>,
+    /// The hits at each capacity, in the order of the capacities. With a sample they are those of
+    /// caches as much smaller.
     pub rows: Vec<Row<A>, A>,
     /// The windows at each capacity, if they are asked for.
     pub windows: Vec<Windows<A>, A>,
@@ -41,17 +49,29 @@ pub struct Outcome<'a, A: Allocator> {
     pub best_shares: Vec<BestShares, A>,
 }
 
+impl<A: Allocator> Outcome<'_, A> {
+    /// Returns the capacity for all keys of a cache that was replayed.
+    pub fn capacity_of(&self, replayed: NonZeroUsize) -> usize
+        ensures capacity { result ≡ unscaled self.now.sample (non_zero_usize_get replayed) }
+    {
+        match self.sample {
+            Some(sample) => sample.unscaled(replayed.get()),
+            None => replayed.get(),
+        }
+    }
+}
+
 /// Reads a trace and replays it in caches of each capacity. The result doesn't depend on the
 /// hasher.
 ///
 /// # Errors
 ///
-/// Those of [`read_trace`], then those of [`rows_of`], of [`all_windows_of`] and of
+/// Those of [`read_sample`], then those of [`rows_of`], of [`all_windows_of`] and of
 /// [`all_best_shares_of`].
 ///
 /// # Cost
 ///
-/// That of [`read_trace`], [`rows_of`], [`all_windows_of`] and [`all_best_shares_of`]. The trace
+/// That of [`read_sample`], [`rows_of`], [`all_windows_of`] and [`all_best_shares_of`]. The trace
 /// stays in memory until the call returns.
 pub fn replay_source<'a, R: Source, P: Write, S: BuildHasher + Drop, A: Allocator + Copy>(
     alloc: A,
@@ -62,25 +82,25 @@ pub fn replay_source<'a, R: Source, P: Write, S: BuildHasher + Drop, A: Allocato
     progress: &mut Progress<P>,
 ) -> Result<Outcome<'a, A>, SimulationError>
     ensures ok { IfOk result (λ outcome. IsReplayed (R.given reader.old) (R.given reader.new) (R.remaining reader.old) (R.remaining reader.new) options.now.trace_format
-        options.now.policies.items options.now.shares options.now.skipped options.now.window options.now.best_shares TRIED_SHARES options.now.capacities.items
+        options.now.sample options.now.policies.items options.now.shares options.now.skipped options.now.window options.now.best_shares TRIED_SHARES options.now.capacities.items
         outcome.rows.items outcome.windows.items outcome.best_shares.items) }
 
     // A failed source is always reported as `Read`, and nothing else is.
     ensures read { ((R.given reader.old).failures < (R.given reader.new).failures) ↔ IsErrOf result SimulationError.Read }
     ensures written { IfErr result (λ refusal. refusal ≢ SimulationError.Write) }
 {
-    let trace = read_trace(alloc, hasher, name, options.trace_format, reader, progress)?;
-    let summary = summary_of(alloc, &trace)?;
-    progress.warn_of(name, &summary);
-    let rows = rows_of(
+    let trace = read_sample(
         alloc,
-        &trace,
-        &options.capacities,
-        &options.policies,
-        options.shares,
-        options.skipped,
+        hasher,
+        options.sample,
+        name,
+        options.trace_format,
+        reader,
         progress,
     )?;
+    let summary = summary_of(alloc, &trace)?;
+    progress.warn_of(name, &summary);
+    let rows = asked_rows(alloc, options, &trace, progress)?;
     let windows = match options.window {
         Some(size) => {
             all_windows_of(
@@ -99,10 +119,34 @@ pub fn replay_source<'a, R: Source, P: Write, S: BuildHasher + Drop, A: Allocato
     Ok(Outcome {
         name,
         summary,
+        sample: options.sample,
         rows,
         windows,
         best_shares,
     })
+}
+
+/// Returns a row for each capacity, as much smaller as the sample is.
+fn asked_rows<P: Write, A: Allocator + Copy>(
+    alloc: A,
+    options: &Options<A>,
+    trace: &Trace<A>,
+    progress: &mut Progress<P>,
+) -> Result<Vec<Row<A>, A>, SimulationError>
+    ensures rows { IfOk result (λ rows. AreRows options.now.policies.items options.now.shares options.now.skipped trace.now
+        (map (scaled options.now.sample) options.now.capacities.items) rows.items) }
+    ensures devices { IfErr result IsOfNoDevice }
+{
+    let capacities = all_scaled(alloc, options.sample, &options.capacities)?;
+    rows_of(
+        alloc,
+        trace,
+        &capacities,
+        &options.policies,
+        options.shares,
+        options.skipped,
+        progress,
+    )
 }
 
 /// Returns the best shares at the capacity of each row, if they are asked for.

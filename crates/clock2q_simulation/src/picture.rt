@@ -20,7 +20,8 @@ pub(crate) fn picture<A: Allocator + Copy>(
 ) -> Result<String<A>, AllocError> {
     let mut charts = Vec::new(alloc);
     for windows in outcome.windows.iter() {
-        charts.push(chart_of_windows(alloc, windows, options)?)?;
+        let capacity = outcome.capacity_of(windows.capacity);
+        charts.push(chart_of_windows(alloc, capacity, windows, options)?)?;
     }
     if charts.is_empty() {
         charts.push(chart_of_capacities(alloc, options, outcome)?)?;
@@ -67,12 +68,17 @@ fn chart_of_capacities<A: Allocator + Copy>(
     let is_percent = capacities.iter().all(|capacity| is_percentage(capacity));
     let mut placed = Vec::new(alloc);
     for (row, capacity) in outcome.rows.iter().zip(capacities) {
-        let keys = row.capacity.get();
+        let keys = outcome.capacity_of(row.capacity);
         let place = if is_percent { capacity.number } else { keys };
         placed.push(Placed { place, row })?;
     }
     placed.sort_by_key(|placed| placed.place)?;
     let accesses = outcome.rows.first().map_or(0, |row| row.accesses);
+    let sampled = if outcome.sample.is_some() {
+        " of a sample"
+    } else {
+        ""
+    };
     let keys = outcome.summary.keys;
     let (unit, scale) = if is_percent {
         (
@@ -83,7 +89,7 @@ fn chart_of_capacities<A: Allocator + Copy>(
         (Unit::Keys, String::from_str(alloc, "capacity")?)
     };
     Ok(Chart {
-        title: format!(in alloc; "Hit ratio by capacity ({accesses} accesses)")?,
+        title: format!(in alloc; "Hit ratio by capacity ({accesses} accesses{sampled})")?,
         scale,
         unit,
         axis: axis_of(alloc, &placed)?,
@@ -107,6 +113,7 @@ fn axis_of<A: Allocator + Copy>(alloc: A, placed: &[Placed<'_, A>]) -> Result<Ax
 /// Returns the hit ratios over the windows at a capacity, each at its middle.
 fn chart_of_windows<A: Allocator + Copy>(
     alloc: A,
+    capacity: usize,
     windows: &Windows<A>,
     options: &Options<A>,
 ) -> Result<Chart<A>, AllocError> {
@@ -123,7 +130,6 @@ fn chart_of_windows<A: Allocator + Copy>(
         window.first.saturating_add(window.row.accesses)
     });
     let size = options.window.map_or(0, |size| size.get());
-    let capacity = windows.capacity.get();
     Ok(Chart {
         title: format!(in alloc; "Hit ratio of each {size} accesses at capacity {capacity}")?,
         scale: String::from_str(alloc, "accesses")?,

@@ -3,53 +3,97 @@
 use crate::summary::Summary;
 use std::io::Write;
 
-/// The number of keys read between two lines, and the smallest length of a long trace.
+/// The number of keys read between two reports if the length of a trace isn't known, and the
+/// smallest number of keys of a long trace.
 const MILLION: usize = 1_000_000;
 
-/// The progress lines of a long simulation: one for each million keys read, and one for each
-/// capacity at which a trace of at least a million keys is replayed. A failed write is ignored, and
-/// the simulation goes on.
+/// The number of bytes of a trace that are read before a percentage is reported.
+const LONG: u64 = 1_000_000;
+
+/// What goes back to the beginning of a terminal's line and erases it.
+const ERASED: &str = "\r\x1b[K";
+
+/// The progress of a long simulation, in one line of a terminal that is written over: how much of a
+/// trace was read, in percent if its length is known and else in millions of keys; then the
+/// capacity at which it is replayed. A failed write is ignored, and the simulation goes on.
 ///
 /// # Example
 ///
 /// ```
 /// let mut progress = Progress::new(rt.stderr(), rt.stderr().is_terminal());
+/// progress.begin(Some(9_000_000)); // bytes
 /// let trace = read_trace(alloc, hasher, "-", TraceFormat::Lines, reader, &mut progress)?;
+/// progress.end();
 /// ```
 #[derive(Drop)]
 pub struct Progress<W> {
     writer: W,
     is_shown: bool,
-    // The number of millions of keys reported so far.
-    reported: usize,
+    // The number of bytes of the trace, if it is known.
+    length: Option<u64>,
+    // The number of bytes read so far.
+    read: u64,
+    // The percentage or the millions of keys that were reported last.
+    reported: u64,
+    // Whether something is in the line.
+    is_begun: bool,
 }
 
 impl<W: Write> Progress<W> {
-    /// Returns progress lines that go to `writer`, or that are left out if `is_shown` is false.
+    /// Returns progress that goes to `writer`, or is left out if `is_shown` is false.
     pub fn new(writer: W, is_shown: bool) -> Progress<W> {
         Progress {
             writer,
             is_shown,
+            length: None,
+            read: 0,
             reported: 0,
+            is_begun: false,
         }
     }
 
-    /// Reports the number of keys read so far, once for each million.
-    pub(crate) fn read(&mut self, keys: usize) {
-        let millions = keys / MILLION;
-        if self.is_shown && millions > self.reported {
-            let _ = writeln!(
-                self.writer,
-                "clock2q-simulate: {millions} million keys read"
-            );
-            self.reported = millions;
+    /// Begins a trace, whose number of bytes may be known.
+    pub fn begin(&mut self, length: Option<u64>) {
+        self.length = length;
+        self.read = 0;
+        self.reported = 0;
+    }
+
+    /// Erases the line, before anything else is written to the terminal.
+    pub fn end(&mut self) {
+        if self.is_begun {
+            let _ = self.writer.write_all(ERASED.as_bytes());
+            let _ = self.writer.flush();
+            self.is_begun = false;
         }
     }
 
-    /// Reports the capacity at which a long trace is replayed next.
-    pub(crate) fn replay(&mut self, keys: usize, capacity: usize) {
+    /// Reports how much of a trace was read, after so many more bytes and with so many keys.
+    pub(crate) fn read(&mut self, bytes: usize, keys: usize) {
+        self.read = self.read.saturating_add(bytes as u64);
+        let (figure, unit) = match self.length {
+            Some(length) if self.read >= LONG => (percent_of(self.read, length), "%"),
+            Some(_) => return,
+            None => ((keys / MILLION) as u64, " million keys"),
+        };
+        if self.is_shown && figure != self.reported {
+            self.reported = figure;
+            self.is_begun = true;
+            let _ = write!(self.writer, "{ERASED}clock2q-simulate: {figure}{unit} read");
+            let _ = self.writer.flush();
+        }
+    }
+
+    /// Reports the capacity at which a long trace is replayed next, and which one of all it is.
+    pub(crate) fn replay(&mut self, keys: usize, capacity: usize, index: usize, of: usize) {
         if self.is_shown && keys >= MILLION {
-            let _ = writeln!(self.writer, "clock2q-simulate: capacity {capacity}");
+            self.is_begun = true;
+            let number = index.saturating_add(1);
+            let _ = write!(
+                self.writer,
+                "{ERASED}clock2q-simulate: capacity {capacity}, {number} of {of}"
+            );
+            let _ = self.writer.flush();
         }
     }
 
@@ -61,6 +105,7 @@ impl<W: Write> Progress<W> {
             [0x28, 0xB5, 0x2F, 0xFD, ..] => "zstdcat",
             _ => return,
         };
+        self.end();
         let _ = writeln!(
             self.writer,
             "clock2q-simulate: {name}: warning: looks compressed: try {command} FILE | ./clock2q-simulate .. -"
@@ -70,10 +115,16 @@ impl<W: Write> Progress<W> {
     /// Writes a warning if a trace is suspicious, whether progress is shown or not.
     pub(crate) fn warn_of(&mut self, name: &str, summary: &Summary) {
         if summary.is_nearly_all_once() {
+            self.end();
             let _ = writeln!(
                 self.writer,
                 "clock2q-simulate: {name}: warning: more than 99 of 100 keys are asked for once: is each line a key?"
             );
         }
     }
+}
+
+/// Returns the percentage that a number is of another.
+fn percent_of(part: u64, whole: u64) -> u64 {
+    part.saturating_mul(100) / whole.max(1)
 }

@@ -1,10 +1,12 @@
 //! A trace read from a source.
+ghost use Rattle.std.specs.Prelude.{◌≡◌, IfOk, None};
 ghost use Rattle.clock2q_simulation.specs.Reading.{ReadsTrace};
 
 use crate::error::SimulationError;
 use crate::format::TraceFormat;
 use crate::progress::Progress;
 use crate::records::Records;
+use crate::sample::Sample;
 use crate::trace::Trace;
 use clock2q_ports::Source;
 use std::alloc::Allocator;
@@ -35,9 +37,35 @@ pub fn read_trace<R: Source, W: Write, S: BuildHasher + Drop, A: Allocator + Cop
     reader: &mut R,
     progress: &mut Progress<W>,
 ) -> Result<Trace<A>, SimulationError>
-    ensures { ReadsTrace (R.given reader.old) (R.given reader.new) (R.remaining reader.old) (R.remaining reader.new) format (λ trace. trace.keys) result }
+    ensures read { ReadsTrace (R.given reader.old) (R.given reader.new) (R.remaining reader.old) (R.remaining reader.new) format (λ trace. trace.keys) result }
+    ensures whole { IfOk result (λ trace. trace.sample ≡ None) }
 {
-    let mut records = Records::new(alloc, hasher, format);
+    read_sample(alloc, hasher, None, name, format, reader, progress)
+}
+
+/// Does what [`read_trace`] does, but keeps only the keys in a sample, if there is one. The others
+/// take neither memory nor numbers.
+///
+/// # Errors
+///
+/// Those of [`read_trace`].
+///
+/// # Cost
+///
+/// That of [`read_trace`] for the keys in the sample, and a pass over the bytes of the others.
+pub fn read_sample<R: Source, W: Write, S: BuildHasher + Drop, A: Allocator + Copy>(
+    alloc: A,
+    hasher: S,
+    sample: Option<Sample>,
+    name: &str,
+    format: TraceFormat,
+    reader: &mut R,
+    progress: &mut Progress<W>,
+) -> Result<Trace<A>, SimulationError>
+    ensures read { ReadsTrace (R.given reader.old) (R.given reader.new) (R.remaining reader.old) (R.remaining reader.new) format (λ trace. trace.keys) result }
+    ensures sample { IfOk result (λ trace. trace.sample ≡ sample) }
+{
+    let mut records = Records::new(alloc, hasher, sample, format);
     let mut block = [0u8; BLOCK];
     for index in 0..u64::MAX {
         let Ok(count) = reader.read(&mut block) else {
@@ -50,7 +78,7 @@ pub fn read_trace<R: Source, W: Write, S: BuildHasher + Drop, A: Allocator + Cop
             progress.warn_if_compressed(name, &block[..count]);
         }
         records.take(&block[..count])?;
-        progress.read(records.trace.len());
+        progress.read(count, records.trace.len());
     }
     // the keys of that many bytes can't fit in memory
     Err(SimulationError::Memory)

@@ -7,6 +7,7 @@ ghost use Rattle.clock2q_simulation.specs.Reading.{IsBad, IsBegun, IsOfLines, Is
 use crate::csv::ColumnReader;
 use crate::error::SimulationError;
 use crate::format::TraceFormat;
+use crate::sample::Sample;
 use crate::trace::{GrowingTrace, Trace};
 use std::alloc::Allocator;
 use std::hash::BuildHasher;
@@ -30,15 +31,21 @@ pub(crate) struct Records<S: BuildHasher, A: Allocator> {
 
 impl<S: BuildHasher, A: Allocator + Copy> Records<S, A> {
     /// Returns a trace before its first byte.
-    pub(crate) fn new(alloc: A, hasher: S, format: TraceFormat) -> Records<S, A>
+    pub(crate) fn new(
+        alloc: A,
+        hasher: S,
+        sample: Option<Sample>,
+        format: TraceFormat,
+    ) -> Records<S, A>
         ensures format { result.format ≡ format }
         ensures keys { result.trace.keys ≡ [] }
+        ensures sample { result.trace.sample ≡ sample }
         ensures begun { result.begun.items ≡ [] }
         ensures count { result.count ≡ 0 }
     {
         Records {
             format,
-            trace: GrowingTrace::with_hasher(alloc, hasher),
+            trace: GrowingTrace::with_sample(alloc, hasher, sample),
             begun: Vec::new(alloc),
             count: 0,
             reader: ColumnReader::new(alloc),
@@ -51,6 +58,7 @@ impl<S: BuildHasher + Drop, A: Allocator + Copy> Records<S, A> {
     pub(crate) fn take(&mut self, bytes: &[u8]) -> Result<(), SimulationError>
         requires begun { IsBegun self.old.format self.old.begun.items }
         ensures format { self.new.format ≡ self.old.format }
+        ensures sample { self.new.trace.sample ≡ self.old.trace.sample }
         ensures taken { OnOk result (Takes self.old.format self.old.trace.keys self.old.count self.old.begun.items bytes.now self.new.trace.keys self.new.count self.new.begun.items) }
         ensures bad { IfErr result (λ refusal. IsBad refusal ((next : List ℕ) → keys_after self.old.format self.old.count (self.old.begun.items ++ (bytes.now ++ next)) ≡ None)) }
     {
@@ -65,6 +73,7 @@ impl<S: BuildHasher + Drop, A: Allocator + Copy> Records<S, A> {
         requires lines { IsOfLines self.old.format }
         requires begun { IsBegun self.old.format self.old.begun.items }
         ensures format { self.new.format ≡ self.old.format }
+        ensures sample { self.new.trace.sample ≡ self.old.trace.sample }
         ensures taken { OnOk result (Takes self.old.format self.old.trace.keys self.old.count self.old.begun.items bytes.now self.new.trace.keys self.new.count self.new.begun.items) }
         ensures bad { IfErr result (λ refusal. IsBad refusal ((next : List ℕ) → keys_after self.old.format self.old.count (self.old.begun.items ++ (bytes.now ++ next)) ≡ None)) }
     {
@@ -83,6 +92,7 @@ impl<S: BuildHasher + Drop, A: Allocator + Copy> Records<S, A> {
         requires pieces { self.old.format ≡ TraceFormat.OracleGeneral }
         requires begun { IsBegun self.old.format self.old.begun.items }
         ensures format { self.new.format ≡ self.old.format }
+        ensures sample { self.new.trace.sample ≡ self.old.trace.sample }
         ensures taken { OnOk result (Takes self.old.format self.old.trace.keys self.old.count self.old.begun.items bytes.now self.new.trace.keys self.new.count self.new.begun.items) }
         ensures bad { IfErr result (λ refusal. IsBad refusal ((next : List ℕ) → keys_after self.old.format self.old.count (self.old.begun.items ++ (bytes.now ++ next)) ≡ None)) }
     {
@@ -113,6 +123,7 @@ impl<S: BuildHasher + Drop, A: Allocator + Copy> Records<S, A> {
     fn end_record(&mut self) -> Result<(), SimulationError>
         requires whole { IsWhole self.old.format self.old.begun.items }
         ensures format { self.new.format ≡ self.old.format }
+        ensures sample { self.new.trace.sample ≡ self.old.trace.sample }
         ensures begun { OnOk result (self.new.begun.items ≡ []) }
         ensures ended { OnOk result ((next : List ℕ) → joined_keys self.old.trace.keys (keys_after self.old.format self.old.count (self.old.begun.items ++ (between self.old.format ++ next))) ≡ joined_keys self.new.trace.keys (keys_after self.old.format self.new.count next)) }
         ensures bad { IfErr result (λ refusal. IsBad refusal ((next : List ℕ) → keys_after self.old.format self.old.count (self.old.begun.items ++ (between self.old.format ++ next)) ≡ None)) }
@@ -127,6 +138,7 @@ impl<S: BuildHasher + Drop, A: Allocator + Copy> Records<S, A> {
     fn add_key(&mut self) -> Result<(), SimulationError>
         requires whole { IsWhole self.old.format self.old.begun.items }
         ensures format { self.new.format ≡ self.old.format }
+        ensures sample { self.new.trace.sample ≡ self.old.trace.sample }
         ensures count { self.new.count ≡ self.old.count }
         ensures ended { OnOk result ((counted : ℕ) → 0 < counted → (next : List ℕ) → joined_keys self.old.trace.keys (keys_after self.old.format self.old.count (self.old.begun.items ++ (between self.old.format ++ next))) ≡ joined_keys self.new.trace.keys (keys_after self.old.format counted next)) }
         ensures bad { IfErr result (λ refusal. IsBad refusal ((next : List ℕ) → keys_after self.old.format self.old.count (self.old.begun.items ++ (between self.old.format ++ next)) ≡ None)) }
@@ -144,6 +156,7 @@ impl<S: BuildHasher + Drop, A: Allocator + Copy> Records<S, A> {
         ensures key { OnOk result ((key : List ℕ) × (field (non_zero_usize_get column) self.old.begun.items ≡ Some key) × (self.new.trace.keys ≡ self.old.trace.keys ++ key ∷ [])) }
         ensures count { self.new.count ≡ self.old.count }
         ensures format { self.new.format ≡ self.old.format }
+        ensures sample { self.new.trace.sample ≡ self.old.trace.sample }
         ensures bad { IfErr result (λ refusal. IsBad refusal (field (non_zero_usize_get column) self.old.begun.items ≡ None)) }
     {
         if !self.reader.read(&self.begun, column)? {
@@ -156,6 +169,7 @@ impl<S: BuildHasher + Drop, A: Allocator + Copy> Records<S, A> {
     /// Ends the last record: a line, even without its line end, or nothing of a record of bytes.
     pub(crate) fn finish(self) -> Result<Trace<A>, SimulationError>
         requires begun { IsBegun self.format self.begun.items }
+        ensures sample { IfOk result (λ trace. trace.sample ≡ self.trace.sample) }
         ensures keys { IfOk result (λ trace. joined_keys self.trace.keys (keys_after self.format self.count self.begun.items) ≡ Some trace.keys) }
         ensures bad { IfErr result (λ refusal. IsBad refusal (keys_after self.format self.count self.begun.items ≡ None)) }
     {
@@ -170,6 +184,7 @@ impl<S: BuildHasher + Drop, A: Allocator + Copy> Records<S, A> {
     fn end_last(&mut self) -> Result<(), SimulationError>
         requires begun { IsBegun self.old.format self.old.begun.items }
         requires some { 0 < length self.old.begun.items }
+        ensures sample { self.new.trace.sample ≡ self.old.trace.sample }
         ensures keys { OnOk result (joined_keys self.old.trace.keys (keys_after self.old.format self.old.count self.old.begun.items) ≡ Some self.new.trace.keys) }
         ensures bad { IfErr result (λ refusal. IsBad refusal (keys_after self.old.format self.old.count self.old.begun.items ≡ None)) }
     {

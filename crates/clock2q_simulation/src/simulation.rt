@@ -98,7 +98,7 @@ pub fn write_outcomes<W: Sink, A: Allocator + Copy>(
 /// # Cost
 ///
 /// That of [`replay`](crate::replay) for each capacity; but LRU takes one pass for all capacities, by
-/// [`lru_hits_at`](clock2q_policies::lru_hits_at), if there are at least four.
+/// [`lru_hits_at`](clock2q_policies::lru_hits_at), if there are at least ten.
 pub fn rows_of<P: Write, A: Allocator + Copy>(
     alloc: A,
     trace: &Trace<A>,
@@ -116,7 +116,7 @@ pub fn rows_of<P: Write, A: Allocator + Copy>(
     let mut rows = Vec::new(alloc);
     for index in 0..rooms.len() {
         let capacity = rooms[index];
-        progress.replay(trace.numbers().len(), capacity.get());
+        progress.replay(trace.numbers().len(), capacity.get(), index, rooms.len());
         let lru = curve.get(index).copied();
         let row = replay_with_lru(alloc, capacity, policies, shares, skipped, trace, lru)?;
         match rows.push(row) {

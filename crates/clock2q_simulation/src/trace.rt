@@ -1,9 +1,10 @@
 //! A trace: keys of any bytes, identified by numbers.
-ghost use Rattle.std.specs.Prelude.{◌≡◌, ◌≤◌, ◌^◌, [], ◌∷◌, ◌++◌, OnOk, OnErr, length};
+ghost use Rattle.std.specs.Prelude.{◌≡◌, ◌≤◌, ◌^◌, [], ◌∷◌, ◌++◌, None, OnOk, OnErr, length};
 ghost use Rattle.clock2q_policies.specs.Policies.{AreBelow};
-ghost use Rattle.clock2q_simulation.specs.Trace.{AreNumbers, AreUsed};
+ghost use Rattle.clock2q_simulation.specs.Trace.{AreNumbers, AreUsed, sampled_keys};
 
 use crate::known_keys::KnownKeys;
+use crate::sample::{Sample, is_sampled};
 use clock2q_cache::DefaultHashBuilder;
 use clock2q_count::Told;
 use std::alloc::{AllocError, Allocator, Global};
@@ -22,8 +23,8 @@ impl Model for Keys {
     ghost view = { λ _. [] };
 }
 
-/// The keys of a trace in order, each identified by a number: equal keys by the same one, and
-/// different keys by different ones.
+/// The keys of a trace in order, or those in a sample, each identified by a number: equal keys by
+/// the same one, and different keys by different ones.
 ///
 /// # Example
 ///
@@ -40,23 +41,25 @@ impl Model for Keys {
 pub struct Trace<A: Allocator> {
     numbers: Vec<u32, A>,
     different: usize,
+    sample: Option<Sample>,
     keys: Told<Keys>,
 }
 
 impl<A: Allocator> Model for Trace<A> {
+    ghost use Rattle.clock2q_simulation.specs.Sample.{sampled};
     ghost use Rattle.clock2q_simulation.specs.Trace.{Numbered, AreNumbersOf};
 
     ghost Value = { Numbered };
 
-    ghost view = { λ t. record { keys = t.keys.value; numbers = t.numbers.items; different = t.different } };
+    ghost view = { λ t. record { keys = t.keys.value; sample = t.sample; numbers = t.numbers.items; different = t.different } };
 
-    ghost invariant = { λ t. AreNumbersOf t.keys.value t.numbers.items t.different };
+    ghost invariant = { λ t. AreNumbersOf (sampled t.sample t.keys.value) t.numbers.items t.different };
 }
 
 impl<A: Allocator> Trace<A> {
     /// Returns the numbers of the keys, in order.
     pub fn numbers(&self) -> &[u32]
-        ensures alike { AreNumbers self.now.keys result.now }
+        ensures alike { AreNumbers (sampled_keys self.now) result.now }
         ensures numbers { result.now ≡ self.now.numbers }
         ensures below { AreBelow self.now.different result.now }
     {
@@ -89,24 +92,27 @@ impl<A: Allocator> Trace<A> {
 pub struct GrowingTrace<S: BuildHasher = DefaultHashBuilder, A: Allocator = Global> {
     numbers: Vec<u32, A>,
     known: KnownKeys<S, A>,
+    sample: Option<Sample>,
     keys: Told<Keys>,
 }
 
 impl<S: BuildHasher, A: Allocator> Model for GrowingTrace<S, A> {
     ghost use Rattle.std.specs.Prelude.{length};
+    ghost use Rattle.clock2q_simulation.specs.Sample.{sampled};
     ghost use Rattle.clock2q_simulation.specs.Trace.{Numbered, IsNumbering};
 
     ghost Value = { Numbered };
 
-    ghost view = { λ t. record { keys = t.keys.value; numbers = t.numbers.items; different = length t.known } };
+    ghost view = { λ t. record { keys = t.keys.value; sample = t.sample; numbers = t.numbers.items; different = length t.known } };
 
-    ghost invariant = { λ t. IsNumbering t.known t.numbers.items t.keys.value };
+    ghost invariant = { λ t. IsNumbering t.known t.numbers.items (sampled t.sample t.keys.value) };
 }
 
 impl<A: Allocator + Copy> GrowingTrace<DefaultHashBuilder, A> {
     /// Returns a trace without keys, whose hasher has a fixed seed ([`DefaultHashBuilder`]).
     pub fn new(alloc: A) -> GrowingTrace<DefaultHashBuilder, A>
         ensures empty { result.keys ≡ [] }
+        ensures whole { result.sample ≡ None }
     {
         GrowingTrace::with_hasher(alloc, DefaultHashBuilder::new())
     }
@@ -117,15 +123,25 @@ impl<S: BuildHasher, A: Allocator + Copy> GrowingTrace<S, A> {
     /// choose the keys. The numbers don't depend on it.
     pub fn with_hasher(alloc: A, hasher: S) -> GrowingTrace<S, A>
         ensures empty { result.keys ≡ [] }
+        ensures whole { result.sample ≡ None }
+    {
+        GrowingTrace::with_sample(alloc, hasher, None)
+    }
+
+    /// Returns a trace without keys, which of those added to it keeps those in a sample.
+    pub fn with_sample(alloc: A, hasher: S, sample: Option<Sample>) -> GrowingTrace<S, A>
+        ensures empty { result.keys ≡ [] }
+        ensures sample { result.sample ≡ sample }
     {
         GrowingTrace {
             numbers: Vec::new(alloc),
             known: KnownKeys::new(alloc, hasher),
+            sample,
             keys: Told::new(&()),
         }
     }
 
-    /// Adds a key at the end.
+    /// Adds a key at the end, unless it isn't in the sample.
     ///
     /// # Errors
     ///
@@ -138,8 +154,13 @@ impl<S: BuildHasher, A: Allocator + Copy> GrowingTrace<S, A> {
     /// One lookup of the key among the different ones before it, and one insertion if it is new.
     pub fn push(&mut self, key: &[u8]) -> Result<(), AllocError>
         ensures added { OnOk result (self.new.keys ≡ self.old.keys ++ key.now ∷ []) }
+        ensures sample { self.new.sample ≡ self.old.sample }
         ensures refused { OnErr result (self.new ≡ self.old) }
     {
+        if !is_sampled(self.sample, key) {
+            self.keys.set(&key);
+            return Ok(());
+        }
         self.numbers.reserve(1)?;
         let number = self.known.number_of(key)?;
         self.numbers.push_reserved(number);
@@ -149,9 +170,9 @@ impl<S: BuildHasher, A: Allocator + Copy> GrowingTrace<S, A> {
 }
 
 impl<S: BuildHasher + Drop, A: Allocator> GrowingTrace<S, A> {
-    /// Returns the number of keys, counting equal ones separately.
+    /// Returns the number of keys in the sample, counting equal ones separately.
     pub fn len(&self) -> usize
-        ensures len { result ≡ length self.now.keys }
+        ensures len { result ≡ length (sampled_keys self.now) }
     {
         self.numbers.len()
     }
@@ -163,11 +184,13 @@ impl<S: BuildHasher + Drop, A: Allocator> GrowingTrace<S, A> {
         let GrowingTrace {
             numbers,
             known,
+            sample,
             keys,
         } = self;
         Trace {
             numbers,
             different: known.len(),
+            sample,
             keys,
         }
     }

@@ -65,7 +65,10 @@ fn run(rt: &HostRuntime, arguments: &[String]) -> Result<(), Ended> {
         ));
     }
     let options = parse_options(rt.alloc(), arguments).map_err(Ended::at_none)?;
-    let outcomes = replay_all(rt, &options, arguments)?;
+    let mut progress = Progress::new(rt.stderr(), rt.stderr().is_terminal());
+    let replayed = replay_all(rt, &options, arguments, &mut progress);
+    progress.end();
+    let outcomes = replayed?;
     write_outcomes(rt.alloc(), &options, &outcomes, &mut writer).map_err(Ended::at_none)
 }
 
@@ -74,16 +77,16 @@ fn replay_all<'a>(
     rt: &HostRuntime,
     options: &Options<Global>,
     arguments: &'a [String],
+    progress: &mut Progress<Stderr>,
 ) -> Result<Vec<Outcome<'a, Global>>, Ended> {
-    let mut progress = Progress::new(rt.stderr(), rt.stderr().is_terminal());
     let mut outcomes = Vec::new(rt.alloc());
     if options.traces.is_empty() {
-        let outcome = replay_named(rt, options, STANDARD_INPUT, &mut progress);
+        let outcome = replay_named(rt, options, STANDARD_INPUT, progress);
         push(&mut outcomes, outcome.map_err(Ended::at_none)?)?;
     }
     for index in options.traces.iter().copied() {
         let name = name_at(arguments, index);
-        match replay_named(rt, options, name, &mut progress) {
+        match replay_named(rt, options, name, progress) {
             Ok(outcome) => push(&mut outcomes, outcome)?,
             Err(refusal) => {
                 return Err(Ended {
@@ -122,11 +125,23 @@ fn replay_named<'a>(
     progress: &mut Progress<Stderr>,
 ) -> Result<Outcome<'a, Global>, SimulationError> {
     if name == STANDARD_INPUT {
+        progress.begin(None);
         return replay(rt, options, name, &mut Device::new(rt.stdin()), progress);
     }
     match File::open(rt, name) {
-        Ok(file) => replay(rt, options, name, &mut Device::new(file), progress),
+        Ok(file) => {
+            progress.begin(length_of(&file));
+            replay(rt, options, name, &mut Device::new(file), progress)
+        }
         Err(_) => Err(SimulationError::Open),
+    }
+}
+
+/// Returns the number of bytes of a file, unless it is a pipe or the like.
+fn length_of(file: &File) -> Option<u64> {
+    match file.metadata() {
+        Ok(metadata) if metadata.is_file() => Some(metadata.len()),
+        _ => None,
     }
 }
 

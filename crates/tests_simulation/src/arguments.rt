@@ -110,7 +110,7 @@ fn refused_capacities(rt: HostRuntime) -> Result<(), Fail> {
 }
 
 /// Arguments with an option that is refused, and the message.
-const REFUSED_OPTIONS: [(&str, &str); 39] = [
+const REFUSED_OPTIONS: [(&str, &str); 42] = [
     ("", "no capacity (see --help)"),
     ("--csv", "no capacity (see --help)"),
     ("--csv --svg 5", "--svg: a second form beside another one"),
@@ -138,6 +138,15 @@ const REFUSED_OPTIONS: [(&str, &str); 39] = [
     (
         "5 --skip 1.5k",
         "1.5k: not a number of accesses (as 100000, 100k or 1M)",
+    ),
+    ("5 --sample", "--sample: nothing after it"),
+    (
+        "5 --sample=1% --sample=0.5",
+        "--sample=0.5: option given twice",
+    ),
+    (
+        "5 --sample 0",
+        "0: not a part of the keys (0.000001 to 0.999999, or 1% to 100%)",
     ),
     (
         "5 --best-shares --best-shares",

@@ -27,11 +27,15 @@ mod pictures;
 #[cfg(test)]
 mod policies;
 #[cfg(test)]
+mod progress;
+#[cfg(test)]
 mod queues;
 #[cfg(test)]
 mod refused;
 #[cfg(test)]
 mod s3_fifo;
+#[cfg(test)]
+mod samples;
 #[cfg(test)]
 mod texts;
 #[cfg(test)]

@@ -12,6 +12,7 @@ returns-in-Lines g c =
     let same : keys_after self.format self.count self.begun.items ≡ keys_after self.format self.count (self.begun.items ++ (between self.format ++ [])) =
     last-ends self.format self.begun.items self.count lined c.requires.begun c.requires.some in
     record {
+      sample = c.end_record.ensures.sample;
       keys = ok-result c.end_record.result
           (λ (ends : Ends self.trace.keys new.trace.keys self.count new.count self.begun.items self.format).
           ap (joined_keys self.trace.keys) same ∙ ends [] ∙ ap (joined_keys new.trace.keys) (none-left self.format new.count) ∙ ap Some (append-nil new.trace.keys))

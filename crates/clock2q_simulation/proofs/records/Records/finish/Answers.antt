@@ -1,4 +1,4 @@
-use Rattle.std.proofs.Common.{◌≡◌, ◌∙◌, [], true, length, Some, eqb, ap, sym, append-nil, arith}
+use Rattle.std.proofs.Common.{◌≡◌, ◌∙◌, true, length, Some, eqb, ap, sym, append-nil, arith}
 use Rattle.std.proofs.lemmas.Bool.{eqb-true, eq-eqb}
 use Rattle.clock2q_simulation.specs.Formats.{keys_after}
 use Rattle.clock2q_simulation.specs.Reading.{joined_keys}

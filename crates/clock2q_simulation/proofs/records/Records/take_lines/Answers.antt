@@ -19,6 +19,9 @@ returns-in_err-end_record-clause-bad g c =
     c.loop-byte-test.true c.loop-byte.invariant.format c.requires.lines c.if-byte-eq10.true c.loop-byte.invariant.same none)
     c.in_err-end_record.ensures.bad)
 
+pub returns-in_err-push-clause-sample : goal.returns-in_err-push-clause-sample
+returns-in_err-push-clause-sample g c = ap (λ t. t.sample) c.in_err-push.ensures.trace ∙ c.loop-byte.invariant.sample
+
 pub loop-byte-preserved : goal.loop-byte-preserved
 loop-byte-preserved g c =
     let format = c.args.self.now.format in
@@ -32,6 +35,7 @@ loop-byte-preserved g c =
           subst (Ends was.trace.keys new.trace.keys was.count new.count was.begun.items) c.loop-byte.invariant.format w.in_ok-end_record.ensures.ended in
           record {
             format = ap (λ s. s.format) w.self-is ∙ w.in_ok-end_record.ensures.format ∙ c.loop-byte.invariant.format;
+            sample = ap (λ s. s.trace.sample) w.self-is ∙ w.in_ok-end_record.ensures.sample ∙ c.loop-byte.invariant.sample;
             begun = begun-line format c.if-byte-eq10.self.begun.items c.requires.lines (subst HasNoEnd (sym (ap (λ s. s.begun.items) w.self-is ∙ w.in_ok-end_record.ensures.begun)) no-line);
             same = λ next. c.loop-byte.invariant.same next
                 ∙ byte-ends format was.trace.keys new.trace.keys was.count new.count was.begun.items new.begun.items bytes i c.loop-byte-test.true c.requires.lines w.if-byte-eq10.true w.in_ok-end_record.ensures.begun ends next
@@ -44,6 +48,7 @@ loop-byte-preserved g c =
           longer-line was.begun.items (get_or bytes i 0) (line-begun format was.begun.items c.requires.lines c.loop-byte.invariant.begun) (ne_eqb (get_or bytes i 0) 10 w.if-byte-eq10.false) in
           record {
             format = ap (λ s. s.format) w.self-is ∙ w.in_ok-push.ensures.format ∙ c.loop-byte.invariant.format;
+            sample = ap (λ s. s.trace.sample) w.self-is ∙ ap (λ t. t.sample) w.in_ok-push.ensures.trace ∙ c.loop-byte.invariant.sample;
             begun = begun-line format c.if-byte-eq10.self.begun.items c.requires.lines (subst HasNoEnd (sym (ap (λ s. s.begun.items) w.self-is ∙ longer)) line);
             same = λ next. c.loop-byte.invariant.same next
                 ∙ byte-more format was.trace.keys was.count was.begun.items new.begun.items bytes i c.loop-byte-test.true longer next

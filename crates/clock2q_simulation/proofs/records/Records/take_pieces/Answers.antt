@@ -1,4 +1,4 @@
-use Rattle.std.proofs.Common.{◌≡◌, ◌∙◌, ◌++◌, ℕ, List, None}
+use Rattle.std.proofs.Common.{◌≡◌, ◌∙◌, ◌++◌, ℕ, List, None, ap}
 use Rattle.std.proofs.lemmas.Result.{err_from_is_err_and}
 use Rattle.clock2q_simulation.specs.Formats.{keys_after}
 use Rattle.clock2q_simulation.specs.Reading.{between}
@@ -17,6 +17,12 @@ returns-in_err-end_record-clause-bad g c =
     piece-bad self.format new.format self.trace.keys was.trace.keys self.count was.count new.count self.begun.items was.begun.items new.begun.items c.args.bytes.now c.loop-byte.byte-index
     c.loop-byte-test.true (c.in_ok-push.ensures.format ∙ c.loop-byte.invariant.format) c.requires.pieces c.in_ok-push.ensures.count c.in_ok-push.ensures.begun c.loop-byte.invariant.same none)
     c.in_err-end_record.ensures.bad)
+
+pub returns-in_err-push-clause-sample : goal.returns-in_err-push-clause-sample
+returns-in_err-push-clause-sample g c = ap (λ t. t.sample) c.in_err-push.ensures.trace ∙ c.loop-byte.invariant.sample
+
+pub returns-in_err-end_record-clause-sample : goal.returns-in_err-end_record-clause-sample
+returns-in_err-end_record-clause-sample g c = c.in_err-end_record.ensures.sample ∙ ap (λ t. t.sample) c.in_ok-push.ensures.trace ∙ c.loop-byte.invariant.sample
 
 pub returns-clause-taken : goal.returns-clause-taken
 returns-clause-taken g c =

@@ -1,21 +1,49 @@
-use Rattle.std.proofs.Common.{◌≡◌, ◌∙◌, ◌++◌, ℕ, List, None, false, take, ap, sym, rules}
+use Rattle.std.proofs.Common.{◌≡◌, ◌∙◌, ◌++◌, ℕ, List, None, false, take, ap, sym, subst, rules}
 use Rattle.std.proofs.lemmas.Bool.{ne_eqb}
 use Rattle.std.proofs.lemmas.Result.{err_from_is_err_and}
 use Rattle.clock2q_ports.specs.Ports.{traffic_after}
+use Rattle.std.specs.Prelude.{IfOk}
 use Rattle.clock2q_simulation.specs.Formats.{keys_after}
-use Rattle.clock2q_simulation.proofs.RecordByRecord.{finished, given-up, read-bad, read-given, read-new}
-use Rattle.clock2q_simulation.proofs.reading.read_trace.Goals as goal
+use Rattle.clock2q_simulation.specs.Reading.{Takes}
+use Rattle.clock2q_simulation.proofs.RecordByRecord.{finished, given-up, read-bad, read-given, read-more, read-new}
+use Rattle.clock2q_simulation.proofs.reading.read_sample.Goals as goal
 
 pub loop-index-init : goal.loop-index-init
 loop-index-init g c =
     let made = c.new-records in
     record {
       format = made.ensures.format;
+      sample = made.ensures.sample;
       read = read-new (g.R.Source.given c.args.reader.now) (g.R.Source.remaining c.args.reader.now) c.args.format made.result.trace.keys made.result.count made.result.begun.items made.ensures.keys made.ensures.count made.ensures.begun;
     }
 
-pub returns-then-count-eq0 : goal.returns-then-count-eq0
-returns-then-count-eq0 g c =
+pub loop-index-preserved : goal.loop-index-preserved
+loop-index-preserved g c =
+    let records = c.loop-index.records in
+    let next = c.take.new.self in
+    let format = c.args.format in
+    let bytes = take c.in-Ok.count c.read.new.into in
+    let is = c.loop-index.invariant.read in
+    let old = g.R.Source.given c.args.reader.now in
+    let mid = g.R.Source.given c.loop-index.reader in
+    let new = g.R.Source.given c.read.new.self in
+    let left = g.R.Source.remaining c.args.reader.now in
+    let some = g.R.Source.remaining c.loop-index.reader in
+    let remain = g.R.Source.remaining c.read.new.self in
+    let given : new ≡ traffic_after mid bytes false false = c.in-Ok.ensures.given ∙ ap (λ b. traffic_after mid bytes b false) (ne_eqb c.in-Ok.count 0 c.if-count-eq0.false) in
+    let taken : Takes format records.trace.keys records.count records.begun.items bytes next.trace.keys next.count next.begun.items =
+    subst (λ f. Takes f records.trace.keys records.count records.begun.items bytes next.trace.keys next.count next.begun.items) c.loop-index.invariant.format c.in_ok-take.ensures.taken in
+    record {
+      format = c.in_ok-take.ensures.format ∙ c.loop-index.invariant.format;
+      sample = c.in_ok-take.ensures.sample ∙ c.loop-index.invariant.sample;
+      read = read-more old mid new left some remain format records.trace.keys records.count records.begun.items bytes is next.trace.keys next.count next.begun.items given c.in-Ok.ensures.bytes.0 taken;
+    }
+
+pub returns-then-count-eq0-clause-sample : goal.returns-then-count-eq0-clause-sample
+returns-then-count-eq0-clause-sample g c = subst (λ sample. IfOk c.finish.result (λ trace. trace.sample ≡ sample)) c.loop-index.invariant.sample c.finish.ensures.sample
+
+pub returns-then-count-eq0-clause-read : goal.returns-then-count-eq0-clause-read
+returns-then-count-eq0-clause-read g c =
     let records = c.loop-index.records in
     finished (g.R.Source.given c.args.reader.now) (g.R.Source.given c.loop-index.reader) (g.R.Source.given c.read.new.self)
     (g.R.Source.remaining c.args.reader.now) (g.R.Source.remaining c.loop-index.reader) (g.R.Source.remaining c.read.new.self)
@@ -23,8 +51,8 @@ returns-then-count-eq0 g c =
     (rw c.if-count-eq0.true at c.in-Ok.ensures.given) (rw c.if-count-eq0.true at c.in-Ok.ensures.bytes.0) (c.in-Ok.ensures.bytes.1 c.if-count-eq0.true (search rules))
     c.finish.ensures.keys c.finish.ensures.bad
 
-pub returns-in_err-take : goal.returns-in_err-take
-returns-in_err-take g c =
+pub returns-in_err-take-clause-read : goal.returns-in_err-take-clause-read
+returns-in_err-take-clause-read g c =
     let records = c.loop-index.records in
     let format = c.args.format in
     let bytes = take c.in-Ok.count c.read.new.into in

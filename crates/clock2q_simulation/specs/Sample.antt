@@ -1,0 +1,53 @@
+-- The part of all keys that a sample has: whether a key is in it is a function of the key alone.
+use Rattle.std.specs.Prelude.{ℕ, ◌+◌, ◌*◌, ◌/◌, ◌%◌, ◌^◌, ◌-◌, Bool, true, nat_lt, min, max, List, Option, Some, None}
+use Rattle.std.specs.List.{filter, fold}
+use Rattle.clock2q_simulation.specs.declared.amount.Amount.{Amount}
+use Rattle.clock2q_simulation.specs.declared.amount.Unit.{Unit as Counted}
+use Rattle.clock2q_simulation.specs.declared.amount.Unit.TheVariants.{Keys, Millionths}
+use Rattle.clock2q_simulation.specs.declared.sample.Sample.{Sample}
+use Rattle.clock2q_simulation.specs.Amounts.{amount, keys_by, most_keys}
+
+-- a number multiplied, in 64 bits
+abbrev pub multiplied : ℕ → ℕ
+multiplied n = (n * 11400714819323198485) % 2 ^ 64
+
+-- the hash of a key: each byte is added and the sum multiplied; then the upper half is added to all and the sum
+-- multiplied, twice
+abbrev pub after_byte : ℕ → ℕ → ℕ
+after_byte hash byte = multiplied ((hash + byte) % 2 ^ 64)
+
+abbrev pub stirred : ℕ → ℕ
+stirred hash = multiplied ((hash + hash / 2 ^ 32) % 2 ^ 64)
+
+abbrev pub sampling_hash : List ℕ → ℕ
+sampling_hash key = stirred (stirred (fold after_byte 1 key))
+
+-- a key is in a sample of so many millionths of all keys if the upper half of its hash is in that part of the numbers
+-- of 32 bits
+abbrev pub is_in_sample : Sample → List ℕ → Bool
+is_in_sample sample key = nat_lt (sampling_hash key / 2 ^ 32 * 1000000 / 2 ^ 32) sample.millionths
+
+-- whether a key is in a sample, or there is none
+abbrev pub is_sampled : Option Sample → List ℕ → Bool
+is_sampled None key = true
+is_sampled (Some sample) key = is_in_sample sample key
+
+-- the keys that are in a sample, or all of them without one
+abbrev pub sampled : Option Sample → List (List ℕ) → List (List ℕ)
+sampled None keys = keys
+sampled (Some sample) keys = filter (is_in_sample sample) keys
+
+-- the capacity for the keys of a sample that a capacity for all keys becomes: the same part of it, and of a trace's keys
+-- the same percentage
+abbrev pub scaled_by : Counted → Sample → ℕ → Amount
+scaled_by Keys sample number = amount Keys (keys_by Millionths sample.millionths (min number most_keys))
+scaled_by Millionths sample number = amount Millionths number
+
+abbrev pub scaled : Option Sample → Amount → Amount
+scaled None capacity = capacity
+scaled (Some sample) capacity = scaled_by capacity.unit sample capacity.number
+
+-- the capacity for all keys that a capacity for the keys of a sample is, rounded down
+abbrev pub unscaled : Option Sample → ℕ → ℕ
+unscaled None capacity = capacity
+unscaled (Some sample) capacity = min (capacity * 1000000) (2 ^ 64 - 1) / max sample.millionths 1

@@ -1,0 +1,164 @@
+//! A part of all keys, chosen by their hashes: a cache as much smaller hits about as often on it.
+ghost use Rattle.std.specs.List.{fold};
+ghost use Rattle.std.specs.Prelude.{◌≡◌, ◌<◌, ◌≤◌, IfOk, IfSome, Some, map};
+ghost use Rattle.clock2q_simulation.specs.Amounts.{amount};
+ghost use Rattle.clock2q_simulation.specs.declared.amount.Unit.TheVariants.{Millionths};
+ghost use Rattle.clock2q_simulation.specs.Sample.{after_byte, is_in_sample, is_sampled, sampling_hash, scaled, stirred, unscaled};
+
+use crate::amount::{Amount, Unit, number_of};
+use clock2q_cache::MAX_CAPACITY;
+use std::alloc::{AllocError, Allocator};
+
+/// An odd number whose bits have no pattern: 2^64 divided by the golden ratio.
+const FACTOR: u64 = 11400714819323198485;
+
+/// A part of all keys. Whether a key is in it depends on the key alone, so either all accesses of a
+/// key are sampled, or none.
+///
+/// # Example
+///
+/// ```
+/// let sample = Sample::written("0.01").ok_or("no sample")?;
+/// assert_eq!(rt; sample.millionths, 10_000);
+/// ```
+#[derive(Clone, Copy, Debug, PartialEq, Eq)]
+pub struct Sample {
+    /// How many keys of a million are in it, about.
+    pub millionths: usize,
+}
+
+impl Sample {
+    /// Returns the sample that a word spells: a part of one with at most six decimals, as `0.01`, or
+    /// a percentage, as `1%`.
+    pub fn written(word: &str) -> Option<Sample>
+        ensures some { IfSome result (λ sample. 0 < sample.millionths) }
+        ensures within { IfSome result (λ sample. sample.millionths ≤ 1000000) }
+    {
+        let millionths = match word.strip_prefix("0.") {
+            Some(decimals) if !decimals.ends_with('%') => millionths_of(decimals)?,
+            _ => percentage_of(word)?,
+        };
+        (0 < millionths && millionths <= 1_000_000).then_some(Sample { millionths })
+    }
+
+    /// Returns true if a key is in the sample.
+    pub fn has(self, key: &[u8]) -> bool
+        ensures has { result ≡ is_in_sample self key.now }
+    {
+        let part = sampling_hash(key) / 4_294_967_296 * 1_000_000 / 4_294_967_296;
+        (part as usize) < self.millionths
+    }
+
+    /// Returns the capacity for the sample's keys that a capacity for all keys becomes.
+    fn scaled(self, capacity: Amount) -> Amount
+        ensures scaled { result ≡ scaled (Some self) capacity }
+    {
+        match capacity.unit {
+            Unit::Keys => Amount {
+                number: self.part().of(capacity.number.min(MAX_CAPACITY)),
+                unit: Unit::Keys,
+            },
+            Unit::Millionths => capacity,
+        }
+    }
+
+    /// Returns the capacity for all keys that becomes a capacity for the sample's keys.
+    pub(crate) fn unscaled(self, capacity: usize) -> usize
+        ensures unscaled { result ≡ unscaled (Some self) capacity }
+    {
+        capacity.saturating_mul(1_000_000) / self.millionths.max(1)
+    }
+
+    /// Returns the sample's part of all keys.
+    pub(crate) fn part(self) -> Amount
+        ensures part { result ≡ amount Millionths self.millionths }
+    {
+        Amount {
+            number: self.millionths,
+            unit: Unit::Millionths,
+        }
+    }
+}
+
+/// Returns true if a key is in a sample, or if there is none.
+pub(crate) fn is_sampled(sample: Option<Sample>, key: &[u8]) -> bool
+    ensures sampled { result ≡ is_sampled sample key.now }
+{
+    match sample {
+        Some(sample) => sample.has(key),
+        None => true,
+    }
+}
+
+/// Returns the capacities that capacities for all keys become, in order.
+pub(crate) fn all_scaled<A: Allocator>(
+    alloc: A,
+    sample: Option<Sample>,
+    capacities: &[Amount],
+) -> Result<Vec<Amount, A>, AllocError>
+    ensures scaled { IfOk result (λ all. all.items ≡ map (scaled sample) capacities.now) }
+{
+    let mut all = Vec::new(alloc);
+    for capacity in capacities {
+        all.push(scaled(sample, *capacity))?;
+    }
+    Ok(all)
+}
+
+/// Returns the capacity that a capacity for all keys becomes.
+fn scaled(sample: Option<Sample>, capacity: Amount) -> Amount
+    ensures scaled { result ≡ scaled sample capacity }
+{
+    match sample {
+        Some(sample) => sample.scaled(capacity),
+        None => capacity,
+    }
+}
+
+/// Returns the hash of a key.
+fn sampling_hash(key: &[u8]) -> u64
+    ensures hash { result ≡ sampling_hash key.now }
+{
+    stirred(stirred(bytes_hash(key)))
+}
+
+/// Returns the hash of a key before it is stirred.
+fn bytes_hash(key: &[u8]) -> u64
+    ensures hash { result ≡ fold after_byte 1 key.now }
+{
+    let mut hash = 1u64;
+    for byte in key {
+        hash = hash.wrapping_add(u64::from(*byte)).wrapping_mul(FACTOR);
+    }
+    hash
+}
+
+/// Adds the upper half of a hash to it, and multiplies the sum.
+fn stirred(hash: u64) -> u64
+    ensures stirred { result ≡ stirred hash }
+{
+    hash.wrapping_add(hash / 4_294_967_296).wrapping_mul(FACTOR)
+}
+
+/// Returns the decimals of a part of one in millionths, if there are one to six.
+fn millionths_of(decimals: &str) -> Option<usize> {
+    let worth = match decimals.len() {
+        1 => 100_000,
+        2 => 10_000,
+        3 => 1_000,
+        4 => 100,
+        5 => 10,
+        6 => 1,
+        _ => return None,
+    };
+    Some(number_of(decimals.as_bytes())?.saturating_mul(worth))
+}
+
+/// Returns the percentage that a word spells, in millionths.
+fn percentage_of(word: &str) -> Option<usize> {
+    let amount = Amount::written(word)?;
+    match amount.unit {
+        Unit::Millionths => Some(amount.number),
+        Unit::Keys => None,
+    }
+}

@@ -1,0 +1,51 @@
+//! The progress of a simulation, in one line that is written over.
+
+use crate::arguments::options_of;
+use clock2q_cache::DefaultHashBuilder;
+use clock2q_ports::Device;
+use clock2q_simulation::{Progress, simulate};
+use std::alloc::Global;
+use std::test::Fail;
+use testing::same;
+
+/// Returns what is shown while a trace is replayed, whose length may be known.
+fn shown(
+    alloc: Global,
+    trace: &[u8],
+    length: Option<u64>,
+    is_shown: bool,
+) -> Result<Vec<u8>, Fail> {
+    let options = options_of(alloc, "5")?;
+    let mut output = Device::new(Vec::new(alloc));
+    let mut shown = Vec::new(alloc);
+    {
+        let mut progress = Progress::new(&mut shown, is_shown);
+        progress.begin(length);
+        let hasher = DefaultHashBuilder::new();
+        let mut reader = Device::new(trace);
+        simulate(
+            alloc,
+            &options,
+            hasher,
+            &mut reader,
+            &mut output,
+            &mut progress,
+        )?;
+        progress.end();
+    }
+    Ok(shown)
+}
+
+/// Seventeen blocks of one long key, half of the length that is given: nothing is shown of the first
+/// million bytes.
+#[test]
+fn progress_in_percent(rt: HostRuntime) -> Result<(), Fail> {
+    let trace = vec![in rt.alloc(); b'a'; 1_114_112]?;
+    let length = Some(2_228_224);
+    let lines = "\r\x1b[Kclock2q-simulate: 47% read\r\x1b[Kclock2q-simulate: 50% read\r\x1b[K";
+    let seen = shown(rt.alloc(), &trace, length, true)?;
+    same(seen.as_slice(), lines.as_bytes())?;
+    same(shown(rt.alloc(), &trace, length, false)?.len(), 0)?;
+    same(shown(rt.alloc(), &trace, None, true)?.len(), 0)?;
+    Ok(())
+}

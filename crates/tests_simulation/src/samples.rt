@@ -1,0 +1,128 @@
+//! Samples of the keys: which keys are in one, and that only those are replayed.
+
+use crate::texts::written;
+use clock2q_simulation::Sample;
+use std::alloc::Global;
+use std::test::Fail;
+use testing::{same, same_at};
+
+/// Words that are samples, and how many of a million keys are in them.
+const SAMPLES: [(&str, usize); 8] = [
+    ("0.01", 10_000),
+    ("1%", 10_000),
+    ("0.5", 500_000),
+    ("0.000001", 1),
+    ("0.999999", 999_999),
+    ("0.25%", 2_500),
+    ("0.0001%", 1),
+    ("100%", 1_000_000),
+];
+
+#[test]
+fn samples_written(_rt: HostRuntime) -> Result<(), Fail> {
+    for (word, millionths) in SAMPLES {
+        same_at(Sample::written(word), Some(Sample { millionths }), word)?;
+    }
+    for word in [
+        "",
+        "0",
+        "1",
+        "1.0",
+        "0.",
+        "0.0",
+        "0.000000",
+        "0.0000001",
+        "0.5x",
+        "0.-1",
+        ".5",
+        "0%",
+        "101%",
+        "5",
+        "1k",
+        "%",
+    ] {
+        same_at(Sample::written(word), None, word)?;
+    }
+    Ok(())
+}
+
+/// Counts the keys in a sample among 100,000 that are numbers.
+fn count_in(alloc: Global, sample: Sample) -> Result<usize, Fail> {
+    let mut count = 0usize;
+    for number in 0..100_000 {
+        let key = format!(in alloc; "{number}")?;
+        if sample.has(key.as_bytes()) {
+            count = count.saturating_add(1);
+        }
+    }
+    Ok(count)
+}
+
+/// About as many keys as asked for are in a sample, although they follow one another.
+#[test]
+fn samples_have_their_part(rt: HostRuntime) -> Result<(), Fail> {
+    for (millionths, least, most) in [
+        (1_000, 60, 140),
+        (10_000, 870, 1_130),
+        (100_000, 9_600, 10_400),
+        (1_000_000, 100_000, 100_000),
+    ] {
+        let count = count_in(rt.alloc(), Sample { millionths })?;
+        same_at(least <= count && count <= most, true, count)?;
+    }
+    Ok(())
+}
+
+/// Returns a trace of numbers as lines, and the lines of those in a sample.
+fn lines_of(alloc: Global, sample: Sample) -> Result<(String, String), Fail> {
+    let (mut all, mut kept) = (String::new(alloc), String::new(alloc));
+    let mut state = 1u64;
+    for _ in 0..2_000 {
+        state = state
+            .wrapping_mul(6364136223846793005)
+            .wrapping_add(1442695040888963407);
+        let key = format!(in alloc; "{}", (state >> 33) % 200)?;
+        all.push_str(key.as_str())?;
+        all.push('\n')?;
+        if sample.has(key.as_bytes()) {
+            kept.push_str(key.as_str())?;
+            kept.push('\n')?;
+        }
+    }
+    Ok((all, kept))
+}
+
+/// A sample's rows are those of a trace of its keys alone in smaller caches.
+#[test]
+fn sampled_rows(rt: HostRuntime) -> Result<(), Fail> {
+    let sample = Sample::written("0.25").ok_or("no sample")?;
+    let (all, kept) = lines_of(rt.alloc(), sample)?;
+    let sampled = written(rt.alloc(), "--json --sample=0.25 40", all.as_bytes())?;
+    let alone = written(rt.alloc(), "--json 10", kept.as_bytes())?;
+    let sampled = String::from_utf8(sampled)?;
+    let alone = String::from_utf8(alone)?;
+    same(
+        sampled.as_str().split_once("40").map(|parts| parts.1),
+        alone.as_str().split_once("10").map(|parts| parts.1),
+    )?;
+    Ok(())
+}
+
+/// A percentage is of the sample's keys, and is shown as one of all keys; a sample of all keys
+/// changes nothing but the heading.
+#[test]
+fn sampled_texts(rt: HostRuntime) -> Result<(), Fail> {
+    let input = b"a\na\nb\na\n";
+    let table =
+        "a sample of 100% of the keys: 4 accesses, 2 keys, 1 asked for once, hits in percent, the best of a row with *
+capacity      LRU
+       1    25.00
+       1    25.00
+";
+    let line = "1 50% --sample 100% --policies=lru";
+    same(
+        written(rt.alloc(), line, input)?.as_slice(),
+        table.as_bytes(),
+    )?;
+    Ok(())
+}
