@@ -1,7 +1,7 @@
 # make            proves and builds the programs of ./clock2q and ./clock2q-simulate
 # make try        runs the program of ./clock2q unproved, on five lines
 # make check      proves every crate, over what is proved already
-# make test       the gate: all proofs from nothing, must-fail edits, tests and programs
+# make test       the gate: all proofs, must-fail edits, tests and programs
 # make edits      tries the must-fail edits outside the gate; CRATES='..' names crates
 # make bindings   builds the bindings and tries them with what this machine has
 # make install    proves and installs the C library; PREFIX=.. in place of /usr/local

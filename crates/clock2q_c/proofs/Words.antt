@@ -68,4 +68,6 @@ module _ (Z : RattleType) (LZ : Laws Z) (g : Ghosts Z.Denot) where
     words_in t p h a = step (λ rest.
         let made : List Val = both (ptr_val p) h ∷ [] in
         nothing t $ move t (1 ∷ 0 ∷ []) $ fjoin t $ feq_i t (List Val) (ptr_val p ∷ []) (ptr_val p ∷ []) refl $ fjoin t $ feq_i t (List Val) made made refl $ fjoin t $
-        fpack t (Valss (RawPtr ∷ Z ∷ [])) (λ parts. fsep (feq (List Val) made (vstruct (of_list (parts.0 ++ (parts.1.0 ++ []))) ∷ [])) (owns (RawPtr ∷ Z ∷ []) (p, (a, tt)) parts)) (ptr_val p ∷ [], (h ∷ [], tt)) $ rest)
+        fpack t (Valss (RawPtr ∷ Z ∷ []))
+        (λ parts. fsep (feq (List Val) made (vstruct (of_list (parts.0 ++ (parts.1.0 ++ []))) ∷ []))
+        (owns (RawPtr ∷ Z ∷ []) (p, (a, tt)) parts)) (ptr_val p ∷ [], (h ∷ [], tt)) $ rest)

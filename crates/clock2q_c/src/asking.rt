@@ -16,7 +16,8 @@ use crate::handle::Handle;
 #[unsafe(no_mangle)]
 pub extern "C" fn clock2q_contains(handle: &mut Handle, key: usize) -> bool
     requires { IsSome handle.old.cache }
-    ensures resident { IfSome (machine_in handle.old.cache) (λ m. IsTrue result ↔ IsSome (resident_frame m key)) }
+    ensures resident { IfSome (machine_in handle.old.cache)
+        (λ m. IsTrue result ↔ IsSome (resident_frame m key)) }
     ensures same { handle.new.cache ≡ handle.old.cache }
 {
     handle.held().cache.contains(&key)

@@ -25,7 +25,8 @@ use std::num::NonZeroUsize;
 #[unsafe(no_mangle)]
 pub extern "C" fn clock2q_new(alloc: Global, handle: &mut Handle, capacity: usize) -> u32
     requires { handle.old.cache ≡ None }
-    ensures made { result ≡ DONE → machine_in handle.new.cache ≡ Some (empty (usual_shares capacity)) }
+    ensures made { result ≡ DONE →
+        machine_in handle.new.cache ≡ Some (empty (usual_shares capacity)) }
     ensures holds { IsSome handle.new.cache ↔ (result ≡ DONE) }
     ensures refused { result ≢ DONE → handle.new.cache ≡ None }
     ensures capacity { (result ≡ BAD_CAPACITY) ↔ ((capacity ≡ 0) ⊎ (MAX_CAPACITY < capacity)) }
@@ -59,12 +60,16 @@ pub extern "C" fn clock2q_with_policy(
     window: usize,
 ) -> u32
     requires { handle.old.cache ≡ None }
-    ensures made { result ≡ DONE → machine_in handle.new.cache ≡ Some (empty (shares_of capacity small window)) }
+    ensures made { result ≡ DONE →
+        machine_in handle.new.cache ≡ Some (empty (shares_of capacity small window)) }
     ensures holds { IsSome handle.new.cache ↔ (result ≡ DONE) }
     ensures refused { result ≢ DONE → handle.new.cache ≡ None }
     ensures capacity { (result ≡ BAD_CAPACITY) ↔ ((capacity ≡ 0) ⊎ (MAX_CAPACITY < capacity)) }
-    ensures policy { (result ≡ BAD_POLICY) ↔ ((0 < capacity) × (capacity ≤ MAX_CAPACITY) × ¬ IsPolicy (shares_of capacity small window)) }
-    ensures memory { result ≢ DONE → result ≢ BAD_CAPACITY → result ≢ BAD_POLICY → result ≡ NO_MEMORY }
+    ensures policy { (result ≡ BAD_POLICY) ↔
+        ((0 < capacity) × (capacity ≤ MAX_CAPACITY) ×
+        ¬ IsPolicy (shares_of capacity small window)) }
+    ensures memory { result ≢ DONE → result ≢ BAD_CAPACITY → result ≢ BAD_POLICY →
+        result ≡ NO_MEMORY }
 {
     match boxed_with(alloc, capacity, small, window) {
         Ok(cache) => {
@@ -94,7 +99,8 @@ pub(crate) fn boxed<A: Allocator + Copy>(
     capacity: usize,
 ) -> Result<Box<Held<A>, A>, CacheError>
     ensures made { IfOk result (λ made. made.value.cache.machine ≡ empty (usual_shares capacity)) }
-    ensures capacity { IsErrOf result CacheError.Capacity ↔ ((capacity ≡ 0) ⊎ (MAX_CAPACITY < capacity)) }
+    ensures capacity { IsErrOf result CacheError.Capacity ↔
+        ((capacity ≡ 0) ⊎ (MAX_CAPACITY < capacity)) }
     ensures policy { result ≢ Err CacheError.Policy }
 {
     let Some(capacity) = NonZeroUsize::new(capacity) else {
@@ -115,9 +121,13 @@ pub(crate) fn boxed_with<A: Allocator + Copy>(
     small: usize,
     window: usize,
 ) -> Result<Box<Held<A>, A>, CacheError>
-    ensures made { IfOk result (λ made. made.value.cache.machine ≡ empty (shares_of capacity small window)) }
-    ensures capacity { IsErrOf result CacheError.Capacity ↔ ((capacity ≡ 0) ⊎ (MAX_CAPACITY < capacity)) }
-    ensures policy { IsErrOf result CacheError.Policy ↔ ((0 < capacity) × (capacity ≤ MAX_CAPACITY) × ¬ IsPolicy (shares_of capacity small window)) }
+    ensures made { IfOk result
+        (λ made. made.value.cache.machine ≡ empty (shares_of capacity small window)) }
+    ensures capacity { IsErrOf result CacheError.Capacity ↔
+        ((capacity ≡ 0) ⊎ (MAX_CAPACITY < capacity)) }
+    ensures policy { IsErrOf result CacheError.Policy ↔
+        ((0 < capacity) × (capacity ≤ MAX_CAPACITY) ×
+        ¬ IsPolicy (shares_of capacity small window)) }
 {
     let Some(capacity) = NonZeroUsize::new(capacity) else {
         return Err(CacheError::Capacity);

@@ -71,7 +71,11 @@ module _ {K V S H : Type 0} (key : HashMembers K) (build : builder.Ghosts S H) (
       let slots : slots_for key build hash k old ≡ walked key build hash old k = rw e (omega arith) in
       record {
         index = record { accesses = omega (arith, spent.index.accesses, slots) };
-        counts = record { inspections = omega (arith, spent.counts.inspections, looks); accesses = (spent.counts.accesses.0, omega (arith, spent.counts.accesses.1, links)); questions = spent.counts.questions };
+        counts = record {
+          inspections = omega (arith, spent.counts.inspections, looks);
+          accesses = (spent.counts.accesses.0, omega (arith, spent.counts.accesses.1, links));
+          questions = spent.counts.questions;
+        };
         clock = omega (arith, spent.clock, victims);
       }
   resident_costs slot (Some w) e = record { counts = spent.counts; index = spent.index; clock = spent.clock }
@@ -106,5 +110,6 @@ module _ {K V : Type 0} (is : K → Bool) (key : K) (m : Machine K V) (made : V 
   becomes_slotted (Some slot) e h = ap (λ o. if is_some o then hit is m else reused is key v m) e ∙ sym (ap (λ o. if is_some o then hit is m else reused is key value m) e)
 
   -- the value is the slot's own, or the given one if the slot was made
-  pub slotted-given : (slot : ℕ) → slot ≡ slotted_at (slot_of is m) is key m → UnwrapsOrElse (slice_get m.values slot) made v → (v ≡ fetched_value (slice_get m.values slot) value) × (slotted is key v m ≡ slotted is key value m)
+  pub slotted-given : (slot : ℕ) → slot ≡ slotted_at (slot_of is m) is key m → UnwrapsOrElse (slice_get m.values slot) made v →
+      (v ≡ fetched_value (slice_get m.values slot) value) × (slotted is key v m ≡ slotted is key value m)
   slotted-given slot at h = (is_slotted (slice_get m.values slot) h, becomes_slotted (slot_of is m) refl (subst (λ s. UnwrapsOrElse (slice_get m.values s) made v) at h))

@@ -11,7 +11,9 @@ none-refused : (bits : List Bool) → refused_slots bits [] ≡ []
 none-refused [] = refl
 none-refused (b ∷ bits) = refl
 
-refused-first : (bits given : List Bool) (slot : ℕ) (slots : List ℕ) → refused_slots bits slots ≡ refused_slots (drop 1 given) slots → refused_slots (get_or given 0 true ∷ bits) (slot ∷ slots) ≡ refused_slots given (slot ∷ slots)
+refused-first : (bits given : List Bool) (slot : ℕ) (slots : List ℕ) →
+    refused_slots bits slots ≡ refused_slots (drop 1 given) slots →
+    refused_slots (get_or given 0 true ∷ bits) (slot ∷ slots) ≡ refused_slots given (slot ∷ slots)
 refused-first bits [] slot slots h = h
 refused-first bits (true ∷ given) slot slots h = h
 refused-first bits (false ∷ given) slot slots h = ap (λ z. slot ∷ z) h
@@ -70,4 +72,6 @@ module _ {F V : Type 0} (g : Mut F Unit V) (left : F → List V) (before : F →
   pub prefilled-given : {K : Type 0} → GivesValues → (f : F) (old new : Machine K V) → 0 < length (left f) → Prefills g f old new → new ≡ prefilled_with (left f) old
   prefilled-given gives f old new some h =
       let many : length h.made ≡ old.shares.capacity - length old.values = omega (arith, h.as_many) in
-      h.becomes ∙ ap (λ z. prefilled z old) (made-given gives h.made f h.last h.called ∙ ap (λ z. supplied (length h.made) z) (some-pending (left f) (before f) some) ∙ ap (λ n. supplied n (left f)) many)
+      h.becomes ∙ ap (λ z. prefilled z old)
+      (made-given gives h.made f h.last h.called
+      ∙ ap (λ z. supplied (length h.made) z) (some-pending (left f) (before f) some) ∙ ap (λ n. supplied n (left f)) many)

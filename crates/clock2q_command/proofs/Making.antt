@@ -38,25 +38,32 @@ IsPolicy-usual n some = usual_policy n (usual_small n) some refl
 
 -- shares fit together, or they don't
 policy_cases : (shares : Shares) → IsPolicy shares ⊎ (IsPolicy shares → ⊥)
-policy_cases shares = ⊎_elim (λ below. ⊎_elim (λ longer. inr (λ p. omega (arith, longer, p.within))) (λ short. windowed below short (cases_lt 0 shares.window)) (cases_lt shares.small shares.window)) (λ above. inr (λ p. omega (arith, above, p.below))) (cases_lt shares.small shares.capacity) where
-  small : shares.small < shares.capacity → shares.window ≤ shares.small → shares.window ≤ 0 → (0 < shares.small) ⊎ (shares.small ≤ 0) → IsPolicy shares ⊎ (IsPolicy shares → ⊥)
-  small below short none (inl some) = inr (λ p. let empty_small : shares.small ≡ 0 = p.both.1 (omega (arith, none)) in omega (arith, empty_small, some))
-  small below short none (inr empty_small) = inl (record { below = below; both = ((λ e. omega (arith, none)), (λ e. omega (arith, empty_small))); within = short })
+policy_cases shares =
+    ⊎_elim (λ below.
+    ⊎_elim (λ longer. inr (λ p. omega (arith, longer, p.within))) (λ short. windowed below short (cases_lt 0 shares.window))
+    (cases_lt shares.small shares.window)) (λ above. inr (λ p. omega (arith, above, p.below)))
+    (cases_lt shares.small shares.capacity) where
+      small : shares.small < shares.capacity → shares.window ≤ shares.small → shares.window ≤ 0 → (0 < shares.small) ⊎ (shares.small ≤ 0) → IsPolicy shares ⊎ (IsPolicy shares → ⊥)
+      small below short none (inl some) = inr (λ p. let empty_small : shares.small ≡ 0 = p.both.1 (omega (arith, none)) in omega (arith, empty_small, some))
+      small below short none (inr empty_small) = inl (record { below = below; both = ((λ e. omega (arith, none)), (λ e. omega (arith, empty_small))); within = short })
 
-  windowed : shares.small < shares.capacity → shares.window ≤ shares.small → (0 < shares.window) ⊎ (shares.window ≤ 0) → IsPolicy shares ⊎ (IsPolicy shares → ⊥)
-  windowed below short (inl some) = inl (record { below = below; both = ((λ e. omega (arith, e, some, short)), (λ e. omega (arith, e, some))); within = short })
-  windowed below short (inr none) = small below short none (cases_lt 0 shares.small)
+      windowed : shares.small < shares.capacity → shares.window ≤ shares.small → (0 < shares.window) ⊎ (shares.window ≤ 0) → IsPolicy shares ⊎ (IsPolicy shares → ⊥)
+      windowed below short (inl some) = inl (record { below = below; both = ((λ e. omega (arith, e, some, short)), (λ e. omega (arith, e, some))); within = short })
+      windowed below short (inr none) = small below short none (cases_lt 0 shares.small)
 
 module _ {X K V : Type 0} (machine : X → Machine K V) where
   -- a cache that `new` made or refused
-  pub Makes-usual : (n : ℕ) (r : Result X CacheError) → 0 < n → IfOk r (λ cache. machine cache ≡ empty (usual_shares n)) → IsErrOf r Capacity ↔ (most_keys < n) → r ≢ Err Policy → Makes (usual_shares n) machine r
+  pub Makes-usual : (n : ℕ) (r : Result X CacheError) → 0 < n → IfOk r (λ cache. machine cache ≡ empty (usual_shares n)) →
+      IsErrOf r Capacity ↔ (most_keys < n) → r ≢ Err Policy → Makes (usual_shares n) machine r
   Makes-usual n (Ok cache) some made capacity policy = ((within n _ capacity.1 (λ e. cc), IsPolicy-usual n some), made)
   Makes-usual n (Err Memory) some made capacity policy = (within n _ capacity.1 (λ e. cc), IsPolicy-usual n some)
   Makes-usual n (Err Capacity) some made capacity policy = λ less. let more : most_keys < n = capacity.0 refl in omega (arith, less, more)
   Makes-usual n (Err Policy) some made capacity policy = absurd (policy refl)
 
   -- one that `with_policy` made or refused
-  pub Makes-chosen : (shares : Shares) (r : Result X CacheError) → IfOk r (λ cache. machine cache ≡ empty shares) → IsErrOf r Capacity ↔ (most_keys < shares.capacity) → IsErrOf r Policy ↔ ((shares.capacity ≤ most_keys) × (IsPolicy shares → ⊥)) → Makes shares machine r
+  pub Makes-chosen : (shares : Shares) (r : Result X CacheError) → IfOk r (λ cache. machine cache ≡ empty shares) →
+      IsErrOf r Capacity ↔ (most_keys < shares.capacity) → IsErrOf r Policy ↔
+      ((shares.capacity ≤ most_keys) × (IsPolicy shares → ⊥)) → Makes shares machine r
   Makes-chosen shares (Ok cache) made capacity policy =
       let few : shares.capacity < suc most_keys = within shares.capacity _ capacity.1 (λ e. cc) in
       ((few, ⊎_elim (λ p. p) (λ no_policy. absurd (no (policy.1 (omega (arith, few), no_policy)))) (policy_cases shares)), made) where

@@ -35,13 +35,29 @@ where
     S: BuildHasher,
     A: Allocator,
     requires prefills { AreSupplied (map call_of commands.items) }
-    ensures replies { IfOk result (λ replies. map answer_of replies.items ≡ answers K.eq (map call_of commands.items) cache.old.machine) }
-    ensures machine { OnOk result (cache.new.machine ≡ after_all K.eq (map call_of commands.items) cache.old.machine) }
-    ensures inspections { OnOk result (cache.new.counts.inspections ≡ cache.old.counts.inspections + summed K.eq (inspections_of K.eq) (map call_of commands.items) cache.old.machine) }
-    ensures accesses { OnOk result (cache.new.counts.accesses ≤ cache.old.counts.accesses + summed K.eq (most_accesses K.eq) (map call_of commands.items) cache.old.machine) }
-    ensures costs { OnOk result (RunsAtCost K.Hash S.BuildHasher S.Hasher.Hasher (map call_of commands.items) cache.old cache.new) }
+    ensures replies { IfOk result
+        (λ replies. map answer_of replies.items ≡
+        answers K.eq (map call_of commands.items) cache.old.machine) }
+    ensures machine { OnOk result
+        (cache.new.machine ≡ after_all K.eq (map call_of commands.items) cache.old.machine) }
+    ensures inspections { OnOk result
+        (cache.new.counts.inspections ≡
+        cache.old.counts.inspections +
+        summed K.eq (inspections_of K.eq) (map call_of commands.items) cache.old.machine) }
+    ensures accesses { OnOk result
+        (cache.new.counts.accesses ≤
+        cache.old.counts.accesses +
+        summed K.eq (most_accesses K.eq) (map call_of commands.items) cache.old.machine) }
+    ensures costs { OnOk result
+        (RunsAtCost K.Hash S.BuildHasher S.Hasher.Hasher
+        (map call_of commands.items) cache.old cache.new) }
     ensures hasher { cache.new.hasher ≡ cache.old.hasher }
-    ensures clock { OnOk result (cache.new.counts.inspections + set_bits cache.new.machine ≤ cache.old.counts.inspections + (summed K.eq (main_victims K.eq) (map call_of commands.items) cache.old.machine + summed K.eq (settings K.eq) (map call_of commands.items) cache.old.machine + set_bits cache.old.machine)) }
+    ensures clock { OnOk result
+        (cache.new.counts.inspections + set_bits cache.new.machine ≤
+        cache.old.counts.inspections +
+        (summed K.eq (main_victims K.eq) (map call_of commands.items) cache.old.machine +
+        summed K.eq (settings K.eq) (map call_of commands.items) cache.old.machine +
+        set_bits cache.old.machine)) }
     ensures memory { IfErr result (λ e. e ≡ CacheError.Memory) }
     ensures unchanged { OnErr result (cache.new ≡ cache.old) }
 {
@@ -63,7 +79,8 @@ where
     ensures reply { answer_of result ≡ answer K.eq (call_of command) cache.old.machine }
     ensures machine { cache.new.machine ≡ after K.eq (call_of command) cache.old.machine }
     ensures hasher { cache.new.hasher ≡ cache.old.hasher }
-    ensures costs { Costs K.Hash S.BuildHasher S.Hasher.Hasher (call_of command) cache.old cache.new }
+    ensures costs { Costs K.Hash S.BuildHasher S.Hasher.Hasher
+        (call_of command) cache.old cache.new }
     ensures indexed { IsIndexed K.Hash S.BuildHasher S.Hasher.Hasher cache.old }
     ensures spacious { IsSpacious cache.old }
 {
@@ -110,7 +127,8 @@ where
     ensures value { result ≡ value_of (K.eq key.now) cache.old.machine }
     ensures machine { cache.new.machine ≡ replaced (K.eq key.now) value cache.old.machine }
     ensures hasher { cache.new.hasher ≡ cache.old.hasher }
-    ensures costs { Costs K.Hash S.BuildHasher S.Hasher.Hasher (Set key.now value) cache.old cache.new }
+    ensures costs { Costs K.Hash S.BuildHasher S.Hasher.Hasher
+        (Set key.now value) cache.old cache.new }
 {
     let held = cache.get_mut(key)?;
     let before = *held;
@@ -128,7 +146,8 @@ where
     ensures value { result ≡ fetched_value (value_of (K.eq key) cache.old.machine) value }
     ensures machine { cache.new.machine ≡ fetched (K.eq key) key value cache.old.machine }
     ensures hasher { cache.new.hasher ≡ cache.old.hasher }
-    ensures costs { Costs K.Hash S.BuildHasher S.Hasher.Hasher (With key value) cache.old cache.new }
+    ensures costs { Costs K.Hash S.BuildHasher S.Hasher.Hasher
+        (With key value) cache.old cache.new }
 {
     *cache.get_or_insert_with(key, || value)
 }
@@ -143,7 +162,8 @@ where
     ensures value { result ≡ tried_value (value_of (K.eq key) cache.old.machine) offered }
     ensures machine { cache.new.machine ≡ tried (K.eq key) key offered cache.old.machine }
     ensures hasher { cache.new.hasher ≡ cache.old.hasher }
-    ensures costs { Costs K.Hash S.BuildHasher S.Hasher.Hasher (Try key offered) cache.old cache.new }
+    ensures costs { Costs K.Hash S.BuildHasher S.Hasher.Hasher
+        (Try key offered) cache.old cache.new }
 {
     match cache.try_get_or_insert_with_mut(key, || offered.ok_or(())) {
         Ok(value) => Some(*value),
@@ -159,11 +179,13 @@ where
     V: Copy,
     S: BuildHasher,
     A: Allocator,
-    ensures slot { result.0 ≡ slotted_at (slot_of (K.eq key) cache.old.machine) (K.eq key) key cache.old.machine }
+    ensures slot { result.0 ≡
+        slotted_at (slot_of (K.eq key) cache.old.machine) (K.eq key) key cache.old.machine }
     ensures value { result.1 ≡ fetched_value (slice_get cache.old.machine.values result.0) value }
     ensures machine { cache.new.machine ≡ slotted (K.eq key) key value cache.old.machine }
     ensures hasher { cache.new.hasher ≡ cache.old.hasher }
-    ensures costs { Costs K.Hash S.BuildHasher S.Hasher.Hasher (SlotFor key value) cache.old cache.new }
+    ensures costs { Costs K.Hash S.BuildHasher S.Hasher.Hasher
+        (SlotFor key value) cache.old cache.new }
 {
     let (slot, found) = cache.get_or_insert_mut(key, || value);
     (slot, *found)
@@ -177,7 +199,8 @@ where
     A: Allocator,
     ensures machine { cache.new.machine ≡ retained bits.now cache.old.machine }
     ensures hasher { cache.new.hasher ≡ cache.old.hasher }
-    ensures costs { Costs K.Hash S.BuildHasher S.Hasher.Hasher (Retain bits.now) cache.old cache.new }
+    ensures costs { Costs K.Hash S.BuildHasher S.Hasher.Hasher
+        (Retain bits.now) cache.old cache.new }
 {
     let mut rest = bits;
     cache.retain(
@@ -206,7 +229,8 @@ where
     requires some { 0 < length values.now }
     ensures machine { cache.new.machine ≡ prefilled_with values.now cache.old.machine }
     ensures hasher { cache.new.hasher ≡ cache.old.hasher }
-    ensures costs { Costs K.Hash S.BuildHasher S.Hasher.Hasher (Prefill values.now) cache.old cache.new }
+    ensures costs { Costs K.Hash S.BuildHasher S.Hasher.Hasher
+        (Prefill values.now) cache.old cache.new }
 {
     let mut rest = values;
     let mut last = values[0];

@@ -68,7 +68,9 @@ fn reply_with<'a, S: BuildHasher, A: Allocator>(
     commands: Vec<Command<u64, u64, &'a A>, &'a A>,
 ) -> Result<Vec<u8, &'a A>, ServeError>
     requires { AreSupplied (map call_of commands.items) }
-    ensures text { IfOk result (λ text. text.items ≡ output_of (answers nat_eq (map call_of commands.entry.items) cache.old.machine)) }
+    ensures text { IfOk result
+        (λ text. text.items ≡
+        output_of (answers nat_eq (map call_of commands.entry.items) cache.old.machine)) }
     ensures memory { IfErr result (λ e. e ≡ ServeError.Memory) }
 {
     let Ok(replies) = run(alloc, cache, commands) else {
@@ -140,7 +142,8 @@ pub fn serve<R: Source, W: Sink, A: Allocator>(
         ↔ ((W.taken writer.old).failures < (W.taken writer.new).failures) }
 
     // Nothing is written before any other refusal.
-    ensures unwritten { IfErr result (λ refusal. (refusal ≢ ServeError.Write) → writer.new ≡ writer.old) }
+    ensures unwritten { IfErr result
+        (λ refusal. (refusal ≢ ServeError.Write) → writer.new ≡ writer.old) }
 {
     serve_with(alloc, reader, writer, DefaultHashBuilder::new())
 }
@@ -171,7 +174,8 @@ pub fn serve_with<R: Source, W: Sink, S: BuildHasher + Drop, A: Allocator>(
         ↔ ((R.given reader.old).failures < (R.given reader.new).failures) }
     ensures write { IsErrOf result ServeError.Write
         ↔ ((W.taken writer.old).failures < (W.taken writer.new).failures) }
-    ensures unwritten { IfErr result (λ refusal. (refusal ≢ ServeError.Write) → writer.new ≡ writer.old) }
+    ensures unwritten { IfErr result
+        (λ refusal. (refusal ≢ ServeError.Write) → writer.new ≡ writer.old) }
 {
     let text = answer(&alloc, reader, hasher)?;
     match send(writer, &text) {

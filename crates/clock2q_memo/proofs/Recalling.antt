@@ -7,7 +7,8 @@ use Rattle.clock2q_memo.specs.Memo.{recalled, evaluations_of, evaluations_for}
 
 module _ {K V : Type 0} (eq : K → K → Bool) where
   -- looking up the rest after a first lookup leaves what looking up all leaves
-  pub recalled-step : (keys rest all : List K) (key : K) (value : V) (m n start : Machine K V) (values pushed : List V) → keys ≡ key ∷ rest → n ≡ fetched (eq key) key value m → pushed ≡ values ++ value ∷ []
+  pub recalled-step : (keys rest all : List K) (key : K) (value : V) (m n start : Machine K V) (values pushed : List V) →
+      keys ≡ key ∷ rest → n ≡ fetched (eq key) key value m → pushed ≡ values ++ value ∷ []
       → ((more : List V) → recalled eq keys more m ≡ recalled eq all (values ++ more) start)
       → (more : List V) → recalled eq rest more n ≡ recalled eq all (pushed ++ more) start
   recalled-step keys rest all key value m n start values pushed left is push so more =
@@ -17,7 +18,8 @@ module _ {K V : Type 0} (eq : K → K → Bool) where
       ∙ ap (λ v. recalled eq all v start) (sym (ap (λ v. v ++ more) push ∙ append_assoc values (value ∷ []) more))
 
   -- the calls of a first lookup and of the rest are those of all lookups
-  pub evaluations-step : (keys rest all : List K) (key : K) (value : V) (m n start : Machine K V) (values pushed : List V) (before after first : ℕ) → keys ≡ key ∷ rest → n ≡ fetched (eq key) key value m → pushed ≡ values ++ value ∷ []
+  pub evaluations-step : (keys rest all : List K) (key : K) (value : V) (m n start : Machine K V) (values pushed : List V)
+      (before after first : ℕ) → keys ≡ key ∷ rest → n ≡ fetched (eq key) key value m → pushed ≡ values ++ value ∷ []
       → after ≡ before + evaluations_for eq key m
       → ((more : List V) → before + evaluations_of eq keys more m ≡ first + evaluations_of eq all (values ++ more) start)
       → (more : List V) → after + evaluations_of eq rest more n ≡ first + evaluations_of eq all (pushed ++ more) start

@@ -69,9 +69,13 @@ where
     ///
     /// That of [`Cache::new`](clock2q_cache::Cache::new). The function isn't called.
     pub fn new(alloc: A, capacity: NonZeroUsize, function: F) -> Result<Self, CacheError>
-        ensures remembers { IfOk result (λ memo. Remembers K.eq (FnReturnsAt F.Fn memo.function) memo.machine) }
-        ensures made { IfOk result (λ memo. memo ≡ memo_state (empty (usual_shares (non_zero_usize_get capacity))) function 0) }
-        ensures capacity { IsErrOf result CacheError.Capacity ↔ (MAX_CAPACITY < non_zero_usize_get capacity) }
+        ensures remembers { IfOk result
+            (λ memo. Remembers K.eq (FnReturnsAt F.Fn memo.function) memo.machine) }
+        ensures made { IfOk result
+            (λ memo. memo ≡
+            memo_state (empty (usual_shares (non_zero_usize_get capacity))) function 0) }
+        ensures capacity { IsErrOf result CacheError.Capacity ↔
+            (MAX_CAPACITY < non_zero_usize_get capacity) }
         ensures policy { result ≢ Err CacheError.Policy }
     {
         Memo::with_hasher(alloc, capacity, BuildHasherDefault::new(), function)
@@ -108,9 +112,13 @@ where
         hasher: S,
         function: F,
     ) -> Result<Self, CacheError>
-        ensures remembers { IfOk result (λ memo. Remembers K.eq (FnReturnsAt F.Fn memo.function) memo.machine) }
-        ensures made { IfOk result (λ memo. memo ≡ memo_state (empty (usual_shares (non_zero_usize_get capacity))) function 0) }
-        ensures capacity { IsErrOf result CacheError.Capacity ↔ (MAX_CAPACITY < non_zero_usize_get capacity) }
+        ensures remembers { IfOk result
+            (λ memo. Remembers K.eq (FnReturnsAt F.Fn memo.function) memo.machine) }
+        ensures made { IfOk result
+            (λ memo. memo ≡
+            memo_state (empty (usual_shares (non_zero_usize_get capacity))) function 0) }
+        ensures capacity { IsErrOf result CacheError.Capacity ↔
+            (MAX_CAPACITY < non_zero_usize_get capacity) }
         ensures policy { result ≢ Err CacheError.Policy }
     {
         let cache = Cache::with_hasher(alloc, capacity, hasher)?;
@@ -183,12 +191,16 @@ where
     /// also that of the function, and that of [`Cache::put`](clock2q_cache::Cache::put), which
     /// hashes the key again.
     pub fn get(&mut self, key: K) -> V
-        requires callable { slot_of (K.eq key) self.old.machine ≡ None → IsCallableAt F.Fn self.old.function key }
-        ensures value { IsValueAt K.eq (FnReturnsAt F.Fn self.old.function) self.old.machine key result }
-        ensures remembers { Remembers K.eq (FnReturnsAt F.Fn self.old.function) self.old.machine → Remembers K.eq (FnReturnsAt F.Fn self.new.function) self.new.machine }
+        requires callable { slot_of (K.eq key) self.old.machine ≡ None →
+            IsCallableAt F.Fn self.old.function key }
+        ensures value { IsValueAt K.eq
+            (FnReturnsAt F.Fn self.old.function) self.old.machine key result }
+        ensures remembers { Remembers K.eq (FnReturnsAt F.Fn self.old.function) self.old.machine →
+            Remembers K.eq (FnReturnsAt F.Fn self.new.function) self.new.machine }
         ensures machine { self.new.machine ≡ looked_up K.eq key result self.old.machine }
         ensures resident { value_of (K.eq key) self.new.machine ≡ Some result }
-        ensures evaluations { self.new.evaluations ≡ self.old.evaluations + evaluations_for K.eq key self.old.machine }
+        ensures evaluations { self.new.evaluations ≡
+            self.old.evaluations + evaluations_for K.eq key self.old.machine }
         ensures function { self.new.function ≡ self.old.function }
     {
         match self.cache.peek(&key) {
@@ -204,12 +216,16 @@ where
     ///
     /// That of [`get`](Memo::get). A hit sets one bit.
     pub fn get_recorded(&mut self, key: K) -> V
-        requires callable { slot_of (K.eq key) self.old.machine ≡ None → IsCallableAt F.Fn self.old.function key }
-        ensures value { IsValueAt K.eq (FnReturnsAt F.Fn self.old.function) self.old.machine key result }
-        ensures remembers { Remembers K.eq (FnReturnsAt F.Fn self.old.function) self.old.machine → Remembers K.eq (FnReturnsAt F.Fn self.new.function) self.new.machine }
+        requires callable { slot_of (K.eq key) self.old.machine ≡ None →
+            IsCallableAt F.Fn self.old.function key }
+        ensures value { IsValueAt K.eq
+            (FnReturnsAt F.Fn self.old.function) self.old.machine key result }
+        ensures remembers { Remembers K.eq (FnReturnsAt F.Fn self.old.function) self.old.machine →
+            Remembers K.eq (FnReturnsAt F.Fn self.new.function) self.new.machine }
         ensures machine { self.new.machine ≡ fetched (K.eq key) key result self.old.machine }
         ensures resident { value_of (K.eq key) self.new.machine ≡ Some result }
-        ensures evaluations { self.new.evaluations ≡ self.old.evaluations + evaluations_for K.eq key self.old.machine }
+        ensures evaluations { self.new.evaluations ≡
+            self.old.evaluations + evaluations_for K.eq key self.old.machine }
         ensures function { self.new.function ≡ self.old.function }
     {
         match self.cache.get(&key) {
@@ -223,7 +239,8 @@ where
         requires callable { IsCallableAt F.Fn self.old.function key }
         requires absent { slot_of (K.eq key) self.old.machine ≡ None }
         ensures value { FnReturnsAt F.Fn self.old.function key result }
-        ensures remembers { Remembers K.eq (FnReturnsAt F.Fn self.old.function) self.old.machine → Remembers K.eq (FnReturnsAt F.Fn self.new.function) self.new.machine }
+        ensures remembers { Remembers K.eq (FnReturnsAt F.Fn self.old.function) self.old.machine →
+            Remembers K.eq (FnReturnsAt F.Fn self.new.function) self.new.machine }
         ensures machine { self.new.machine ≡ inserted (K.eq key) key result self.old.machine }
         ensures resident { value_of (K.eq key) self.new.machine ≡ Some result }
         ensures evaluations { self.new.evaluations ≡ self.old.evaluations + 1 }
@@ -296,10 +313,17 @@ where
     S: BuildHasher,
     A: Allocator,
     requires callable { IsCallableAtEach F.Fn memo.old.function keys.items }
-    ensures values { Remembers K.eq (FnReturnsAt F.Fn memo.old.function) memo.old.machine → IfOk result (λ values. (value : K → V) → Computes K.eq (FnReturnsAt F.Fn memo.old.function) value → values.items ≡ map value keys.items) }
-    ensures remembers { Remembers K.eq (FnReturnsAt F.Fn memo.old.function) memo.old.machine → Remembers K.eq (FnReturnsAt F.Fn memo.new.function) memo.new.machine }
-    ensures machine { IfOk result (λ values. memo.new.machine ≡ recalled K.eq keys.items values.items memo.old.machine) }
-    ensures evaluations { IfOk result (λ values. memo.new.evaluations ≡ memo.old.evaluations + evaluations_of K.eq keys.items values.items memo.old.machine) }
+    ensures values { Remembers K.eq (FnReturnsAt F.Fn memo.old.function) memo.old.machine →
+        IfOk result (λ values. (value : K → V) →
+        Computes K.eq (FnReturnsAt F.Fn memo.old.function) value →
+        values.items ≡ map value keys.items) }
+    ensures remembers { Remembers K.eq (FnReturnsAt F.Fn memo.old.function) memo.old.machine →
+        Remembers K.eq (FnReturnsAt F.Fn memo.new.function) memo.new.machine }
+    ensures machine { IfOk result
+        (λ values. memo.new.machine ≡ recalled K.eq keys.items values.items memo.old.machine) }
+    ensures evaluations { IfOk result
+        (λ values. memo.new.evaluations ≡
+        memo.old.evaluations + evaluations_of K.eq keys.items values.items memo.old.machine) }
     ensures function { memo.new.function ≡ memo.old.function }
     ensures unchanged { OnErr result (memo.new ≡ memo.old) }
 {

@@ -45,7 +45,9 @@ module _ (m : Machine ℕ (Option ℕ)) (h : IsWhole eqb m) (page : ℕ) (value 
   -- the page is in the frame that is returned
   pub page_there : resident_frame now page ≡ Some frame
   page_there = by_slot (slot_of (eqb page) m) refl where
-    by_slot : (o : Option ℕ) → slot_of (eqb page) m ≡ o → slot_of (eqb page) (if is_some o then replaced_at (eqb page) value o m else inserted (eqb page) page value m) ≡ Some (slotted_at o (eqb page) page m)
+    by_slot : (o : Option ℕ) → slot_of (eqb page) m ≡ o →
+        slot_of (eqb page) (if is_some o then replaced_at (eqb page) value o m else inserted (eqb page) page value m) ≡
+        Some (slotted_at o (eqb page) page m)
     by_slot None absent = entered_there eqb nat_eq_equiv m h page absent value false (lasting-inserted eqb nat_eq_equiv page m h absent value)
     by_slot (Some slot) found = same_slots eqb (replaced_at (eqb page) value (Some slot) m) m h (λ w. weight-replaced w (eqb page) value (Some slot) m) page ∙ found
 

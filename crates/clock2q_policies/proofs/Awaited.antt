@@ -60,7 +60,8 @@ module _ (trace : List ℕ) where
   used_without at key (first ∷ held) differ is = elim (cases_Bool (first == key)) [
     | inl same ↦
         let absent : is_in key held ≡ false = ap (λ k. is_in k held) (sym (eqb-true first key same)) ∙ differ.0 in
-        rw same (ap {B = ℕ} (λ k. one_if_used at k + used_from trace at held) (eqb-true first key same) ∙ ap (λ keys. one_if_used at key + used_from trace at keys) (sym (without-absent key held absent)))
+        rw same (ap {B = ℕ} (λ k. one_if_used at k + used_from trace at held) (eqb-true first key same)
+        ∙ ap (λ keys. one_if_used at key + used_from trace at keys) (sym (without-absent key held absent)))
     | inr apart ↦ rw apart (omega (arith, used_without at key held differ.1 (rw apart at is)))
   ]
 

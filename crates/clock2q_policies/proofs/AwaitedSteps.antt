@@ -34,7 +34,9 @@ module _ (trace soonest next : List ℕ) (keys last : ℕ) (within : last < leng
   next_step found read index from inside = elim (cases_eq index last) [
     | inl same ↦
         let new : get_or (set next last found) last 0 ≡ found = get_or-set_same next last found 0 (omega (arith, within, longer)) in
-        let its : found ≡ use_from trace (suc last) (get_or trace last 0) = read ∙ get_or_default soonest (get_or trace last 0) found 0 (omega (arith, below, long)) ∙ are (get_or trace last 0) below in
+        let its : found ≡ use_from trace (suc last) (get_or trace last 0) =
+        read ∙ get_or_default soonest (get_or trace last 0) found 0 (omega (arith, below, long))
+        ∙ are (get_or trace last 0) below in
         ap (λ k. get_or (set next last found) k 0) same ∙ new ∙ its ∙ ap (λ k. use_from trace (suc k) (get_or trace k 0)) (sym same)
     | inr other ↦ get_or-set_other next last index found 0 other ∙ are_next index (omega (arith, other, from)) inside
   ]
@@ -145,7 +147,8 @@ module _ (capacity : ℕ) (some : 0 < capacity) (trace : List ℕ) where
     pub joined : (next : ℕ) (more : ℕ → Bool) → next ≡ use_from trace (suc at) (get_or trace at 0) → next < length trace → more next ≡ true → ((index : ℕ) → index ≢ next → more index ≡ waits index)
         → IsWaiting trace (suc at) (best (suc at)) more (count + 1)
     joined next more e again new others =
-        joined_one trace (suc at) (get_or trace at 0) (best (suc at)) waits more count rest (best_differ (suc at)) comes (omega (arith, e, again)) (ap more (sym e) ∙ new) (λ index apart. others index (λ same. apart (same ∙ e)))
+        joined_one trace (suc at) (get_or trace at 0) (best (suc at)) waits more count rest (best_differ (suc at)) comes
+        (omega (arith, e, again)) (ap more (sym e) ∙ new) (λ index apart. others index (λ same. apart (same ∙ e)))
 
     pub not_joined : (next : ℕ) → next ≡ use_from trace (suc at) (get_or trace at 0) → length trace ≤ next → IsWaiting trace (suc at) (best (suc at)) waits count
     not_joined next e past = joined_unused trace (suc at) (get_or trace at 0) (best (suc at)) waits count rest (best_differ (suc at)) comes (omega (arith, e, past))
@@ -154,11 +157,14 @@ module _ (capacity : ℕ) (some : 0 < capacity) (trace : List ℕ) where
 pub hits_on : (capacity : ℕ) (trace : List ℕ) (at before now total : ℕ) → at < length trace → before + optimal_hits_from capacity (drop at trace) (optimal_at capacity trace at) ≡ total
     → now ≡ before + (if is_in (get_or trace at 0) (optimal_at capacity trace at) then 1 else 0) → now + optimal_hits_from capacity (drop (suc at) trace) (optimal_at capacity trace (suc at)) ≡ total
 hits_on capacity trace at before now total within told more =
-    let rest : optimal_hits_from capacity (drop at trace) (optimal_at capacity trace at) ≡ (if is_in (get_or trace at 0) (optimal_at capacity trace at) then 1 else 0) + optimal_hits_from capacity (drop (suc at) trace) (optimal_at capacity trace (suc at)) =
+    let rest : optimal_hits_from capacity (drop at trace) (optimal_at capacity trace at) ≡
+    (if is_in (get_or trace at 0) (optimal_at capacity trace at) then 1 else 0) + optimal_hits_from capacity
+    (drop (suc at) trace) (optimal_at capacity trace (suc at)) =
     ap (λ keys. optimal_hits_from capacity keys (optimal_at capacity trace at)) (drop-cons trace at 0 within) in
     omega (arith, rest, told, more)
 
-pub outcomes_on : (capacity : ℕ) (trace : List ℕ) (at : ℕ) (before now total : List Bool) → at < length trace → before ++ optimal_outcomes_from capacity (drop at trace) (optimal_at capacity trace at) ≡ total
+pub outcomes_on : (capacity : ℕ) (trace : List ℕ) (at : ℕ) (before now total : List Bool) → at < length trace →
+    before ++ optimal_outcomes_from capacity (drop at trace) (optimal_at capacity trace at) ≡ total
     → now ≡ before ++ is_in (get_or trace at 0) (optimal_at capacity trace at) ∷ [] → now ++ optimal_outcomes_from capacity (drop (suc at) trace) (optimal_at capacity trace (suc at)) ≡ total
 outcomes_on capacity trace at before now total within told more =
     let key : ℕ = get_or trace at 0 in

@@ -23,13 +23,20 @@ sum-counted counts distance n within =
     elim (cases_lt distance n) [
       | inl below ↦
           let one : ◌≡◌ {A = ℕ} (cond (ltb distance n) 1 0) 1 = rw (lt-ltb distance n below) refl in
-          omega (arith, one, sum_more (λ n. get_or counts n 0) (λ n. get_or more n 0) distance 0 n (omega arith) (omega (arith, below)) (get_or-set_same counts distance (get_or counts distance 0 + 1) 0 within) others)
+          omega (
+            arith,
+            one,
+            sum_more (λ n. get_or counts n 0) (λ n. get_or more n 0) distance 0 n (omega arith) (omega (arith, below))
+                (get_or-set_same counts distance (get_or counts distance 0 + 1) 0 within) others,
+          )
       | inr above ↦
           let none : ◌≡◌ {A = ℕ} (cond (ltb distance n) 1 0) 0 = rw (le-ltb distance n above) refl in
           omega (arith, none, sum_same (λ n. get_or more n 0) (λ n. get_or counts n 0) 0 n (λ i from to. others i (λ is. omega (arith, is, to, above))))
     ]
 
-pub sum-counted-read : (counts : List ℕ) (distance n count : ℕ) → distance < length counts → count ≡ get_or counts distance count → sum_to (set counts distance (count + 1)) n ≡ sum_to counts n + cond (ltb distance n) 1 0
+pub sum-counted-read : (counts : List ℕ) (distance n count : ℕ) → distance < length counts →
+    count ≡ get_or counts distance count →
+    sum_to (set counts distance (count + 1)) n ≡ sum_to counts n + cond (ltb distance n) 1 0
 sum-counted-read counts distance n count within read =
     let same : get_or counts distance 0 ≡ count = get_or_default counts distance 0 count within ∙ sym read in
     subst (λ m. sum_to (set counts distance (m + 1)) n ≡ sum_to counts n + cond (ltb distance n) 1 0) same (sum-counted counts distance n within)
@@ -79,17 +86,23 @@ pub hits-further : (trace recent after : List ℕ) (at capacity before now total
 hits-further trace recent after at capacity before now total distance within some apart is came_in_front told more =
     let hit : is_below capacity distance ≡ is_in (get_or trace at 0) (take capacity recent) = ap (is_below capacity) is ∙ sym (near capacity (get_or trace at 0) recent) in
     let count : now ≡ before + cond (is_in (get_or trace at 0) (take capacity recent)) 1 0 = more ∙ ap (λ b. before + cond b 1 0) hit in
-    let held : plain_after LeastRecentlyUsed capacity (get_or trace at 0) (take capacity recent) ≡ take capacity after = lru_holds_recent capacity (get_or trace at 0) recent some apart ∙ sym (ap (take capacity) came_in_front) in
-    subst (λ held. now + hits is_in (plain_after LeastRecentlyUsed capacity) (drop (at + 1) trace) held ≡ total) held (counted is_in (plain_after LeastRecentlyUsed capacity) trace at before now total (take capacity recent) within told count)
+    let held : plain_after LeastRecentlyUsed capacity (get_or trace at 0) (take capacity recent) ≡ take capacity after =
+    lru_holds_recent capacity (get_or trace at 0) recent some apart ∙ sym (ap (take capacity) came_in_front) in
+    subst (λ held. now + hits is_in (plain_after LeastRecentlyUsed capacity) (drop (at + 1) trace) held ≡ total) held
+    (counted is_in (plain_after LeastRecentlyUsed capacity) trace at before now total
+    (take capacity recent) within told count)
 
 -- before the trace no access is counted
 pub nothing-counted : (counts : List ℕ) → counts ≡ [] → (n : ℕ) → sum_to counts n ≡ 0
 nothing-counted counts none n = sum_none (λ n. get_or counts n 0) 0 n (λ i from to. ap (λ l. get_or l i 0) none)
 
-pub hits-at-first : (trace counts : List ℕ) → counts ≡ [] → (capacity : ℕ) → sum_to counts capacity + hits is_in (plain_after LeastRecentlyUsed capacity) trace (take capacity []) ≡ plain_hits LeastRecentlyUsed capacity trace
+pub hits-at-first : (trace counts : List ℕ) → counts ≡ [] → (capacity : ℕ) →
+    sum_to counts capacity + hits is_in (plain_after LeastRecentlyUsed capacity) trace (take capacity []) ≡
+    plain_hits LeastRecentlyUsed capacity trace
 hits-at-first trace counts none capacity = omega (arith, nothing-counted counts none capacity, ap (hits is_in (plain_after LeastRecentlyUsed capacity) trace) (none-taken capacity))
 
 -- one more of a list's values, in order
-pub map-further : {X : Type 0} (f : X → ℕ) (xs : List X) (values more : List ℕ) (i : ℕ) (x : X) → i < length xs → x ≡ get_or xs i x → values ≡ map f (take i xs) → more ≡ values ++ f x ∷ [] → more ≡ map f (take (i + 1) xs)
+pub map-further : {X : Type 0} (f : X → ℕ) (xs : List X) (values more : List ℕ) (i : ℕ) (x : X) → i < length xs →
+    x ≡ get_or xs i x → values ≡ map f (take i xs) → more ≡ values ++ f x ∷ [] → more ≡ map f (take (i + 1) xs)
 map-further f xs values more i x within read are pushed =
     pushed ∙ ap (λ values. values ++ f x ∷ []) are ∙ ap (λ y. map f (take i xs) ++ f y ∷ []) read ∙ sym (map-append f (take i xs) (get_or xs i x ∷ [])) ∙ sym (ap (map f) (take_more xs i x within))

@@ -58,7 +58,9 @@ module _ {A : Type 0} (capacity : ℕ) (trace : List ℕ) (at : ℕ) (old : Resi
     -- and if the oldest is evicted
     module _ (left : ℕ) (begun : left ≤ at) (full : old.count ≡ capacity) (some : 0 < capacity) (oldest : held_at trace old.stamps.items left at ≡ take (length held - 1) held) where
       list-full : held_at trace stamps left (at + 1) ≡ key ∷ take (length held - 1) held
-      list-full = front left begun ∙ ap (λ rest. key ∷ without key rest) oldest ∙ ap (λ rest. key ∷ rest) (without-absent key (take (length held - 1) held) (absent-taken key (length held - 1) held absent))
+      list-full = front left begun ∙ ap (λ rest. key ∷ without key rest) oldest
+          ∙ ap (λ rest. key ∷ rest)
+          (without-absent key (take (length held - 1) held) (absent-taken key (length held - 1) held absent))
 
       pub came-full : held_at trace stamps left (at + 1) ≡ brought capacity key held
       came-full = list-full ∙ sym (brought-full capacity key held some (omega (arith, full, holding.counted)))
@@ -81,12 +83,15 @@ module _ {A : Type 0} (capacity : ℕ) (trace : List ℕ) (at : ℕ) (old : Resi
 
     pub holds-moved : new.left ≡ old.left → new.count ≡ old.count → is_in key held ≡ true → IsHolding capacity trace (at + 1) new
     holds-moved left count is =
-        holds (omega (arith, left, holding.begun)) (count ∙ holding.counted ∙ sym (once trace old.stamps.items old.left key at holding.stamped is) ∙ ap length (sym (list old.left left ∙ moved))) (omega (arith, count, holding.room))
+        holds (omega (arith, left, holding.begun))
+        (count ∙ holding.counted ∙ sym (once trace old.stamps.items old.left key at holding.stamped is)
+        ∙ ap length (sym (list old.left left ∙ moved))) (omega (arith, count, holding.room))
 
     pub holds-room : new.left ≡ old.left → new.count ≡ old.count + 1 → is_in key held ≡ false → old.count < capacity → IsHolding capacity trace (at + 1) new
     holds-room left count absent room =
         holds (omega (arith, left, holding.begun)) (omega (arith, count, holding.counted, ap length (list old.left left ∙ came absent))) (omega (arith, count, room))
 
-    pub holds-full : new.left ≤ at → new.count ≡ old.count → is_in key held ≡ false → old.count ≡ capacity → 0 < capacity → held_at trace old.stamps.items new.left at ≡ take (length held - 1) held → IsHolding capacity trace (at + 1) new
+    pub holds-full : new.left ≤ at → new.count ≡ old.count → is_in key held ≡ false → old.count ≡ capacity → 0 < capacity →
+        held_at trace old.stamps.items new.left at ≡ take (length held - 1) held → IsHolding capacity trace (at + 1) new
     holds-full begun count absent full some oldest =
         holds begun (omega (arith, count, full, ap length (list new.left refl), long-full absent new.left begun full some oldest)) (omega (arith, count, full))

@@ -30,7 +30,9 @@ module _ (trace stamps : List ℕ) where
       let next : left + suc n ≡ suc (left + n) = omega arith in
       let later : ltb left (suc (left + n)) ≡ true = lt-ltb left (suc (left + n)) (omega arith) in
       let rest = held-sum left n in
-      ap (λ at. length (held_at trace stamps left at)) next ∙ elim (cases_Bool (eqb (stamp_of (key_at (left + n))) (suc (left + n)))) as (λ w. length (held_at trace stamps left (suc (left + n))) ≡ sum_in (newest trace stamps) left (suc n)) [
+      ap (λ at. length (held_at trace stamps left at)) next
+      ∙ elim (cases_Bool (eqb (stamp_of (key_at (left + n))) (suc (left + n)))) as
+      (λ w. length (held_at trace stamps left (suc (left + n))) ≡ sum_in (newest trace stamps) left (suc n)) [
         | inl is ↦ rw (is, later) (omega (arith, rest))
         | inr old ↦ rw old (omega (arith, rest))
       ]
@@ -44,7 +46,9 @@ module _ (trace stamps : List ℕ) where
   held-so-far from at n are begun past =
       let parts : n ≡ (at - from) + (from + n - at) = omega (arith, begun, past) in
       let now : from + (at - from) ≡ at = omega (arith, begun) in
-      let none : sum_in (newest trace stamps) (from + (at - from)) (from + n - at) ≡ 0 = sum_none (newest trace stamps) (from + (at - from)) (from + n - at) (λ i after before. none-later at i are (omega (arith, after, now))) in
+      let none : sum_in (newest trace stamps) (from + (at - from)) (from + n - at) ≡ 0 =
+      sum_none (newest trace stamps) (from + (at - from)) (from + n - at)
+      (λ i after before. none-later at i are (omega (arith, after, now))) in
       omega (
         arith,
         ap (sum_in (newest trace stamps) from) parts,
@@ -87,15 +91,25 @@ module _ (trace stamps : List ℕ) where
   distance-held key at are came =
       let last : stamp_of key ≡ suc (stamp_of key - 1) = omega (arith, came) in
       let own : key_at (stamp_of key - 1) ≡ key = are.own key (stamp_of key - 1) last in
-      let newer : held_at trace stamps (stamp_of key - 1) at ≡ held_at trace stamps (suc (stamp_of key - 1)) at ++ key_at (stamp_of key - 1) ∷ [] = held-oldest trace stamps (stamp_of key - 1) at (ap stamp_of own ∙ last) (omega (arith, came, are.bound key)) in
+      let newer : held_at trace stamps (stamp_of key - 1) at ≡
+      held_at trace stamps (suc (stamp_of key - 1)) at ++ key_at (stamp_of key - 1) ∷ [] =
+      held-oldest trace stamps (stamp_of key - 1) at (ap stamp_of own ∙ last) (omega (arith, came, are.bound key)) in
       let older = held-more (stamp_of key - 1) 0 at (omega arith) (omega (arith, are.bound key)) in
-      let absent : is_in key (held_at trace stamps (stamp_of key) at) ≡ false = false_from_ne_true (is_in key (held_at trace stamps (stamp_of key) at)) (λ is. omega (arith, (in_stamped trace stamps (stamp_of key) key at is).0)) in
+      let absent : is_in key (held_at trace stamps (stamp_of key) at) ≡ false =
+      false_from_ne_true (is_in key (held_at trace stamps (stamp_of key) at))
+      (λ is. omega (arith, (in_stamped trace stamps (stamp_of key) key at is).0)) in
       let list : held_at trace stamps 0 at ≡ held_at trace stamps (stamp_of key) at ++ key ∷ older.0 =
-      older.1 ∙ ap (λ held. held ++ older.0) newer ∙ append_assoc (held_at trace stamps (suc (stamp_of key - 1)) at) (key_at (stamp_of key - 1) ∷ []) older.0 ∙ ap (λ k. held_at trace stamps (suc (stamp_of key - 1)) at ++ k ∷ older.0) own ∙ ap (λ from. held_at trace stamps from at ++ key ∷ older.0) (sym last) in
+      older.1 ∙ ap (λ held. held ++ older.0) newer
+      ∙ append_assoc (held_at trace stamps (suc (stamp_of key - 1)) at) (key_at (stamp_of key - 1) ∷ []) older.0
+      ∙ ap (λ k. held_at trace stamps (suc (stamp_of key - 1)) at ++ k ∷ older.0) own
+      ∙ ap (λ from. held_at trace stamps from at ++ key ∷ older.0) (sym last) in
       ap (stack_distance key) list ∙ distance-behind key (held_at trace stamps (stamp_of key) at) older.0 absent
 
   pub distance-new : (key at : ℕ) → AreStamps trace stamps at → stamp_of key ≡ 0 → stack_distance key (held_at trace stamps 0 at) ≡ None
-  distance-new key at are never = distance-none key (held_at trace stamps 0 at) (false_from_ne_true (is_in key (held_at trace stamps 0 at)) (λ is. omega (arith, never, (in_stamped trace stamps 0 key at is).0)))
+  distance-new key at are never =
+      distance-none key (held_at trace stamps 0 at)
+      (false_from_ne_true (is_in key (held_at trace stamps 0 at))
+      (λ is. omega (arith, never, (in_stamped trace stamps 0 key at is).0)))
 
   -- Blocks without a key's own last access.
 
@@ -201,7 +215,9 @@ module _ {A : Type 0} (trace stamps : List ℕ) (at : ℕ) (key : ℕ) (old new 
   left-none never counts = record {
     tree = counts.tree;
     covers = counts.covers;
-    counted = λ block below. counts.counted block below ∙ sum_same (newest trace stamps) (other_newest trace stamps key) (16 * block) 16 (λ i from to. others-same trace stamps key i (λ stamp. omega (arith, never, stamp)));
+    counted = λ block below. counts.counted block below
+        ∙ sum_same (newest trace stamps) (other_newest trace stamps key) (16 * block) 16
+        (λ i from to. others-same trace stamps key i (λ stamp. omega (arith, never, stamp)));
     few = counts.few;
   }
 
@@ -209,7 +225,9 @@ module _ {A : Type 0} (trace stamps : List ℕ) (at : ℕ) (key : ℕ) (old new 
   pub left-some : (last : ℕ) → get_or stamps key 0 ≡ suc last → AreCounts trace at (newest trace stamps) old → last / 16 < old.blocks → 0 < count_of old (last / 16)
   left-some last stamp counts inside =
       let own : get_or trace last 0 ≡ key = are.own key last stamp in
-      let less = block-more (other_newest trace stamps key) (newest trace stamps) last (last / 16) (others-less trace stamps key last own stamp) (λ i other. others-same trace stamps key i (λ e. other (omega (arith, e, stamp)))) in
+      let less = block-more (other_newest trace stamps key) (newest trace stamps) last (last / 16)
+      (others-less trace stamps key last own stamp)
+      (λ i other. others-same trace stamps key i (λ e. other (omega (arith, e, stamp)))) in
       omega (arith, counts.counted (last / 16) inside, less, one-here (last / 16) (last / 16) refl)
 
   pub left-one : (last : ℕ) → get_or stamps key 0 ≡ suc last → AreCounts trace at (newest trace stamps) old → IsTree new → new.blocks ≡ old.blocks
@@ -220,7 +238,9 @@ module _ {A : Type 0} (trace stamps : List ℕ) (at : ℕ) (key : ℕ) (old new 
     covers = omega (arith, counts.covers, same);
     counted = λ block below.
         let own : get_or trace last 0 ≡ key = are.own key last stamp in
-        let less = block-more (other_newest trace stamps key) (newest trace stamps) last block (others-less trace stamps key last own stamp) (λ i other. others-same trace stamps key i (λ e. other (omega (arith, e, stamp)))) in
+        let less = block-more (other_newest trace stamps key) (newest trace stamps) last block
+        (others-less trace stamps key last own stamp)
+        (λ i other. others-same trace stamps key i (λ e. other (omega (arith, e, stamp)))) in
         let was = counts.counted block (omega (arith, below, same)) in
         elim (cases_eq block (last / 16)) [
           | inl here ↦ omega (arith, was, less, one-here block (last / 16) here, one, ap (count_of new) here, ap (count_of old) here)
@@ -234,12 +254,16 @@ module _ {A : Type 0} (trace stamps : List ℕ) (at : ℕ) (key : ℕ) (old new 
       → AreCounts trace (at + 1) (newest trace (set stamps key (at + 1))) new
   entered within own counts tree same one others more =
       let stamp : get_or (set stamps key (at + 1)) key 0 ≡ suc at = get_or-set_same stamps key (at + 1) 0 within ∙ add-one at in
-      let first : newest trace (set stamps key (at + 1)) at ≡ other_newest trace stamps key at + 1 = others-less trace (set stamps key (at + 1)) key at own stamp ∙ ap (λ n. n + 1) (others-still trace stamps key (at + 1) at) in
+      let first : newest trace (set stamps key (at + 1)) at ≡ other_newest trace stamps key at + 1 =
+      others-less trace (set stamps key (at + 1)) key at own stamp
+      ∙ ap (λ n. n + 1) (others-still trace stamps key (at + 1) at) in
       record {
         tree = tree;
         covers = omega (arith, counts.covers, same);
         counted = λ block below.
-            let greater = block-more (other_newest trace stamps key) (newest trace (set stamps key (at + 1))) at block first (λ i other. others-same trace (set stamps key (at + 1)) key i (λ e. other (omega (arith, e, stamp))) ∙ others-still trace stamps key (at + 1) i) in
+            let greater = block-more (other_newest trace stamps key) (newest trace (set stamps key (at + 1))) at block first
+            (λ i other. others-same trace (set stamps key (at + 1)) key i (λ e. other (omega (arith, e, stamp)))
+            ∙ others-still trace stamps key (at + 1) i) in
             let was = counts.counted block (omega (arith, below, same)) in
             elim (cases_eq block (at / 16)) [
               | inl here ↦ omega (arith, was, greater, one-here block (at / 16) here, one, ap (count_of new) here, ap (count_of old) here)

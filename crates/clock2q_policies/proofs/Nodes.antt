@@ -34,7 +34,9 @@ half n node = elim (cases_eq n (node / 2)) [
 one-more : (xs : List ℕ) (node n : ℕ) → node < length xs → get_or (set xs node (get_or xs node 0 + 1)) n 0 ≡ get_or xs n 0 + cond (eqb n node) 1 0
 one-more xs node n within = elim (cases_eq n node) [
   | inl is ↦
-      let new : get_or (set xs node (get_or xs node 0 + 1)) n 0 ≡ get_or xs node 0 + 1 = ap (λ m. get_or (set xs node (get_or xs node 0 + 1)) m 0) is ∙ get_or-set_same xs node (get_or xs node 0 + 1) 0 within in
+      let new : get_or (set xs node (get_or xs node 0 + 1)) n 0 ≡ get_or xs node 0 + 1 =
+      ap (λ m. get_or (set xs node (get_or xs node 0 + 1)) m 0) is
+      ∙ get_or-set_same xs node (get_or xs node 0 + 1) 0 within in
       omega (arith, new, ap (λ m. get_or xs m 0) is, one-here n node is)
   | inr other ↦ omega (arith, get_or-set_other xs node n (get_or xs node 0 + 1) 0 other, none-here n node other)
 ]
@@ -75,7 +77,9 @@ module _ (old xs : List ℕ) (blocks leaf node : ℕ) (adding : IsAdding old xs 
 one-less : (xs : List ℕ) (node n : ℕ) → node < length xs → 0 < get_or xs node 0 → get_or (set xs node (get_or xs node 0 - 1)) n 0 + cond (eqb n node) 1 0 ≡ get_or xs n 0
 one-less xs node n within some = elim (cases_eq n node) [
   | inl is ↦
-      let new : get_or (set xs node (get_or xs node 0 - 1)) n 0 ≡ get_or xs node 0 - 1 = ap (λ m. get_or (set xs node (get_or xs node 0 - 1)) m 0) is ∙ get_or-set_same xs node (get_or xs node 0 - 1) 0 within in
+      let new : get_or (set xs node (get_or xs node 0 - 1)) n 0 ≡ get_or xs node 0 - 1 =
+      ap (λ m. get_or (set xs node (get_or xs node 0 - 1)) m 0) is
+      ∙ get_or-set_same xs node (get_or xs node 0 - 1) 0 within in
       omega (arith, new, some, ap (λ m. get_or xs m 0) is, one-here n node is)
   | inr other ↦ omega (arith, get_or-set_other xs node n (get_or xs node 0 - 1) 0 other, none-here n node other)
 ]
@@ -137,7 +141,8 @@ two f n =
     let here : n + 0 ≡ n = omega arith in
     omega (arith, ap f here)
 
-pub sum-halves : (f : ℕ → ℕ) (first end : ℕ) → ((n : ℕ) → 0 < n → n < end → f n ≡ f (2 * n) + f (2 * n + 1)) → 0 < first → first ≤ end → sum_in f (2 * first) (2 * end - 2 * first) ≡ sum_in f first (end - first)
+pub sum-halves : (f : ℕ → ℕ) (first end : ℕ) → ((n : ℕ) → 0 < n → n < end → f n ≡ f (2 * n) + f (2 * n + 1)) → 0 < first →
+    first ≤ end → sum_in f (2 * first) (2 * end - 2 * first) ≡ sum_in f first (end - first)
 sum-halves f first end pairs some ordered =
     let long : 2 * end - 2 * first ≡ 2 * (end - first) = omega (arith, ordered) in
     ap (sum_in f (2 * first)) long ∙ sum_rows f f 2 first (end - first) (λ i from below. pairs i (omega (arith, some, from)) (omega (arith, below, ordered)) ∙ sym (two f (2 * i)))

@@ -247,6 +247,7 @@ module _ {Cache : Type 0} (IsCache : Cache → Type 0) (holds : ℕ → Cache �
       omega (arith, hits_behind trace cache [] 0 is_cache tt (level trace cache is_cache empty))
 
   -- nor more of the first keys than the optimum that knows the whole trace
-  pub optimum_first : (m : ℕ) (trace : List ℕ) (cache : Cache) → IsCache cache → ((key : ℕ) → holds key cache ≡ false) → hits holds after (take m trace) cache ≤ hit_count (take m (optimal_outcomes capacity trace))
+  pub optimum_first : (m : ℕ) (trace : List ℕ) (cache : Cache) → IsCache cache → ((key : ℕ) → holds key cache ≡ false) →
+      hits holds after (take m trace) cache ≤ hit_count (take m (optimal_outcomes capacity trace))
   optimum_first m trace cache is_cache empty =
       omega (arith, hits_behind_first m trace cache [] 0 is_cache tt (level trace cache is_cache empty))

@@ -21,7 +21,9 @@ module _ {Cache : Type 0} (holds : ℕ → Cache → Bool) (after : ℕ → Cach
   pub one_further : (trace : List ℕ) (i : ℕ) (before now total : List Bool) (cache : Cache) → i < length trace → before ++ outcomes holds after (drop i trace) cache ≡ total
       → now ≡ before ++ holds (get_or trace i 0) cache ∷ [] → now ++ outcomes holds after (drop (i + 1) trace) (after (get_or trace i 0) cache) ≡ total
   one_further trace i before now total cache within told more =
-      let rest : outcomes holds after (drop i trace) cache ≡ holds (get_or trace i 0) cache ∷ outcomes holds after (drop (i + 1) trace) (after (get_or trace i 0) cache) = rw add-one (ap (λ keys. outcomes holds after keys cache) (drop-cons trace i 0 within)) in
+      let rest : outcomes holds after (drop i trace) cache ≡
+      holds (get_or trace i 0) cache ∷ outcomes holds after (drop (i + 1) trace) (after (get_or trace i 0) cache) =
+      rw add-one (ap (λ keys. outcomes holds after keys cache) (drop-cons trace i 0 within)) in
       ap (λ seen. seen ++ outcomes holds after (drop (i + 1) trace) (after (get_or trace i 0) cache)) more
       ∙ append_assoc before (holds (get_or trace i 0) cache ∷ []) (outcomes holds after (drop (i + 1) trace) (after (get_or trace i 0) cache))
       ∙ sym (ap (λ ahead. before ++ ahead) rest) ∙ told

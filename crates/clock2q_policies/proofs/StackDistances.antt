@@ -94,7 +94,8 @@ taken-without (suc n) key (first ∷ recent) absent =
     rw parts.0 (ap (λ rest. first ∷ rest) (taken-without n key recent parts.1))
 
 -- LRU holds the first of the keys accessed so far
-pub lru_holds_recent : (capacity key : ℕ) (recent : List ℕ) → 0 < capacity → AreApart recent → plain_after LeastRecentlyUsed capacity key (take capacity recent) ≡ take capacity (recent_after key recent)
+pub lru_holds_recent : (capacity key : ℕ) (recent : List ℕ) → 0 < capacity → AreApart recent →
+    plain_after LeastRecentlyUsed capacity key (take capacity recent) ≡ take capacity (recent_after key recent)
 lru_holds_recent zero key recent some apart = absurd (omega arith)
 lru_holds_recent (suc n) key recent some apart = elim (cases_Bool (is_in key (take (suc n) recent))) [
   | inl is ↦ rw is (ap (λ rest. key ∷ rest) (without-taken n key recent apart is))
@@ -157,7 +158,9 @@ held-apart trace stamps left (suc index) = elim (cases_Bool (is_newest trace sta
   | inl newest ↦
       let key = get_or trace index 0 in
       let stamp : get_or stamps key 0 ≡ suc index = eqb-true (get_or stamps key 0) (suc index) (and_parts (eqb (get_or stamps key 0) (suc index)) (ltb left (suc index)) newest).0 in
-      let absent : is_in key (held_at trace stamps left index) ≡ false = false_from_ne_true (is_in key (held_at trace stamps left index)) (λ is. omega (arith, stamp, (in_stamped trace stamps left key index is).1)) in
+      let absent : is_in key (held_at trace stamps left index) ≡ false =
+      false_from_ne_true (is_in key (held_at trace stamps left index))
+      (λ is. omega (arith, stamp, (in_stamped trace stamps left key index is).1)) in
       rw newest (absent, held-apart trace stamps left index)
   | inr old ↦ rw old (held-apart trace stamps left index)
 ]

@@ -81,8 +81,15 @@ module _ (trace stamps : List ℕ) (left : ℕ) where
       elim (cases_eq (key_at index) key) [
         | inl same ↦
             let changed : get_or (set stamps key stamp) (key_at index) 0 ≡ stamp = ap (λ k. get_or (set stamps key stamp) k 0) same ∙ get_or-set_same stamps key stamp 0 within in
-            let old : is_newest trace (set stamps key stamp) left index ≡ false = and_left (eqb (get_or (set stamps key stamp) (key_at index) 0) (suc index)) (ltb left (suc index)) (ne_eqb (get_or (set stamps key stamp) (key_at index) 0) (suc index) (λ e. omega (arith, changed, e, above))) in
-            rw old (rest ∙ sym (elim (cases_Bool (is_newest trace stamps left index)) as (λ w. without key (cond (is_newest trace stamps left index) (key_at index ∷ held_at trace stamps left index) (held_at trace stamps left index)) ≡ without key (held_at trace stamps left index)) [
+            let old : is_newest trace (set stamps key stamp) left index ≡ false =
+            and_left (eqb (get_or (set stamps key stamp) (key_at index) 0) (suc index)) (ltb left (suc index))
+            (ne_eqb (get_or (set stamps key stamp) (key_at index) 0) (suc index)
+            (λ e. omega (arith, changed, e, above))) in
+            rw old (rest ∙ sym
+            (elim (cases_Bool (is_newest trace stamps left index)) as
+            (λ w. without key
+            (cond (is_newest trace stamps left index) (key_at index ∷ held_at trace stamps left index)
+            (held_at trace stamps left index)) ≡ without key (held_at trace stamps left index)) [
               | inl newest ↦ rw (newest, eq-eqb (key_at index) key same) refl
               | inr gone ↦ rw gone refl
             ]))
@@ -96,7 +103,8 @@ module _ (trace stamps : List ℕ) (left : ℕ) where
       ]
 
   -- a key is in the list once
-  pub once : (key at : ℕ) → AreStamps trace stamps at → is_in key (held_at trace stamps left at) ≡ true → suc (length (without key (held_at trace stamps left at))) ≡ length (held_at trace stamps left at)
+  pub once : (key at : ℕ) → AreStamps trace stamps at → is_in key (held_at trace stamps left at) ≡ true →
+      suc (length (without key (held_at trace stamps left at))) ≡ length (held_at trace stamps left at)
   once key at are is =
       let stamp = in_stamped key at is in
       counted at stamp.1 where
@@ -106,7 +114,9 @@ module _ (trace stamps : List ℕ) (left : ℕ) where
           | inl here ↦
               let same : key_at index ≡ key = are.own key index here in
               let newest : is_newest trace stamps left index ≡ true = stamp_newest index (ap stamp_of same ∙ here) (omega (arith, here, (in_stamped key at is).0)) in
-              let absent : is_in key (held_at trace stamps left index) ≡ false = false_from_ne_true (is_in key (held_at trace stamps left index)) (λ inside. omega (arith, here, (in_stamped key index inside).1)) in
+              let absent : is_in key (held_at trace stamps left index) ≡ false =
+              false_from_ne_true (is_in key (held_at trace stamps left index))
+              (λ inside. omega (arith, here, (in_stamped key index inside).1)) in
               rw (newest, eq-eqb (key_at index) key same, without-absent key (held_at trace stamps left index) absent) refl
           | inr elsewhere ↦
               let rest = counted index (omega (arith, elsewhere, above)) in
@@ -152,7 +162,9 @@ module _ (trace stamps : List ℕ) (left : ℕ) where
   held-oldest zero stamp before = absurd (omega arith)
   held-oldest (suc index) stamp before = elim (cases_eq left index) [
     | inl here ↦
-        let newest : is_newest trace stamps left index ≡ true = stamp_newest trace stamps left index (sym (ap (λ p. get_or stamps (get_or trace p 0) 0) here) ∙ stamp ∙ ap suc here) (omega (arith, here)) in
+        let newest : is_newest trace stamps left index ≡ true =
+        stamp_newest trace stamps left index
+        (sym (ap (λ p. get_or stamps (get_or trace p 0) 0) here) ∙ stamp ∙ ap suc here) (omega (arith, here)) in
         let first : held_at trace stamps left (suc index) ≡ get_or trace index 0 ∷ [] = rw (newest, held-none trace stamps left index (omega (arith, here))) refl in
         let none : held_at trace stamps (suc left) (suc index) ≡ [] = held-none trace stamps (suc left) (suc index) (omega (arith, here)) in
         let last : get_or trace index 0 ≡ get_or trace left 0 = ap (λ p. get_or trace p 0) (sym here) in
@@ -215,7 +227,9 @@ module _ (trace stamps : List ℕ) (left key at : ℕ) (are : AreStamps trace st
   -- and one that isn't stays where it is
   pub unstamped : held_at trace stamps left (suc at) ≡ held_at trace stamps left at
   unstamped =
-      let old : is_newest trace stamps left at ≡ false = and_left (eqb (get_or stamps (get_or trace at 0) 0) (suc at)) (ltb left (suc at)) (ne_eqb (get_or stamps (get_or trace at 0) 0) (suc at) (λ e. omega (arith, e, are.bound (get_or trace at 0)))) in
+      let old : is_newest trace stamps left at ≡ false =
+      and_left (eqb (get_or stamps (get_or trace at 0) 0) (suc at)) (ltb left (suc at))
+      (ne_eqb (get_or stamps (get_or trace at 0) 0) (suc at) (λ e. omega (arith, e, are.bound (get_or trace at 0)))) in
       rw old refl
 
   pub stamps-later : AreStamps trace stamps (suc at)

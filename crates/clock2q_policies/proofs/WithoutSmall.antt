@@ -80,7 +80,9 @@ victim_alike main =
 marked_alike : (key : ℕ) (main : List (MainEntry ℕ)) → ring_of (main_hit (λ held. key == held) main) ≡ marked key (ring_of main)
 marked_alike key [] = refl
 marked_alike key (e ∷ main) =
-    elim (key == e.key) as (λ b. entry_of (if b then with_bit e true else e) ∷ ring_of (main_hit (λ held. key == held) main) ≡ (if b then (e.key, true) else (e.key, e.bit)) ∷ marked key (ring_of main))
+    elim (key == e.key) as
+    (λ b. entry_of (if b then with_bit e true else e) ∷ ring_of (main_hit (λ held. key == held) main) ≡
+    (if b then (e.key, true) else (e.key, e.bit)) ∷ marked key (ring_of main))
     [ true ↦ ap (λ rest. (e.key, true) ∷ rest) (marked_alike key main) | false ↦ ap (λ rest. (e.key, e.bit) ∷ rest) (marked_alike key main) ]
 
 found_alike : (key : ℕ) (main : List (MainEntry ℕ)) → is_some (slot_in_main (λ held. key == held) main) ≡ is_on key (ring_of main)
@@ -156,7 +158,10 @@ module _ (capacity : ℕ) where
 
     entered_room : slot_of is_key (cache_of main values) ≡ None → length main < capacity → (v : Option ℕ) → vacant_slot [] (length values) capacity ≡ v
         → let p = joining_main key v (cache_of main values) in GoesOn key main (stored p.slot tt p.machine)
-    entered_room absent room None vacant = absurd (none_is (length values) (sym vacant ∙ ap (λ b. if b then Some (length values) else None) (lt-ltb (length values) capacity (omega (arith, h.slots_counted, room)))))
+    entered_room absent room None vacant =
+        absurd (none_is (length values)
+        (sym vacant ∙ ap (λ b. if b then Some (length values) else None)
+        (lt-ltb (length values) capacity (omega (arith, h.slots_counted, room)))))
     entered_room absent room (Some slot) vacant =
         let has_room : nat_lt (length (ring_of main)) capacity ≡ true = lt-ltb (length (ring_of main)) capacity (omega (arith, room, length-map main entry_of)) in
         record {

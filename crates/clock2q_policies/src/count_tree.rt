@@ -35,7 +35,8 @@ impl<A: Allocator> CountTree<A> {
         ensures tree { IsTree self.new }
         ensures blocks { self.new.blocks ≡ self.old.blocks }
         ensures counted { count_of self.new block ≡ count_of self.old block + 1 }
-        ensures others { (other : ℕ) → other ≢ block → count_of self.new other ≡ count_of self.old other }
+        ensures others { (other : ℕ) → other ≢ block →
+            count_of self.new other ≡ count_of self.old other }
         ensures most { (node : ℕ) → node_of self.new node ≤ node_of self.old node + 1 }
     {
         let mut node = self.blocks + block;
@@ -53,7 +54,8 @@ impl<A: Allocator> CountTree<A> {
         ensures tree { IsTree self.new }
         ensures blocks { self.new.blocks ≡ self.old.blocks }
         ensures counted { count_of self.old block ≡ count_of self.new block + 1 }
-        ensures others { (other : ℕ) → other ≢ block → count_of self.new other ≡ count_of self.old other }
+        ensures others { (other : ℕ) → other ≢ block →
+            count_of self.new other ≡ count_of self.old other }
         ensures most { (node : ℕ) → node_of self.new node ≤ node_of self.old node }
     {
         let mut node = self.blocks + block;

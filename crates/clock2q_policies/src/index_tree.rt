@@ -84,7 +84,8 @@ impl<A: Allocator> IndexTree<A> {
     /// Returns the last index.
     pub(crate) fn last(&self) -> Option<usize>
         requires tree { IsIndexTree self.now }
-        ensures last { MatchOption result ((index : ℕ) → has self.now index ≡ false) (IsLast self.now) }
+        ensures last { MatchOption result ((index : ℕ) → has self.now index ≡ false)
+            (IsLast self.now) }
     {
         if !self.marks[1] {
             return None;

@@ -37,8 +37,10 @@ impl<A: Allocator> LastAccesses<A> {
     pub(crate) fn access(&mut self, trace: &[u32], at: usize) -> Option<usize>
         requires at { at < length trace.now }
         requires counting { IsCounting trace.now at self.old }
-        ensures distance { result ≡ stack_distance (slice_index trace.now at) (recent_by trace.now at self.old) }
-        ensures recent { recent_by trace.now (at + 1) self.new ≡ recent_after (slice_index trace.now at) (recent_by trace.now at self.old) }
+        ensures distance { result ≡
+            stack_distance (slice_index trace.now at) (recent_by trace.now at self.old) }
+        ensures recent { recent_by trace.now (at + 1) self.new ≡
+            recent_after (slice_index trace.now at) (recent_by trace.now at self.old) }
         ensures counting { IsCounting trace.now (at + 1) self.new }
     {
         let distance = self.leave(trace, at);
@@ -50,9 +52,12 @@ impl<A: Allocator> LastAccesses<A> {
     fn leave(&mut self, trace: &[u32], at: usize) -> Option<usize>
         requires at { at < length trace.now }
         requires counting { IsCounting trace.now at self.old }
-        ensures distance { result ≡ stack_distance (slice_index trace.now at) (recent_by trace.now at self.old) }
+        ensures distance { result ≡
+            stack_distance (slice_index trace.now at) (recent_by trace.now at self.old) }
         ensures stamps { self.new.stamps ≡ self.old.stamps }
-        ensures counts { AreCounts trace.now at (other_newest trace.now self.old.stamps.items (slice_index trace.now at)) self.new.counts }
+        ensures counts { AreCounts trace.now at
+            (other_newest trace.now self.old.stamps.items
+            (slice_index trace.now at)) self.new.counts }
     {
         let stamp = self.stamps[trace[at] as usize];
         if stamp == 0 {
@@ -68,8 +73,11 @@ impl<A: Allocator> LastAccesses<A> {
         requires at { at < length trace.now }
         requires known { AreKnown trace.now self.old.stamps.items }
         requires stamped { AreStamps trace.now self.old.stamps.items at }
-        requires counts { AreCounts trace.now at (other_newest trace.now self.old.stamps.items (slice_index trace.now at)) self.old.counts }
-        ensures recent { recent_by trace.now (at + 1) self.new ≡ recent_after (slice_index trace.now at) (recent_by trace.now at self.old) }
+        requires counts { AreCounts trace.now at
+            (other_newest trace.now self.old.stamps.items
+            (slice_index trace.now at)) self.old.counts }
+        ensures recent { recent_by trace.now (at + 1) self.new ≡
+            recent_after (slice_index trace.now at) (recent_by trace.now at self.old) }
         ensures counting { IsCounting trace.now (at + 1) self.new }
     {
         self.stamps[trace[at] as usize] = at + 1;

@@ -59,7 +59,8 @@ fn distance_counts<A: Allocator + Copy>(
     requires below { AreBelow keys trace.now }
     ensures hits { IfOk result (λ counts. (capacity : ℕ) → 0 < capacity →
         sum_in (λ n. get_or counts.items n 0) 0 capacity ≡ plain_hits PlainPolicy.LeastRecentlyUsed capacity trace.now) }
-    ensures few { IfOk result (λ counts. (n : ℕ) → sum_in (λ n. get_or counts.items n 0) 0 n < 2 ^ 64) }
+    ensures few { IfOk result
+        (λ counts. (n : ℕ) → sum_in (λ n. get_or counts.items n 0) 0 n < 2 ^ 64) }
 {
     let mut accesses = LastAccesses::new(alloc, trace, keys)?;
     let mut counts: Vec<usize, A> = Vec::new(alloc);

@@ -24,9 +24,13 @@ impl<A: Allocator> Awaited<A> {
     /// Accesses the key at an index of the trace, and returns true if it was held.
     fn access(&mut self, capacity: NonZeroUsize, trace: &[u32], at: usize) -> bool
         requires at { at < length trace.now }
-        requires awaiting { IsAwaiting trace.now at (optimal_at (non_zero_usize_get capacity) trace.now at) self.old }
-        ensures hit { result ≡ is_in (slice_index trace.now at) (optimal_at (non_zero_usize_get capacity) trace.now at) }
-        ensures awaiting { IsAwaiting trace.now (at + 1) (optimal_at (non_zero_usize_get capacity) trace.now (at + 1)) self.new }
+        requires awaiting { IsAwaiting trace.now at
+            (optimal_at (non_zero_usize_get capacity) trace.now at) self.old }
+        ensures hit { result ≡
+            is_in (slice_index trace.now at)
+            (optimal_at (non_zero_usize_get capacity) trace.now at) }
+        ensures awaiting { IsAwaiting trace.now (at + 1)
+            (optimal_at (non_zero_usize_get capacity) trace.now (at + 1)) self.new }
     {
         let is_hit = self.leave(capacity, trace, at);
         let next = self.next[at];
@@ -42,9 +46,14 @@ impl<A: Allocator> Awaited<A> {
     /// key was held.
     fn leave(&mut self, capacity: NonZeroUsize, trace: &[u32], at: usize) -> bool
         requires at { at < length trace.now }
-        requires awaiting { IsAwaiting trace.now at (optimal_at (non_zero_usize_get capacity) trace.now at) self.old }
-        ensures hit { result ≡ is_in (slice_index trace.now at) (optimal_at (non_zero_usize_get capacity) trace.now at) }
-        ensures awaiting { IsAwaiting trace.now (at + 1) (without (slice_index trace.now at) (optimal_at (non_zero_usize_get capacity) trace.now (at + 1))) self.new }
+        requires awaiting { IsAwaiting trace.now at
+            (optimal_at (non_zero_usize_get capacity) trace.now at) self.old }
+        ensures hit { result ≡
+            is_in (slice_index trace.now at)
+            (optimal_at (non_zero_usize_get capacity) trace.now at) }
+        ensures awaiting { IsAwaiting trace.now (at + 1)
+            (without (slice_index trace.now at)
+            (optimal_at (non_zero_usize_get capacity) trace.now (at + 1))) self.new }
         ensures room { self.new.count < usize.MAX }
     {
         if self.waiting.contains(at) {
@@ -111,7 +120,8 @@ pub fn optimal_hits<A: Allocator + Copy>(
     keys: u32,
 ) -> Result<usize, AllocError>
     requires below { AreBelow keys trace.now }
-    ensures hits { IfOk result (λ hits. hits ≡ optimal_hits (non_zero_usize_get capacity) trace.now) }
+    ensures hits { IfOk result
+        (λ hits. hits ≡ optimal_hits (non_zero_usize_get capacity) trace.now) }
 {
     let mut awaited = Awaited {
         next: next_uses(alloc, trace, keys)?,
@@ -153,7 +163,8 @@ pub fn optimal_outcomes<A: Allocator + Copy>(
     keys: u32,
 ) -> Result<Vec<bool, A>, AllocError>
     requires below { AreBelow keys trace.now }
-    ensures outcomes { IfOk result (λ outcomes. outcomes.items ≡ optimal_outcomes (non_zero_usize_get capacity) trace.now) }
+    ensures outcomes { IfOk result
+        (λ outcomes. outcomes.items ≡ optimal_outcomes (non_zero_usize_get capacity) trace.now) }
 {
     let mut awaited = Awaited {
         next: next_uses(alloc, trace, keys)?,

@@ -133,7 +133,8 @@ pub fn plain_hits<A: Allocator>(
     keys: u32,
 ) -> Result<usize, AllocError>
     requires below { AreBelow keys trace.now }
-    ensures hits { IfOk result (λ hits. hits ≡ plain_hits policy (non_zero_usize_get capacity) trace.now) }
+    ensures hits { IfOk result
+        (λ hits. hits ≡ plain_hits policy (non_zero_usize_get capacity) trace.now) }
 {
     let mut residents = Residents {
         stamps: vec![in alloc; 0; keys as usize]?,
@@ -176,7 +177,9 @@ pub fn plain_outcomes<A: Allocator + Copy>(
     keys: u32,
 ) -> Result<Vec<bool, A>, AllocError>
     requires below { AreBelow keys trace.now }
-    ensures outcomes { IfOk result (λ outcomes. outcomes.items ≡ plain_outcomes policy (non_zero_usize_get capacity) trace.now) }
+    ensures outcomes { IfOk result
+        (λ outcomes. outcomes.items ≡
+        plain_outcomes policy (non_zero_usize_get capacity) trace.now) }
 {
     let mut residents = Residents {
         stamps: vec![in alloc; 0; keys as usize]?,

@@ -55,7 +55,8 @@ impl EventLog {
     }
 
     pub(super) fn add(&mut self, event: &IoEvent)
-        ensures { self.new.traffic.value ≡ traffic_after self.old.traffic.value event.now.bytes.now event.now.stopped event.now.failed }
+        ensures { self.new.traffic.value ≡
+            traffic_after self.old.traffic.value event.now.bytes.now event.now.stopped event.now.failed }
     {
         self.traffic.set(event);
     }

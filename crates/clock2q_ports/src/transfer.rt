@@ -29,7 +29,8 @@ const BLOCK: usize = 65536;
 /// ```
 pub fn read_all<R: Source, A: Allocator>(alloc: A, reader: &mut R) -> Result<Vec<u8, A>, ReadError>
     ensures given { ReadsAll (λ v. v.items) (R.given reader.old) (R.given reader.new) result }
-    ensures bytes { IfOk result (λ v. Consumes (R.remaining reader.old) (R.remaining reader.new) v.items) }
+    ensures bytes { IfOk result
+        (λ v. Consumes (R.remaining reader.old) (R.remaining reader.new) v.items) }
     ensures end { OnOk result (IsAtEnd (R.remaining reader.new)) }
 {
     let mut input = Vec::new(alloc);

@@ -30,7 +30,9 @@ module _ {E : Type 0} where
 
 module _ {E : Type 0} where
   -- an entry in a slot was there before or was put in
-  put_from-from : (es : List E) (slots : List (Option (Placed E))) (n d m : ℕ) (s : Placed E) → get_or (put_from slots n d es) m None ≡ Some s → (get_or slots m None ≡ Some s) ⊎ ((i : ℕ) × (slice_get es i ≡ Some s.entry))
+  put_from-from : (es : List E) (slots : List (Option (Placed E))) (n d m : ℕ) (s : Placed E) →
+      get_or (put_from slots n d es) m None ≡ Some s → (get_or slots m None ≡ Some s) ⊎
+      ((i : ℕ) × (slice_get es i ≡ Some s.entry))
   put_from-from [] slots n d m s is = inl is
   put_from-from (e ∷ es) slots n d m s is = elim (put_from-from es (set slots (n % length slots) (Some (placed d e))) (suc n) (suc d) m s is) [
     | inl before ↦ elim (set_from slots (n % length slots) m (placed d e) s before) [
@@ -83,7 +85,8 @@ module _ {H : Type 0} (A : Type 0) (eq : H → H → Bool) (key : H → ℕ) whe
   hashes-inserts v old (Refused Memory) new r hashes = kept _ new r.0 hashes
   hashes-inserts v old (Refused Size) new r hashes = absurd r
 
-  pub hashes-replied : (command : TableCommand H (Vec H A)) (old : List (List (ℕ × H))) (reply : TableReply H (Vec H A)) (new : List (List (ℕ × H))) → IsReplied eq key command old reply new → IsHashOf key old → IsHashOf key new
+  pub hashes-replied : (command : TableCommand H (Vec H A)) (old : List (List (ℕ × H))) (reply : TableReply H (Vec H A))
+      (new : List (List (ℕ × H))) → IsReplied eq key command old reply new → IsHashOf key old → IsHashOf key new
   hashes-replied (Insert v) old reply new r hashes = hashes-inserts v old reply new r hashes
   hashes-replied (Remove x v) old Done new r hashes = absurd r
   hashes-replied (Remove x v) old (Removed was) new r hashes = kept _ new r.1 (keyed_removed key eq old x v hashes)
@@ -114,14 +117,21 @@ module _ {H : Type 0} (A : Type 0) (eq : H → H → Bool) (key : H → ℕ) whe
   hashes-replied (Get x) old (Refused Size) new r hashes = absurd r
 
   -- one more command at the end
-  pub AreReplied-more : (commands : List (TableCommand H (Vec H A))) (replies : List (TableReply H (Vec H A))) (command : TableCommand H (Vec H A)) (reply : TableReply H (Vec H A)) (old mid new : List (List (ℕ × H))) → AreReplied eq key commands old replies mid → IsReplied eq key command mid reply new → AreReplied eq key (commands ++ command ∷ []) old (replies ++ reply ∷ []) new
+  pub AreReplied-more : (commands : List (TableCommand H (Vec H A))) (replies : List (TableReply H (Vec H A)))
+      (command : TableCommand H (Vec H A)) (reply : TableReply H (Vec H A)) (old mid new : List (List (ℕ × H))) →
+      AreReplied eq key commands old replies mid → IsReplied eq key command mid reply new →
+      AreReplied eq key (commands ++ command ∷ []) old (replies ++ reply ∷ []) new
   AreReplied-more [] [] command reply old mid new all one = (new, subst (λ m. IsReplied eq key command m reply new) all one, refl)
   AreReplied-more [] (r ∷ replies) command reply old mid new all one = absurd all
   AreReplied-more (c ∷ commands) [] command reply old mid new all one = absurd all
   AreReplied-more (c ∷ commands) (r ∷ replies) command reply old mid new all one = (all.0, all.1, AreReplied-more commands replies command reply all.0 mid new all.2 one)
 
   -- the same, if the commands are those at the front of a list
-  pub AreReplied-taken : (commands : List (TableCommand H (Vec H A))) (i : ℕ) (command d : TableCommand H (Vec H A)) (replies : List (TableReply H (Vec H A))) (reply : TableReply H (Vec H A)) (old mid new : List (List (ℕ × H))) → i < length commands → command ≡ get_or commands i d
+  pub AreReplied-taken : (commands : List (TableCommand H (Vec H A))) (i : ℕ) (command d : TableCommand H (Vec H A))
+      (replies : List (TableReply H (Vec H A))) (reply : TableReply H (Vec H A)) (old mid new : List (List (ℕ × H))) →
+      i < length commands → command ≡ get_or commands i d
       → AreReplied eq key (take i commands) old replies mid → IsReplied eq key command mid reply new → AreReplied eq key (take (i + 1) commands) old (replies ++ reply ∷ []) new
   AreReplied-taken commands i command d replies reply old mid new within is all one =
-      subst (λ cs. AreReplied eq key cs old (replies ++ reply ∷ []) new) (ap (λ c. take i commands ++ c ∷ []) is ∙ sym (take_more commands i d within)) (AreReplied-more (take i commands) replies command reply old mid new all one)
+      subst (λ cs. AreReplied eq key cs old (replies ++ reply ∷ []) new)
+      (ap (λ c. take i commands ++ c ∷ []) is ∙ sym (take_more commands i d within))
+      (AreReplied-more (take i commands) replies command reply old mid new all one)

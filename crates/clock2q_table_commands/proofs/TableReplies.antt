@@ -17,7 +17,9 @@ use Rattle.clock2q_table_commands.specs.TableCommands.{reply_of, reply_of_found,
 
 -- handles offered up to the first that is accepted
 module _ {M H : Type 0} (m : Mut M (H × Unit {0}) Bool) (test : H → Bool) (f : M) (asks : (h : H) (b : Bool) (next : M) → Called m f (h, tt) b next → (next ≡ f) × (b ≡ test h)) where
-  accepted_by : (h : H) (hs : List H) (found : Option H) (b : Bool) (next last : M) → test h ≡ b → (b ≡ false → Offers m next hs found last → found ≡ find test hs) → MatchBool b ((found ≡ Some h) × (last ≡ next)) (Offers m next hs found last) → found ≡ cond (test h) (Some h) (find test hs)
+  accepted_by : (h : H) (hs : List H) (found : Option H) (b : Bool) (next last : M) → test h ≡ b →
+      (b ≡ false → Offers m next hs found last → found ≡ find test hs) →
+      MatchBool b ((found ≡ Some h) × (last ≡ next)) (Offers m next hs found last) → found ≡ cond (test h) (Some h) (find test hs)
   accepted_by h hs found true next last e rest w = rw e w.0
   accepted_by h hs found false next last e rest w = rw e (rest refl w)
 
@@ -29,7 +31,9 @@ module _ {M H : Type 0} (m : Mut M (H × Unit {0}) Bool) (test : H → Bool) (f 
 
 module _ {H : Type 0} (A : Type 0) (eq : H → H → Bool) (key : H → ℕ) where
   -- an insertion under the hash of a handle
-  pub Inserts-put : (old new : List (List (ℕ × H))) (x : ℕ) (v : H) (result : Result (Unit {0}) TableError) → x ≡ key v → (result ≢ Err Memory → PutIn (grown key old) x v result new) → (result ≡ Err Memory → IsFull old × (new ≡ old)) → Inserts {A = A} eq key v old (reply_of result) new
+  pub Inserts-put : (old new : List (List (ℕ × H))) (x : ℕ) (v : H) (result : Result (Unit {0}) TableError) → x ≡ key v →
+      (result ≢ Err Memory → PutIn (grown key old) x v result new) → (result ≡ Err Memory → IsFull old × (new ≡ old)) →
+      Inserts {A = A} eq key v old (reply_of result) new
   Inserts-put old new x v (Ok done) is put memory =
       let p = subst (λ h. PutIn (grown key old) h v (Ok done) new) is (put (λ e. absurd (cc))) in
       (p.0, λ long. p.1 (subst IsTooLong p.0 long))
@@ -40,9 +44,13 @@ module _ {H : Type 0} (A : Type 0) (eq : H → H → Bool) (key : H → ℕ) whe
       (p.1, p.2)
 
   -- a lookup with insertion under the hash of a handle
-  Finds-settled : (old new : List (List (ℕ × H))) (v : H) (accepted : List H) (found : Option H) (result : Result (H × Bool) TableError) → found ≡ first_accepted eq accepted (candidates (grown key old) (key v)) → Settles (grown key old) (key v) v found result new → Finds {A = A} eq key v accepted old (reply_of_found result) new
+  Finds-settled : (old new : List (List (ℕ × H))) (v : H) (accepted : List H) (found : Option H)
+      (result : Result (H × Bool) TableError) → found ≡ first_accepted eq accepted (candidates (grown key old) (key v)) →
+      Settles (grown key old) (key v) v found result new → Finds {A = A} eq key v accepted old (reply_of_found result) new
   Finds-settled old new v accepted (Some c) result is s = subst (λ r. Finds {A = A} eq key v accepted old (reply_of_found r) new) (sym s.0) (sym is, s.1)
-  Finds-settled old new v accepted None (Ok r) is s = subst (λ r. Finds {A = A} eq key v accepted old (reply_of_found (Ok r)) new) (sym s.0) (sym is, refl, (s.1, λ long. s.2 (subst IsTooLong s.1 long)))
+  Finds-settled old new v accepted None (Ok r) is s =
+      subst (λ r. Finds {A = A} eq key v accepted old (reply_of_found (Ok r)) new) (sym s.0)
+      (sym is, refl, (s.1, λ long. s.2 (subst IsTooLong s.1 long)))
   Finds-settled old new v accepted None (Err RunTooLong) is s = (sym is, (s.1, s.2))
   Finds-settled old new v accepted None (Err Memory) is s = let e = s.0 in absurd (cc)
   Finds-settled old new v accepted None (Err Size) is s = let e = s.0 in absurd (cc)
@@ -53,10 +61,12 @@ module _ {H : Type 0} (A : Type 0) (eq : H → H → Bool) (key : H → ℕ) whe
       → (result ≡ Err Memory → IsFull old × (new ≡ old)) → Finds {A = A} eq key v accepted old (reply_of_found result) new
   Finds-replied old new x v accepted (Err Memory) is settles memory = let m = memory refl in (m.1, m.0)
   Finds-replied old new x v accepted (Err Size) is settles memory =
-      let s = subst (λ y. (found : Option H) × (found ≡ first_accepted eq accepted (candidates (grown key old) y)) × Settles (grown key old) y v found (Err Size) new) is (settles (λ e. absurd (cc))) in
+      let s = subst (λ y. (found : Option H) × (found ≡ first_accepted eq accepted (candidates (grown key old) y)) ×
+      Settles (grown key old) y v found (Err Size) new) is (settles (λ e. absurd (cc))) in
       Finds-settled old new v accepted s.0 (Err Size) s.1 s.2
   Finds-replied old new x v accepted (Err RunTooLong) is settles memory =
-      let s = subst (λ y. (found : Option H) × (found ≡ first_accepted eq accepted (candidates (grown key old) y)) × Settles (grown key old) y v found (Err RunTooLong) new) is (settles (λ e. absurd (cc))) in
+      let s = subst (λ y. (found : Option H) × (found ≡ first_accepted eq accepted (candidates (grown key old) y)) ×
+      Settles (grown key old) y v found (Err RunTooLong) new) is (settles (λ e. absurd (cc))) in
       Finds-settled old new v accepted s.0 (Err RunTooLong) s.1 s.2
   Finds-replied old new x v accepted (Ok r) is settles memory =
       let s = subst (λ y. (found : Option H) × (found ≡ first_accepted eq accepted (candidates (grown key old) y)) × Settles (grown key old) y v found (Ok r) new) is (settles (λ e. absurd (cc))) in

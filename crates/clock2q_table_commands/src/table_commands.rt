@@ -78,7 +78,8 @@ where
         AreReplied H.PartialEq.eq key commands.now table.old.homes replies.items table.new.homes) }
 
     // Each handle is under its hash again, and the slots are the layout of the entries.
-    ensures hashes { (key : H → ℕ) → IsHashing (F.post hash_of) key table.old.homes → IsHashing (F.post hash_of) key table.new.homes }
+    ensures hashes { (key : H → ℕ) → IsHashing (F.post hash_of) key table.old.homes →
+        IsHashing (F.post hash_of) key table.new.homes }
     ensures laid { IsLaidOut table.new }
     ensures memory { IfErr result (λ e. e ≡ TableError.Memory) }
     ensures unchanged { OnErr result (table.new ≡ table.old) }
@@ -203,7 +204,8 @@ fn get<H, A>(alloc: A, table: &Table<H, A>, hash: u64) -> TableReply<H, Vec<H, A
 where
     H: Copy + Eq + Default,
     A: Allocator + Copy,
-    ensures { (eq : H → H → Bool) (key : H → ℕ) → Gets eq key hash table.now.homes result table.now.homes }
+    ensures { (eq : H → H → Bool) (key : H → ℕ) →
+        Gets eq key hash table.now.homes result table.now.homes }
 {
     match table.get(hash).collect(alloc) {
         Ok(handles) => TableReply::Handles(handles),

@@ -36,7 +36,8 @@ pub struct Script<A: Allocator> {
 /// Returns the script that a text spells, or its first bad line. It takes time in proportion to the
 /// text.
 pub fn parse<A: Allocator + Copy>(alloc: A, text: &[u8]) -> Result<Script<A>, ServeError>
-    ensures { Parses (λ s. script_value (shares_value s.capacity s.chosen) s.commands.items) result (script_of text.now) }
+    ensures { Parses (λ s. script_value (shares_value s.capacity s.chosen) s.commands.items) result
+        (script_of text.now) }
 {
     let (first, others) = cut_line(text).ok_or(ServeError::BadLine(1))?;
     let (capacity, chosen) = shares_of(first).ok_or(ServeError::BadLine(1))?;
@@ -62,7 +63,8 @@ fn cut_line(text: &[u8]) -> Option<(&[u8], &[u8])>
 
 /// Returns the capacity in the first line, and the shares if the line has them.
 fn shares_of(line: &[u8]) -> Option<(NonZeroUsize, Option<ChosenShares>)>
-    ensures { option_map (λ shares. shares_value shares.0 shares.1) result ≡ shares_in (words_of line.now) }
+    ensures { option_map (λ shares. shares_value shares.0 shares.1) result ≡
+        shares_in (words_of line.now) }
 {
     let (name, arguments) = cut(line, b' ');
     if name != b"new".as_slice() {

@@ -7,6 +7,14 @@ use std::hash::{Hash, Hasher};
 
 /// The hash of a key, and a number that tells it from the others of this hash. Two tokens of one
 /// hash are equal if their numbers are. Only the hash is hashed.
+///
+/// # Example
+///
+/// ```
+/// let one = Token { hash: 7, number: 0 };
+/// let other = Token { hash: 7, number: 1 };
+/// assert!(rt; one != other);
+/// ```
 #[derive(Clone, Copy, Debug, PartialEq, Eq)]
 pub struct Token {
     /// The hash.

@@ -111,13 +111,18 @@ module _ (keys : List ℕ) (homes : List (List (ℕ × ℕ))) (key : ℕ) (is : 
     pub next : (number : ℕ) → result ≡ Ok (number, true) → IsInterned (keys ++ key ∷ []) new × (number ≡ length keys) × ((at : ℕ) → at < length keys → key_at keys at ≢ key)
     pub refused : (e : TableError) → result ≡ Err e → IsInterned keys new
 
-  pub numbered : (found : Option ℕ) (result : Result (ℕ × Bool) TableError) (new : List (List (ℕ × ℕ))) → Settles grew (spread key) (length keys) found result new → IsFound (λ at. eqb (key_at keys at) key) (candidates grew (spread key)) found → IsNumbered result new
+  pub numbered : (found : Option ℕ) (result : Result (ℕ × Bool) TableError) (new : List (List (ℕ × ℕ))) →
+      Settles grew (spread key) (length keys) found result new →
+      IsFound (λ at. eqb (key_at keys at) key) (candidates grew (spread key)) found → IsNumbered result new
   numbered (Some c) result new s f = record {
     old = λ number q.
         let pair : (c, false) ≡ (number, false) = cc in
         let one : c ≡ number = ap (λ (p : ℕ × Bool). p.0) pair in
-        let held = candidate_held grew (spread key) f.1 c f.2 in
-        (subst (IsInterned keys) (sym s.1) (interned_grown keys homes is), subst (λ n. n < length keys) one ((is.1 c).0 (grown_from (hash_at keys) homes c held)), subst (λ n. key_at keys n ≡ key) one (eqb-true (key_at keys c) key f.0));
+        let held = candidate_held grew (spread key) f.1 c f.2 in (
+          subst (IsInterned keys) (sym s.1) (interned_grown keys homes is),
+          subst (λ n. n < length keys) one ((is.1 c).0 (grown_from (hash_at keys) homes c held)),
+          subst (λ n. key_at keys n ≡ key) one (eqb-true (key_at keys c) key f.0),
+        );
     next = λ number q.
         let pair : (c, false) ≡ (number, true) = cc in
         let no_more : false ≡ true = ap (λ (p : ℕ × Bool). p.1) pair in

@@ -34,12 +34,15 @@ split_put parts new key part s same group from = record {
   count = subst IsPartitionCount (sym same) s.count;
   own = λ i number held at. elim (from i number held at) [
     | inl old ↦ subst (λ n. IsGroupOf (spread held) n i) (sym same) (s.own i number held old)
-    | inr own ↦ subst (λ n. IsGroupOf (spread held) n i) (sym same) (subst (λ p. IsGroupOf (spread held) (length parts) p) (sym own.1) (subst (λ k. IsGroupOf (spread k) (length parts) part) (sym own.0) group))
+    | inr own ↦ subst (λ n. IsGroupOf (spread held) n i) (sym same)
+        (subst (λ p. IsGroupOf (spread held) (length parts) p) (sym own.1)
+        (subst (λ k. IsGroupOf (spread k) (length parts) part) (sym own.0) group))
   ];
 }
 
 -- when one list is replaced, what is in a list is old or the key
-pub set_from : (parts : List (List ℕ)) (part key : ℕ) (own : List ℕ) → part < length parts → ((number held : ℕ) → slice_get own number ≡ Some held → (slice_get (get_or parts part []) number ≡ Some held) ⊎ (held ≡ key))
+pub set_from : (parts : List (List ℕ)) (part key : ℕ) (own : List ℕ) → part < length parts →
+    ((number held : ℕ) → slice_get own number ≡ Some held → (slice_get (get_or parts part []) number ≡ Some held) ⊎ (held ≡ key))
     → (i number held : ℕ) → slice_get (get_or (slice_set parts part own) i []) number ≡ Some held → (slice_get (get_or parts i []) number ≡ Some held) ⊎ ((held ≡ key) × (i ≡ part))
 set_from parts part key own l only i number held at = elim (cases_eq i part) [
   | inl same ↦

@@ -13,4 +13,6 @@ key_at keys at = get_or keys at 0
 
 -- the table has exactly the places of the keys, each under its key's hash, and no key occurs twice
 abbrev pub IsInterned : List ℕ → List (List (ℕ × ℕ)) → Type 0
-IsInterned keys homes = IsHashOf (λ at. spread (key_at keys at)) homes × ((at : ℕ) → IsHeld homes at ↔ (at < length keys)) × ((at other : ℕ) → at < length keys → other < length keys → key_at keys at ≡ key_at keys other → at ≡ other)
+IsInterned keys homes =
+    IsHashOf (λ at. spread (key_at keys at)) homes × ((at : ℕ) → IsHeld homes at ↔ (at < length keys)) ×
+    ((at other : ℕ) → at < length keys → other < length keys → key_at keys at ≡ key_at keys other → at ≡ other)

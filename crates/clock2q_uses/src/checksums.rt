@@ -26,8 +26,10 @@ pub fn checksums(
     documents: &[Vec<u8>],
     numbers: Vec<usize>,
 ) -> Result<Vec<Option<u32>>, CacheError>
-    ensures checksums { IfOk result (λ sums. sums.items ≡ map (document_checksum documents.now) numbers.items) }
-    ensures capacity { IsErrOf result CacheError.Capacity ↔ (MAX_CAPACITY < non_zero_usize_get capacity) }
+    ensures checksums { IfOk result
+        (λ sums. sums.items ≡ map (document_checksum documents.now) numbers.items) }
+    ensures capacity { IsErrOf result CacheError.Capacity ↔
+        (MAX_CAPACITY < non_zero_usize_get capacity) }
     ensures policy { result ≢ Err CacheError.Policy }
 {
     let mut memo = Memo::new(
@@ -49,9 +51,13 @@ where
     F: Fn(&usize) -> Option<u32>,
     S: BuildHasher,
     requires callable { IsCallableAt F.Fn memo.old.function number }
-    ensures unchanged { Remembers eqb (FnReturnsAt F.Fn memo.old.function) memo.old.machine → (value : ℕ → Option ℕ) → Computes eqb (FnReturnsAt F.Fn memo.old.function) value → IsTrue result ↔ (value number ≡ Some checksum) }
-    ensures remembers { Remembers eqb (FnReturnsAt F.Fn memo.old.function) memo.old.machine → Remembers eqb (FnReturnsAt F.Fn memo.new.function) memo.new.machine }
-    ensures unread { IsSome (slot_of (eqb number) memo.old.machine) → memo.new.evaluations ≡ memo.old.evaluations }
+    ensures unchanged { Remembers eqb (FnReturnsAt F.Fn memo.old.function) memo.old.machine →
+        (value : ℕ → Option ℕ) → Computes eqb (FnReturnsAt F.Fn memo.old.function) value →
+        IsTrue result ↔ (value number ≡ Some checksum) }
+    ensures remembers { Remembers eqb (FnReturnsAt F.Fn memo.old.function) memo.old.machine →
+        Remembers eqb (FnReturnsAt F.Fn memo.new.function) memo.new.machine }
+    ensures unread { IsSome (slot_of (eqb number) memo.old.machine) →
+        memo.new.evaluations ≡ memo.old.evaluations }
     ensures once { memo.new.evaluations ≤ memo.old.evaluations + 1 }
 {
     memo.get_recorded(number) == Some(checksum)

@@ -31,9 +31,13 @@ where
     requires alike { other.old.machine ≡ one.old.machine }
     requires prefills { AreSupplied (map call_of commands.items) }
     requires same { map call_of again.items ≡ map call_of commands.items }
-    ensures ran { IfOk result (λ both. map answer_of both.0.items ≡ answers K.eq (map call_of commands.items) one.old.machine) }
-    ensures left { OnOk result (one.new.machine ≡ after_all K.eq (map call_of commands.items) one.old.machine) }
-    ensures replies { IfOk result (λ both. map answer_of both.1.items ≡ map answer_of both.0.items) }
+    ensures ran { IfOk result
+        (λ both. map answer_of both.0.items ≡
+        answers K.eq (map call_of commands.items) one.old.machine) }
+    ensures left { OnOk result
+        (one.new.machine ≡ after_all K.eq (map call_of commands.items) one.old.machine) }
+    ensures replies { IfOk result
+        (λ both. map answer_of both.1.items ≡ map answer_of both.0.items) }
     ensures machine { IfOk result (λ both. other.new.machine ≡ one.new.machine) }
     ensures memory { IfErr result (λ e. e ≡ CacheError.Memory) }
     ensures unrun { OnErr result (other.new ≡ other.old) }

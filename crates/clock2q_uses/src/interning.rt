@@ -68,9 +68,12 @@ impl Interner {
     /// and none is added.
     pub fn intern(&mut self, key: u64) -> Result<usize, TableError>
         ensures stands { IfOk result (λ number. slice_get self.new number ≡ Some key) }
-        ensures same { IfOk result (λ number. (other : ℕ) → slice_get self.old other ≡ Some key → number ≡ other) }
-        ensures only { (number held : ℕ) → slice_get self.new number ≡ Some held → (slice_get self.old number ≡ Some held) ⊎ (held ≡ key) }
-        ensures kept { (number held : ℕ) → slice_get self.old number ≡ Some held → slice_get self.new number ≡ Some held }
+        ensures same { IfOk result
+            (λ number. (other : ℕ) → slice_get self.old other ≡ Some key → number ≡ other) }
+        ensures only { (number held : ℕ) → slice_get self.new number ≡ Some held →
+            (slice_get self.old number ≡ Some held) ⊎ (held ≡ key) }
+        ensures kept { (number held : ℕ) → slice_get self.old number ≡ Some held →
+            slice_get self.new number ≡ Some held }
         ensures refused { OnErr result (self.new ≡ self.old) }
     {
         if self.keys.reserve(1).is_err() {

@@ -22,8 +22,10 @@ pub fn load<T: Copy, S: BuildHasher>(
     requires frames { pages.old.machine.shares.capacity ≤ length frames.old }
     ensures resident { resident_frame pages.new.machine page ≡ Some result }
     ensures within { result < pages.old.machine.shares.capacity }
-    ensures content { AreLoaded file.now pages.old.machine frames.old → slice_get frames.new result ≡ slice_get file.now page }
-    ensures loaded { AreLoaded file.now pages.old.machine frames.old → AreLoaded file.now pages.new.machine frames.new }
+    ensures content { AreLoaded file.now pages.old.machine frames.old →
+        slice_get frames.new result ≡ slice_get file.now page }
+    ensures loaded { AreLoaded file.now pages.old.machine frames.old →
+        AreLoaded file.now pages.new.machine frames.new }
     ensures unread { IsLoaded pages.old.machine page result → frames.new ≡ frames.old }
     ensures shares { pages.new.machine.shares ≡ pages.old.machine.shares }
 {
@@ -51,7 +53,8 @@ pub fn read_pages<T: Copy>(
     requires frames { non_zero_usize_get capacity ≤ length frames.old }
     ensures pages { IfOk result (λ read. read.items ≡ map (slice_get file.now) numbers.now) }
     ensures unread { OnErr result (frames.new ≡ frames.old) }
-    ensures capacity { IsErrOf result CacheError.Capacity ↔ (MAX_CAPACITY < non_zero_usize_get capacity) }
+    ensures capacity { IsErrOf result CacheError.Capacity ↔
+        (MAX_CAPACITY < non_zero_usize_get capacity) }
     ensures policy { result ≢ Err CacheError.Policy }
 {
     let mut pages = Cache::new(alloc, capacity)?;
@@ -86,8 +89,10 @@ fn read_page<T: Copy, S: BuildHasher>(
     number: usize,
 ) -> Option<T>
     requires frames { pages.old.machine.shares.capacity ≤ length frames.old }
-    ensures content { AreLoaded file.now pages.old.machine frames.old → result ≡ slice_get file.now number }
-    ensures loaded { AreLoaded file.now pages.old.machine frames.old → AreLoaded file.now pages.new.machine frames.new }
+    ensures content { AreLoaded file.now pages.old.machine frames.old →
+        result ≡ slice_get file.now number }
+    ensures loaded { AreLoaded file.now pages.old.machine frames.old →
+        AreLoaded file.now pages.new.machine frames.new }
     ensures shares { pages.new.machine.shares ≡ pages.old.machine.shares }
 {
     if number >= file.len() {

@@ -27,8 +27,11 @@ where
     A: Allocator,
     F: FnOnce() -> Result<V, E>,
     requires { slot_of (K.eq key) cache.old.machine ≡ None → F.pre read }
-    ensures machine { IfOk result (λ value. cache.new.machine ≡ fetched (K.eq key) key value cache.old.machine) }
-    ensures value { IfOk result (λ value. UnwrapsOrElse (value_of (K.eq key) cache.old.machine) (λ v. F.post read (Ok v)) value) }
+    ensures machine { IfOk result
+        (λ value. cache.new.machine ≡ fetched (K.eq key) key value cache.old.machine) }
+    ensures value { IfOk result
+        (λ value. UnwrapsOrElse (value_of (K.eq key) cache.old.machine)
+        (λ v. F.post read (Ok v)) value) }
     ensures err { IfErr result (λ e. F.post read (Err e)) }
     ensures absent { OnErr result (slot_of (K.eq key) cache.old.machine ≡ None) }
     ensures unchanged { OnErr result (cache.new.machine ≡ cache.old.machine) }
@@ -62,9 +65,11 @@ pub fn record_of<T: Copy, S: BuildHasher>(
     file: &[T],
     number: usize,
 ) -> Result<T, NoRecord>
-    ensures found { AreRecords file.now records.old.machine → IfOk result (λ found. slice_get file.now number ≡ Some found) }
+    ensures found { AreRecords file.now records.old.machine →
+        IfOk result (λ found. slice_get file.now number ≡ Some found) }
     ensures missing { OnErr result (slice_get file.now number ≡ None) }
-    ensures keeps { AreRecords file.now records.old.machine → AreRecords file.now records.new.machine }
+    ensures keeps { AreRecords file.now records.old.machine →
+        AreRecords file.now records.new.machine }
     ensures unchanged { OnErr result (records.new.machine ≡ records.old.machine) }
 {
     let _ = records.len(); // whose contract says that the cache is whole

@@ -19,7 +19,8 @@ use std::num::NonZeroUsize;
 /// cache, the commands or the replies.
 pub fn replay(alloc: Global, capacity: NonZeroUsize, trace: &[u64]) -> Result<usize, CacheError>
     ensures hits { IfOk result (λ hits. hits ≡ trace_hits (non_zero_usize_get capacity) trace.now) }
-    ensures capacity { IsErrOf result CacheError.Capacity ↔ (MAX_CAPACITY < non_zero_usize_get capacity) }
+    ensures capacity { IsErrOf result CacheError.Capacity ↔
+        (MAX_CAPACITY < non_zero_usize_get capacity) }
     ensures policy { result ≢ Err CacheError.Policy }
 {
     hits_in(alloc, &mut Cache::new(alloc, capacity)?, trace)
@@ -27,7 +28,8 @@ pub fn replay(alloc: Global, capacity: NonZeroUsize, trace: &[u64]) -> Result<us
 
 /// Puts each key of the trace in a cache, and returns the number of keys that were resident.
 fn hits_in(alloc: Global, cache: &mut Cache<u64, u64>, trace: &[u64]) -> Result<usize, CacheError>
-    ensures hits { IfOk result (λ hits. hits ≡ count_by is_hit (answers eqb (map put_of trace.now) cache.old.machine)) }
+    ensures hits { IfOk result
+        (λ hits. hits ≡ count_by is_hit (answers eqb (map put_of trace.now) cache.old.machine)) }
     ensures memory { IfErr result (λ e. e ≡ CacheError.Memory) }
 {
     let replies = run(alloc, cache, puts_of(alloc, trace)?)?;

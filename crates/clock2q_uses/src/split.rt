@@ -68,9 +68,15 @@ impl SplitIndex {
     ///
     /// Those of [`Interner::intern`]. All keys keep their numbers, and none is added.
     pub fn insert(&mut self, key: u64) -> Result<usize, TableError>
-        ensures stands { IfOk result (λ number. (part : ℕ) → IsGroupOf (spread key) (length self.old) part → slice_get (get_or self.new part []) number ≡ Some key) }
-        ensures kept { (part number held : ℕ) → slice_get (get_or self.old part []) number ≡ Some held → slice_get (get_or self.new part []) number ≡ Some held }
-        ensures only { (part number held : ℕ) → slice_get (get_or self.new part []) number ≡ Some held → (slice_get (get_or self.old part []) number ≡ Some held) ⊎ (held ≡ key) }
+        ensures stands { IfOk result
+            (λ number. (part : ℕ) → IsGroupOf (spread key) (length self.old) part →
+            slice_get (get_or self.new part []) number ≡ Some key) }
+        ensures kept { (part number held : ℕ) →
+            slice_get (get_or self.old part []) number ≡ Some held →
+            slice_get (get_or self.new part []) number ≡ Some held }
+        ensures only { (part number held : ℕ) →
+            slice_get (get_or self.new part []) number ≡ Some held →
+            (slice_get (get_or self.old part []) number ≡ Some held) ⊎ (held ≡ key) }
         ensures refused { OnErr result (self.new ≡ self.old) }
         ensures parts { length self.new ≡ length self.old }
     {
@@ -80,8 +86,11 @@ impl SplitIndex {
 
     /// Returns the key's number in its part, if it has one. No other part is searched.
     pub fn get(&self, key: u64) -> Option<usize>
-        ensures found { IfSome result (λ number. (part : ℕ) → IsGroupOf (spread key) (length self.now) part → slice_get (get_or self.now part []) number ≡ Some key) }
-        ensures none { IfNone result ((part number : ℕ) → slice_get (get_or self.now part []) number ≢ Some key) }
+        ensures found { IfSome result
+            (λ number. (part : ℕ) → IsGroupOf (spread key) (length self.now) part →
+            slice_get (get_or self.now part []) number ≡ Some key) }
+        ensures none { IfNone result
+            ((part number : ℕ) → slice_get (get_or self.now part []) number ≢ Some key) }
     {
         self.parts[self.part_of(key)].number_of(key)
     }

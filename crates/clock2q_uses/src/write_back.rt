@@ -18,7 +18,8 @@ pub fn write_block<T: Copy, S: BuildHasher>(
     requires within { number < length device.old }
     requires marks { length dirty.old ≡ length device.old }
     requires in_step { IsInStep cache.old.machine dirty.old device.old }
-    ensures blocks { blocks cache.new.machine device.new ≡ slice_set (blocks cache.old.machine device.old) number block }
+    ensures blocks { blocks cache.new.machine device.new ≡
+        slice_set (blocks cache.old.machine device.old) number block }
     ensures in_step { IsInStep cache.new.machine dirty.new device.new }
     ensures marks { length dirty.new ≡ length dirty.old }
     ensures as_many { length device.new ≡ length device.old }
@@ -104,7 +105,9 @@ fn write_left<T: Copy>(
     requires within { IfSome handed (λ block. block.0 < length device.old) }
     requires marks { length dirty.old ≡ length device.old }
     ensures written { device.new ≡ written_if_left dirty.old (other_than number handed) device.old }
-    ensures clean { (k : ℕ) → ((r : ℕ × T) → other_than number handed ≡ Some r → eqb k r.0 ≡ false) → is_dirty dirty.new k ≡ is_dirty dirty.old k }
+    ensures clean { (k : ℕ) →
+        ((r : ℕ × T) → other_than number handed ≡ Some r → eqb k r.0 ≡ false) →
+        is_dirty dirty.new k ≡ is_dirty dirty.old k }
     ensures marks { length dirty.new ≡ length dirty.old }
     ensures as_many { length device.new ≡ length device.old }
 {

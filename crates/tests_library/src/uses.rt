@@ -197,7 +197,8 @@ fn a_scan_leaves_main(rt: HostRuntime) -> Result<(), Fail> {
 /// Three blocks through one slot: what is written goes to the device when its slot is needed, or at
 /// the flush.
 fn blocks_are_written_back(cache: &mut Cache<usize, u8>) -> Result<(), Fail>
-    requires fresh { (dirty : List Bool) (device : List ℕ) → IsInStep cache.old.machine dirty device }
+    requires fresh { (dirty : List Bool) (device : List ℕ) →
+        IsInStep cache.old.machine dirty device }
 {
     let mut dirty = [false; 3];
     let mut device = *b"abc";

@@ -49,11 +49,13 @@ fn put(keys: &mut Keys<u64, ()>, index: &mut Table<u32>, hash: u64, key: u64)
     requires room { length keys.old.entries < keys.old.room }
     requires short { keys.old.room < 2 ^ 24 }
     requires spacious { keys.old.room ≤ capacity (length index.old.homes) }
-    requires indexed { (places : List ℕ) × IsIndex index.old.homes keys.old.entries places × AllBelow (length keys.old.entries) places × (length places ≡ length keys.old.entries) }
+    requires indexed { (places : List ℕ) × IsIndex index.old.homes keys.old.entries places ×
+        AllBelow (length keys.old.entries) places × (length places ≡ length keys.old.entries) }
     ensures room { keys.new.room ≡ keys.old.room }
     ensures len { length keys.new.entries ≡ length keys.old.entries + 1 }
     ensures spacious { keys.new.room ≤ capacity (length index.new.homes) }
-    ensures indexed { (places : List ℕ) × IsIndex index.new.homes keys.new.entries places × AllBelow (length keys.new.entries) places × (length places ≡ length keys.new.entries) }
+    ensures indexed { (places : List ℕ) × IsIndex index.new.homes keys.new.entries places ×
+        AllBelow (length keys.new.entries) places × (length places ≡ length keys.new.entries) }
 {
     let place = keys.len() as u32;
     keys.push(hash, key, ());

@@ -56,7 +56,8 @@ fn admit_again(queues: &mut Queues)
     requires main { queues.old.main ≡ [] }
     ensures slots { queues.new.slots ≡ 4 }
     ensures window { queues.new.window ≡ 2 }
-    ensures small { queues.new.small ≡ (3, Young 0) ∷ (2, Old false) ∷ (1, Old false) ∷ (0, Old false) ∷ [] }
+    ensures small { queues.new.small ≡
+        (3, Young 0) ∷ (2, Old false) ∷ (1, Old false) ∷ (0, Old false) ∷ [] }
     ensures main { queues.new.main ≡ [] }
 {
     queues.admit(0);
@@ -92,7 +93,8 @@ fn empty_places(queues: &mut Queues)
     requires small { queues.old.small ≡ [] }
     requires main { queues.old.main ≡ [] }
     ensures slots { queues.new.slots ≡ 4 }
-    ensures small { queues.new.small ≡ (0, Young 0) ∷ (3, Young 1) ∷ (2, Old false) ∷ (1, Old false) ∷ [] }
+    ensures small { queues.new.small ≡
+        (0, Young 0) ∷ (3, Young 1) ∷ (2, Old false) ∷ (1, Old false) ∷ [] }
     ensures main { queues.new.main ≡ [] }
 {
     admit_again(queues);

@@ -20,10 +20,18 @@ use std::hash::{BuildHasher, BuildHasherDefault, Hash, Hasher};
 #[unsafe(no_mangle)]
 pub extern "C" fn clock2q_tokens_seek(handle: &mut TokensHandle, hash: u64, nth: usize) -> Found
     requires { IsSome handle.old.cache }
-    ensures found { IfSome handle.old.cache (λ o. IsTrue result.is_found ↔ IsSome (slice_get (slots_with_hash ⟦<Token as Hash>⟧ ⟦<BuildHasherDefault<GivenHash> as BuildHasher>⟧ ⟦<GivenHash as Hasher>⟧ hash o.cache) nth)) }
-    ensures slot { IfSome handle.old.cache (λ o. result.slot ≡ unwrap_or (slice_get (slots_with_hash ⟦<Token as Hash>⟧ ⟦<BuildHasherDefault<GivenHash> as BuildHasher>⟧ ⟦<GivenHash as Hasher>⟧ hash o.cache) nth) 0) }
-    ensures listed { IfSome handle.old.cache (λ o. ListsOnce ⟦<Token as Hash>⟧ ⟦<BuildHasherDefault<GivenHash> as BuildHasher>⟧ ⟦<GivenHash as Hasher>⟧ hash o.cache) }
-    ensures within { IfSome (tokens_in handle.old.cache) (λ m. IsTrue result.is_found → result.slot < m.shares.capacity) }
+    ensures found { IfSome handle.old.cache
+        (λ o. IsTrue result.is_found ↔
+        IsSome (slice_get
+        (slots_with_hash ⟦<Token as Hash>⟧ ⟦<BuildHasherDefault<GivenHash> as BuildHasher>⟧ ⟦<GivenHash as Hasher>⟧ hash o.cache) nth)) }
+    ensures slot { IfSome handle.old.cache
+        (λ o. result.slot ≡
+        unwrap_or (slice_get
+        (slots_with_hash ⟦<Token as Hash>⟧ ⟦<BuildHasherDefault<GivenHash> as BuildHasher>⟧ ⟦<GivenHash as Hasher>⟧ hash o.cache) nth) 0) }
+    ensures listed { IfSome handle.old.cache
+        (λ o. ListsOnce ⟦<Token as Hash>⟧ ⟦<BuildHasherDefault<GivenHash> as BuildHasher>⟧ ⟦<GivenHash as Hasher>⟧ hash o.cache) }
+    ensures within { IfSome (tokens_in handle.old.cache)
+        (λ m. IsTrue result.is_found → result.slot < m.shares.capacity) }
     ensures same { handle.new.cache ≡ handle.old.cache }
 {
     match handle.held().cache.slot_with_hash(hash, nth) {

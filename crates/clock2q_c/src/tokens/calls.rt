@@ -35,14 +35,34 @@ pub struct Admitted {
 #[unsafe(no_mangle)]
 pub extern "C" fn clock2q_tokens_admit(handle: &mut TokensHandle, hash: u64) -> Admitted
     requires { IsSome handle.old.cache }
-    ensures hash { IfSome handle.old.cache (λ o. hash_in ⟦<Token as Hash>⟧ ⟦<BuildHasherDefault<GivenHash> as BuildHasher>⟧ ⟦<GivenHash as Hasher>⟧ o.cache (token hash 0) ≡ hash) }
-    ensures first { result.has_entered ≡ false → IfSome handle.old.cache (λ o. slice_get (slots_with_hash ⟦<Token as Hash>⟧ ⟦<BuildHasherDefault<GivenHash> as BuildHasher>⟧ ⟦<GivenHash as Hasher>⟧ (hash_in ⟦<Token as Hash>⟧ ⟦<BuildHasherDefault<GivenHash> as BuildHasher>⟧ ⟦<GivenHash as Hasher>⟧ o.cache (token hash 0)) o.cache) 0 ≡ Some result.slot) }
+    ensures hash { IfSome handle.old.cache
+        (λ o. hash_in ⟦<Token as Hash>⟧ ⟦<BuildHasherDefault<GivenHash> as BuildHasher>⟧ ⟦<GivenHash as Hasher>⟧ o.cache
+        (token hash 0) ≡ hash) }
+    ensures first { result.has_entered ≡ false →
+        IfSome handle.old.cache
+        (λ o. slice_get
+        (slots_with_hash ⟦<Token as Hash>⟧ ⟦<BuildHasherDefault<GivenHash> as BuildHasher>⟧ ⟦<GivenHash as Hasher>⟧
+        (hash_in ⟦<Token as Hash>⟧ ⟦<BuildHasherDefault<GivenHash> as BuildHasher>⟧ ⟦<GivenHash as Hasher>⟧ o.cache
+        (token hash 0)) o.cache) 0 ≡ Some result.slot) }
     ensures same { result.has_entered ≡ false → handle.new.cache ≡ handle.old.cache }
-    ensures alone { result.has_entered ≡ true → IfSome handle.old.cache (λ o. slots_with_hash ⟦<Token as Hash>⟧ ⟦<BuildHasherDefault<GivenHash> as BuildHasher>⟧ ⟦<GivenHash as Hasher>⟧ (hash_in ⟦<Token as Hash>⟧ ⟦<BuildHasherDefault<GivenHash> as BuildHasher>⟧ ⟦<GivenHash as Hasher>⟧ o.cache (token hash 0)) o.cache ≡ []) }
-    ensures resident { result.has_entered ≡ true → IfSome (tokens_in handle.new.cache) (λ m. slot_of (⟦<Token as PartialEq>⟧.eq (token hash 0)) m ≡ Some result.slot) }
+    ensures alone { result.has_entered ≡ true →
+        IfSome handle.old.cache
+        (λ o. slots_with_hash ⟦<Token as Hash>⟧ ⟦<BuildHasherDefault<GivenHash> as BuildHasher>⟧ ⟦<GivenHash as Hasher>⟧
+        (hash_in ⟦<Token as Hash>⟧ ⟦<BuildHasherDefault<GivenHash> as BuildHasher>⟧ ⟦<GivenHash as Hasher>⟧ o.cache
+        (token hash 0)) o.cache ≡ []) }
+    ensures resident { result.has_entered ≡ true →
+        IfSome (tokens_in handle.new.cache)
+        (λ m. slot_of (⟦<Token as PartialEq>⟧.eq (token hash 0)) m ≡ Some result.slot) }
     ensures within { IfSome (tokens_in handle.new.cache) (λ m. result.slot < m.shares.capacity) }
-    ensures machine { result.has_entered ≡ true → tokens_in handle.new.cache ≡ option_map (put (⟦<Token as PartialEq>⟧.eq (token hash 0)) (token hash 0) tt) (tokens_in handle.old.cache) }
-    ensures costs { result.has_entered ≡ true → IfSome handle.old.cache (λ o. IfSome handle.new.cache (λ n. Costs ⟦<Token as Hash>⟧ ⟦<BuildHasherDefault<GivenHash> as BuildHasher>⟧ ⟦<GivenHash as Hasher>⟧ (Put (token hash 0) tt) o.cache n.cache)) }
+    ensures machine { result.has_entered ≡ true →
+        tokens_in handle.new.cache ≡
+        option_map (put (⟦<Token as PartialEq>⟧.eq (token hash 0)) (token hash 0) tt)
+        (tokens_in handle.old.cache) }
+    ensures costs { result.has_entered ≡ true →
+        IfSome handle.old.cache
+        (λ o. IfSome handle.new.cache
+        (λ n. Costs ⟦<Token as Hash>⟧ ⟦<BuildHasherDefault<GivenHash> as BuildHasher>⟧ ⟦<GivenHash as Hasher>⟧
+        (Put (token hash 0) tt) o.cache n.cache)) }
     ensures holds { IsSome handle.new.cache }
 {
     let (slot, has_entered) = admit(handle.held(), hash);
@@ -51,14 +71,26 @@ pub extern "C" fn clock2q_tokens_admit(handle: &mut TokensHandle, hash: u64) -> 
 
 /// Admits the token of a hash and the number 0, if no token has the hash.
 fn admit(held: &mut HeldTokens<Global>, hash: u64) -> (usize, bool)
-    ensures hash { hash_in ⟦<Token as Hash>⟧ ⟦<BuildHasherDefault<GivenHash> as BuildHasher>⟧ ⟦<GivenHash as Hasher>⟧ held.old.cache (token hash 0) ≡ hash }
-    ensures first { result.1 ≡ false → slice_get (slots_with_hash ⟦<Token as Hash>⟧ ⟦<BuildHasherDefault<GivenHash> as BuildHasher>⟧ ⟦<GivenHash as Hasher>⟧ (hash_in ⟦<Token as Hash>⟧ ⟦<BuildHasherDefault<GivenHash> as BuildHasher>⟧ ⟦<GivenHash as Hasher>⟧ held.old.cache (token hash 0)) held.old.cache) 0 ≡ Some result.0 }
+    ensures hash { hash_in ⟦<Token as Hash>⟧ ⟦<BuildHasherDefault<GivenHash> as BuildHasher>⟧ ⟦<GivenHash as Hasher>⟧ held.old.cache
+        (token hash 0) ≡ hash }
+    ensures first { result.1 ≡ false →
+        slice_get (slots_with_hash ⟦<Token as Hash>⟧ ⟦<BuildHasherDefault<GivenHash> as BuildHasher>⟧ ⟦<GivenHash as Hasher>⟧
+        (hash_in ⟦<Token as Hash>⟧ ⟦<BuildHasherDefault<GivenHash> as BuildHasher>⟧ ⟦<GivenHash as Hasher>⟧ held.old.cache
+        (token hash 0)) held.old.cache) 0 ≡ Some result.0 }
     ensures same { result.1 ≡ false → held.new ≡ held.old }
-    ensures alone { result.1 ≡ true → slots_with_hash ⟦<Token as Hash>⟧ ⟦<BuildHasherDefault<GivenHash> as BuildHasher>⟧ ⟦<GivenHash as Hasher>⟧ (hash_in ⟦<Token as Hash>⟧ ⟦<BuildHasherDefault<GivenHash> as BuildHasher>⟧ ⟦<GivenHash as Hasher>⟧ held.old.cache (token hash 0)) held.old.cache ≡ [] }
-    ensures resident { result.1 ≡ true → slot_of (⟦<Token as PartialEq>⟧.eq (token hash 0)) held.new.cache.machine ≡ Some result.0 }
+    ensures alone { result.1 ≡ true →
+        slots_with_hash ⟦<Token as Hash>⟧ ⟦<BuildHasherDefault<GivenHash> as BuildHasher>⟧ ⟦<GivenHash as Hasher>⟧
+        (hash_in ⟦<Token as Hash>⟧ ⟦<BuildHasherDefault<GivenHash> as BuildHasher>⟧ ⟦<GivenHash as Hasher>⟧ held.old.cache
+        (token hash 0)) held.old.cache ≡ [] }
+    ensures resident { result.1 ≡ true →
+        slot_of (⟦<Token as PartialEq>⟧.eq (token hash 0)) held.new.cache.machine ≡ Some result.0 }
     ensures within { result.0 < held.new.cache.machine.shares.capacity }
-    ensures machine { result.1 ≡ true → held.new.cache.machine ≡ put (⟦<Token as PartialEq>⟧.eq (token hash 0)) (token hash 0) tt held.old.cache.machine }
-    ensures costs { result.1 ≡ true → Costs ⟦<Token as Hash>⟧ ⟦<BuildHasherDefault<GivenHash> as BuildHasher>⟧ ⟦<GivenHash as Hasher>⟧ (Put (token hash 0) tt) held.old.cache held.new.cache }
+    ensures machine { result.1 ≡ true →
+        held.new.cache.machine ≡
+        put (⟦<Token as PartialEq>⟧.eq (token hash 0)) (token hash 0) tt held.old.cache.machine }
+    ensures costs { result.1 ≡ true →
+        Costs ⟦<Token as Hash>⟧ ⟦<BuildHasherDefault<GivenHash> as BuildHasher>⟧ ⟦<GivenHash as Hasher>⟧
+        (Put (token hash 0) tt) held.old.cache held.new.cache }
 {
     let token = Token { hash, number: 0 };
     held.cache.slot_with_hash_or_insert(token, ())
@@ -73,10 +105,16 @@ fn admit(held: &mut HeldTokens<Global>, hash: u64) -> (usize, bool)
 #[unsafe(no_mangle)]
 pub extern "C" fn clock2q_tokens_enter(handle: &mut TokensHandle, hash: u64, number: u64) -> usize
     requires { IsSome handle.old.cache }
-    ensures resident { IfSome (tokens_in handle.new.cache) (λ m. slot_of (⟦<Token as PartialEq>⟧.eq (token hash number)) m ≡ Some result) }
+    ensures resident { IfSome (tokens_in handle.new.cache)
+        (λ m. slot_of (⟦<Token as PartialEq>⟧.eq (token hash number)) m ≡ Some result) }
     ensures within { IfSome (tokens_in handle.new.cache) (λ m. result < m.shares.capacity) }
-    ensures machine { tokens_in handle.new.cache ≡ option_map (put (⟦<Token as PartialEq>⟧.eq (token hash number)) (token hash number) tt) (tokens_in handle.old.cache) }
-    ensures costs { IfSome handle.old.cache (λ o. IfSome handle.new.cache (λ n. Costs ⟦<Token as Hash>⟧ ⟦<BuildHasherDefault<GivenHash> as BuildHasher>⟧ ⟦<GivenHash as Hasher>⟧ (Put (token hash number) tt) o.cache n.cache)) }
+    ensures machine { tokens_in handle.new.cache ≡
+        option_map (put (⟦<Token as PartialEq>⟧.eq (token hash number)) (token hash number) tt)
+        (tokens_in handle.old.cache) }
+    ensures costs { IfSome handle.old.cache
+        (λ o. IfSome handle.new.cache
+        (λ n. Costs ⟦<Token as Hash>⟧ ⟦<BuildHasherDefault<GivenHash> as BuildHasher>⟧ ⟦<GivenHash as Hasher>⟧
+        (Put (token hash number) tt) o.cache n.cache)) }
     ensures holds { IsSome handle.new.cache }
 {
     enter(&mut handle.held().cache, Token { hash, number })
@@ -91,10 +129,19 @@ pub extern "C" fn clock2q_tokens_enter(handle: &mut TokensHandle, hash: u64, num
 #[unsafe(no_mangle)]
 pub extern "C" fn clock2q_tokens_hit(handle: &mut TokensHandle, slot: usize) -> bool
     requires { IsSome handle.old.cache }
-    ensures found { IfSome (tokens_in handle.old.cache) (λ m. IsTrue result ↔ IsSome (resident_at m slot)) }
-    ensures machine { IfSome handle.old.cache (λ o. IfSome handle.new.cache (λ n. IfSome (resident_at o.cache.machine slot) (λ r. n.cache.machine ≡ hit (⟦<Token as PartialEq>⟧.eq r.0) o.cache.machine))) }
-    ensures missed { IfSome handle.old.cache (λ o. IfNone (resident_at o.cache.machine slot) (handle.new.cache ≡ handle.old.cache)) }
-    ensures costs { IfSome handle.old.cache (λ o. IfSome handle.new.cache (λ n. IfSome (resident_at o.cache.machine slot) (λ r. Costs ⟦<Token as Hash>⟧ ⟦<BuildHasherDefault<GivenHash> as BuildHasher>⟧ ⟦<GivenHash as Hasher>⟧ (Get r.0) o.cache n.cache))) }
+    ensures found { IfSome (tokens_in handle.old.cache)
+        (λ m. IsTrue result ↔ IsSome (resident_at m slot)) }
+    ensures machine { IfSome handle.old.cache
+        (λ o. IfSome handle.new.cache
+        (λ n. IfSome (resident_at o.cache.machine slot)
+        (λ r. n.cache.machine ≡ hit (⟦<Token as PartialEq>⟧.eq r.0) o.cache.machine))) }
+    ensures missed { IfSome handle.old.cache
+        (λ o. IfNone (resident_at o.cache.machine slot) (handle.new.cache ≡ handle.old.cache)) }
+    ensures costs { IfSome handle.old.cache
+        (λ o. IfSome handle.new.cache
+        (λ n. IfSome (resident_at o.cache.machine slot)
+        (λ r. Costs ⟦<Token as Hash>⟧ ⟦<BuildHasherDefault<GivenHash> as BuildHasher>⟧ ⟦<GivenHash as Hasher>⟧
+        (Get r.0) o.cache n.cache))) }
     ensures holds { IsSome handle.new.cache }
 {
     handle.held().cache.hit_slot(slot)
@@ -108,10 +155,19 @@ pub extern "C" fn clock2q_tokens_hit(handle: &mut TokensHandle, slot: usize) -> 
 #[unsafe(no_mangle)]
 pub extern "C" fn clock2q_tokens_remove(handle: &mut TokensHandle, slot: usize) -> bool
     requires { IsSome handle.old.cache }
-    ensures found { IfSome (tokens_in handle.old.cache) (λ m. IsTrue result ↔ IsSome (resident_at m slot)) }
-    ensures machine { IfSome handle.old.cache (λ o. IfSome handle.new.cache (λ n. IfSome (resident_at o.cache.machine slot) (λ r. n.cache.machine ≡ removed (⟦<Token as PartialEq>⟧.eq r.0) o.cache.machine))) }
-    ensures missed { IfSome handle.old.cache (λ o. IfNone (resident_at o.cache.machine slot) (handle.new.cache ≡ handle.old.cache)) }
-    ensures costs { IfSome handle.old.cache (λ o. IfSome handle.new.cache (λ n. IfSome (resident_at o.cache.machine slot) (λ r. Costs ⟦<Token as Hash>⟧ ⟦<BuildHasherDefault<GivenHash> as BuildHasher>⟧ ⟦<GivenHash as Hasher>⟧ (Remove r.0) o.cache n.cache))) }
+    ensures found { IfSome (tokens_in handle.old.cache)
+        (λ m. IsTrue result ↔ IsSome (resident_at m slot)) }
+    ensures machine { IfSome handle.old.cache
+        (λ o. IfSome handle.new.cache
+        (λ n. IfSome (resident_at o.cache.machine slot)
+        (λ r. n.cache.machine ≡ removed (⟦<Token as PartialEq>⟧.eq r.0) o.cache.machine))) }
+    ensures missed { IfSome handle.old.cache
+        (λ o. IfNone (resident_at o.cache.machine slot) (handle.new.cache ≡ handle.old.cache)) }
+    ensures costs { IfSome handle.old.cache
+        (λ o. IfSome handle.new.cache
+        (λ n. IfSome (resident_at o.cache.machine slot)
+        (λ r. Costs ⟦<Token as Hash>⟧ ⟦<BuildHasherDefault<GivenHash> as BuildHasher>⟧ ⟦<GivenHash as Hasher>⟧
+        (Remove r.0) o.cache n.cache))) }
     ensures holds { IsSome handle.new.cache }
 {
     handle.held().cache.remove_slot(slot)
@@ -126,9 +182,15 @@ pub extern "C" fn clock2q_tokens_remove(handle: &mut TokensHandle, slot: usize) 
 #[unsafe(no_mangle)]
 pub extern "C" fn clock2q_tokens_forget(handle: &mut TokensHandle, hash: u64, number: u64) -> bool
     requires { IsSome handle.old.cache }
-    ensures found { IfSome (tokens_in handle.old.cache) (λ m. IsTrue result ↔ IsSome (slot_of (⟦<Token as PartialEq>⟧.eq (token hash number)) m)) }
-    ensures machine { tokens_in handle.new.cache ≡ option_map (removed (⟦<Token as PartialEq>⟧.eq (token hash number))) (tokens_in handle.old.cache) }
-    ensures costs { IfSome handle.old.cache (λ o. IfSome handle.new.cache (λ n. Costs ⟦<Token as Hash>⟧ ⟦<BuildHasherDefault<GivenHash> as BuildHasher>⟧ ⟦<GivenHash as Hasher>⟧ (Remove (token hash number)) o.cache n.cache)) }
+    ensures found { IfSome (tokens_in handle.old.cache)
+        (λ m. IsTrue result ↔ IsSome (slot_of (⟦<Token as PartialEq>⟧.eq (token hash number)) m)) }
+    ensures machine { tokens_in handle.new.cache ≡
+        option_map (removed (⟦<Token as PartialEq>⟧.eq (token hash number)))
+        (tokens_in handle.old.cache) }
+    ensures costs { IfSome handle.old.cache
+        (λ o. IfSome handle.new.cache
+        (λ n. Costs ⟦<Token as Hash>⟧ ⟦<BuildHasherDefault<GivenHash> as BuildHasher>⟧ ⟦<GivenHash as Hasher>⟧
+        (Remove (token hash number)) o.cache n.cache)) }
     ensures holds { IsSome handle.new.cache }
 {
     handle.held().cache.remove(&Token { hash, number })
@@ -143,7 +205,9 @@ pub extern "C" fn clock2q_tokens_forget(handle: &mut TokensHandle, hash: u64, nu
 pub extern "C" fn clock2q_tokens_clear(handle: &mut TokensHandle)
     requires { IsSome handle.old.cache }
     ensures machine { tokens_in handle.new.cache ≡ option_map cleared (tokens_in handle.old.cache) }
-    ensures costs { IfSome handle.old.cache (λ o. IfSome handle.new.cache (λ n. Costs ⟦<Token as Hash>⟧ ⟦<BuildHasherDefault<GivenHash> as BuildHasher>⟧ ⟦<GivenHash as Hasher>⟧ Clear o.cache n.cache)) }
+    ensures costs { IfSome handle.old.cache
+        (λ o. IfSome handle.new.cache
+        (λ n. Costs ⟦<Token as Hash>⟧ ⟦<BuildHasherDefault<GivenHash> as BuildHasher>⟧ ⟦<GivenHash as Hasher>⟧ Clear o.cache n.cache)) }
     ensures holds { IsSome handle.new.cache }
 {
     handle.held().cache.clear();

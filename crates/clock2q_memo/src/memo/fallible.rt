@@ -41,9 +41,13 @@ where
     pub fn fallible<E>(alloc: A, capacity: NonZeroUsize, function: F) -> Result<Self, CacheError>
     where
         F: Fn(&K) -> Result<V, E>,
-        ensures remembers { IfOk result (λ memo. Remembers K.eq (GivesOk F.Fn memo.function) memo.machine) }
-        ensures made { IfOk result (λ memo. memo ≡ memo_state (empty (usual_shares (non_zero_usize_get capacity))) function 0) }
-        ensures capacity { IsErrOf result CacheError.Capacity ↔ (MAX_CAPACITY < non_zero_usize_get capacity) }
+        ensures remembers { IfOk result
+            (λ memo. Remembers K.eq (GivesOk F.Fn memo.function) memo.machine) }
+        ensures made { IfOk result
+            (λ memo. memo ≡
+            memo_state (empty (usual_shares (non_zero_usize_get capacity))) function 0) }
+        ensures capacity { IsErrOf result CacheError.Capacity ↔
+            (MAX_CAPACITY < non_zero_usize_get capacity) }
         ensures policy { result ≢ Err CacheError.Policy }
     {
         Memo::fallible_with_hasher(alloc, capacity, BuildHasherDefault::new(), function)
@@ -81,9 +85,13 @@ where
     ) -> Result<Self, CacheError>
     where
         F: Fn(&K) -> Result<V, E>,
-        ensures remembers { IfOk result (λ memo. Remembers K.eq (GivesOk F.Fn memo.function) memo.machine) }
-        ensures made { IfOk result (λ memo. memo ≡ memo_state (empty (usual_shares (non_zero_usize_get capacity))) function 0) }
-        ensures capacity { IsErrOf result CacheError.Capacity ↔ (MAX_CAPACITY < non_zero_usize_get capacity) }
+        ensures remembers { IfOk result
+            (λ memo. Remembers K.eq (GivesOk F.Fn memo.function) memo.machine) }
+        ensures made { IfOk result
+            (λ memo. memo ≡
+            memo_state (empty (usual_shares (non_zero_usize_get capacity))) function 0) }
+        ensures capacity { IsErrOf result CacheError.Capacity ↔
+            (MAX_CAPACITY < non_zero_usize_get capacity) }
         ensures policy { result ≢ Err CacheError.Policy }
     {
         let cache = Cache::with_hasher(alloc, capacity, hasher)?;
@@ -121,15 +129,20 @@ where
     pub fn get_or_try<E>(&mut self, key: K) -> Result<V, E>
     where
         F: Fn(&K) -> Result<V, E>,
-        requires callable { slot_of (K.eq key) self.old.machine ≡ None → IsCallableAt F.Fn self.old.function key }
-        ensures value { IfOk result (IsValueAt K.eq (GivesOk F.Fn self.old.function) self.old.machine key) }
+        requires callable { slot_of (K.eq key) self.old.machine ≡ None →
+            IsCallableAt F.Fn self.old.function key }
+        ensures value { IfOk result
+            (IsValueAt K.eq (GivesOk F.Fn self.old.function) self.old.machine key) }
         ensures err { IfErr result (λ e. FnReturnsAt F.Fn self.old.function key (Err e)) }
         ensures absent { OnErr result (slot_of (K.eq key) self.old.machine ≡ None) }
-        ensures remembers { Remembers K.eq (GivesOk F.Fn self.old.function) self.old.machine → Remembers K.eq (GivesOk F.Fn self.new.function) self.new.machine }
-        ensures machine { IfOk result (λ v. self.new.machine ≡ fetched (K.eq key) key v self.old.machine) }
+        ensures remembers { Remembers K.eq (GivesOk F.Fn self.old.function) self.old.machine →
+            Remembers K.eq (GivesOk F.Fn self.new.function) self.new.machine }
+        ensures machine { IfOk result
+            (λ v. self.new.machine ≡ fetched (K.eq key) key v self.old.machine) }
         ensures unchanged { OnErr result (self.new.machine ≡ self.old.machine) }
         ensures resident { IfOk result (λ v. value_of (K.eq key) self.new.machine ≡ Some v) }
-        ensures evaluations { self.new.evaluations ≡ self.old.evaluations + evaluations_for K.eq key self.old.machine }
+        ensures evaluations { self.new.evaluations ≡
+            self.old.evaluations + evaluations_for K.eq key self.old.machine }
         ensures function { self.new.function ≡ self.old.function }
     {
         match self.cache.get(&key) {
@@ -146,8 +159,10 @@ where
         requires absent { slot_of (K.eq key) self.old.machine ≡ None }
         ensures value { IfOk result (GivesOk F.Fn self.old.function key) }
         ensures err { IfErr result (λ e. FnReturnsAt F.Fn self.old.function key (Err e)) }
-        ensures remembers { Remembers K.eq (GivesOk F.Fn self.old.function) self.old.machine → Remembers K.eq (GivesOk F.Fn self.new.function) self.new.machine }
-        ensures machine { IfOk result (λ v. self.new.machine ≡ inserted (K.eq key) key v self.old.machine) }
+        ensures remembers { Remembers K.eq (GivesOk F.Fn self.old.function) self.old.machine →
+            Remembers K.eq (GivesOk F.Fn self.new.function) self.new.machine }
+        ensures machine { IfOk result
+            (λ v. self.new.machine ≡ inserted (K.eq key) key v self.old.machine) }
         ensures unchanged { OnErr result (self.new.machine ≡ self.old.machine) }
         ensures resident { IfOk result (λ v. value_of (K.eq key) self.new.machine ≡ Some v) }
         ensures evaluations { self.new.evaluations ≡ self.old.evaluations + 1 }

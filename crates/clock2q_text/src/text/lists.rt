@@ -20,7 +20,8 @@ fn bit_of(byte: u8) -> Option<bool>
 
 /// Returns the bits of the only word.
 pub(super) fn bits<A: Allocator>(alloc: A, words: &[u8]) -> Option<Result<Vec<bool, A>, AllocError>>
-    ensures { Spells (λ v. v.items) result (with_one (some_read bit_of) (λ bits. bits) (words_of words.now)) }
+    ensures { Spells (λ v. v.items) result
+        (with_one (some_read bit_of) (λ bits. bits) (words_of words.now)) }
 {
     let mut bits = Vec::new(alloc);
     let mut refused = false;

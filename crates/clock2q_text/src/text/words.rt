@@ -30,8 +30,10 @@ pub(super) fn cut(bytes: &[u8], separator: u8) -> (&[u8], Option<&[u8]>)
 /// Returns the number that the first word spells, and the text after the space that ends it, if
 /// there is one. A number has no sign.
 pub(super) fn number(words: &[u8]) -> Option<(u64, Option<&[u8]>)>
-    ensures first { option_map (λ read. (read.0, words_after read.1)) result ≡ number_first (words_of words.now) }
-    ensures shorter { IfSome result (λ read. IfSome read.1 (λ rest. length rest.now < length words.now)) }
+    ensures first { option_map (λ read. (read.0, words_after read.1)) result ≡
+        number_first (words_of words.now) }
+    ensures shorter { IfSome result
+        (λ read. IfSome read.1 (λ rest. length rest.now < length words.now)) }
 {
     let mut value = 0u64;
     for (at, byte) in words.iter().enumerate() {

@@ -18,7 +18,12 @@ loop-command-init g c = record {
   rest = search rules;
   ran = λ end ran. subst (λ items. RunsAtCost (members g) g.S.BuildHasher g.S.Hasher.Hasher (map call_of items) c.args.cache.now end) (search rules) ran;
   hasher = refl;
-  linked = let e : into_iter_items c.into_iter-command-iterator.result ≡ c.args.commands.items = search rules in omega (arith, ap (λ items. summed g.K.PartialEq.eq (most_accesses g.K.PartialEq.eq) (map call_of items) c.args.cache.now.machine) e);
+  linked = let e : into_iter_items c.into_iter-command-iterator.result ≡ c.args.commands.items = search rules in
+      omega (
+        arith,
+        ap
+            (λ items. summed g.K.PartialEq.eq (most_accesses g.K.PartialEq.eq) (map call_of items) c.args.cache.now.machine) e,
+      );
   looked = search rules;
   supplied = subst (λ items. AreSupplied (map call_of items)) (search rules) c.requires.prefills;
   room = search rules;
@@ -33,7 +38,14 @@ loop-command-preserved g c = record {
   ends = search rules;
   told = grind (arith, common_steps);
   rest = grind (arith, common_steps);
-  ran = λ end ran. c.loop-command.invariant.ran end (subst (λ items. RunsAtCost (members g) g.S.BuildHasher g.S.Hasher.Hasher (map call_of items) c.loop-command.cache end) (sym c.in-Some.ensures.steps.0) (c.execute.ensures.indexed, c.execute.ensures.spacious, (c.execute.new.cache, (c.execute.ensures.machine, c.execute.ensures.hasher, c.execute.ensures.costs), ran)));
+  ran = λ end ran.
+      c.loop-command.invariant.ran end
+      (subst (λ items. RunsAtCost (members g) g.S.BuildHasher g.S.Hasher.Hasher (map call_of items) c.loop-command.cache end)
+      (sym c.in-Some.ensures.steps.0) (
+        c.execute.ensures.indexed,
+        c.execute.ensures.spacious,
+        (c.execute.new.cache, (c.execute.ensures.machine, c.execute.ensures.hasher, c.execute.ensures.costs), ran),
+      ));
   hasher = c.execute.ensures.hasher ∙ c.loop-command.invariant.hasher;
   linked = grind (arith, common_steps, c.execute.ensures.costs.counts.accesses.1);
   looked = grind (arith, common_steps, c.execute.ensures.costs.counts.inspections);

@@ -19,12 +19,22 @@ abbrev pub invariant-loop-command : goal.invariant-loop-command
 invariant-loop-command g l = record {
   can : (goal.iterator-loop-command g).can_next l.command-iterator;
   ends : (goal.iterator-loop-command g).is_finite l.command-iterator;
-  told : map answer_of l.replies.items ++ answers g.K.PartialEq.eq (map call_of (into_iter_items l.command-iterator)) l.cache.machine ≡ answers g.K.PartialEq.eq (map call_of l.fn.commands.items) l.fn.cache.machine;
+  told : map answer_of l.replies.items ++ answers g.K.PartialEq.eq
+      (map call_of (into_iter_items l.command-iterator)) l.cache.machine ≡
+      answers g.K.PartialEq.eq (map call_of l.fn.commands.items) l.fn.cache.machine;
   rest : after_all g.K.PartialEq.eq (map call_of (into_iter_items l.command-iterator)) l.cache.machine ≡ after_all g.K.PartialEq.eq (map call_of l.fn.commands.items) l.fn.cache.machine;
-  ran : (end : CacheState g.row.K.Denot g.row.V.Denot g.row.S.Denot) → RunsAtCost (members g) g.S.BuildHasher g.S.Hasher.Hasher (map call_of (into_iter_items l.command-iterator)) l.cache end → RunsAtCost (members g) g.S.BuildHasher g.S.Hasher.Hasher (map call_of l.fn.commands.items) l.fn.cache end;
+  ran : (end : CacheState g.row.K.Denot g.row.V.Denot g.row.S.Denot) →
+      RunsAtCost (members g) g.S.BuildHasher g.S.Hasher.Hasher (map call_of (into_iter_items l.command-iterator)) l.cache end →
+      RunsAtCost (members g) g.S.BuildHasher g.S.Hasher.Hasher (map call_of l.fn.commands.items) l.fn.cache end;
   hasher : l.cache.hasher ≡ l.fn.cache.hasher;
-  linked : l.cache.counts.accesses + summed g.K.PartialEq.eq (most_accesses g.K.PartialEq.eq) (map call_of (into_iter_items l.command-iterator)) l.cache.machine ≤ l.fn.cache.counts.accesses + summed g.K.PartialEq.eq (most_accesses g.K.PartialEq.eq) (map call_of l.fn.commands.items) l.fn.cache.machine;
-  looked : l.cache.counts.inspections + summed g.K.PartialEq.eq (inspections_of g.K.PartialEq.eq) (map call_of (into_iter_items l.command-iterator)) l.cache.machine ≡ l.fn.cache.counts.inspections + summed g.K.PartialEq.eq (inspections_of g.K.PartialEq.eq) (map call_of l.fn.commands.items) l.fn.cache.machine;
+  linked : l.cache.counts.accesses + summed g.K.PartialEq.eq (most_accesses g.K.PartialEq.eq)
+      (map call_of (into_iter_items l.command-iterator)) l.cache.machine ≤
+      l.fn.cache.counts.accesses + summed g.K.PartialEq.eq (most_accesses g.K.PartialEq.eq)
+      (map call_of l.fn.commands.items) l.fn.cache.machine;
+  looked : l.cache.counts.inspections + summed g.K.PartialEq.eq (inspections_of g.K.PartialEq.eq)
+      (map call_of (into_iter_items l.command-iterator)) l.cache.machine ≡
+      l.fn.cache.counts.inspections + summed g.K.PartialEq.eq (inspections_of g.K.PartialEq.eq)
+      (map call_of l.fn.commands.items) l.fn.cache.machine;
   supplied : AreSupplied (map call_of (into_iter_items l.command-iterator));
   room : vec_len l.replies + length (into_iter_items l.command-iterator) ≤ vec_capacity l.replies;
 }

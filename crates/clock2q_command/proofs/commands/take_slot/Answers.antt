@@ -6,6 +6,8 @@ use Rattle.clock2q_command.proofs.commands.take_slot.Goals as goal
 pub returns : goal.returns
 returns g c =
     let e = c.get_or_insert_mut-slot.ensures in
-    let h = slotted-given (g.K.PartialEq.eq c.args.key) c.args.key c.args.cache.now.machine _ c.get_or_insert_mut-slot.result.1.now c.args.value (λ w gave. search rules) c.get_or_insert_mut-slot.result.0 e.slot e.value in
+    let h = slotted-given
+    (g.K.PartialEq.eq c.args.key) c.args.key c.args.cache.now.machine _ c.get_or_insert_mut-slot.result.1.now c.args.value
+    (λ w gave. search rules) c.get_or_insert_mut-slot.result.0 e.slot e.value in
     let spent = e.costs c.get_or_insert_mut-slot.result.1.now in
     record { slot = e.slot; value = h.0; machine = e.unwritten ∙ h.1; hasher = refl; costs = record { counts = spent.counts; index = spent.index; clock = spent.clock } }

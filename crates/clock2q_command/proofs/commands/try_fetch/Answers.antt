@@ -17,7 +17,9 @@ returns-in-Ok g c =
       value = h.0;
       machine = becomes.0 ∙ c.in-Ok.ensures.unwritten ∙ h.1;
       hasher = becomes.1;
-      costs = tried-costs (record { eq = g.K.PartialEq.eq; hash_input = g.K.Hash.hash_input }) g.S.BuildHasher g.S.Hasher.Hasher c.args.key c.in-Ok.value.now c.args.cache.now _ becomes.2 _ c.args.offered (λ w gave. search rules) c.in-Ok.ensures.value;
+      costs = tried-costs
+          (record { eq = g.K.PartialEq.eq; hash_input = g.K.Hash.hash_input }) g.S.BuildHasher g.S.Hasher.Hasher c.args.key
+          c.in-Ok.value.now c.args.cache.now _ becomes.2 _ c.args.offered (λ w gave. search rules) c.in-Ok.ensures.value;
     }
 
 pub returns-in-Err : goal.returns-in-Err
@@ -31,5 +33,7 @@ returns-in-Err g c =
       value = search rules;
       machine = becomes.0 ∙ subst (λ o. m ≡ tried (eq c.args.key) c.args.key o m) (sym none) h.1;
       hasher = becomes.1;
-      costs = subst (λ o. Costs (record { eq = g.K.PartialEq.eq; hash_input = g.K.Hash.hash_input }) g.S.BuildHasher g.S.Hasher.Hasher (Try c.args.key o) c.args.cache.now c.try_get_or_insert_with_mut.follows.lender-at-none) (sym none) becomes.2;
+      costs = subst (λ o.
+          Costs (record { eq = g.K.PartialEq.eq; hash_input = g.K.Hash.hash_input }) g.S.BuildHasher g.S.Hasher.Hasher
+          (Try c.args.key o) c.args.cache.now c.try_get_or_insert_with_mut.follows.lender-at-none) (sym none) becomes.2;
     }

@@ -5,7 +5,10 @@ use Rattle.clock2q_command.proofs.Making.{Makes-usual, Makes-chosen}
 use Rattle.clock2q_command.proofs.serving.new_cache.Goals as goal
 
 pub returns-in-None : goal.returns-in-None
-returns-in-None g c = rw c.in-None.is (Makes-usual (λ cache. cache.machine) (non_zero_usize_get c.args.capacity) c.with_hasher.result (omega (arith, c.args.capacity.ok)) c.with_hasher.ensures.made c.with_hasher.ensures.capacity c.with_hasher.ensures.policy)
+returns-in-None g c =
+    rw c.in-None.is
+    (Makes-usual (λ cache. cache.machine) (non_zero_usize_get c.args.capacity) c.with_hasher.result
+    (omega (arith, c.args.capacity.ok)) c.with_hasher.ensures.made c.with_hasher.ensures.capacity c.with_hasher.ensures.policy)
 
 pub returns-in-Some : goal.returns-in-Some
 returns-in-Some g c =

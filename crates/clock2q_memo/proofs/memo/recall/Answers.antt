@@ -32,9 +32,20 @@ loop-key-preserved g c =
       told = λ h value computes.
           let now = subst (λ f. Computes g.K.PartialEq.eq (FnReturnsAt g.F.Fn f) value) (sym inv.function) computes in
           let is = c.get_recorded.ensures.value (inv.remembers h) value now in
-          rw c.push_reserved.ensures.items (one_more c.loop-key.values.items c.get_recorded.result (value c.in-Some.key) (map value (into_iter_items c.next.new.self)) _ is (subst (λ keys. c.loop-key.values.items ++ map value keys ≡ map value c.args.keys.items) left (inv.told h value computes)));
-      machine = recalled-step g.K.PartialEq.eq (into_iter_items c.loop-key.key-iterator) (into_iter_items c.next.new.self) c.args.keys.items c.in-Some.key c.get_recorded.result c.loop-key.memo.machine c.get_recorded.new.self.machine c.args.memo.now.machine c.loop-key.values.items c.push_reserved.new.self.items left c.get_recorded.ensures.machine c.push_reserved.ensures.items inv.machine;
-      evaluations = evaluations-step g.K.PartialEq.eq (into_iter_items c.loop-key.key-iterator) (into_iter_items c.next.new.self) c.args.keys.items c.in-Some.key c.get_recorded.result c.loop-key.memo.machine c.get_recorded.new.self.machine c.args.memo.now.machine c.loop-key.values.items c.push_reserved.new.self.items c.loop-key.memo.evaluations c.get_recorded.new.self.evaluations c.args.memo.now.evaluations left c.get_recorded.ensures.machine c.push_reserved.ensures.items c.get_recorded.ensures.evaluations inv.evaluations;
+          rw c.push_reserved.ensures.items
+          (one_more c.loop-key.values.items c.get_recorded.result (value c.in-Some.key)
+          (map value (into_iter_items c.next.new.self)) _ is
+          (subst (λ keys. c.loop-key.values.items ++ map value keys ≡ map value c.args.keys.items) left
+          (inv.told h value computes)));
+      machine = recalled-step g.K.PartialEq.eq (into_iter_items c.loop-key.key-iterator)
+          (into_iter_items c.next.new.self) c.args.keys.items c.in-Some.key c.get_recorded.result c.loop-key.memo.machine
+          c.get_recorded.new.self.machine c.args.memo.now.machine c.loop-key.values.items c.push_reserved.new.self.items left
+          c.get_recorded.ensures.machine c.push_reserved.ensures.items inv.machine;
+      evaluations = evaluations-step g.K.PartialEq.eq (into_iter_items c.loop-key.key-iterator)
+          (into_iter_items c.next.new.self) c.args.keys.items c.in-Some.key c.get_recorded.result c.loop-key.memo.machine
+          c.get_recorded.new.self.machine c.args.memo.now.machine c.loop-key.values.items c.push_reserved.new.self.items
+          c.loop-key.memo.evaluations c.get_recorded.new.self.evaluations c.args.memo.now.evaluations left
+          c.get_recorded.ensures.machine c.push_reserved.ensures.items c.get_recorded.ensures.evaluations inv.evaluations;
       function = c.get_recorded.ensures.function ∙ inv.function;
       sized = let gone = c.in-Some.ensures.steps.1 in let short = ap length left in omega (arith, inv.sized);
       room = search (rules, inv.room);
@@ -43,12 +54,16 @@ loop-key-preserved g c =
 pub returns-clause-machine : goal.returns-clause-machine
 returns-clause-machine g c =
     let ended = none_left _ (sym c.loop-key.invariant.sized ∙ c.in-None.ensures.steps.0) in
-    recalled-ended g.K.PartialEq.eq (into_iter_items c.loop-key.key-iterator) c.args.keys.items c.loop-key.memo.machine c.args.memo.now.machine c.loop-key.values.items ended c.loop-key.invariant.machine
+    recalled-ended g.K.PartialEq.eq
+    (into_iter_items c.loop-key.key-iterator) c.args.keys.items c.loop-key.memo.machine c.args.memo.now.machine
+    c.loop-key.values.items ended c.loop-key.invariant.machine
 
 pub returns-clause-evaluations : goal.returns-clause-evaluations
 returns-clause-evaluations g c =
     let ended = none_left _ (sym c.loop-key.invariant.sized ∙ c.in-None.ensures.steps.0) in
-    evaluations-ended g.K.PartialEq.eq (into_iter_items c.loop-key.key-iterator) c.args.keys.items c.loop-key.memo.machine c.args.memo.now.machine c.loop-key.values.items c.loop-key.memo.evaluations c.args.memo.now.evaluations ended c.loop-key.invariant.evaluations
+    evaluations-ended g.K.PartialEq.eq
+    (into_iter_items c.loop-key.key-iterator) c.args.keys.items c.loop-key.memo.machine c.args.memo.now.machine
+    c.loop-key.values.items c.loop-key.memo.evaluations c.args.memo.now.evaluations ended c.loop-key.invariant.evaluations
 
 pub returns-clause-values : goal.returns-clause-values
 returns-clause-values g c = grind (arith, common_steps)

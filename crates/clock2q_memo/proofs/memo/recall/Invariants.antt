@@ -13,9 +13,15 @@ invariant-loop-key g l = record {
   ends : (goal.iterator-loop-key g).is_finite l.key-iterator;
   callable : IsCallableAtEach (g.F.Fn) l.memo.function (into_iter_items l.key-iterator);
   remembers : Remembers g.K.PartialEq.eq (FnReturnsAt (g.F.Fn) l.fn.memo.function) l.fn.memo.machine → Remembers g.K.PartialEq.eq (FnReturnsAt (g.F.Fn) l.memo.function) l.memo.machine;
-  told : Remembers g.K.PartialEq.eq (FnReturnsAt (g.F.Fn) l.fn.memo.function) l.fn.memo.machine → (value : g.row.K.Denot → g.row.V.Denot) → Computes g.K.PartialEq.eq (FnReturnsAt (g.F.Fn) l.fn.memo.function) value → l.values.items ++ map value (into_iter_items l.key-iterator) ≡ map value l.fn.keys.items;
-  machine : (more : List g.row.V.Denot) → recalled g.K.PartialEq.eq (into_iter_items l.key-iterator) more l.memo.machine ≡ recalled g.K.PartialEq.eq l.fn.keys.items (l.values.items ++ more) l.fn.memo.machine;
-  evaluations : (more : List g.row.V.Denot) → l.memo.evaluations + evaluations_of g.K.PartialEq.eq (into_iter_items l.key-iterator) more l.memo.machine ≡ l.fn.memo.evaluations + evaluations_of g.K.PartialEq.eq l.fn.keys.items (l.values.items ++ more) l.fn.memo.machine;
+  told : Remembers g.K.PartialEq.eq (FnReturnsAt (g.F.Fn) l.fn.memo.function) l.fn.memo.machine →
+      (value : g.row.K.Denot → g.row.V.Denot) → Computes g.K.PartialEq.eq (FnReturnsAt (g.F.Fn) l.fn.memo.function) value →
+      l.values.items ++ map value (into_iter_items l.key-iterator) ≡ map value l.fn.keys.items;
+  machine : (more : List g.row.V.Denot) →
+      recalled g.K.PartialEq.eq (into_iter_items l.key-iterator) more l.memo.machine ≡
+      recalled g.K.PartialEq.eq l.fn.keys.items (l.values.items ++ more) l.fn.memo.machine;
+  evaluations : (more : List g.row.V.Denot) →
+      l.memo.evaluations + evaluations_of g.K.PartialEq.eq (into_iter_items l.key-iterator) more l.memo.machine ≡
+      l.fn.memo.evaluations + evaluations_of g.K.PartialEq.eq l.fn.keys.items (l.values.items ++ more) l.fn.memo.machine;
   function : l.memo.function ≡ l.fn.memo.function;
   sized : into_iter_len l.key-iterator ≡ length (into_iter_items l.key-iterator);
   room : vec_len l.values + length (into_iter_items l.key-iterator) ≤ vec_capacity l.values;

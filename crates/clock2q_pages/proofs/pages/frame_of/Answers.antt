@@ -8,13 +8,18 @@ pub returns-clause-resident : goal.returns-clause-resident
 returns-clause-resident g c = page_there c.args.pages.now.machine c.len.ensures.whole c.args.page (Some c.args.page) ∙ ap Some (sym c.get_or_insert_mut-frame.ensures.slot)
 
 pub returns-clause-alone : goal.returns-clause-alone
-returns-clause-alone g c = λ other differ found. page_alone c.args.pages.now.machine c.len.ensures.whole c.args.page (Some c.args.page) other differ (found ∙ ap Some c.get_or_insert_mut-frame.ensures.slot)
+returns-clause-alone g c =
+    λ other differ found.
+    page_alone c.args.pages.now.machine c.len.ensures.whole c.args.page (Some c.args.page) other differ
+    (found ∙ ap Some c.get_or_insert_mut-frame.ensures.slot)
 
 pub returns-clause-others : goal.returns-clause-others
 returns-clause-others g c = others_stand c.args.pages.now.machine c.len.ensures.whole c.args.page (Some c.args.page)
 
 pub returns-clause-within : goal.returns-clause-within
-returns-clause-within g c = subst (λ frame. frame < c.args.pages.now.machine.shares.capacity) (sym c.get_or_insert_mut-frame.ensures.slot) (frame_within c.args.pages.now.machine c.len.ensures.whole c.args.page (Some c.args.page))
+returns-clause-within g c =
+    subst (λ frame. frame < c.args.pages.now.machine.shares.capacity) (sym c.get_or_insert_mut-frame.ensures.slot)
+    (frame_within c.args.pages.now.machine c.len.ensures.whole c.args.page (Some c.args.page))
 
 pub returns-clause-loaded : goal.returns-clause-loaded
 returns-clause-loaded g c =
@@ -22,10 +27,16 @@ returns-clause-loaded g c =
     rw last (last_tells c.args.pages.now.machine c.args.page c.get_or_insert_mut-frame.result.0)
 
 pub returns-clause-loads : goal.returns-clause-loads
-returns-clause-loads g c = ap (slice_get (put (eqb c.args.page) c.args.page (Some c.args.page) c.args.pages.now.machine).values) c.get_or_insert_mut-frame.ensures.slot ∙ value_there c.args.pages.now.machine c.len.ensures.whole c.args.page (Some c.args.page)
+returns-clause-loads g c =
+    ap (slice_get (put (eqb c.args.page) c.args.page (Some c.args.page) c.args.pages.now.machine).values)
+    c.get_or_insert_mut-frame.ensures.slot
+    ∙ value_there c.args.pages.now.machine c.len.ensures.whole c.args.page (Some c.args.page)
 
 pub returns-clause-keeps : goal.returns-clause-keeps
-returns-clause-keeps g c = λ other at differ loaded. sym (values_elsewhere c.args.pages.now.machine c.len.ensures.whole c.args.page (Some c.args.page) at (λ same. differ (same ∙ sym c.get_or_insert_mut-frame.ensures.slot))) ∙ loaded
+returns-clause-keeps g c =
+    λ other at differ loaded.
+    sym (values_elsewhere c.args.pages.now.machine c.len.ensures.whole c.args.page (Some c.args.page) at
+    (λ same. differ (same ∙ sym c.get_or_insert_mut-frame.ensures.slot))) ∙ loaded
 
 pub returns-clause-shares : goal.returns-clause-shares
 returns-clause-shares g c = same_shares c.args.pages.now.machine c.len.ensures.whole c.args.page (Some c.args.page)

@@ -16,6 +16,10 @@ pub loop-capacity-preserved : goal.loop-capacity-preserved
 loop-capacity-preserved g c =
     let some : 0 < non_zero_usize_get c.capacity-item.result = omega (arith, c.get.ensures.value, c.get.ensures.nonzero) in
     let hits : c.sum_below.result ≡ plain_hits LeastRecentlyUsed (non_zero_usize_get c.capacity-item.result) c.args.trace.now =
-    c.sum_below.ensures ∙ ap (sum_to c.deref.result.now) c.get.ensures.value ∙ ap (λ counts. sum_to counts (non_zero_usize_get c.capacity-item.result)) c.deref.ensures.value ∙ c.in_ok-counts.ensures.hits (non_zero_usize_get c.capacity-item.result) some in
-    map-further (λ capacity. plain_hits LeastRecentlyUsed (non_zero_usize_get capacity) c.args.trace.now) c.args.capacities.now c.loop-capacity.hits.items c.push.new.self.items c.loop-capacity.capacity-index c.capacity-item.result c.loop-capacity-test.true c.capacity-item.is c.loop-capacity.invariant
+    c.sum_below.ensures ∙ ap (sum_to c.deref.result.now) c.get.ensures.value
+    ∙ ap (λ counts. sum_to counts (non_zero_usize_get c.capacity-item.result)) c.deref.ensures.value
+    ∙ c.in_ok-counts.ensures.hits (non_zero_usize_get c.capacity-item.result) some in
+    map-further (λ capacity. plain_hits LeastRecentlyUsed (non_zero_usize_get capacity) c.args.trace.now) c.args.capacities.now
+    c.loop-capacity.hits.items c.push.new.self.items c.loop-capacity.capacity-index c.capacity-item.result
+    c.loop-capacity-test.true c.capacity-item.is c.loop-capacity.invariant
     (c.in_ok-push.ensures.items ∙ ap (λ n. c.loop-capacity.hits.items ++ n ∷ []) hits)

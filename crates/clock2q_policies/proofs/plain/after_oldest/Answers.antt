@@ -13,4 +13,6 @@ loop-index-preserved c = rw add-one (held-stale c.args.trace.now c.args.stamps.n
 pub returns-clause-front : goal.returns-clause-front
 returns-clause-front c =
     let past : c.args.at ≤ c.loop-index.index = omega arith in
-    held-none c.args.trace.now c.args.stamps.now c.args.at c.args.at (omega arith) ∙ none-taken _ (sym c.loop-index.invariant ∙ held-none c.args.trace.now c.args.stamps.now c.loop-index.index c.args.at past)
+    held-none c.args.trace.now c.args.stamps.now c.args.at c.args.at (omega arith)
+    ∙ none-taken _ (sym c.loop-index.invariant
+    ∙ held-none c.args.trace.now c.args.stamps.now c.loop-index.index c.args.at past)

@@ -5,7 +5,14 @@ use Rattle.clock2q_table_commands.specs.TableCommands.{Inserts}
 use Rattle.clock2q_table_commands.proofs.table_commands.insert.Goals as goal
 
 pub insert-requires : goal.insert-requires
-insert-requires g c = record { rehash = λ _. (c.requires.hashes.0, given-same _ (λ f h r next called. search rules) _ c.requires.hashes.0 _ _ c.requires.hashes.1 (λ h. search rules) (λ h r next called. search rules)) }
+insert-requires g c =
+    record {
+      rehash = λ _. (
+        c.requires.hashes.0,
+        given-same _ (λ f h r next called. search rules) _ c.requires.hashes.0 _ _ c.requires.hashes.1 (λ h. search rules)
+            (λ h r next called. search rules),
+      );
+    }
 
 pub returns-clause-reply : goal.returns-clause-reply
 returns-clause-reply g c = λ key h.

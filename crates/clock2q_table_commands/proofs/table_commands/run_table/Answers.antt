@@ -22,7 +22,10 @@ execute-requires-clause-hashes g c = (c.requires.hashes.0, c.loop-command.invari
 pub loop-command-preserved : goal.loop-command-preserved
 loop-command-preserved g c = record {
   replied = λ key h.
-      subst (λ replies. AreReplied g.H.PartialEq.eq key (take (c.loop-command.command-index + 1) c.args.commands.now) c.args.table.now.homes replies c.execute.new.table.homes) (sym c.push_reserved.ensures.items)
+      subst (λ replies.
+      AreReplied g.H.PartialEq.eq key
+      (take (c.loop-command.command-index + 1) c.args.commands.now) c.args.table.now.homes replies
+      c.execute.new.table.homes) (sym c.push_reserved.ensures.items)
       (AreReplied-taken _ g.H.PartialEq.eq key c.args.commands.now c.loop-command.command-index c.command-item.result c.command-item.result c.loop-command.replies.items c.execute.result
       c.args.table.now.homes c.loop-command.table.homes c.execute.new.table.homes c.loop-command-test.true c.command-item.is
       (c.loop-command.invariant.replied key h) (c.execute.ensures.reply key (c.loop-command.invariant.hashes key h)));

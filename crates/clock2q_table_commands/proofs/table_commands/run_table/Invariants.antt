@@ -6,7 +6,8 @@ use Rattle.clock2q_table_commands.proofs.table_commands.run_table.Given as goal
 
 abbrev pub invariant-loop-command : goal.invariant-loop-command
 invariant-loop-command g l = record {
-  replied : (key : _) → IsHashing (λ h r. goal.F-post g l.hash_of h r) key l.fn.table.homes → AreReplied g.H.PartialEq.eq key (take l.command-index l.commands) l.fn.table.homes l.replies.items l.table.homes;
+  replied : (key : _) → IsHashing (λ h r. goal.F-post g l.hash_of h r) key l.fn.table.homes →
+      AreReplied g.H.PartialEq.eq key (take l.command-index l.commands) l.fn.table.homes l.replies.items l.table.homes;
   hashes : (key : _) → IsHashing (λ h r. goal.F-post g l.hash_of h r) key l.fn.table.homes → IsHashing (λ h r. goal.F-post g l.hash_of h r) key l.table.homes;
   laid : IsLaidOut l.table;
   room : vec_len l.replies + (length l.commands - l.command-index) ≤ vec_capacity l.replies;

@@ -12,7 +12,10 @@ returns-then-ne-clause-content g c =
 pub returns-then-ne-clause-loaded : goal.returns-then-ne-clause-loaded
 returns-then-ne-clause-loaded g c =
     let e = c.frame_of-frame.ensures in
-    copied_loaded c.args.file.now c.args.frames.now c.args.pages.now.machine c.frame_of-frame.new.pages.machine c.args.page c.frame_of-frame.result.0 c.index-file-page.result (slice_get-get_or c.args.file.now c.args.page c.index-file-page.result c.requires.page ∙ ap Some (sym c.index-file-page.is)) (omega (arith, e.within, c.requires.frames)) e.loads e.keeps
+    copied_loaded c.args.file.now c.args.frames.now c.args.pages.now.machine c.frame_of-frame.new.pages.machine c.args.page
+    c.frame_of-frame.result.0 c.index-file-page.result
+    (slice_get-get_or c.args.file.now c.args.page c.index-file-page.result c.requires.page
+    ∙ ap Some (sym c.index-file-page.is)) (omega (arith, e.within, c.requires.frames)) e.loads e.keeps
 
 pub returns-then-ne-clause-unread : goal.returns-then-ne-clause-unread
 returns-then-ne-clause-unread g c = search rules

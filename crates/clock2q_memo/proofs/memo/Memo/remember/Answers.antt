@@ -14,7 +14,9 @@ returns-clause-value g c = rw (← c.self.view_is) c.evaluate-value.ensures.valu
 pub returns-clause-remembers : goal.returns-clause-remembers
 returns-clause-remembers g c =
     let absent : slot_of (g.K.PartialEq.eq c.args.key) c.self.inside.cache.machine ≡ None = search (rules, c.requires.absent, c.self.view_is) in
-    rw (← c.self.view_is, c.evaluate-value.ensures.function) (λ h. kept-put g.K.PartialEq.eq g.met.K.Eq.laws _ c.self.invariant _ h c.args.key absent c.evaluate-value.result c.evaluate-value.ensures.value c.put.new.self.machine c.put.ensures.machine)
+    rw (← c.self.view_is, c.evaluate-value.ensures.function)
+    (λ h. kept-put g.K.PartialEq.eq g.met.K.Eq.laws _ c.self.invariant _ h c.args.key absent c.evaluate-value.result
+    c.evaluate-value.ensures.value c.put.new.self.machine c.put.ensures.machine)
 
 pub returns-clause-machine : goal.returns-clause-machine
 returns-clause-machine g c = search rules

@@ -23,4 +23,6 @@ returns-clause-value g c = rw (← c.self.view_is) c.in_ok-value.ensures.value
 pub returns-clause-remembers : goal.returns-clause-remembers
 returns-clause-remembers g c =
     let absent : slot_of (g.K.PartialEq.eq c.args.key) c.self.inside.cache.machine ≡ None = search (rules, c.requires.absent, c.self.view_is) in
-    rw (← c.self.view_is, c.evaluate.ensures.function) (λ h. kept-put g.K.PartialEq.eq g.met.K.Eq.laws _ c.self.invariant _ h c.args.key absent c.in_ok-value.value c.in_ok-value.ensures.value c.put.new.self.machine c.put.ensures.machine)
+    rw (← c.self.view_is, c.evaluate.ensures.function)
+    (λ h. kept-put g.K.PartialEq.eq g.met.K.Eq.laws _ c.self.invariant _ h c.args.key absent c.in_ok-value.value
+    c.in_ok-value.ensures.value c.put.new.self.machine c.put.ensures.machine)

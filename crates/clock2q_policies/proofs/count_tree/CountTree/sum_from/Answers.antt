@@ -21,12 +21,16 @@ loop-first-preserved-then-first-eq1 g c =
 
 pub overflow_add-sum-then-end-eq1 : goal.overflow_add-sum-then-end-eq1
 overflow_add-sum-then-end-eq1 g c =
-    let read : c.index-then-end-eq1.result.now ≡ node_of c.args.self.now (c.loop-first.end - 1) = c.index-then-end-eq1.ensures ∙ get_or_default c.args.self.now.nodes.items (c.loop-first.end - 1) c.index-then-end-eq1.result.now 0 (omega arith) in
+    let read : c.index-then-end-eq1.result.now ≡ node_of c.args.self.now (c.loop-first.end - 1) =
+    c.index-then-end-eq1.ensures
+    ∙ get_or_default c.args.self.now.nodes.items (c.loop-first.end - 1) c.index-then-end-eq1.result.now 0 (omega arith) in
     omega (arith, read, c.loop-first.invariant.told, sum-last (node_of c.args.self.now) c.loop-first.first c.loop-first.end c.loop-first-test.true, c.requires.fits)
 
 pub loop-first-preserved-then-end-eq1 : goal.loop-first-preserved-then-end-eq1
 loop-first-preserved-then-end-eq1 g c =
-    let read : c.index-then-end-eq1.result.now ≡ node_of c.args.self.now (c.loop-first.end - 1) = c.index-then-end-eq1.ensures ∙ get_or_default c.args.self.now.nodes.items (c.loop-first.end - 1) c.index-then-end-eq1.result.now 0 (omega arith) in
+    let read : c.index-then-end-eq1.result.now ≡ node_of c.args.self.now (c.loop-first.end - 1) =
+    c.index-then-end-eq1.ensures
+    ∙ get_or_default c.args.self.now.nodes.items (c.loop-first.end - 1) c.index-then-end-eq1.result.now 0 (omega arith) in
     record {
       some = omega arith;
       ordered = omega arith;

@@ -37,7 +37,15 @@ returns g c =
     let done = marking_done c.args.self.now.marks.items xs c.loop-self.self.leaves (c.loop-self.self.leaves + c.args.index) c.loop-self.node m marked in
     let leaves = c.loop-self.invariant.leaves in
     record {
-      tree = record { some = omega (arith, leaves, c.requires.tree.some); levels = c.requires.tree.levels; leaves = leaves ∙ c.requires.tree.leaves; long = done.long; top = done.top; pairs = done.pairs };
+      tree = record {
+        some = omega (arith, leaves, c.requires.tree.some);
+        levels = c.requires.tree.levels;
+        leaves = leaves
+            ∙ c.requires.tree.leaves;
+        long = done.long;
+        top = done.top;
+        pairs = done.pairs;
+      };
       leaves = leaves;
       added = done.added;
       others = λ other apart. done.others (c.loop-self.self.leaves + other) (omega arith) (λ is. apart (omega (arith, is))) ∙ ap (λ n. mark c.args.self.now.marks.items (n + other)) leaves;

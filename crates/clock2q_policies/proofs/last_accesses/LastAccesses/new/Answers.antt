@@ -14,7 +14,9 @@ returns g c =
         counts = record {
           tree = c.in_ok-new.ensures.tree;
           covers = omega (arith, c.in_ok-new.ensures.blocks);
-          counted = λ block below. c.in_ok-new.ensures.none (c.in_ok-new.field-0.blocks + block) ∙ sym (sum_none (newest c.args.trace.now c.in_ok-no_stamps.field-0.items) (16 * block) 16 (λ i from to. none-later c.args.trace.now c.in_ok-no_stamps.field-0.items 0 i stamped (omega arith)));
+          counted = λ block below. c.in_ok-new.ensures.none (c.in_ok-new.field-0.blocks + block)
+              ∙ sym (sum_none (newest c.args.trace.now c.in_ok-no_stamps.field-0.items) (16 * block) 16
+              (λ i from to. none-later c.args.trace.now c.in_ok-no_stamps.field-0.items 0 i stamped (omega arith)));
           few = λ node. omega (arith, c.in_ok-new.ensures.none node);
         };
       };

@@ -9,8 +9,18 @@ pub sum_from-count-requires-clause-fits : goal.sum_from-count-requires-clause-fi
 sum_from-count-requires-clause-fits g c =
     let inside : c.div_ceil-block.result ≤ c.args.self.now.counts.blocks = omega (arith, c.div_ceil-block.ensures, c.requires.counting.counts.covers) in
     elim (cases_lt (16 * c.div_ceil-block.result) c.args.at) [
-      | inl before ↦ omega (arith, c.ranges.at, behind-few c.args.trace.now c.args.at c.args.self.now c.requires.counting c.requires.at c.div_ceil-block.result (16 * c.div_ceil-block.result) inside (omega (arith, before)) (omega arith) (inr refl))
-      | inr past ↦ omega (arith, c.ranges.at, behind-few c.args.trace.now c.args.at c.args.self.now c.requires.counting c.requires.at c.div_ceil-block.result c.args.at inside (omega arith) past (inl refl))
+      | inl before ↦ omega (
+        arith,
+        c.ranges.at,
+        behind-few c.args.trace.now c.args.at c.args.self.now c.requires.counting c.requires.at c.div_ceil-block.result
+            (16 * c.div_ceil-block.result) inside (omega (arith, before)) (omega arith) (inr refl),
+      )
+      | inr past ↦ omega (
+        arith,
+        c.ranges.at,
+        behind-few c.args.trace.now c.args.at c.args.self.now c.requires.counting c.requires.at c.div_ceil-block.result
+            c.args.at inside (omega arith) past (inl refl),
+      )
     ]
 
 pub loop-index-init : goal.loop-index-init
@@ -26,7 +36,9 @@ loop-index-init g c =
       few = omega (
         arith,
         c.sum_from-count.ensures,
-        behind-few c.args.trace.now c.args.at c.args.self.now c.requires.counting c.requires.at c.div_ceil-block.result c.lesser-edge.result inside (omega (arith, c.lesser-edge.ensures)) (omega (arith, c.saturating_mul.ensures, c.lesser-edge.ensures)) ends,
+        behind-few c.args.trace.now c.args.at c.args.self.now c.requires.counting c.requires.at c.div_ceil-block.result
+            c.lesser-edge.result inside (omega (arith, c.lesser-edge.ensures))
+            (omega (arith, c.saturating_mul.ensures, c.lesser-edge.ensures)) ends,
       );
     }
 
@@ -55,5 +67,8 @@ returns g c =
     let begun : c.args.from ≤ c.lesser-edge.result = omega (arith, c.ranges.at, c.div_ceil-block.ensures, c.saturating_mul.ensures, c.lesser-edge.ensures) in
     let all : c.loop-index.index - c.args.from ≡ c.lesser-edge.result - c.args.from = omega (arith, begun) in
     c.loop-index.invariant.told
-    ∙ ap (λ n. sum_in (newest c.args.trace.now c.args.self.now.stamps.items) c.args.from n + sum_in (count_of c.args.self.now.counts) c.div_ceil-block.result (c.args.self.now.counts.blocks - c.div_ceil-block.result)) all
-    ∙ newer-sum c.args.trace.now c.args.at c.args.self.now c.requires.counting c.requires.at c.args.from c.div_ceil-block.result c.lesser-edge.result inside begun (omega (arith, c.lesser-edge.ensures)) (omega (arith, c.saturating_mul.ensures, c.lesser-edge.ensures)) ends
+    ∙ ap (λ n. sum_in (newest c.args.trace.now c.args.self.now.stamps.items) c.args.from n + sum_in
+    (count_of c.args.self.now.counts) c.div_ceil-block.result (c.args.self.now.counts.blocks - c.div_ceil-block.result)) all
+    ∙ newer-sum c.args.trace.now c.args.at c.args.self.now c.requires.counting c.requires.at c.args.from c.div_ceil-block.result
+    c.lesser-edge.result inside begun (omega (arith, c.lesser-edge.ensures))
+    (omega (arith, c.saturating_mul.ensures, c.lesser-edge.ensures)) ends

@@ -30,5 +30,7 @@ returns-else-next-trace-clause-awaiting g c =
       tree = a.tree;
       wide = a.wide;
       next = a.next;
-      waiting = not_joined (non_zero_usize_get c.args.capacity) some c.args.trace.now c.args.at (has c.leave-is_hit.new.self.waiting) c.leave-is_hit.new.self.count a.waiting c.index-next.result.now next c.if-next-trace.false;
+      waiting = not_joined (non_zero_usize_get c.args.capacity) some c.args.trace.now c.args.at
+          (has c.leave-is_hit.new.self.waiting) c.leave-is_hit.new.self.count a.waiting c.index-next.result.now next
+          c.if-next-trace.false;
     })

@@ -10,14 +10,21 @@ pub overflow_sub-self : goal.overflow_sub-self
 overflow_sub-self g c =
     let a = c.requires.awaiting in
     let waited : has c.args.self.now.waiting c.args.at ≡ true = sym c.contains.ensures ∙ c.if-contains.true in
-    omega (arith, some_wait c.args.trace.now c.args.at (optimal_at (non_zero_usize_get c.args.capacity) c.args.trace.now c.args.at) (has c.args.self.now.waiting) c.args.self.now.count c.args.at a.waiting waited)
+    omega (
+      arith,
+      some_wait c.args.trace.now c.args.at
+          (optimal_at (non_zero_usize_get c.args.capacity) c.args.trace.now c.args.at)
+          (has c.args.self.now.waiting) c.args.self.now.count c.args.at a.waiting waited,
+    )
 
 pub returns-then-contains-clause-awaiting : goal.returns-then-contains-clause-awaiting
 returns-then-contains-clause-awaiting g c =
     let a = c.requires.awaiting in
     let some : 0 < non_zero_usize_get c.args.capacity = omega (arith, c.args.capacity.ok) in
     let waited : has c.args.self.now.waiting c.args.at ≡ true = sym c.contains.ensures ∙ c.if-contains.true in
-    let wait : 0 < c.args.self.now.count = some_wait c.args.trace.now c.args.at (optimal_at (non_zero_usize_get c.args.capacity) c.args.trace.now c.args.at) (has c.args.self.now.waiting) c.args.self.now.count c.args.at a.waiting waited in
+    let wait : 0 < c.args.self.now.count =
+    some_wait c.args.trace.now c.args.at (optimal_at (non_zero_usize_get c.args.capacity) c.args.trace.now c.args.at)
+    (has c.args.self.now.waiting) c.args.self.now.count c.args.at a.waiting waited in
     let fewer : c.args.self.now.count ≡ c.args.self.now.count - 1 + 1 = omega (arith, wait) in
     rw add-one (record {
       tree = c.remove.ensures.tree;
@@ -46,7 +53,8 @@ returns-in_default-clause-awaiting g c =
     let some : 0 < non_zero_usize_get c.args.capacity = omega (arith, c.args.capacity.ok) in
     let unwaited : has c.args.self.now.waiting c.args.at ≡ false = sym c.contains.ensures ∙ c.if-contains.false in
     let all : non_zero_usize_get c.args.capacity ≤ c.args.self.now.count = omega (arith, c.if-self-get.false, c.get.ensures.value) in
-    absurd (rest_none (non_zero_usize_get c.args.capacity) some c.args.trace.now c.args.at c.requires.at (has c.args.self.now.waiting) c.args.self.now.count a.waiting unwaited all c.in_default.ensures.last)
+    absurd (rest_none (non_zero_usize_get c.args.capacity) some c.args.trace.now c.args.at c.requires.at
+    (has c.args.self.now.waiting) c.args.self.now.count a.waiting unwaited all c.in_default.ensures.last)
 
 pub returns-in_default-clause-room : goal.returns-in_default-clause-room
 returns-in_default-clause-room g c =
@@ -54,7 +62,8 @@ returns-in_default-clause-room g c =
     let some : 0 < non_zero_usize_get c.args.capacity = omega (arith, c.args.capacity.ok) in
     let unwaited : has c.args.self.now.waiting c.args.at ≡ false = sym c.contains.ensures ∙ c.if-contains.false in
     let all : non_zero_usize_get c.args.capacity ≤ c.args.self.now.count = omega (arith, c.if-self-get.false, c.get.ensures.value) in
-    absurd (rest_none (non_zero_usize_get c.args.capacity) some c.args.trace.now c.args.at c.requires.at (has c.args.self.now.waiting) c.args.self.now.count a.waiting unwaited all c.in_default.ensures.last)
+    absurd (rest_none (non_zero_usize_get c.args.capacity) some c.args.trace.now c.args.at c.requires.at
+    (has c.args.self.now.waiting) c.args.self.now.count a.waiting unwaited all c.in_default.ensures.last)
 
 pub returns-clause-awaiting : goal.returns-clause-awaiting
 returns-clause-awaiting g c =

@@ -43,7 +43,9 @@ find_or_insert-requires-clause-callable c = λ key gives. offered_held_by _ _ _ 
     _ (c.reserve.ensures.items, refl) key gives
 
 -- what the lookup returned
-told : (c : After-branch-number) → c.find_or_insert.result ≢ Err Memory → IsNumbered c.self.inside.keys.items c.self.inside.numbers.homes c.args.key c.self.invariant c.find_or_insert.result c.find_or_insert.new.self.homes
+told : (c : After-branch-number) → c.find_or_insert.result ≢ Err Memory →
+    IsNumbered c.self.inside.keys.items c.self.inside.numbers.homes c.args.key c.self.invariant c.find_or_insert.result
+    c.find_or_insert.new.self.homes
 told c ran =
     let keys : List ℕ = c.self.inside.keys.items in
     let homes = c.self.inside.numbers.homes in
@@ -65,7 +67,9 @@ told c ran =
     let key : next.1.now ≡ f.1.now = search rules in
     let shown : b ≡ eqb (get_or f.0.now.items h 0) f.1.now = grind (arith, common_steps) in
     (shown ∙ ap (λ ks. eqb (get_or ks h 0) f.1.now) same.0 ∙ ap (eqb (key_at keys h)) same.1, (still ∙ same.0, key ∙ same.1)))
-    (candidates (grown (hash_at keys) homes) c.hash_of.result) _ done.0 settles.0 (c.reserve.ensures.items, refl) (subst (λ x. (i at : ℕ) → slice_get (candidates (grown (hash_at keys) homes) x) i ≡ Some at → at < length keys) (sym c.hash_of.ensures.hash) (candidate_within keys homes c.args.key c.self.invariant)) done.1 in
+    (candidates (grown (hash_at keys) homes) c.hash_of.result) _ done.0 settles.0 (c.reserve.ensures.items, refl)
+    (subst (λ x. (i at : ℕ) → slice_get (candidates (grown (hash_at keys) homes) x) i ≡ Some at → at < length keys)
+    (sym c.hash_of.ensures.hash) (candidate_within keys homes c.args.key c.self.invariant)) done.1 in
     let long : c.len-next.result ≡ length keys = omega (arith, c.len-next.ensures, ap length c.reserve.ensures.items) in
     numbered keys homes c.args.key c.self.invariant done.0 c.find_or_insert.result c.find_or_insert.new.self.homes
     (subst (λ x. Settles (grown (hash_at keys) homes) x (length keys) done.0 c.find_or_insert.result c.find_or_insert.new.self.homes) c.hash_of.ensures.hash
@@ -75,32 +79,40 @@ told c ran =
 pub invariant_of-self-in_err-number : goal.invariant_of-self-in_err-number
 invariant_of-self-in_err-number c =
     subst (λ ks. IsInterned ks c.find_or_insert.new.self.homes) (sym c.reserve.ensures.items)
-    (no_number c.self.inside.keys.items c.self.inside.numbers.homes c.args.key c.self.invariant c.find_or_insert.result c.find_or_insert.new.self.homes (told (goal.at.invariant_of-self-in_err-number c).After-branch-number)
+    (no_number c.self.inside.keys.items c.self.inside.numbers.homes c.args.key c.self.invariant c.find_or_insert.result
+    c.find_or_insert.new.self.homes (told (goal.at.invariant_of-self-in_err-number c).After-branch-number)
     (λ e. ap (λ t. t.homes) (c.find_or_insert.ensures.memory e).1) c.in_err-number.field-0.0 c.in_err-number.was)
 
 pub invariant_of-self-then-is_new : goal.invariant_of-self-then-is_new
 invariant_of-self-then-is_new c =
-    let next = next_number c.self.inside.keys.items c.self.inside.numbers.homes c.args.key c.self.invariant c.find_or_insert.result c.find_or_insert.new.self.homes (told (goal.at.invariant_of-self-then-is_new c).After-branch-number)
+    let next = next_number c.self.inside.keys.items c.self.inside.numbers.homes c.args.key c.self.invariant
+    c.find_or_insert.result c.find_or_insert.new.self.homes
+    (told (goal.at.invariant_of-self-then-is_new c).After-branch-number)
     c.in_ok-number.number c.in_ok-number.is_new c.in_ok-number.was c.if-is_new.true in
     subst (λ ks. IsInterned ks c.find_or_insert.new.self.homes) (sym (c.push_reserved.ensures.items ∙ ap (λ ks. ks ++ c.args.key ∷ []) c.reserve.ensures.items)) next.0
 
 pub invariant_of-self-else-is_new : goal.invariant_of-self-else-is_new
 invariant_of-self-else-is_new c =
-    let old = old_number c.self.inside.keys.items c.self.inside.numbers.homes c.args.key c.self.invariant c.find_or_insert.result c.find_or_insert.new.self.homes (told (goal.at.invariant_of-self-else-is_new c).After-branch-number)
+    let old = old_number c.self.inside.keys.items c.self.inside.numbers.homes c.args.key c.self.invariant c.find_or_insert.result
+    c.find_or_insert.new.self.homes (told (goal.at.invariant_of-self-else-is_new c).After-branch-number)
     c.in_ok-number.number c.in_ok-number.is_new c.in_ok-number.was c.if-is_new.false in
     subst (λ ks. IsInterned ks c.find_or_insert.new.self.homes) (sym c.reserve.ensures.items) old.0
 
 pub returns-then-is_new-clause-stands : goal.returns-then-is_new-clause-stands
 returns-then-is_new-clause-stands c =
     let keys : List ℕ = c.self.inside.keys.items in
-    let next = next_number keys c.self.inside.numbers.homes c.args.key c.self.invariant c.find_or_insert.result c.find_or_insert.new.self.homes (told (goal.at.returns-then-is_new-clause-stands c).After-branch-number)
+    let next = next_number keys c.self.inside.numbers.homes c.args.key c.self.invariant c.find_or_insert.result
+    c.find_or_insert.new.self.homes (told (goal.at.returns-then-is_new-clause-stands c).After-branch-number)
     c.in_ok-number.number c.in_ok-number.is_new c.in_ok-number.was c.if-is_new.true in
-    ap (λ ks. slice_get ks c.in_ok-number.number) (c.push_reserved.ensures.items ∙ ap (λ ks. ks ++ c.args.key ∷ []) c.reserve.ensures.items) ∙ ap (slice_get (keys ++ c.args.key ∷ [])) next.1 ∙ slice_get-last keys c.args.key
+    ap (λ ks. slice_get ks c.in_ok-number.number)
+    (c.push_reserved.ensures.items ∙ ap (λ ks. ks ++ c.args.key ∷ []) c.reserve.ensures.items)
+    ∙ ap (slice_get (keys ++ c.args.key ∷ [])) next.1 ∙ slice_get-last keys c.args.key
 
 pub returns-then-is_new-clause-same : goal.returns-then-is_new-clause-same
 returns-then-is_new-clause-same c other at =
     let keys : List ℕ = c.self.inside.keys.items in
-    let next = next_number keys c.self.inside.numbers.homes c.args.key c.self.invariant c.find_or_insert.result c.find_or_insert.new.self.homes (told (goal.at.returns-then-is_new-clause-same c).After-branch-number)
+    let next = next_number keys c.self.inside.numbers.homes c.args.key c.self.invariant c.find_or_insert.result
+    c.find_or_insert.new.self.homes (told (goal.at.returns-then-is_new-clause-same c).After-branch-number)
     c.in_ok-number.number c.in_ok-number.is_new c.in_ok-number.was c.if-is_new.true in
     let there : slice_get keys other ≡ Some c.args.key = ap (λ ks. slice_get ks other) c.self.view_is ∙ at in
     absurd (next.2 other (slice_get_within keys other c.args.key there) (get_or_from_slice_get keys other c.args.key 0 there))
@@ -108,19 +120,22 @@ returns-then-is_new-clause-same c other at =
 pub returns-then-is_new-clause-kept : goal.returns-then-is_new-clause-kept
 returns-then-is_new-clause-kept c number held at =
     let keys : List ℕ = c.self.inside.keys.items in
-    ap (λ ks. slice_get ks number) (c.push_reserved.ensures.items ∙ ap (λ ks. ks ++ c.args.key ∷ []) c.reserve.ensures.items) ∙ slice_get-left keys (c.args.key ∷ []) number held (ap (λ ks. slice_get ks number) c.self.view_is ∙ at)
+    ap (λ ks. slice_get ks number) (c.push_reserved.ensures.items ∙ ap (λ ks. ks ++ c.args.key ∷ []) c.reserve.ensures.items)
+    ∙ slice_get-left keys (c.args.key ∷ []) number held (ap (λ ks. slice_get ks number) c.self.view_is ∙ at)
 
 pub returns-else-is_new-clause-stands : goal.returns-else-is_new-clause-stands
 returns-else-is_new-clause-stands c =
     let keys : List ℕ = c.self.inside.keys.items in
-    let old = old_number keys c.self.inside.numbers.homes c.args.key c.self.invariant c.find_or_insert.result c.find_or_insert.new.self.homes (told (goal.at.returns-else-is_new-clause-stands c).After-branch-number)
+    let old = old_number keys c.self.inside.numbers.homes c.args.key c.self.invariant c.find_or_insert.result
+    c.find_or_insert.new.self.homes (told (goal.at.returns-else-is_new-clause-stands c).After-branch-number)
     c.in_ok-number.number c.in_ok-number.is_new c.in_ok-number.was c.if-is_new.false in
     ap (λ ks. slice_get ks c.in_ok-number.number) c.reserve.ensures.items ∙ slice_get-get_or keys c.in_ok-number.number 0 old.1 ∙ ap Some old.2
 
 pub returns-else-is_new-clause-same : goal.returns-else-is_new-clause-same
 returns-else-is_new-clause-same c other at =
     let keys : List ℕ = c.self.inside.keys.items in
-    let old = old_number keys c.self.inside.numbers.homes c.args.key c.self.invariant c.find_or_insert.result c.find_or_insert.new.self.homes (told (goal.at.returns-else-is_new-clause-same c).After-branch-number)
+    let old = old_number keys c.self.inside.numbers.homes c.args.key c.self.invariant c.find_or_insert.result
+    c.find_or_insert.new.self.homes (told (goal.at.returns-else-is_new-clause-same c).After-branch-number)
     c.in_ok-number.number c.in_ok-number.is_new c.in_ok-number.was c.if-is_new.false in
     let there : slice_get keys other ≡ Some c.args.key = ap (λ ks. slice_get ks other) c.self.view_is ∙ at in
     c.self.invariant.2 c.in_ok-number.number other old.1 (slice_get_within keys other c.args.key there) (old.2 ∙ sym (get_or_from_slice_get keys other c.args.key 0 there))

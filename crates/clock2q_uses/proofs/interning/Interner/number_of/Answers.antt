@@ -13,10 +13,15 @@ index-requires c =
 pub returns-then-index-key-clause-found : goal.returns-then-index-key-clause-found
 returns-then-index-key-clause-found c =
     let within = c.loop-number.invariant.within 0 c.in-Some.number (ap (λ l. slice_get l 0) c.in-Some.ensures.steps.0) in
-    ap (λ ks. slice_get ks c.in-Some.number) (sym c.self.view_is) ∙ slice_get-get_or c.self.inside.keys.items c.in-Some.number c.index.result.now within ∙ ap (λ k. Some k) (sym c.index.ensures ∙ c.if-index-key.true)
+    ap (λ ks. slice_get ks c.in-Some.number) (sym c.self.view_is)
+    ∙ slice_get-get_or c.self.inside.keys.items c.in-Some.number c.index.result.now within
+    ∙ ap (λ k. Some k) (sym c.index.ensures ∙ c.if-index-key.true)
 
 pub loop-number-init : goal.loop-number-init
-loop-number-init c = subst (IsSought c.self.inside.keys.items c.args.key) (sym (c.get-candidates.ensures.candidates ∙ ap (candidates c.self.inside.numbers.homes) c.hash_of.ensures.hash)) (sought_first c.self.inside.keys.items c.self.inside.numbers.homes c.args.key c.self.invariant)
+loop-number-init c =
+    subst (IsSought c.self.inside.keys.items c.args.key)
+    (sym (c.get-candidates.ensures.candidates ∙ ap (candidates c.self.inside.numbers.homes) c.hash_of.ensures.hash))
+    (sought_first c.self.inside.keys.items c.self.inside.numbers.homes c.args.key c.self.invariant)
 
 pub loop-number-preserved : goal.loop-number-preserved
 loop-number-preserved c =
@@ -25,4 +30,7 @@ loop-number-preserved c =
     (λ same. c.if-index-key.false (c.index.ensures ∙ get_or_default c.self.inside.keys.items c.in-Some.number c.index.result.now 0 within ∙ same))
 
 pub returns-clause-none : goal.returns-clause-none
-returns-clause-none c = λ number is. sought_none c.self.inside.keys.items c.args.key (subst (IsSought c.self.inside.keys.items c.args.key) c.in_default.ensures.steps.0.0 c.loop-number.invariant) number (ap (λ ks. slice_get ks number) c.self.view_is ∙ is)
+returns-clause-none c =
+    λ number is. sought_none c.self.inside.keys.items c.args.key
+    (subst (IsSought c.self.inside.keys.items c.args.key) c.in_default.ensures.steps.0.0 c.loop-number.invariant) number
+    (ap (λ ks. slice_get ks number) c.self.view_is ∙ is)

@@ -9,7 +9,8 @@ all is same = is ∙ ap (λ n. replicate n []) same
 
 pub loop-preserved : goal.loop-preserved
 loop-preserved c = record {
-  made = c.push_reserved.ensures.items ∙ ap (λ parts. parts ++ c.new.result ∷ []) c.loop.invariant.made ∙ ap (λ keys. replicate c.loop.counter [] ++ keys ∷ []) c.new.ensures.empty ∙ replicate_more c.loop.counter [];
+  made = c.push_reserved.ensures.items ∙ ap (λ parts. parts ++ c.new.result ∷ []) c.loop.invariant.made
+      ∙ ap (λ keys. replicate c.loop.counter [] ++ keys ∷ []) c.new.ensures.empty ∙ replicate_more c.loop.counter [];
   room = search (rules, c.loop.invariant.room);
 }
 
