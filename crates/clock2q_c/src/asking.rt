@@ -31,8 +31,10 @@ pub extern "C" fn clock2q_contains(handle: &mut Handle, key: usize) -> bool
 #[unsafe(no_mangle)]
 pub extern "C" fn clock2q_peek_key(handle: &mut Handle, key: usize) -> Found
     requires { IsSome handle.old.cache }
-    ensures resident { IfSome (machine_in handle.old.cache) (λ m. IsTrue result.is_found ↔ IsSome (resident_frame m key)) }
-    ensures slot { IfSome (machine_in handle.old.cache) (λ m. result.slot ≡ unwrap_or (resident_frame m key) 0) }
+    ensures resident { IfSome (machine_in handle.old.cache)
+        (λ m. IsTrue result.is_found ↔ IsSome (resident_frame m key)) }
+    ensures slot { IfSome (machine_in handle.old.cache)
+        (λ m. result.slot ≡ unwrap_or (resident_frame m key) 0) }
     ensures same { handle.new.cache ≡ handle.old.cache }
 {
     match handle.held().cache.peek_slot(&key) {

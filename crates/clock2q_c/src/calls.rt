@@ -47,13 +47,22 @@ pub struct Found {
 #[unsafe(no_mangle)]
 pub extern "C" fn clock2q_enter_key(handle: &mut Handle, key: usize) -> Place
     requires { IsSome handle.old.cache }
-    ensures resident { IfSome (machine_in handle.new.cache) (λ m. resident_frame m key ≡ Some result.slot) }
-    ensures last { IfSome (machine_in handle.old.cache) (λ m. result.has_last ≡ is_some (last_in m result.slot)) }
-    ensures which { IfSome (machine_in handle.old.cache) (λ m. result.last ≡ unwrap_or (last_in m result.slot) 0) }
-    ensures evicted { IfSome (machine_in handle.old.cache) (λ m. leaver eqb (Put key (Some key)) m ≡ (if result.evicted then Some (result.last, result.slot) else None)) }
+    ensures resident { IfSome (machine_in handle.new.cache)
+        (λ m. resident_frame m key ≡ Some result.slot) }
+    ensures last { IfSome (machine_in handle.old.cache)
+        (λ m. result.has_last ≡ is_some (last_in m result.slot)) }
+    ensures which { IfSome (machine_in handle.old.cache)
+        (λ m. result.last ≡ unwrap_or (last_in m result.slot) 0) }
+    ensures evicted { IfSome (machine_in handle.old.cache)
+        (λ m. leaver eqb (Put key (Some key)) m ≡
+        (if result.evicted then Some (result.last, result.slot) else None)) }
     ensures within { IfSome (machine_in handle.old.cache) (λ m. result.slot < m.shares.capacity) }
-    ensures machine { machine_in handle.new.cache ≡ option_map (put (eqb key) key (Some key)) (machine_in handle.old.cache) }
-    ensures costs { IfSome handle.old.cache (λ o. IfSome handle.new.cache (λ n. Costs ⟦<usize as Hash>⟧ ⟦<DefaultHashBuilder as BuildHasher>⟧ ⟦<FoldHasher as Hasher>⟧ (SlotFor key (Some key)) o.cache n.cache)) }
+    ensures machine { machine_in handle.new.cache ≡
+        option_map (put (eqb key) key (Some key)) (machine_in handle.old.cache) }
+    ensures costs { IfSome handle.old.cache
+        (λ o. IfSome handle.new.cache
+        (λ n. Costs ⟦<usize as Hash>⟧ ⟦<DefaultHashBuilder as BuildHasher>⟧ ⟦<FoldHasher as Hasher>⟧
+        (SlotFor key (Some key)) o.cache n.cache)) }
     ensures holds { IsSome handle.new.cache }
 {
     let held = handle.held();
@@ -95,10 +104,16 @@ fn place_of(slot: usize, last: Option<usize>, key: usize, as_many: bool) -> Plac
 #[unsafe(no_mangle)]
 pub extern "C" fn clock2q_find_key(handle: &mut Handle, key: usize) -> Found
     requires { IsSome handle.old.cache }
-    ensures resident { IfSome (machine_in handle.old.cache) (λ m. IsTrue result.is_found ↔ IsSome (resident_frame m key)) }
-    ensures slot { IfSome (machine_in handle.old.cache) (λ m. result.slot ≡ unwrap_or (resident_frame m key) 0) }
-    ensures machine { machine_in handle.new.cache ≡ option_map (hit (eqb key)) (machine_in handle.old.cache) }
-    ensures costs { IfSome handle.old.cache (λ o. IfSome handle.new.cache (λ n. Costs ⟦<usize as Hash>⟧ ⟦<DefaultHashBuilder as BuildHasher>⟧ ⟦<FoldHasher as Hasher>⟧ (Get key) o.cache n.cache)) }
+    ensures resident { IfSome (machine_in handle.old.cache)
+        (λ m. IsTrue result.is_found ↔ IsSome (resident_frame m key)) }
+    ensures slot { IfSome (machine_in handle.old.cache)
+        (λ m. result.slot ≡ unwrap_or (resident_frame m key) 0) }
+    ensures machine { machine_in handle.new.cache ≡
+        option_map (hit (eqb key)) (machine_in handle.old.cache) }
+    ensures costs { IfSome handle.old.cache
+        (λ o. IfSome handle.new.cache
+        (λ n. Costs ⟦<usize as Hash>⟧ ⟦<DefaultHashBuilder as BuildHasher>⟧ ⟦<FoldHasher as Hasher>⟧
+        (Get key) o.cache n.cache)) }
     ensures holds { IsSome handle.new.cache }
 {
     match find(&mut handle.held().cache, key) {
@@ -121,9 +136,14 @@ pub extern "C" fn clock2q_find_key(handle: &mut Handle, key: usize) -> Found
 #[unsafe(no_mangle)]
 pub extern "C" fn clock2q_at(handle: &mut Handle, slot: usize, key: usize) -> bool
     requires { IsSome handle.old.cache }
-    ensures resident { IfSome (machine_in handle.old.cache) (λ m. IsTrue result ↔ (resident_frame m key ≡ Some slot)) }
-    ensures machine { machine_in handle.new.cache ≡ option_map (hit_at slot (eqb key)) (machine_in handle.old.cache) }
-    ensures costs { IfSome handle.old.cache (λ o. IfSome handle.new.cache (λ n. Costs ⟦<usize as Hash>⟧ ⟦<DefaultHashBuilder as BuildHasher>⟧ ⟦<FoldHasher as Hasher>⟧ (GetAt slot key) o.cache n.cache)) }
+    ensures resident { IfSome (machine_in handle.old.cache)
+        (λ m. IsTrue result ↔ (resident_frame m key ≡ Some slot)) }
+    ensures machine { machine_in handle.new.cache ≡
+        option_map (hit_at slot (eqb key)) (machine_in handle.old.cache) }
+    ensures costs { IfSome handle.old.cache
+        (λ o. IfSome handle.new.cache
+        (λ n. Costs ⟦<usize as Hash>⟧ ⟦<DefaultHashBuilder as BuildHasher>⟧ ⟦<FoldHasher as Hasher>⟧
+        (GetAt slot key) o.cache n.cache)) }
     ensures holds { IsSome handle.new.cache }
 {
     is_in(&mut handle.held().cache, slot, key)
@@ -138,9 +158,14 @@ pub extern "C" fn clock2q_at(handle: &mut Handle, slot: usize, key: usize) -> bo
 #[unsafe(no_mangle)]
 pub extern "C" fn clock2q_remove(handle: &mut Handle, key: usize) -> bool
     requires { IsSome handle.old.cache }
-    ensures found { IfSome (machine_in handle.old.cache) (λ m. IsTrue result ↔ IsSome (resident_frame m key)) }
-    ensures machine { machine_in handle.new.cache ≡ option_map (removed (eqb key)) (machine_in handle.old.cache) }
-    ensures costs { IfSome handle.old.cache (λ o. IfSome handle.new.cache (λ n. Costs ⟦<usize as Hash>⟧ ⟦<DefaultHashBuilder as BuildHasher>⟧ ⟦<FoldHasher as Hasher>⟧ (Remove key) o.cache n.cache)) }
+    ensures found { IfSome (machine_in handle.old.cache)
+        (λ m. IsTrue result ↔ IsSome (resident_frame m key)) }
+    ensures machine { machine_in handle.new.cache ≡
+        option_map (removed (eqb key)) (machine_in handle.old.cache) }
+    ensures costs { IfSome handle.old.cache
+        (λ o. IfSome handle.new.cache
+        (λ n. Costs ⟦<usize as Hash>⟧ ⟦<DefaultHashBuilder as BuildHasher>⟧ ⟦<FoldHasher as Hasher>⟧
+        (Remove key) o.cache n.cache)) }
     ensures holds { IsSome handle.new.cache }
 {
     let held = handle.held();
@@ -156,8 +181,11 @@ pub extern "C" fn clock2q_remove(handle: &mut Handle, key: usize) -> bool
 #[unsafe(no_mangle)]
 pub extern "C" fn clock2q_clear(handle: &mut Handle)
     requires { IsSome handle.old.cache }
-    ensures machine { machine_in handle.new.cache ≡ option_map cleared (machine_in handle.old.cache) }
-    ensures costs { IfSome handle.old.cache (λ o. IfSome handle.new.cache (λ n. Costs ⟦<usize as Hash>⟧ ⟦<DefaultHashBuilder as BuildHasher>⟧ ⟦<FoldHasher as Hasher>⟧ Clear o.cache n.cache)) }
+    ensures machine { machine_in handle.new.cache ≡
+        option_map cleared (machine_in handle.old.cache) }
+    ensures costs { IfSome handle.old.cache
+        (λ o. IfSome handle.new.cache
+        (λ n. Costs ⟦<usize as Hash>⟧ ⟦<DefaultHashBuilder as BuildHasher>⟧ ⟦<FoldHasher as Hasher>⟧ Clear o.cache n.cache)) }
     ensures holds { IsSome handle.new.cache }
 {
     handle.held().cache.clear();

@@ -22,12 +22,17 @@ use std::hash::{BuildHasher, FoldHasher, Hash, Hasher};
 #[unsafe(no_mangle)]
 pub extern "C" fn clock2q_evict_key(handle: &mut Handle) -> Place
     requires { IsSome handle.old.cache }
-    ensures left { IfSome (machine_in handle.old.cache) (λ m. leaver eqb Evict m ≡ (if result.evicted then Some (result.last, result.slot) else None)) }
+    ensures left { IfSome (machine_in handle.old.cache)
+        (λ m. leaver eqb Evict m ≡
+        (if result.evicted then Some (result.last, result.slot) else None)) }
     ensures last { result.has_last ≡ result.evicted }
     ensures slot { result.evicted ≡ false → result.slot ≡ 0 }
     ensures which { result.evicted ≡ false → result.last ≡ 0 }
-    ensures machine { machine_in handle.new.cache ≡ option_map evicted (machine_in handle.old.cache) }
-    ensures costs { IfSome handle.old.cache (λ o. IfSome handle.new.cache (λ n. Costs ⟦<usize as Hash>⟧ ⟦<DefaultHashBuilder as BuildHasher>⟧ ⟦<FoldHasher as Hasher>⟧ Evict o.cache n.cache)) }
+    ensures machine { machine_in handle.new.cache ≡
+        option_map evicted (machine_in handle.old.cache) }
+    ensures costs { IfSome handle.old.cache
+        (λ o. IfSome handle.new.cache
+        (λ n. Costs ⟦<usize as Hash>⟧ ⟦<DefaultHashBuilder as BuildHasher>⟧ ⟦<FoldHasher as Hasher>⟧ Evict o.cache n.cache)) }
     ensures holds { IsSome handle.new.cache }
 {
     let held = handle.held();

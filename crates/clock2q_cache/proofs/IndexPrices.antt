@@ -184,7 +184,9 @@ module _ {K V S H : Type 0} (key : HashMembers K) (build : builder.Ghosts S H) (
   twice = looked_for key build hash k once
 
   abbrev changes : ℕ
-  changes = 2 * reached key build hash old k + reached_if key build hash old (option_map (λ r. r.0) (leaves_for (list_any (key.eq k) old.machine.history) old.machine)) + reached_if key build hash old (last_or None old.machine.history)
+  changes = 2 * reached key build hash old k + reached_if key build hash old
+      (option_map (λ r. r.0) (leaves_for (list_any (key.eq k) old.machine.history) old.machine)) + reached_if key build hash old
+      (last_or None old.machine.history)
 
   -- the slots of the index that are read and written until a key has its slot are within the bound on them
   pub known_with-reaches : (known_with key build hash k old).index.accesses ≤ old.known.index.accesses + slots_for key build hash k old

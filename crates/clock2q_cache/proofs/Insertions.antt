@@ -23,7 +23,9 @@ module _ {K V : Type 0} (q : QueueState) (h : Remembered K) (keys : KeyPlaces K 
       }
 
   -- a key that takes the slot of Small's tail, which is evicted
-  pub evicted-spends : {small : List (ℕ × Age)} {main : List (ℕ × Bool)} {kept : List (ℕ × K)} {places : Places} {h' : Remembered K} → q' ≡ record q { small = small; main = main; accesses = q'.accesses } → Rises 5 8 q.accesses q'.accesses
+  pub evicted-spends : {small : List (ℕ × Age)} {main : List (ℕ × Bool)} {kept : List
+      (ℕ × K)} {places : Places} {h' : Remembered K} → q' ≡ record q { small = small; main = main; accesses = q'.accesses } →
+      Rises 5 8 q.accesses q'.accesses
       → h' ≡ record h { entries = kept; places = places; accesses = h'.accesses } → Rises 0 8 h.accesses h'.accesses
       → keys' ≡ record keys { entries = es; writes = n } → Spends 0 28 0 (counts_of q h keys) (counts_of q' h' keys')
   evicted-spends queues reused pushed remembered renewed =

@@ -44,12 +44,17 @@ module _ {K V : Type 0} (m : Machine K V) where
   keys_and_slots from (suc n) within = each (resident_at m from) (keys_and_slots (from + 1) n (omega (arith, within)))
     where
       each : (o : Option (K × ℕ)) → map key_and_slot (filter_map (entry_at m) (range_with_len (from + 1) n)) ≡ filter_map (resident_at m) (range_with_len (from + 1) n)
-          → map key_and_slot (cons_option (option_and_then {U = K × ℕ × V} (λ (r : K × ℕ). option_map (λ value. (r.0, r.1, value)) (slice_get m.values from)) o) (filter_map (entry_at m) (range_with_len (from + 1) n)))
+          → map key_and_slot
+          (cons_option (option_and_then {U = K × ℕ × V}
+          (λ (r : K × ℕ). option_map (λ value. (r.0, r.1, value)) (slice_get m.values from)) o)
+          (filter_map (entry_at m) (range_with_len (from + 1) n)))
           ≡ cons_option o (filter_map (resident_at m) (range_with_len (from + 1) n))
       each None rest = rest
       each (Some r) rest =
           let v = get-within m.values from (omega (arith, within)) in
-          ap (λ (z : Option V). map key_and_slot (cons_option (option_map {U = K × ℕ × V} (λ value. (r.0, r.1, value)) z) (filter_map (entry_at m) (range_with_len (from + 1) n)))) v.1 ∙ ap (λ zs. r ∷ zs) rest
+          ap (λ (z : Option V). map key_and_slot
+          (cons_option (option_map {U = K × ℕ × V} (λ value. (r.0, r.1, value)) z)
+          (filter_map (entry_at m) (range_with_len (from + 1) n)))) v.1 ∙ ap (λ zs. r ∷ zs) rest
 
   pub entries-by_slot : map key_and_slot (entries m) ≡ by_slot m
   entries-by_slot =
@@ -60,7 +65,12 @@ module _ {K V : Type 0} (m : Machine K V) where
 none_above : (s from n : ℕ) → s < from → sum_by (λ slot. one_if (s == slot)) (range_with_len from n) ≡ 0
 none_above s from zero above = refl
 none_above s from (suc n) above =
-    omega (arith, sum_by-cons (λ slot. one_if (s == slot)) from (range_with_len (from + 1) n), ap one_if (ne_eqb s from (λ e. omega (arith, e, above))), none_above s (from + 1) n (omega (arith, above)))
+    omega (
+      arith,
+      sum_by-cons (λ slot. one_if (s == slot)) from (range_with_len (from + 1) n),
+      ap one_if (ne_eqb s from (λ e. omega (arith, e, above))),
+      none_above s (from + 1) n (omega (arith, above)),
+    )
 
 once_within : (s from n : ℕ) → from ≤ s → s < from + n → sum_by (λ slot. one_if (s == slot)) (range_with_len from n) ≡ 1
 once_within s from zero low high = absurd (omega (arith, low, high))

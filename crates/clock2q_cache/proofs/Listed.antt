@@ -94,7 +94,10 @@ module _ {K V : Type 0} (eq : K → K → Bool) (laws : IsEquivalence eq) (m : M
 
   -- each entry has its key's value
   pub entries-values : AllByRecursion (λ (e : K × ℕ × V). value_of (eq e.0) m ≡ Some e.2) (entries m)
-  entries-values = all_kept (entry_at m) (λ (e : K × ℕ × V). value_of (eq e.0) m ≡ Some e.2) (λ slot e is. entry_is slot (resident_at m slot) refl (slice_get m.values slot) refl e is) (range_with_len 0 (length m.values - 0))
+  entries-values =
+      all_kept (entry_at m) (λ (e : K × ℕ × V). value_of (eq e.0) m ≡ Some e.2)
+      (λ slot e is. entry_is slot (resident_at m slot) refl (slice_get m.values slot) refl e is)
+      (range_with_len 0 (length m.values - 0))
 
   -- and each key that has a value has an entry
   pub entries-listed : (key : K) (v : V) → value_of (eq key) m ≡ Some v → list_any (λ (e : K × ℕ × V). eq key e.0) (entries m) ≡ true
@@ -106,7 +109,8 @@ module _ {K V : Type 0} (eq : K → K → Bool) (laws : IsEquivalence eq) (m : M
           let made = resident_made eq laws (eq key) m whole slot found in
           let value = get-within m.values slot made in
           let is : entry_at m slot ≡ Some (r.0, r.1, value.0) =
-          ap (option_and_then {U = K × ℕ × V} (λ (r : K × ℕ). option_map (λ value. (r.0, r.1, value)) (slice_get m.values slot))) there ∙ ap (option_map {U = K × ℕ × V} (λ value. (r.0, r.1, value))) value.1 in
+          ap (option_and_then {U = K × ℕ × V} (λ (r : K × ℕ). option_map (λ value. (r.0, r.1, value)) (slice_get m.values slot)))
+          there ∙ ap (option_map {U = K × ℕ × V} (λ value. (r.0, r.1, value))) value.1 in
           any_kept (entry_at m) (λ (e : K × ℕ × V). eq key e.0) slot (r.0, r.1, value.0) is (same-key key slot r found there) 0 (length m.values - 0) (omega arith) (omega (arith, made))
 
       by_slot : (o : Option ℕ) → slot_of (eq key) m ≡ o → list_any (λ (e : K × ℕ × V). eq key e.0) (entries m) ≡ true

@@ -162,7 +162,9 @@ module _ {K V : Type 0} (eq : K → K → Bool) (m : Machine K V) (whole : IsWho
           key = e.key;
           leaves = ap first_of choice ∙ ap (λ s. Some (e.key, s)) same;
           resident = ap (resident_at (turned m)) (sym same) ∙ resident-first eq (turned m) whole e others choice ∙ ap (λ s. Some (e.key, s)) same;
-          becomes = ap (λ (z : Machine K V). promoted (last_or None z.small) z) gone ∙ promoted-after (last_or None m.small) e others ∙ ap (λ es. victim_evicted (last_or None m.small) es m) (sym choice);
+          becomes = ap (λ (z : Machine K V). promoted (last_or None z.small) z) gone
+              ∙ promoted-after (last_or None m.small) e others
+              ∙ ap (λ es. victim_evicted (last_or None m.small) es m) (sym choice);
           room = omega (arith, ap (λ (z : Machine K V). length z.main) gone, ap (length {A = MainEntry K}) choice, all);
         }
 
@@ -202,7 +204,9 @@ module _ {K V : Type 0} {eq : K → K → Bool} {hash : K → ℕ} {shares : Sha
     pub kept-turned : IsKept eq hash shares q' h index keys free room
     kept-turned =
         let q1 : QueueState = record q { main = from_victim q.main; accesses = links; inspections = looks } in
-        let t : machine_of shares q1 keys.entries h.entries free ≡ turned m = ap (λ (z : List (MainEntry K)). record m { main = z }) (sym (main-from_victim (key_at keys.entries) q.main (main_have laws kept))) in
+        let t : machine_of shares q1 keys.entries h.entries free ≡ turned m =
+        ap (λ (z : List (MainEntry K)). record m { main = z })
+        (sym (main-from_victim (key_at keys.entries) q.main (main_have laws kept))) in
         subst (λ z. IsKept eq hash shares z h index keys free room) (sym is)
         (kept-moved q1 (subst (IsWhole eq) (sym t) (whole-turned eq m kept.whole)) (λ s. omega (arith, times-both s q1, times-both s q, times-split s (set_front q.main) q.main))
         (omega (arith, length-swept q.main)) refl refl)
@@ -223,7 +227,9 @@ module _ {K V : Type 0} {eq : K → K → Bool} {hash : K → ℕ} {shares : Sha
   -- Small's tail moves on to Main
   module _ (tail : ℕ) (last : last_or None (slots_of q.small) ≡ Some tail) {q' : QueueState} {links : ℕ}
       (is : q' ≡ record q { small = front laws kept tail last; main = q.main ++ (tail, false) ∷ []; accesses = links }) where
-    promoted-is : machine_of shares (record q { small = front laws kept tail last; main = q.main ++ (tail, false) ∷ []; accesses = links }) keys.entries h.entries free ≡ promoted (Some (tail_entry laws kept tail last)) m
+    promoted-is : machine_of shares
+        (record q { small = front laws kept tail last; main = q.main ++ (tail, false) ∷ []; accesses = links }) keys.entries
+        h.entries free ≡ promoted (Some (tail_entry laws kept tail last)) m
     promoted-is =
         let key = tail_key laws kept tail last in
         let s : with_keys_small (key_at keys.entries) (front laws kept tail last) ≡ take (length m.small - 1) m.small = front_entries laws kept tail last in

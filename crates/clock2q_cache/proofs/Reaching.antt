@@ -54,7 +54,8 @@ module _ {K V S H : Type 0} (key : HashMembers K) (build : builder.Ghosts S H) (
       accesses = omega (
         arith,
         ap (λ (p : Places). p.index.accesses) is,
-        left-reaches (hash_in key build hash old) (hash_in key build hash old k) (resident_at old.machine slot) slot (looked_for key build hash k old).known (alike (resident_at old.machine slot) refl),
+        left-reaches (hash_in key build hash old) (hash_in key build hash old k) (resident_at old.machine slot) slot
+            (looked_for key build hash k old).known (alike (resident_at old.machine slot) refl),
       );
     }
       where
@@ -69,7 +70,9 @@ module _ {K V S H : Type 0} (key : HashMembers K) (build : builder.Ghosts S H) (
   }
 
   -- so it is within the bound of a removal by the key, which looks it up first
-  pub reaches-own : (r : K × ℕ) (slot : ℕ) {old new : CacheState K V S} → new.known ≡ left_by (hash_in key build hash old) (Some r) slot old.known → Reaches (walked key build hash old r.0 + reached key build hash old r.0) old new
+  pub reaches-own : (r : K × ℕ) (slot : ℕ) {old new : CacheState K V S} →
+      new.known ≡ left_by (hash_in key build hash old) (Some r) slot old.known →
+      Reaches (walked key build hash old r.0 + reached key build hash old r.0) old new
   reaches-own r slot {old} {new} is = record { accesses = omega (arith, (reaches-gone r slot {old = old} {new = new} is).accesses) }
 
 module _ {K V S H : Type 0} (key : HashMembers K) (build : builder.Ghosts S H) (hash : hasher.Ghosts H) where
@@ -85,7 +88,9 @@ module _ {K V S H : Type 0} {key : HashMembers K} {build : builder.Ghosts S H} {
 
   module _ {n : ℕ} {old : CacheState K V S} {now : IndexState} (h : LeftBelow key build hash n old now) where
     sum-more : (o : Option (K × ℕ)) → resident_at old.machine n ≡ o
-        → sum_by (λ r. reached key build hash old r.0) (below old.machine (n + 1)) ≡ sum_by (λ r. reached key build hash old r.0) (below old.machine n) + sum_by (λ r. reached key build hash old r.0) (cons_option o [])
+        → sum_by (λ r. reached key build hash old r.0) (below old.machine (n + 1)) ≡
+        sum_by (λ r. reached key build hash old r.0) (below old.machine n) + sum_by (λ r. reached key build hash old r.0)
+        (cons_option o [])
     sum-more o at = ap (sum_by (λ r. reached key build hash old r.0)) (below-more old.machine n o at) ∙ sum_by-append (λ r. reached key build hash old r.0) (below old.machine n) (cons_option o [])
 
     -- none leaves the next slot

@@ -82,8 +82,12 @@ module _ {K V S H : Type 0} {key : HashMembers K} {build : builder.Ghosts S H} {
       → Becomes key build hash (Get k) (hit (key.eq k) old.machine) old new
   missed-becomes {k} {old = old} same absent kept spent =
       let m = ap (λ (z : CacheState K V S). z.machine) kept ∙ sym (hit-absent (key.eq k) old.machine absent) in
-      let asked = ap (λ y. length (candidates (residents_in old.known) y)) same in
-      (m, ap (λ (z : CacheState K V S). z.hasher) kept, costs-of m (reaches-looked key build hash k (ap (λ (z : CacheState K V S). z.known) kept) (omega arith)) (spends-more spent (omega arith) (omega (arith, asked))))
+      let asked = ap (λ y. length (candidates (residents_in old.known) y)) same in (
+        m,
+        ap (λ (z : CacheState K V S). z.hasher) kept,
+        costs-of m (reaches-looked key build hash k (ap (λ (z : CacheState K V S). z.known) kept) (omega arith))
+            (spends-more spent (omega arith) (omega (arith, asked))),
+      )
 
   pub unhit-becomes : {k : K} {old new : CacheState K V S} → slot_of (key.eq k) old.machine ≡ None
       → Becomes key build hash (Get k) (hit (key.eq k) old.machine) old new → Becomes key build hash (Get k) old.machine old new
@@ -98,8 +102,13 @@ module _ {K V S H : Type 0} {key : HashMembers K} {build : builder.Ghosts S H} {
       let m = is ∙ ap (λ (z : CacheState K V S). hit (key.eq k) z.machine) kept in
       let c = ap (λ (z : CacheState K V S). z.counts) after_hit in
       let asked = ap (λ y. length (candidates (residents_in old.known) y)) same in
-      let index = ap (λ (z : CacheState K V S). z.known) after_hit ∙ ap (λ (z : CacheState K V S). z.known) kept in
-      (m, ap (λ (z : CacheState K V S). z.hasher) after_hit ∙ ap (λ (z : CacheState K V S). z.hasher) kept, costs-of m (reaches-looked key build hash k index (omega arith)) (rw c (spends-more spent (omega arith) (omega (arith, asked)))))
+      let index = ap (λ (z : CacheState K V S). z.known) after_hit ∙ ap (λ (z : CacheState K V S). z.known) kept in (
+        m,
+        ap (λ (z : CacheState K V S). z.hasher) after_hit
+            ∙ ap (λ (z : CacheState K V S). z.hasher) kept,
+        costs-of m (reaches-looked key build hash k index (omega arith))
+            (rw c (spends-more spent (omega arith) (omega (arith, asked)))),
+      )
 
   -- a lookup that finds a resident, which leaves
   pub remove-costs : {k : K} {slot : ℕ} {old found new : CacheState K V S} → Some slot ≡ slot_of (key.eq k) old.machine
@@ -115,7 +124,8 @@ module _ {K V S H : Type 0} {key : HashMembers K} {build : builder.Ghosts S H} {
       → Becomes key build hash (Get k) (hit (key.eq k) old.machine) old new
       → Becomes key build hash (Set k value) (replaced (key.eq k) value old.machine) old (record new { machine = stored slot value new.machine })
   lent-becomes {k} {slot} {value} {old} there found =
-      let m = ap (λ z. stored slot value z) found.0 ∙ ap (λ o. replaced_at (key.eq k) value o old.machine) there in (m, found.1, costs-of m (record { accesses = found.2.index.accesses }) found.2.counts)
+      let m = ap (λ z. stored slot value z) found.0 ∙ ap (λ o. replaced_at (key.eq k) value o old.machine) there in
+      (m, found.1, costs-of m (record { accesses = found.2.index.accesses }) found.2.counts)
 
   -- none is lent
   pub unlent-becomes : {k : K} {value : V} {old new : CacheState K V S} → slot_of (key.eq k) old.machine ≡ None

@@ -58,7 +58,8 @@ module _ {K V : Type 0} {eq : K → K → Bool} {hash : K → ℕ} {shares : Sha
   n = machine_of shares q keys.entries h.entries free
 
   -- where no resident has a key's hash, the key has no slot
-  pub none-with-hash : (key : K) → ((x y : K) → eq x y ≡ true → hash x ≡ hash y) → (x : ℕ) → x ≡ hash key → None ≡ slice_get (filter (has_hash keys.entries x) (candidates index x)) 0 → slot_of (eq key) n ≡ None
+  pub none-with-hash : (key : K) → ((x y : K) → eq x y ≡ true → hash x ≡ hash y) → (x : ℕ) → x ≡ hash key →
+      None ≡ slice_get (filter (has_hash keys.entries x) (candidates index x)) 0 → slot_of (eq key) n ≡ None
   none-with-hash key respects x is none =
       sym (found laws kept key respects x is)
       ∙ none-kept (has_hash keys.entries x) (is_key_at eq key keys.entries) (candidates index x) none alike

@@ -25,7 +25,9 @@ module _ (K V S A H : RattleType) (key : HashMembers K.Denot) (build : builder.G
 
   -- the key was fetched, at the cost of the call, and has this value; at `Err` the machine is as it was
   abbrev pub Tries : {E : Type 0} → CacheState K.Denot V.Denot S.Denot → K.Denot → Result (Bor V.Denot) E → CacheState K.Denot V.Denot S.Denot → Type 0
-  Tries old k r new = MatchResult r (λ value. Becomes key build hash (With k value.now) (fetched (key.eq k) k value.now old.machine) old new) (λ _. Becomes key build hash (Try k None) old.machine old new)
+  Tries old k r new =
+      MatchResult r (λ value. Becomes key build hash (With k value.now) (fetched (key.eq k) k value.now old.machine) old new)
+      (λ _. Becomes key build hash (Try k None) old.machine old new)
 
   -- the same once the reference into the cache has ended
   abbrev pub LeavesTried : {E : Type 0} → MutBor (CacheState K.Denot V.Denot S.Denot) → K.Denot → Result (Bor V.Denot) E → Fml

@@ -160,7 +160,9 @@ impl<K: Hash + Eq, V, S: BuildHasher, A: Allocator> Cache<K, V, S, A> {
     ///
     /// That of [`contains`](Cache::contains). A hit sets one bit, and accesses no link.
     pub fn get(&mut self, key: &K) -> Option<&V>
-        ensures* machine { sem 𝓛 (LeavesMachine K.row V.row S.row A.row S.Hasher.row K.Hash S.BuildHasher S.Hasher.Hasher A.Allocator self.entry (Get key.now) (hit (K.eq key.now) self.old.machine)) }
+        ensures* machine { sem 𝓛
+            (LeavesMachine K.row V.row S.row A.row S.Hasher.row K.Hash S.BuildHasher S.Hasher.Hasher A.Allocator self.entry
+            (Get key.now) (hit (K.eq key.now) self.old.machine)) }
         ensures value { option_copied result ≡ value_of (K.eq key.now) self.old.machine }
     {
         let hash = self.hash(key);
@@ -198,7 +200,9 @@ impl<K: Hash + Eq, V, S: BuildHasher, A: Allocator> Cache<K, V, S, A> {
     ///
     /// No hash, at most one question, to the key at that slot, and no access to a link.
     pub fn get_at(&mut self, slot: usize, key: &K) -> Option<&V>
-        ensures* machine { sem 𝓛 (LeavesMachine K.row V.row S.row A.row S.Hasher.row K.Hash S.BuildHasher S.Hasher.Hasher A.Allocator self.entry (GetAt slot key.now) (hit_at slot (K.eq key.now) self.old.machine)) }
+        ensures* machine { sem 𝓛
+            (LeavesMachine K.row V.row S.row A.row S.Hasher.row K.Hash S.BuildHasher S.Hasher.Hasher A.Allocator self.entry
+            (GetAt slot key.now) (hit_at slot (K.eq key.now) self.old.machine)) }
         ensures value { option_copied result ≡ value_at slot (K.eq key.now) self.old.machine }
     {
         let found = self.find_at(slot, key)?;
@@ -215,7 +219,8 @@ impl<K: Hash + Eq, V, S: BuildHasher, A: Allocator> Cache<K, V, S, A> {
     ///
     /// That of [`get`](Cache::get).
     pub fn get_mut(&mut self, key: &K) -> Option<&mut V>
-        ensures* writes_back { sem 𝓛 (LendsHit K.row V.row S.row A.row S.Hasher.row K.Hash S.BuildHasher S.Hasher.Hasher A.Allocator self.entry key.now result) }
+        ensures* writes_back { sem 𝓛
+            (LendsHit K.row V.row S.row A.row S.Hasher.row K.Hash S.BuildHasher S.Hasher.Hasher A.Allocator self.entry key.now result) }
         ensures value { option_copied_mut result ≡ value_of (K.eq key.now) self.old.machine }
         ensures missed { IfNone result (slot_of (K.eq key.now) self.old.machine ≡ None) }
     {
@@ -226,7 +231,8 @@ impl<K: Hash + Eq, V, S: BuildHasher, A: Allocator> Cache<K, V, S, A> {
     /// Returns the value of a slot to write to.
     fn value_mut(&mut self, slot: u32) -> &mut V
         requires { slot < length self.old.machine.values }
-        ensures* writes_back { sem 𝓛 (LendsSlot K.row V.row S.row A.row S.Hasher.row K.Hash S.BuildHasher S.Hasher.Hasher A.Allocator self.entry slot result) }
+        ensures* writes_back { sem 𝓛
+            (LendsSlot K.row V.row S.row A.row S.Hasher.row K.Hash S.BuildHasher S.Hasher.Hasher A.Allocator self.entry slot result) }
         ensures value { slice_get self.old.machine.values slot ≡ Some result.now }
     {
         self.directory.value_mut(slot)
@@ -234,8 +240,10 @@ impl<K: Hash + Eq, V, S: BuildHasher, A: Allocator> Cache<K, V, S, A> {
 
     /// Returns the slot if the key is resident there.
     fn find_at(&mut self, slot: usize, key: &K) -> Option<u32>
-        ensures slot { result ≡ then_some (is_at slot (slot_of (K.eq key.now) self.old.machine)) slot }
-        ensures found { IfSome result (λ found. slot_of (K.eq key.now) self.old.machine ≡ Some found) }
+        ensures slot { result ≡
+            then_some (is_at slot (slot_of (K.eq key.now) self.old.machine)) slot }
+        ensures found { IfSome result
+            (λ found. slot_of (K.eq key.now) self.old.machine ≡ Some found) }
         ensures made { IfSome result (λ found. found < length self.old.machine.values) }
         ensures machine { self.new.machine ≡ self.old.machine }
         ensures kept { self.new ≡ record self.old { counts = self.new.counts } }
@@ -253,7 +261,8 @@ impl<K: Hash + Eq, V, S: BuildHasher, A: Allocator> Cache<K, V, S, A> {
 
     /// Returns the hash of a key.
     pub(crate) fn hash(&self, key: &K) -> u64
-        ensures { result ≡ hash_of S.BuildHasher S.Hasher.Hasher self.now.hasher (K.hash_input key.now) }
+        ensures { result ≡
+            hash_of S.BuildHasher S.Hasher.Hasher self.now.hasher (K.hash_input key.now) }
     {
         hash_of(&self.hasher, key)
     }
@@ -270,14 +279,18 @@ impl<K: Hash + Eq, V, S: BuildHasher, A: Allocator> Cache<K, V, S, A> {
 
     /// Returns the slot of a resident key.
     pub(crate) fn find(&mut self, hash: u64, key: &K) -> Option<u32>
-        requires { hash ≡ hash_of S.BuildHasher S.Hasher.Hasher self.old.hasher (K.hash_input key.now) }
+        requires { hash ≡
+            hash_of S.BuildHasher S.Hasher.Hasher self.old.hasher (K.hash_input key.now) }
         ensures slot { result ≡ slot_of (K.eq key.now) self.old.machine }
         ensures made { IfSome result (λ slot. slot < length self.old.machine.values) }
         ensures machine { self.new.machine ≡ self.old.machine }
         ensures whole { IsWhole K.eq self.old.machine }
         ensures hasher { self.new.hasher ≡ self.old.hasher }
-        ensures kept { self.new ≡ record (looked_for K.Hash S.BuildHasher S.Hasher.Hasher key.now self.old) { counts = self.new.counts } }
-        ensures counts { Spends 0 0 (length (candidates (residents_in self.old.known) hash)) self.old.counts self.new.counts }
+        ensures kept { self.new ≡
+            record (looked_for K.Hash S.BuildHasher S.Hasher.Hasher key.now self.old) { counts = self.new.counts } }
+        ensures counts { Spends 0 0
+            (length (candidates
+            (residents_in self.old.known) hash)) self.old.counts self.new.counts }
     {
         self.directory.find_resident(hash, key)
     }
@@ -285,15 +298,20 @@ impl<K: Hash + Eq, V, S: BuildHasher, A: Allocator> Cache<K, V, S, A> {
     /// Looks a key up among the residents and in the history.
     #[inline(always)]
     pub(crate) fn lookup(&mut self, hash: u64, key: &K) -> Found
-        requires { hash ≡ hash_of S.BuildHasher S.Hasher.Hasher self.old.hasher (K.hash_input key.now) }
+        requires { hash ≡
+            hash_of S.BuildHasher S.Hasher.Hasher self.old.hasher (K.hash_input key.now) }
         ensures slot { found_slot result ≡ slot_of (K.eq key.now) self.old.machine }
         ensures made { IfSome (found_slot result) (λ slot. slot < length self.old.machine.values) }
-        ensures place { found_slot result ≡ None → found_place result ≡ place_of (K.eq key.now) self.old.machine.history self.old.known.taken }
+        ensures place { found_slot result ≡ None →
+            found_place result ≡
+            place_of (K.eq key.now) self.old.machine.history self.old.known.taken }
         ensures machine { self.new.machine ≡ self.old.machine }
         ensures whole { IsWhole K.eq self.old.machine }
         ensures hasher { self.new.hasher ≡ self.old.hasher }
-        ensures kept { self.new ≡ record (looked_for K.Hash S.BuildHasher S.Hasher.Hasher key.now self.old) { counts = self.new.counts } }
-        ensures counts { Spends 0 0 (alike K.Hash S.BuildHasher S.Hasher.Hasher key.now self.old) self.old.counts self.new.counts }
+        ensures kept { self.new ≡
+            record (looked_for K.Hash S.BuildHasher S.Hasher.Hasher key.now self.old) { counts = self.new.counts } }
+        ensures counts { Spends 0 0
+            (alike K.Hash S.BuildHasher S.Hasher.Hasher key.now self.old) self.old.counts self.new.counts }
         ensures as_many { length self.old.known.taken ≡ length self.old.machine.history }
         ensures within { IsWithinCapacity self.old.known.index }
     {
@@ -303,10 +321,15 @@ impl<K: Hash + Eq, V, S: BuildHasher, A: Allocator> Cache<K, V, S, A> {
 
     /// Returns the place of a remembered key.
     pub(crate) fn find_place(&mut self, hash: u64, key: &K) -> Option<u32>
-        requires { hash ≡ hash_of S.BuildHasher S.Hasher.Hasher self.old.hasher (K.hash_input key.now) }
-        ensures place { result ≡ place_of (K.eq key.now) self.old.machine.history self.old.known.taken }
-        ensures kept { self.new ≡ record (looked_for K.Hash S.BuildHasher S.Hasher.Hasher key.now self.old) { counts = self.new.counts } }
-        ensures counts { Spends 0 0 (length (candidates (remembered_in self.old.known) hash)) self.old.counts self.new.counts }
+        requires { hash ≡
+            hash_of S.BuildHasher S.Hasher.Hasher self.old.hasher (K.hash_input key.now) }
+        ensures place { result ≡
+            place_of (K.eq key.now) self.old.machine.history self.old.known.taken }
+        ensures kept { self.new ≡
+            record (looked_for K.Hash S.BuildHasher S.Hasher.Hasher key.now self.old) { counts = self.new.counts } }
+        ensures counts { Spends 0 0
+            (length (candidates
+            (remembered_in self.old.known) hash)) self.old.counts self.new.counts }
     {
         self.directory.find_remembered(hash, key)
     }
@@ -315,7 +338,8 @@ impl<K: Hash + Eq, V, S: BuildHasher, A: Allocator> Cache<K, V, S, A> {
     fn hit(&mut self, key: &K) -> Option<u32>
         ensures slot { result ≡ slot_of (K.eq key.now) self.old.machine }
         ensures made { IfSome result (λ slot. slot < length self.new.machine.values) }
-        ensures becomes { Becomes K.Hash S.BuildHasher S.Hasher.Hasher (Get key.now) (hit (K.eq key.now) self.old.machine) self.old self.new }
+        ensures becomes { Becomes K.Hash S.BuildHasher S.Hasher.Hasher (Get key.now)
+            (hit (K.eq key.now) self.old.machine) self.old self.new }
     {
         let hash = self.hash(key);
         let slot = self.find(hash, key)?;
@@ -335,8 +359,10 @@ impl<K: Hash + Eq, V, S: BuildHasher, A: Allocator> Cache<K, V, S, A> {
 
     /// Removes the key, which is at `place`, from the history, and returns true if it was there.
     pub(crate) fn forget(&mut self, hash: u64, key: &K, place: Option<u32>) -> bool
-        requires place { place ≡ place_of (K.eq key.now) self.old.machine.history self.old.known.taken }
-        requires hash { hash ≡ hash_of S.BuildHasher S.Hasher.Hasher self.old.hasher (K.hash_input key.now) }
+        requires place { place ≡
+            place_of (K.eq key.now) self.old.machine.history self.old.known.taken }
+        requires hash { hash ≡
+            hash_of S.BuildHasher S.Hasher.Hasher self.old.hasher (K.hash_input key.now) }
         ensures known { result ≡ list_any (K.eq key.now) self.old.machine.history }
         ensures machine { self.new.machine ≡ forgotten (K.eq key.now) self.old.machine }
         ensures hasher { self.new.hasher ≡ self.old.hasher }
@@ -381,9 +407,11 @@ impl<K: Hash + Eq + Drop, V: Drop, S: BuildHasher, A: Allocator> Cache<K, V, S, 
         ensures value { result ≡ value_of (K.eq key) self.old.machine }
         ensures machine { self.new.machine ≡ put (K.eq key) key value self.old.machine }
         ensures resident { value_of (K.eq key) self.new.machine ≡ Some value }
-        ensures known { self.new.known ≡ known_with K.Hash S.BuildHasher S.Hasher.Hasher key self.old }
+        ensures known { self.new.known ≡
+            known_with K.Hash S.BuildHasher S.Hasher.Hasher key self.old }
         ensures hasher { self.new.hasher ≡ self.old.hasher }
-        ensures costs { Costs K.Hash S.BuildHasher S.Hasher.Hasher (Put key value) self.old self.new }
+        ensures costs { Costs K.Hash S.BuildHasher S.Hasher.Hasher
+            (Put key value) self.old self.new }
     {
         let hash = self.hash(&key);
         let found = self.lookup(hash, &key);

@@ -20,7 +20,10 @@ pub(crate) fn fill<K: Hash + Eq + Default, V, S: BuildHasher, A: Allocator, F: F
     requires callable { TakesTimes F.FnMut (many - length directory.old.residents.entries) make }
     requires within { length directory.old.residents.entries ≤ many }
     requires room { many ≤ directory.old.residents.room }
-    ensures filled { (last : F) × FillsUp F.FnMut make (λ k. hash_of S.BuildHasher S.Hasher.Hasher hasher.now (K.hash_input k)) many directory.old.residents.entries directory.new.residents.entries last }
+    ensures filled { (last : F) ×
+        FillsUp F.FnMut make
+        (λ k. hash_of S.BuildHasher S.Hasher.Hasher hasher.now
+        (K.hash_input k)) many directory.old.residents.entries directory.new.residents.entries last }
     ensures kept_room { directory.new.residents.room ≡ directory.old.residents.room }
     ensures questions { directory.new.residents.questions ≡ directory.old.residents.questions }
     ensures history { directory.new.history ≡ directory.old.history }

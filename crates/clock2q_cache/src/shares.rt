@@ -48,7 +48,8 @@ impl Shares {
     /// Returns the shares of a cache that is made with all three numbers, or `None` if they don't
     /// fit together.
     pub(crate) fn new(capacity: usize, small: usize, window: usize) -> Option<Self>
-        ensures { MatchOption result (¬ IsPolicy (shares_of capacity small window)) (λ shares. shares ≡ shares_of capacity small window) }
+        ensures { MatchOption result (¬ IsPolicy (shares_of capacity small window))
+            (λ shares. shares ≡ shares_of capacity small window) }
     {
         if small >= capacity || (small == 0) != (window == 0) || window > small {
             return None;

@@ -58,7 +58,8 @@ room-left {K} {V} {d} {h} {slot} {old} r w at is =
     record { room = omega (arith, room.0, same); few = omega (arith, room.1, same) }
 
 -- and once its key is remembered
-pub room-pushed : {K V : Type 0} {d : Known K V} {h : Remembered K} {slot old : ℕ} {kept : List (ℕ × K)} {accesses : ℕ} (oldest : ℕ) → IsResident slot d → IsWithinRoom d.history → hash_at d.residents.entries slot ≡ Some old
+pub room-pushed : {K V : Type 0} {d : Known K V} {h : Remembered K} {slot old : ℕ} {kept : List (ℕ × K)} {accesses : ℕ}
+    (oldest : ℕ) → IsResident slot d → IsWithinRoom d.history → hash_at d.residents.entries slot ≡ Some old
     → h ≡ record d.history { entries = kept; places = h.places; accesses = accesses } → h.places ≡ pushed_places d.history.limit old slot oldest d.history.places → HasRoom h
 room-pushed {K} {V} {d} {h} {slot} {old} oldest r w at is places =
     let p = d.history.places in

@@ -113,7 +113,8 @@ impl<K: Eq, V, A: Allocator> Directory<K, V, A> {
     /// Returns a mutable reference to the value at a slot.
     pub fn value_mut(&mut self, slot: u32) -> &mut V
         requires made { slot < length self.old.residents.entries }
-        ensures* writes_back { sem 𝓛 (LendsValueOf K.row V.row A.row K.eq A.Allocator self.entry slot result) }
+        ensures* writes_back { sem 𝓛
+            (LendsValueOf K.row V.row A.row K.eq A.Allocator self.entry slot result) }
         ensures value { value_at self.old.residents.entries slot ≡ Some result.now }
     {
         self.residents.value_mut(slot)
@@ -123,7 +124,8 @@ impl<K: Eq, V, A: Allocator> Directory<K, V, A> {
     pub fn replace_value(&mut self, slot: u32, value: V) -> V
         requires made { slot < length self.old.residents.entries }
         ensures old { value_at self.old.residents.entries slot ≡ Some result }
-        ensures replaced { self.new.residents ≡ record self.old.residents { entries = with_value slot value self.old.residents.entries } }
+        ensures replaced { self.new.residents ≡
+            record self.old.residents { entries = with_value slot value self.old.residents.entries } }
         ensures kept { self.new.history ≡ self.old.history }
     {
         self.residents.replace_value(slot, value)
@@ -133,7 +135,8 @@ impl<K: Eq, V, A: Allocator> Directory<K, V, A> {
     pub fn key_equals(&mut self, slot: u32, key: &K) -> bool
         requires made { slot < length self.old.residents.entries }
         ensures value { result ≡ is_key_at K.eq key.now self.old.residents.entries slot }
-        ensures counted { self.new.residents ≡ record self.old.residents { questions = self.old.residents.questions + 1 } }
+        ensures counted { self.new.residents ≡
+            record self.old.residents { questions = self.old.residents.questions + 1 } }
         ensures kept { self.new.history ≡ self.old.history }
     {
         self.residents.key_equals(slot, key)
@@ -141,8 +144,11 @@ impl<K: Eq, V, A: Allocator> Directory<K, V, A> {
 
     /// Returns the slot of a resident key. It counts no comparison, and charges the index nothing.
     pub fn slot_of(&self, hash: u64, key: &K) -> Option<u32>
-        requires made { AllByRecursion (λ slot. slot < length self.now.residents.entries) (candidates (slots self.now.history.places.index) hash) }
-        ensures slot { result ≡ find (is_key_at K.eq key.now self.now.residents.entries) (candidates (slots self.now.history.places.index) hash) }
+        requires made { AllByRecursion (λ slot. slot < length self.now.residents.entries)
+            (candidates (slots self.now.history.places.index) hash) }
+        ensures slot { result ≡
+            find (is_key_at K.eq key.now self.now.residents.entries)
+            (candidates (slots self.now.history.places.index) hash) }
     {
         let mut compared = Count::new();
         self.residents
@@ -152,10 +158,19 @@ impl<K: Eq, V, A: Allocator> Directory<K, V, A> {
     /// Returns the slot of a resident key, and counts each comparison. Places are skipped. The index
     /// is charged one lookup.
     pub fn find_resident(&mut self, hash: u64, key: &K) -> Option<u32>
-        requires made { AllByRecursion (λ slot. slot < length self.old.residents.entries) (candidates (slots self.old.history.places.index) hash) }
-        ensures slot { result ≡ find (is_key_at K.eq key.now self.old.residents.entries) (candidates (slots self.old.history.places.index) hash) }
-        ensures counted { self.new.residents ≡ record self.old.residents { questions = self.old.residents.questions + questions_of (is_key_at K.eq key.now self.old.residents.entries) (candidates (slots self.old.history.places.index) hash) } }
-        ensures kept { self.new.history ≡ record self.old.history { places = places_looked_up hash self.old.history.places } }
+        requires made { AllByRecursion (λ slot. slot < length self.old.residents.entries)
+            (candidates (slots self.old.history.places.index) hash) }
+        ensures slot { result ≡
+            find (is_key_at K.eq key.now self.old.residents.entries)
+            (candidates (slots self.old.history.places.index) hash) }
+        ensures counted { self.new.residents ≡
+            record self.old.residents {
+              questions = self.old.residents.questions +
+                  questions_of (is_key_at K.eq key.now self.old.residents.entries)
+                  (candidates (slots self.old.history.places.index) hash);
+            } }
+        ensures kept { self.new.history ≡
+            record self.old.history { places = places_looked_up hash self.old.history.places } }
     {
         self.history.find_resident(hash, key, &mut self.residents)
     }
@@ -164,10 +179,18 @@ impl<K: Eq, V, A: Allocator> Directory<K, V, A> {
     /// index is charged one lookup.
     pub fn find_remembered(&mut self, hash: u64, key: &K) -> Option<u32>
         requires hash { HasHash K.eq hash key.now self.old.history.entries }
-        ensures place { result ≡ place_of (K.eq key.now) (map (λ e. e.1) self.old.history.entries) self.old.history.places.taken }
-        ensures kept { self.new.history ≡ record self.old.history { places = places_looked_up hash self.old.history.places; questions = self.new.history.questions } }
+        ensures place { result ≡
+            place_of (K.eq key.now)
+            (map (λ e. e.1) self.old.history.entries) self.old.history.places.taken }
+        ensures kept { self.new.history ≡
+            record self.old.history {
+              places = places_looked_up hash self.old.history.places;
+              questions = self.new.history.questions;
+            } }
         ensures residents { self.new.residents ≡ self.old.residents }
-        ensures questions { Rises 0 (length (candidates (places self.old.history.places.index) hash)) self.old.history.questions self.new.history.questions }
+        ensures questions { Rises 0
+            (length (candidates
+            (places self.old.history.places.index) hash)) self.old.history.questions self.new.history.questions }
     {
         self.history.find(hash, key)
     }
@@ -176,14 +199,31 @@ impl<K: Eq, V, A: Allocator> Directory<K, V, A> {
     #[inline(always)]
     pub fn lookup(&mut self, hash: u64, key: &K) -> Found
         requires hash { HasHash K.eq hash key.now self.old.history.entries }
-        requires made { AllByRecursion (λ slot. slot < length self.old.residents.entries) (candidates (slots self.old.history.places.index) hash) }
-        ensures slot { IfSome (found_slot result) (λ slot. find (is_key_at K.eq key.now self.old.residents.entries) (candidates (slots self.old.history.places.index) hash) ≡ Some slot) }
-        ensures place { found_slot result ≡ None → found_place result ≡ place_of (K.eq key.now) (map (λ e. e.1) self.old.history.entries) self.old.history.places.taken }
-        ensures absent { found_slot result ≡ None → found_place result ≡ None → find (is_key_at K.eq key.now self.old.residents.entries) (candidates (slots self.old.history.places.index) hash) ≡ None }
-        ensures residents { self.new.residents ≡ record self.old.residents { questions = self.new.residents.questions } }
-        ensures kept { self.new.history ≡ record self.old.history { places = places_looked_up hash self.old.history.places; questions = self.new.history.questions } }
-        ensures asked { Rises 0 (length (candidates (slots self.old.history.places.index) hash)) self.old.residents.questions self.new.residents.questions }
-        ensures questions { Rises 0 (length (candidates (places self.old.history.places.index) hash)) self.old.history.questions self.new.history.questions }
+        requires made { AllByRecursion (λ slot. slot < length self.old.residents.entries)
+            (candidates (slots self.old.history.places.index) hash) }
+        ensures slot { IfSome (found_slot result)
+            (λ slot. find (is_key_at K.eq key.now self.old.residents.entries)
+            (candidates (slots self.old.history.places.index) hash) ≡ Some slot) }
+        ensures place { found_slot result ≡ None →
+            found_place result ≡
+            place_of (K.eq key.now)
+            (map (λ e. e.1) self.old.history.entries) self.old.history.places.taken }
+        ensures absent { found_slot result ≡ None → found_place result ≡ None →
+            find (is_key_at K.eq key.now self.old.residents.entries)
+            (candidates (slots self.old.history.places.index) hash) ≡ None }
+        ensures residents { self.new.residents ≡
+            record self.old.residents { questions = self.new.residents.questions } }
+        ensures kept { self.new.history ≡
+            record self.old.history {
+              places = places_looked_up hash self.old.history.places;
+              questions = self.new.history.questions;
+            } }
+        ensures asked { Rises 0
+            (length (candidates
+            (slots self.old.history.places.index) hash)) self.old.residents.questions self.new.residents.questions }
+        ensures questions { Rises 0
+            (length (candidates
+            (places self.old.history.places.index) hash)) self.old.history.questions self.new.history.questions }
     {
         self.history.lookup(hash, key, &mut self.residents)
     }
@@ -192,7 +232,8 @@ impl<K: Eq, V, A: Allocator> Directory<K, V, A> {
     /// has to state the count exactly raises it to its bound with this.
     pub fn charge(&mut self)
         ghost more: { ℕ }
-        ensures charged { self.new.residents ≡ record self.old.residents { questions = self.old.residents.questions + more } }
+        ensures charged { self.new.residents ≡
+            record self.old.residents { questions = self.old.residents.questions + more } }
         ensures kept { self.new.history ≡ self.old.history }
     {
         self.residents.charge();

@@ -93,7 +93,8 @@ impl<K: Eq, A: Allocator + Copy> History<K, A> {
         requires some { 0 < residents }
         requires residents { residents < 2 ^ 24 }
         requires short { limit < 2 ^ 24 }
-        ensures made { IfOk result (λ h. h ≡ remembered [] limit (places_with (index_for residents limit) [] []) 0 0) }
+        ensures made { IfOk result
+            (λ h. h ≡ remembered [] limit (places_with (index_for residents limit) [] []) 0 0) }
     {
         Ok(History {
             index: Index::new(alloc, residents, limit)?,
@@ -118,7 +119,8 @@ impl<K: Eq, A: Allocator> History<K, A> {
     /// [`REMEMBERED`] on.
     #[inline(always)]
     pub fn handles(&self, hash: u64) -> Candidates<'_, u32>
-        ensures slots { slots_among result.left ≡ candidates (known.slots self.now.places.index) hash }
+        ensures slots { slots_among result.left ≡
+            candidates (known.slots self.now.places.index) hash }
         ensures reads { result.reads + result.unread ≡ walk self.now.places.index.shared hash }
     {
         self.index.handles(hash)
@@ -129,14 +131,30 @@ impl<K: Eq, A: Allocator> History<K, A> {
     #[inline(always)]
     pub fn lookup<V>(&mut self, hash: u64, key: &K, residents: &mut Keys<K, V, A>) -> Found
         requires hash { HasHash K.eq hash key.now self.old.entries }
-        requires used { AllByRecursion (λ slot. slot < length residents.old.entries) (candidates (known.slots self.old.places.index) hash) }
-        ensures slot { IfSome (found_slot result) (λ slot. find (is_key_at K.eq key.now residents.old.entries) (candidates (known.slots self.old.places.index) hash) ≡ Some slot) }
-        ensures place { found_slot result ≡ None → found_place result ≡ place_of (K.eq key.now) (map (λ e. e.1) self.old.entries) self.old.places.taken }
-        ensures absent { found_slot result ≡ None → found_place result ≡ None → find (is_key_at K.eq key.now residents.old.entries) (candidates (known.slots self.old.places.index) hash) ≡ None }
-        ensures residents { residents.new ≡ record residents.old { questions = residents.new.questions } }
-        ensures kept { self.new ≡ record self.old { places = places_looked_up hash self.old.places; questions = self.new.questions } }
-        ensures asked { Rises 0 (length (candidates (known.slots self.old.places.index) hash)) residents.old.questions residents.new.questions }
-        ensures questions { Rises 0 (length (candidates (known.places self.old.places.index) hash)) self.old.questions self.new.questions }
+        requires used { AllByRecursion (λ slot. slot < length residents.old.entries)
+            (candidates (known.slots self.old.places.index) hash) }
+        ensures slot { IfSome (found_slot result)
+            (λ slot. find (is_key_at K.eq key.now residents.old.entries)
+            (candidates (known.slots self.old.places.index) hash) ≡ Some slot) }
+        ensures place { found_slot result ≡ None →
+            found_place result ≡
+            place_of (K.eq key.now) (map (λ e. e.1) self.old.entries) self.old.places.taken }
+        ensures absent { found_slot result ≡ None → found_place result ≡ None →
+            find (is_key_at K.eq key.now residents.old.entries)
+            (candidates (known.slots self.old.places.index) hash) ≡ None }
+        ensures residents { residents.new ≡
+            record residents.old { questions = residents.new.questions } }
+        ensures kept { self.new ≡
+            record self.old {
+              places = places_looked_up hash self.old.places;
+              questions = self.new.questions;
+            } }
+        ensures asked { Rises 0
+            (length (candidates
+            (known.slots self.old.places.index) hash)) residents.old.questions residents.new.questions }
+        ensures questions { Rises 0
+            (length (candidates
+            (known.places self.old.places.index) hash)) self.old.questions self.new.questions }
     {
         let found = self.search(hash, key, residents);
         self.index.charge_lookup(hash);
@@ -152,10 +170,19 @@ impl<K: Eq, A: Allocator> History<K, A> {
         key: &K,
         residents: &mut Keys<K, V, A>,
     ) -> Option<u32>
-        requires used { AllByRecursion (λ slot. slot < length residents.old.entries) (candidates (known.slots self.old.places.index) hash) }
-        ensures slot { result ≡ find (is_key_at K.eq key.now residents.old.entries) (candidates (known.slots self.old.places.index) hash) }
-        ensures counted { residents.new ≡ record residents.old { questions = residents.old.questions + questions_of (is_key_at K.eq key.now residents.old.entries) (candidates (known.slots self.old.places.index) hash) } }
-        ensures kept { self.new ≡ record self.old { places = places_looked_up hash self.old.places } }
+        requires used { AllByRecursion (λ slot. slot < length residents.old.entries)
+            (candidates (known.slots self.old.places.index) hash) }
+        ensures slot { result ≡
+            find (is_key_at K.eq key.now residents.old.entries)
+            (candidates (known.slots self.old.places.index) hash) }
+        ensures counted { residents.new ≡
+            record residents.old {
+              questions = residents.old.questions +
+                  questions_of (is_key_at K.eq key.now residents.old.entries)
+                  (candidates (known.slots self.old.places.index) hash);
+            } }
+        ensures kept { self.new ≡
+            record self.old { places = places_looked_up hash self.old.places } }
     {
         let found = residents.find(self.index.handles(hash), key);
         self.index.charge_lookup(hash);
@@ -166,9 +193,16 @@ impl<K: Eq, A: Allocator> History<K, A> {
     /// one lookup.
     pub fn find(&mut self, hash: u64, key: &K) -> Option<u32>
         requires hash { HasHash K.eq hash key.now self.old.entries }
-        ensures place { result ≡ place_of (K.eq key.now) (map (λ e. e.1) self.old.entries) self.old.places.taken }
-        ensures kept { self.new ≡ record self.old { places = places_looked_up hash self.old.places; questions = self.new.questions } }
-        ensures questions { Rises 0 (length (candidates (known.places self.old.places.index) hash)) self.old.questions self.new.questions }
+        ensures place { result ≡
+            place_of (K.eq key.now) (map (λ e. e.1) self.old.entries) self.old.places.taken }
+        ensures kept { self.new ≡
+            record self.old {
+              places = places_looked_up hash self.old.places;
+              questions = self.new.questions;
+            } }
+        ensures questions { Rises 0
+            (length (candidates
+            (known.places self.old.places.index) hash)) self.old.questions self.new.questions }
     {
         let found = self.search_places(hash, key);
         self.index.charge_lookup(hash);
@@ -179,14 +213,26 @@ impl<K: Eq, A: Allocator> History<K, A> {
     #[inline(always)]
     fn search<V>(&mut self, hash: u64, key: &K, residents: &mut Keys<K, V, A>) -> Found
         requires hash { HasHash K.eq hash key.now self.old.entries }
-        requires used { AllByRecursion (λ slot. slot < length residents.old.entries) (candidates (known.slots self.old.places.index) hash) }
-        ensures slot { IfSome (found_slot result) (λ slot. find (is_key_at K.eq key.now residents.old.entries) (candidates (known.slots self.old.places.index) hash) ≡ Some slot) }
-        ensures place { found_slot result ≡ None → found_place result ≡ place_of (K.eq key.now) (map (λ e. e.1) self.old.entries) self.old.places.taken }
-        ensures absent { found_slot result ≡ None → found_place result ≡ None → find (is_key_at K.eq key.now residents.old.entries) (candidates (known.slots self.old.places.index) hash) ≡ None }
-        ensures residents { residents.new ≡ record residents.old { questions = residents.new.questions } }
+        requires used { AllByRecursion (λ slot. slot < length residents.old.entries)
+            (candidates (known.slots self.old.places.index) hash) }
+        ensures slot { IfSome (found_slot result)
+            (λ slot. find (is_key_at K.eq key.now residents.old.entries)
+            (candidates (known.slots self.old.places.index) hash) ≡ Some slot) }
+        ensures place { found_slot result ≡ None →
+            found_place result ≡
+            place_of (K.eq key.now) (map (λ e. e.1) self.old.entries) self.old.places.taken }
+        ensures absent { found_slot result ≡ None → found_place result ≡ None →
+            find (is_key_at K.eq key.now residents.old.entries)
+            (candidates (known.slots self.old.places.index) hash) ≡ None }
+        ensures residents { residents.new ≡
+            record residents.old { questions = residents.new.questions } }
         ensures kept { self.new ≡ record self.old { questions = self.new.questions } }
-        ensures asked { Rises 0 (length (candidates (known.slots self.old.places.index) hash)) residents.old.questions residents.new.questions }
-        ensures questions { Rises 0 (length (candidates (known.places self.old.places.index) hash)) self.old.questions self.new.questions }
+        ensures asked { Rises 0
+            (length (candidates
+            (known.slots self.old.places.index) hash)) residents.old.questions residents.new.questions }
+        ensures questions { Rises 0
+            (length (candidates
+            (known.places self.old.places.index) hash)) self.old.questions self.new.questions }
     {
         if self.index.is_shared() {
             return look_among(self.index.handles(hash), key, residents, &mut self.keys);
@@ -198,9 +244,12 @@ impl<K: Eq, A: Allocator> History<K, A> {
     #[inline(always)]
     fn search_places(&mut self, hash: u64, key: &K) -> Option<u32>
         requires hash { HasHash K.eq hash key.now self.old.entries }
-        ensures place { result ≡ place_of (K.eq key.now) (map (λ e. e.1) self.old.entries) self.old.places.taken }
+        ensures place { result ≡
+            place_of (K.eq key.now) (map (λ e. e.1) self.old.entries) self.old.places.taken }
         ensures kept { self.new ≡ record self.old { questions = self.new.questions } }
-        ensures questions { Rises 0 (length (candidates (known.places self.old.places.index) hash)) self.old.questions self.new.questions }
+        ensures questions { Rises 0
+            (length (candidates
+            (known.places self.old.places.index) hash)) self.old.questions self.new.questions }
     {
         if self.index.is_shared() {
             return self.keys.find_remembered(self.index.handles(hash), key);
@@ -212,14 +261,26 @@ impl<K: Eq, A: Allocator> History<K, A> {
     fn lookup_split<V>(&mut self, hash: u64, key: &K, residents: &mut Keys<K, V, A>) -> Found
         requires apart { is_shared self.old.places.index ≡ false }
         requires hash { HasHash K.eq hash key.now self.old.entries }
-        requires used { AllByRecursion (λ slot. slot < length residents.old.entries) (candidates (known.slots self.old.places.index) hash) }
-        ensures slot { IfSome (found_slot result) (λ slot. find (is_key_at K.eq key.now residents.old.entries) (candidates (known.slots self.old.places.index) hash) ≡ Some slot) }
-        ensures place { found_slot result ≡ None → found_place result ≡ place_of (K.eq key.now) (map (λ e. e.1) self.old.entries) self.old.places.taken }
-        ensures absent { found_slot result ≡ None → found_place result ≡ None → find (is_key_at K.eq key.now residents.old.entries) (candidates (known.slots self.old.places.index) hash) ≡ None }
-        ensures residents { residents.new ≡ record residents.old { questions = residents.new.questions } }
+        requires used { AllByRecursion (λ slot. slot < length residents.old.entries)
+            (candidates (known.slots self.old.places.index) hash) }
+        ensures slot { IfSome (found_slot result)
+            (λ slot. find (is_key_at K.eq key.now residents.old.entries)
+            (candidates (known.slots self.old.places.index) hash) ≡ Some slot) }
+        ensures place { found_slot result ≡ None →
+            found_place result ≡
+            place_of (K.eq key.now) (map (λ e. e.1) self.old.entries) self.old.places.taken }
+        ensures absent { found_slot result ≡ None → found_place result ≡ None →
+            find (is_key_at K.eq key.now residents.old.entries)
+            (candidates (known.slots self.old.places.index) hash) ≡ None }
+        ensures residents { residents.new ≡
+            record residents.old { questions = residents.new.questions } }
         ensures kept { self.new ≡ record self.old { questions = self.new.questions } }
-        ensures asked { Rises 0 (length (candidates (known.slots self.old.places.index) hash)) residents.old.questions residents.new.questions }
-        ensures questions { Rises 0 (length (candidates (known.places self.old.places.index) hash)) self.old.questions self.new.questions }
+        ensures asked { Rises 0
+            (length (candidates
+            (known.slots self.old.places.index) hash)) residents.old.questions residents.new.questions }
+        ensures questions { Rises 0
+            (length (candidates
+            (known.places self.old.places.index) hash)) self.old.questions self.new.questions }
     {
         if let Some(slot) = residents.find(self.index.handles(hash), key) {
             return Found::Resident(slot);
@@ -235,7 +296,8 @@ impl<K: Eq, A: Allocator> History<K, A> {
     pub fn enter(&mut self, hash: u64, slot: u32)
         requires below { slot < 2 ^ 31 }
         requires room { HasRoom self.old }
-        ensures added { self.new ≡ record self.old { places = record self.old.places { index = entered hash slot self.old.places.index } } }
+        ensures added { self.new ≡
+            record self.old { places = record self.old.places { index = entered hash slot self.old.places.index } } }
     {
         self.index.add_slot(hash, slot);
     }
@@ -245,7 +307,8 @@ impl<K: Eq, A: Allocator> History<K, A> {
     pub fn leave(&mut self, hash: u64, slot: u32)
         requires below { slot < 2 ^ 31 }
         requires held { has slot (candidates (known.slots self.old.places.index) hash) ≡ true }
-        ensures removed { self.new ≡ record self.old { places = record self.old.places { index = left hash slot self.old.places.index } } }
+        ensures removed { self.new ≡
+            record self.old { places = record self.old.places { index = left hash slot self.old.places.index } } }
     {
         self.index.remove_slot(hash, slot);
     }
@@ -258,8 +321,15 @@ impl<K: Eq, A: Allocator> History<K, A> {
         requires below { slot < 2 ^ 31 }
         requires held { has slot (candidates (known.slots self.old.places.index) hash) ≡ true }
         requires absent { is_remembered K.eq key self.old.entries ≡ false }
-        ensures pushed { self.new ≡ record self.old { entries = take self.old.limit ((hash, key) ∷ self.old.entries); places = self.new.places; accesses = self.new.accesses } }
-        ensures places { self.new.places ≡ pushed_places self.old.limit hash slot (oldest_hash (λ (e : ℕ × K). e.0) self.old.entries) self.old.places }
+        ensures pushed { self.new ≡
+            record self.old {
+              entries = take self.old.limit ((hash, key) ∷ self.old.entries);
+              places = self.new.places;
+              accesses = self.new.accesses;
+            } }
+        ensures places { self.new.places ≡
+            pushed_places self.old.limit hash slot
+            (oldest_hash (λ (e : ℕ × K). e.0) self.old.entries) self.old.places }
         ensures accesses { Rises 0 8 self.old.accesses self.new.accesses }
     {
         if self.order.limit() == 0 {
@@ -275,10 +345,19 @@ impl<K: Eq, A: Allocator> History<K, A> {
     /// its copy of the key when the place is used again.
     pub fn forget(&mut self, hash: u64, key: &K, place: Option<u32>) -> bool
         requires hash { HasHash K.eq hash key.now self.old.entries }
-        requires place { place ≡ place_of (K.eq key.now) (map (λ e. e.1) self.old.entries) self.old.places.taken }
+        requires place { place ≡
+            place_of (K.eq key.now) (map (λ e. e.1) self.old.entries) self.old.places.taken }
         ensures found { result ≡ is_remembered K.eq key.now self.old.entries }
-        ensures forgotten { self.new ≡ record self.old { entries = forgotten K.eq key.now self.old.entries; places = self.new.places; accesses = self.new.accesses } }
-        ensures places { self.new.places ≡ freed_place hash (place_of (K.eq key.now) (map (λ e. e.1) self.old.entries) self.old.places.taken) self.old.places }
+        ensures forgotten { self.new ≡
+            record self.old {
+              entries = forgotten K.eq key.now self.old.entries;
+              places = self.new.places;
+              accesses = self.new.accesses;
+            } }
+        ensures places { self.new.places ≡
+            freed_place hash
+            (place_of (K.eq key.now)
+            (map (λ e. e.1) self.old.entries) self.old.places.taken) self.old.places }
         ensures accesses { Rises 0 7 self.old.accesses self.new.accesses }
     {
         let _ = key;
@@ -299,7 +378,11 @@ impl<K: Eq, A: Allocator> History<K, A> {
     pub fn clear(&mut self)
     where
         K: Drop,
-        ensures cleared { self.new ≡ record self.old { entries = []; places = places_with (emptied self.old.places.index) [] [] } }
+        ensures cleared { self.new ≡
+            record self.old {
+              entries = [];
+              places = places_with (emptied self.old.places.index) [] [];
+            } }
     {
         self.index.clear();
         self.order.clear();
@@ -315,13 +398,21 @@ fn look_among<K: Eq, V, A: Allocator>(
     residents: &mut Keys<K, V, A>,
     remembered: &mut Keys<K, (), A>,
 ) -> Found
-    requires slots { AllByRecursion (λ slot. slot < length residents.old.entries) (slots_among handles.left) }
-    requires places { AllByRecursion (λ place. place < length remembered.old.entries) (places_among handles.left) }
-    ensures found { result ≡ first_known (is_key_at K.eq key.now residents.old.entries) (is_key_at K.eq key.now remembered.old.entries) handles.entry.left }
-    ensures residents { residents.new ≡ record residents.old { questions = residents.new.questions } }
-    ensures remembered { remembered.new ≡ record remembered.old { questions = remembered.new.questions } }
-    ensures asked { Rises 0 (length (slots_among handles.entry.left)) residents.old.questions residents.new.questions }
-    ensures questions { Rises 0 (length (places_among handles.entry.left)) remembered.old.questions remembered.new.questions }
+    requires slots { AllByRecursion (λ slot. slot < length residents.old.entries)
+        (slots_among handles.left) }
+    requires places { AllByRecursion (λ place. place < length remembered.old.entries)
+        (places_among handles.left) }
+    ensures found { result ≡
+        first_known (is_key_at K.eq key.now residents.old.entries)
+        (is_key_at K.eq key.now remembered.old.entries) handles.entry.left }
+    ensures residents { residents.new ≡
+        record residents.old { questions = residents.new.questions } }
+    ensures remembered { remembered.new ≡
+        record remembered.old { questions = remembered.new.questions } }
+    ensures asked { Rises 0
+        (length (slots_among handles.entry.left)) residents.old.questions residents.new.questions }
+    ensures questions { Rises 0
+        (length (places_among handles.entry.left)) remembered.old.questions remembered.new.questions }
 {
     while let Some(handle) = handles.peek() {
         if handle < REMEMBERED {

@@ -21,7 +21,11 @@ impl<K: Drop, V: Drop, A: Allocator> Keys<K, V, A> {
         requires next { place ≤ length self.old.entries }
         requires room { place < self.old.room }
         requires few { length self.old.entries < 2 ^ 32 }
-        ensures written { self.new ≡ record self.old { entries = written place (entry hash key value) self.old.entries; writes = self.old.writes + 1 } }
+        ensures written { self.new ≡
+            record self.old {
+              entries = written place (entry hash key value) self.old.entries;
+              writes = self.old.writes + 1;
+            } }
     {
         if place == self.len() as u32 {
             self.push(hash, key, value);
@@ -40,7 +44,8 @@ impl<K: Drop, V: Drop, A: Allocator> Keys<K, V, A> {
         requires room { place < self.old.room }
         requires few { length self.old.entries < 2 ^ 32 }
         ensures entries { Writes hash key value place self.old.entries self.new.entries }
-        ensures kept { self.new ≡ record self.old { entries = self.new.entries; writes = self.old.writes + 1 } }
+        ensures kept { self.new ≡
+            record self.old { entries = self.new.entries; writes = self.old.writes + 1 } }
     {
         match value {
             Some(value) => self.write(place, hash, key, value),
@@ -57,7 +62,8 @@ impl<K: Drop, V: Drop, A: Allocator> Keys<K, V, A> {
         ensures hash { hash_at self.old.entries place ≡ Some result.0 }
         ensures key { key_at self.old.entries place ≡ Some result.1 }
         ensures entries { Writes hash key value place self.old.entries self.new.entries }
-        ensures kept { self.new ≡ record self.old { entries = self.new.entries; writes = self.old.writes + 1 } }
+        ensures kept { self.new ≡
+            record self.old { entries = self.new.entries; writes = self.old.writes + 1 } }
     {
         let old = self.replace(place, hash, key);
         if let Some(value) = value {
@@ -85,9 +91,16 @@ impl<K: Eq, V, A: Allocator> Keys<K, V, A> {
     /// Returns the first of `handles` below [`REMEMBERED`] that has `key`, and counts each
     /// comparison. The other handles are skipped.
     pub fn find(&mut self, handles: Candidates<'_, u32>, key: &K) -> Option<u32>
-        requires used { AllByRecursion (λ place. place < length self.old.entries) (slots_among handles.left) }
-        ensures found { result ≡ find (is_key_at K.eq key.now self.old.entries) (slots_among handles.entry.left) }
-        ensures counted { self.new ≡ record self.old { questions = self.old.questions + questions_of (is_key_at K.eq key.now self.old.entries) (slots_among handles.entry.left) } }
+        requires used { AllByRecursion (λ place. place < length self.old.entries)
+            (slots_among handles.left) }
+        ensures found { result ≡
+            find (is_key_at K.eq key.now self.old.entries) (slots_among handles.entry.left) }
+        ensures counted { self.new ≡
+            record self.old {
+              questions = self.old.questions +
+                  questions_of (is_key_at K.eq key.now self.old.entries)
+                  (slots_among handles.entry.left);
+            } }
     {
         let mut asked = Count::new();
         let found = self.find_counting_in(handles, key, &mut asked);
@@ -98,9 +111,16 @@ impl<K: Eq, V, A: Allocator> Keys<K, V, A> {
     /// Returns the place of the first of `handles` from [`REMEMBERED`] on that has `key`, and
     /// counts each comparison. Slots are skipped.
     pub fn find_remembered(&mut self, mut handles: Candidates<'_, u32>, key: &K) -> Option<u32>
-        requires used { AllByRecursion (λ place. place < length self.old.entries) (places_among handles.left) }
-        ensures found { result ≡ find (is_key_at K.eq key.now self.old.entries) (places_among handles.entry.left) }
-        ensures counted { self.new ≡ record self.old { questions = self.old.questions + questions_of (is_key_at K.eq key.now self.old.entries) (places_among handles.entry.left) } }
+        requires used { AllByRecursion (λ place. place < length self.old.entries)
+            (places_among handles.left) }
+        ensures found { result ≡
+            find (is_key_at K.eq key.now self.old.entries) (places_among handles.entry.left) }
+        ensures counted { self.new ≡
+            record self.old {
+              questions = self.old.questions +
+                  questions_of (is_key_at K.eq key.now self.old.entries)
+                  (places_among handles.entry.left);
+            } }
     {
         while let Some(handle) = handles.next() {
             if handle >= REMEMBERED {
@@ -121,9 +141,14 @@ impl<K: Eq, V, A: Allocator> Keys<K, V, A> {
         key: &K,
         asked: &mut Count,
     ) -> Option<u32>
-        requires used { AllByRecursion (λ place. place < length self.now.entries) (slots_among handles.left) }
-        ensures found { result ≡ find (is_key_at K.eq key.now self.now.entries) (slots_among handles.entry.left) }
-        ensures counted { asked.new.total ≡ asked.old.total + questions_of (is_key_at K.eq key.now self.now.entries) (slots_among handles.entry.left) }
+        requires used { AllByRecursion (λ place. place < length self.now.entries)
+            (slots_among handles.left) }
+        ensures found { result ≡
+            find (is_key_at K.eq key.now self.now.entries) (slots_among handles.entry.left) }
+        ensures counted { asked.new.total ≡
+            asked.old.total +
+            questions_of (is_key_at K.eq key.now self.now.entries)
+            (slots_among handles.entry.left) }
     {
         while let Some(handle) = handles.peek() {
             if handle < REMEMBERED {

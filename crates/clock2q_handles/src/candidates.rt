@@ -81,8 +81,10 @@ impl<'a, H: Copy + Eq + Default> Candidates<'a, H> {
         ensures stands { IfSome result (λ _. self.new.stands ≡ true) }
         ensures reads { self.old.reads ≤ self.new.reads }
         ensures within { self.new.reads ≤ self.old.reads + self.old.unread }
-        ensures again { IfSome result (λ _. self.new.reads + self.new.unread ≡ self.old.reads + self.old.unread + 1) }
-        ensures read_all { IfNone result ((self.new.reads ≡ self.old.reads + self.old.unread) × (self.new.unread ≡ 0)) }
+        ensures again { IfSome result
+            (λ _. self.new.reads + self.new.unread ≡ self.old.reads + self.old.unread + 1) }
+        ensures read_all { IfNone result
+            ((self.new.reads ≡ self.old.reads + self.old.unread) × (self.new.unread ≡ 0)) }
         ensures handle { IfSome result (λ _. self.new.handles ≡ self.old.handles + 1) }
         ensures no_handle { IfNone result (self.new.handles ≡ self.old.handles) }
     {
@@ -134,15 +136,23 @@ impl<'a, H: Copy + Default> Reader<'a, H> {
         ensures lookup { IfOk result (λ next. IsLookup self.old.slots (sought next.1) next.0) }
         ensures within { IfOk result (λ next. next.0 < length self.old.slots) }
         ensures some { IfOk result (λ next. IsSome (sought next.1)) }
-        ensures found { IfOk result (λ next. mark_of (slot_at self.old.slots next.0) ≡ sought next.1) }
-        ensures left { IfOk result (λ next. left_at self.old.slots (sought wanted) slot ≡ left_at self.old.slots (sought next.1) next.0) }
-        ensures read { IfOk result (λ next. self.new.reads + unread_at self.old.slots (sought next.1) next.0 ≡ self.old.reads + unread_at self.old.slots (sought wanted) slot + 1) }
+        ensures found { IfOk result
+            (λ next. mark_of (slot_at self.old.slots next.0) ≡ sought next.1) }
+        ensures left { IfOk result
+            (λ next. left_at self.old.slots (sought wanted) slot
+            ≡ left_at self.old.slots (sought next.1) next.0) }
+        ensures read { IfOk result
+            (λ next. self.new.reads + unread_at self.old.slots (sought next.1) next.0
+            ≡ self.old.reads + unread_at self.old.slots (sought wanted) slot + 1) }
         ensures reads { self.old.reads < self.new.reads }
         ensures handles { self.new.handles ≡ self.old.handles }
         ensures none { IfErr result (λ _. left_at self.old.slots (sought wanted) slot ≡ []) }
-        ensures read_all { IfErr result (λ _. self.new.reads ≡ self.old.reads + unread_at self.old.slots (sought wanted) slot) }
-        ensures walks { (x : ℕ) → IsWalkFor self.old.slots x (sought wanted) slot → IfOk result (λ next. IsWalkFor self.old.slots x (sought next.1) next.0) }
-        ensures ends { (x : ℕ) → IsWalkFor self.old.slots x (sought wanted) slot → IfErr result (λ end. EndsAt self.old.slots x (sought end.1) end.0) }
+        ensures read_all { IfErr result
+            (λ _. self.new.reads ≡ self.old.reads + unread_at self.old.slots (sought wanted) slot) }
+        ensures walks { (x : ℕ) → IsWalkFor self.old.slots x (sought wanted) slot
+            → IfOk result (λ next. IsWalkFor self.old.slots x (sought next.1) next.0) }
+        ensures ends { (x : ℕ) → IsWalkFor self.old.slots x (sought wanted) slot
+            → IfErr result (λ end. EndsAt self.old.slots x (sought end.1) end.0) }
     {
         loop {
             let metadata = self.read(slot);
@@ -169,14 +179,18 @@ impl<'a, H: Copy + Default> Reader<'a, H> {
         requires near { AreNear self.old.slots }
         requires some { 0 < length self.old.slots }
         requires callable { MayBeOffered F.FnMut matches.old (left_from self.old.slots hash 0) }
-        ensures offers { Offers F.FnMut matches.old (left_from self.old.slots hash 0) (handle_in result) matches.new }
-        ensures at { IfOk result (λ found. IsAcceptedAt F.FnMut matches.old self.old.slots hash found.0 found.1) }
+        ensures offers { Offers F.FnMut matches.old (left_from self.old.slots hash 0)
+            (handle_in result) matches.new }
+        ensures at { IfOk result
+            (λ found. IsAcceptedAt F.FnMut matches.old self.old.slots hash found.0 found.1) }
         ensures same { self.new.slots ≡ self.old.slots }
         ensures ends { IfErr result (λ gap. EndsAt self.old.slots hash gap.mark gap.position) }
         ensures reads { self.old.reads < self.new.reads }
         ensures read { self.new.reads ≤ self.old.reads + unread_from self.old.slots hash 0 }
-        ensures handles { self.new.handles ≤ self.old.handles + length (left_from self.old.slots hash 0) }
-        ensures read_all { IfErr result (λ _. self.new.reads ≡ self.old.reads + unread_from self.old.slots hash 0) }
+        ensures handles { self.new.handles
+            ≤ self.old.handles + length (left_from self.old.slots hash 0) }
+        ensures read_all { IfErr result
+            (λ _. self.new.reads ≡ self.old.reads + unread_from self.old.slots hash 0) }
     {
         let mut slot = self.home(hash);
         let mut wanted = Wanted::new(hash);

@@ -93,9 +93,14 @@ impl<H: Copy + Default, A: Allocator> Slots<H, A> {
         H: PartialEq,
         requires tidy { IsTidy self.now.slots }
         requires near { AreNear self.now.slots }
-        ensures found { IfSome result (FindsAt (is_entry_of H.PartialEq.eq hash handle) self.now.slots (hash % length self.now.slots)) }
-        ensures none { IfNone result (list_any (is_entry_of H.PartialEq.eq hash handle) (listed (homes_of self.now.slots) (hash % length self.now.slots)) ≡ false) }
-        ensures reads { RisesAtMost (walk (homes_of self.now.slots) hash) reads.old.total reads.new.total }
+        ensures found { IfSome result
+            (FindsAt (is_entry_of H.PartialEq.eq hash handle) self.now.slots
+            (hash % length self.now.slots)) }
+        ensures none { IfNone result
+            (list_any (is_entry_of H.PartialEq.eq hash handle)
+            (listed (homes_of self.now.slots) (hash % length self.now.slots)) ≡ false) }
+        ensures reads { RisesAtMost (walk (homes_of self.now.slots) hash) reads.old.total
+            reads.new.total }
     {
         if self.count() == 0 {
             return None;
@@ -123,9 +128,12 @@ impl<H: Copy + Default, A: Allocator> Slots<H, A> {
         H: PartialEq,
         requires tidy { IsTidy self.now.slots }
         requires near { AreNear self.now.slots }
-        requires held { list_any (is_entry_of H.PartialEq.eq hash handle) (listed (homes_of self.now.slots) (hash % length self.now.slots)) ≡ true }
-        ensures found { FindsAt (is_entry_of H.PartialEq.eq hash handle) self.now.slots (hash % length self.now.slots) result }
-        ensures reads { RisesAtMost (walk (homes_of self.now.slots) hash) reads.old.total reads.new.total }
+        requires held { list_any (is_entry_of H.PartialEq.eq hash handle)
+            (listed (homes_of self.now.slots) (hash % length self.now.slots)) ≡ true }
+        ensures found { FindsAt (is_entry_of H.PartialEq.eq hash handle) self.now.slots
+            (hash % length self.now.slots) result }
+        ensures reads { RisesAtMost (walk (homes_of self.now.slots) hash) reads.old.total
+            reads.new.total }
     {
         let mut slot = self.home(hash);
         let mut wanted = Wanted::new(hash);
@@ -148,8 +156,10 @@ impl<H: Copy + Default, A: Allocator> Slots<H, A> {
         reads: &mut Count,
     )
         requires same { length old.handles.now ≡ length old.metadata.now }
-        requires movable { MayMove F.FnMut rehash.old (cells old.metadata.now old.handles.now) self.old.slots }
-        ensures moved { Moves F.FnMut rehash.old rehash.new (cells old.entry.metadata.now old.entry.handles.now) self.old.slots self.new.slots }
+        requires movable { MayMove F.FnMut rehash.old (cells old.metadata.now old.handles.now)
+            self.old.slots }
+        ensures moved { Moves F.FnMut rehash.old rehash.new
+            (cells old.entry.metadata.now old.entry.handles.now) self.old.slots self.new.slots }
         ensures counted { reads.old.total ≤ reads.new.total }
     {
         for slot in 0..old.count() {

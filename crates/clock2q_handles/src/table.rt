@@ -81,7 +81,8 @@ impl<H: Copy + Eq + Default, A: Allocator + Copy> Table<H, A> {
     ///
     /// Linear in `entries`: every slot is initialized.
     pub fn with_capacity(alloc: A, entries: usize) -> Result<Table<H, A>, TableError>
-        ensures made { IfOk result (λ t. t ≡ table_value (made_for entries) (layout (made_for entries)) 0 0) }
+        ensures made { IfOk result
+            (λ t. t ≡ table_value (made_for entries) (layout (made_for entries)) 0 0) }
         ensures size { IsErrOf result TableError.Size ↔ ((0 < entries) × (2 ^ 64 ≤ fit entries)) }
         ensures only { result ≢ Err TableError.RunTooLong }
         ensures none { entries ≡ 0 → IsOk result }

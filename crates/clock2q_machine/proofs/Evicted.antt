@@ -33,7 +33,8 @@ module _ {K V : Type 0} (m : Machine K V) where
     weight-tail None last = omega arith
     weight-tail (Some tail) last = omega (arith, (weight-last (λ e. w e.key e.slot) None m.small tail (tail_some m.small tail last) last).0)
 
-    weight-victim : (t : Option (SmallEntry K)) → last_or None m.small ≡ t → (es : List (MainEntry K)) → from_victim m.main ≡ es → weight w (victim_evicted t es m) + resident_weight w (first_of es) ≡ weight w m
+    weight-victim : (t : Option (SmallEntry K)) → last_or None m.small ≡ t → (es : List (MainEntry K)) → from_victim m.main ≡ es →
+        weight w (victim_evicted t es m) + resident_weight w (first_of es) ≡ weight w m
     weight-victim None last [] choice = omega arith
     weight-victim (Some tail) last [] choice = omega arith
     weight-victim None last (victim ∷ others) choice = omega (arith, without_victim (λ e. w e.key e.slot) (λ e bit. refl) victim others choice)

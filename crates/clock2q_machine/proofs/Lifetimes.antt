@@ -237,8 +237,12 @@ module _ {K V : Type 0} (is : K → Bool) where
   remembers_tail a key tail m [] true was = remembers_less 0 a m was
   remembers_tail a key tail m (victim ∷ others) true was = (was.0, omega (arith, was.1))
   remembers_tail a key tail m es false was =
-      let in_front : (list_any is (tail.key ∷ m.history) ≡ true) × (newer is (tail.key ∷ m.history) ≤ 1 + newer is m.history) =
-      (or_right (is tail.key) (list_any is m.history) was.0, elim (is tail.key) as (λ b. (if b then 0 else 1 + newer is m.history) ≤ 1 + newer is m.history) [ true ↦ omega arith | false ↦ omega arith ]) in
+      let in_front : (list_any is (tail.key ∷ m.history) ≡ true) × (newer is (tail.key ∷ m.history) ≤ 1 + newer is m.history) = (
+        or_right (is tail.key) (list_any is m.history) was.0,
+        elim (is tail.key) as
+            (λ b. (if b then 0 else 1 + newer is m.history) ≤
+            1 + newer is m.history) [ true ↦ omega arith | false ↦ omega arith ],
+      ) in
       let cut = newer_taken is (tail.key ∷ m.history) (history_share m.shares) in_front.0 (omega (arith, in_front.1, was.1)) in
       (cut.0, omega (arith, cut.1, in_front.1, was.1))
 

@@ -109,7 +109,9 @@ module _ {K V : Type 0} where
         let whole = whole-forgotten eq m h (eq key) in
         (elim (goes_to_main (list_any (eq key) m.history) m) as (λ b. goes_to_main (list_any (eq key) m.history) m ≡ b →
         let p = if b then into_main key rest else into_small key rest in
-        weight w p.machine + resident_weight w (if b then (if length m.main == main_share m.shares then first_of (from_victim m.main) else None) else leaves_for_small (vacancy m) (last_or None m.small) m.main)
+        weight w p.machine + resident_weight w
+        (if b then (if length m.main == main_share m.shares then first_of (from_victim m.main) else None) else
+        leaves_for_small (vacancy m) (last_or None m.small) m.main)
         ≡ weight w m + w key p.slot) [
           | true ↦ λ _. leaves_main eq key rest whole (length m.main == main_share m.shares) refl (from_victim m.main) refl (vacancy m) refl w
           | false ↦ λ small. leaves_small eq key rest whole (vacancy m) refl (last_or None m.small) refl
@@ -307,7 +309,9 @@ module _ {K V : Type 0} (eq : K → K → Bool) (m : Machine K V) (h : IsWhole e
       not_for : (remembered : Bool) → IfSome (leaves_for remembered m) (λ r. eq tail.key r.0 ≡ false)
       not_for remembered =
           elim (goes_to_main remembered m)
-          as (λ b. IfSome (if b then (if length m.main == main_share m.shares then first_of (from_victim m.main) else None) else leaves_for_small (vacancy m) (last_or None m.small) m.main) (λ r. eq tail.key r.0 ≡ false))
+          as (λ b. IfSome
+          (if b then (if length m.main == main_share m.shares then first_of (from_victim m.main) else None) else
+          leaves_for_small (vacancy m) (last_or None m.small) m.main) (λ r. eq tail.key r.0 ≡ false))
           [ true ↦ not_for_main (length m.main == main_share m.shares) | false ↦ not_for_small (vacancy m) ]
 
       not_wanted : (key : K) (o : Option ℕ) → IfSome (if is_some o then None else leaves_for (list_any (eq key) m.history) m) (λ r. eq tail.key r.0 ≡ false)

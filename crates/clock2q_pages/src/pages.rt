@@ -19,17 +19,23 @@ pub fn frame_of<S: BuildHasher>(
     page: usize,
 ) -> (usize, Option<usize>)
     ensures resident { resident_frame pages.new.machine page ≡ Some result.0 }
-    ensures alone { (other : ℕ) → other ≢ page → resident_frame pages.new.machine other ≢ Some result.0 }
-    ensures stays { (frame : ℕ) → resident_frame pages.old.machine page ≡ Some frame → result.0 ≡ frame }
-    ensures others { (other frame : ℕ) → other ≢ page → resident_frame pages.new.machine other ≡ Some frame → resident_frame pages.old.machine other ≡ Some frame }
+    ensures alone { (other : ℕ) → other ≢ page →
+        resident_frame pages.new.machine other ≢ Some result.0 }
+    ensures stays { (frame : ℕ) → resident_frame pages.old.machine page ≡ Some frame →
+        result.0 ≡ frame }
+    ensures others { (other frame : ℕ) → other ≢ page →
+        resident_frame pages.new.machine other ≡ Some frame →
+        resident_frame pages.old.machine other ≡ Some frame }
     ensures within { result.0 < pages.old.machine.shares.capacity }
     ensures last { result.1 ≡ last_in pages.old.machine result.0 }
     ensures loaded { (result.1 ≡ Some page) ↔ IsLoaded pages.old.machine page result.0 }
     ensures loads { IsLoaded pages.new.machine page result.0 }
-    ensures keeps { (other frame : ℕ) → frame ≢ result.0 → IsLoaded pages.new.machine other frame → IsLoaded pages.old.machine other frame }
+    ensures keeps { (other frame : ℕ) → frame ≢ result.0 → IsLoaded pages.new.machine other frame →
+        IsLoaded pages.old.machine other frame }
     ensures machine { pages.new.machine ≡ put (eqb page) page (Some page) pages.old.machine }
     ensures shares { pages.new.machine.shares ≡ pages.old.machine.shares }
-    ensures costs { Costs ⟦<usize as Hash>⟧ S.BuildHasher S.Hasher.Hasher (SlotFor page (Some page)) pages.old pages.new }
+    ensures costs { Costs ⟦<usize as Hash>⟧ S.BuildHasher S.Hasher.Hasher
+        (SlotFor page (Some page)) pages.old pages.new }
 {
     let _ = pages.len(); // whose contract says that the cache is whole
     let (frame, held) = pages.get_or_insert_mut(page, || None);
@@ -47,10 +53,12 @@ pub fn is_in<S: BuildHasher>(
 ) -> bool
     ensures resident { IsTrue result ↔ (resident_frame pages.old.machine page ≡ Some frame) }
     ensures machine { pages.new.machine ≡ hit_at frame (eqb page) pages.old.machine }
-    ensures stay { (other : ℕ) → resident_frame pages.new.machine other ≡ resident_frame pages.old.machine other }
+    ensures stay { (other : ℕ) →
+        resident_frame pages.new.machine other ≡ resident_frame pages.old.machine other }
     ensures values { pages.new.machine.values ≡ pages.old.machine.values }
     ensures shares { pages.new.machine.shares ≡ pages.old.machine.shares }
-    ensures costs { Costs ⟦<usize as Hash>⟧ S.BuildHasher S.Hasher.Hasher (GetAt frame page) pages.old pages.new }
+    ensures costs { Costs ⟦<usize as Hash>⟧ S.BuildHasher S.Hasher.Hasher
+        (GetAt frame page) pages.old pages.new }
 {
     let _ = pages.len();
     pages.get_at(frame, &page).is_some()
@@ -64,9 +72,11 @@ pub fn find<S: BuildHasher>(
 ) -> Option<usize>
     ensures frame { result ≡ resident_frame pages.old.machine page }
     ensures machine { pages.new.machine ≡ hit (eqb page) pages.old.machine }
-    ensures stay { (other : ℕ) → resident_frame pages.new.machine other ≡ resident_frame pages.old.machine other }
+    ensures stay { (other : ℕ) →
+        resident_frame pages.new.machine other ≡ resident_frame pages.old.machine other }
     ensures values { pages.new.machine.values ≡ pages.old.machine.values }
-    ensures costs { Costs ⟦<usize as Hash>⟧ S.BuildHasher S.Hasher.Hasher (Get page) pages.old pages.new }
+    ensures costs { Costs ⟦<usize as Hash>⟧ S.BuildHasher S.Hasher.Hasher
+        (Get page) pages.old pages.new }
 {
     let _ = pages.len(); // whose contract says that the cache is whole
     pages.slot(&page)

@@ -20,10 +20,14 @@ use std::hash::{BuildHasher, BuildHasherDefault, Hash, Hasher};
 #[unsafe(no_mangle)]
 pub extern "C" fn clock2q_tokens_evict(handle: &mut TokensHandle) -> Found
     requires { IsSome handle.old.cache }
-    ensures left { IfSome (tokens_in handle.old.cache) (λ m. option_map (λ r. r.1) (leaver ⟦<Token as PartialEq>⟧.eq Evict m) ≡ (if result.is_found then Some result.slot else None)) }
+    ensures left { IfSome (tokens_in handle.old.cache)
+        (λ m. option_map (λ r. r.1) (leaver ⟦<Token as PartialEq>⟧.eq Evict m) ≡
+        (if result.is_found then Some result.slot else None)) }
     ensures none { result.is_found ≡ false → result.slot ≡ 0 }
     ensures machine { tokens_in handle.new.cache ≡ option_map evicted (tokens_in handle.old.cache) }
-    ensures costs { IfSome handle.old.cache (λ o. IfSome handle.new.cache (λ n. Costs ⟦<Token as Hash>⟧ ⟦<BuildHasherDefault<GivenHash> as BuildHasher>⟧ ⟦<GivenHash as Hasher>⟧ Evict o.cache n.cache)) }
+    ensures costs { IfSome handle.old.cache
+        (λ o. IfSome handle.new.cache
+        (λ n. Costs ⟦<Token as Hash>⟧ ⟦<BuildHasherDefault<GivenHash> as BuildHasher>⟧ ⟦<GivenHash as Hasher>⟧ Evict o.cache n.cache)) }
     ensures holds { IsSome handle.new.cache }
 {
     match handle.held().cache.evict() {

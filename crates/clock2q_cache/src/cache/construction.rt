@@ -30,9 +30,11 @@ impl<K: Hash + Eq + Drop, V: Drop, A: Allocator + Copy> Cache<K, V, DefaultHashB
     ///
     /// Time and memory in proportion to `capacity`, in at most eleven requests for memory.
     pub fn new(alloc: A, capacity: NonZeroUsize) -> Result<Self, CacheError>
-        ensures made { IfOk result (λ cache. cache.machine ≡ empty (usual_shares (non_zero_usize_get capacity))) }
+        ensures made { IfOk result
+            (λ cache. cache.machine ≡ empty (usual_shares (non_zero_usize_get capacity))) }
         ensures counts { IfOk result (λ cache. cache.counts ≡ uncounted) }
-        ensures capacity { IsErrOf result CacheError.Capacity ↔ (MAX_CAPACITY < non_zero_usize_get capacity) }
+        ensures capacity { IsErrOf result CacheError.Capacity ↔
+            (MAX_CAPACITY < non_zero_usize_get capacity) }
         ensures policy { result ≢ Err CacheError.Policy }
     {
         Cache::with_hasher(alloc, capacity, BuildHasherDefault::new())
@@ -58,10 +60,12 @@ impl<K: Hash + Eq + Drop, V: Drop, S: BuildHasher + Drop, A: Allocator + Copy> C
     ///
     /// That of [`new`](Cache::new).
     pub fn with_hasher(alloc: A, capacity: NonZeroUsize, hasher: S) -> Result<Self, CacheError>
-        ensures made { IfOk result (λ cache. cache.machine ≡ empty (usual_shares (non_zero_usize_get capacity))) }
+        ensures made { IfOk result
+            (λ cache. cache.machine ≡ empty (usual_shares (non_zero_usize_get capacity))) }
         ensures hasher { IfOk result (λ cache. cache.hasher ≡ hasher) }
         ensures counts { IfOk result (λ cache. cache.counts ≡ uncounted) }
-        ensures capacity { IsErrOf result CacheError.Capacity ↔ (MAX_CAPACITY < non_zero_usize_get capacity) }
+        ensures capacity { IsErrOf result CacheError.Capacity ↔
+            (MAX_CAPACITY < non_zero_usize_get capacity) }
         ensures policy { result ≢ Err CacheError.Policy }
     {
         if capacity.get() > MAX_CAPACITY {
@@ -89,11 +93,16 @@ impl<K: Hash + Eq + Drop, V: Drop, S: BuildHasher + Drop, A: Allocator + Copy> C
         window: usize,
         hasher: S,
     ) -> Result<Self, CacheError>
-        ensures made { IfOk result (λ cache. cache.machine ≡ empty (shares_of (non_zero_usize_get capacity) small window)) }
+        ensures made { IfOk result
+            (λ cache. cache.machine ≡
+            empty (shares_of (non_zero_usize_get capacity) small window)) }
         ensures hasher { IfOk result (λ cache. cache.hasher ≡ hasher) }
         ensures counts { IfOk result (λ cache. cache.counts ≡ uncounted) }
-        ensures capacity { IsErrOf result CacheError.Capacity ↔ (MAX_CAPACITY < non_zero_usize_get capacity) }
-        ensures policy { IsErrOf result CacheError.Policy ↔ ((non_zero_usize_get capacity ≤ MAX_CAPACITY) × ¬ IsPolicy (shares_of (non_zero_usize_get capacity) small window)) }
+        ensures capacity { IsErrOf result CacheError.Capacity ↔
+            (MAX_CAPACITY < non_zero_usize_get capacity) }
+        ensures policy { IsErrOf result CacheError.Policy ↔
+            ((non_zero_usize_get capacity ≤ MAX_CAPACITY) ×
+            ¬ IsPolicy (shares_of (non_zero_usize_get capacity) small window)) }
     {
         if capacity.get() > MAX_CAPACITY {
             return Err(CacheError::Capacity);

@@ -28,13 +28,18 @@ impl<K: Hash + Eq + Copy, V: Drop, S: BuildHasher, A: Allocator> Cache<K, V, S, 
     ///
     /// That of [`put`](Cache::put).
     pub fn put_evicting(&mut self, key: K, value: V) -> Option<(K, V)>
-        ensures replaced { IfSome (value_of (K.eq key) self.old.machine) (λ before. result ≡ Some (key, before)) }
-        ensures evicted { slot_of (K.eq key) self.old.machine ≡ None → result ≡ option_map (λ v. (v.0, v.1.1)) (victim_of K.eq (Put key value) self.old.machine) }
+        ensures replaced { IfSome (value_of (K.eq key) self.old.machine)
+            (λ before. result ≡ Some (key, before)) }
+        ensures evicted { slot_of (K.eq key) self.old.machine ≡ None →
+            result ≡ option_map (λ v. (v.0, v.1.1))
+            (victim_of K.eq (Put key value) self.old.machine) }
         ensures machine { self.new.machine ≡ put (K.eq key) key value self.old.machine }
         ensures resident { value_of (K.eq key) self.new.machine ≡ Some value }
-        ensures known { self.new.known ≡ known_with K.Hash S.BuildHasher S.Hasher.Hasher key self.old }
+        ensures known { self.new.known ≡
+            known_with K.Hash S.BuildHasher S.Hasher.Hasher key self.old }
         ensures hasher { self.new.hasher ≡ self.old.hasher }
-        ensures costs { Costs K.Hash S.BuildHasher S.Hasher.Hasher (Put key value) self.old self.new }
+        ensures costs { Costs K.Hash S.BuildHasher S.Hasher.Hasher
+            (Put key value) self.old self.new }
     {
         let hash = self.hash(&key);
         let found = self.lookup(hash, &key);
@@ -50,11 +55,17 @@ impl<K: Hash + Eq + Copy, V: Drop, S: BuildHasher, A: Allocator> Cache<K, V, S, 
     fn insert_evicting(&mut self, hash: u64, key: K, value: V, place: Option<u32>) -> Option<(K, V)>
         requires place { place ≡ place_of (K.eq key) self.old.machine.history self.old.known.taken }
         requires absent { IsAbsent K.Hash S.BuildHasher S.Hasher.Hasher key hash self.old }
-        ensures evicted { result ≡ option_map (λ v. (v.0, v.1.1)) (with_value self.old.machine (leaves_for (list_any (K.eq key) self.old.machine.history) self.old.machine)) }
+        ensures evicted { result ≡
+            option_map (λ v. (v.0, v.1.1))
+            (with_value self.old.machine
+            (leaves_for (list_any (K.eq key) self.old.machine.history) self.old.machine)) }
         ensures machine { self.new.machine ≡ inserted (K.eq key) key value self.old.machine }
-        ensures known { self.new.known ≡ known_at K.Hash S.BuildHasher S.Hasher.Hasher key (placement (K.eq key) key self.old.machine).slot self.old }
+        ensures known { self.new.known ≡
+            known_at K.Hash S.BuildHasher S.Hasher.Hasher key
+            (placement (K.eq key) key self.old.machine).slot self.old }
         ensures hasher { self.new.hasher ≡ self.old.hasher }
-        ensures counts { Spends (inspections_for (K.eq key) self.old.machine) (inspections_for (K.eq key) self.old.machine + 36) 0 self.old.counts self.new.counts }
+        ensures counts { Spends (inspections_for (K.eq key) self.old.machine)
+            (inspections_for (K.eq key) self.old.machine + 36) 0 self.old.counts self.new.counts }
     {
         let known = self.forget(hash, &key, place);
         let main = self.admits_to_main(known);

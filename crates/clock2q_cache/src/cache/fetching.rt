@@ -30,7 +30,9 @@ impl<K: Hash + Eq + Drop, V: Drop, S: BuildHasher, A: Allocator> Cache<K, V, S, 
     /// That of [`put`](Cache::put), and that of `f` if it is called.
     pub fn get_or_insert_with<F: FnOnce() -> V>(&mut self, key: K, f: F) -> &V
         requires { slot_of (K.eq key) self.old.machine ≡ None → F.pre f }
-        ensures* machine { sem 𝓛 (LeavesMachine K.row V.row S.row A.row S.Hasher.row K.Hash S.BuildHasher S.Hasher.Hasher A.Allocator self.entry (With key result.now) (fetched (K.eq key) key result.now self.old.machine)) }
+        ensures* machine { sem 𝓛
+            (LeavesMachine K.row V.row S.row A.row S.Hasher.row K.Hash S.BuildHasher S.Hasher.Hasher A.Allocator self.entry
+            (With key result.now) (fetched (K.eq key) key result.now self.old.machine)) }
         ensures value { UnwrapsOrElse (value_of (K.eq key) self.old.machine) (F.post f) result.now }
     {
         let slot = self.find_or_insert(key, f);
@@ -54,8 +56,11 @@ impl<K: Hash + Eq + Drop, V: Drop, S: BuildHasher, A: Allocator> Cache<K, V, S, 
         f: F,
     ) -> Result<&V, E>
         requires { slot_of (K.eq key) self.old.machine ≡ None → F.pre f }
-        ensures* machine { sem 𝓛 (LeavesTried K.row V.row S.row A.row S.Hasher.row K.Hash S.BuildHasher S.Hasher.Hasher A.Allocator self.entry key result) }
-        ensures value { IfOk result (λ value. UnwrapsOrElse (value_of (K.eq key) self.old.machine) (λ v. F.post f (Ok v)) value.now) }
+        ensures* machine { sem 𝓛
+            (LeavesTried K.row V.row S.row A.row S.Hasher.row K.Hash S.BuildHasher S.Hasher.Hasher A.Allocator self.entry key result) }
+        ensures value { IfOk result
+            (λ value. UnwrapsOrElse (value_of (K.eq key) self.old.machine)
+            (λ v. F.post f (Ok v)) value.now) }
         ensures err { IfErr result (λ e. F.post f (Err e)) }
         ensures absent { OnErr result (slot_of (K.eq key) self.old.machine ≡ None) }
     {
@@ -79,9 +84,14 @@ impl<K: Hash + Eq + Drop, V: Drop, S: BuildHasher, A: Allocator> Cache<K, V, S, 
         f: F,
     ) -> Result<&mut V, E>
         requires { slot_of (K.eq key) self.old.machine ≡ None → F.pre f }
-        ensures* writes_back { sem 𝓛 (LendsPut K.row V.row S.row A.row S.Hasher.row K.Hash S.BuildHasher S.Hasher.Hasher A.Allocator self.entry key result) }
-        ensures value { IfOk result (λ value. UnwrapsOrElse (value_of (K.eq key) self.old.machine) (λ v. F.post f (Ok v)) value.now) }
-        ensures unwritten { IfOk result (λ value. put (K.eq key) key value.now self.old.machine ≡ fetched (K.eq key) key value.now self.old.machine) }
+        ensures* writes_back { sem 𝓛
+            (LendsPut K.row V.row S.row A.row S.Hasher.row K.Hash S.BuildHasher S.Hasher.Hasher A.Allocator self.entry key result) }
+        ensures value { IfOk result
+            (λ value. UnwrapsOrElse (value_of (K.eq key) self.old.machine)
+            (λ v. F.post f (Ok v)) value.now) }
+        ensures unwritten { IfOk result
+            (λ value. put (K.eq key) key value.now self.old.machine ≡
+            fetched (K.eq key) key value.now self.old.machine) }
         ensures err { IfErr result (λ e. F.post f (Err e)) }
         ensures absent { OnErr result (slot_of (K.eq key) self.old.machine ≡ None) }
     {
@@ -102,12 +112,20 @@ impl<K: Hash + Eq + Drop, V: Drop, S: BuildHasher, A: Allocator> Cache<K, V, S, 
     /// it is looked up twice. Contracts don't see what the call spent: its counts of questions and
     /// of accesses to links are raised to the bounds.
     pub fn get_or_insert_mut<F: FnOnce() -> V>(&mut self, key: K, make: F) -> (usize, &mut V)
-        requires { slice_get self.old.machine.values (slotted_at (slot_of (K.eq key) self.old.machine) (K.eq key) key self.old.machine) ≡ None → F.pre make }
-        ensures* writes_back { sem 𝓛 (LendsTaken K.row V.row S.row A.row S.Hasher.row K.Hash S.BuildHasher S.Hasher.Hasher A.Allocator self.entry key result.1) }
-        ensures slot { result.0 ≡ slotted_at (slot_of (K.eq key) self.old.machine) (K.eq key) key self.old.machine }
-        ensures value { UnwrapsOrElse (slice_get self.old.machine.values result.0) (F.post make) result.1.now }
-        ensures unwritten { put (K.eq key) key result.1.now self.old.machine ≡ slotted (K.eq key) key result.1.now self.old.machine }
-        ensures costs { (value : V) → Costs K.Hash S.BuildHasher S.Hasher.Hasher (SlotFor key value) self.old (with_slot K.Hash S.BuildHasher S.Hasher.Hasher key value self.old) }
+        requires { slice_get self.old.machine.values
+            (slotted_at (slot_of (K.eq key) self.old.machine) (K.eq key) key self.old.machine) ≡
+            None → F.pre make }
+        ensures* writes_back { sem 𝓛
+            (LendsTaken K.row V.row S.row A.row S.Hasher.row K.Hash S.BuildHasher S.Hasher.Hasher A.Allocator self.entry key result.1) }
+        ensures slot { result.0 ≡
+            slotted_at (slot_of (K.eq key) self.old.machine) (K.eq key) key self.old.machine }
+        ensures value { UnwrapsOrElse (slice_get self.old.machine.values result.0)
+            (F.post make) result.1.now }
+        ensures unwritten { put (K.eq key) key result.1.now self.old.machine ≡
+            slotted (K.eq key) key result.1.now self.old.machine }
+        ensures costs { (value : V) →
+            Costs K.Hash S.BuildHasher S.Hasher.Hasher (SlotFor key value) self.old
+            (with_slot K.Hash S.BuildHasher S.Hasher.Hasher key value self.old) }
     {
         let _ = self.len(); // whose contract says that the cache is whole
         let hash = self.hash(&key);
@@ -131,7 +149,14 @@ impl<K: Hash + Eq + Drop, V: Drop, S: BuildHasher, A: Allocator> Cache<K, V, S, 
     /// call picks, which may depend on `most`.
     fn charge(&mut self, most: &Told<(usize, usize)>)
         ghost more: { ℕ × ℕ }
-        ensures charged { self.new ≡ record self.old { counts = record self.old.counts { accesses = self.old.counts.accesses + more.0; questions = self.old.counts.questions + more.1 } } }
+        ensures charged { self.new ≡
+            record self.old {
+              counts = record self.old.counts {
+                accesses = self.old.counts.accesses +
+                    more.0;
+                questions = self.old.counts.questions + more.1;
+              };
+            } }
     {
         let _ = most;
         self.queues.charge();
@@ -141,11 +166,15 @@ impl<K: Hash + Eq + Drop, V: Drop, S: BuildHasher, A: Allocator> Cache<K, V, S, 
     /// Returns the slot of a key, which is hit or inserted with what `f` returns.
     fn find_or_insert<F: FnOnce() -> V>(&mut self, key: K, f: F) -> u32
         requires { slot_of (K.eq key) self.old.machine ≡ None → F.pre f }
-        ensures fetched { Fetches (K.eq key) key (F.post f) self.old.machine result self.new.machine }
+        ensures fetched { Fetches (K.eq key) key
+            (F.post f) self.old.machine result self.new.machine }
         ensures made { result < length self.new.machine.values }
         ensures hasher { self.new.hasher ≡ self.old.hasher }
-        ensures index { Reaches (slots_for K.Hash S.BuildHasher S.Hasher.Hasher key self.old) self.old self.new }
-        ensures counts { Spends (inspections_for (K.eq key) self.old.machine) (accesses_for (K.eq key) self.old.machine) (alike K.Hash S.BuildHasher S.Hasher.Hasher key self.old) self.old.counts self.new.counts }
+        ensures index { Reaches
+            (slots_for K.Hash S.BuildHasher S.Hasher.Hasher key self.old) self.old self.new }
+        ensures counts { Spends (inspections_for (K.eq key) self.old.machine)
+            (accesses_for (K.eq key) self.old.machine)
+            (alike K.Hash S.BuildHasher S.Hasher.Hasher key self.old) self.old.counts self.new.counts }
     {
         let hash = self.hash(&key);
         let found = self.lookup(hash, &key);
@@ -160,13 +189,20 @@ impl<K: Hash + Eq + Drop, V: Drop, S: BuildHasher, A: Allocator> Cache<K, V, S, 
     /// Returns the slot of a key, which is hit or inserted. A slot that was made before keeps its
     /// value; a new one gets what `make` returns.
     fn find_or_reuse<F: FnOnce() -> V>(&mut self, hash: u64, key: K, make: F) -> u32
-        requires hash { hash ≡ hash_of S.BuildHasher S.Hasher.Hasher self.old.hasher (K.hash_input key) }
-        requires make { slice_get self.old.machine.values (slotted_at (slot_of (K.eq key) self.old.machine) (K.eq key) key self.old.machine) ≡ None → F.pre make }
-        ensures taken { Takes (K.eq key) key (F.post make) self.old.machine result self.new.machine }
+        requires hash { hash ≡
+            hash_of S.BuildHasher S.Hasher.Hasher self.old.hasher (K.hash_input key) }
+        requires make { slice_get self.old.machine.values
+            (slotted_at (slot_of (K.eq key) self.old.machine) (K.eq key) key self.old.machine) ≡
+            None → F.pre make }
+        ensures taken { Takes (K.eq key) key
+            (F.post make) self.old.machine result self.new.machine }
         ensures made { result < length self.new.machine.values }
-        ensures known { self.new.known ≡ known_taken K.Hash S.BuildHasher S.Hasher.Hasher key self.old }
+        ensures known { self.new.known ≡
+            known_taken K.Hash S.BuildHasher S.Hasher.Hasher key self.old }
         ensures hasher { self.new.hasher ≡ self.old.hasher }
-        ensures counts { Spends (inspections_for (K.eq key) self.old.machine) (accesses_for (K.eq key) self.old.machine) (alike K.Hash S.BuildHasher S.Hasher.Hasher key self.old) self.old.counts self.new.counts }
+        ensures counts { Spends (inspections_for (K.eq key) self.old.machine)
+            (accesses_for (K.eq key) self.old.machine)
+            (alike K.Hash S.BuildHasher S.Hasher.Hasher key self.old) self.old.counts self.new.counts }
     {
         if let Some(slot) = self.find(hash, &key) {
             self.record_hit(slot, &key);
@@ -178,7 +214,10 @@ impl<K: Hash + Eq + Drop, V: Drop, S: BuildHasher, A: Allocator> Cache<K, V, S, 
     /// Returns the value at the slot that was found, or the error that was returned instead.
     fn value_found<E>(&self, found: Result<u32, E>) -> Result<&V, E>
         requires made { IfOk found (λ slot. slot < length self.now.machine.values) }
-        ensures lent { MatchResult found (λ slot. IsOkAnd result (λ value. slice_get self.now.machine.values slot ≡ Some value.now)) (λ e. result ≡ Err e) }
+        ensures lent { MatchResult found
+            (λ slot. IsOkAnd result
+            (λ value. slice_get self.now.machine.values slot ≡ Some value.now))
+            (λ e. result ≡ Err e) }
     {
         match found {
             Ok(slot) => Ok(self.value(slot)),
@@ -189,15 +228,25 @@ impl<K: Hash + Eq + Drop, V: Drop, S: BuildHasher, A: Allocator> Cache<K, V, S, 
     /// Does what `find_or_insert` does, with an `f` that may fail. If it does, nothing changes.
     fn try_find_or_insert<F: FnOnce() -> Result<V, E>, E>(&mut self, key: K, f: F) -> Result<u32, E>
         requires { slot_of (K.eq key) self.old.machine ≡ None → F.pre f }
-        ensures fetched { IfOk result (λ slot. Fetches (K.eq key) key (λ v. F.post f (Ok v)) self.old.machine slot self.new.machine) }
+        ensures fetched { IfOk result
+            (λ slot. Fetches (K.eq key) key
+            (λ v. F.post f (Ok v)) self.old.machine slot self.new.machine) }
         ensures made { IfOk result (λ slot. slot < length self.new.machine.values) }
         ensures err { IfErr result (λ e. F.post f (Err e)) }
         ensures absent { OnErr result (slot_of (K.eq key) self.old.machine ≡ None) }
         ensures machine { OnErr result (self.new.machine ≡ self.old.machine) }
         ensures hasher { self.new.hasher ≡ self.old.hasher }
-        ensures counts { OnOk result (Spends (inspections_for (K.eq key) self.old.machine) (accesses_for (K.eq key) self.old.machine) (alike K.Hash S.BuildHasher S.Hasher.Hasher key self.old) self.old.counts self.new.counts) }
-        ensures index { MatchResult result (λ _. Reaches (slots_for K.Hash S.BuildHasher S.Hasher.Hasher key self.old) self.old self.new) (λ _. Reaches (walked K.Hash S.BuildHasher S.Hasher.Hasher self.old key) self.old self.new) }
-        ensures asked { OnErr result (Spends 0 0 (alike K.Hash S.BuildHasher S.Hasher.Hasher key self.old) self.old.counts self.new.counts) }
+        ensures counts { OnOk result
+            (Spends (inspections_for (K.eq key) self.old.machine)
+            (accesses_for (K.eq key) self.old.machine)
+            (alike K.Hash S.BuildHasher S.Hasher.Hasher key self.old) self.old.counts self.new.counts) }
+        ensures index { MatchResult result
+            (λ _. Reaches
+            (slots_for K.Hash S.BuildHasher S.Hasher.Hasher key self.old) self.old self.new)
+            (λ _. Reaches
+            (walked K.Hash S.BuildHasher S.Hasher.Hasher self.old key) self.old self.new) }
+        ensures asked { OnErr result
+            (Spends 0 0 (alike K.Hash S.BuildHasher S.Hasher.Hasher key self.old) self.old.counts self.new.counts) }
     {
         let hash = self.hash(&key);
         let found = self.lookup(hash, &key);

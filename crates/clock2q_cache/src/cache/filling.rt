@@ -23,7 +23,8 @@ impl<K: Hash + Eq + Default, V, S: BuildHasher, A: Allocator> Cache<K, V, S, A> 
         requires callable { MayMake F.FnMut make self.old.machine }
         ensures made { Prefills F.FnMut make self.old.machine self.new.machine }
         ensures hasher { self.new.hasher ≡ self.old.hasher }
-        ensures costs { (values : List V) → Costs K.Hash S.BuildHasher S.Hasher.Hasher (Prefill values) self.old self.new }
+        ensures costs { (values : List V) →
+            Costs K.Hash S.BuildHasher S.Hasher.Hasher (Prefill values) self.old self.new }
     {
         let made = self.directory.made();
         let capacity = self.shares.capacity();

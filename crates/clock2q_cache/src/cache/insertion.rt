@@ -29,9 +29,11 @@ impl<K: Hash + Eq + Drop, V: Drop, S: BuildHasher, A: Allocator> Cache<K, V, S, 
         requires absent { IsAbsent K.Hash S.BuildHasher S.Hasher.Hasher key hash self.old }
         ensures slot { result ≡ (placement (K.eq key) key self.old.machine).slot }
         ensures machine { self.new.machine ≡ inserted (K.eq key) key value self.old.machine }
-        ensures known { self.new.known ≡ known_at K.Hash S.BuildHasher S.Hasher.Hasher key result self.old }
+        ensures known { self.new.known ≡
+            known_at K.Hash S.BuildHasher S.Hasher.Hasher key result self.old }
         ensures hasher { self.new.hasher ≡ self.old.hasher }
-        ensures counts { Spends (inspections_for (K.eq key) self.old.machine) (inspections_for (K.eq key) self.old.machine + 36) 0 self.old.counts self.new.counts }
+        ensures counts { Spends (inspections_for (K.eq key) self.old.machine)
+            (inspections_for (K.eq key) self.old.machine + 36) 0 self.old.counts self.new.counts }
     {
         let known = self.forget(hash, &key, place);
         let main = self.admits_to_main(known);
@@ -45,12 +47,18 @@ impl<K: Hash + Eq + Drop, V: Drop, S: BuildHasher, A: Allocator> Cache<K, V, S, 
     #[inline(never)]
     pub(crate) fn insert_reusing<F: FnOnce() -> V>(&mut self, hash: u64, key: K, make: F) -> u32
         requires absent { IsAbsent K.Hash S.BuildHasher S.Hasher.Hasher key hash self.old }
-        requires make { slice_get self.old.machine.values (placement (K.eq key) key self.old.machine).slot ≡ None → F.pre make }
+        requires make { slice_get self.old.machine.values
+            (placement (K.eq key) key self.old.machine).slot ≡ None → F.pre make }
         ensures slot { result ≡ (placement (K.eq key) key self.old.machine).slot }
         ensures machine { Reuses (K.eq key) key (F.post make) self.old.machine self.new.machine }
-        ensures known { self.new.known ≡ known_at K.Hash S.BuildHasher S.Hasher.Hasher key result (looked_for K.Hash S.BuildHasher S.Hasher.Hasher key self.old) }
+        ensures known { self.new.known ≡
+            known_at K.Hash S.BuildHasher S.Hasher.Hasher key result
+            (looked_for K.Hash S.BuildHasher S.Hasher.Hasher key self.old) }
         ensures hasher { self.new.hasher ≡ self.old.hasher }
-        ensures counts { Spends (inspections_for (K.eq key) self.old.machine) (inspections_for (K.eq key) self.old.machine + 36) (length (candidates (remembered_in self.old.known) hash)) self.old.counts self.new.counts }
+        ensures counts { Spends (inspections_for (K.eq key) self.old.machine)
+            (inspections_for (K.eq key) self.old.machine + 36)
+            (length (candidates
+            (remembered_in self.old.known) hash)) self.old.counts self.new.counts }
     {
         let place = self.find_place(hash, &key);
         let known = self.forget(hash, &key, place);
@@ -72,9 +80,11 @@ impl<K: Hash + Eq + Drop, V: Drop, S: BuildHasher, A: Allocator> Cache<K, V, S, 
         requires callable { F.IsAlwaysCallable leaves }
         requires unknown { IsUnknown K.Hash S.BuildHasher S.Hasher.Hasher key hash self.old }
         requires small { main ≡ false → goes_to_main false self.old.machine ≡ false }
-        requires had { IfNone value ((placed main key self.old.machine).slot < length self.old.machine.values) }
+        requires had { IfNone value
+            ((placed main key self.old.machine).slot < length self.old.machine.values) }
         ensures entered { EntersQueue K.Hash S.BuildHasher S.Hasher.Hasher main key value result.0 self.old self.new }
-        ensures left { Notes F.FnOnce leaves (leaves_placed main self.old.machine) result.0 result.1 }
+        ensures left { Notes F.FnOnce leaves
+            (leaves_placed main self.old.machine) result.0 result.1 }
     {
         if main {
             self.insert_into_main(hash, key, value, leaves)
@@ -101,7 +111,8 @@ impl<K: Hash + Eq + Drop, V: Drop, S: BuildHasher, A: Allocator> Cache<K, V, S, 
 
     /// Returns true if Main has as many entries as its share.
     fn main_is_full(&self) -> bool
-        ensures full { result ≡ (length self.now.machine.main == main_share self.now.machine.shares) }
+        ensures full { result ≡
+            (length self.now.machine.main == main_share self.now.machine.shares) }
     {
         self.queues.main_len() == self.shares.main()
     }
@@ -140,8 +151,10 @@ impl<K: Hash + Eq + Drop, V: Drop, S: BuildHasher, A: Allocator> Cache<K, V, S, 
     ) -> (u32, Option<R>)
         requires callable { F.IsAlwaysCallable leaves }
         requires unknown { IsUnknown K.Hash S.BuildHasher S.Hasher.Hasher key hash self.old }
-        requires had { IfNone value ((into_main key self.old.machine).slot < length self.old.machine.values) }
-        ensures entered { EntersMain K.Hash S.BuildHasher S.Hasher.Hasher key value (main_inspections self.old.machine) result.0 self.old self.new }
+        requires had { IfNone value
+            ((into_main key self.old.machine).slot < length self.old.machine.values) }
+        ensures entered { EntersMain K.Hash S.BuildHasher S.Hasher.Hasher key value
+            (main_inspections self.old.machine) result.0 self.old self.new }
         ensures left { Notes F.FnOnce leaves (leaves_for_main self.old.machine) result.0 result.1 }
     {
         if self.queues.main_len() == self.shares.main() {
@@ -162,7 +175,8 @@ impl<K: Hash + Eq + Drop, V: Drop, S: BuildHasher, A: Allocator> Cache<K, V, S, 
         requires callable { F.IsAlwaysCallable leaves }
         requires unknown { IsUnknown K.Hash S.BuildHasher S.Hasher.Hasher key hash self.old }
         requires full { length self.old.machine.main ≡ main_share self.old.machine.shares }
-        ensures entered { EntersMain K.Hash S.BuildHasher S.Hasher.Hasher key value (inspections self.old.machine.main) result.0 self.old self.new }
+        ensures entered { EntersMain K.Hash S.BuildHasher S.Hasher.Hasher key value
+            (inspections self.old.machine.main) result.0 self.old self.new }
         ensures left { Notes F.FnOnce leaves (leaves_for_main self.old.machine) result.0 result.1 }
     {
         let victim = self.queues.reuse_victim();
@@ -174,7 +188,8 @@ impl<K: Hash + Eq + Drop, V: Drop, S: BuildHasher, A: Allocator> Cache<K, V, S, 
     fn join_main(&mut self, hash: u64, key: K, value: Option<V>) -> u32
         requires unknown { IsUnknown K.Hash S.BuildHasher S.Hasher.Hasher key hash self.old }
         requires room { length self.old.machine.main < main_share self.old.machine.shares }
-        requires had { IfNone value ((into_main key self.old.machine).slot < length self.old.machine.values) }
+        requires had { IfNone value
+            ((into_main key self.old.machine).slot < length self.old.machine.values) }
         ensures entered { EntersMain K.Hash S.BuildHasher S.Hasher.Hasher key value 0 result self.old self.new }
     {
         let slot = take_vacancy(&mut self.free, self.directory.made());
@@ -195,9 +210,13 @@ impl<K: Hash + Eq + Drop, V: Drop, S: BuildHasher, A: Allocator> Cache<K, V, S, 
         requires callable { F.IsAlwaysCallable leaves }
         requires unknown { IsUnknown K.Hash S.BuildHasher S.Hasher.Hasher key hash self.old }
         requires small { goes_to_main false self.old.machine ≡ false }
-        requires had { IfNone value ((into_small key self.old.machine).slot < length self.old.machine.values) }
-        ensures entered { EntersSmall K.Hash S.BuildHasher S.Hasher.Hasher key value (out_of_small self.old.machine) (small_inspections self.old.machine) 29 result.0 self.old self.new }
-        ensures left { Notes F.FnOnce leaves (leaves_placed false self.old.machine) result.0 result.1 }
+        requires had { IfNone value
+            ((into_small key self.old.machine).slot < length self.old.machine.values) }
+        ensures entered { EntersSmall K.Hash S.BuildHasher S.Hasher.Hasher key value
+            (out_of_small self.old.machine)
+            (small_inspections self.old.machine) 29 result.0 self.old self.new }
+        ensures left { Notes F.FnOnce leaves
+            (leaves_placed false self.old.machine) result.0 result.1 }
     {
         if self.has_vacancy() {
             (self.join_small(hash, key, value), None)
@@ -213,7 +232,8 @@ impl<K: Hash + Eq + Drop, V: Drop, S: BuildHasher, A: Allocator> Cache<K, V, S, 
         requires unknown { IsUnknown K.Hash S.BuildHasher S.Hasher.Hasher key hash self.old }
         requires room { length self.old.machine.small < self.old.machine.shares.small }
         requires vacant { is_some (vacancy self.old.machine) ≡ true }
-        requires had { IfNone value ((into_small key self.old.machine).slot < length self.old.machine.values) }
+        requires had { IfNone value
+            ((into_small key self.old.machine).slot < length self.old.machine.values) }
         ensures entered { EntersSmall K.Hash S.BuildHasher S.Hasher.Hasher key value None 0 28 result self.old self.new }
     {
         let slot = take_vacancy(&mut self.free, self.directory.made());
@@ -225,7 +245,8 @@ impl<K: Hash + Eq + Drop, V: Drop, S: BuildHasher, A: Allocator> Cache<K, V, S, 
     /// Returns true if Small's tail moves on to Main.
     pub(super) fn tail_is_promoted(&mut self) -> bool
         requires { 0 < length self.old.machine.small }
-        ensures value { IfSome (last_or None self.old.machine.small) (λ tail. result ≡ is_promoted tail.age) }
+        ensures value { IfSome (last_or None self.old.machine.small)
+            (λ tail. result ≡ is_promoted tail.age) }
         ensures machine { self.new.machine ≡ self.old.machine }
         ensures kept { self.new ≡ record self.old { counts = self.new.counts } }
         ensures counts { Spends 0 1 0 self.old.counts self.new.counts }
@@ -245,9 +266,13 @@ impl<K: Hash + Eq + Drop, V: Drop, S: BuildHasher, A: Allocator> Cache<K, V, S, 
         requires unknown { IsUnknown K.Hash S.BuildHasher S.Hasher.Hasher key hash self.old }
         requires some { 0 < length self.old.machine.small }
         requires full { vacancy self.old.machine ≡ None }
-        requires out { IfSome (last_or None self.old.machine.small) (λ tail. is_promoted tail.age ≡ false) }
-        ensures entered { EntersSmall K.Hash S.BuildHasher S.Hasher.Hasher key value (option_map (λ tail. tail.key) (last_or None self.old.machine.small)) 0 28 result.0 self.old self.new }
-        ensures left { Notes F.FnOnce leaves (leaves_placed false self.old.machine) result.0 result.1 }
+        requires out { IfSome (last_or None self.old.machine.small)
+            (λ tail. is_promoted tail.age ≡ false) }
+        ensures entered { EntersSmall K.Hash S.BuildHasher S.Hasher.Hasher key value
+            (option_map (λ tail. tail.key)
+            (last_or None self.old.machine.small)) 0 28 result.0 self.old self.new }
+        ensures left { Notes F.FnOnce leaves
+            (leaves_placed false self.old.machine) result.0 result.1 }
     {
         let tail = self.queues.reuse_tail();
         let left = leaves(self.directory.key(tail));
@@ -267,9 +292,12 @@ impl<K: Hash + Eq + Drop, V: Drop, S: BuildHasher, A: Allocator> Cache<K, V, S, 
         requires unknown { IsUnknown K.Hash S.BuildHasher S.Hasher.Hasher key hash self.old }
         requires some { 0 < length self.old.machine.small }
         requires full { vacancy self.old.machine ≡ None }
-        requires on { IfSome (last_or None self.old.machine.small) (λ tail. is_promoted tail.age ≡ true) }
-        ensures entered { EntersSmall K.Hash S.BuildHasher S.Hasher.Hasher key value None (inspections self.old.machine.main) 28 result.0 self.old self.new }
-        ensures left { Notes F.FnOnce leaves (leaves_placed false self.old.machine) result.0 result.1 }
+        requires on { IfSome (last_or None self.old.machine.small)
+            (λ tail. is_promoted tail.age ≡ true) }
+        ensures entered { EntersSmall K.Hash S.BuildHasher S.Hasher.Hasher key value None
+            (inspections self.old.machine.main) 28 result.0 self.old self.new }
+        ensures left { Notes F.FnOnce leaves
+            (leaves_placed false self.old.machine) result.0 result.1 }
     {
         let slot = self.queues.take_victim();
         // the caller has seen that Small isn't empty

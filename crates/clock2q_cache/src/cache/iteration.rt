@@ -60,7 +60,8 @@ impl<K: Hash + Eq, V, S: BuildHasher, A: Allocator> Cache<K, V, S, A> {
     fn next_resident(&self, from: u32) -> Option<u32>
         ensures resident { IfSome result (λ slot. IsSome (resident_at self.now.machine slot)) }
         ensures made { IfSome result (λ slot. slot < length self.now.machine.values) }
-        ensures first { IfSome result (λ slot. entries_from self.now.machine from ≡ entries_from self.now.machine slot) }
+        ensures first { IfSome result
+            (λ slot. entries_from self.now.machine from ≡ entries_from self.now.machine slot) }
         ensures next { IfSome result (λ slot. slot + 1 < 2 ^ 32) }
         ensures none { IfNone result (entries_from self.now.machine from ≡ []) }
     {

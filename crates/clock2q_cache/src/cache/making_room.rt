@@ -63,10 +63,15 @@ impl<K: Hash + Eq + Copy, V: Drop, S: BuildHasher, A: Allocator> Cache<K, V, S, 
     fn evict_victim(&mut self) -> (K, usize)
         requires some { 0 < length self.old.machine.main }
         ensures left { first_of (from_victim self.old.machine.main) ≡ Some result }
-        ensures machine { self.new.machine ≡ victim_evicted (last_or None self.old.machine.small) (from_victim self.old.machine.main) self.old.machine }
-        ensures known { self.new.known ≡ left_by (λ k. hash_of S.BuildHasher S.Hasher.Hasher self.old.hasher (K.hash_input k)) (Some result) result.1 self.old.known }
+        ensures machine { self.new.machine ≡
+            victim_evicted (last_or None self.old.machine.small)
+            (from_victim self.old.machine.main) self.old.machine }
+        ensures known { self.new.known ≡
+            left_by (λ k. hash_of S.BuildHasher S.Hasher.Hasher self.old.hasher (K.hash_input k))
+            (Some result) result.1 self.old.known }
         ensures hasher { self.new.hasher ≡ self.old.hasher }
-        ensures counts { Spends (inspections self.old.machine.main) (inspections self.old.machine.main + 20) 0 self.old.counts self.new.counts }
+        ensures counts { Spends (inspections self.old.machine.main)
+            (inspections self.old.machine.main + 20) 0 self.old.counts self.new.counts }
     {
         let slot = self.turn_hand();
         let key = *self.key(slot);
@@ -78,12 +83,14 @@ impl<K: Hash + Eq + Copy, V: Drop, S: BuildHasher, A: Allocator> Cache<K, V, S, 
     /// Moves the hand on to Main's victim, and returns its slot.
     fn turn_hand(&mut self) -> u32
         requires some { 0 < length self.old.machine.main }
-        ensures first { option_map (λ r. r.1) (first_of (from_victim self.old.machine.main)) ≡ Some result }
+        ensures first { option_map (λ r. r.1) (first_of (from_victim self.old.machine.main)) ≡
+            Some result }
         ensures machine { self.new.machine ≡ turned self.old.machine }
         ensures whole { IsWhole K.eq self.new.machine }
         ensures known { self.new.known ≡ self.old.known }
         ensures hasher { self.new.hasher ≡ self.old.hasher }
-        ensures counts { Spends (inspections self.old.machine.main) (set_front self.old.machine.main) 0 self.old.counts self.new.counts }
+        ensures counts { Spends (inspections self.old.machine.main)
+            (set_front self.old.machine.main) 0 self.old.counts self.new.counts }
     {
         self.queues.select()
     }
@@ -91,7 +98,8 @@ impl<K: Hash + Eq + Copy, V: Drop, S: BuildHasher, A: Allocator> Cache<K, V, S, 
     /// Moves Small's tail to Main, which has room, if there is one.
     fn promote(&mut self)
         requires room { length self.old.machine.main < main_share self.old.machine.shares }
-        ensures machine { self.new.machine ≡ promoted (last_or None self.old.machine.small) self.old.machine }
+        ensures machine { self.new.machine ≡
+            promoted (last_or None self.old.machine.small) self.old.machine }
         ensures known { self.new.known ≡ self.old.known }
         ensures hasher { self.new.hasher ≡ self.old.hasher }
         ensures counts { Spends 0 13 0 self.old.counts self.new.counts }
@@ -103,9 +111,14 @@ impl<K: Hash + Eq + Copy, V: Drop, S: BuildHasher, A: Allocator> Cache<K, V, S, 
 
     /// Evicts Small's tail, which is remembered.
     fn retire_tail(&mut self) -> Option<(K, usize)>
-        ensures left { result ≡ option_map (λ tail. (tail.key, tail.slot)) (last_or None self.old.machine.small) }
-        ensures machine { self.new.machine ≡ tail_evicted (last_or None self.old.machine.small) self.old.machine }
-        ensures known { self.new.known ≡ retired_from (λ k. hash_of S.BuildHasher S.Hasher.Hasher self.old.hasher (K.hash_input k)) result self.old.machine self.old.known }
+        ensures left { result ≡
+            option_map (λ tail. (tail.key, tail.slot)) (last_or None self.old.machine.small) }
+        ensures machine { self.new.machine ≡
+            tail_evicted (last_or None self.old.machine.small) self.old.machine }
+        ensures known { self.new.known ≡
+            retired_from (λ k.
+            hash_of S.BuildHasher S.Hasher.Hasher self.old.hasher
+            (K.hash_input k)) result self.old.machine self.old.known }
         ensures hasher { self.new.hasher ≡ self.old.hasher }
         ensures counts { Spends 0 15 0 self.old.counts self.new.counts }
     {

@@ -29,7 +29,8 @@ impl<K: Hash + Eq, V, S: BuildHasher, A: Allocator> Cache<K, V, S, A> {
         ensures found { IsTrue result ↔ IsSome (slot_of (K.eq key.now) self.old.machine) }
         ensures machine { self.new.machine ≡ removed (K.eq key.now) self.old.machine }
         ensures hasher { self.new.hasher ≡ self.old.hasher }
-        ensures costs { Costs K.Hash S.BuildHasher S.Hasher.Hasher (Remove key.now) self.old self.new }
+        ensures costs { Costs K.Hash S.BuildHasher S.Hasher.Hasher
+            (Remove key.now) self.old self.new }
     {
         let hash = self.hash(key);
         let found = self.lookup(hash, key);
@@ -54,8 +55,10 @@ impl<K: Hash + Eq, V, S: BuildHasher, A: Allocator> Cache<K, V, S, A> {
         requires callable { MayBeAsked F.FnMut keep self.old.machine }
         ensures retained { Retains F.FnMut keep self.old.machine self.new.machine }
         ensures hasher { self.new.hasher ≡ self.old.hasher }
-        ensures costs { (bits : List Bool) → Costs K.Hash S.BuildHasher S.Hasher.Hasher (Retain bits) self.old self.new }
-        ensures removals { self.new.counts.accesses + 8 * resident_count self.new.machine ≤ self.old.counts.accesses + 8 * resident_count self.old.machine }
+        ensures costs { (bits : List Bool) →
+            Costs K.Hash S.BuildHasher S.Hasher.Hasher (Retain bits) self.old self.new }
+        ensures removals { self.new.counts.accesses + 8 * resident_count self.new.machine ≤
+            self.old.counts.accesses + 8 * resident_count self.old.machine }
     {
         let _ = self.len(); // whose contract says that the index's entries fit
         for slot in 0..self.made() {
@@ -95,7 +98,9 @@ impl<K: Hash + Eq, V, S: BuildHasher, A: Allocator> Cache<K, V, S, A> {
     pub(super) fn vacate(&mut self, slot: u32)
         requires { IsSome (resident_at self.old.machine slot) }
         ensures machine { self.new.machine ≡ vacated slot self.old.machine }
-        ensures known { self.new.known ≡ left_by (λ k. hash_of S.BuildHasher S.Hasher.Hasher self.old.hasher (K.hash_input k)) (resident_at self.old.machine slot) slot self.old.known }
+        ensures known { self.new.known ≡
+            left_by (λ k. hash_of S.BuildHasher S.Hasher.Hasher self.old.hasher (K.hash_input k))
+            (resident_at self.old.machine slot) slot self.old.known }
         ensures hasher { self.new.hasher ≡ self.old.hasher }
         ensures counts { Spends 0 8 0 self.old.counts self.new.counts }
     {

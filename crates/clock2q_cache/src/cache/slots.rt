@@ -31,7 +31,8 @@ impl<K: Hash + Eq, V, S: BuildHasher, A: Allocator> Cache<K, V, S, A> {
     ///
     /// No hash and no question. It reads each candidate up to the one that it returns.
     pub fn slot_with_hash(&self, hash: u64, nth: usize) -> Option<usize>
-        ensures slot { result ≡ slice_get (slots_with_hash K.Hash S.BuildHasher S.Hasher.Hasher hash self.now) nth }
+        ensures slot { result ≡
+            slice_get (slots_with_hash K.Hash S.BuildHasher S.Hasher.Hasher hash self.now) nth }
         ensures listed { ListsOnce K.Hash S.BuildHasher S.Hasher.Hasher hash self.now }
         ensures within { IfSome result (λ slot. slot < self.now.machine.shares.capacity) }
     {
@@ -46,10 +47,12 @@ impl<K: Hash + Eq, V, S: BuildHasher, A: Allocator> Cache<K, V, S, A> {
     /// No hash, no question, and no access to a link.
     pub fn hit_slot(&mut self, slot: usize) -> bool
         ensures found { IsTrue result ↔ IsSome (resident_at self.old.machine slot) }
-        ensures machine { IfSome (resident_at self.old.machine slot) (λ r. self.new.machine ≡ hit (K.eq r.0) self.old.machine) }
+        ensures machine { IfSome (resident_at self.old.machine slot)
+            (λ r. self.new.machine ≡ hit (K.eq r.0) self.old.machine) }
         ensures missed { IfNone (resident_at self.old.machine slot) (self.new ≡ self.old) }
         ensures kept { self.new ≡ record self.old { machine = self.new.machine } }
-        ensures costs { IfSome (resident_at self.old.machine slot) (λ r. Costs K.Hash S.BuildHasher S.Hasher.Hasher (Get r.0) self.old self.new) }
+        ensures costs { IfSome (resident_at self.old.machine slot)
+            (λ r. Costs K.Hash S.BuildHasher S.Hasher.Hasher (Get r.0) self.old self.new) }
     {
         if !self.has_resident(slot) {
             return false;
@@ -66,11 +69,13 @@ impl<K: Hash + Eq, V, S: BuildHasher, A: Allocator> Cache<K, V, S, A> {
     /// No hash and no question. At most eight accesses to links, and one change of the index.
     pub fn remove_slot(&mut self, slot: usize) -> bool
         ensures found { IsTrue result ↔ IsSome (resident_at self.old.machine slot) }
-        ensures machine { IfSome (resident_at self.old.machine slot) (λ r. self.new.machine ≡ removed (K.eq r.0) self.old.machine) }
+        ensures machine { IfSome (resident_at self.old.machine slot)
+            (λ r. self.new.machine ≡ removed (K.eq r.0) self.old.machine) }
         ensures missed { IfNone (resident_at self.old.machine slot) (self.new ≡ self.old) }
         ensures hasher { self.new.hasher ≡ self.old.hasher }
         ensures counts { Spends 0 8 0 self.old.counts self.new.counts }
-        ensures costs { IfSome (resident_at self.old.machine slot) (λ r. Costs K.Hash S.BuildHasher S.Hasher.Hasher (Remove r.0) self.old self.new) }
+        ensures costs { IfSome (resident_at self.old.machine slot)
+            (λ r. Costs K.Hash S.BuildHasher S.Hasher.Hasher (Remove r.0) self.old self.new) }
     {
         if !self.has_resident(slot) {
             return false;
@@ -82,7 +87,8 @@ impl<K: Hash + Eq, V, S: BuildHasher, A: Allocator> Cache<K, V, S, A> {
     /// Returns true if there is a resident at a slot.
     fn has_resident(&self, slot: usize) -> bool
         ensures resident { result ≡ is_some (resident_at self.now.machine slot) }
-        ensures own { IfSome (resident_at self.now.machine slot) (λ r. slot_of (K.eq r.0) self.now.machine ≡ Some slot) }
+        ensures own { IfSome (resident_at self.now.machine slot)
+            (λ r. slot_of (K.eq r.0) self.now.machine ≡ Some slot) }
         ensures small { IsTrue result → slot < 2 ^ 32 }
     {
         if slot >= self.directory.made() {
@@ -94,7 +100,8 @@ impl<K: Hash + Eq, V, S: BuildHasher, A: Allocator> Cache<K, V, S, A> {
     /// Records a hit on the resident at a slot.
     fn hit_resident(&mut self, slot: u32)
         requires { IsSome (resident_at self.old.machine slot) }
-        ensures machine { IfSome (resident_at self.old.machine slot) (λ r. self.new.machine ≡ hit (K.eq r.0) self.old.machine) }
+        ensures machine { IfSome (resident_at self.old.machine slot)
+            (λ r. self.new.machine ≡ hit (K.eq r.0) self.old.machine) }
         ensures kept { self.new ≡ record self.old { machine = self.new.machine } }
     {
         self.queues.hit(slot);
@@ -103,7 +110,8 @@ impl<K: Hash + Eq, V, S: BuildHasher, A: Allocator> Cache<K, V, S, A> {
     /// Returns slot number `nth` of those of the residents whose keys have a hash.
     #[inline(always)]
     fn with_hash(&self, hash: u64, nth: usize) -> Option<u32>
-        ensures slot { result ≡ slice_get (slots_with_hash K.Hash S.BuildHasher S.Hasher.Hasher hash self.now) nth }
+        ensures slot { result ≡
+            slice_get (slots_with_hash K.Hash S.BuildHasher S.Hasher.Hasher hash self.now) nth }
         ensures listed { ListsOnce K.Hash S.BuildHasher S.Hasher.Hasher hash self.now }
         ensures within { IfSome result (λ slot. slot < self.now.machine.shares.capacity) }
     {
@@ -113,8 +121,10 @@ impl<K: Hash + Eq, V, S: BuildHasher, A: Allocator> Cache<K, V, S, A> {
     /// Returns the first slot of those of the residents whose keys have the hash of this key.
     #[inline(always)]
     fn first_alike(&self, hash: u64, key: &K) -> Option<u32>
-        requires { hash ≡ hash_of S.BuildHasher S.Hasher.Hasher self.now.hasher (K.hash_input key.now) }
-        ensures slot { result ≡ slice_get (slots_with_hash K.Hash S.BuildHasher S.Hasher.Hasher hash self.now) 0 }
+        requires { hash ≡
+            hash_of S.BuildHasher S.Hasher.Hasher self.now.hasher (K.hash_input key.now) }
+        ensures slot { result ≡
+            slice_get (slots_with_hash K.Hash S.BuildHasher S.Hasher.Hasher hash self.now) 0 }
         ensures absent { IfNone result (slot_of (K.eq key.now) self.now.machine ≡ None) }
         ensures within { IfSome result (λ slot. slot < self.now.machine.shares.capacity) }
     {
@@ -142,15 +152,23 @@ impl<K: Hash + Eq + Drop, V: Drop, S: BuildHasher, A: Allocator> Cache<K, V, S, 
     /// is inserted, that of [`put`](Cache::put), and one more walk of the index, the first, which
     /// `costs` leaves out.
     pub fn slot_with_hash_or_insert(&mut self, key: K, value: V) -> (usize, bool)
-        ensures first { result.1 ≡ false → slice_get (slots_with_hash K.Hash S.BuildHasher S.Hasher.Hasher (hash_of S.BuildHasher S.Hasher.Hasher self.old.hasher (K.hash_input key)) self.old) 0 ≡ Some result.0 }
+        ensures first { result.1 ≡ false →
+            slice_get (slots_with_hash K.Hash S.BuildHasher S.Hasher.Hasher
+            (hash_of S.BuildHasher S.Hasher.Hasher self.old.hasher
+            (K.hash_input key)) self.old) 0 ≡ Some result.0 }
         ensures same { result.1 ≡ false → self.new ≡ self.old }
-        ensures alone { result.1 ≡ true → slots_with_hash K.Hash S.BuildHasher S.Hasher.Hasher (hash_of S.BuildHasher S.Hasher.Hasher self.old.hasher (K.hash_input key)) self.old ≡ [] }
+        ensures alone { result.1 ≡ true →
+            slots_with_hash K.Hash S.BuildHasher S.Hasher.Hasher
+            (hash_of S.BuildHasher S.Hasher.Hasher self.old.hasher
+            (K.hash_input key)) self.old ≡ [] }
         ensures absent { result.1 ≡ true → slot_of (K.eq key) self.old.machine ≡ None }
         ensures resident { result.1 ≡ true → slot_of (K.eq key) self.new.machine ≡ Some result.0 }
         ensures within { result.0 < self.new.machine.shares.capacity }
-        ensures machine { result.1 ≡ true → self.new.machine ≡ put (K.eq key) key value self.old.machine }
+        ensures machine { result.1 ≡ true →
+            self.new.machine ≡ put (K.eq key) key value self.old.machine }
         ensures hasher { self.new.hasher ≡ self.old.hasher }
-        ensures costs { result.1 ≡ true → Costs K.Hash S.BuildHasher S.Hasher.Hasher (Put key value) self.old self.new }
+        ensures costs { result.1 ≡ true →
+            Costs K.Hash S.BuildHasher S.Hasher.Hasher (Put key value) self.old self.new }
     {
         let hash = self.hash(&key);
         if let Some(slot) = self.first_alike(hash, &key) {

@@ -16,7 +16,11 @@ impl<K: Eq, V, A: Allocator> Directory<K, V, A> {
     /// that [enters](Directory::enter).
     pub fn prepare(&mut self, hash: u64, key: K, value: V)
         requires room { length self.old.residents.entries < self.old.residents.room }
-        ensures prepared { self.new.residents ≡ record self.old.residents { entries = self.old.residents.entries ++ entry hash key value ∷ []; writes = self.old.residents.writes + 1 } }
+        ensures prepared { self.new.residents ≡
+            record self.old.residents {
+              entries = self.old.residents.entries ++ entry hash key value ∷ [];
+              writes = self.old.residents.writes + 1;
+            } }
         ensures kept { self.new.history ≡ self.old.history }
     {
         self.residents.push(hash, key, value);
@@ -39,7 +43,8 @@ impl<K: Eq, V, A: Allocator> Directory<K, V, A> {
     where
         K: Copy,
         requires resident { IsResident slot self.old }
-        requires absent { (old : K) → key_at self.old.residents.entries slot ≡ Some old → is_remembered K.eq old self.old.history.entries ≡ false }
+        requires absent { (old : K) → key_at self.old.residents.entries slot ≡ Some old →
+            is_remembered K.eq old self.old.history.entries ≡ false }
         ensures retired { Retires slot result self.old self.new.history }
         ensures kept { self.new.residents ≡ self.old.residents }
     {
@@ -51,11 +56,21 @@ impl<K: Eq, V, A: Allocator> Directory<K, V, A> {
     /// Forgets a key, which is at `place`, and returns true if it was remembered.
     pub fn forget(&mut self, hash: u64, key: &K, place: Option<u32>) -> bool
         requires hash { HasHash K.eq hash key.now self.old.history.entries }
-        requires place { place ≡ place_of (K.eq key.now) (map (λ e. e.1) self.old.history.entries) self.old.history.places.taken }
+        requires place { place ≡
+            place_of (K.eq key.now)
+            (map (λ e. e.1) self.old.history.entries) self.old.history.places.taken }
         ensures found { result ≡ is_remembered K.eq key.now self.old.history.entries }
-        ensures forgotten { self.new.history ≡ record self.old.history { entries = forgotten K.eq key.now self.old.history.entries; places = self.new.history.places; accesses = self.new.history.accesses } }
+        ensures forgotten { self.new.history ≡
+            record self.old.history {
+              entries = forgotten K.eq key.now self.old.history.entries;
+              places = self.new.history.places;
+              accesses = self.new.history.accesses;
+            } }
         ensures kept { self.new.residents ≡ self.old.residents }
-        ensures places { self.new.history.places ≡ freed_place hash (place_of (K.eq key.now) (map (λ e. e.1) self.old.history.entries) self.old.history.places.taken) self.old.history.places }
+        ensures places { self.new.history.places ≡
+            freed_place hash
+            (place_of (K.eq key.now)
+            (map (λ e. e.1) self.old.history.entries) self.old.history.places.taken) self.old.history.places }
         ensures accesses { Rises 0 7 self.old.history.accesses self.new.history.accesses }
     {
         self.history.forget(hash, key, place)
@@ -70,7 +85,11 @@ impl<K: Eq, V, A: Allocator> Directory<K, V, A> {
     where
         K: Drop,
         V: Drop,
-        ensures history { self.new.history ≡ record self.old.history { entries = []; places = places_with (emptied self.old.history.places.index) [] [] } }
+        ensures history { self.new.history ≡
+            record self.old.history {
+              entries = [];
+              places = places_with (emptied self.old.history.places.index) [] [];
+            } }
         ensures residents { self.new.residents ≡ record self.old.residents { entries = [] } }
     {
         self.residents.clear();
@@ -90,9 +109,14 @@ impl<K: Eq + Drop, V: Drop, A: Allocator> Directory<K, V, A> {
     #[inline(always)]
     pub fn enter(&mut self, slot: u32, hash: u64, key: K, value: Option<V>)
         requires vacant { IsVacant value slot self.old }
-        ensures index { self.new.history ≡ record self.old.history { places = record self.old.history.places { index = entered hash slot self.old.history.places.index } } }
+        ensures index { self.new.history ≡
+            record self.old.history { places = record self.old.history.places { index = entered hash slot self.old.history.places.index } } }
         ensures entries { Writes hash key value slot self.old.residents.entries self.new.residents.entries }
-        ensures kept { self.new.residents ≡ record self.old.residents { entries = self.new.residents.entries; writes = self.old.residents.writes + 1 } }
+        ensures kept { self.new.residents ≡
+            record self.old.residents {
+              entries = self.new.residents.entries;
+              writes = self.old.residents.writes + 1;
+            } }
     {
         self.residents.put(slot, hash, key, value);
         self.history.enter(hash, slot);
@@ -105,9 +129,19 @@ impl<K: Eq + Drop, V: Drop, A: Allocator> Directory<K, V, A> {
         requires room { IsWithinRoom self.old.history }
         ensures hash { hash_at self.old.residents.entries slot ≡ Some result.0 }
         ensures key { key_at self.old.residents.entries slot ≡ Some result.1 }
-        ensures index { self.new.history ≡ record self.old.history { places = record self.old.history.places { index = entered hash slot (left result.0 slot self.old.history.places.index) } } }
+        ensures index { self.new.history ≡
+            record self.old.history {
+              places = record self.old.history.places {
+                index = entered hash slot
+                    (left result.0 slot self.old.history.places.index);
+              };
+            } }
         ensures entries { Writes hash key value slot self.old.residents.entries self.new.residents.entries }
-        ensures kept { self.new.residents ≡ record self.old.residents { entries = self.new.residents.entries; writes = self.old.residents.writes + 1 } }
+        ensures kept { self.new.residents ≡
+            record self.old.residents {
+              entries = self.new.residents.entries;
+              writes = self.old.residents.writes + 1;
+            } }
     {
         let old = self.residents.refill(slot, hash, key, value);
         self.history.leave(old.0, slot);
@@ -120,10 +154,15 @@ impl<K: Eq + Drop, V: Drop, A: Allocator> Directory<K, V, A> {
     pub fn remember(&mut self, slot: u32, hash: u64, key: K, value: Option<V>)
         requires resident { IsResident slot self.old }
         requires room { IsWithinRoom self.old.history }
-        requires absent { (old : K) → key_at self.old.residents.entries slot ≡ Some old → is_remembered K.eq old self.old.history.entries ≡ false }
+        requires absent { (old : K) → key_at self.old.residents.entries slot ≡ Some old →
+            is_remembered K.eq old self.old.history.entries ≡ false }
         ensures index { Remembers hash slot self.old self.new.history }
         ensures entries { Writes hash key value slot self.old.residents.entries self.new.residents.entries }
-        ensures kept { self.new.residents ≡ record self.old.residents { entries = self.new.residents.entries; writes = self.old.residents.writes + 1 } }
+        ensures kept { self.new.residents ≡
+            record self.old.residents {
+              entries = self.new.residents.entries;
+              writes = self.old.residents.writes + 1;
+            } }
     {
         let (old_hash, old_key) = self.residents.refill(slot, hash, key, value);
         self.history.remember(old_hash, slot, old_key);

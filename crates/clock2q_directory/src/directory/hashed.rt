@@ -13,8 +13,11 @@ impl<K: Eq, V, A: Allocator> Directory<K, V, A> {
     /// Returns the slot that comes after `nth` others among those of the residents whose keys have
     /// this hash. It compares no key.
     pub fn slot_with_hash(&self, hash: u64, nth: usize) -> Option<u32>
-        requires made { AllByRecursion (λ slot. slot < length self.now.residents.entries) (candidates (slots self.now.history.places.index) hash) }
-        ensures slot { result ≡ slice_get (filter (has_hash self.now.residents.entries hash) (candidates (slots self.now.history.places.index) hash)) nth }
+        requires made { AllByRecursion (λ slot. slot < length self.now.residents.entries)
+            (candidates (slots self.now.history.places.index) hash) }
+        ensures slot { result ≡
+            slice_get (filter (has_hash self.now.residents.entries hash)
+            (candidates (slots self.now.history.places.index) hash)) nth }
     {
         self.residents
             .with_hash(self.history.handles(hash), hash, nth)

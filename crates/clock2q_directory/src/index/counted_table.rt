@@ -81,7 +81,8 @@ impl<A: Allocator> CountedTable<A> {
     /// Raises the number of accesses by the walk of a hash: the most slots that the handles of one
     /// [`get`](CountedTable::get) read.
     pub(super) fn charge_lookup(&mut self, hash: u64)
-        ensures charged { self.new ≡ counted self.old.homes (self.old.accesses + walk self.old.homes hash) }
+        ensures charged { self.new ≡
+            counted self.old.homes (self.old.accesses + walk self.old.homes hash) }
     {
         let most = self.most(hash);
         self.charge(&most);
@@ -92,7 +93,9 @@ impl<A: Allocator> CountedTable<A> {
     pub(super) fn insert(&mut self, hash: u64, handle: u32)
         requires room { IsBelowCapacity self.old.homes }
         requires few { total self.old.homes + 1 < 2 ^ 24 }
-        ensures put { self.new ≡ counted (with_handle self.old.homes hash handle) (self.old.accesses + most_changed self.old.homes hash) }
+        ensures put { self.new ≡
+            counted (with_handle self.old.homes hash handle)
+            (self.old.accesses + most_changed self.old.homes hash) }
     {
         let most = self.most(hash);
         self.table.insert_among_few(hash, handle);
@@ -102,8 +105,11 @@ impl<A: Allocator> CountedTable<A> {
     /// Removes a handle that is there under a hash.
     #[inline(always)]
     pub(super) fn remove_held(&mut self, hash: u64, handle: u32)
-        requires held { list_any (is_entry_of nat_eq hash handle) (listed self.old.homes hash) ≡ true }
-        ensures removed { self.new ≡ counted (removed nat_eq self.old.homes hash handle) (self.old.accesses + most_changed self.old.homes hash) }
+        requires held { list_any (is_entry_of nat_eq hash handle)
+            (listed self.old.homes hash) ≡ true }
+        ensures removed { self.new ≡
+            counted (removed nat_eq self.old.homes hash handle)
+            (self.old.accesses + most_changed self.old.homes hash) }
     {
         let most = self.most(hash);
         self.table.remove_held(hash, handle);
@@ -113,8 +119,11 @@ impl<A: Allocator> CountedTable<A> {
     /// Replaces a handle that is there under a hash.
     #[inline(always)]
     pub(super) fn relabel(&mut self, hash: u64, handle: u32, new: u32)
-        requires held { list_any (is_entry_of nat_eq hash handle) (listed self.old.homes hash) ≡ true }
-        ensures relabelled { self.new ≡ counted (relabelled nat_eq self.old.homes hash handle new) (self.old.accesses + most_changed self.old.homes hash) }
+        requires held { list_any (is_entry_of nat_eq hash handle)
+            (listed self.old.homes hash) ≡ true }
+        ensures relabelled { self.new ≡
+            counted (relabelled nat_eq self.old.homes hash handle new)
+            (self.old.accesses + most_changed self.old.homes hash) }
     {
         let most = self.most(hash);
         self.table.relabel(hash, handle, new);
@@ -123,7 +132,9 @@ impl<A: Allocator> CountedTable<A> {
 
     /// Removes every entry: one access to each slot.
     pub(super) fn clear(&mut self)
-        ensures cleared { self.new ≡ counted (no_entries (length self.old.homes)) (self.old.accesses + length self.old.homes) }
+        ensures cleared { self.new ≡
+            counted (no_entries (length self.old.homes))
+            (self.old.accesses + length self.old.homes) }
     {
         self.table.clear();
     }

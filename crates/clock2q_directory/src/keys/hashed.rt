@@ -14,8 +14,11 @@ impl<K, V, A: Allocator> Keys<K, V, A> {
     /// Returns the one of `handles` that comes after `nth` others among those below [`REMEMBERED`]
     /// whose keys have this hash. It compares no key.
     pub fn with_hash(&self, mut handles: Candidates<'_, u32>, hash: u64, nth: usize) -> Option<u32>
-        requires used { AllByRecursion (λ place. place < length self.now.entries) (slots_among handles.left) }
-        ensures found { result ≡ slice_get (filter (has_hash self.now.entries hash) (slots_among handles.entry.left)) nth }
+        requires used { AllByRecursion (λ place. place < length self.now.entries)
+            (slots_among handles.left) }
+        ensures found { result ≡
+            slice_get (filter (has_hash self.now.entries hash)
+            (slots_among handles.entry.left)) nth }
     {
         let mut more = nth;
         while let Some(handle) = handles.peek() {

@@ -103,7 +103,8 @@ impl<K, V, A: Allocator> Keys<K, V, A> {
     /// Returns a mutable reference to the value at a place.
     pub fn value_mut(&mut self, place: u32) -> &mut V
         requires used { place < length self.old.entries }
-        ensures* writes_back { sem 𝓛 (LendsValueAt K.row V.row A.row A.Allocator self.entry place result) }
+        ensures* writes_back { sem 𝓛
+            (LendsValueAt K.row V.row A.row A.Allocator self.entry place result) }
         ensures value { value_at self.old.entries place ≡ Some result.now }
     {
         &mut self.entries[place as usize].value
@@ -113,7 +114,8 @@ impl<K, V, A: Allocator> Keys<K, V, A> {
     pub fn replace_value(&mut self, place: u32, value: V) -> V
         requires used { place < length self.old.entries }
         ensures old { value_at self.old.entries place ≡ Some result }
-        ensures replaced { self.new ≡ record self.old { entries = with_value place value self.old.entries } }
+        ensures replaced { self.new ≡
+            record self.old { entries = with_value place value self.old.entries } }
     {
         mem::replace(&mut self.entries[place as usize].value, value)
     }
@@ -121,7 +123,11 @@ impl<K, V, A: Allocator> Keys<K, V, A> {
     /// Writes a key to the next place.
     pub fn push(&mut self, hash: u64, key: K, value: V)
         requires room { length self.old.entries < self.old.room }
-        ensures pushed { self.new ≡ record self.old { entries = self.old.entries ++ entry hash key value ∷ []; writes = self.old.writes + 1 } }
+        ensures pushed { self.new ≡
+            record self.old {
+              entries = self.old.entries ++ entry hash key value ∷ [];
+              writes = self.old.writes + 1;
+            } }
     {
         self.writes.tick();
         self.entries.push_reserved(Entry { hash, key, value });
@@ -132,7 +138,11 @@ impl<K, V, A: Allocator> Keys<K, V, A> {
         requires used { place < length self.old.entries }
         ensures hash { hash_at self.old.entries place ≡ Some result.0 }
         ensures key { key_at self.old.entries place ≡ Some result.1 }
-        ensures replaced { self.new ≡ record self.old { entries = with_key place hash key self.old.entries; writes = self.old.writes + 1 } }
+        ensures replaced { self.new ≡
+            record self.old {
+              entries = with_key place hash key self.old.entries;
+              writes = self.old.writes + 1;
+            } }
     {
         self.writes.tick();
         let entry = &mut self.entries[place as usize];
@@ -167,7 +177,8 @@ impl<K: Eq, V, A: Allocator> Keys<K, V, A> {
 
     /// Adds comparisons that were counted elsewhere.
     pub(super) fn add_questions(&mut self, asked: &Count)
-        ensures added { self.new ≡ record self.old { questions = self.old.questions + asked.now.total } }
+        ensures added { self.new ≡
+            record self.old { questions = self.old.questions + asked.now.total } }
     {
         self.questions.raise(asked);
     }

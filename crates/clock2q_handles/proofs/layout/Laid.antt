@@ -1,5 +1,6 @@
 -- Slots in which each home's entries are where the layout says: what each slot contains, that they are in order, and that each home's list can be read off them.
-use Rattle.std.proofs.Common.{◌≡◌, ℕ, zero, suc, ◌+◌, ◌-◌, ◌<◌, ◌≤◌, inl, inr, refl, ap, sym, ◌∙◌, arith, eq-eqb, ne_eqb, List, [], ◌∷◌, ◌++◌, length, take, take_all, Option, Some, None, append_assoc, append-nil, slice_get}
+use Rattle.std.proofs.Common.{◌≡◌, ℕ, zero, suc, ◌+◌, ◌-◌, ◌<◌, ◌≤◌, inl, inr, refl, ap, sym, ◌∙◌, arith, eq-eqb, ne_eqb, List, [], ◌∷◌, ◌++◌, length, take, take_all, Option, Some, None}
+use Rattle.std.proofs.Common.{append_assoc, append-nil, slice_get}
 use Rattle.std.proofs.lemmas.Bool.{cases_lt}
 use Rattle.clock2q_handles.specs.Layout.{Placed, placed, spill, reach, at_home, met, IsOrdered}
 use Rattle.clock2q_handles.proofs.layout.Spill.{Roomy, spill-step, spill-lt}

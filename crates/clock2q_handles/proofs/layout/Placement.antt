@@ -1,5 +1,6 @@
 -- No placement of the same entries does better than the layout: the homes of a window that is overfull have too many entries for nearer slots.
-use Rattle.std.proofs.Common.{◌≡◌, ℕ, zero, suc, ◌+◌, ◌-◌, ◌%◌, ◌<◌, ◌≤◌, ◌⊎◌, inl, inr, refl, ap, sym, ◌∙◌, arith, Bool, true, false, ◌||◌, eqb, eqb-true, eq-eqb, ne_eqb, List, [], ◌∷◌, length, mod-eq_of_lt}
+use Rattle.std.proofs.Common.{◌≡◌, ℕ, zero, suc, ◌+◌, ◌-◌, ◌%◌, ◌<◌, ◌≤◌, ◌⊎◌, inl, inr, refl, ap, sym, ◌∙◌, arith, Bool, true, false, ◌||◌, eqb, eqb-true, eq-eqb, ne_eqb, List, [], ◌∷◌, length}
+use Rattle.std.proofs.Common.{mod-eq_of_lt}
 use Rattle.std.specs.List.{IsDistinct, AllByRecursion, list_any}
 use Rattle.std.proofs.lemmas.Bool.{cases_lt}
 use Rattle.std.proofs.lemmas.Map.Steps.{length-le_from_distinct_below}

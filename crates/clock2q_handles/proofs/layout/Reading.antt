@@ -1,5 +1,6 @@
 -- The layout as a list of slots, and the lists read off one.
-use Rattle.std.proofs.Common.{◌≡◌, ℕ, zero, suc, ◌+◌, ◌%◌, ◌<◌, ◌≤◌, inl, inr, refl, ap, sym, ◌∙◌, arith, List, [], ◌∷◌, length, set, replicate, get_or, get_or-set_same, get_or-set_other, length-set, Option, Some, None, mod-eq_of_lt, slice_get}
+use Rattle.std.proofs.Common.{◌≡◌, ℕ, zero, suc, ◌+◌, ◌%◌, ◌<◌, ◌≤◌, inl, inr, refl, ap, sym, ◌∙◌, arith, List, [], ◌∷◌, length, set, replicate, get_or, get_or-set_same, get_or-set_other}
+use Rattle.std.proofs.Common.{length-set, Option, Some, None, mod-eq_of_lt, slice_get}
 use Rattle.std.proofs.lemmas.Bool.{cases_lt}
 use Rattle.std.proofs.lemmas.List.{get_or_past, length-replicate}
 use Rattle.std.proofs.lemmas.Option.{slice_get_within}

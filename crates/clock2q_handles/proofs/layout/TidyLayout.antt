@@ -1,5 +1,6 @@
 -- A table's slots are tidy exactly if they are the layout of few enough entries, which are then those read off them.
-use Rattle.std.proofs.Common.{◌≡◌, ℕ, zero, suc, ◌-◌, ◌+◌, ◌%◌, ◌<◌, ◌≤◌, inl, inr, refl, ap, sym, ◌∙◌, subst, arith, List, [], ◌∷◌, length, take, take_all, get_or, length-append, ext_get_or, sum_by, Option, Some, None, slice_get, mod-eq_of_lt, add-one}
+use Rattle.std.proofs.Common.{◌≡◌, ℕ, zero, suc, ◌-◌, ◌+◌, ◌%◌, ◌<◌, ◌≤◌, inl, inr, refl, ap, sym, ◌∙◌, subst, arith, List, [], ◌∷◌, length, take, take_all, get_or, length-append, ext_get_or}
+use Rattle.std.proofs.Common.{sum_by, Option, Some, None, slice_get, mod-eq_of_lt, add-one}
 use Rattle.std.proofs.lemmas.Bool.{cases_lt}
 use Rattle.std.proofs.lemmas.List.{get_or_past, get_or_at}
 use Rattle.std.proofs.lemmas.List.Sums.{sum_by_more, sum_by-cons}

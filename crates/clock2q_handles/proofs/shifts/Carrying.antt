@@ -1,5 +1,6 @@
 -- Walks and moves that keep a slot: how far it is from the home, and what the moves result in, seen from the slot where they began.
-use Rattle.std.proofs.Common.{◌≡◌, ◌↔◌, Bool, true, false, IsTrue, ℕ, zero, suc, ◌+◌, ◌-◌, ◌%◌, ◌<◌, ◌≤◌, inl, inr, refl, ap, sym, ◌∙◌, subst, arith, List, length, set, length-set, Option, Some, None, IfSome, below_more}
+use Rattle.std.proofs.Common.{◌≡◌, ◌↔◌, Bool, true, false, IsTrue, ℕ, zero, suc, ◌+◌, ◌-◌, ◌%◌, ◌<◌, ◌≤◌, inl, inr, refl, ap, sym, ◌∙◌, subst, arith, List, length, set, length-set, Option, Some}
+use Rattle.std.proofs.Common.{None, IfSome, below_more}
 use Rattle.std.proofs.lemmas.Bool.{cases_lt}
 use Rattle.std.proofs.lemmas.Nat.{mod_below}
 use Rattle.std.proofs.Math.Nat.{mod-eq_of_lt, mod-mod, add-mod_right}
@@ -10,7 +11,8 @@ use Rattle.clock2q_handles.specs.Shifts.{Opens, Closes, HasCome, HasRoomAt, Lack
 use Rattle.clock2q_handles.specs.Slots.{Mark, cell, mark_of, mark_on, mark_back, mark_reach}
 use Rattle.clock2q_handles.proofs.layout.Periods.{lap, lap-lt, lap-same, rem-same}
 use Rattle.clock2q_handles.proofs.layout.Reading.{slot-again}
-use Rattle.clock2q_handles.proofs.shifts.Moves.{apart_on_lap, at_written, at_other, less_than_lap, MovingBack, moving_back_more, closed, cell-mark_on, cell-mark_back, reach_of_meaning, vacant_of_meaning}
+use Rattle.clock2q_handles.proofs.shifts.Moves.{apart_on_lap, at_written, at_other, less_than_lap, MovingBack, moving_back_more, closed, cell-mark_on, cell-mark_back, reach_of_meaning}
+use Rattle.clock2q_handles.proofs.shifts.Moves.{vacant_of_meaning}
 use Rattle.clock2q_handles.proofs.walks.Cursors.{rem-plus, goes_on}
 
 -- the distance from s of the slot k past it is k

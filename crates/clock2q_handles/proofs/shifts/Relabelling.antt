@@ -1,5 +1,6 @@
 -- An entry replaced by another of the same displacement: every walk goes as before, and its home's list has the other in its place.
-use Rattle.std.proofs.Common.{◌≡◌, ℕ, zero, suc, ◌+◌, ◌-◌, ◌%◌, ◌<◌, ◌≤◌, inl, inr, refl, ap, sym, ◌∙◌, subst, arith, Bool, true, false, cond, ◌||◌, ◌&&◌, ◌==◌, List, [], ◌∷◌, ◌++◌, length, get_or, set, get_or-set_same, get_or-set_other, length-set, ext_get_or, mod-eq_of_lt, Option, Some, None}
+use Rattle.std.proofs.Common.{◌≡◌, ℕ, zero, suc, ◌+◌, ◌-◌, ◌%◌, ◌<◌, ◌≤◌, inl, inr, refl, ap, sym, ◌∙◌, subst, arith, Bool, true, false, cond, ◌||◌, ◌&&◌, ◌==◌, List, [], ◌∷◌, ◌++◌, length}
+use Rattle.std.proofs.Common.{get_or, set, get_or-set_same, get_or-set_other, length-set, ext_get_or, mod-eq_of_lt, Option, Some, None}
 use Rattle.std.specs.List.{list_any}
 use lib.Dec.{T, eqb→eq}
 use Rattle.std.proofs.lemmas.Bool.{cases_lt, cases_eq}

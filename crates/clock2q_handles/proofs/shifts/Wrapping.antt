@@ -17,7 +17,8 @@ module _ {H : Type 0} where
   cells_back ms before vs held m n e f =
       cells_along (sym (kept_whole ms (drop (length ms) before) m e)) (sym (kept_whole vs (drop (length vs) held) n f))
 
-  pub puts_at_along : {old old' new new' : List (Option (Placed (ℕ × H)))} {s : Mark} {n : ℕ} {v : H} {b b' a : ℕ} → PutsAt old new s n v b a → old ≡ old' → new ≡ new' → b ≡ b' → PutsAt old' new' s n v b' a
+  pub puts_at_along : {old old' new new' : List (Option (Placed (ℕ × H)))} {s : Mark} {n : ℕ} {v : H} {b b' a : ℕ}
+      → PutsAt old new s n v b a → old ≡ old' → new ≡ new' → b ≡ b' → PutsAt old' new' s n v b' a
   puts_at_along {old = old} {new = new} {new' = new'} {s} {n} {v} {b' = b'} {a = a} puts o m f =
       subst (λ i. PutsAt i new' s n v b' a) o (subst (λ i. PutsAt old i s n v b' a) m (subst (λ k. PutsAt old new s n v k a) f puts))
 

@@ -80,7 +80,8 @@ impl<H: Copy + Default, A: Allocator> Slots<H, A> {
 
     /// Adds the writes counted for the slots that these replace.
     pub(crate) fn take_over_writes(&mut self, replaced: &Slots<H, A>)
-        ensures counted { self.new ≡ slots_value self.old.slots (self.old.writes + replaced.now.writes) }
+        ensures counted { self.new
+            ≡ slots_value self.old.slots (self.old.writes + replaced.now.writes) }
     {
         self.writes.raise(&replaced.writes);
     }
@@ -135,7 +136,10 @@ impl<H: Copy + Default, A: Allocator> Slots<H, A> {
     #[inline(always)]
     pub(crate) fn relabel_at(&mut self, slot: usize, handle: H)
         requires { slot < length self.old.slots }
-        ensures { self.new ≡ slots_value (set self.old.slots slot (cell (mark_of (slot_at self.old.slots slot)) handle)) (self.old.writes + 1) }
+        ensures { self.new
+            ≡ slots_value
+            (set self.old.slots slot (cell (mark_of (slot_at self.old.slots slot)) handle))
+            (self.old.writes + 1) }
     {
         self.handles[slot] = handle;
         self.writes.tick();
@@ -147,7 +151,8 @@ impl<H: Copy + Default, A: Allocator> Slots<H, A> {
         requires tidy { IsTidy self.old.slots }
         requires within { gap.now.position < length self.old.slots }
         requires room { HasRoomAt self.old.slots gap.now.mark gap.now.position }
-        ensures puts { PutsAt self.old.slots self.new.slots gap.now.mark gap.now.position handle self.old.writes self.new.writes }
+        ensures puts { PutsAt self.old.slots self.new.slots gap.now.mark gap.now.position handle
+            self.old.writes self.new.writes }
         ensures counted { reads.old.total ≤ reads.new.total }
         ensures reads { reads.new.total + self.old.writes ≡ reads.old.total + self.new.writes }
         ensures small { length self.old.slots < 2 ^ 63 }
@@ -171,7 +176,8 @@ impl<H: Copy + Default, A: Allocator> Slots<H, A> {
         requires tidy { IsTidy self.old.slots }
         requires within { slot < length self.old.slots }
         requires occupied { 0 < reach (slot_at self.old.slots slot) }
-        ensures taken { TakesOutAt self.old.slots self.new.slots slot self.old.writes self.new.writes }
+        ensures taken { TakesOutAt self.old.slots self.new.slots slot self.old.writes
+            self.new.writes }
         ensures reads { reads.new.total + self.old.writes ≡ reads.old.total + self.new.writes }
     {
         close(
@@ -186,7 +192,8 @@ impl<H: Copy + Default, A: Allocator> Slots<H, A> {
 
     /// Empties every slot. The handles stay in memory, but no lookup reaches them.
     pub(crate) fn clear(&mut self)
-        ensures { self.new ≡ slots_value (replicate (length self.old.slots) None) (self.old.writes + length self.old.slots) }
+        ensures { self.new ≡ slots_value (replicate (length self.old.slots) None)
+            (self.old.writes + length self.old.slots) }
     {
         fill(
             self.metadata.as_mut_slice(),
@@ -214,7 +221,8 @@ fn carry<H: Copy>(
     requires tidy { IsTidy (cells metadata.old handles.old) }
     requires within { slot < length (cells metadata.old handles.old) }
     requires room { HasRoomAt (cells metadata.old handles.old) (meaning word) slot }
-    ensures puts { PutsAt (cells metadata.old handles.old) (cells metadata.new handles.new) (meaning word) slot handle writes.old.total writes.new.total }
+    ensures puts { PutsAt (cells metadata.old handles.old) (cells metadata.new handles.new)
+        (meaning word) slot handle writes.old.total writes.new.total }
     ensures counted { reads.old.total ≤ reads.new.total }
     ensures reads { reads.new.total + writes.old.total ≡ reads.old.total + writes.new.total }
     ensures pair { ArePaired metadata.new handles.new }
@@ -250,7 +258,8 @@ fn close<H: Copy + Default>(
     requires tidy { IsTidy (cells metadata.old handles.old) }
     requires within { slot < length (cells metadata.old handles.old) }
     requires occupied { 0 < reach (slot_at (cells metadata.old handles.old) slot) }
-    ensures taken { TakesOutAt (cells metadata.old handles.old) (cells metadata.new handles.new) slot writes.old.total writes.new.total }
+    ensures taken { TakesOutAt (cells metadata.old handles.old) (cells metadata.new handles.new)
+        slot writes.old.total writes.new.total }
     ensures reads { reads.new.total + writes.old.total ≡ reads.old.total + writes.new.total }
     ensures pair { ArePaired metadata.new handles.new }
     ensures len { length metadata.new ≡ length metadata.old }
@@ -288,7 +297,8 @@ fn write<H: Copy>(
 )
     requires pair { ArePaired metadata.old handles.old }
     requires within { slot < length (cells metadata.old handles.old) }
-    ensures written { cells metadata.new handles.new ≡ set (cells metadata.old handles.old) slot (cell (meaning word) handle) }
+    ensures written { cells metadata.new handles.new
+        ≡ set (cells metadata.old handles.old) slot (cell (meaning word) handle) }
     ensures counted { writes.new.total ≡ writes.old.total + 1 }
     ensures pair { ArePaired metadata.new handles.new }
     ensures len { length metadata.new ≡ length metadata.old }

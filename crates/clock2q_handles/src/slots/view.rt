@@ -31,7 +31,8 @@ impl<'a, H: Copy> SlotsRef<'a, H> {
     pub(crate) fn metadata(&self, slot: usize) -> Metadata
         requires same { length self.now.handles.now ≡ length self.now.metadata.now }
         requires within { slot < length self.now.metadata.now }
-        ensures { meaning result ≡ mark_of (slot_at (cells self.now.metadata.now self.now.handles.now) slot) }
+        ensures { meaning result
+            ≡ mark_of (slot_at (cells self.now.metadata.now self.now.handles.now) slot) }
     {
         self.metadata[slot]
     }
@@ -39,7 +40,8 @@ impl<'a, H: Copy> SlotsRef<'a, H> {
     pub(crate) fn handle(&self, slot: usize) -> H
         requires same { length self.now.handles.now ≡ length self.now.metadata.now }
         requires within { slot < length self.now.metadata.now }
-        ensures { IfSome (slot_at (cells self.now.metadata.now self.now.handles.now) slot) (λ p. result ≡ p.entry.1) }
+        ensures { IfSome (slot_at (cells self.now.metadata.now self.now.handles.now) slot)
+            (λ p. result ≡ p.entry.1) }
     {
         self.handles[slot]
     }

@@ -48,12 +48,19 @@ impl<H: Copy + Eq + Default, A: Allocator + Copy> Table<H, A> {
         additional: usize,
         mut rehash: F,
     ) -> Result<(), TableError>
-        requires rehash { IsShortOf self.old.homes additional → MayRehash F.FnMut rehash self.old.homes }
-        ensures reserved { OnOk result ((key : H → ℕ) → (IsShortOf self.old.homes additional → GivesHashes F.FnMut key self.old.homes rehash) → self.new.homes ≡ reserved key self.old.homes additional) }
+        requires rehash { IsShortOf self.old.homes additional
+            → MayRehash F.FnMut rehash self.old.homes }
+        ensures reserved { OnOk result
+            ((key : H → ℕ)
+            → (IsShortOf self.old.homes additional → GivesHashes F.FnMut key self.old.homes rehash)
+            → self.new.homes ≡ reserved key self.old.homes additional) }
 
         // If there is room already, nothing changes.
-        ensures kept { total self.old.homes + additional ≤ capacity (length self.old.homes) → total self.old.homes + additional < 2 ^ 64 → IsOk result × (self.new ≡ self.old) }
-        ensures asks { OnOk result (IsShortOf self.old.homes additional → (last : F) × AsksHeld F.FnMut rehash self.old.homes last) }
+        ensures kept { total self.old.homes + additional ≤ capacity (length self.old.homes)
+            → total self.old.homes + additional < 2 ^ 64 → IsOk result × (self.new ≡ self.old) }
+        ensures asks { OnOk result
+            (IsShortOf self.old.homes additional
+            → (last : F) × AsksHeld F.FnMut rehash self.old.homes last) }
         ensures size { result ≡ Err TableError.Size ↔ IsPastSize self.old.homes additional }
         ensures memory { result ≡ Err TableError.Memory → IsShortOf self.old.homes additional }
         ensures only { result ≢ Err TableError.RunTooLong }
@@ -82,10 +89,12 @@ impl<H: Copy + Eq + Default, A: Allocator + Copy> Table<H, A> {
     #[inline(always)]
     pub(super) fn make_room<F: FnMut(H) -> u64>(&mut self, rehash: &mut F) -> Result<(), TableError>
         requires rehash { IsFull self.old.homes → MayRehash F.FnMut rehash.old self.old.homes }
-        ensures grown { OnOk result (AfterGrowth F.FnMut rehash.old self.old.homes (λ homes. self.new.homes ≡ homes)) }
+        ensures grown { OnOk result
+            (AfterGrowth F.FnMut rehash.old self.old.homes (λ homes. self.new.homes ≡ homes)) }
         ensures room { OnOk result (IsBelowCapacity self.new.homes) }
         ensures kept { IsBelowCapacity self.old.homes → IsOk result × (self.new ≡ self.old) }
-        ensures asks { OnOk result (IsFull self.old.homes → AsksHeld F.FnMut rehash.old self.old.homes rehash.new) }
+        ensures asks { OnOk result
+            (IsFull self.old.homes → AsksHeld F.FnMut rehash.old self.old.homes rehash.new) }
         ensures quiet { IsBelowCapacity self.old.homes → rehash.new ≡ rehash.old }
         ensures full { OnErr result (IsFull self.old.homes) }
         ensures refused { OnErr result (self.new ≡ self.old) }
@@ -108,7 +117,9 @@ impl<H: Copy + Eq + Default, A: Allocator + Copy> Table<H, A> {
     fn grow<F: FnMut(H) -> u64>(&mut self, rehash: &mut F) -> Result<(), TableError>
         requires full { IsFull self.old.homes }
         requires asked { MayRehash F.FnMut rehash.old self.old.homes }
-        ensures grown { OnOk result ((key : H → ℕ) → GivesHashes F.FnMut key self.old.homes rehash.old → self.new.homes ≡ rebuilt key (doubled (length self.old.homes)) self.old.homes) }
+        ensures grown { OnOk result
+            ((key : H → ℕ) → GivesHashes F.FnMut key self.old.homes rehash.old
+            → self.new.homes ≡ rebuilt key (doubled (length self.old.homes)) self.old.homes) }
         ensures room { OnOk result (IsBelowCapacity self.new.homes) }
         ensures asks { OnOk result (AsksHeld F.FnMut rehash.old self.old.homes rehash.new) }
         ensures refused { OnErr result (self.new ≡ self.old) }
@@ -133,9 +144,12 @@ impl<H: Copy + Eq + Default, A: Allocator + Copy> Table<H, A> {
     ) -> Result<Table<H, A>, TableError>
         requires count { IsSlotCount count }
         requires fits { total self.now.homes ≤ capacity count }
-        requires multiple { 0 < length self.now.homes → (k : ℕ) × (count ≡ k * length self.now.homes) }
+        requires multiple { 0 < length self.now.homes
+            → (k : ℕ) × (count ≡ k * length self.now.homes) }
         requires asked { MayRehash F.FnMut rehash.old self.now.homes }
-        ensures made { IfOk result (λ t. (key : H → ℕ) → GivesHashes F.FnMut key self.now.homes rehash.old → t.homes ≡ rebuilt key count self.now.homes) }
+        ensures made { IfOk result
+            (λ t. (key : H → ℕ) → GivesHashes F.FnMut key self.now.homes rehash.old
+            → t.homes ≡ rebuilt key count self.now.homes) }
         ensures asks { OnOk result (AsksHeld F.FnMut rehash.old self.now.homes rehash.new) }
         ensures unasked { OnErr result (rehash.new ≡ rehash.old) }
         ensures laid { IfOk result IsLaidOut }

@@ -46,14 +46,21 @@ impl<H: Copy + Eq + Default, A: Allocator + Copy> Table<H, A> {
         mut rehash: F,
     ) -> Result<(), TableError>
         requires rehash { IsFull self.old.homes → MayRehash F.FnMut rehash self.old.homes }
-        ensures put { result ≢ Err TableError.Memory → AfterGrowth F.FnMut rehash self.old.homes (λ homes. PutIn homes hash handle result self.new.homes) }
-        ensures memory { result ≡ Err TableError.Memory → IsFull self.old.homes × (self.new ≡ self.old) }
+        ensures put { result ≢ Err TableError.Memory
+            → AfterGrowth F.FnMut rehash self.old.homes
+            (λ homes. PutIn homes hash handle result self.new.homes) }
+        ensures memory { result ≡ Err TableError.Memory
+            → IsFull self.old.homes × (self.new ≡ self.old) }
         ensures few { total self.old.homes + 1 < 2 ^ 24 → result ≢ Err TableError.RunTooLong }
-        ensures asks { result ≢ Err TableError.Memory → IsFull self.old.homes → (last : F) × AsksHeld F.FnMut rehash self.old.homes last }
-        ensures writes { IsBelowCapacity self.old.homes → WritesAtMost (run self.old.slots hash + 1) self.old self.new }
-        ensures reads { IsBelowCapacity self.old.homes → total self.old.homes + 1 < 2 ^ 24 → ReadsWalk (walk self.old.homes hash) self.old self.new }
+        ensures asks { result ≢ Err TableError.Memory → IsFull self.old.homes
+            → (last : F) × AsksHeld F.FnMut rehash self.old.homes last }
+        ensures writes { IsBelowCapacity self.old.homes
+            → WritesAtMost (run self.old.slots hash + 1) self.old self.new }
+        ensures reads { IsBelowCapacity self.old.homes → total self.old.homes + 1 < 2 ^ 24
+            → ReadsWalk (walk self.old.homes hash) self.old self.new }
         ensures reads_counted { self.old.reads ≤ self.new.reads }
-        ensures restores { IsBelowCapacity self.old.homes → OnOk result (Restores H.PartialEq.eq hash handle self.old self.new) }
+        ensures restores { IsBelowCapacity self.old.homes
+            → OnOk result (Restores H.PartialEq.eq hash handle self.old self.new) }
         ensures laid { IsLaidOut self.new }
         ensures nearer { AfterGrowth F.FnMut rehash self.old.homes (IsNearer self.old.homes) }
         ensures counted { self.old.writes ≤ self.new.writes }
@@ -85,17 +92,26 @@ impl<H: Copy + Eq + Default, A: Allocator + Copy> Table<H, A> {
         mut rehash: F,
     ) -> Result<(H, bool), TableError>
         requires rehash { IsFull self.old.homes → MayRehash F.FnMut rehash self.old.homes }
-        requires callable { AfterGrowth F.FnMut rehash self.old.homes (λ homes. MayBeOffered M.FnMut matches (candidates homes hash)) }
-        ensures settles { result ≢ Err TableError.Memory → (last : M) × AfterGrowth F.FnMut rehash self.old.homes (λ homes. FindsOrPuts M.FnMut matches homes hash handle result self.new.homes last) }
-        ensures memory { result ≡ Err TableError.Memory → IsFull self.old.homes × (self.new ≡ self.old) }
+        requires callable { AfterGrowth F.FnMut rehash self.old.homes
+            (λ homes. MayBeOffered M.FnMut matches (candidates homes hash)) }
+        ensures settles { result ≢ Err TableError.Memory
+            → (last : M) × AfterGrowth F.FnMut rehash self.old.homes
+            (λ homes. FindsOrPuts M.FnMut matches homes hash handle result self.new.homes last) }
+        ensures memory { result ≡ Err TableError.Memory
+            → IsFull self.old.homes × (self.new ≡ self.old) }
         ensures few { total self.old.homes + 1 < 2 ^ 24 → result ≢ Err TableError.RunTooLong }
-        ensures asks { result ≢ Err TableError.Memory → IsFull self.old.homes → (last : F) × AsksHeld F.FnMut rehash self.old.homes last }
-        ensures writes { IsBelowCapacity self.old.homes → WritesAtMost (run self.old.slots hash + 1) self.old self.new }
-        ensures reads { IsBelowCapacity self.old.homes → total self.old.homes + 1 < 2 ^ 24 → ReadsAtMost (walk self.old.homes hash) self.old self.new }
+        ensures asks { result ≢ Err TableError.Memory → IsFull self.old.homes
+            → (last : F) × AsksHeld F.FnMut rehash self.old.homes last }
+        ensures writes { IsBelowCapacity self.old.homes
+            → WritesAtMost (run self.old.slots hash + 1) self.old self.new }
+        ensures reads { IsBelowCapacity self.old.homes → total self.old.homes + 1 < 2 ^ 24
+            → ReadsAtMost (walk self.old.homes hash) self.old self.new }
         ensures reads_counted { self.old.reads ≤ self.new.reads }
         ensures laid { IsLaidOut self.new }
         ensures nearer { AfterGrowth F.FnMut rehash self.old.homes (IsNearer self.old.homes) }
-        ensures found { IsBelowCapacity self.old.homes → IfOk result (λ r. r.1 ≡ false → OnlyReads (walk self.old.homes hash) self.old self.new) }
+        ensures found { IsBelowCapacity self.old.homes
+            → IfOk result
+            (λ r. r.1 ≡ false → OnlyReads (walk self.old.homes hash) self.old self.new) }
         ensures counted { self.old.writes ≤ self.new.writes }
         ensures restores { IsBelowCapacity self.old.homes → IfOk result (λ r. IsTrue r.1 → Restores H.PartialEq.eq hash handle self.old self.new) }
     {
@@ -124,7 +140,8 @@ impl<H: Copy + Eq + Default, A: Allocator> Table<H, A> {
         ensures refused { OnErr result (self.new ≡ record self.old { reads = self.new.reads }) }
         ensures few { total self.old.homes + 1 < 2 ^ 24 → IsOk result }
         ensures writes { WritesAtMost (run self.old.slots hash + 1) self.old self.new }
-        ensures reads { total self.old.homes + 1 < 2 ^ 24 → ReadsWalk (walk self.old.homes hash) self.old self.new }
+        ensures reads { total self.old.homes + 1 < 2 ^ 24
+            → ReadsWalk (walk self.old.homes hash) self.old self.new }
         ensures reads_counted { self.old.reads ≤ self.new.reads }
         ensures restores { OnOk result (Restores H.PartialEq.eq hash handle self.old self.new) }
         ensures laid { IsLaidOut self.new }
@@ -160,14 +177,18 @@ impl<H: Copy + Eq + Default, A: Allocator> Table<H, A> {
     ) -> Result<(H, bool), TableError>
         requires room { IsBelowCapacity self.old.homes }
         requires callable { MayBeOffered M.FnMut matches.old (candidates self.old.homes hash) }
-        ensures settles { FindsOrPuts M.FnMut matches.old self.old.homes hash handle result self.new.homes matches.new }
-        ensures found { IfOk result (λ r. r.1 ≡ false → OnlyReads (walk self.old.homes hash) self.old self.new) }
+        ensures settles { FindsOrPuts M.FnMut matches.old self.old.homes hash handle result
+            self.new.homes matches.new }
+        ensures found { IfOk result
+            (λ r. r.1 ≡ false → OnlyReads (walk self.old.homes hash) self.old self.new) }
         ensures only { result ≢ Err TableError.Memory }
         ensures few { total self.old.homes + 1 < 2 ^ 24 → IsOk result }
         ensures writes { WritesAtMost (run self.old.slots hash + 1) self.old self.new }
-        ensures reads { total self.old.homes + 1 < 2 ^ 24 → ReadsAtMost (walk self.old.homes hash) self.old self.new }
+        ensures reads { total self.old.homes + 1 < 2 ^ 24
+            → ReadsAtMost (walk self.old.homes hash) self.old self.new }
         ensures reads_counted { self.old.reads ≤ self.new.reads }
-        ensures restores { IfOk result (λ r. IsTrue r.1 → Restores H.PartialEq.eq hash handle self.old self.new) }
+        ensures restores { IfOk result
+            (λ r. IsTrue r.1 → Restores H.PartialEq.eq hash handle self.old self.new) }
         ensures laid { IsLaidOut self.new }
     {
         match self.offer(hash, matches) {
@@ -185,10 +206,12 @@ impl<H: Copy + Eq + Default, A: Allocator> Table<H, A> {
     fn offer<M: FnMut(H) -> bool>(&mut self, hash: u64, matches: &mut M) -> Result<(H, usize), Gap>
         requires slots { 0 < length self.old.homes }
         requires callable { MayBeOffered M.FnMut matches.old (candidates self.old.homes hash) }
-        ensures offers { Offers M.FnMut matches.old (candidates self.old.homes hash) (handle_in result) matches.new }
+        ensures offers { Offers M.FnMut matches.old (candidates self.old.homes hash)
+            (handle_in result) matches.new }
         ensures gap { IfErr result (λ gap. EndsAt self.old.slots hash gap.mark gap.position) }
         ensures read { OnlyReads (walk self.old.homes hash) self.old self.new }
-        ensures read_all { IfErr result (λ _. self.new.reads ≡ self.old.reads + walk self.old.homes hash) }
+        ensures read_all { IfErr result
+            (λ _. self.new.reads ≡ self.old.reads + walk self.old.homes hash) }
         ensures laid { IsLaidOut self.new }
     {
         let mut reader = Reader::new(&self.slots);
@@ -202,8 +225,10 @@ impl<H: Copy + Eq + Default, A: Allocator> Table<H, A> {
     fn gap(&mut self, hash: u64) -> Gap
         requires below { IsBelowCapacity self.old.homes }
         ensures ends { EndsAt self.old.slots hash result.mark result.position }
-        ensures few { H → total self.old.homes + 1 < 2 ^ 24 → HasRoomAt self.old.slots result.mark result.position }
-        ensures reads { self.new ≡ record self.old { reads = self.old.reads + walk self.old.homes hash } }
+        ensures few { H → total self.old.homes + 1 < 2 ^ 24
+            → HasRoomAt self.old.slots result.mark result.position }
+        ensures reads { self.new
+            ≡ record self.old { reads = self.old.reads + walk self.old.homes hash } }
     {
         self.slots.gap(hash, &mut self.reads)
     }

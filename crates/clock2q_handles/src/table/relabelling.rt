@@ -18,8 +18,10 @@ impl<H: Copy + Eq + Default, A: Allocator> Table<H, A> {
     /// The walk to the entry, and one write of a slot.
     #[inline(always)]
     pub fn relabel(&mut self, hash: u64, handle: H, new: H)
-        requires held { list_any (is_entry_of H.PartialEq.eq hash handle) (listed self.old.homes hash) ≡ true }
-        ensures relabelled { self.new.homes ≡ relabelled H.PartialEq.eq self.old.homes hash handle new }
+        requires held { list_any (is_entry_of H.PartialEq.eq hash handle)
+            (listed self.old.homes hash) ≡ true }
+        ensures relabelled { self.new.homes ≡ relabelled H.PartialEq.eq self.old.homes hash handle
+            new }
         ensures gaps { (x : ℕ) → gap_of self.new.homes x ≡ gap_of self.old.homes x }
         ensures writes { self.new.writes ≡ self.old.writes + 1 }
         ensures reads { RisesAtMost (walk self.old.homes hash) self.old.reads self.new.reads }

@@ -20,7 +20,8 @@ impl<H: Copy + Eq + Default, A: Allocator> Table<H, A> {
     /// last entry that moves back, and reads as many more.
     pub fn remove(&mut self, hash: u64, handle: H) -> bool
         ensures removed { self.new.homes ≡ removed H.PartialEq.eq self.old.homes hash handle }
-        ensures found { result ≡ list_any (is_entry_of H.PartialEq.eq hash handle) (listed self.old.homes hash) }
+        ensures found { result ≡ list_any (is_entry_of H.PartialEq.eq hash handle)
+            (listed self.old.homes hash) }
         ensures none { OnFalse result (OnlyReads (walk self.old.homes hash) self.old self.new) }
         ensures writes { WritesAtMost (run self.old.slots hash) self.old self.new }
         ensures reads { ReadsAtMost (walk self.old.homes hash) self.old self.new }
@@ -42,7 +43,8 @@ impl<H: Copy + Eq + Default, A: Allocator> Table<H, A> {
     ///
     /// That of [remove](Table::remove).
     pub fn remove_held(&mut self, hash: u64, handle: H)
-        requires held { list_any (is_entry_of H.PartialEq.eq hash handle) (listed self.old.homes hash) ≡ true }
+        requires held { list_any (is_entry_of H.PartialEq.eq hash handle)
+            (listed self.old.homes hash) ≡ true }
         ensures removed { self.new.homes ≡ removed H.PartialEq.eq self.old.homes hash handle }
         ensures writes { WritesAtMost (run self.old.slots hash) self.old self.new }
         ensures reads { ReadsAtMost (walk self.old.homes hash) self.old self.new }

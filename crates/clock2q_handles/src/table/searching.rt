@@ -23,8 +23,11 @@ impl<H: Copy + Eq + Default, A: Allocator> Table<H, A> {
     pub fn search<M: FnMut(H) -> bool>(&self, hash: u64, mut matches: M) -> Result<(H, usize), Gap>
         requires slots { 0 < length self.now.homes }
         requires callable { MayBeOffered M.FnMut matches (candidates self.now.homes hash) }
-        ensures offers { (last : M) × Offers M.FnMut matches (candidates self.now.homes hash) (handle_in result) last }
-        ensures found { IfOk result (λ found. (i : ℕ) × StandsAt self.now.homes hash i (top hash, found.0) found.1 × AcceptsNext M.FnMut matches (candidates_before self.now.homes hash i) found.0) }
+        ensures offers { (last : M) × Offers M.FnMut matches (candidates self.now.homes hash)
+            (handle_in result) last }
+        ensures found { IfOk result
+            (λ found. (i : ℕ) × StandsAt self.now.homes hash i (top hash, found.0) found.1
+            × AcceptsNext M.FnMut matches (candidates_before self.now.homes hash i) found.0) }
         ensures gap { IfErr result (λ gap. gap ≡ gap_of self.now.homes hash) }
     {
         let mut reader = Reader::new(&self.slots);

@@ -17,7 +17,10 @@ returns-clause-slot g c =
 pub returns-clause-absent : goal.returns-clause-absent
 returns-clause-absent g c =
     let same = rw (← c.self.view_is) at c.requires in
-    rw (← c.self.view_is) (told-absent g.met.K.Eq.laws c.self.invariant c.args.key.now (λ x y e. ap (λ z. hash_of g.S.BuildHasher g.S.Hasher.Hasher c.self.inside.hasher z) (g.met.K.Hash.respects_eq x y e)) c.args.hash same
+    rw (← c.self.view_is)
+    (told-absent g.met.K.Eq.laws c.self.invariant c.args.key.now
+    (λ x y e. ap (λ z. hash_of g.S.BuildHasher g.S.Hasher.Hasher c.self.inside.hasher z) (g.met.K.Hash.respects_eq x y e))
+    c.args.hash same
     c.slot_with_hash.result c.slot_with_hash.ensures.slot)
 
 pub returns-clause-within : goal.returns-clause-within

@@ -17,7 +17,9 @@ invariant_of-self g c =
     rw c.forget.ensures.kept (kept-forgotten g.met.K.Eq.laws c.self.invariant c.args.key.now c.forget.new.self.history
     (ap (λ (z : Remembered _). z.entries) c.forget.ensures.forgotten) (ap (λ (z : Remembered _). z.limit) c.forget.ensures.forgotten)
     (ap (λ (z : Remembered _). most_beside z) c.forget.ensures.forgotten
-    ∙ ap (λ b. if b then c.self.inside.directory.history.limit else 0) (ap (λ (z : Places). is_shared z.index) c.forget.ensures.places ∙ shared-freed c.args.hash _ c.self.inside.directory.history.places))
+    ∙ ap (λ b. if b then c.self.inside.directory.history.limit else 0)
+    (ap (λ (z : Places). is_shared z.index) c.forget.ensures.places
+    ∙ shared-freed c.args.hash _ c.self.inside.directory.history.places))
     (ap (λ (z : Places). slots z.index) c.forget.ensures.places ∙ slots-freed c.args.hash _ c.self.inside.directory.history.places))
 
 pub returns-clause-known : goal.returns-clause-known

@@ -18,11 +18,17 @@ there g c =
 
 pub hit-requires : goal.hit-requires
 hit-requires g c =
-    record { resident = either-queue c.self.inside.queues c.in_ok-slot.slot (found-there g.met.K.Eq.laws c.self.invariant c.args.key.now c.in_ok-slot.slot (there g (goal.at.hit-requires g c).After-value-value)).0 }
+    record {
+      resident = either-queue c.self.inside.queues c.in_ok-slot.slot
+          (found-there g.met.K.Eq.laws c.self.invariant c.args.key.now c.in_ok-slot.slot
+          (there g (goal.at.hit-requires g c).After-value-value)).0;
+    }
 
 pub invariant_of-self : goal.invariant_of-self
 invariant_of-self g c =
-    kept-hit g.met.K.Eq.laws c.self.invariant c.args.key.now c.in_ok-slot.slot (there g (goal.at.invariant_of-self g c).After-value-value) c.hit.new.self (ap (λ (z : QueueState). z.small) c.hit.ensures.queues)
+    kept-hit g.met.K.Eq.laws c.self.invariant c.args.key.now c.in_ok-slot.slot
+    (there g (goal.at.invariant_of-self g c).After-value-value) c.hit.new.self
+    (ap (λ (z : QueueState). z.small) c.hit.ensures.queues)
     (ap (λ (z : QueueState). z.main) c.hit.ensures.queues) (ap (λ (z : QueueState). z.slots) c.hit.ensures.queues) (ap (λ (z : QueueState). z.window) c.hit.ensures.queues)
 
 pub returns-in_err-slot : goal.returns-in_err-slot
@@ -34,9 +40,11 @@ pub returns : goal.returns
 returns g c =
     let at = there g (goal.at.returns g c).After-value-value in
     let now =
-    hit-machine g.met.K.Eq.laws c.self.invariant c.args.key.now c.in_ok-slot.slot at c.hit.new.self (ap (λ (z : QueueState). z.small) c.hit.ensures.queues) (ap (λ (z : QueueState). z.main) c.hit.ensures.queues)
+    hit-machine g.met.K.Eq.laws c.self.invariant c.args.key.now c.in_ok-slot.slot at c.hit.new.self
+    (ap (λ (z : QueueState). z.small) c.hit.ensures.queues) (ap (λ (z : QueueState). z.main) c.hit.ensures.queues)
     ∙ ap (λ (z : CacheState _ _ _). hit (g.K.PartialEq.eq c.args.key.now) z.machine) c.self.view_is in
     let value =
-    sym c.value-value.ensures.value ∙ sym (value-there c.self.inside.directory.residents.entries c.in_ok-slot.slot) ∙ ap (λ (z : CacheState _ _ _). slice_get z.machine.values c.in_ok-slot.slot) c.self.view_is
+    sym c.value-value.ensures.value ∙ sym (value-there c.self.inside.directory.residents.entries c.in_ok-slot.slot)
+    ∙ ap (λ (z : CacheState _ _ _). slice_get z.machine.values c.in_ok-slot.slot) c.self.view_is
     ∙ ap (λ (z : Machine _ _). slice_get z.values c.in_ok-slot.slot) c.find.ensures.machine ∙ ap (λ o. option_and_then (slice_get c.args.self.now.machine.values) o) c.in_ok-slot.ensures.slot in
     ((refl, λ _. tt, hit-becomes c.hash-hash.ensures c.find.ensures.kept c.find.ensures.counts (search rules) now), record { machine = tt; value = value })

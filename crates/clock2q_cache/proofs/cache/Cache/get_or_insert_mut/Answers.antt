@@ -17,5 +17,12 @@ returns g c =
             c.args.self.now c.find_or_reuse-slot.new.self t c.find_or_reuse-slot.ensures.known c.find_or_reuse-slot.ensures.hasher c.find_or_reuse-slot.ensures.counts
             (ap (λ (z : ℕ × ℕ). z.0) c.most-most.ensures.picked) (ap (λ (z : ℕ × ℕ). z.1) c.most-most.ensures.picked) w,
       ),
-      record { writes_back = tt; slot = t.at; value = rw same at t.had; unwritten = rw same at (unwritten t); costs = λ w. charged-costs w c.args.self.now g.met.K.Eq.laws g.met.K.Hash.respects_eq c.len.ensures.whole c.len.ensures.indexed.as_many c.len.ensures.within },
+      record {
+        writes_back = tt;
+        slot = t.at;
+        value = rw same at t.had;
+        unwritten = rw same at (unwritten t);
+        costs = λ w. charged-costs w c.args.self.now g.met.K.Eq.laws g.met.K.Hash.respects_eq c.len.ensures.whole
+            c.len.ensures.indexed.as_many c.len.ensures.within;
+      },
     )

@@ -13,7 +13,8 @@ pub invariant_of-self : goal.invariant_of-self
 invariant_of-self g c =
     let there = rw (← c.self.view_is) at c.requires in
     let laws = g.met.K.Eq.laws in
-    kept-hit laws c.self.invariant (own-key laws c.self.invariant c.args.slot there).0 c.args.slot (own-slot laws c.self.invariant c.args.slot there) c.hit.new.self (ap (λ (z : QueueState). z.small) c.hit.ensures.queues)
+    kept-hit laws c.self.invariant (own-key laws c.self.invariant c.args.slot there).0 c.args.slot
+    (own-slot laws c.self.invariant c.args.slot there) c.hit.new.self (ap (λ (z : QueueState). z.small) c.hit.ensures.queues)
     (ap (λ (z : QueueState). z.main) c.hit.ensures.queues) (ap (λ (z : QueueState). z.slots) c.hit.ensures.queues) (ap (λ (z : QueueState). z.window) c.hit.ensures.queues)
 
 pub returns-clause-machine : goal.returns-clause-machine
@@ -22,4 +23,5 @@ returns-clause-machine g c =
     let laws = g.met.K.Eq.laws in
     let k = c.self.invariant in
     rw (← c.self.view_is, own-resident laws k c.args.slot there)
-    (hit-machine laws k (own-key laws k c.args.slot there).0 c.args.slot (own-slot laws k c.args.slot there) c.hit.new.self (ap (λ (z : QueueState). z.small) c.hit.ensures.queues) (ap (λ (z : QueueState). z.main) c.hit.ensures.queues))
+    (hit-machine laws k (own-key laws k c.args.slot there).0 c.args.slot (own-slot laws k c.args.slot there) c.hit.new.self
+    (ap (λ (z : QueueState). z.small) c.hit.ensures.queues) (ap (λ (z : QueueState). z.main) c.hit.ensures.queues))

@@ -69,18 +69,29 @@ replace-before-requires g c =
 pub returns-clause-machine : goal.returns-clause-machine
 returns-clause-machine g c =
     let s = sent g (goal.at.returns-clause-machine g c).After-admits_to_main-main in
-    c.replace-before.ensures.machine ∙ slot-stored g.K.PartialEq.eq c.args.key s c.makes_slot.ensures.whole c.insert_unknown-slot.ensures.entered.slot c.insert_unknown-slot.ensures.entered.machine c.args.value
+    c.replace-before.ensures.machine
+    ∙ slot-stored g.K.PartialEq.eq c.args.key s c.makes_slot.ensures.whole c.insert_unknown-slot.ensures.entered.slot
+    c.insert_unknown-slot.ensures.entered.machine c.args.value
 
 pub returns-clause-known : goal.returns-clause-known
 returns-clause-known g c =
     let s = sent g (goal.at.returns-clause-known g c).After-admits_to_main-main in
     let at = c.insert_unknown-slot.ensures.entered.slot ∙ ap (λ (p : Placement _ _). p.slot) (placed-there g.K.PartialEq.eq c.args.key s) in
-    ap (λ (z : CacheState _ _ _). z.known) c.replace-before.ensures.kept ∙ (rw (at, c.forget-known.ensures.hasher, c.forget-known.ensures.machine, goes-there s, c.forget-known.ensures.places, c.requires.absent.hashed) at c.insert_unknown-slot.ensures.entered.indexes)
+    ap (λ (z : CacheState _ _ _). z.known) c.replace-before.ensures.kept
+    ∙ (rw (
+      at,
+      c.forget-known.ensures.hasher,
+      c.forget-known.ensures.machine,
+      goes-there s,
+      c.forget-known.ensures.places,
+      c.requires.absent.hashed,
+    ) at c.insert_unknown-slot.ensures.entered.indexes)
 
 pub returns-clause-counts : goal.returns-clause-counts
 returns-clause-counts g c =
     let s = sent g (goal.at.returns-clause-counts g c).After-admits_to_main-main in
-    rw (ap (λ (z : CacheState _ _ _). z.counts) c.replace-before.ensures.kept, ← placed-inspections s c.requires.absent.absent) (forgotten-spends c.forget-known.ensures.counts c.insert_unknown-slot.ensures.entered.counts)
+    rw (ap (λ (z : CacheState _ _ _). z.counts) c.replace-before.ensures.kept, ← placed-inspections s c.requires.absent.absent)
+    (forgotten-spends c.forget-known.ensures.counts c.insert_unknown-slot.ensures.entered.counts)
 
 pub returns-clause-evicted : goal.returns-clause-evicted
 returns-clause-evicted g c =
@@ -92,18 +103,29 @@ returns-clause-evicted g c =
 pub returns-in_err-evicted-clause-machine : goal.returns-in_err-evicted-clause-machine
 returns-in_err-evicted-clause-machine g c =
     let s = sent g (goal.at.returns-in_err-evicted-clause-machine g c).After-admits_to_main-main in
-    c.replace-before.ensures.machine ∙ slot-stored g.K.PartialEq.eq c.args.key s c.makes_slot.ensures.whole c.insert_unknown-slot.ensures.entered.slot c.insert_unknown-slot.ensures.entered.machine c.args.value
+    c.replace-before.ensures.machine
+    ∙ slot-stored g.K.PartialEq.eq c.args.key s c.makes_slot.ensures.whole c.insert_unknown-slot.ensures.entered.slot
+    c.insert_unknown-slot.ensures.entered.machine c.args.value
 
 pub returns-in_err-evicted-clause-known : goal.returns-in_err-evicted-clause-known
 returns-in_err-evicted-clause-known g c =
     let s = sent g (goal.at.returns-in_err-evicted-clause-known g c).After-admits_to_main-main in
     let at = c.insert_unknown-slot.ensures.entered.slot ∙ ap (λ (p : Placement _ _). p.slot) (placed-there g.K.PartialEq.eq c.args.key s) in
-    ap (λ (z : CacheState _ _ _). z.known) c.replace-before.ensures.kept ∙ (rw (at, c.forget-known.ensures.hasher, c.forget-known.ensures.machine, goes-there s, c.forget-known.ensures.places, c.requires.absent.hashed) at c.insert_unknown-slot.ensures.entered.indexes)
+    ap (λ (z : CacheState _ _ _). z.known) c.replace-before.ensures.kept
+    ∙ (rw (
+      at,
+      c.forget-known.ensures.hasher,
+      c.forget-known.ensures.machine,
+      goes-there s,
+      c.forget-known.ensures.places,
+      c.requires.absent.hashed,
+    ) at c.insert_unknown-slot.ensures.entered.indexes)
 
 pub returns-in_err-evicted-clause-counts : goal.returns-in_err-evicted-clause-counts
 returns-in_err-evicted-clause-counts g c =
     let s = sent g (goal.at.returns-in_err-evicted-clause-counts g c).After-admits_to_main-main in
-    rw (ap (λ (z : CacheState _ _ _). z.counts) c.replace-before.ensures.kept, ← placed-inspections s c.requires.absent.absent) (forgotten-spends c.forget-known.ensures.counts c.insert_unknown-slot.ensures.entered.counts)
+    rw (ap (λ (z : CacheState _ _ _). z.counts) c.replace-before.ensures.kept, ← placed-inspections s c.requires.absent.absent)
+    (forgotten-spends c.forget-known.ensures.counts c.insert_unknown-slot.ensures.entered.counts)
 
 pub returns-in_err-evicted-clause-evicted : goal.returns-in_err-evicted-clause-evicted
 returns-in_err-evicted-clause-evicted g c =

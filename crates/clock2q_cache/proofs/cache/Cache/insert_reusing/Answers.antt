@@ -59,7 +59,14 @@ returns-clause-machine g c =
 pub returns-clause-known : goal.returns-clause-known
 returns-clause-known g c =
     let goes = goes-there (sent g (goal.at.returns-clause-known g c).After-admits_to_main-main) in
-    rw (c.forget-known.ensures.hasher, c.forget-known.ensures.machine, goes, c.forget-known.ensures.places, c.find_place-place.ensures.kept, c.requires.absent.hashed) at c.insert_unknown.ensures.entered.indexes
+    rw (
+      c.forget-known.ensures.hasher,
+      c.forget-known.ensures.machine,
+      goes,
+      c.forget-known.ensures.places,
+      c.find_place-place.ensures.kept,
+      c.requires.absent.hashed,
+    ) at c.insert_unknown.ensures.entered.indexes
 
 pub returns-clause-counts : goal.returns-clause-counts
 returns-clause-counts g c =

@@ -18,7 +18,9 @@ freed g c = rw (c.made-made.ensures.made, c.capacity-capacity.ensures) at c.free
 pub invariant_of-self : goal.invariant_of-self
 invariant_of-self g c =
     let filled = c.fill.ensures.filled.1 in
-    rw c.fill.ensures.history (kept-prefilled g.met.K.Eq.laws c.self.invariant filled.added c.fill.new.directory.residents c.free_down.new.free.items _ filled.is (filled.as_many ∙ c.capacity-capacity.ensures)
+    rw c.fill.ensures.history
+    (kept-prefilled g.met.K.Eq.laws c.self.invariant filled.added c.fill.new.directory.residents c.free_down.new.free.items _
+    filled.is (filled.as_many ∙ c.capacity-capacity.ensures)
     (freed g (goal.at.invariant_of-self g c).After-free_down) filled.hashed c.fill.ensures.kept_room c.free_down.ensures.capacity)
 
 pub returns-clause-made : goal.returns-clause-made
@@ -38,4 +40,7 @@ returns-clause-costs g c values =
     let filled = c.fill.ensures.filled.1 in
     let machine = machine-prefilled g.met.K.Eq.laws c.self.invariant filled.added c.fill.new.directory.residents c.free_down.new.free.items 0 filled.is (filled.as_many ∙ c.capacity-capacity.ensures)
     (freed g (goal.at.returns-clause-costs g c).After-free_down) in
-    rw (← c.self.view_is, c.fill.ensures.history) (prefill-costs _ machine refl (made-spends c.self.inside.queues c.self.inside.directory.history c.self.inside.directory.residents c.fill.new.directory.residents c.fill.ensures.questions))
+    rw (← c.self.view_is, c.fill.ensures.history)
+    (prefill-costs _ machine refl
+    (made-spends c.self.inside.queues c.self.inside.directory.history c.self.inside.directory.residents
+    c.fill.new.directory.residents c.fill.ensures.questions))

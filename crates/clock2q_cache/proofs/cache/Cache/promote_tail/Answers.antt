@@ -32,7 +32,10 @@ append-requires g c =
 pub renew-old-requires : goal.renew-old-requires
 renew-old-requires g c =
     let there = victim-in g.met.K.Eq.laws c.self.invariant c.take_victim-slot.result c.take_victim-slot.ensures.victim in
-    record { resident = is-resident c.self.inside.directory g.met.K.Eq.laws c.self.invariant c.take_victim-slot.result there; room = within-room c.self.inside.directory g.met.K.Eq.laws c.self.invariant }
+    record {
+      resident = is-resident c.self.inside.directory g.met.K.Eq.laws c.self.invariant c.take_victim-slot.result there;
+      room = within-room c.self.inside.directory g.met.K.Eq.laws c.self.invariant;
+    }
 
 pub admit-requires : goal.admit-requires
 admit-requires g c =
@@ -58,7 +61,8 @@ done g c tail =
     done-reindexed g.met.K.Eq.laws c.self.invariant (reindexed c.self.inside.directory.history r.index refl)
     (promoted-done g.met.K.Eq.laws c.self.invariant (rw (← c.self.view_is) at c.requires.unknown.hashed) (rw (← c.self.view_is) at c.requires.unknown.absent)
     (victim-in g.met.K.Eq.laws c.self.invariant c.take_victim-slot.result victim) r.hash
-    (slots-renewed c.self.inside.directory.history c.renew-old.result.0 c.args.hash r.index below) r.entries r.kept tail victim (rw (← c.self.view_is) at c.requires.full) (rw (← c.self.view_is) at c.requires.on)
+    (slots-renewed c.self.inside.directory.history c.renew-old.result.0 c.args.hash r.index below) r.entries r.kept tail victim
+    (rw (← c.self.view_is) at c.requires.full) (rw (← c.self.view_is) at c.requires.on)
     (rw (c.append.ensures.queues, c.in-Some.ensures.queues, c.take_victim-slot.ensures.queues) at c.admit.ensures.queues))
 
 pub invariant_of-self : goal.invariant_of-self

@@ -52,7 +52,9 @@ returns-in_default-clause-costs g c =
     let absent = no-slot c.lookup-found.result c.in_default.not-Resident ∙ c.lookup-found.ensures.slot in
     costs-of (c.insert_evicting.ensures.machine ∙ ap (inserted is c.args.key c.args.value) c.lookup-found.ensures.machine
     ∙ ap (λ o. if is_some o then replaced is c.args.value c.args.self.now.machine else inserted is c.args.key c.args.value c.args.self.now.machine) absent)
-    (reaches-with (record { eq = g.K.PartialEq.eq; hash_input = g.K.Hash.hash_input }) g.S.BuildHasher g.S.Hasher.Hasher c.args.key g.met.K.Eq.laws g.met.K.Hash.respects_eq c.lookup-found.ensures.whole c.lookup-found.ensures.as_many c.lookup-found.ensures.within (returns-in_default-clause-known g c))
+    (reaches-with (record { eq = g.K.PartialEq.eq; hash_input = g.K.Hash.hash_input }) g.S.BuildHasher g.S.Hasher.Hasher
+    c.args.key g.met.K.Eq.laws g.met.K.Hash.respects_eq c.lookup-found.ensures.whole c.lookup-found.ensures.as_many
+    c.lookup-found.ensures.within (returns-in_default-clause-known g c))
     (insert-spends is c.args.self.now.machine c.lookup-found.ensures.counts absent c.lookup-found.ensures.machine c.insert_evicting.ensures.counts (omega arith))
 
 pub returns-clause-costs : goal.returns-clause-costs
@@ -61,7 +63,9 @@ returns-clause-costs g c =
     let counts = ap (λ (z : CacheState _ _ _). z.counts) c.replace.ensures.kept ∙ ap (λ (z : CacheState _ _ _). z.counts) c.record_hit.ensures.kept in
     costs-of (c.replace.ensures.machine ∙ ap (stored c.in-Resident.slot c.args.value) (c.record_hit.ensures.machine ∙ ap (hit is) c.lookup-found.ensures.machine)
     ∙ ap (λ o. if is_some o then replaced_at is c.args.value o c.args.self.now.machine else inserted is c.args.key c.args.value c.args.self.now.machine) c.in-Resident.ensures.slot)
-    (reaches-with (record { eq = g.K.PartialEq.eq; hash_input = g.K.Hash.hash_input }) g.S.BuildHasher g.S.Hasher.Hasher c.args.key g.met.K.Eq.laws g.met.K.Hash.respects_eq c.lookup-found.ensures.whole c.lookup-found.ensures.as_many c.lookup-found.ensures.within (returns-clause-known g c))
+    (reaches-with (record { eq = g.K.PartialEq.eq; hash_input = g.K.Hash.hash_input }) g.S.BuildHasher g.S.Hasher.Hasher
+    c.args.key g.met.K.Eq.laws g.met.K.Hash.respects_eq c.lookup-found.ensures.whole c.lookup-found.ensures.as_many
+    c.lookup-found.ensures.within (returns-clause-known g c))
     (hit-spends is c.args.self.now.machine c.lookup-found.ensures.counts c.in-Resident.ensures.slot counts (omega arith))
 
 pub returns-in_default-clause-machine : goal.returns-in_default-clause-machine

@@ -17,13 +17,18 @@ returns-in_default-clause-costs g c =
     let is = g.K.PartialEq.eq c.args.key.now in
     let absent = no-slot c.lookup-found.result c.in_default.not-Resident ∙ c.lookup-found.ensures.slot in
     costs-of (c.forget.ensures.machine ∙ ap (forgotten is) c.lookup-found.ensures.machine ∙ ap (λ o. removed_at is o c.args.self.now.machine) absent)
-    (reaches-discarded (record { eq = g.K.PartialEq.eq; hash_input = g.K.Hash.hash_input }) g.S.BuildHasher g.S.Hasher.Hasher c.args.key.now c.lookup-found.ensures.within c.hash-hash.result c.hash-hash.ensures (rw c.lookup-found.ensures.kept at c.forget.ensures.places))
+    (reaches-discarded
+    (record { eq = g.K.PartialEq.eq; hash_input = g.K.Hash.hash_input }) g.S.BuildHasher g.S.Hasher.Hasher c.args.key.now
+    c.lookup-found.ensures.within c.hash-hash.result c.hash-hash.ensures
+    (rw c.lookup-found.ensures.kept at c.forget.ensures.places))
     (spends-both c.lookup-found.ensures.counts c.forget.ensures.counts (omega arith) (omega arith) (omega arith))
 
 pub returns-clause-costs : goal.returns-clause-costs
 returns-clause-costs g c =
     remove-costs c.in-Resident.ensures.slot c.lookup-found.ensures.kept c.lookup-found.ensures.counts
-    (reaches-left (record { eq = g.K.PartialEq.eq; hash_input = g.K.Hash.hash_input }) g.S.BuildHasher g.S.Hasher.Hasher c.args.key.now g.met.K.Eq.laws c.lookup-found.ensures.whole g.met.K.Hash.respects_eq c.in-Resident.slot (sym c.in-Resident.ensures.slot) (rw c.lookup-found.ensures.kept at c.vacate.ensures.known))
+    (reaches-left (record { eq = g.K.PartialEq.eq; hash_input = g.K.Hash.hash_input }) g.S.BuildHasher g.S.Hasher.Hasher
+    c.args.key.now g.met.K.Eq.laws c.lookup-found.ensures.whole g.met.K.Hash.respects_eq c.in-Resident.slot
+    (sym c.in-Resident.ensures.slot) (rw c.lookup-found.ensures.kept at c.vacate.ensures.known))
     c.vacate.ensures.machine c.vacate.ensures.counts
 
 pub returns-in_default-clause-machine : goal.returns-in_default-clause-machine

@@ -13,18 +13,25 @@ use Rattle.clock2q_cache.proofs.cache.Cache.replace_victim.Goals as goal
 pub renew-old-requires : goal.renew-old-requires
 renew-old-requires g c =
     let there = victim-in g.met.K.Eq.laws c.self.invariant c.reuse_victim-victim.result c.reuse_victim-victim.ensures.victim in
-    record { resident = is-resident c.self.inside.directory g.met.K.Eq.laws c.self.invariant c.reuse_victim-victim.result there; room = within-room c.self.inside.directory g.met.K.Eq.laws c.self.invariant }
+    record {
+      resident = is-resident c.self.inside.directory g.met.K.Eq.laws c.self.invariant c.reuse_victim-victim.result there;
+      room = within-room c.self.inside.directory g.met.K.Eq.laws c.self.invariant;
+    }
 
 -- the key has the slot
 done : (g : Over) (c : After-renew-old g) → IsDone g.met.K.Eq.laws c.self.invariant c.reuse_victim-victim.result c.args.value (into_main c.args.key (m g.met.K.Eq.laws c.self.invariant))
-    c.reuse_victim-victim.new.self c.renew-old.new.self.history (slots c.renew-old.new.self.history.places.index) c.renew-old.new.self.residents c.self.inside.free.items (vec_capacity c.self.inside.free)
+    c.reuse_victim-victim.new.self c.renew-old.new.self.history
+    (slots c.renew-old.new.self.history.places.index) c.renew-old.new.self.residents c.self.inside.free.items
+    (vec_capacity c.self.inside.free)
 done g c =
     let victim = c.reuse_victim-victim.ensures.victim in
     let below = (slot-below g.met.K.Eq.laws c.self.invariant c.reuse_victim-victim.result (victim-in g.met.K.Eq.laws c.self.invariant c.reuse_victim-victim.result victim)).2 in
     done-reindexed g.met.K.Eq.laws c.self.invariant (reindexed c.self.inside.directory.history c.renew-old.ensures.index refl)
     (replaced-done g.met.K.Eq.laws c.self.invariant (rw (← c.self.view_is) at c.requires.unknown.hashed) (rw (← c.self.view_is) at c.requires.unknown.absent)
     (victim-in g.met.K.Eq.laws c.self.invariant c.reuse_victim-victim.result victim) c.renew-old.ensures.hash
-    (slots-renewed c.self.inside.directory.history c.renew-old.result.0 c.args.hash c.renew-old.ensures.index below) c.renew-old.ensures.entries c.renew-old.ensures.kept victim (rw (← c.self.view_is) at c.requires.full) c.reuse_victim-victim.ensures.queues)
+    (slots-renewed c.self.inside.directory.history c.renew-old.result.0 c.args.hash c.renew-old.ensures.index below)
+    c.renew-old.ensures.entries c.renew-old.ensures.kept victim
+    (rw (← c.self.view_is) at c.requires.full) c.reuse_victim-victim.ensures.queues)
 
 pub invariant_of-self : goal.invariant_of-self
 invariant_of-self g c = (done g (goal.at.invariant_of-self g c).After-renew-old).holds

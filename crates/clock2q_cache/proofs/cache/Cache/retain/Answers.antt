@@ -78,7 +78,15 @@ returns g c =
     record {
       retained = r;
       hasher = c.loop-slot.invariant.1;
-      costs = λ bits. retain-costs r.bits r.becomes (record { accesses = subst (λ n. c.loop-slot.self.known.index.accesses ≤ c.args.self.now.known.index.accesses + sum_by (λ r. reached (record { eq = g.K.PartialEq.eq; hash_input = g.K.Hash.hash_input }) g.S.BuildHasher g.S.Hasher.Hasher c.args.self.now r.0) (below c.args.self.now.machine n)) all c.loop-slot.invariant.4.spent })
+      costs = λ bits.
+          retain-costs r.bits r.becomes
+          (record {
+            accesses = subst
+                (λ n. c.loop-slot.self.known.index.accesses ≤
+                c.args.self.now.known.index.accesses + sum_by
+                (λ r. reached (record { eq = g.K.PartialEq.eq; hash_input = g.K.Hash.hash_input }) g.S.BuildHasher
+                g.S.Hasher.Hasher c.args.self.now r.0) (below c.args.self.now.machine n)) all c.loop-slot.invariant.4.spent;
+          })
           (subst (λ n. Spends 0 (8 * n) 0 c.args.self.now.counts c.loop-slot.self.counts) all c.loop-slot.invariant.2);
       removals = c.loop-slot.invariant.3;
     }

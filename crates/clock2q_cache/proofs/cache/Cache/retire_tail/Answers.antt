@@ -53,17 +53,26 @@ invariant_of-self-2 g c =
 pub returns-clause-left : goal.returns-clause-left
 returns-clause-left g c =
     let r = c.retire-key.ensures.retired in
-    left-retired g.met.K.Eq.laws c.self.invariant c.in_ok-tail.tail (sym c.in_ok-tail.ensures.tail) _ _ c.free_slot.new.free.items _ _ _ c.in_ok-tail.ensures.queues r.had_hash r.had_key r.becomes c.free_slot.ensures.top
+    left-retired g.met.K.Eq.laws c.self.invariant c.in_ok-tail.tail
+    (sym c.in_ok-tail.ensures.tail) _ _ c.free_slot.new.free.items _ _ _ c.in_ok-tail.ensures.queues r.had_hash r.had_key
+    r.becomes c.free_slot.ensures.top
     ∙ ap (λ (z : CacheState _ _ _). option_map (λ tail. (tail.key, tail.slot)) (last_or None z.machine.small)) c.self.view_is
 
 pub returns-clause-machine : goal.returns-clause-machine
 returns-clause-machine g c =
     let r = c.retire-key.ensures.retired in
-    rw c.retire-key.ensures.kept (retired-machine g.met.K.Eq.laws c.self.invariant c.in_ok-tail.tail (sym c.in_ok-tail.ensures.tail) _ _ c.free_slot.new.free.items _ _ _ c.in_ok-tail.ensures.queues r.had_hash r.had_key r.becomes c.free_slot.ensures.top)
+    rw c.retire-key.ensures.kept
+    (retired-machine g.met.K.Eq.laws c.self.invariant c.in_ok-tail.tail
+    (sym c.in_ok-tail.ensures.tail) _ _ c.free_slot.new.free.items _ _ _ c.in_ok-tail.ensures.queues r.had_hash r.had_key
+    r.becomes c.free_slot.ensures.top)
     ∙ ap (λ (z : CacheState _ _ _). tail_evicted (last_or None z.machine.small) z.machine) c.self.view_is
 
 pub returns-clause-known : goal.returns-clause-known
 returns-clause-known g c =
     let r = c.retire-key.ensures.retired in
-    known-retired g.met.K.Eq.laws c.self.invariant c.in_ok-tail.tail (sym c.in_ok-tail.ensures.tail) _ _ c.free_slot.new.free.items _ _ _ c.in_ok-tail.ensures.queues r.had_hash r.had_key r.becomes c.free_slot.ensures.top c.self.inside.directory.history.places r.places
-    ∙ ap (λ (z : CacheState _ _ _). remembering (λ k. hash_of g.S.BuildHasher g.S.Hasher.Hasher z.hasher (g.K.Hash.hash_input k)) c.retire-key.result c.in_ok-tail.tail z.machine z.known) c.self.view_is
+    known-retired g.met.K.Eq.laws c.self.invariant c.in_ok-tail.tail
+    (sym c.in_ok-tail.ensures.tail) _ _ c.free_slot.new.free.items _ _ _ c.in_ok-tail.ensures.queues r.had_hash r.had_key
+    r.becomes c.free_slot.ensures.top c.self.inside.directory.history.places r.places
+    ∙ ap (λ (z : CacheState _ _ _). remembering
+    (λ k. hash_of g.S.BuildHasher g.S.Hasher.Hasher z.hasher (g.K.Hash.hash_input k)) c.retire-key.result c.in_ok-tail.tail
+    z.machine z.known) c.self.view_is

@@ -26,7 +26,8 @@ returns-clause-resident g c = λ entered.
     let m = c.args.self.now.machine in
     let kept = ap (λ (z : CacheState _ _ _). z.machine) c.find_place-place.ensures.kept in
     rw (c.insert.ensures.machine, c.insert.ensures.slot, kept)
-    (entered_there eq g.met.K.Eq.laws m c.len.ensures.whole c.args.key (returns-clause-absent g c refl) c.args.value false (lasting-inserted eq g.met.K.Eq.laws c.args.key m c.len.ensures.whole (returns-clause-absent g c refl) c.args.value))
+    (entered_there eq g.met.K.Eq.laws m c.len.ensures.whole c.args.key (returns-clause-absent g c refl) c.args.value false
+    (lasting-inserted eq g.met.K.Eq.laws c.args.key m c.len.ensures.whole (returns-clause-absent g c refl) c.args.value))
 
 pub returns-clause-costs : goal.returns-clause-costs
 returns-clause-costs g c = λ entered.
@@ -36,7 +37,10 @@ returns-clause-costs g c = λ entered.
     let asked = ap (λ h. length (candidates (remembered_in c.args.self.now.known) h)) c.hash-hash.ensures in
     costs-of (c.insert.ensures.machine ∙ ap (inserted is c.args.key c.args.value) kept
     ∙ ap (λ o. if is_some o then replaced is c.args.value c.args.self.now.machine else inserted is c.args.key c.args.value c.args.self.now.machine) none)
-    (reaches-with (record { eq = g.K.PartialEq.eq; hash_input = g.K.Hash.hash_input }) g.S.BuildHasher g.S.Hasher.Hasher c.args.key g.met.K.Eq.laws g.met.K.Hash.respects_eq c.len.ensures.whole c.len.ensures.indexed.as_many c.len.ensures.within (rw (← none) (rw (c.insert.ensures.slot, c.find_place-place.ensures.kept) at c.insert.ensures.known)))
+    (reaches-with (record { eq = g.K.PartialEq.eq; hash_input = g.K.Hash.hash_input }) g.S.BuildHasher g.S.Hasher.Hasher
+    c.args.key g.met.K.Eq.laws g.met.K.Hash.respects_eq c.len.ensures.whole c.len.ensures.indexed.as_many
+    c.len.ensures.within
+    (rw (← none) (rw (c.insert.ensures.slot, c.find_place-place.ensures.kept) at c.insert.ensures.known)))
     (insert-spends is c.args.self.now.machine c.find_place-place.ensures.counts none kept c.insert.ensures.counts (omega (arith, asked)))
 
 pub returns-clause-within : goal.returns-clause-within

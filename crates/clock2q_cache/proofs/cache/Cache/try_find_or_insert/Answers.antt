@@ -36,7 +36,10 @@ returns-in-Resident-clause-index g c = reaches-looked (record { eq = g.K.Partial
 pub returns-clause-index : goal.returns-clause-index
 returns-clause-index g c =
     let absent = no-slot c.lookup-found.result c.in_default.not-Resident ∙ c.lookup-found.ensures.slot in
-    reaches-with (record { eq = g.K.PartialEq.eq; hash_input = g.K.Hash.hash_input }) g.S.BuildHasher g.S.Hasher.Hasher c.args.key g.met.K.Eq.laws g.met.K.Hash.respects_eq c.lookup-found.ensures.whole c.lookup-found.ensures.as_many c.lookup-found.ensures.within (rw (← absent) (rw (c.insert.ensures.slot, c.lookup-found.ensures.kept) at c.insert.ensures.known))
+    reaches-with (record { eq = g.K.PartialEq.eq; hash_input = g.K.Hash.hash_input }) g.S.BuildHasher g.S.Hasher.Hasher c.args.key
+    g.met.K.Eq.laws g.met.K.Hash.respects_eq c.lookup-found.ensures.whole c.lookup-found.ensures.as_many
+    c.lookup-found.ensures.within
+    (rw (← absent) (rw (c.insert.ensures.slot, c.lookup-found.ensures.kept) at c.insert.ensures.known))
 
 pub returns-clause-counts : goal.returns-clause-counts
 returns-clause-counts g c =

@@ -8,7 +8,11 @@ use Rattle.clock2q_cache.proofs.Vacated.{stands, slot-in, vacated-machine, kept-
 use Rattle.clock2q_cache.proofs.cache.Cache.vacate.Goals as goal
 
 pub leave-requires : goal.leave-requires
-leave-requires g c = record { resident = is-resident c.self.inside.directory g.met.K.Eq.laws c.self.invariant c.args.slot (stands g.met.K.Eq.laws c.self.invariant c.args.slot (rw (← c.self.view_is) at c.requires)) }
+leave-requires g c =
+    record {
+      resident = is-resident c.self.inside.directory g.met.K.Eq.laws c.self.invariant c.args.slot
+          (stands g.met.K.Eq.laws c.self.invariant c.args.slot (rw (← c.self.view_is) at c.requires));
+    }
 
 pub leave-requires-2 : goal.leave-requires-2
 leave-requires-2 g c = record { slot_in = slot-in g.met.K.Eq.laws c.self.invariant c.args.slot (rw (← c.self.view_is) at c.requires) }
@@ -20,13 +24,17 @@ invariant_of-self g c =
     rw c.leave.ensures.kept (kept-reindexed (reindexed c.self.inside.directory.history c.leave.ensures.left.becomes refl)
     (kept-vacated g.met.K.Eq.laws c.self.invariant c.args.slot there c.leave-2.new.self (slots c.leave.new.self.history.places.index) c.free_slot.new.free.items _ _
     (ap (λ (z : QueueState). z.small) c.leave-2.ensures.queues) (ap (λ (z : QueueState). z.main) c.leave-2.ensures.queues) c.free_slot.ensures.top
-    c.leave.ensures.left.had (now-slots c.self.inside.directory.history c.leave.ensures.left.becomes (slots-left c.self.inside.directory.history.places.index c.leave.ensures.left.hash c.args.slot (omega (arith, below))))
+    c.leave.ensures.left.had
+    (now-slots c.self.inside.directory.history c.leave.ensures.left.becomes
+    (slots-left c.self.inside.directory.history.places.index c.leave.ensures.left.hash c.args.slot (omega (arith, below))))
     (ap (λ (z : QueueState). z.slots) c.leave-2.ensures.queues) (ap (λ (z : QueueState). z.window) c.leave-2.ensures.queues) c.free_slot.ensures.capacity))
 
 pub returns-clause-machine : goal.returns-clause-machine
 returns-clause-machine g c =
     let there = rw (← c.self.view_is) at c.requires in
-    rw c.leave.ensures.kept (ap (λ z. machine_of c.self.inside.shares c.leave-2.new.self c.self.inside.directory.residents.entries z c.free_slot.new.free.items) (ap (λ (z : Remembered _). z.entries) c.leave.ensures.left.becomes)
+    rw c.leave.ensures.kept
+    (ap (λ z. machine_of c.self.inside.shares c.leave-2.new.self c.self.inside.directory.residents.entries z
+    c.free_slot.new.free.items) (ap (λ (z : Remembered _). z.entries) c.leave.ensures.left.becomes)
     ∙ vacated-machine g.met.K.Eq.laws c.self.invariant c.args.slot there c.leave-2.new.self (slots c.leave.new.self.history.places.index) c.free_slot.new.free.items 0 0
     (ap (λ (z : QueueState). z.small) c.leave-2.ensures.queues) (ap (λ (z : QueueState). z.main) c.leave-2.ensures.queues) c.free_slot.ensures.top
     ∙ ap (λ (z : CacheState _ _ _). vacated c.args.slot z.machine) c.self.view_is)

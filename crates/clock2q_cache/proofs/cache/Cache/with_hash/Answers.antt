@@ -12,7 +12,10 @@ slot_with_hash-requires g c = record { made = candidates-there g.met.K.Eq.laws c
 pub returns-clause-slot : goal.returns-clause-slot
 returns-clause-slot g c =
     c.slot_with_hash.ensures.slot ∙ ap (λ z. slice_get z c.args.nth) (with-hash g.met.K.Eq.laws c.self.invariant c.args.hash)
-    ∙ ap (λ (z : CacheState _ _ _). slice_get (slots_with_hash (record { eq = g.K.PartialEq.eq; hash_input = g.K.Hash.hash_input }) g.S.BuildHasher g.S.Hasher.Hasher c.args.hash z) c.args.nth) c.self.view_is
+    ∙ ap (λ (z : CacheState _ _ _). slice_get
+    (slots_with_hash
+    (record { eq = g.K.PartialEq.eq; hash_input = g.K.Hash.hash_input }) g.S.BuildHasher g.S.Hasher.Hasher c.args.hash z)
+    c.args.nth) c.self.view_is
 
 pub returns-clause-listed : goal.returns-clause-listed
 returns-clause-listed g c =

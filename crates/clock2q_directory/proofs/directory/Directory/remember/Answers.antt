@@ -19,7 +19,9 @@ enter-requires g c =
     let r = rw (← c.self.view_is) at c.requires.resident in
     record {
       below = omega (arith, r.below);
-      room = room-pushed (oldest_hash (λ (e : ℕ × _). e.0) c.self.inside.history.entries) r (rw (← c.self.view_is) at c.requires.room) c.refill-old_hash.ensures.hash c.remember.ensures.pushed c.remember.ensures.places;
+      room = room-pushed (oldest_hash (λ (e : ℕ × _). e.0) c.self.inside.history.entries) r
+          (rw (← c.self.view_is) at c.requires.room) c.refill-old_hash.ensures.hash c.remember.ensures.pushed
+          c.remember.ensures.places;
     }
 
 pub returns-clause-index : goal.returns-clause-index

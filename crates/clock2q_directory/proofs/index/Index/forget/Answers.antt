@@ -44,6 +44,8 @@ returns-else-is_shared g c =
     let own : is_shared (index_of i.shared i.own) ≡ false = ap is_shared c.self.view_is ∙ sym c.is_shared.ensures.shared ∙ c.if-is_shared.false in
     let is : forgotten_at c.args.hash c.args.place (index_of i.shared i.own) ≡ record { shared = i.shared.homes; own = others; accesses = i.shared.accesses + i.own.accesses + n } = rw own refl in
     record {
-      forgotten = ap (λ t. index_of i.shared t) c.remove_held-else-is_shared.ensures.removed ∙ ap (λ k. record { shared = i.shared.homes; own = others; accesses = k }) (cost_second i.shared.accesses i.own.accesses n)
+      forgotten = ap (λ t. index_of i.shared t) c.remove_held-else-is_shared.ensures.removed
+          ∙ ap (λ k. record { shared = i.shared.homes; own = others; accesses = k })
+          (cost_second i.shared.accesses i.own.accesses n)
           ∙ sym is ∙ ap (λ z. forgotten_at c.args.hash c.args.place z) c.self.view_is;
     }

@@ -49,7 +49,11 @@ returns-then-is_shared g c =
     let i = c.self.inside in
     let shared : is_shared (index_of i.shared i.own) ≡ true = ap is_shared c.self.view_is ∙ sym c.is_shared.ensures.shared ∙ c.if-is_shared.true in
     let is : remembered_at c.args.hash c.args.slot c.args.place (index_of i.shared i.own)
-    ≡ record (index_of i.shared i.own) { shared = relabelled nat_eq i.shared.homes c.args.hash c.args.slot (first_remembered + c.args.place); accesses = i.shared.accesses + i.own.accesses + most_changed i.shared.homes c.args.hash } = rw shared refl in
+    ≡ record (index_of i.shared i.own) {
+      shared = relabelled nat_eq i.shared.homes c.args.hash c.args.slot
+          (first_remembered + c.args.place);
+      accesses = i.shared.accesses + i.own.accesses + most_changed i.shared.homes c.args.hash;
+    } = rw shared refl in
     record {
       remembered = ap (λ t. index_of t i.own) c.relabel.ensures.relabelled
           ∙ ap (λ n. record { shared = relabelled nat_eq i.shared.homes c.args.hash c.args.slot (first_remembered + c.args.place); own = i.own.homes; accesses = n })
@@ -65,7 +69,8 @@ returns-else-is_shared g c =
     let n = most_changed i.own.homes c.args.hash in
     let homes = removed nat_eq i.shared.homes c.args.hash c.args.slot in
     let others = with_handle i.own.homes c.args.hash c.args.place in
-    let is : remembered_at c.args.hash c.args.slot c.args.place (index_of i.shared i.own) ≡ record { shared = homes; own = others; accesses = i.shared.accesses + i.own.accesses + m + n } = rw own refl in
+    let is : remembered_at c.args.hash c.args.slot c.args.place (index_of i.shared i.own) ≡
+    record { shared = homes; own = others; accesses = i.shared.accesses + i.own.accesses + m + n } = rw own refl in
     record {
       remembered = ap (λ t. index_of t c.insert.new.self) c.remove_held.ensures.removed
           ∙ ap (λ t. record { shared = homes; own = t.homes; accesses = i.shared.accesses + m + t.accesses }) c.insert.ensures.put

@@ -33,7 +33,8 @@ offer-offered-requires-clause-callable g c =
 
 pub returns-clause-offers : goal.returns-clause-offers
 returns-clause-offers g c =
-    subst (λ hs. Offers g.M.FnMut c.args.matches.now hs (handle_in c.offer-offered.result) c.offer-offered.new.matches) (list g (goal.at.returns-clause-offers g c).After-new-reader) c.offer-offered.ensures.offers
+    subst (λ hs. Offers g.M.FnMut c.args.matches.now hs (handle_in c.offer-offered.result) c.offer-offered.new.matches)
+    (list g (goal.at.returns-clause-offers g c).After-new-reader) c.offer-offered.ensures.offers
 
 pub returns-clause-gap : goal.returns-clause-gap
 returns-clause-gap g c =

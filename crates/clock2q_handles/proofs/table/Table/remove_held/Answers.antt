@@ -49,7 +49,9 @@ returns-clause-reads g c =
     (omega (arith, c.find_held-held.ensures.reads.0, c.take_out.ensures.reads, done.counted), omega (arith, c.find_held-held.ensures.reads.1, c.take_out.ensures.reads))
 
 pub returns-clause-laid : goal.returns-clause-laid
-returns-clause-laid g c = table-laid c.take_out.new.self.slots (c.self.inside.len - 1) (step g (goal.at.returns-clause-laid g c).After-take_out).table c.take_out.new.self.writes c.take_out.new.reads.total
+returns-clause-laid g c =
+    table-laid c.take_out.new.self.slots (c.self.inside.len - 1)
+    (step g (goal.at.returns-clause-laid g c).After-take_out).table c.take_out.new.self.writes c.take_out.new.reads.total
 
 pub returns-clause-shorter : goal.returns-clause-shorter
 returns-clause-shorter g c x =

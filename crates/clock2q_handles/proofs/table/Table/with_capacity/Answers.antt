@@ -17,5 +17,6 @@ invariant_of-result g c = subst (λ s. IsTable s.slots 0) (sym c.in-Ok.ensures) 
 pub returns-clause-made : goal.returns-clause-made
 returns-clause-made g c =
     let lists = made_for-some _ c.args.entries (omega (arith, c.if-entries-eq0.false)) in
-    ap (λ r. table_value (homes_of c.in-Ok.slots.slots) c.in-Ok.slots.slots c.in-Ok.slots.writes r) c.new-reads.ensures.zero ∙ ap (λ s. table_value (homes_of s.slots) s.slots s.writes 0) c.in-Ok.ensures ∙ view-empty _ c.in-Some.count
+    ap (λ r. table_value (homes_of c.in-Ok.slots.slots) c.in-Ok.slots.slots c.in-Ok.slots.writes r) c.new-reads.ensures.zero
+    ∙ ap (λ s. table_value (homes_of s.slots) s.slots s.writes 0) c.in-Ok.ensures ∙ view-empty _ c.in-Some.count
     ∙ ap (λ n. table_value (no_entries n) (layout (no_entries n)) 0 0) c.in-Some.ensures.count ∙ ap (λ hs. table_value hs (layout hs) 0 0) (sym lists)

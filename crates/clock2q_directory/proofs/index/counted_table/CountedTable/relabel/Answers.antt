@@ -20,5 +20,8 @@ returns g c =
     let done = at_bound c.self.inside.table c.relabel.new.self old c.charge.new.self c.self.inside.charged.total c.args.hash c.most-most.result.value
     c.self.invariant c.self.view_is (omega (arith, e.reads.1, e.writes)) (omega (arith, e.writes)) c.most-most.ensures.picked c.charge.ensures.charged in
     record {
-      relabelled = done ∙ ap (λ hs. counted hs (old.accesses + most_changed old.homes c.args.hash)) (e.relabelled ∙ ap (λ (z : CountedTable). relabelled nat_eq z.homes c.args.hash c.args.handle c.args.new) c.self.view_is);
+      relabelled = done
+          ∙ ap (λ hs. counted hs (old.accesses + most_changed old.homes c.args.hash))
+          (e.relabelled ∙ ap
+          (λ (z : CountedTable). relabelled nat_eq z.homes c.args.hash c.args.handle c.args.new) c.self.view_is);
     }

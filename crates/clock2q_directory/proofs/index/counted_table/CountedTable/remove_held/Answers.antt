@@ -7,7 +7,12 @@ use Rattle.clock2q_directory.proofs.Charging.{at_bound}
 use Rattle.clock2q_directory.proofs.index.counted_table.CountedTable.remove_held.Goals as goal
 
 pub remove_held-requires : goal.remove_held-requires
-remove_held-requires g c = record { held = subst (λ (z : CountedTable). list_any (is_entry_of nat_eq c.args.hash c.args.handle) (listed z.homes c.args.hash) ≡ true) (sym c.self.view_is) c.requires.held }
+remove_held-requires g c =
+    record {
+      held = subst
+          (λ (z : CountedTable). list_any (is_entry_of nat_eq c.args.hash c.args.handle) (listed z.homes c.args.hash) ≡ true)
+          (sym c.self.view_is) c.requires.held;
+    }
 
 pub invariant_of-self : goal.invariant_of-self
 invariant_of-self g c = c.remove_held.ensures.laid.laid
@@ -19,5 +24,6 @@ returns g c =
     let done = at_bound c.self.inside.table c.remove_held.new.self old c.charge.new.self c.self.inside.charged.total c.args.hash c.most-most.result.value
     c.self.invariant c.self.view_is (e.reads.1) (omega (arith, e.writes.1)) c.most-most.ensures.picked c.charge.ensures.charged in
     record {
-      removed = done ∙ ap (λ hs. counted hs (old.accesses + most_changed old.homes c.args.hash)) (e.removed ∙ ap (λ (z : CountedTable). removed nat_eq z.homes c.args.hash c.args.handle) c.self.view_is);
+      removed = done ∙ ap (λ hs. counted hs (old.accesses + most_changed old.homes c.args.hash))
+          (e.removed ∙ ap (λ (z : CountedTable). removed nat_eq z.homes c.args.hash c.args.handle) c.self.view_is);
     }

@@ -18,5 +18,7 @@ returns-then-more-eq0 g c = record {
 
 pub returns : goal.returns
 returns g c = record {
-  found = sym (c.loop-handle.invariant.found ∙ ap (λ hs. slice_get (filter (has_hash c.args.self.now.entries c.args.hash) (slots_among hs)) c.loop-handle.more) (is_empty c.in_default.ensures.candidate));
+  found = sym (c.loop-handle.invariant.found
+      ∙ ap (λ hs. slice_get (filter (has_hash c.args.self.now.entries c.args.hash) (slots_among hs)) c.loop-handle.more)
+      (is_empty c.in_default.ensures.candidate));
 }

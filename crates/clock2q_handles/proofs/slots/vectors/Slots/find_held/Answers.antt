@@ -42,7 +42,8 @@ returns-then-eq g c =
       };
       reads =
           let within = come_reads slots c.requires.tidy c.args.hash l.0 c.loop-handle.slot l.1 in
-          (omega (arith, c.loop-handle.invariant.reads, c.read-metadata.ensures.counted, ap mark_reach l.2), omega (arith, c.loop-handle.invariant.reads, c.read-metadata.ensures.counted, ap mark_reach l.2, within));
+          (omega (arith, c.loop-handle.invariant.reads, c.read-metadata.ensures.counted, ap mark_reach l.2),
+          omega (arith, c.loop-handle.invariant.reads, c.read-metadata.ensures.counted, ap mark_reach l.2, within));
     }
 
 -- the entry is further on

@@ -61,4 +61,5 @@ loop-slot-preserved g c =
 pub returns : goal.returns
 returns g c =
     let all = length-cells c.args.old.metadata.now c.args.old.handles.now c.requires.same in
-    record { moved = moving_ends g.F.FnMut c.requires.movable (omega (arith, c.loop-slot-test.false, c.loop-slot.auto.slot-end, c.count-slot-end.ensures, all)) c.loop-slot.invariant.moved; counted = c.loop-slot.invariant.counted }
+    let moved = moving_ends g.F.FnMut c.requires.movable (omega (arith, c.loop-slot-test.false, c.loop-slot.auto.slot-end, c.count-slot-end.ensures, all)) c.loop-slot.invariant.moved in
+    record { moved = moved; counted = c.loop-slot.invariant.counted }
